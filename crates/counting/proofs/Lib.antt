@@ -1,0 +1,7 @@
+pub mod Choice
+pub mod Counts
+pub mod Lists
+pub mod Odd
+pub mod Pairs
+pub mod Tests
+pub mod Totals

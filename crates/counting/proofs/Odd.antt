@@ -1,0 +1,37 @@
+use Rattle.std.proofs.Common.{◌≡◌, ℕ, suc, zero, ◌+◌, ◌≤◌, Bool, true, false, refl, sym, ap, ◌∙◌, arith, not, cond, zero-add, suc-add}
+use Rattle.std.proofs.lemmas.Bool.{true≢false}
+use Rattle.counting.proofs.Counts.{count_complement}
+use Rattle.counting.specs.Counts.{count, is_odd}
+use Rattle.counting.specs.Sets.{Set, complement}
+
+-- the parity of a number
+pub odd-double : (k : ℕ) → is_odd (k + k) ≡ false
+odd-double zero = refl
+odd-double (suc k) = let e : suc k + suc k ≡ suc (suc (k + k)) = omega arith in ap is_odd e ∙ not_not (is_odd (k + k)) ∙ odd-double k
+  where
+    not_not : (b : Bool) → not (not b) ≡ b
+    not_not true = refl
+    not_not false = refl
+
+pub odd-add : (a b : ℕ) → is_odd (a + b) ≡ cond (is_odd a) (not (is_odd b)) (is_odd b)
+odd-add zero b = ap is_odd (zero-add b)
+odd-add (suc a) b = ap is_odd (suc-add a b) ∙ ap not (odd-add a b) ∙ turn (is_odd a) (is_odd b)
+  where
+    turn : (s t : Bool) → not (cond s (not t) t) ≡ cond (not s) (not t) t
+    turn true true = refl
+    turn true false = refl
+    turn false true = refl
+    turn false false = refl
+
+pub odd_pos : (n : ℕ) → is_odd n ≡ true → 1 ≤ n
+odd_pos zero h = absurd (true≢false (sym h))
+odd_pos (suc n) h = omega arith
+
+pub order_even : (n : ℕ) (x : Set) → is_odd (count n x) ≡ true → is_odd (count n (complement x)) ≡ true → is_odd n ≡ false
+order_even n x a b = ap is_odd (sym (count_complement n x)) ∙ odd-add (count n x) (count n (complement x)) ∙ rw (a, b) refl
+
+pub complement_odd : (n : ℕ) (x : Set) → is_odd n ≡ false → is_odd (count n x) ≡ true → is_odd (count n (complement x)) ≡ true
+complement_odd n x a b = go (is_odd (count n x)) (is_odd (count n (complement x))) b (sym (odd-add (count n x) (count n (complement x))) ∙ ap is_odd (count_complement n x) ∙ a)
+  where
+    go : (s t : Bool) → s ≡ true → cond s (not t) t ≡ false → t ≡ true
+    go s t a b = grind arith

@@ -1,0 +1,60 @@
+use Rattle.std.proofs.Common.{◌≡◌, ℕ, suc, zero, Bool, true, false, refl, sym, ap, ap₂, ◌∙◌, arith, ◌&&◌, ◌||◌, ◌⊎◌, inl, inr, subst, ◌<◌}
+use Rattle.std.proofs.lemmas.Bool.{cases_eq, cases_Bool, or_cases, and_parts, and_from, both_ways, or_left, or_right, true≢false, false_from_ne_true}
+use Rattle.counting.specs.Counts.{Within}
+use Rattle.counting.specs.Tests.{every, some}
+
+pub every_true : (n : ℕ) (p : ℕ → Bool) → every n p ≡ true → (v : ℕ) → Within n v → p v ≡ true
+every_true zero p h v w = absurd (omega arith)
+every_true (suc n) p h v w =
+    let b = and_parts (every n p) (p (suc n)) h in
+    elim (cases_eq v (suc n)) [
+      | inl e ↦ rw e b.1
+      | inr e ↦ every_true n p b.0 v (omega arith)
+    ]
+
+pub true_every : (n : ℕ) (p : ℕ → Bool) → ((v : ℕ) → Within n v → p v ≡ true) → every n p ≡ true
+true_every zero p h = refl
+true_every (suc n) p h = and_from (every n p) (p (suc n)) (true_every n p (λ v w. h v (omega arith))) (h (suc n) (omega arith))
+
+pub every_congr : (n : ℕ) (p q : ℕ → Bool) → ((v : ℕ) → Within n v → p v ≡ q v) → every n p ≡ every n q
+every_congr zero p q h = refl
+every_congr (suc n) p q h = ap₂ ◌&&◌ (every_congr n p q (λ v w. h v (omega arith))) (h (suc n) (omega arith))
+
+pub some_true : (n : ℕ) (p : ℕ → Bool) → some n p ≡ true → (v : ℕ) × Within n v × (p v ≡ true)
+some_true zero p h = absurd (true≢false (sym h))
+some_true (suc n) p h = elim (or_cases (some n p) (p (suc n)) h) [
+  | inl a ↦ let r = some_true n p a in (r.0, omega arith, r.2)
+  | inr a ↦ (suc n, omega arith, a)
+]
+
+pub true_some : (n : ℕ) (p : ℕ → Bool) (v : ℕ) → Within n v → p v ≡ true → some n p ≡ true
+true_some zero p v w h = absurd (omega arith)
+true_some (suc n) p v w h = elim (cases_eq v (suc n)) [
+  | inl e ↦ or_right (some n p) (p (suc n)) (ap p (sym e) ∙ h)
+  | inr e ↦ or_left (some n p) (p (suc n)) (true_some n p v (omega arith) h)
+]
+
+pub some_none : (n : ℕ) (p : ℕ → Bool) → some n p ≡ false → (v : ℕ) → Within n v → p v ≡ false
+some_none n p h v w = false_from_ne_true (p v) (λ t. both_ways (some n p) h (true_some n p v w t))
+
+-- the least that passes
+pub least_true : (n : ℕ) (p : ℕ → Bool) → some n p ≡ true → (u : ℕ) × Within n u × (p u ≡ true) × ((w : ℕ) → Within n w → w < u → p w ≡ false)
+least_true zero p h = absurd (true≢false (sym h))
+least_true (suc n) p h = elim (cases_Bool (some n p)) [
+  | inl t ↦ let r = least_true n p t in (r.0, omega arith, r.2, λ w ww l. r.3 w (let a = r.1 in omega arith) l)
+  | inr f ↦ (suc n, omega arith, last (some n p) (p (suc n)) f h, λ w ww l. some_none n p f w (omega arith))
+]
+  where
+    last : (a b : Bool) → a ≡ false → (a || b) ≡ true → b ≡ true
+    last a b p q = grind arith
+
+-- one of two for each of 1 to n: the first somewhere, or the second everywhere
+pub scan : (n : ℕ) (P Q : ℕ → Type 0) → ((v : ℕ) → Within n v → P v ⊎ Q v) → ((v : ℕ) × Within n v × P v) ⊎ ((v : ℕ) → Within n v → Q v)
+scan zero P Q h = inr (λ v w. absurd (omega arith))
+scan (suc n) P Q h = elim (scan n P Q (λ v w. h v (omega arith))) [
+  | inl f ↦ inl (f.0, let a = f.1 in omega arith, f.2)
+  | inr f ↦ elim (h (suc n) (omega arith)) [
+    | inl p ↦ inl (suc n, omega arith, p)
+    | inr q ↦ inr (λ v w. elim (cases_eq v (suc n)) [ inl e ↦ subst Q (sym e) q | inr e ↦ f v (omega arith) ])
+  ]
+]

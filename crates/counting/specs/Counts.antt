@@ -1,0 +1,25 @@
+-- Sums over the numbers 1 to n, and how many of them pass a test.
+use Rattle.std.specs.Prelude.{ℕ, ◌+◌, ◌≤◌, Bool, true, false, not, suc, zero}
+
+-- v is one of 1 to n
+abbrev pub Within : ℕ → ℕ → Type 0
+Within n v = (1 ≤ v) × (v ≤ n)
+
+-- 1 where the test holds, else 0
+abbrev pub bit : Bool → ℕ
+bit true = 1
+bit false = 0
+
+-- f 1 + f 2 + .. + f n
+abbrev pub total : ℕ → (ℕ → ℕ) → ℕ
+total zero f = 0
+total (suc n) f = total n f + f (suc n)
+
+-- how many of 1 to n pass the test
+abbrev pub count : ℕ → (ℕ → Bool) → ℕ
+count n p = total n (λ v. bit (p v))
+
+-- an odd number
+abbrev pub is_odd : ℕ → Bool
+is_odd zero = false
+is_odd (suc n) = not (is_odd n)

@@ -1,0 +1,4 @@
+pub mod Counts
+pub mod Sets
+pub mod Tests
+pub mod Lists

@@ -1,0 +1,61 @@
+-- Sets as rising lists of numbers, and lists of pairs in lexicographic order.
+use Rattle.std.specs.Prelude.{◌≡◌, ℕ, zero, suc, ◌-◌, Bool, true, false, List, [], ◌∷◌, ◌++◌, ◌==◌, ◌&&◌, ◌||◌, cond, map, flat_map, slice_index_or, nat_lt, All}
+use Rattle.std.specs.List.Sorted.{IsStrictlyIncreasing}
+use Rattle.counting.specs.Counts.{Within}
+use Rattle.counting.specs.Sets.{Set, minus, everything}
+
+-- v is in the list
+abbrev pub mem : List ℕ → Set
+mem [] v = false
+mem (x ∷ xs) v = (x == v) || mem xs v
+
+-- all numbers of the list are in x
+abbrev pub all_in : List ℕ → Set → Bool
+all_in [] x = true
+all_in (v ∷ vs) x = x v && all_in vs x
+
+-- all numbers of x are in y
+abbrev pub is_subset : List ℕ → List ℕ → Bool
+is_subset x y = all_in x (mem y)
+
+-- no number of x is in y
+abbrev pub is_apart : List ℕ → List ℕ → Bool
+is_apart x y = all_in x (minus everything (mem y))
+
+-- a set of numbers 1 to n as a list: it rises
+pub record IsRisingIn (n : ℕ) (xs : List ℕ) : Type 0 where
+  pub rising : IsStrictlyIncreasing xs
+  pub within : All (Within n) xs
+
+-- the numbers of 1 to n in x, in rising order
+abbrev pub rising_list : ℕ → Set → List ℕ
+rising_list zero x = []
+rising_list (suc n) x = rising_list n x ++ cond (x (suc n)) (suc n ∷ []) []
+
+-- the rising list of those of 1 to n of which P holds
+pub record Lists (n : ℕ) (xs : List ℕ) (P : ℕ → Type 0) : Type 0 where
+  pub rising : IsRisingIn n xs
+  pub sound : (v : ℕ) → mem xs v ≡ true → P v
+  pub complete : (v : ℕ) → Within n v → P v → mem xs v ≡ true
+
+-- the last of a list, which is the greatest of a rising one; 0 where the list is empty
+abbrev pub last_of : List ℕ → ℕ
+last_of [] = 0
+last_of (x ∷ []) = x
+last_of (x ∷ y ∷ xs) = last_of (y ∷ xs)
+
+-- item i of a list of lists, counted from 1
+abbrev pub item : {A : Type 0} → List (List A) → ℕ → List A
+item xs i = slice_index_or xs (i - 1) []
+
+-- the pair of a and b
+abbrev pub pair_with : ℕ → ℕ → ℕ × ℕ
+pair_with a b = (a, b)
+
+-- the pairs a < b of 1 to n, in lexicographic order
+abbrev pub rising_pairs : ℕ → List (ℕ × ℕ)
+rising_pairs n = flat_map (λ a. map (pair_with a) (rising_list n (nat_lt a))) (rising_list n everything)
+
+-- all pairs of 1 to n, in lexicographic order
+abbrev pub ordered_pairs : ℕ → List (ℕ × ℕ)
+ordered_pairs n = flat_map (λ a. map (pair_with a) (rising_list n everything)) (rising_list n everything)

@@ -1,0 +1,46 @@
+-- Sets of numbers as tests. What a set answers at 0 and past the last number means nothing.
+use Rattle.std.specs.Prelude.{◌≡◌, ℕ, Bool, true, false, not, ◌&&◌, ◌||◌, ◌==◌, cond}
+
+-- a set of vertices or of edges, given by its test
+abbrev pub Set : Type 0
+Set = ℕ → Bool
+
+-- the empty set
+abbrev pub none : Set
+none v = false
+
+-- all numbers
+abbrev pub everything : Set
+everything v = true
+
+-- the set of v alone
+abbrev pub singleton : ℕ → Set
+singleton v w = v == w
+
+-- the set of a and b
+abbrev pub pair_set : ℕ → ℕ → Set
+pair_set a b v = (a == v) || (b == v)
+
+-- the numbers in x or in y
+abbrev pub union : Set → Set → Set
+union x y v = x v || y v
+
+-- the numbers in x and in y
+abbrev pub meet : Set → Set → Set
+meet x y v = x v && y v
+
+-- the numbers in x and not in y
+abbrev pub minus : Set → Set → Set
+minus x y v = x v && not (y v)
+
+-- the numbers outside x
+abbrev pub complement : Set → Set
+complement x v = not (x v)
+
+-- the set x with the answer b at v
+abbrev pub put : Set → ℕ → Bool → Set
+put x v b w = cond (w == v) b (x w)
+
+-- x has no number of r
+abbrev pub Outside : Set → Set → Type 0
+Outside r x = (v : ℕ) → x v ≡ true → r v ≡ false

@@ -1,0 +1,186 @@
+use Rattle.std.proofs.Common.{◌≡◌, ℕ, suc, zero, ◌+◌, ◌≢◌, Bool, true, false, cond, ◌==◌, refl, sym, ap, ap₂, ◌∙◌, arith, ◌&&◌, ◌||◌, not, eq-eqb, ne_eqb, eqb-true, ◌⊎◌, inl, inr, ◌*◌, ◌≤◌, ◌<◌, nat_le, leb-true, le-leb, add_comm, subst, List, [], ◌∷◌}
+use Rattle.std.proofs.lemmas.Bool.{cases_eq, cases_Bool, or_cases, or_parts, and_parts, and_from, both_ways, cases_order, true≢false, false_from_ne_true}
+use Rattle.std.proofs.lemmas.Bool.Decides.{nat_tests}
+use Rattle.std.specs.Prelude.{}
+use Rattle.counting.proofs.Choice.{Respects, choose_set, each_passes, implied, implies, none_fails, not_true, set_found, some_set_found}
+use Rattle.counting.proofs.Counts.{count_congr, count_le}
+use Rattle.counting.proofs.Lists.{back, front}
+use Rattle.counting.proofs.Tests.{every_congr, every_true, true_every}
+use Rattle.counting.proofs.Totals.{total_none}
+use Rattle.counting.specs.Counts.{Within, count, is_odd}
+use Rattle.counting.specs.Sets.{Set, complement, none, pair_set}
+use Rattle.counting.specs.Tests.{some}
+use Rattle.graph_core.proofs.Walks.{adjacent-edge, has_ends-cases}
+use Rattle.graph_core.specs.Covered.{IsCovered}
+use Rattle.graph_core.specs.Graph.{Graph, IsGraph, degree, edges_in_cut, first_end, in_cut, second_end, size}
+use Rattle.graph_core.specs.Matchings.{Allowed, HasPerfect, IsMatching, IsMaximum, IsPerfect, fits_at, has_perfect, is_matching, is_perfect, right_degree}
+use Rattle.graph_core.specs.Structure.{Equivalent, is_equivalent}
+use Rattle.graph_core.specs.Tight.{CutIsTight, IsTight, is_tight}
+use Rattle.graph_core.specs.Walks.{Joined, Walk, adjacent}
+
+pub is_perfect_true : (g : Graph) (r m : Set) → is_perfect g r m ≡ true → IsPerfect g r m
+is_perfect_true g r m h = record {
+  once = λ v w o. eqb-true _ _ (every_true g.order (right_degree g r m) h v w) ∙ ap (λ b. cond b 0 1) o;
+  away = λ v w o. eqb-true _ _ (every_true g.order (right_degree g r m) h v w) ∙ ap (λ b. cond b 0 1) o;
+}
+
+pub true_is_perfect : (g : Graph) (r m : Set) → IsPerfect g r m → is_perfect g r m ≡ true
+true_is_perfect g r m h = true_every g.order (right_degree g r m) (λ v w. eq-eqb _ _ (elim (cases_Bool (r v)) [
+  | inl t ↦ h.away v w t ∙ sym (ap (λ b. cond b 0 1) t)
+  | inr t ↦ h.once v w t ∙ sym (ap (λ b. cond b 0 1) t)
+]))
+
+pub degree_congr : (g : Graph) (m k : Set) (v : ℕ) → ((e : ℕ) → Within (size g) e → m e ≡ k e) → degree g m v ≡ degree g k v
+degree_congr g m k v h = ap₂ ◌+◌ (count_congr (size g) _ _ (λ e w. ap (λ b. b && (first_end g e == v)) (h e w))) (count_congr (size g) _ _ (λ e w. ap (λ b. b && (second_end g e == v)) (h e w)))
+
+pub is_perfect_congr : (g : Graph) (r m k : Set) → ((e : ℕ) → Within (size g) e → m e ≡ k e) → is_perfect g r m ≡ is_perfect g r k
+is_perfect_congr g r m k h = every_congr g.order _ _ (λ v w. ap (λ d. d == cond (r v) 0 1) (degree_congr g m k v h))
+
+pub allowed_or_not : (g : Graph) (e : ℕ) → Within (size g) e → (Allowed g e) ⊎ (Allowed g e → ⊥)
+allowed_or_not g e w =
+    elim (choose_set (size g) (λ m. is_perfect g none m && m e) (record { same = λ m k h. ap₂ ◌&&◌ (is_perfect_congr g none m k h) (h e w) })) [
+      | inl f ↦ let b = and_parts (is_perfect g none f.0) (f.0 e) f.1 in inl (f.0, is_perfect_true g none f.0 b.0, b.1)
+      | inr f ↦ inr (λ a. both_ways (is_perfect g none a.0 && a.0 e) (f a.0) (and_from (is_perfect g none a.0) (a.0 e) (true_is_perfect g none a.0 a.1) a.2))
+    ]
+
+-- the cut is tight, or some perfect matching shows that it is not
+pub tight_or_not : (g : Graph) (x : Set) → (CutIsTight g x) ⊎ ((m : Set) × IsPerfect g none m × (edges_in_cut g m x ≢ 1))
+tight_or_not g x =
+    elim (choose_set (size g) (λ m. is_perfect g none m && not (edges_in_cut g m x == 1)) (record { same = λ m k h. ap₂ ◌&&◌ (is_perfect_congr g none m k h) (ap (λ d. not (d == 1)) (count_congr (size g) _ _ (λ e w. ap (λ b. b && in_cut g x e) (h e w)))) })) [
+      | inl f ↦ let b = and_parts (is_perfect g none f.0) (not (edges_in_cut g f.0 x == 1)) f.1 in inr (f.0, is_perfect_true g none f.0 b.0, grind (arith, nat_tests, b.1))
+      | inr f ↦ inl (λ m p. grind (arith, nat_tests, f m, true_is_perfect g none m p))
+    ]
+
+pub is_matching_true : (g : Graph) (r m : Set) → is_matching g r m ≡ true → IsMatching g r m
+is_matching_true g r m h = record {
+  once = λ v w. both (r v) (degree g m v) (leb-true _ _ (every_true g.order (fits_at g r m) h v w));
+  away = λ v w o. let a = leb-true _ _ (every_true g.order (fits_at g r m) h v w) in let b = ap (λ k. cond k 0 1) o in zero_le (degree g m v) (cond (r v) 0 1) a b;
+}
+  where
+    both : (b : Bool) (d : ℕ) → d ≤ cond b 0 1 → d ≤ 1
+    both true d q = omega arith
+    both false d q = q
+
+    zero_le : (d k : ℕ) → d ≤ k → k ≡ 0 → d ≡ 0
+    zero_le d k a b = omega arith
+
+pub true_is_matching : (g : Graph) (r m : Set) → IsMatching g r m → is_matching g r m ≡ true
+true_is_matching g r m h = true_every g.order (fits_at g r m) (λ v w. le-leb _ _ (go v w (r v) refl))
+  where
+    go : (v : ℕ) → Within g.order v → (b : Bool) → r v ≡ b → degree g m v ≤ cond b 0 1
+    go v w true e = omega (arith, h.away v w e)
+    go v w false e = h.once v w
+
+pub is_matching_congr : (g : Graph) (r m k : Set) → ((e : ℕ) → Within (size g) e → m e ≡ k e) → is_matching g r m ≡ is_matching g r k
+is_matching_congr g r m k h = every_congr g.order _ _ (λ v w. ap (λ d. nat_le d (cond (r v) 0 1)) (degree_congr g m k v h))
+
+-- no edges are a matching
+pub none_matching : (g : Graph) (r : Set) → IsMatching g r none
+none_matching g r = record { once = λ v w. omega (arith, zero_degree v); away = λ v w o. zero_degree v }
+  where
+    zero_degree : (v : ℕ) → degree g none v ≡ 0
+    zero_degree v = ap₂ ◌+◌ (total_none (size g) _ (λ e w. refl)) (total_none (size g) _ (λ e w. refl))
+
+-- there is a maximum matching
+pub maximum_below : (g : Graph) (r : Set) (k : ℕ) → ((m : Set) → IsMatching g r m → count (size g) m ≤ k) → (m : Set) × IsMaximum g r m
+maximum_below g r zero h = (none, record { is = none_matching g r; most = λ k p. omega (arith, h k p) })
+maximum_below g r (suc k) h = elim (choose_set (size g) (λ m. is_matching g r m && (count (size g) m == suc k)) (record { same = λ m n e. ap₂ ◌&&◌ (is_matching_congr g r m n e) (ap (λ c. c == suc k) (count_congr (size g) m n e)) })) [
+  | inl f ↦ let b = and_parts (is_matching g r f.0) (count (size g) f.0 == suc k) f.1 in
+      (f.0, record { is = is_matching_true g r f.0 b.0; most = λ n p. let a = h n p in let c = eqb-true (count (size g) f.0) (suc k) b.1 in omega arith })
+  | inr f ↦ maximum_below g r k (λ m p. let a = h m p in
+      below (count (size g) m) k a (λ e. both_ways (is_matching g r m && (count (size g) m == suc k)) (f m) (and_from (is_matching g r m) (count (size g) m == suc k) (true_is_matching g r m p) (eq-eqb (count (size g) m) (suc k) e))))
+]
+  where
+    below : (c k : ℕ) → c ≤ suc k → (c ≡ suc k → ⊥) → c ≤ k
+    below c k a b = omega arith
+
+pub maximum_exists : (g : Graph) (r : Set) → (m : Set) × IsMaximum g r m
+maximum_exists g r = maximum_below g r (size g) (λ m p. count_le (size g) m)
+
+-- some maximum matching misses v, or each meets it
+pub missed_or_met : (g : Graph) (r : Set) (v : ℕ) → Within g.order v → ((m : Set) × IsMaximum g r m × (degree g m v ≡ 0)) ⊎ ((m : Set) → IsMaximum g r m → 0 < degree g m v)
+missed_or_met g r v w =
+    let x = maximum_exists g r in
+    let p : Set → Bool = λ m. is_matching g r m && ((count (size g) m == count (size g) x.0) && (degree g m v == 0)) in
+    elim (choose_set (size g) p (record { same = λ m n e. ap₂ ◌&&◌ (is_matching_congr g r m n e) (ap₂ ◌&&◌ (ap (λ c. c == count (size g) x.0) (count_congr (size g) m n e)) (ap (λ c. c == 0) (degree_congr g m n v e))) })) [
+      | inl f ↦ let b = and_parts (is_matching g r f.0) _ f.1 in let c = and_parts (count (size g) f.0 == count (size g) x.0) (degree g f.0 v == 0) b.1 in
+          let q = eqb-true (count (size g) f.0) (count (size g) x.0) c.0 in
+          inl (f.0, record { is = is_matching_true g r f.0 b.0; most = λ n k. let a = x.1.most n k in omega arith }, eqb-true (degree g f.0 v) 0 c.1)
+      | inr f ↦ inr (λ m q. pos (degree g m v) (λ z. both_ways (p m) (f m) (and_from (is_matching g r m) _ (true_is_matching g r m q.is) (and_from _ _
+          (eq-eqb (count (size g) m) (count (size g) x.0) (same (count (size g) m) (count (size g) x.0) (x.1.most m q.is) (q.most x.0 x.1.is))) (eq-eqb (degree g m v) 0 z)))))
+    ]
+  where
+    pos : (d : ℕ) → (d ≡ 0 → ⊥) → 0 < d
+    pos d h = omega arith
+
+    same : (a b : ℕ) → a ≤ b → b ≤ a → a ≡ b
+    same a b p q = omega arith
+
+perfect_respects : (g : Graph) (r : Set) → Respects (size g) (is_perfect g r)
+perfect_respects g r = record { same = λ m k h. is_perfect_congr g r m k h }
+
+-- some perfect matching is there where the test finds one
+pub has_perfect_says : (g : Graph) (r : Set) → has_perfect g r ≡ true → HasPerfect g r
+has_perfect_says g r h = let q = some_set_found (size g) (is_perfect g r) h in (q.0, is_perfect_true g r q.0 q.1)
+
+pub has_perfect_found : (g : Graph) (r : Set) → HasPerfect g r → has_perfect g r ≡ true
+has_perfect_found g r h = set_found (size g) (is_perfect g r) (perfect_respects g r) h.0 (true_is_perfect g r h.0 h.1)
+
+-- an edge is allowed where the test says so
+pub is_allowed_says : (g : Graph) (e : ℕ) → is_allowed g e ≡ true → Allowed g e
+is_allowed_says g e h =
+    let q = some_set_found (size g) (λ m. is_perfect g none m && m e) h in
+    let b = and_parts (is_perfect g none q.0) (q.0 e) q.1 in
+    (q.0, is_perfect_true g none q.0 b.0, b.1)
+
+pub is_allowed_found : (g : Graph) (e : ℕ) → Within (size g) e → Allowed g e → is_allowed g e ≡ true
+is_allowed_found g e w a = set_found (size g) (λ m. is_perfect g none m && m e) (record { same = λ m k h. ap₂ ◌&&◌ (is_perfect_congr g none m k h) (h e w) }) a.0 (and_from (is_perfect g none a.0) (a.0 e) (true_is_perfect g none a.0 a.1) a.2)
+
+-- two vertices are equivalent where the test says so
+pub is_equivalent_says : (g : Graph) (a b : ℕ) → is_equivalent g a b ≡ true → Equivalent g a b
+is_equivalent_says g a b h = elim (or_cases (a == b) (not (has_perfect g (pair_set a b))) h) [
+  | inl e ↦ inl (eqb-true a b e)
+  | inr f ↦ inr (λ q. both_ways (has_perfect g (pair_set a b)) (not_true (has_perfect g (pair_set a b)) f) (has_perfect_found g (pair_set a b) q))
+]
+
+pub is_equivalent_found : (g : Graph) (a b : ℕ) → Equivalent g a b → is_equivalent g a b ≡ true
+is_equivalent_found g a b (inl e) = front (a == b) (not (has_perfect g (pair_set a b))) (eq-eqb a b e)
+  where
+    front : (x y : Bool) → x ≡ true → (x || y) ≡ true
+    front x y h = grind arith
+is_equivalent_found g a b (inr h) = elim (cases_Bool (has_perfect g (pair_set a b))) [
+  | inl t ↦ absurd (h (has_perfect_says g (pair_set a b) t))
+  | inr f ↦ back (a == b) (has_perfect g (pair_set a b)) f
+]
+  where
+    back : (x y : Bool) → y ≡ false → (x || not y) ≡ true
+    back x y h = grind arith
+
+-- the test for one edge in the cut of x, where m is a perfect matching
+cut_respects : (g : Graph) (x : Set) → Respects (size g) (λ m. not (is_perfect g none m) || (count (size g) (λ e. m e && in_cut g x e) == 1))
+cut_respects g x = record { same = λ m k h. ap₂ ◌||◌ (ap not (is_perfect_congr g none m k h)) (ap (λ d. d == 1) (count_congr (size g) _ _ (λ e w. ap (λ b. b && in_cut g x e) (h e w)))) }
+
+-- a shore is tight where the test says so
+pub is_tight_says : (g : Graph) (x : Set) → is_tight g x ≡ true → IsTight g x
+is_tight_says g x h =
+    let b = and_parts (is_odd (count g.order x) && is_odd (count g.order (complement x))) _ h in
+    let c = and_parts (is_odd (count g.order x)) (is_odd (count g.order (complement x))) b.0 in
+    record { odd = c.0; odd_complement = c.1; cut = λ m p. eqb-true _ _ (implied (is_perfect g none m) _ (each_passes (size g) _ (cut_respects g x) b.1 m) (true_is_perfect g none m p)) }
+
+pub is_tight_found : (g : Graph) (x : Set) → IsTight g x → is_tight g x ≡ true
+is_tight_found g x t =
+    and_from (is_odd (count g.order x) && is_odd (count g.order (complement x))) _ (and_from (is_odd (count g.order x)) (is_odd (count g.order (complement x))) t.odd t.odd_complement)
+    (none_fails (size g) (λ m. not (is_perfect g none m) || (count (size g) (λ e. m e && in_cut g x e) == 1)) (λ m. implies (is_perfect g none m) _ (λ p. eq-eqb _ _ (t.cut m (is_perfect_true g none m p)))))
+
+-- a covered graph has a perfect matching
+pub covered_perfect : (g : Graph) → IsGraph g → IsCovered g → (m : Set) × IsPerfect g none m
+unfolding Joined
+covered_perfect g is cov = let j = cov.connected 1 2 (let t = cov.two in omega arith) (let t = cov.two in omega arith) in go 1 j.0 (λ e. absurd (omega arith)) j.1
+  where
+    go : (u : ℕ) (ws : List ℕ) → u ≢ 2 → Walk (adjacent g none) u ws 2 → (m : Set) × IsPerfect g none m
+    go u [] d w = absurd (d w)
+    go u (y ∷ ws) d w = elim (cases_eq u y) [
+      | inl e ↦ go y ws (λ q. d (e ∙ q)) w.1
+      | inr ne ↦ let p = adjacent-edge g none u y w.0 in
+          let m = cov.allowed p.2.0 p.2.1 (λ q. ne (elim (has_ends-cases g u y p.2.0 p.2.2) [ inl k ↦ sym k.0 ∙ q ∙ k.1 | inr k ↦ sym k.1 ∙ sym q ∙ k.0 ])) in (m.0, m.1)
+    ]

@@ -1,0 +1,14 @@
+pub mod Blocks
+pub mod Carrying
+pub mod Components
+pub mod Contraction
+pub mod Decide
+pub mod Edits
+pub mod Parity
+pub mod Quotients
+pub mod Shores
+pub mod Singles
+pub mod Textbook
+pub mod Uncrossing
+pub mod Walks
+pub mod WeakDuality

@@ -1,0 +1,36 @@
+use Rattle.std.proofs.Common.{◌≡◌, ℕ, suc, zero, ◌-◌, ◌<◌, Bool, true, false, cond, ◌||◌, ◌==◌, List, [], ◌∷◌, ◌++◌, length, map, refl, sym, ap, ap₂, ◌∙◌, arith, ◌⊎◌, inl, inr, subst, eq-eqb, eqb-true, get_or, filter, nat_lt, flat_map}
+use Rattle.std.proofs.lemmas.Bool.{both_ways, or_cases, cases_lt}
+use Rattle.std.proofs.lemmas.Bool.Decides.{nat_tests}
+use Rattle.counting.proofs.Lists.{rising_holds, rising_only}
+use Rattle.counting.proofs.Pairs.{at_pair, filter_pair, pair_at, pair_filter, rows_hold, rows_only}
+use Rattle.counting.specs.Counts.{Within}
+use Rattle.counting.specs.Lists.{rising_list, rising_pairs}
+use Rattle.counting.specs.Sets.{everything}
+use Rattle.graph_core.specs.Graph.{Graph, connects, first_end, second_end, size}
+use Rattle.graph_core.specs.Quotients.{blocks_adjacent, quotient}
+use Rattle.graph_core.specs.Walks.{adjacent}
+
+-- each edge of the quotient connects two adjacent places in rising order
+pub quotient_edge : (g : Graph) (p : List (List ℕ)) (e : ℕ) → Within (size (quotient g p)) e →
+    Within (length p) (first_end (quotient g p) e) × Within (length p) (second_end (quotient g p) e) × (first_end (quotient g p) e < second_end (quotient g p) e) × (blocks_adjacent g p (first_end (quotient g p) e) (second_end (quotient g p) e) ≡ true)
+unfolding quotient
+quotient_edge g p e w =
+    let h = pair_filter (blocks_adjacent g p) (rising_pairs (length p)) _ _ (at_pair (quotient g p).ends (e - 1) (omega arith)) in
+    let r = rows_only (length p) _ _ (rising_list (length p) everything) h.0 in
+    let q = rising_only (length p) everything _ r.0 in
+    (q.0, r.1, lower _ _ r.2, h.1)
+  where
+    lower : (a b : ℕ) → nat_lt a b ≡ true → a < b
+    lower a b h = grind (arith, nat_tests, h)
+
+-- and each two adjacent places have an edge
+pub edge_of_pair : (g : Graph) (p : List (List ℕ)) (i j : ℕ) → Within (length p) i → Within (length p) j → i < j → blocks_adjacent g p i j ≡ true → (e : ℕ) × Within (size (quotient g p)) e × (first_end (quotient g p) e ≡ i) × (second_end (quotient g p) e ≡ j)
+unfolding quotient
+edge_of_pair g p i j wi wj l h =
+    let r = pair_at (quotient g p).ends i j (filter_pair (blocks_adjacent g p) (rising_pairs (length p)) i j (rows_hold (length p) i j (rising_list (length p) everything) (rising_holds (length p) everything i wi refl) wj (test i j l)) h) in
+    let b = r.1 in
+    let e : suc r.0 - 1 ≡ r.0 = omega arith in
+    (suc r.0, (omega arith, omega arith), ap (λ k. (get_or (quotient g p).ends k (0, 0)).0) e ∙ r.2, ap (λ k. (get_or (quotient g p).ends k (0, 0)).1) e ∙ r.3)
+  where
+    test : (a b : ℕ) → a < b → nat_lt a b ≡ true
+    test a b h = grind (arith, nat_tests, h)

@@ -1,0 +1,53 @@
+use Rattle.std.proofs.Common.{◌≡◌, ℕ, suc, zero, ◌+◌, ◌≤◌, Bool, true, false, cond, refl, sym, ap, ◌∙◌, arith, ◌&&◌, ◌||◌, not, inl, inr, zero-add, suc-add}
+use Rattle.std.proofs.lemmas.Bool.{cases_Bool, true≢false, both_ways}
+use Rattle.counting.proofs.Counts.{count_meet_union}
+use Rattle.counting.proofs.Odd.{complement_odd, odd-add, odd-double, odd_pos, order_even}
+use Rattle.counting.proofs.Totals.{at_le_total}
+use Rattle.counting.specs.Counts.{Within, bit, count, is_odd}
+use Rattle.counting.specs.Sets.{Set, meet, minus, none, union}
+use Rattle.graph_core.proofs.Parity.{parity, two_cuts}
+use Rattle.graph_core.specs.Covered.{IsCovered}
+use Rattle.graph_core.specs.Graph.{Graph, IsGraph, connects, first_end, in_cut, inside, second_end, size}
+use Rattle.graph_core.specs.Matchings.{IsPerfect}
+use Rattle.graph_core.specs.Tight.{IsTight}
+
+-- the cut of an odd set meets each perfect matching
+pub odd_meets : (g : Graph) (m x : Set) → IsGraph g → IsPerfect g none m → is_odd (count g.order x) ≡ true → 1 ≤ count (size g) (λ e. m e && in_cut g x e)
+odd_meets g m x is p o =
+    let k = count (size g) (λ e. m e && inside g x e) in
+    let e : count g.order x ≡ count (size g) (λ e. m e && in_cut g x e) + (k + k) = omega (arith, parity g is m x p) in
+    let a = odd-add (count (size g) (λ e. m e && in_cut g x e)) (k + k) in
+    odd_pos (count (size g) (λ e. m e && in_cut g x e)) (go (is_odd (count (size g) (λ e. m e && in_cut g x e))) (is_odd (k + k)) (odd-double k) (sym a ∙ ap is_odd (sym e) ∙ o))
+  where
+    go : (s t : Bool) → t ≡ false → cond s (not t) t ≡ true → s ≡ true
+    go true t a b = refl
+    go false t a b = sym a ∙ b
+
+module _ (g : Graph) (is : IsGraph g) (covered : IsCovered g) (x y : Set) (tx : IsTight g x) (ty : IsTight g y) (odd : is_odd (count g.order (meet x y)) ≡ true) where
+  union_odd : is_odd (count g.order (union x y)) ≡ true
+  union_odd = go _ _ _ _ odd tx.odd ty.odd (sym (odd-add (count g.order (meet x y)) (count g.order (union x y))) ∙ ap is_odd (count_meet_union g.order x y) ∙ odd-add (count g.order x) (count g.order y))
+    where
+      go : (a b c d : Bool) → a ≡ true → c ≡ true → d ≡ true → cond a (not b) b ≡ cond c (not d) d → b ≡ true
+      go a b c d p q r e = grind arith
+
+  one_each : (m : Set) → IsPerfect g none m →
+      (count (size g) (λ e. m e && in_cut g (meet x y) e) ≡ 1) × (count (size g) (λ e. m e && in_cut g (union x y) e) ≡ 1) × (count (size g) (λ e. m e && connects g (minus x y) (minus y x) e) ≡ 0)
+  one_each m p = let a = odd_meets g m (meet x y) is p odd in let b = odd_meets g m (union x y) is p union_odd in
+      let c = two_cuts g m x y in let d = tx.cut m p in let e = ty.cut m p in (omega arith, omega arith, omega arith)
+
+  pub no_edge_joins : (e : ℕ) → Within (size g) e → connects g (minus x y) (minus y x) e ≡ false
+  no_edge_joins e w = elim (cases_Bool (connects g (minus x y) (minus y x) e)) [
+    | inr f ↦ f
+    | inl t ↦ let a = covered.allowed e w (λ l. both_ways (connects g (minus x y) (minus y x) e) (loop (x (first_end g e)) (x (second_end g e)) (y (first_end g e)) (y (second_end g e)) (ap x l) (ap y l)) t) in
+        let z : bit (a.0 e && connects g (minus x y) (minus y x) e) ≡ 1 = rw (a.2, t) refl in
+        absurd (omega (arith, at_le_total (size g) (λ i. bit (a.0 i && connects g (minus x y) (minus y x) i)) e w, (one_each a.0 a.1).2))
+  ]
+    where
+      loop : (a b c d : Bool) → a ≡ b → c ≡ d → (((a && not c) && (d && not b)) || ((c && not a) && (b && not d))) ≡ false
+      loop a b c d p q = grind arith
+
+  pub meet_tight : IsTight g (meet x y)
+  meet_tight = record { odd = odd; odd_complement = complement_odd g.order (meet x y) (order_even g.order x tx.odd tx.odd_complement) odd; cut = λ m p. (one_each m p).0 }
+
+  pub union_tight : IsTight g (union x y)
+  union_tight = record { odd = union_odd; odd_complement = complement_odd g.order (union x y) (order_even g.order x tx.odd tx.odd_complement) union_odd; cut = λ m p. (one_each m p).1 }

@@ -1,0 +1,15 @@
+-- Berge sets (Tutte 1947, Berge 1958): vertex sets that show a matching to be maximum.
+use Rattle.std.specs.Prelude.{◌≡◌, ◌+◌}
+use Rattle.counting.specs.Counts.{count}
+use Rattle.counting.specs.Sets.{Set, union}
+use Rattle.graph_core.specs.Graph.{Graph}
+use Rattle.graph_core.specs.Matchings.{IsMatching, missed_count}
+use Rattle.graph_core.specs.Components.{odd_component_count}
+
+-- m misses exactly o(S) - |S| vertices of g without r, written as a sum, since the difference may not be below 0
+abbrev pub Attains : Graph → Set → Set → Set → Type 0
+Attains g r s m = missed_count g r m + count g.order s ≡ odd_component_count g (union r s)
+
+-- s is a Berge set of g without r: some matching misses exactly o(S) - |S| vertices
+abbrev pub IsBergeSet : Graph → Set → Set → Type 0
+IsBergeSet g r s = (m : Set) × IsMatching g r m × Attains g r s m

@@ -1,0 +1,29 @@
+-- Components of a graph G without a vertex set S: the sets of vertices that walks join. Any textbook; a component is
+-- counted at its least vertex.
+use Rattle.std.specs.Prelude.{◌≡◌, ℕ, Bool, List, ◌&&◌, not, nat_lt, map}
+use Rattle.counting.specs.Counts.{count, is_odd, Within}
+use Rattle.counting.specs.Sets.{Set, none}
+use Rattle.counting.specs.Tests.{some}
+use Rattle.counting.specs.Lists.{rising_list}
+use Rattle.graph_core.specs.Graph.{Graph}
+use Rattle.graph_core.specs.Walks.{Joined, joined}
+
+-- u is the least vertex of a component of g without s
+abbrev pub is_least : Graph → Set → Set
+is_least g s u = not (s u) && not (some g.order (λ v. joined g s u v && nat_lt v u))
+
+-- the number of components of g without s
+unfoldable pub component_count : Graph → Set → ℕ
+component_count g s = count g.order (is_least g s)
+
+-- o(S): the number of components of g without s that have an odd number of vertices
+unfoldable pub odd_component_count : Graph → Set → ℕ
+odd_component_count g s = count g.order (λ u. is_least g s u && is_odd (count g.order (joined g s u)))
+
+-- the components of g without s as rising lists, by least vertex
+unfoldable pub components : Graph → Set → List (List ℕ)
+components g s = map (λ u. rising_list g.order (joined g s u)) (rising_list g.order (is_least g s))
+
+-- all vertices are in one component
+abbrev pub IsConnected : Graph → Type 0
+IsConnected g = (u v : ℕ) → Within g.order u → Within g.order v → Joined g none u v

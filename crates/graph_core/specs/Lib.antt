@@ -1,0 +1,13 @@
+pub mod Graph
+pub mod Matchings
+pub mod Walks
+pub mod Components
+pub mod BergeSets
+pub mod GallaiEdmonds
+pub mod Covered
+pub mod PairLists
+pub mod Tight
+pub mod Partitions
+pub mod Quotients
+pub mod Shores
+pub mod Structure

@@ -1,0 +1,22 @@
+-- Shores at a partition: unions of blocks, tight at the partition (Lovász 1987).
+use Rattle.std.specs.Prelude.{◌≡◌, ℕ, Bool, true, false, List, ◌&&◌}
+use Rattle.counting.specs.Counts.{Within}
+use Rattle.counting.specs.Sets.{Set}
+use Rattle.counting.specs.Lists.{all_in}
+use Rattle.graph_core.specs.Graph.{Graph}
+use Rattle.graph_core.specs.Tight.{IsTight}
+use Rattle.graph_core.specs.Partitions.{block, place, contracted}
+
+-- x is a union of blocks of p, as far as 1 to n go
+abbrev pub IsUnion : ℕ → List (List ℕ) → Set → Type 0
+IsUnion n p x = (u v : ℕ) → Within n u → Within n v → place p u ≡ place p v → x u ≡ x v
+
+-- the places of the blocks whose vertices are all in x
+abbrev pub blocks_in : List (List ℕ) → Set → Set
+blocks_in p x i = all_in (block p i) x
+
+-- x is a union of blocks and tight at p: the number of blocks is odd inside and outside, and each perfect matching at p has
+-- exactly one edge in the cut of x
+pub record IsTightAt (g : Graph) (p : List (List ℕ)) (x : Set) : Type 0 where
+  pub union : IsUnion g.order p x
+  pub tight : IsTight (contracted g p) (blocks_in p x)

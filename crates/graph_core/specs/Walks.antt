@@ -1,0 +1,33 @@
+-- Walks of a graph G without a vertex set S, as lists of vertices. Any textbook.
+use Rattle.std.specs.Prelude.{◌≡◌, ℕ, zero, suc, Bool, true, List, [], ◌∷◌, ◌++◌, ◌==◌, ◌&&◌, ◌||◌, not, length}
+use Rattle.counting.specs.Counts.{is_odd}
+use Rattle.counting.specs.Sets.{Set, none}
+use Rattle.counting.specs.Tests.{some}
+use Rattle.graph_core.specs.Graph.{Graph, size, has_ends}
+
+-- an edge of g without s joins u and v
+abbrev pub adjacent : Graph → Set → ℕ → ℕ → Bool
+adjacent g s u v = (not (s u) && not (s v)) && some (size g) (has_ends g u v)
+
+-- a walk from u over the vertices of the list ends at v, each step by the test `adj`
+abbrev pub Walk : (ℕ → ℕ → Bool) → ℕ → List ℕ → ℕ → Type 0
+Walk adj u [] v = u ≡ v
+Walk adj u (w ∷ ws) v = (adj u w ≡ true) × Walk adj w ws v
+
+-- a walk of g without s leads from u to v
+unfoldable pub Joined : Graph → Set → ℕ → ℕ → Type 0
+Joined g s u v = (ws : List ℕ) × Walk (adjacent g s) u ws v
+
+-- a walk of at most k steps leads from u to v, over 1 to n, as a test
+abbrev pub reaches : ℕ → (ℕ → ℕ → Bool) → ℕ → ℕ → ℕ → Bool
+reaches n adj u zero v = u == v
+reaches n adj u (suc k) v = reaches n adj u k v || some n (λ w. reaches n adj u k w && adj w v)
+
+-- the vertices that a walk of g without s leads to from u, as a test: a walk of as many steps as there are vertices does
+unfoldable pub joined : Graph → Set → ℕ → Set
+joined g s u = reaches g.order (adjacent g s) u g.order
+
+-- the vertices of a closed walk of odd length, the first not repeated at the end
+abbrev pub IsOddClosedWalk : Graph → List ℕ → Type 0
+IsOddClosedWalk g [] = ⊥
+IsOddClosedWalk g (v ∷ vs) = Walk (adjacent g none) v (vs ++ v ∷ []) v × (is_odd (length (v ∷ vs)) ≡ true)

@@ -1,0 +1,2 @@
+pub mod Gallai
+pub mod TutteBerge
