@@ -80,13 +80,13 @@ set_found n p r m h = elim (cases_Bool (some_set n p)) [
   | inr f ↦ absurd (both_ways (p m) (some_set_none n p r f m) h)
 ]
 
-not_true : (b : Bool) → not b ≡ true → b ≡ false
+pub not_true : (b : Bool) → not b ≡ true → b ≡ false
 not_true b h = grind arith
 
-not_false : (b : Bool) → not b ≡ false → b ≡ true
+pub not_false : (b : Bool) → not b ≡ false → b ≡ true
 not_false b h = grind arith
 
-negated : (n : ℕ) (p : Set → Bool) → Respects n p → Respects n (λ m. not (p m))
+pub negated : (n : ℕ) (p : Set → Bool) → Respects n p → Respects n (λ m. not (p m))
 negated n p r = record { same = λ m k h. ap not (r.same m k h) }
 
 -- each set passes where the test says so
@@ -99,9 +99,9 @@ none_fails n p h = elim (cases_Bool (some_set n (λ k. not (p k)))) [
   | inr f ↦ ap not f
 ]
 
-implied : (a b : Bool) → (not a || b) ≡ true → a ≡ true → b ≡ true
+pub implied : (a b : Bool) → (not a || b) ≡ true → a ≡ true → b ≡ true
 implied a b h p = grind arith
 
-implies : (a b : Bool) → (a ≡ true → b ≡ true) → (not a || b) ≡ true
+pub implies : (a b : Bool) → (a ≡ true → b ≡ true) → (not a || b) ≡ true
 implies true b h = h refl
 implies false b h = refl

@@ -67,7 +67,7 @@ pub bit_true : (b : Bool) → 0 < bit b → b ≡ true
 bit_true true h = refl
 bit_true false h = absurd (omega arith)
 
-count_meet_union : (n : ℕ) (x y : Set) → count n (meet x y) + count n (union x y) ≡ count n x + count n y
+pub count_meet_union : (n : ℕ) (x y : Set) → count n (meet x y) + count n (union x y) ≡ count n x + count n y
 count_meet_union n x y = sym (total_add n (λ v. bit (meet x y v)) (λ v. bit (union x y v))) ∙ total_congr n _ _ (λ v w. bits (x v) (y v)) ∙ total_add n (λ v. bit (x v)) (λ v. bit (y v))
   where
     bits : (s t : Bool) → bit (s && t) + bit (s || t) ≡ bit s + bit t

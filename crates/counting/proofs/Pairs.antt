@@ -38,21 +38,21 @@ append_pair (k ∷ ks) ls i j (inr h) = elim (append_pair ks ls i j h) [ inl a �
 abbrev row : ℕ → ℕ → List (ℕ × ℕ)
 row n a = map (pair_with a) (rising_list n (nat_lt a))
 
-rows_hold : (n i j : ℕ) (xs : List ℕ) → mem xs i ≡ true → Within n j → nat_lt i j ≡ true → HasPair (flat_map (row n) xs) i j
+pub rows_hold : (n i j : ℕ) (xs : List ℕ) → mem xs i ≡ true → Within n j → nat_lt i j ≡ true → HasPair (flat_map (row n) xs) i j
 rows_hold n i j [] h w l = absurd (both_ways false refl h)
 rows_hold n i j (x ∷ xs) h w l = elim (or_cases (x == i) (mem xs i) h) [
   | inl s ↦ let e = eqb-true x i s in pair_front (row n x) (flat_map (row n) xs) i j (subst (λ a. HasPair (row n a) i j) (sym e) (pair_map i (rising_list n (nat_lt i)) j (rising_holds n (nat_lt i) j w l)))
   | inr s ↦ pair_back (row n x) (flat_map (row n) xs) i j (rows_hold n i j xs s w l)
 ]
 
-rows_only : (n i j : ℕ) (xs : List ℕ) → HasPair (flat_map (row n) xs) i j → (mem xs i ≡ true) × Within n j × (nat_lt i j ≡ true)
+pub rows_only : (n i j : ℕ) (xs : List ℕ) → HasPair (flat_map (row n) xs) i j → (mem xs i ≡ true) × Within n j × (nat_lt i j ≡ true)
 rows_only n i j [] h = absurd h
 rows_only n i j (x ∷ xs) h = elim (append_pair (row n x) (flat_map (row n) xs) i j h) [
   | inl a ↦ let r = map_pair x (rising_list n (nat_lt x)) i j a in let q = rising_only n (nat_lt x) j r.1 in (or_front (x == i) (mem xs i) (eq-eqb x i r.0), q.0, ap (λ k. nat_lt k j) (sym r.0) ∙ q.1)
   | inr b ↦ let r = rows_only n i j xs b in (or_back (x == i) (mem xs i) r.0, r.1, r.2)
 ]
 
-filter_pair : (t : ℕ → ℕ → Bool) (ks : List (ℕ × ℕ)) (i j : ℕ) → HasPair ks i j → t i j ≡ true → HasPair (filter (λ k. t k.0 k.1) ks) i j
+pub filter_pair : (t : ℕ → ℕ → Bool) (ks : List (ℕ × ℕ)) (i j : ℕ) → HasPair ks i j → t i j ≡ true → HasPair (filter (λ k. t k.0 k.1) ks) i j
 filter_pair t [] i j h y = h
 filter_pair t (k ∷ ks) i j (inl h) y = go (t k.0 k.1) (ap₂ t h.0 h.1 ∙ y)
   where
@@ -65,7 +65,7 @@ filter_pair t (k ∷ ks) i j (inr h) y = go (t k.0 k.1) (filter_pair t ks i j h 
     go true ih = inr ih
     go false ih = ih
 
-pair_filter : (t : ℕ → ℕ → Bool) (ks : List (ℕ × ℕ)) (i j : ℕ) → HasPair (filter (λ k. t k.0 k.1) ks) i j → HasPair ks i j × (t i j ≡ true)
+pub pair_filter : (t : ℕ → ℕ → Bool) (ks : List (ℕ × ℕ)) (i j : ℕ) → HasPair (filter (λ k. t k.0 k.1) ks) i j → HasPair ks i j × (t i j ≡ true)
 pair_filter t [] i j h = absurd h
 pair_filter t (k ∷ ks) i j h = go (pair_filter t ks i j) (t k.0 k.1) refl h
   where
@@ -75,12 +75,12 @@ pair_filter t (k ∷ ks) i j h = go (pair_filter t ks i j) (t k.0 k.1) refl h
     go ih false e h = let r = ih h in (inr r.0, r.1)
 
 -- places in the list
-pair_at : (ks : List (ℕ × ℕ)) (i j : ℕ) → HasPair ks i j → (e : ℕ) × (e < length ks) × ((get_or ks e (0, 0)).0 ≡ i) × ((get_or ks e (0, 0)).1 ≡ j)
+pub pair_at : (ks : List (ℕ × ℕ)) (i j : ℕ) → HasPair ks i j → (e : ℕ) × (e < length ks) × ((get_or ks e (0, 0)).0 ≡ i) × ((get_or ks e (0, 0)).1 ≡ j)
 pair_at [] i j h = absurd h
 pair_at (k ∷ ks) i j (inl h) = (0, omega arith, h.0, h.1)
 pair_at (k ∷ ks) i j (inr h) = let r = pair_at ks i j h in (suc r.0, omega (arith, r.1), r.2, r.3)
 
-at_pair : (ks : List (ℕ × ℕ)) (e : ℕ) → e < length ks → HasPair ks (get_or ks e (0, 0)).0 (get_or ks e (0, 0)).1
+pub at_pair : (ks : List (ℕ × ℕ)) (e : ℕ) → e < length ks → HasPair ks (get_or ks e (0, 0)).0 (get_or ks e (0, 0)).1
 at_pair [] e l = absurd (omega arith)
 at_pair (k ∷ ks) zero l = inl (refl, refl)
 at_pair (k ∷ ks) (suc e) l = inr (at_pair ks e (omega arith))

@@ -5,9 +5,8 @@ use Rattle.counting.proofs.Counts.{bit_true, only_one}
 use Rattle.counting.proofs.Totals.{some_term}
 use Rattle.counting.specs.Counts.{Within, bit}
 use Rattle.counting.specs.Lists.{all_in, mem}
-use Rattle.counting.specs.Sets.{Set, complement, union}
-use Rattle.counting.specs.Tests.{some}
-use Rattle.graph_core.specs.Graph.{Graph, IsGraph, first_end, inside, second_end, size}
+use Rattle.counting.specs.Sets.{Set, union}
+use Rattle.graph_core.specs.Graph.{Graph, IsGraph, first_end, second_end, size}
 use Rattle.graph_core.specs.Partitions.{AreBlocks, IsMerge, block, contracted, place}
 use Rattle.graph_core.specs.Shores.{IsUnion, blocks_in}
 use Rattle.graph_core.specs.Tight.{Merges}

@@ -6,10 +6,7 @@ use Rattle.counting.proofs.Totals.{total_at, total_congr, total_mul, total_none,
 use Rattle.counting.specs.Counts.{Within, bit, count, total}
 use Rattle.counting.specs.Sets.{Set, none}
 use Rattle.counting.specs.Tests.{some}
-use Rattle.graph_core.proofs.Blocks.{carried}
 use Rattle.graph_core.proofs.Edits.{HasEnds, degree_sum, ends_le_degree, ends_of, ends_of_is, two_ends_le_degree}
-use Rattle.graph_core.proofs.Walks.{spread}
-use Rattle.graph_core.specs.Components.{is_least}
 use Rattle.graph_core.specs.Graph.{Graph, IsGraph, degree, first_end, in_cut, inside, second_end, size}
 use Rattle.graph_core.specs.Matchings.{IsPerfect}
 
@@ -99,7 +96,7 @@ module _ (g h : Graph) (is_g : IsGraph g) (move pick : ℕ → ℕ)
           go e w true t = ap (λ k. bit (m e) * k) (moved_ends e w t v wv)
           go e w false t = rw t (omega arith)
 
-  -- and its cuts are those of the sets that move is_least into
+  -- and its cuts are those of the sets that move leads into
   pub cut_carried : (y : Set) → count (size h) (λ i. carried_set i && in_cut h y i) ≡ count (size g) (λ e. m e && in_cut g (λ v. y (move v)) e)
   cut_carried y = total_congr (size h) _ _ (λ i w. bit-and (carried_set i) (in_cut h y i)) ∙ over (λ i. bit (in_cut h y i)) ∙ total_congr (size g) _ _ (λ e w. go e w (m e) refl)
     where

@@ -1,7 +1,5 @@
-use Rattle.std.proofs.Common.{◌≡◌, ℕ, suc, zero, ◌+◌, ◌*◌, ◌≤◌, ◌<◌, Bool, true, false, ◌==◌, refl, sym, ap, ◌∙◌, arith, ◌&&◌, ◌||◌, not, inl, inr, [], ◌∷◌, nat_lt, lt-ltb, le_trans, le_of_eq, mul-add, mul-le-mul_left, ◌≢◌, eq-eqb, ne_eqb, eqb-true, ◌⊎◌, ltb-true, subst}
-use Rattle.std.proofs.lemmas.Bool.{cases_Bool, and_parts, and_from, false_from_ne_true, both_ways, cases_eq, or_cases, or_right, true≢false}
-use Rattle.std.proofs.lemmas.Bool.Decides.{nat_tests}
-use mathlib.Core.Path.{fun_ext}
+use Rattle.std.proofs.Common.{◌≡◌, ℕ, ◌≤◌, true, false, refl, ap, arith, ◌&&◌, not, inl, inr, nat_lt, lt-ltb, ltb-true}
+use Rattle.std.proofs.lemmas.Bool.{cases_Bool, and_parts, and_from, both_ways}
 use Rattle.counting.proofs.Counts.{count_le_one}
 use Rattle.counting.proofs.Tests.{least_true, some_true, true_some}
 use Rattle.counting.proofs.Totals.{at_le_total}

@@ -1,8 +1,7 @@
 use Rattle.std.proofs.Common.{◌≡◌, ℕ, suc, ◌+◌, ◌*◌, ◌≤◌, ◌<◌, ◌≢◌, Bool, true, false, cond, ◌==◌, refl, sym, ap, ap₂, ◌∙◌, arith, ◌&&◌, ◌||◌, not, eq-eqb, ne_eqb, eqb-true, ◌⊎◌, inl, inr, List, [], ◌∷◌, subst₂}
-use Rattle.std.proofs.lemmas.Bool.{cases_eq, cases_Bool, and_parts, and_from, or_cases, eqb-false, true≢false, false_from_ne_true, both_ways}
+use Rattle.std.proofs.lemmas.Bool.{cases_eq, and_parts, and_from, true≢false, false_from_ne_true, both_ways}
 use Rattle.std.proofs.lemmas.Bool.Decides.{nat_tests}
 use Rattle.counting.proofs.Counts.{bit_true, count_congr, only_one}
-use Rattle.counting.proofs.Lists.{back}
 use Rattle.counting.proofs.Odd.{odd-double, odd_pos}
 use Rattle.counting.proofs.Totals.{at_le_total, some_term, total_add, total_congr}
 use Rattle.counting.specs.Counts.{Within, bit, count, is_odd}
@@ -219,7 +218,7 @@ module _ (g : Graph) (is : IsGraph g) (x : Set) (h : Graph) (f : ℕ → ℕ) (c
           bits : (a b i : Bool) → (a && i) ≡ false → (cond i b a && not i) ≡ a
           bits a b i q = grind arith
 
-      -- where an edge in_cut, k and the other matching agree
+      -- where an edge crosses, k and the other matching agree
       agree : (e : ℕ) → Within (size g) e → in_cut g x e ≡ true → k e ≡ other.0 e
       agree e w t = go (k e) (other.0 e) refl refl
         where

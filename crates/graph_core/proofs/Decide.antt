@@ -1,19 +1,17 @@
-use Rattle.std.proofs.Common.{◌≡◌, ℕ, suc, zero, ◌+◌, ◌≢◌, Bool, true, false, cond, ◌==◌, refl, sym, ap, ap₂, ◌∙◌, arith, ◌&&◌, ◌||◌, not, eq-eqb, ne_eqb, eqb-true, ◌⊎◌, inl, inr, ◌*◌, ◌≤◌, ◌<◌, nat_le, leb-true, le-leb, add_comm, subst, List, [], ◌∷◌}
-use Rattle.std.proofs.lemmas.Bool.{cases_eq, cases_Bool, or_cases, or_parts, and_parts, and_from, both_ways, cases_order, true≢false, false_from_ne_true}
+use Rattle.std.proofs.Common.{◌≡◌, ℕ, suc, zero, ◌+◌, ◌≢◌, Bool, true, false, cond, ◌==◌, refl, sym, ap, ap₂, ◌∙◌, arith, ◌&&◌, ◌||◌, not, eq-eqb, eqb-true, ◌⊎◌, inl, inr, ◌≤◌, ◌<◌, nat_le, leb-true, le-leb, List, [], ◌∷◌}
+use Rattle.std.proofs.lemmas.Bool.{cases_eq, cases_Bool, or_cases, and_parts, and_from, both_ways}
 use Rattle.std.proofs.lemmas.Bool.Decides.{nat_tests}
 use Rattle.std.specs.Prelude.{}
 use Rattle.counting.proofs.Choice.{Respects, choose_set, each_passes, implied, implies, none_fails, not_true, set_found, some_set_found}
 use Rattle.counting.proofs.Counts.{count_congr, count_le}
-use Rattle.counting.proofs.Lists.{back, front}
 use Rattle.counting.proofs.Tests.{every_congr, every_true, true_every}
 use Rattle.counting.proofs.Totals.{total_none}
 use Rattle.counting.specs.Counts.{Within, count, is_odd}
 use Rattle.counting.specs.Sets.{Set, complement, none, pair_set}
-use Rattle.counting.specs.Tests.{some}
 use Rattle.graph_core.proofs.Walks.{adjacent-edge, has_ends-cases}
 use Rattle.graph_core.specs.Covered.{IsCovered}
 use Rattle.graph_core.specs.Graph.{Graph, IsGraph, degree, edges_in_cut, first_end, in_cut, second_end, size}
-use Rattle.graph_core.specs.Matchings.{Allowed, HasPerfect, IsMatching, IsMaximum, IsPerfect, fits_at, has_perfect, is_matching, is_perfect, right_degree}
+use Rattle.graph_core.specs.Matchings.{Allowed, HasPerfect, IsMatching, IsMaximum, IsPerfect, fits_at, has_perfect, is_allowed, is_matching, is_perfect, right_degree}
 use Rattle.graph_core.specs.Structure.{Equivalent, is_equivalent}
 use Rattle.graph_core.specs.Tight.{CutIsTight, IsTight, is_tight}
 use Rattle.graph_core.specs.Walks.{Joined, Walk, adjacent}

@@ -1,6 +1,5 @@
-use Rattle.std.proofs.Common.{◌≡◌, ℕ, suc, zero, ◌+◌, ◌*◌, ◌≤◌, ◌<◌, ◌≢◌, Bool, true, false, ◌==◌, refl, sym, ap, ◌∙◌, arith, ◌&&◌, not, eq-eqb, ne_eqb, ◌⊎◌, inl, inr, cond, ap₂, eqb-true, nat_le, leb-true, le-leb, add_comm, subst, List, [], ◌∷◌}
+use Rattle.std.proofs.Common.{◌≡◌, ℕ, suc, zero, ◌+◌, ◌*◌, ◌≤◌, ◌<◌, ◌≢◌, Bool, true, false, ◌==◌, refl, sym, ap, ◌∙◌, arith, ◌&&◌, not, eq-eqb, ne_eqb, ◌⊎◌, inl, inr, ap₂, add_comm}
 use Rattle.std.proofs.lemmas.Bool.{cases_eq, cases_Bool, and_parts, both_ways, true≢false, cases_order, and_from}
-use Rattle.std.proofs.lemmas.Bool.Decides.{nat_tests}
 use Rattle.counting.proofs.Choice.{count_put, total_put}
 use Rattle.counting.proofs.Totals.{at_le_total, some_term, total_add, total_congr, total_zero, two_le_total}
 use Rattle.counting.specs.Counts.{Within, bit, count, total}
@@ -54,7 +53,7 @@ sum_degrees g m is =
     let b : total g.order (λ v. bit true * degree g m v) ≡ total g.order (λ v. degree g m v) = total_congr g.order _ _ (λ v w. omega arith) in
     let c : count (size g) (λ e. m e && in_cut g (λ v. true) e) ≡ total (size g) (λ e. 0) = total_congr (size g) _ _ (λ e w. no (m e)) in
     let d : count (size g) (λ e. m e && inside g (λ v. true) e) ≡ count (size g) m = total_congr (size g) _ _ (λ e w. yes (m e)) in
-    omega (arith, Rattle.gbase.proofs.Totals.total_zero (size g))
+    omega (arith, total_zero (size g))
   where
     no : (b : Bool) → bit (b && false) ≡ 0
     no true = refl

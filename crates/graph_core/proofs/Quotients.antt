@@ -1,16 +1,14 @@
-use Rattle.std.proofs.Common.{◌≡◌, ℕ, suc, zero, ◌-◌, ◌<◌, Bool, true, false, cond, ◌||◌, ◌==◌, List, [], ◌∷◌, ◌++◌, length, map, refl, sym, ap, ap₂, ◌∙◌, arith, ◌⊎◌, inl, inr, subst, eq-eqb, eqb-true, get_or, filter, nat_lt, flat_map}
-use Rattle.std.proofs.lemmas.Bool.{both_ways, or_cases, cases_lt}
+use Rattle.std.proofs.Common.{◌≡◌, ℕ, suc, ◌-◌, ◌<◌, true, List, length, refl, ap, ◌∙◌, arith, get_or, nat_lt}
 use Rattle.std.proofs.lemmas.Bool.Decides.{nat_tests}
 use Rattle.counting.proofs.Lists.{rising_holds, rising_only}
 use Rattle.counting.proofs.Pairs.{at_pair, filter_pair, pair_at, pair_filter, rows_hold, rows_only}
 use Rattle.counting.specs.Counts.{Within}
 use Rattle.counting.specs.Lists.{rising_list, rising_pairs}
 use Rattle.counting.specs.Sets.{everything}
-use Rattle.graph_core.specs.Graph.{Graph, connects, first_end, second_end, size}
+use Rattle.graph_core.specs.Graph.{Graph, first_end, second_end, size}
 use Rattle.graph_core.specs.Quotients.{blocks_adjacent, quotient}
-use Rattle.graph_core.specs.Walks.{adjacent}
 
--- each edge of the quotient connects two adjacent places in rising order
+-- each edge of the quotient joins two adjacent places in rising order
 pub quotient_edge : (g : Graph) (p : List (List ℕ)) (e : ℕ) → Within (size (quotient g p)) e →
     Within (length p) (first_end (quotient g p) e) × Within (length p) (second_end (quotient g p) e) × (first_end (quotient g p) e < second_end (quotient g p) e) × (blocks_adjacent g p (first_end (quotient g p) e) (second_end (quotient g p) e) ≡ true)
 unfolding quotient

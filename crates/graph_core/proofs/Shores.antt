@@ -1,7 +1,7 @@
 use Rattle.std.proofs.Common.{◌≡◌, ℕ, sym, ap, ap₂, ◌∙◌, ◌&&◌, ◌||◌, not, List}
 use Rattle.counting.proofs.Counts.{count_congr}
 use Rattle.counting.specs.Counts.{Within}
-use Rattle.counting.specs.Sets.{Set, union}
+use Rattle.counting.specs.Sets.{Set}
 use Rattle.graph_core.proofs.Blocks.{carried, carries, contracted-graph, first, in_first, in_union, merges, place_in}
 use Rattle.graph_core.proofs.Contraction.{covered_down, tight_down, tight_from_cut, tight_up}
 use Rattle.graph_core.proofs.Decide.{covered_perfect}

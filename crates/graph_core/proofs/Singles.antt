@@ -1,6 +1,5 @@
-use Rattle.std.proofs.Common.{◌≡◌, ℕ, suc, zero, ◌+◌, ◌*◌, ◌≤◌, ◌<◌, ◌≢◌, Bool, true, false, cond, ◌==◌, ◌||◌, List, [], ◌∷◌, ◌++◌, length, refl, sym, ap, ap₂, ◌∙◌, arith, ◌⊎◌, inl, inr, eq-eqb, ne_eqb, eqb-true, sum_by, zero-add, nat_le, length-append, le-leb}
-use Rattle.std.proofs.lemmas.Bool.{cases_eq, both_ways, true≢false, lt-leb, cases_lt}
-use Rattle.std.proofs.lemmas.List.Sums.{sum_by-cons}
+use Rattle.std.proofs.Common.{◌≡◌, ℕ, suc, zero, ◌+◌, ◌≤◌, ◌<◌, Bool, true, false, cond, ◌==◌, ◌||◌, List, [], ◌∷◌, ◌++◌, length, refl, sym, ap, ◌∙◌, arith, inl, inr, eqb-true, zero-add, nat_le, length-append, le-leb}
+use Rattle.std.proofs.lemmas.Bool.{lt-leb, cases_lt}
 use Rattle.std.proofs.lemmas.Bool.Decides.{nat_tests}
 use Rattle.counting.specs.Lists.{mem}
 use Rattle.graph_core.specs.Partitions.{place, singles}
@@ -8,7 +7,7 @@ use Rattle.graph_core.specs.Partitions.{place, singles}
 -- single vertices stand at their own places
 place_early : (p q : List (List ℕ)) (v : ℕ) → place p v ≤ length p → place (p ++ q) v ≡ place p v
 place_early [] q v h = absurd (omega arith)
-place_early (b ∷ p) q v h = go (place_early p q v) (Rattle.gbase.specs.Blocks.mem b v) h
+place_early (b ∷ p) q v h = go (place_early p q v) (mem b v) h
   where
     go : (place p v ≤ length p → place (p ++ q) v ≡ place p v) → (x : Bool) → cond x 1 (place p v + 1) ≤ suc (length p) → cond x 1 (place (p ++ q) v + 1) ≡ cond x 1 (place p v + 1)
     go ih true h = refl
@@ -16,7 +15,7 @@ place_early (b ∷ p) q v h = go (place_early p q v) (Rattle.gbase.specs.Blocks.
 
 place_late : (p q : List (List ℕ)) (v : ℕ) → place p v ≡ length p + 1 → place (p ++ q) v ≡ length p + place q v
 place_late [] q v h = sym (zero-add (place q v))
-place_late (b ∷ p) q v h = go (place_late p q v) (Rattle.gbase.specs.Blocks.mem b v) h
+place_late (b ∷ p) q v h = go (place_late p q v) (mem b v) h
   where
     go : (place p v ≡ length p + 1 → place (p ++ q) v ≡ length p + place q v) → (x : Bool) → cond x 1 (place p v + 1) ≡ suc (length p) + 1 → cond x 1 (place (p ++ q) v + 1) ≡ suc (length p) + place q v
     go ih true h = absurd (omega arith)

@@ -1,5 +1,5 @@
-use Rattle.std.proofs.Common.{◌≡◌, ℕ, suc, zero, ◌+◌, ◌≤◌, Bool, true, false, cond, refl, sym, ap, ◌∙◌, arith, ◌&&◌, ◌||◌, not, inl, inr, zero-add, suc-add}
-use Rattle.std.proofs.lemmas.Bool.{cases_Bool, true≢false, both_ways}
+use Rattle.std.proofs.Common.{◌≡◌, ℕ, ◌+◌, ◌≤◌, Bool, true, false, cond, refl, sym, ap, ◌∙◌, arith, ◌&&◌, ◌||◌, not, inl, inr}
+use Rattle.std.proofs.lemmas.Bool.{cases_Bool, both_ways}
 use Rattle.counting.proofs.Counts.{count_meet_union}
 use Rattle.counting.proofs.Odd.{complement_odd, odd-add, odd-double, odd_pos, order_even}
 use Rattle.counting.proofs.Totals.{at_le_total}

@@ -1,16 +1,14 @@
 use Rattle.std.proofs.Common.{◌≡◌, ℕ, suc, zero, ◌+◌, ◌≤◌, Bool, true, false, ◌==◌, refl, sym, ap, ◌∙◌, arith, ◌&&◌, ◌||◌, not, eq-eqb, eqb-true, ◌⊎◌, inl, inr, List, [], ◌∷◌, ◌++◌, subst, ◌↔◌}
-use Rattle.std.proofs.lemmas.Bool.{cases_eq, cases_Bool, or_cases, or_left, or_right, and_parts, and_from, true≢false, false_from_ne_true, both_ways}
+use Rattle.std.proofs.lemmas.Bool.{cases_Bool, or_cases, or_left, or_right, and_parts, and_from, true≢false, false_from_ne_true, both_ways}
 use Rattle.std.proofs.lemmas.Bool.Decides.{nat_tests}
 use Rattle.counting.proofs.Counts.{count_le, count_more}
-use Rattle.counting.proofs.Lists.{back}
 use Rattle.counting.proofs.Tests.{some_none, some_true, true_some}
 use Rattle.counting.proofs.Totals.{at_le_total}
 use Rattle.counting.specs.Counts.{Within, bit, count}
 use Rattle.counting.specs.Sets.{Set, none}
 use Rattle.counting.specs.Tests.{some}
-use Rattle.graph_core.specs.Components.{component_count, is_least}
 use Rattle.graph_core.specs.Graph.{Graph, IsGraph, first_end, has_ends, in_cut, second_end, size}
-use Rattle.graph_core.specs.Walks.{Joined, Walk, adjacent, joined, reaches}
+use Rattle.graph_core.specs.Walks.{Joined, Walk, adjacent, reaches}
 
 pub Walk-join : (adj : ℕ → ℕ → Bool) (u v w : ℕ) (xs ys : List ℕ) → Walk adj u xs v → Walk adj v ys w → Walk adj u (xs ++ ys) w
 Walk-join adj u v w [] ys a b = rw a b
@@ -95,7 +93,7 @@ module _ (n : ℕ) (adj : ℕ → ℕ → Bool) where
   flood_own u zero = eq-eqb u u refl
   flood_own u (suc k) = or_left (reaches n adj u k u) (some n (λ w. reaches n adj u k w && adj w u)) (flood_own u k)
 
-  -- a walk is_least from u to v, or none does
+  -- a walk leads from u to v, or none does
   pub walk_or_not : ((u v : ℕ) → adj u v ≡ true → Within n u × Within n v) → (u v : ℕ) → Within n u → ((ws : List ℕ) × Walk adj u ws v) ⊎ ((ws : List ℕ) → Walk adj u ws v → ⊥)
   walk_or_not in_n u v wu = elim (cases_Bool (reaches n adj u n v)) [
     | inl t ↦ inl (flood_walk u n v t)
@@ -166,7 +164,7 @@ joined_or_not g s is u v w = elim (walk_or_not g.order (adjacent g s) (adjacent_
   | inr n ↦ inr (λ j. n j.0 j.1)
 ]
 
--- two vertices are not joined where a set component_count them that no edge leaves
+-- two vertices are not joined where a set parts them that no edge leaves
 pub parted : (g : Graph) (u v : ℕ) → IsGraph g → Within g.order u → Within g.order v → (Joined g none u v → ⊥) ↔ ((x : Set) × (x u ≡ true) × (x v ≡ false) × ((e : ℕ) → Within (size g) e → in_cut g x e ≡ false))
 unfolding Joined IsClosed
 parted g u v is wu wv = (there, back)

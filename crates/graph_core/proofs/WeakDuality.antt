@@ -1,5 +1,5 @@
-use Rattle.std.proofs.Common.{◌≡◌, ℕ, suc, zero, ◌+◌, ◌*◌, ◌≤◌, ◌<◌, Bool, true, false, ◌==◌, refl, sym, ap, ◌∙◌, arith, ◌&&◌, ◌||◌, not, inl, inr, [], ◌∷◌, nat_lt, lt-ltb, le_trans, le_of_eq, mul-add, mul-le-mul_left}
-use Rattle.std.proofs.lemmas.Bool.{cases_Bool, and_parts, and_from, false_from_ne_true, both_ways}
+use Rattle.std.proofs.Common.{◌≡◌, ℕ, ◌+◌, ◌*◌, ◌≤◌, Bool, true, false, ◌==◌, refl, sym, ap, ◌∙◌, arith, ◌&&◌, ◌||◌, not, inl, inr, [], ◌∷◌, nat_lt, le_trans, le_of_eq, mul-add, mul-le-mul_left}
+use Rattle.std.proofs.lemmas.Bool.{cases_Bool, and_parts, both_ways}
 use Rattle.std.proofs.lemmas.Bool.Decides.{nat_tests}
 use Rattle.counting.proofs.Counts.{bit-and, some_le_count}
 use Rattle.counting.proofs.Odd.{odd-double}
@@ -11,7 +11,7 @@ use Rattle.counting.specs.Tests.{some}
 use Rattle.graph_core.proofs.Components.{joined_outside, joined_walk, one_leader, walk_joined}
 use Rattle.graph_core.proofs.Parity.{degrees, ends_in}
 use Rattle.graph_core.proofs.Walks.{adjacent_from, has_ends-back, has_ends-own, joined_on}
-use Rattle.graph_core.specs.Components.{component_count, components, is_least, odd_component_count}
+use Rattle.graph_core.specs.Components.{is_least, odd_component_count}
 use Rattle.graph_core.specs.Graph.{Graph, IsGraph, degree, first_end, has_ends, in_cut, inside, second_end, size}
 use Rattle.graph_core.specs.Matchings.{IsMatching, missed_count}
 use Rattle.graph_core.specs.Walks.{Joined, joined}
@@ -108,7 +108,7 @@ loose_in g s m is mm u w o odd = elim (cases_Bool (some g.order (λ v. joined g 
         other : (a b : Bool) (v : ℕ) → a ≡ true → ((a && b) && (v == v)) ≡ false → b ≡ false
         other a b v p q = grind (arith, nat_tests)
 
-        -- an edge of m from the component is_least into it
+        -- an edge of m from the component leads into it
         stays : (e a b : ℕ) → Within (size g) e → m e ≡ true → has_ends g a b e ≡ true → k a ≡ true → s b ≡ false → k b ≡ true
         stays e a b we me bt ka sb =
             let sa = joined_outside g s is u a o ka in

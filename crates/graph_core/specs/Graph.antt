@@ -1,6 +1,6 @@
 -- Graphs, their edges and cuts. Any textbook; differs in that a graph is a list of pairs and that loops are allowed,
 -- so that a contracted graph is a graph again. Edges keep their numbers, and parallel edges are different edges.
-use Rattle.std.specs.Prelude.{◌≡◌, ◌≢◌, ℕ, ◌+◌, ◌-◌, Bool, true, List, length, ◌==◌, ◌&&◌, ◌||◌, not, slice_index_or}
+use Rattle.std.specs.Prelude.{◌≡◌, ◌≢◌, ℕ, ◌+◌, ◌-◌, Bool, true, List, [], ◌∷◌, ◌++◌, length, ◌==◌, ◌&&◌, ◌||◌, not, slice_index_or}
 use Rattle.counting.specs.Counts.{count, Within}
 use Rattle.counting.specs.Sets.{Set}
 
@@ -33,6 +33,10 @@ HasNoLoop g = (e : ℕ) → Within (size g) e → first_end g e ≢ second_end g
 pub record IsMultigraph (g : Graph) : Type 0 where
   pub ends : IsGraph g
   pub no_loop : HasNoLoop g
+
+-- g with one edge more, which gets the next number
+abbrev pub with_edge : Graph → ℕ → ℕ → Graph
+with_edge g a b = record g { ends = g.ends ++ (a, b) ∷ [] }
 
 -- edge e has the ends u and v
 abbrev pub has_ends : Graph → ℕ → ℕ → ℕ → Bool

@@ -11,3 +11,5 @@ pub mod Partitions
 pub mod Quotients
 pub mod Shores
 pub mod Structure
+pub mod View
+pub mod Kinds

@@ -57,6 +57,10 @@ is_perfect g r m = every g.order (right_degree g r m)
 abbrev pub has_perfect : Graph → Set → Bool
 has_perfect g r = some_set (size g) (is_perfect g r)
 
+-- some perfect matching contains e, as a test
+abbrev pub is_allowed : Graph → Set
+is_allowed g e = some_set (size g) (λ m. is_perfect g none m && m e)
+
 -- some matching of g without r has k edges, as a test
 abbrev pub has_matching_of : Graph → Set → ℕ → Bool
 has_matching_of g r k = some_set (size g) (λ m. is_matching g r m && (count (size g) m == k))

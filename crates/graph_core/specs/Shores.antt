@@ -1,5 +1,5 @@
 -- Shores at a partition: unions of blocks, tight at the partition (Lovász 1987).
-use Rattle.std.specs.Prelude.{◌≡◌, ℕ, Bool, true, false, List, ◌&&◌}
+use Rattle.std.specs.Prelude.{◌≡◌, ℕ, List}
 use Rattle.counting.specs.Counts.{Within}
 use Rattle.counting.specs.Sets.{Set}
 use Rattle.counting.specs.Lists.{all_in}

@@ -3,7 +3,7 @@ use Rattle.std.specs.Prelude.{◌≡◌, ◌≢◌, ℕ, ◌≤◌, Bool, true, 
 use Rattle.counting.specs.Counts.{count, is_odd, Within}
 use Rattle.counting.specs.Sets.{Set, none, complement}
 use Rattle.counting.specs.Tests.{each_set}
-use Rattle.graph_core.specs.Graph.{Graph, size, first_end, second_end, in_cut, edges_in_cut}
+use Rattle.graph_core.specs.Graph.{Graph, size, first_end, second_end, edges_in_cut}
 use Rattle.graph_core.specs.Matchings.{IsPerfect, is_perfect}
 
 -- each perfect matching has exactly one edge in the cut of x

@@ -11,7 +11,7 @@ use Rattle.graph_core.proofs.Blocks.{first}
 use Rattle.graph_core.proofs.Edits.{HasEnds, add_edge, bit_other, bit_same, degree_put, edge_at, edge_of, ends_le_degree, ends_of, ends_of_is, missed_edges, shared, shared_le, shared_put, two_ends_le_degree}
 use Rattle.graph_core.proofs.Walks.{adjacent-edge, adjacent_within}
 use Rattle.graph_core.specs.Components.{component_count}
-use Rattle.graph_core.specs.Graph.{Graph, IsGraph, connects, degree, size}
+use Rattle.graph_core.specs.Graph.{Graph, IsGraph, degree, size}
 use Rattle.graph_core.specs.Matchings.{IsMaximum, missed_count}
 use Rattle.graph_core.specs.Walks.{Walk, adjacent}
 
@@ -210,7 +210,7 @@ module _ (g : Graph) (is : IsGraph g) (r m n : Set) (mm : IsMaximum g r m) (nn :
   pub exchange : (l : Set) × IsMaximum g r l × (degree g l t ≡ 0) × (shared (size g) m l ≡ shared (size g) m n + 1)
   exchange = (k, record { is = record { once = once; away = away }; most = λ j p. let a = nn.most j p in let b = count_k in omega arith }, miss_t, more)
 
--- where each vertex is missed_count by some maximum matching, none misses two vertices of one component
+-- where each vertex is missed by some maximum matching, none misses two vertices of one component
 module _ (g : Graph) (is : IsGraph g) (r : Set) (missed_by : (v : ℕ) → Within g.order v → r v ≡ false → (m : Set) × IsMaximum g r m × (degree g m v ≡ 0)) where
   -- by how much n shares with m
   never : (fuel : ℕ) (m n : Set) → IsMaximum g r m → IsMaximum g r n → (u v t : ℕ) → Within g.order u → Within g.order v → Within g.order t → u ≢ v → r u ≡ false → r v ≡ false → r t ≡ false →
@@ -221,7 +221,7 @@ module _ (g : Graph) (is : IsGraph g) (r : Set) (missed_by : (v : ℕ) → Withi
       let k = exchange g is r m n mm nn u v t wu wv wt d ru rv rt mu mv a.0 a.1 nt in
       never fuel m k.0 mm k.1 u v t wu wv wt d ru rv rt mu mv meets k.2 (let b = k.3 in omega arith)
 
-  -- two missed_count vertices that an edge connects
+  -- two missed vertices that an edge joins
   pub not_adjacent : (m : Set) → IsMaximum g r m → (u v : ℕ) → adjacent g r u v ≡ true → u ≢ v → degree g m u ≡ 0 → degree g m v ≡ 0 → ⊥
   not_adjacent m mm u v a d mu mv =
       let e = edge_of g r u v a in

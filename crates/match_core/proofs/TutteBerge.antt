@@ -50,7 +50,7 @@ module _ (g : Graph) (is : IsGraph g) (r m : Set) (mm : IsMaximum g r m)
       go true true false p q s = absurd (both_ways (joined g r u (second_end g e)) s (step (first_end g e) (second_end g e) p (outside (first_end g e) (is e we).0 p ends_near) (outside (second_end g e) (is e we).1 p ends_far) (has_ends-own g e) q))
       go true false true p q s = absurd (both_ways (joined g r u (first_end g e)) q (step (second_end g e) (first_end g e) p (outside (second_end g e) (is e we).1 p ends_far) (outside (first_end g e) (is e we).0 p ends_near) (has_ends-back g (first_end g e) (second_end g e) e (has_ends-own g e)) s))
 
-  -- an odd component has one missed_count vertex, an even one none
+  -- an odd component has one missed vertex, an even one none
   missed_in : (u : ℕ) → Within g.order u → count g.order (λ v. joined g r u v && (degree g m v == 0)) ≡ bit (is_odd (count g.order (joined g r u)))
   missed_in u w = parity (count g.order (λ v. joined g r u v && (degree g m v == 0))) (count (size g) (λ e. m e && inside g (joined g r u) e)) (count g.order (joined g r u)) at_most component_count
     where
@@ -127,7 +127,7 @@ union_none r = fun_ext (λ v. or_false (r v))
     or_false true = refl
     or_false false = refl
 
--- where each vertex is missed_count by some maximum matching
+-- where each vertex is missed by some maximum matching
 all_missed : (g : Graph) (r : Set) → IsGraph g → ((v : ℕ) → Within g.order v → r v ≡ false → (m : Set) × IsMaximum g r m × (degree g m v ≡ 0)) → TutteBerge g r
 unfolding Joined
 all_missed g r is h =

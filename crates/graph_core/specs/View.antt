@@ -1,0 +1,18 @@
+-- How the code's multigraph is seen: its order and its list of ends, within the limits of size.
+use Rattle.std.specs.Prelude.{ℕ, ◌≤◌, List, map}
+use Rattle.graph_core.specs.Graph.{Graph, IsMultigraph, size}
+use Rattle.graph_core.specs.declared.ends.Ends.{Ends}
+
+-- the two ends as a pair
+abbrev pub pair_of : Ends → ℕ × ℕ
+pair_of e = (e.a, e.b)
+
+-- the graph of that order with these edges
+abbrev pub graph_of : ℕ → List Ends → Graph
+graph_of n edges = record { order = n; ends = map pair_of edges }
+
+-- a multigraph of at most 128 vertices and 2,048 edges
+pub record IsWithinLimits (g : Graph) : Type 0 where
+  pub vertices : g.order ≤ 128
+  pub edges : size g ≤ 2048
+  pub multigraph : IsMultigraph g

@@ -1,0 +1,94 @@
+//! Multigraphs, and how they grow.
+ghost use Rattle.std.specs.Prelude.{◌≡◌, ◌≢◌, ◌≤◌, ◌<◌, ◌-◌, ◌↔◌, [], OnOk, OnErr, IfOk, IsErrOf, length};
+ghost use Rattle.counting.specs.Counts.{Within};
+ghost use Rattle.counting.specs.Sets.{none};
+ghost use Rattle.graph_core.specs.Graph.{size, first_end, second_end, with_edge};
+ghost use Rattle.graph_core.specs.Walks.{adjacent};
+
+use crate::{AddFault, Ends};
+use std::alloc::{AllocError as Memory, Global};
+use std::marker::Model;
+use vset_core::MOST_VERTICES;
+
+/// The most edges that a graph may have.
+pub const MOST_EDGES: u32 = 2048;
+
+/// A finite undirected multigraph without loops, of at most `MOST_VERTICES` vertices and `MOST_EDGES` edges. Vertices and
+/// edges are numbered from 1; parallel edges are different edges. Contracts see it as its order and its list of ends.
+#[derive(Drop)]
+pub struct MultiGraph {
+    order: u32,
+    edges: Vec<Ends>,
+}
+
+impl Model for MultiGraph {
+    ghost use Rattle.graph_core.specs.Graph.{Graph};
+    ghost use Rattle.graph_core.specs.View.{graph_of, IsWithinLimits};
+
+    ghost Value = { Graph };
+
+    ghost view = { λ g. graph_of g.order g.edges.items };
+
+    ghost invariant = { λ g. IsWithinLimits (graph_of g.order g.edges.items) };
+}
+
+impl MultiGraph {
+    /// The graph of `n` vertices without edges.
+    pub fn new(alloc: Global, n: u32) -> Result<MultiGraph, Memory>
+        requires { n ≤ MOST_VERTICES }
+        ensures { IfOk result (λ g. g ≡ record { order = n; ends = [] }) }
+    {
+        Ok(MultiGraph {
+            order: n,
+            edges: Vec::new(alloc),
+        })
+    }
+
+    /// The number of vertices. Takes no memory.
+    pub fn order(&self) -> u32
+        ensures { result ≡ self.now.order }
+    {
+        self.order
+    }
+
+    /// The number of edges. Takes no memory.
+    pub fn size(&self) -> u32
+        ensures { result ≡ size self.now }
+    {
+        self.edges.len() as u32
+    }
+
+    /// The ends of edge `e`, in the order in which they were given. Takes no memory.
+    pub fn ends(&self, e: u32) -> Ends
+        requires { Within (size self.now) e }
+        ensures first { result.a ≡ first_end self.now e }
+        ensures second { result.b ≡ second_end self.now e }
+    {
+        self.edges[e as usize - 1]
+    }
+
+    /// Appends an edge and answers its number. `Range` comes exactly where an end is no vertex, `Loop` exactly where both
+    /// are vertices and equal, `TooMany` exactly where neither holds and there are `MOST_EDGES` edges; the graph is then
+    /// unchanged, and after `Memory` too.
+    pub fn add_edge(&mut self, a: u32, b: u32) -> Result<u32, AddFault>
+        ensures ok { IfOk result (λ e. (self.new ≡ with_edge self.old a b) × (e ≡ size self.new)) }
+        ensures err { OnErr result (self.new ≡ self.old) }
+        ensures range { IsErrOf result AddFault.Range ↔ ¬ (Within self.old.order a × Within self.old.order b) }
+        ensures equal { IsErrOf result AddFault.Loop ↔ (Within self.old.order a × (a ≡ b)) }
+        ensures too_many { IsErrOf result AddFault.TooMany ↔ (Within self.old.order a × Within self.old.order b × (a ≢ b) × (size self.old ≡ MOST_EDGES)) }
+    {
+        if a == 0 || a > self.order || b == 0 || b > self.order {
+            return Err(AddFault::Range);
+        }
+        if a == b {
+            return Err(AddFault::Loop);
+        }
+        if self.edges.len() >= MOST_EDGES as usize {
+            return Err(AddFault::TooMany);
+        }
+        self.edges
+            .push(Ends { a, b })
+            .map_err(|_| AddFault::Memory)?;
+        Ok(self.edges.len() as u32)
+    }
+}

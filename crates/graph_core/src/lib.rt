@@ -1,0 +1,14 @@
+//! Finite undirected multigraphs without loops.
+#![tactic(auto)]
+
+mod ends;
+mod faults;
+mod graph;
+mod laws;
+mod numbers;
+
+pub use ends::Ends;
+pub use faults::{AddFault, FaultKind, TextFault};
+pub use graph::{MOST_EDGES, MultiGraph};
+pub use laws::parity_law;
+pub use numbers::Numbers;

@@ -1,0 +1,6 @@
+//! Matchings.
+#![tactic(auto)]
+
+mod laws;
+
+pub use laws::tutte_berge_law;
