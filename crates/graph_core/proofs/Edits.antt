@@ -131,10 +131,10 @@ ends_of_is g e x y ends v = elim ends [
   | inr p ↦ ap₂ (λ a b. bit (a == v) + bit (b == v)) p.0 p.1 ∙ add_comm (bit (y == v)) (bit (x == v))
 ]
 
-bit_same : (x : ℕ) → bit (x == x) ≡ 1
+pub bit_same : (x : ℕ) → bit (x == x) ≡ 1
 bit_same x = ap bit (eq-eqb x x refl)
 
-bit_other : (x v : ℕ) → x ≢ v → bit (x == v) ≡ 0
+pub bit_other : (x v : ℕ) → x ≢ v → bit (x == v) ≡ 0
 bit_other x v h = ap bit (ne_eqb x v h)
 
 -- an edge of x and y that m misses can be added

@@ -1,16 +1,13 @@
-use Rattle.std.proofs.Common.{◌≡◌, ℕ, suc, zero, ◌+◌, ◌*◌, ◌≤◌, ◌<◌, ◌≢◌, Bool, true, false, cond, ◌==◌, refl, sym, ap, ap₂, ◌∙◌, arith, ◌&&◌, not, eq-eqb, ne_eqb, eqb-true, ◌⊎◌, inl, inr, nat_le, leb-true, le-leb, add_comm, subst, List, [], ◌∷◌}
-use Rattle.std.proofs.lemmas.Bool.{cases_eq, cases_Bool, cases_order, and_parts, and_from, both_ways, true≢false}
+use Rattle.std.proofs.Common.{◌≡◌, ℕ, suc, zero, ◌+◌, ◌*◌, ◌≤◌, ◌<◌, ◌≢◌, Bool, true, false, cond, ◌==◌, refl, sym, ap, ◌∙◌, arith, ◌&&◌, not, eq-eqb, ne_eqb, eqb-true, inl, inr, subst, List, [], ◌∷◌}
+use Rattle.std.proofs.lemmas.Bool.{cases_eq, cases_Bool, cases_order, both_ways, true≢false}
 use Rattle.std.proofs.lemmas.Bool.Decides.{nat_tests}
 use Rattle.counting.proofs.Choice.{count_put}
 use Rattle.counting.proofs.Counts.{bit_true, count_congr, count_le_one}
 use Rattle.counting.proofs.Totals.{some_term, total_add, total_congr, total_le, two_le_total}
 use Rattle.counting.specs.Counts.{Within, bit, count, total}
-use Rattle.counting.specs.Sets.{Set, none, put}
-use Rattle.counting.specs.Tests.{some}
-use Rattle.graph_core.proofs.Blocks.{first}
+use Rattle.counting.specs.Sets.{Set, put}
 use Rattle.graph_core.proofs.Edits.{HasEnds, add_edge, bit_other, bit_same, degree_put, edge_at, edge_of, ends_le_degree, ends_of, ends_of_is, missed_edges, shared, shared_le, shared_put, two_ends_le_degree}
 use Rattle.graph_core.proofs.Walks.{adjacent-edge, adjacent_within}
-use Rattle.graph_core.specs.Components.{component_count}
 use Rattle.graph_core.specs.Graph.{Graph, IsGraph, degree, size}
 use Rattle.graph_core.specs.Matchings.{IsMaximum, missed_count}
 use Rattle.graph_core.specs.Walks.{Walk, adjacent}
