@@ -12,3 +12,9 @@ pub mod Textbook
 pub mod Uncrossing
 pub mod Walks
 pub mod WeakDuality
+pub mod Merging
+pub mod MergeOrder
+pub mod QuotientTight
+pub mod BlockSets
+pub mod MergedShores
+pub mod Adjacency
