@@ -1,0 +1,9 @@
+pub mod Barriers
+pub mod SharpBarriers
+pub mod Sides
+pub mod Folding
+pub mod FoldedMatching
+pub mod Lifting
+pub mod Transitivity
+pub mod Growing
+pub mod ClassBarriers

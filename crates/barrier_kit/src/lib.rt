@@ -1,0 +1,6 @@
+//! Barriers.
+#![tactic(auto)]
+
+mod laws;
+
+pub use laws::class_law;
