@@ -1,0 +1,2 @@
+pub mod IntegerSums
+pub mod Duality

@@ -1,0 +1,4 @@
+pub mod Nets
+pub mod Flows
+pub mod Residual
+pub mod View

@@ -1,0 +1,35 @@
+-- What a flow leaves on the arcs: how much more each can take, and the nodes that are reached over arcs with room.
+use Rattle.std.specs.Prelude.{◌≡◌, ℕ, ◌<◌, ◌⊎◌, List, [], ◌∷◌, ◌==◌, length, slice_index_or, ℤ, pos, ◌+ℤ◌, ◌-ℤ◌, ◌<ℤ◌, if◌then◌else◌}
+use Rattle.flow_core.specs.Nets.{Arc}
+
+-- arc i, counted from 0
+abbrev pub arc_at : List Arc → ℕ → Arc
+arc_at arcs i = slice_index_or arcs i (record { a = 0; b = 0; capacity = 0 })
+
+-- the amount on arc i, counted from 0
+abbrev pub amount_at : List ℤ → ℕ → ℤ
+amount_at amounts i = slice_index_or amounts i (pos 0)
+
+-- the two ends of the arc are u and w
+abbrev pub Joins : Arc → ℕ → ℕ → Type 0
+Joins arc u w = ((arc.a ≡ u) × (arc.b ≡ w)) ⊎ ((arc.b ≡ u) × (arc.a ≡ w))
+
+-- how much more the arc with this amount can take out of its end u
+abbrev pub room_from : ℕ → Arc → ℤ → ℤ
+room_from u arc amount = if arc.a == u then pos arc.capacity -ℤ amount else pos arc.capacity +ℤ amount
+
+-- an arc that can take more from u to w
+pub record HasRoom (arcs : List Arc) (amounts : List ℤ) (u w : ℕ) : Type 0 where
+  pub arc : ℕ
+  pub is_arc : arc < length arcs
+  pub joins : Joins (arc_at arcs arc) u w
+  pub room : pos 0 <ℤ room_from u (arc_at arcs arc) (amount_at amounts arc)
+
+-- a walk from u to v over arcs with room; the list has its nodes but the last, from the last but one back to u
+abbrev pub IsOpenWalk : List Arc → List ℤ → ℕ → List ℕ → ℕ → Type 0
+IsOpenWalk arcs amounts u [] v = u ≡ v
+IsOpenWalk arcs amounts u (w ∷ ws) v = IsOpenWalk arcs amounts u ws w × HasRoom arcs amounts w v
+
+-- some walk over arcs with room goes from u to v
+abbrev pub IsReached : List Arc → List ℤ → ℕ → ℕ → Type 0
+IsReached arcs amounts u v = (ws : List ℕ) × IsOpenWalk arcs amounts u ws v

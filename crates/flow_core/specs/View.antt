@@ -1,0 +1,19 @@
+-- How the code's net is seen: its nodes and its list of arcs, within the limits.
+use Rattle.std.specs.Prelude.{◌≡◌, ℕ, ◌≤◌, ◌<◌, ◌^◌, List, map}
+use Rattle.flow_core.specs.Nets.{Arc, Net, IsNet, total_capacity}
+use Rattle.flow_core.specs.declared.net.Arc.{Arc as StoredArc}
+
+-- the arc with these ends and this capacity
+abbrev pub arc_of : StoredArc → Arc
+arc_of arc = record { a = arc.a; b = arc.b; capacity = arc.capacity }
+
+-- the net of nodes 1 to k with these arcs
+abbrev pub net_of : ℕ → List StoredArc → Net
+net_of k arcs = record { nodes = k; arcs = map arc_of arcs }
+
+-- a net in order of at most 128 nodes, whose total capacity is below 2^63
+pub record IsWithinLimits (net : Net) (total : ℕ) : Type 0 where
+  pub nodes : net.nodes ≤ 128
+  pub arcs : IsNet net
+  pub sum : total ≡ total_capacity net
+  pub below : total < 2 ^ 63

@@ -1,0 +1,6 @@
+//! Minimum cuts.
+#![tactic(auto)]
+
+mod net;
+
+pub use net::Net;

@@ -1,0 +1,88 @@
+//! Nets, and how they grow.
+ghost use Rattle.std.specs.Prelude.{◌≡◌, ◌+◌, ◌≤◌, ◌<◌, ◌^◌, [], IfOk, OnOk, OnErr, length};
+ghost use Rattle.flow_core.specs.Nets.{IsArc, with_arc, total_capacity};
+ghost use Rattle.flow_core.specs.Residual.{arc_at};
+ghost use Rattle.flow_core.specs.View.{arc_of};
+
+use std::alloc::{AllocError as Memory, Global};
+use std::marker::Model;
+
+/// The most nodes that a net may have.
+pub const MOST_NODES: u32 = 128;
+
+/// An arc between two nodes, to be used in both directions.
+#[derive(Clone, Copy)]
+pub struct Arc {
+    pub a: u32,
+    pub b: u32,
+    pub capacity: u64,
+}
+
+/// A network.
+#[derive(Drop)]
+pub struct Net {
+    nodes: u32,
+    arcs: Vec<Arc>,
+    total: u64,
+}
+
+impl Model for Net {
+    ghost use Rattle.std.specs.Prelude.{◌≡◌, ◌≤◌};
+    ghost use Rattle.flow_core.specs.Nets.{Net};
+    ghost use Rattle.flow_core.specs.View.{net_of, IsWithinLimits};
+
+    ghost Value = { Net };
+
+    ghost view = { λ net. net_of net.nodes net.arcs.items };
+
+    ghost invariant = { λ net. IsWithinLimits (net_of net.nodes net.arcs.items) net.total };
+}
+
+impl Net {
+    /// The net of `k` nodes without arcs.
+    pub fn new(alloc: Global, k: u32) -> Result<Net, Memory>
+        requires { k ≤ MOST_NODES }
+        ensures { IfOk result (λ net. net ≡ record { nodes = k; arcs = [] }) }
+    {
+        Ok(Net {
+            nodes: k,
+            arcs: Vec::new(alloc),
+            total: 0,
+        })
+    }
+
+    /// The sum of the capacities. Takes no memory.
+    pub fn total(&self) -> u64
+        ensures sum { result ≡ total_capacity self.now }
+        ensures below { result < 2 ^ 63 }
+    {
+        self.total
+    }
+
+    /// Appends one arc.
+    pub fn add(&mut self, a: u32, b: u32, capacity: u64) -> Result<(), Memory>
+        requires arc { IsArc self.old.nodes (record { a = a; b = b; capacity = capacity }) }
+        requires below { total_capacity self.old + capacity < 2 ^ 63 }
+        ensures ok { OnOk result (self.new ≡ with_arc self.old (record { a = a; b = b; capacity = capacity })) }
+        ensures err { OnErr result (self.new ≡ self.old) }
+    {
+        self.arcs.push(Arc { a, b, capacity })?;
+        self.total += capacity;
+        Ok(())
+    }
+
+    /// The number of arcs.
+    pub fn size(&self) -> usize
+        ensures { result ≡ length self.now.arcs }
+    {
+        self.arcs.len()
+    }
+
+    /// Arc `i`, counted from 0.
+    pub fn arc(&self, i: usize) -> Arc
+        requires { i < length self.now.arcs }
+        ensures { arc_of result ≡ arc_at self.now.arcs i }
+    {
+        self.arcs[i]
+    }
+}
