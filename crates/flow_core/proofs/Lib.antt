@@ -1,2 +1,4 @@
 pub mod IntegerSums
 pub mod Duality
+pub mod Reading
+pub mod ArcRows

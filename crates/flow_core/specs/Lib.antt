@@ -2,3 +2,5 @@ pub mod Nets
 pub mod Flows
 pub mod Residual
 pub mod View
+pub mod Rows
+pub mod Incidence

@@ -6,9 +6,7 @@ ghost use Rattle.flow_core.specs.View.{arc_of};
 
 use std::alloc::{AllocError as Memory, Global};
 use std::marker::Model;
-
-/// The most nodes that a net may have.
-pub const MOST_NODES: u32 = 128;
+use vset_core::MOST_VERTICES;
 
 /// An arc between two nodes, to be used in both directions.
 #[derive(Clone, Copy)]
@@ -41,7 +39,7 @@ impl Model for Net {
 impl Net {
     /// The net of `k` nodes without arcs.
     pub fn new(alloc: Global, k: u32) -> Result<Net, Memory>
-        requires { k ≤ MOST_NODES }
+        requires { k ≤ MOST_VERTICES }
         ensures { IfOk result (λ net. net ≡ record { nodes = k; arcs = [] }) }
     {
         Ok(Net {
@@ -71,17 +69,27 @@ impl Net {
         Ok(())
     }
 
+    /// The number of nodes.
+    pub(crate) fn nodes(&self) -> u32
+        ensures nodes { result ≡ self.now.nodes }
+        ensures most { result ≤ MOST_VERTICES }
+    {
+        self.nodes
+    }
+
     /// The number of arcs.
-    pub fn size(&self) -> usize
+    pub(crate) fn size(&self) -> usize
         ensures { result ≡ length self.now.arcs }
     {
         self.arcs.len()
     }
 
     /// Arc `i`, counted from 0.
-    pub fn arc(&self, i: usize) -> Arc
+    pub(crate) fn arc(&self, i: usize) -> Arc
         requires { i < length self.now.arcs }
-        ensures { arc_of result ≡ arc_at self.now.arcs i }
+        ensures arc { arc_of result ≡ arc_at self.now.arcs i }
+        ensures in_order { IsArc self.now.nodes (arc_of result) }
+        ensures below { result.capacity < 2 ^ 63 }
     {
         self.arcs[i]
     }

@@ -1,0 +1,54 @@
+-- What the code reads of a net, and how a list grows: a place of a mapped list, of a longer list and of a list with one item set.
+-- Idea: each is a reading law of lists at the one default that the definitions use.
+use Rattle.std.proofs.Common.{◌≡◌, ℕ, zero, suc, ◌<◌, ◌≤◌, ◌^◌, List, [], ◌∷◌, ◌++◌, length, get_or, set, map, refl, sym, ◌∙◌, ap, ap₂, subst, arith}
+use Rattle.std.specs.Prelude.{All}
+use Rattle.std.specs.Global.{Vec}
+use Rattle.std.proofs.lemmas.List.{get_or-map, length-map, map-set}
+use Rattle.std.proofs.lemmas.List.Elements.{All-head, All-tail}
+use Rattle.std.proofs.lemmas.List.Sums.{get_or-le-sum_by}
+use Rattle.flow_core.specs.Nets.{Arc, Net, IsArc, IsNet, total_capacity}
+use Rattle.flow_core.specs.Residual.{arc_at}
+use Rattle.flow_core.specs.View.{arc_of, net_of, IsWithinLimits}
+use Rattle.flow_core.specs.Rows.{rows_of}
+use Rattle.flow_core.specs.Incidence.{row_at}
+use Rattle.flow_core.specs.declared.net.Arc.{Arc as StoredArc}
+
+-- the stored arc at a place is the arc at that place
+pub arc_of-read : (items : List StoredArc) (i : ℕ) (d : StoredArc) → i < length (map arc_of items) → arc_of (get_or items i d) ≡ arc_at (map arc_of items) i
+arc_of-read items i d l = sym (get_or-map arc_of items i d (record { a = 0; b = 0; capacity = 0 }) (let m = length-map items arc_of in omega arith))
+
+-- an arc of a net in order is in order
+pub IsNet-at : (net : Net) → IsNet net → (i : ℕ) → i < length net.arcs → IsArc net.nodes (arc_at net.arcs i)
+IsNet-at net is i l = is i (record { a = 0; b = 0; capacity = 0 }) l
+
+-- no capacity is more than all
+pub capacity-le-total : (net : Net) (i : ℕ) → i < length net.arcs → (arc_at net.arcs i).capacity ≤ total_capacity net
+capacity-le-total net i l = get_or-le-sum_by (λ (arc : Arc). arc.capacity) net.arcs i (record { a = 0; b = 0; capacity = 0 }) l
+
+-- a stored arc of a net within its limits is in order, and its capacity is below 2^63
+pub stored-in_order : (nodes total : ℕ) (items : List StoredArc) (net : Net) → IsWithinLimits (net_of nodes items) total → net_of nodes items ≡ net → (i : ℕ) → i < length net.arcs → (arc : StoredArc) → arc ≡ get_or items i arc → IsArc net.nodes (arc_of arc) × (arc.capacity < 2 ^ 63)
+stored-in_order nodes total items net limits view i l arc e =
+    let at : i < length (map arc_of items) = subst (λ (n : Net). i < length n.arcs) (sym view) l in
+    let read : arc_of arc ≡ arc_at (map arc_of items) i = ap arc_of e ∙ arc_of-read items i arc at in
+    (
+      subst (λ (n : Net). IsArc n.nodes (arc_of arc)) view
+      (subst (IsArc nodes) (sym read) (IsNet-at (net_of nodes items) limits.arcs i at)),
+      let c = ap (λ (x : Arc). x.capacity) read in
+      let m = capacity-le-total (net_of nodes items) i at in let s = limits.sum in let b = limits.below in omega arith,
+    )
+
+-- a row that has grown at its end
+pub rows_of-push : (rows : List (Vec ℕ)) (view : List (List ℕ)) → rows_of rows ≡ view → (v : ℕ) → v < length view → (row new : Vec ℕ) → row ≡ get_or rows v row → (i : ℕ) → new.items ≡ row.items ++ i ∷ [] → rows_of (set rows v new) ≡ set view v (row_at view v ++ i ∷ [])
+rows_of-push rows view is v l row new e i grown =
+    let items : Vec ℕ → List ℕ = λ (r : Vec ℕ). r.items in
+    let at : v < length rows = let m = length-map rows items in let n = ap length is in omega arith in
+    let read : row_at (rows_of rows) v ≡ row.items = get_or-map items rows v row [] at ∙ ap items (sym e) in
+    map-set items rows v new
+    ∙ ap₂ (λ (xs : List (List ℕ)) (r : List ℕ). set xs v r) is
+    (grown ∙ ap (λ (r : List ℕ). r ++ i ∷ []) (sym read ∙ ap (λ (xs : List (List ℕ)). row_at xs v) is))
+
+-- rows that are all empty
+pub rows_of-empty : (rows : List (Vec ℕ)) → All (λ (row : Vec ℕ). row.items ≡ []) rows → (v : ℕ) → row_at (rows_of rows) v ≡ []
+rows_of-empty [] h v = refl
+rows_of-empty (row ∷ rows) h zero = All-head (λ (r : Vec ℕ). r.items ≡ []) row rows h
+rows_of-empty (row ∷ rows) h (suc v) = rows_of-empty rows (All-tail (λ (r : Vec ℕ). r.items ≡ []) row rows h) v
