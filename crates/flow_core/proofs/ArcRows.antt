@@ -33,8 +33,8 @@ row_at-other rows v i w d = get_or-set_other rows v w (row_at rows v ++ i ∷ []
 kept : (rows : List (List ℕ)) (v i w j : ℕ) → v < length rows → Contains (row_at rows w) j → Contains (row_at (with_place rows v i) w) j
 kept rows v i w j l h = elim (cases_eq w v) [
   | inl e ↦
-  let g : Contains (row_at rows v) j = subst (λ u. Contains (row_at rows u) j) e h in
-  subst (λ u. Contains (row_at (with_place rows v i) u) j) (sym e) (subst (λ (r : List ℕ). Contains r j) (sym (row_at-same rows v i l)) (Contains-push (row_at rows v) i j g))
+      let g : Contains (row_at rows v) j = subst (λ u. Contains (row_at rows u) j) e h in
+      subst (λ u. Contains (row_at (with_place rows v i) u) j) (sym e) (subst (λ (r : List ℕ). Contains r j) (sym (row_at-same rows v i l)) (Contains-push (row_at rows v) i j g))
   | inr d ↦ subst (λ (r : List ℕ). Contains r j) (sym (row_at-other rows v i w d)) h
 ]
 
@@ -46,8 +46,8 @@ added rows v i l = subst (λ (r : List ℕ). Contains r i) (sym (row_at-same row
 each : (P : ℕ → Type 0) (rows : List (List ℕ)) (v i w : ℕ) → v < length rows → All P (row_at rows w) → (w ≡ v → P i) → All P (row_at (with_place rows v i) w)
 each P rows v i w l h p = elim (cases_eq w v) [
   | inl e ↦
-  let g : All P (row_at rows v) = subst (λ u. All P (row_at rows u)) e h in
-  subst (λ u. All P (row_at (with_place rows v i) u)) (sym e) (subst (All P) (sym (row_at-same rows v i l)) (All-push P (row_at rows v) i g (p e)))
+      let g : All P (row_at rows v) = subst (λ u. All P (row_at rows u)) e h in
+      subst (λ u. All P (row_at (with_place rows v i) u)) (sym e) (subst (All P) (sym (row_at-same rows v i l)) (All-push P (row_at rows v) i g (p e)))
   | inr d ↦ subst (All P) (sym (row_at-other rows v i w d)) h
 ]
 

@@ -2,3 +2,5 @@ pub mod IntegerSums
 pub mod Duality
 pub mod Reading
 pub mod ArcRows
+pub mod SearchTrees
+pub mod Scanning

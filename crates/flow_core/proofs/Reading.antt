@@ -11,7 +11,7 @@ use Rattle.flow_core.specs.Residual.{arc_at}
 use Rattle.flow_core.specs.View.{arc_of, net_of, IsWithinLimits}
 use Rattle.flow_core.specs.Rows.{rows_of}
 use Rattle.flow_core.specs.Incidence.{row_at}
-use Rattle.flow_core.specs.declared.net.Arc.{Arc as StoredArc}
+use Rattle.flow_core.specs.declared.arc.Arc.{Arc as StoredArc}
 
 -- the stored arc at a place is the arc at that place
 pub arc_of-read : (items : List StoredArc) (i : ℕ) (d : StoredArc) → i < length (map arc_of items) → arc_of (get_or items i d) ≡ arc_at (map arc_of items) i
@@ -29,12 +29,11 @@ capacity-le-total net i l = get_or-le-sum_by (λ (arc : Arc). arc.capacity) net.
 pub stored-in_order : (nodes total : ℕ) (items : List StoredArc) (net : Net) → IsWithinLimits (net_of nodes items) total → net_of nodes items ≡ net → (i : ℕ) → i < length net.arcs → (arc : StoredArc) → arc ≡ get_or items i arc → IsArc net.nodes (arc_of arc) × (arc.capacity < 2 ^ 63)
 stored-in_order nodes total items net limits view i l arc e =
     let at : i < length (map arc_of items) = subst (λ (n : Net). i < length n.arcs) (sym view) l in
-    let read : arc_of arc ≡ arc_at (map arc_of items) i = ap arc_of e ∙ arc_of-read items i arc at in
-    (
+    let read : arc_of arc ≡ arc_at (map arc_of items) i = ap arc_of e ∙ arc_of-read items i arc at in (
       subst (λ (n : Net). IsArc n.nodes (arc_of arc)) view
-      (subst (IsArc nodes) (sym read) (IsNet-at (net_of nodes items) limits.arcs i at)),
+          (subst (IsArc nodes) (sym read) (IsNet-at (net_of nodes items) limits.arcs i at)),
       let c = ap (λ (x : Arc). x.capacity) read in
-      let m = capacity-le-total (net_of nodes items) i at in let s = limits.sum in let b = limits.below in omega arith,
+          let m = capacity-le-total (net_of nodes items) i at in let s = limits.sum in let b = limits.below in omega arith,
     )
 
 -- a row that has grown at its end

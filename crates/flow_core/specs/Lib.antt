@@ -4,3 +4,5 @@ pub mod Residual
 pub mod View
 pub mod Rows
 pub mod Incidence
+pub mod Search
+pub mod Outcomes

@@ -1,7 +1,7 @@
 -- How the code's net is seen: its nodes and its list of arcs, within the limits.
 use Rattle.std.specs.Prelude.{◌≡◌, ℕ, ◌≤◌, ◌<◌, ◌^◌, List, map}
 use Rattle.flow_core.specs.Nets.{Arc, Net, IsNet, total_capacity}
-use Rattle.flow_core.specs.declared.net.Arc.{Arc as StoredArc}
+use Rattle.flow_core.specs.declared.arc.Arc.{Arc as StoredArc}
 
 -- the arc with these ends and this capacity
 abbrev pub arc_of : StoredArc → Arc

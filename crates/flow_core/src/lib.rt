@@ -1,8 +1,10 @@
 //! Minimum cuts.
 #![tactic(auto)]
 
+mod arc;
 mod incidence;
 mod net;
+mod search;
 mod signed_list;
 
 pub use net::Net;

@@ -4,17 +4,10 @@ ghost use Rattle.flow_core.specs.Nets.{IsArc, with_arc, total_capacity};
 ghost use Rattle.flow_core.specs.Residual.{arc_at};
 ghost use Rattle.flow_core.specs.View.{arc_of};
 
+use crate::arc::Arc;
 use std::alloc::{AllocError as Memory, Global};
 use std::marker::Model;
 use vset_core::MOST_VERTICES;
-
-/// An arc between two nodes, to be used in both directions.
-#[derive(Clone, Copy)]
-pub struct Arc {
-    pub a: u32,
-    pub b: u32,
-    pub capacity: u64,
-}
 
 /// A network.
 #[derive(Drop)]
@@ -89,6 +82,7 @@ impl Net {
         requires { i < length self.now.arcs }
         ensures arc { arc_of result ≡ arc_at self.now.arcs i }
         ensures in_order { IsArc self.now.nodes (arc_of result) }
+        ensures most { self.now.nodes ≤ MOST_VERTICES }
         ensures below { result.capacity < 2 ^ 63 }
     {
         self.arcs[i]

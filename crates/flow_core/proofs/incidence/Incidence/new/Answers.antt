@@ -15,6 +15,6 @@ loop-i-preserved c =
     let b : c.arc-arc.result.b ≡ arc.b = ap (λ (x : Arc). x.b) c.arc-arc.ensures.arc in
     let first : c.add.new.self ≡ with_place rows arc.a i = c.in_ok-add.ensures ∙ ap (λ v. with_place rows v i) a in
     let second : c.add-in-loop-i.new.self ≡ with_place (with_place rows arc.a i) arc.b i =
-        c.in_ok-add-2.ensures ∙ ap (λ v. with_place c.add.new.self v i) b ∙ ap (λ (r : List (List ℕ)). with_place r arc.b i) first in
+    c.in_ok-add-2.ensures ∙ ap (λ v. with_place c.add.new.self v i) b ∙ ap (λ (r : List (List ℕ)). with_place r arc.b i) first in
     subst (ListsArcs net (i + 1)) (sym second)
     (ListsArcs-more net i (subst (IsArc net.nodes) c.arc-arc.ensures.arc c.arc-arc.ensures.in_order) rows c.loop-i.invariant)

@@ -1,0 +1,156 @@
+-- The arcs at one node, scanned one by one: each has no room out of the node, or leads to a node that is seen then.
+-- Idea: the arcs scanned so far stay scanned while the seen nodes grow, and the rows list every arc at the node.
+use Rattle.std.proofs.Common.{◌≡◌, ◌≢◌, ℕ, ◌+◌, ◌-◌, ◌≤◌, ◌<◌, ◌==◌, ◌||◌, Bool, true, false, List, [], ◌∷◌, ◌++◌, length, get_or, min, refl, sym, ◌∙◌, ap, subst, arith, inl, inr, ◌⊎◌, eq-eqb, ne_eqb, below_more, length-append}
+use Rattle.std.specs.Prelude.{ℤ, pos, ◌≤ℤ◌, ◌<ℤ◌, Contains, MatchBool}
+use Rattle.std.proofs.Math.Seq.{get_or-append_seam}
+use Rattle.std.proofs.lemmas.Bool.{cases_eq, both_ways, true≢false}
+use Rattle.std.proofs.lemmas.Int.{ints}
+use Rattle.std.proofs.lemmas.List.{get_or_read}
+use Rattle.counting.specs.Counts.{Within}
+use Rattle.counting.specs.Sets.{Set}
+use Rattle.counting.specs.Lists.{mem}
+use Rattle.flow_core.specs.Nets.{Arc, Net, IsArc}
+use Rattle.flow_core.specs.Residual.{arc_at, amount_at, Joins, room_from, HasRoom}
+use Rattle.flow_core.specs.Incidence.{row_at, HasEnd, IsIncidence}
+use Rattle.flow_core.specs.Search.{visit_at, node_at, IsStep, IsTree, IsScanned, IsSearch}
+use Rattle.flow_core.specs.declared.search.Visit.{Visit}
+use Rattle.flow_core.proofs.SearchTrees.{IsTree-push, visit_at-push, room-some}
+
+-- arc i has no room out of u, or leads into x
+abbrev pub IsArcScanned : List Arc → List ℤ → Set → ℕ → ℕ → Type 0
+IsArcScanned arcs amounts x u i = (w : ℕ) → Joins (arc_at arcs i) u w → pos 0 <ℤ room_from u (arc_at arcs i) (amount_at amounts i) → x w ≡ true
+
+-- a search that is scanning the row of its visit `head`, up to a place in it
+pub record IsScanning (net : Net) (amounts : List ℤ) (sink head : ℕ) (from : Visit) (row : List ℕ) (place : ℕ) (visits : List Visit) (seen : List ℕ) : Type 0 where
+  pub search : IsSearch net amounts sink head visits seen
+  pub long : head < length visits
+  pub at_head : visit_at visits head ≡ from
+  pub done : (p : ℕ) → p < place → IsArcScanned net.arcs amounts (mem seen) from.node (get_or row p 0)
+
+-- an arc has one other end
+pub other_end : (n : ℕ) (arc : Arc) (u v w : ℕ) → IsArc n arc → Joins arc u v → Joins arc u w → w ≡ v
+other_end n arc u v w is (inl x) (inl y) = sym y.1 ∙ x.1
+other_end n arc u v w is (inl x) (inr y) = absurd (is.differ (x.0 ∙ sym y.0))
+other_end n arc u v w is (inr x) (inl y) = absurd (is.differ (y.0 ∙ sym x.0))
+other_end n arc u v w is (inr x) (inr y) = sym y.1 ∙ x.1
+
+-- the other end is a node
+pub end_within : (n : ℕ) (arc : Arc) (u w : ℕ) → IsArc n arc → Joins arc u w → Within n w
+end_within n arc u w is (inl x) = subst (Within n) x.1 is.to_b
+end_within n arc u w is (inr x) = subst (Within n) x.1 is.from_a
+
+-- what stands at a place of a row
+pub row-place : (net : Net) (rows : List (List ℕ)) (v : ℕ) (items : List ℕ) (k : ℕ) → IsIncidence net rows → items ≡ row_at rows v → k < length items
+    → (get_or items k 0 < length net.arcs) × HasEnd (arc_at net.arcs (get_or items k 0)) v × (get_or items k 0 ≡ get_or (row_at rows v) k 0)
+row-place net rows v items k lists e l =
+    let h : (get_or items k 0 < length net.arcs) × HasEnd (arc_at net.arcs (get_or items k 0)) v =
+        subst (λ (xs : List ℕ). (get_or xs k 0 < length net.arcs) × HasEnd (arc_at net.arcs (get_or xs k 0)) v) (sym e) (lists.ends v k 0 (subst (λ (xs : List ℕ). k < length xs) e l)) in
+    (h.0, h.1, ap (λ (xs : List ℕ). get_or xs k 0) e)
+
+-- at the start of the row
+pub IsScanning-start : (net : Net) (amounts : List ℤ) (sink head : ℕ) (row : List ℕ) (visits : List Visit) (seen : List ℕ) → IsSearch net amounts sink head visits seen → head < length visits → IsScanning net amounts sink head (visit_at visits head) row 0 visits seen
+IsScanning-start net amounts sink head row visits seen s l = record {
+  search = s;
+  long = l;
+  at_head = refl;
+  done = λ p q. absurd (omega arith);
+}
+
+-- an arc is passed over: it has no room, or its other end is seen
+pub IsScanning-pass : (net : Net) (amounts : List ℤ) (sink head : ℕ) (from : Visit) (row : List ℕ) (place : ℕ) (visits : List Visit) (seen : List ℕ) → IsScanning net amounts sink head from row place visits seen
+    → (to : ℕ) → IsArc net.nodes (arc_at net.arcs (get_or row place 0)) → Joins (arc_at net.arcs (get_or row place 0)) from.node to
+    → (pos 0 <ℤ room_from from.node (arc_at net.arcs (get_or row place 0)) (amount_at amounts (get_or row place 0)) → mem seen to ≡ true)
+    → IsScanning net amounts sink head from row (place + 1) visits seen
+IsScanning-pass net amounts sink head from row place visits seen s to is j h = record {
+  search = s.search;
+  long = s.long;
+  at_head = s.at_head;
+  done = below_more (λ p. IsArcScanned net.arcs amounts (mem seen) from.node (get_or row p 0)) place s.done (λ w k r. ap (mem seen) (other_end net.nodes (arc_at net.arcs (get_or row place 0)) from.node to w is j k) ∙ h r);
+}
+
+front : (a b : Bool) → a ≡ true → (a || b) ≡ true
+front true b e = refl
+front false b e = absurd (true≢false (sym e))
+
+back : (a b : Bool) → b ≡ true → (a || b) ≡ true
+back true b e = refl
+back false b e = e
+
+-- a visit with these parts
+abbrev pub taken : ℕ → ℕ → ℕ → ℕ → Visit
+taken node parent arc room = record { node = node; parent = parent; arc = arc; room = room }
+
+-- an arc is taken: it has room, and its other end is new
+module _ (net : Net) (amounts : List ℤ) (sink head : ℕ) (from : Visit) (row : List ℕ) (place : ℕ) (visits : List Visit) (seen : List ℕ) (s : IsScanning net amounts sink head from row place visits seen)
+    (i : ℕ) (at : i ≡ get_or row place 0) (is_arc : i < length net.arcs) (is : IsArc net.nodes (arc_at net.arcs i)) (node : ℕ) (joins : Joins (arc_at net.arcs i) from.node node)
+    (room : ℕ) (room_is : pos room ≡ room_from from.node (arc_at net.arcs i) (amount_at amounts i)) (some : 0 < room) (new : mem seen node ≡ false) (longer : List Visit) (grown : longer ≡ visits ++ taken node head i (min room from.room) ∷ []) (more : List ℕ) (h : (v : ℕ) → mem more v ≡ (mem seen v || node == v)) where
+  stays : (v : ℕ) → mem seen v ≡ true → mem more v ≡ true
+  stays v m = h v ∙ front (mem seen v) (node == v) m
+
+  is_seen : mem more node ≡ true
+  is_seen = h node ∙ back (mem seen node) (node == node) (eq-eqb node node refl)
+
+  from_some : 0 < from.room
+  from_some = subst (λ (u : Visit). 0 < u.room) s.at_head (room-some net amounts visits seen s.search.tree head s.long)
+
+  -- the tree with the new visit
+  pub taken-tree : IsTree net amounts longer more
+  taken-tree = subst (λ (vs : List Visit). IsTree net amounts vs more) (sym grown) (
+    IsTree-push net amounts visits seen s.search.tree (taken node head i (min room from.room)) more s.long
+    (subst (λ (u : Visit). IsStep net.arcs amounts u (taken node head i (min room from.room))) (sym s.at_head) (record {
+      is_arc = is_arc;
+      joins = joins;
+      some = let f = from_some in omega arith;
+      within = let e = room_is in omega (arith, ints);
+      below = omega arith;
+    }))
+    (end_within net.nodes (arc_at net.arcs i) from.node node is joins) new h
+  )
+
+  -- its last node
+  pub taken-last : node_at longer (length longer - 1) ≡ node
+  taken-last =
+      let tail = taken node head i (min room from.room) in
+      let e : length longer - 1 ≡ length visits = let l = ap (λ (vs : List Visit). length vs) grown in omega (arith, length-append visits (tail ∷ [])) in
+      ap (node_at longer) e ∙ ap (λ (vs : List Visit). node_at vs (length visits)) grown
+      ∙ ap (λ (u : Visit). u.node) (get_or-append_seam visits tail [] (record { node = 0; parent = 0; arc = 0; room = 0 }))
+
+  -- an earlier node
+  earlier : (j : ℕ) → j < length visits → visit_at longer j ≡ visit_at visits j
+  earlier j l = ap (λ (vs : List Visit). visit_at vs j) grown ∙ visit_at-push visits (taken node head i (min room from.room)) j l
+
+  -- the first visit stays
+  pub taken-first : node_at longer 0 ≡ node_at visits 0
+  taken-first = ap (λ (u : Visit). u.node) (earlier 0 s.search.tree.some)
+
+  -- where the new node is not the sink, the scan goes on
+  pub IsScanning-take : node ≢ sink → IsScanning net amounts sink head from row (place + 1) longer more
+  IsScanning-take d = record {
+    search = record {
+      tree = taken-tree;
+      unseen = h sink ∙ ap (λ t. t || node == sink) s.search.unseen ∙ ne_eqb node sink d;
+      scanned = λ j l w r. stays w (s.search.scanned j l w (subst (λ u. HasRoom net.arcs amounts u w) (ap (λ (u : Visit). u.node) (earlier j (let k = s.long in omega arith))) r));
+    };
+    long = let l = s.long in let g = ap (λ (vs : List Visit). length vs) grown in omega (arith, length-append visits (taken node head i (min room from.room) ∷ []));
+    at_head = earlier head s.long ∙ s.at_head;
+    done = below_more (λ p. IsArcScanned net.arcs amounts (mem more) from.node (get_or row p 0)) place (λ p l w j r. stays w (s.done p l w j r)) (λ w j r. ap (mem more) (other_end net.nodes (arc_at net.arcs i) from.node node w is joins (subst (λ k. Joins (arc_at net.arcs k) from.node w) (sym at) j)) ∙ is_seen);
+  }
+
+-- at the end of the row the node is scanned
+pub IsScanning-end : (net : Net) (rows : List (List ℕ)) (amounts : List ℤ) (sink head : ℕ) (from : Visit) (place : ℕ) (visits : List Visit) (seen : List ℕ) → IsIncidence net rows → length (row_at rows from.node) ≤ place
+    → IsScanning net amounts sink head from (row_at rows from.node) place visits seen → IsSearch net amounts sink (head + 1) visits seen
+IsScanning-end net rows amounts sink head from place visits seen lists e s = record {
+  tree = s.search.tree;
+  unseen = s.search.unseen;
+  scanned = below_more (λ j. IsScanned net.arcs amounts (mem seen) (node_at visits j)) head s.search.scanned (λ w r. here w (subst (λ u. HasRoom net.arcs amounts u w) (ap (λ (u : Visit). u.node) s.at_head) r));
+}
+  where
+    listed : (i u w : ℕ) → i < length net.arcs → Joins (arc_at net.arcs i) u w → Contains (row_at rows u) i
+    listed i u w l (inl x) = subst (λ v. Contains (row_at rows v) i) x.0 (lists.at_a i l)
+    listed i u w l (inr x) = subst (λ v. Contains (row_at rows v) i) x.0 (lists.at_b i l)
+
+    here : (w : ℕ) → HasRoom net.arcs amounts from.node w → mem seen w ≡ true
+    here w r =
+        let k = listed r.arc from.node w r.is_arc r.joins in
+        let i : get_or (row_at rows from.node) k.0 0 ≡ r.arc = sym (get_or_read (row_at rows from.node) k.0 r.arc k.1 (sym k.2) 0) in
+        s.done k.0 (let l = k.1 in omega arith) w (subst (λ j. Joins (arc_at net.arcs j) from.node w) (sym i) r.joins) (subst (λ j. pos 0 <ℤ room_from from.node (arc_at net.arcs j) (amount_at amounts j)) (sym i) r.room)

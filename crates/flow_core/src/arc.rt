@@ -1,0 +1,39 @@
+//! Arcs, and how much more they can take.
+ghost use Rattle.std.specs.Prelude.{◌≡◌, ◌≤◌, ◌<◌, ◌^◌, pos, unsigned_abs};
+ghost use Rattle.flow_core.specs.Residual.{Joins, room_from};
+ghost use Rattle.flow_core.specs.Incidence.{HasEnd};
+
+/// An arc between two nodes, to be used in both directions.
+#[derive(Clone, Copy)]
+pub struct Arc {
+    pub a: u32,
+    pub b: u32,
+    pub capacity: u64,
+}
+
+impl Arc {
+    ghost use Rattle.flow_core.specs.View.{arc_of};
+
+    /// The end that is not `from`.
+    pub fn far_end(self, from: u32) -> u32
+        requires { HasEnd (arc_of self) from }
+        ensures { Joins (arc_of self) from result }
+    {
+        if self.a == from { self.b } else { self.a }
+    }
+
+    /// How much more the arc with this amount, which is positive from `a` to `b`, can take out of its end `from`. This is at
+    /// most twice the capacity, so it needs a type wider than that of amounts.
+    pub fn room(self, from: u32, amount: i64) -> u64
+        requires within { unsigned_abs amount ≤ self.capacity }
+        requires below { self.capacity < 2 ^ 63 }
+        ensures { pos result ≡ room_from from (arc_of self) amount }
+    {
+        let out = if self.a == from { amount } else { -amount };
+        if out >= 0 {
+            self.capacity - out as u64
+        } else {
+            self.capacity + out.unsigned_abs()
+        }
+    }
+}

@@ -1,0 +1,112 @@
+//! The search for a shortest path over arcs with room, breadth first.
+ghost use Rattle.std.specs.Prelude.{◌≡◌, ℕ, ◌+◌, ◌-◌, ◌≤◌, ◌<◌, ◌≢◌, ◌||◌, ◌==◌, [], ◌∷◌, ◌++◌, true, false, length, IfOk, OnOk, MatchBool, ℤ, List};
+ghost use Rattle.counting.specs.Counts.{Within};
+ghost use Rattle.counting.specs.Lists.{mem};
+ghost use Rattle.flow_core.specs.Flows.{Fits};
+ghost use Rattle.flow_core.specs.Incidence.{IsIncidence};
+ghost use Rattle.flow_core.specs.Search.{node_at, IsTree, IsSearch};
+ghost use Rattle.flow_core.specs.Outcomes.{IsOutcome};
+
+use crate::incidence::Incidence;
+use crate::net::Net;
+use crate::signed_list::SignedList;
+use std::alloc::{AllocError as Memory, Global};
+use vset_core::VSet;
+
+/// A node that the search has reached: from which earlier visit, over which arc, and how much can go there from the root.
+#[derive(Clone, Copy)]
+pub struct Visit {
+    pub node: u32,
+    pub parent: usize,
+    pub arc: usize,
+    pub room: u64,
+}
+
+/// The visits in the order in which the nodes were reached, and the set of these nodes.
+#[derive(Drop)]
+pub struct Reached {
+    pub visits: Vec<Visit>,
+    pub seen: VSet,
+}
+
+/// What a search answers: its visits, of which the last is at the sink, or all nodes that it has reached, the sink not among
+/// them.
+#[derive(Drop)]
+pub enum Outcome {
+    Path(Vec<Visit>),
+    Closed(VSet),
+}
+
+impl Reached {
+    /// The source alone.
+    fn from_source(alloc: Global, net: &Net, source: u32) -> Result<Reached, Memory>
+        requires { Within net.now.nodes source }
+        ensures tree { IfOk result (λ reached. (amounts : List ℤ) → IsTree net.now amounts reached.visits.items reached.seen) }
+        ensures source { IfOk result (λ reached. node_at reached.visits.items 0 ≡ source) }
+        ensures only { IfOk result (λ reached. (v : ℕ) → mem reached.seen v ≡ (source == v)) }
+    {
+        let _most = net.nodes();
+        let mut visits = Vec::new(alloc);
+        visits.push(Visit {
+            node: source,
+            parent: 0,
+            arc: 0,
+            room: i64::MAX as u64,
+        })?;
+        Ok(Reached {
+            visits,
+            seen: VSet::empty().with(source),
+        })
+    }
+
+    /// Adds the visit.
+    fn push(&mut self, visit: Visit) -> Result<(), Memory>
+        requires { Within 128 visit.node }
+        ensures visits { OnOk result (self.new.visits.items ≡ self.old.visits.items ++ visit ∷ []) }
+        ensures seen { OnOk result ((v : ℕ) → mem self.new.seen v ≡ (mem self.old.seen v || visit.node == v)) }
+    {
+        self.visits.push(visit)?;
+        self.seen = self.seen.with(visit.node);
+        Ok(())
+    }
+}
+
+/// Scans the arcs at visit `head`: the far end of each arc with room is visited, if it was not seen before. Stops at the sink
+/// and then answers true.
+fn scan(
+    net: &Net,
+    incidence: &Incidence,
+    amounts: &SignedList,
+    sink: u32,
+    head: usize,
+    reached: &mut Reached,
+) -> Result<bool, Memory>
+    requires fits { Fits net.now.arcs amounts.now }
+    requires incidence { IsIncidence net.now incidence.now }
+    requires search { IsSearch net.now amounts.now sink head reached.old.visits.items reached.old.seen }
+    requires head { head < length reached.old.visits.items }
+    ensures first { OnOk result (node_at reached.new.visits.items 0 ≡ node_at reached.old.visits.items 0) }
+    ensures tree { OnOk result (IsTree net.now amounts.now reached.new.visits.items reached.new.seen) }
+    ensures found { IfOk result (λ found. MatchBool found
+        (node_at reached.new.visits.items (length reached.new.visits.items - 1) ≡ sink)
+        (IsSearch net.now amounts.now sink (head + 1) reached.new.visits.items reached.new.seen)) }
+{
+    let from = reached.visits[head];
+    for &i in incidence.row(from.node) {
+        let arc = net.arc(i);
+        let node = arc.far_end(from.node);
+        let room = arc.room(from.node, amounts.get(i));
+        if room > 0 && !reached.seen.contains(node) {
+            reached.push(Visit {
+                node,
+                parent: head,
+                arc: i,
+                room: room.min(from.room),
+            })?;
+            if node == sink {
+                return Ok(true);
+            }
+        }
+    }
+    Ok(false)
+}
