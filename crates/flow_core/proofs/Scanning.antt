@@ -9,6 +9,7 @@ use Rattle.std.proofs.lemmas.List.{get_or_read}
 use Rattle.counting.specs.Counts.{Within}
 use Rattle.counting.specs.Sets.{Set}
 use Rattle.counting.specs.Lists.{mem}
+use Rattle.counting.proofs.Lists.{or_front, or_back}
 use Rattle.flow_core.specs.Nets.{Arc, Net, IsArc}
 use Rattle.flow_core.specs.Residual.{arc_at, amount_at, Joins, room_from, HasRoom}
 use Rattle.flow_core.specs.Incidence.{row_at, HasEnd, IsIncidence}
@@ -68,14 +69,6 @@ IsScanning-pass net amounts sink head from row place visits seen s to is j h = r
   done = below_more (λ p. IsArcScanned net.arcs amounts (mem seen) from.node (get_or row p 0)) place s.done (λ w k r. ap (mem seen) (other_end net.nodes (arc_at net.arcs (get_or row place 0)) from.node to w is j k) ∙ h r);
 }
 
-front : (a b : Bool) → a ≡ true → (a || b) ≡ true
-front true b e = refl
-front false b e = absurd (true≢false (sym e))
-
-back : (a b : Bool) → b ≡ true → (a || b) ≡ true
-back true b e = refl
-back false b e = e
-
 -- a visit with these parts
 abbrev pub taken : ℕ → ℕ → ℕ → ℕ → Visit
 taken node parent arc room = record { node = node; parent = parent; arc = arc; room = room }
@@ -85,10 +78,10 @@ module _ (net : Net) (amounts : List ℤ) (sink head : ℕ) (from : Visit) (row 
     (i : ℕ) (at : i ≡ get_or row place 0) (is_arc : i < length net.arcs) (is : IsArc net.nodes (arc_at net.arcs i)) (node : ℕ) (joins : Joins (arc_at net.arcs i) from.node node)
     (room : ℕ) (room_is : pos room ≡ room_from from.node (arc_at net.arcs i) (amount_at amounts i)) (some : 0 < room) (new : mem seen node ≡ false) (longer : List Visit) (grown : longer ≡ visits ++ taken node head i (min room from.room) ∷ []) (more : List ℕ) (h : (v : ℕ) → mem more v ≡ (mem seen v || node == v)) where
   stays : (v : ℕ) → mem seen v ≡ true → mem more v ≡ true
-  stays v m = h v ∙ front (mem seen v) (node == v) m
+  stays v m = h v ∙ or_front (mem seen v) (node == v) m
 
   is_seen : mem more node ≡ true
-  is_seen = h node ∙ back (mem seen node) (node == node) (eq-eqb node node refl)
+  is_seen = h node ∙ or_back (mem seen node) (node == node) (eq-eqb node node refl)
 
   from_some : 0 < from.room
   from_some = subst (λ (u : Visit). 0 < u.room) s.at_head (room-some net amounts visits seen s.search.tree head s.long)

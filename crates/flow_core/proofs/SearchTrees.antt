@@ -1,6 +1,6 @@
 -- Search trees: how they grow, that each node is reached from the root over arcs with room, and that no arc is used twice.
 -- Idea: a visit is at a new node, so its arc has an end that no earlier arc has.
-use Rattle.std.proofs.Common.{◌≡◌, ◌≢◌, ℕ, zero, suc, ◌+◌, ◌-◌, ◌≤◌, ◌<◌, ◌^◌, ◌==◌, ◌||◌, Bool, true, false, cond, List, [], ◌∷◌, ◌++◌, length, refl, sym, ◌∙◌, ap, subst, arith, inl, inr, eq-eqb, ne_eqb, length-append}
+use Rattle.std.proofs.Common.{◌≡◌, ◌≢◌, ℕ, zero, suc, ◌+◌, ◌-◌, ◌≤◌, ◌<◌, ◌^◌, ◌==◌, ◌||◌, Bool, true, false, cond, List, [], ◌∷◌, ◌++◌, length, get_or, refl, sym, ◌∙◌, ap, subst, arith, inl, inr, eq-eqb, ne_eqb, length-append}
 use Rattle.std.specs.Prelude.{ℤ, pos, ◌≤ℤ◌, ◌<ℤ◌}
 use Rattle.std.proofs.Math.Seq.{get_or-append_seam}
 use Rattle.std.proofs.lemmas.Bool.{cases_eq, both_ways, true≢false}
@@ -8,12 +8,13 @@ use Rattle.std.proofs.lemmas.Int.{ints}
 use Rattle.std.proofs.lemmas.List.{get_or_append_left}
 use Rattle.counting.specs.Counts.{Within, count, bit}
 use Rattle.counting.specs.Sets.{Set, put, singleton, everything}
-use Rattle.counting.specs.Lists.{mem}
+use Rattle.counting.specs.Lists.{mem, IsRisingIn}
 use Rattle.counting.proofs.Counts.{count_of_one, count_congr, count_le}
 use Rattle.counting.proofs.Choice.{count_put}
+use Rattle.counting.proofs.Lists.{or_front, or_back}
 use Rattle.flow_core.specs.Nets.{Arc, Net}
 use Rattle.flow_core.specs.Residual.{arc_at, amount_at, Joins, room_from, HasRoom, IsOpenWalk, IsReached}
-use Rattle.flow_core.specs.Search.{visit_at, node_at, IsStep, IsVisit, IsTree, IsScanned, IsSearch}
+use Rattle.flow_core.specs.Search.{visit_at, node_at, IsStep, IsVisit, IsTree, IsScanned, IsSearch, IsReachedSet}
 use Rattle.flow_core.specs.declared.search.Visit.{Visit}
 
 -- the default visit
@@ -122,8 +123,8 @@ IsTree-push net amounts visits seen tree visit more p s w f h = record {
     | inr d ↦ tree.distinct i j k (old j l d) (sym (old_node i (let t = old j l d in omega arith)) ∙ e ∙ old_node j (old j l d))
   ];
   all_seen = λ j l. elim (cases_eq j n) [
-    | inl e ↦ ap (mem more) (new_node j e) ∙ h visit.node ∙ last (mem seen visit.node) (visit.node == visit.node) (eq-eqb visit.node visit.node refl)
-    | inr d ↦ ap (mem more) (old_node j (old j l d)) ∙ h (node_at visits j) ∙ front (mem seen (node_at visits j)) (visit.node == node_at visits j) (tree.all_seen j (old j l d))
+    | inl e ↦ ap (mem more) (new_node j e) ∙ h visit.node ∙ or_back (mem seen visit.node) (visit.node == visit.node) (eq-eqb visit.node visit.node refl)
+    | inr d ↦ ap (mem more) (old_node j (old j l d)) ∙ h (node_at visits j) ∙ or_front (mem seen (node_at visits j)) (visit.node == node_at visits j) (tree.all_seen j (old j l d))
   ];
   seen_only = λ v m. place v (mem seen v) refl m;
   size = length-push visits visit ∙ ap (λ k. k + 1) tree.size ∙ sym (count-with net.nodes (mem seen) (mem more) visit.node w f h);
@@ -143,14 +144,6 @@ IsTree-push net amounts visits seen tree visit more p s w f h = record {
 
     new_node : (j : ℕ) → j ≡ n → node_at longer j ≡ visit.node
     new_node j e = ap (node_at longer) e ∙ ap (λ (u : Visit). u.node) (visit_at-last visits visit)
-
-    last : (a b : Bool) → b ≡ true → (a || b) ≡ true
-    last true b e = refl
-    last false b e = e
-
-    front : (a b : Bool) → a ≡ true → (a || b) ≡ true
-    front true b e = refl
-    front false b e = absurd (true≢false (sym e))
 
     place : (v : ℕ) (b : Bool) → mem seen v ≡ b → mem more v ≡ true → (j : ℕ) × (j < length longer) × (node_at longer j ≡ v)
     place v true e m =
@@ -221,3 +214,28 @@ arcs-differ net amounts visits seen tree i j p k l e = elim u.step.joins [
 
     other : Joins (arc_at net.arcs (visit_at visits i).arc) (node_at visits (visit_at visits j).parent) (node_at visits j)
     other = subst (λ a. Joins (arc_at net.arcs a) (node_at visits (visit_at visits j).parent) (node_at visits j)) (sym e) v.step.joins
+
+-- an item of a list is in it
+mem-item : (xs : List ℕ) (k d : ℕ) → k < length xs → mem xs (get_or xs k d) ≡ true
+mem-item [] k d l = absurd (omega arith)
+mem-item (x ∷ xs) zero d l = or_front (x == x) (mem xs x) (eq-eqb x x refl)
+mem-item (x ∷ xs) (suc k) d l = or_back (x == get_or xs k d) (mem xs (get_or xs k d)) (mem-item xs k d (omega arith))
+
+-- a rising list whose members are numbers 1 to n
+rising-within : (m n : ℕ) (xs : List ℕ) → IsRisingIn m xs → ((v : ℕ) → mem xs v ≡ true → Within n v) → IsRisingIn n xs
+rising-within m n xs r h = record {
+  rising = r.rising;
+  within = λ k d l. h (get_or xs k d) (mem-item xs k d l);
+}
+
+-- a search that has scanned all its visits has found the nodes that are reached from its root, and the sink is not among them
+pub search-ends : (net : Net) (amounts : List ℤ) (source sink head : ℕ) (visits : List Visit) (seen : List ℕ) → IsSearch net amounts sink head visits seen → length visits ≤ head → node_at visits 0 ≡ source → IsRisingIn 128 seen → IsReachedSet net amounts source sink seen
+search-ends net amounts source sink head visits seen s e root r = record {
+  nodes = rising-within 128 net.nodes seen r (λ v m. let k = tree.seen_only v m in subst (Within net.nodes) k.2 (tree.nodes k.0 k.1));
+  separates = record { holds = ap (mem seen) (sym root) ∙ tree.all_seen 0 tree.some; lacks = s.unseen };
+  reached = λ v m. let k = tree.seen_only v m in subst (λ u. IsReached net.arcs amounts u v) root (subst (IsReached net.arcs amounts (node_at visits 0)) k.2 (tree-reaches net amounts visits seen tree k.0 k.1));
+  closed = λ u m. let k = tree.seen_only u m in subst (IsScanned net.arcs amounts (mem seen)) k.2 (s.scanned k.0 (let l = k.1 in omega arith));
+}
+  where
+    tree : IsTree net amounts visits seen
+    tree = s.tree

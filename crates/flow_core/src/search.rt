@@ -110,3 +110,30 @@ fn scan(
     }
     Ok(false)
 }
+
+/// Searches, breadth first, for a path from the source to the sink over arcs with room.
+pub fn search(
+    alloc: Global,
+    net: &Net,
+    incidence: &Incidence,
+    amounts: &SignedList,
+    source: u32,
+    sink: u32,
+) -> Result<Outcome, Memory>
+    requires fits { Fits net.now.arcs amounts.now }
+    requires incidence { IsIncidence net.now incidence.now }
+    requires source { Within net.now.nodes source }
+    requires differ { source ≢ sink }
+    ensures { IfOk result (IsOutcome net.now amounts.now source sink) }
+{
+    let mut reached = Reached::from_source(alloc, net, source)?;
+    let mut head = 0;
+    'scanning: while head < reached.visits.len() {
+        if scan(net, incidence, amounts, sink, head, &mut reached)? {
+            return Ok(Outcome::Path(reached.visits));
+        }
+        head += 1;
+    }
+    reached.seen.rises();
+    Ok(Outcome::Closed(reached.seen))
+}
