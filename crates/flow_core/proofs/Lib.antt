@@ -4,3 +4,4 @@ pub mod Reading
 pub mod ArcRows
 pub mod SearchTrees
 pub mod Scanning
+pub mod Pushing

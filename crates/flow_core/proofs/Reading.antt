@@ -6,9 +6,9 @@ use Rattle.std.specs.Global.{Vec}
 use Rattle.std.proofs.lemmas.List.{get_or-map, length-map, map-set}
 use Rattle.std.proofs.lemmas.List.Elements.{All-head, All-tail}
 use Rattle.std.proofs.lemmas.List.Sums.{get_or-le-sum_by}
-use Rattle.flow_core.specs.Nets.{Arc, Net, IsArc, IsNet, total_capacity}
+use Rattle.flow_core.specs.Nets.{Arc, Net, IsArc, IsNet, IsBounded, total_capacity}
 use Rattle.flow_core.specs.Residual.{arc_at}
-use Rattle.flow_core.specs.View.{arc_of, net_of, IsWithinLimits}
+use Rattle.flow_core.specs.View.{arc_of}
 use Rattle.flow_core.specs.Rows.{rows_of}
 use Rattle.flow_core.specs.Incidence.{row_at}
 use Rattle.flow_core.specs.declared.arc.Arc.{Arc as StoredArc}
@@ -25,16 +25,9 @@ IsNet-at net is i l = is i (record { a = 0; b = 0; capacity = 0 }) l
 pub capacity-le-total : (net : Net) (i : ℕ) → i < length net.arcs → (arc_at net.arcs i).capacity ≤ total_capacity net
 capacity-le-total net i l = get_or-le-sum_by (λ (arc : Arc). arc.capacity) net.arcs i (record { a = 0; b = 0; capacity = 0 }) l
 
--- a stored arc of a net within its limits is in order, and its capacity is below 2^63
-pub stored-in_order : (nodes total : ℕ) (items : List StoredArc) (net : Net) → IsWithinLimits (net_of nodes items) total → net_of nodes items ≡ net → (i : ℕ) → i < length net.arcs → (arc : StoredArc) → arc ≡ get_or items i arc → IsArc net.nodes (arc_of arc) × (arc.capacity < 2 ^ 63)
-stored-in_order nodes total items net limits view i l arc e =
-    let at : i < length (map arc_of items) = subst (λ (n : Net). i < length n.arcs) (sym view) l in
-    let read : arc_of arc ≡ arc_at (map arc_of items) i = ap arc_of e ∙ arc_of-read items i arc at in (
-      subst (λ (n : Net). IsArc n.nodes (arc_of arc)) view
-          (subst (IsArc nodes) (sym read) (IsNet-at (net_of nodes items) limits.arcs i at)),
-      let c = ap (λ (x : Arc). x.capacity) read in
-          let m = capacity-le-total (net_of nodes items) i at in let s = limits.sum in let b = limits.below in omega arith,
-    )
+-- an arc of a net within its limits has a capacity below 2^63
+pub capacity-below : (net : Net) → IsBounded net → (i : ℕ) → i < length net.arcs → (arc_at net.arcs i).capacity < 2 ^ 63
+capacity-below net b i l = let c = capacity-le-total net i l in let t = b.total in omega arith
 
 -- a row that has grown at its end
 pub rows_of-push : (rows : List (Vec ℕ)) (view : List (List ℕ)) → rows_of rows ≡ view → (v : ℕ) → v < length view → (row new : Vec ℕ) → row ≡ get_or rows v row → (i : ℕ) → new.items ≡ row.items ++ i ∷ [] → rows_of (set rows v new) ≡ set view v (row_at view v ++ i ∷ [])

@@ -45,7 +45,7 @@ pub row-place : (net : Net) (rows : List (List ℕ)) (v : ℕ) (items : List ℕ
     → (get_or items k 0 < length net.arcs) × HasEnd (arc_at net.arcs (get_or items k 0)) v × (get_or items k 0 ≡ get_or (row_at rows v) k 0)
 row-place net rows v items k lists e l =
     let h : (get_or items k 0 < length net.arcs) × HasEnd (arc_at net.arcs (get_or items k 0)) v =
-        subst (λ (xs : List ℕ). (get_or xs k 0 < length net.arcs) × HasEnd (arc_at net.arcs (get_or xs k 0)) v) (sym e) (lists.ends v k 0 (subst (λ (xs : List ℕ). k < length xs) e l)) in
+    subst (λ (xs : List ℕ). (get_or xs k 0 < length net.arcs) × HasEnd (arc_at net.arcs (get_or xs k 0)) v) (sym e) (lists.ends v k 0 (subst (λ (xs : List ℕ). k < length xs) e l)) in
     (h.0, h.1, ap (λ (xs : List ℕ). get_or xs k 0) e)
 
 -- at the start of the row
@@ -89,16 +89,16 @@ module _ (net : Net) (amounts : List ℤ) (sink head : ℕ) (from : Visit) (row 
   -- the tree with the new visit
   pub taken-tree : IsTree net amounts longer more
   taken-tree = subst (λ (vs : List Visit). IsTree net amounts vs more) (sym grown) (
-    IsTree-push net amounts visits seen s.search.tree (taken node head i (min room from.room)) more s.long
-    (subst (λ (u : Visit). IsStep net.arcs amounts u (taken node head i (min room from.room))) (sym s.at_head) (record {
-      is_arc = is_arc;
-      joins = joins;
-      some = let f = from_some in omega arith;
-      within = let e = room_is in omega (arith, ints);
-      below = omega arith;
-    }))
-    (end_within net.nodes (arc_at net.arcs i) from.node node is joins) new h
-  )
+      IsTree-push net amounts visits seen s.search.tree (taken node head i (min room from.room)) more s.long
+      (subst (λ (u : Visit). IsStep net.arcs amounts u (taken node head i (min room from.room))) (sym s.at_head) (record {
+        is_arc = is_arc;
+        joins = joins;
+        some = let f = from_some in omega arith;
+        within = let e = room_is in omega (arith, ints);
+        below = omega arith;
+      }))
+      (end_within net.nodes (arc_at net.arcs i) from.node node is joins) new h
+      )
 
   -- its last node
   pub taken-last : node_at longer (length longer - 1) ≡ node

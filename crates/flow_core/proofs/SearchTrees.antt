@@ -161,6 +161,20 @@ room-some net amounts visits seen tree j l = elim (cases_eq j 0) [
   | inr d ↦ (tree.each j (omega arith) l).step.some
 ]
 
+-- and no more than 2^63 - 1
+pub room-below : (net : Net) (amounts : List ℤ) (visits : List Visit) (seen : List ℕ) → IsTree net amounts visits seen → (j : ℕ) → j < length visits → (visit_at visits j).room < 2 ^ 63
+room-below net amounts visits seen tree j l = go (suc j) j (omega arith) l
+  where
+    go : (fuel k : ℕ) → k < fuel → k < length visits → (visit_at visits k).room < 2 ^ 63
+    go zero k h m = absurd (omega arith)
+    go (suc fuel) k h m = elim (cases_eq k 0) [
+      | inl e ↦ subst (λ i. (visit_at visits i).room < 2 ^ 63) (sym e) (let r = tree.root in omega arith)
+      | inr d ↦
+      let v = tree.each k (omega arith) m in
+      let p = go fuel (visit_at visits k).parent (let e = v.earlier in omega arith) (let e = v.earlier in omega arith) in
+      let b = v.step.below in omega arith
+    ]
+
 -- no more visits than nodes
 pub visits-le-nodes : (net : Net) (amounts : List ℤ) (visits : List Visit) (seen : List ℕ) → IsTree net amounts visits seen → length visits ≤ net.nodes
 visits-le-nodes net amounts visits seen tree =

@@ -1,5 +1,5 @@
 -- Networks with undirected arcs, the value of a set of nodes, and least minimum cuts (Ford and Fulkerson, "Flows in Networks").
-use Rattle.std.specs.Prelude.{◌≡◌, ℕ, ◌≤◌, ◌≢◌, Bool, true, false, List, [], ◌∷◌, ◌++◌, ◌&&◌, ◌||◌, not, cond, sum_by, All}
+use Rattle.std.specs.Prelude.{◌≡◌, ℕ, ◌≤◌, ◌<◌, ◌^◌, ◌≢◌, Bool, true, false, List, [], ◌∷◌, ◌++◌, ◌&&◌, ◌||◌, not, cond, sum_by, All}
 use Rattle.counting.specs.Counts.{Within}
 use Rattle.counting.specs.Sets.{Set}
 use Rattle.counting.specs.Lists.{mem, IsRisingIn}
@@ -32,6 +32,12 @@ with_arc net arc = record net { arcs = net.arcs ++ arc ∷ [] }
 -- the sum of the capacities
 abbrev pub total_capacity : Net → ℕ
 total_capacity net = sum_by (λ (arc : Arc). arc.capacity) net.arcs
+
+-- a net in order and within the limits: at most 128 nodes, and a total capacity below 2^63
+pub record IsBounded (net : Net) : Type 0 where
+  pub nodes : net.nodes ≤ 128
+  pub arcs : IsNet net
+  pub total : total_capacity net < 2 ^ 63
 
 -- exactly one end of the arc is in x
 abbrev pub leaves_set : Set → Arc → Bool

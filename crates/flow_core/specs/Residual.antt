@@ -18,6 +18,10 @@ Joins arc u w = ((arc.a ≡ u) × (arc.b ≡ w)) ⊎ ((arc.b ≡ u) × (arc.a �
 abbrev pub room_from : ℕ → Arc → ℤ → ℤ
 room_from u arc amount = if arc.a == u then pos arc.capacity -ℤ amount else pos arc.capacity +ℤ amount
 
+-- the amount that sends d more out of the arc's end u
+abbrev pub sent_amount : Arc → ℕ → ℤ → ℕ → ℤ
+sent_amount arc u amount d = if arc.a == u then amount +ℤ pos d else amount -ℤ pos d
+
 -- an arc that can take more from u to w
 pub record HasRoom (arcs : List Arc) (amounts : List ℤ) (u w : ℕ) : Type 0 where
   pub arc : ℕ

@@ -40,6 +40,20 @@ pub record IsTree (net : Net) (amounts : List ℤ) (visits : List Visit) (seen :
   pub seen_only : (v : ℕ) → mem seen v ≡ true → (j : ℕ) × (j < length visits) × (node_at visits j ≡ v)
   pub size : length visits ≡ count net.nodes (mem seen)
 
+-- the node of the first visit
+abbrev pub first_node : List Visit → ℕ
+first_node visits = node_at visits 0
+
+-- the node of the last visit
+abbrev pub last_node : List Visit → ℕ
+last_node visits = node_at visits (length visits - 1)
+
+-- a search tree from one node to another
+pub record HasPath (net : Net) (amounts : List ℤ) (visits : List Visit) : Type 0 where
+  pub seen : List ℕ
+  pub tree : IsTree net amounts visits seen
+  pub differ : first_node visits ≢ last_node visits
+
 -- each arc with room out of u leads into x
 abbrev pub IsScanned : List Arc → List ℤ → Set → ℕ → Type 0
 IsScanned arcs amounts x u = (w : ℕ) → HasRoom arcs amounts u w → x w ≡ true
@@ -56,10 +70,3 @@ pub record IsReachedSet (net : Net) (amounts : List ℤ) (source sink : ℕ) (se
   pub separates : Separates source sink (mem set)
   pub reached : (v : ℕ) → mem set v ≡ true → IsReached net.arcs amounts source v
   pub closed : (u : ℕ) → mem set u ≡ true → IsScanned net.arcs amounts (mem set) u
-
--- a search tree from the source whose last visit is at the sink
-pub record ReachesSink (net : Net) (amounts : List ℤ) (source sink : ℕ) (visits : List Visit) : Type 0 where
-  pub seen : List ℕ
-  pub tree : IsTree net amounts visits seen
-  pub from_source : node_at visits 0 ≡ source
-  pub to_sink : node_at visits (length visits - 1) ≡ sink

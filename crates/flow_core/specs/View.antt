@@ -1,6 +1,6 @@
 -- How the code's net is seen: its nodes and its list of arcs, within the limits.
-use Rattle.std.specs.Prelude.{◌≡◌, ℕ, ◌≤◌, ◌<◌, ◌^◌, List, map}
-use Rattle.flow_core.specs.Nets.{Arc, Net, IsNet, total_capacity}
+use Rattle.std.specs.Prelude.{◌≡◌, ℕ, List, map}
+use Rattle.flow_core.specs.Nets.{Arc, Net, IsBounded, total_capacity}
 use Rattle.flow_core.specs.declared.arc.Arc.{Arc as StoredArc}
 
 -- the arc with these ends and this capacity
@@ -11,9 +11,7 @@ arc_of arc = record { a = arc.a; b = arc.b; capacity = arc.capacity }
 abbrev pub net_of : ℕ → List StoredArc → Net
 net_of k arcs = record { nodes = k; arcs = map arc_of arcs }
 
--- a net in order of at most 128 nodes, whose total capacity is below 2^63
-pub record IsWithinLimits (net : Net) (total : ℕ) : Type 0 where
-  pub nodes : net.nodes ≤ 128
-  pub arcs : IsNet net
+-- a net within its limits, and its total capacity
+pub record IsKept (net : Net) (total : ℕ) : Type 0 where
+  pub bounded : IsBounded net
   pub sum : total ≡ total_capacity net
-  pub below : total < 2 ^ 63

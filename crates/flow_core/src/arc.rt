@@ -1,6 +1,6 @@
 //! Arcs, and how much more they can take.
-ghost use Rattle.std.specs.Prelude.{◌≡◌, ◌≤◌, ◌<◌, ◌^◌, pos, unsigned_abs};
-ghost use Rattle.flow_core.specs.Residual.{Joins, room_from};
+ghost use Rattle.std.specs.Prelude.{◌≡◌, ◌≤◌, ◌<◌, ◌^◌, pos, ◌≤ℤ◌, unsigned_abs};
+ghost use Rattle.flow_core.specs.Residual.{Joins, room_from, sent_amount};
 ghost use Rattle.flow_core.specs.Incidence.{HasEnd};
 
 /// An arc between two nodes, to be used in both directions.
@@ -34,6 +34,21 @@ impl Arc {
             self.capacity - out as u64
         } else {
             self.capacity + out.unsigned_abs()
+        }
+    }
+
+    /// The amount after `more` is sent out of the end `from`. It is within the capacity again.
+    pub fn sent(self, from: u32, amount: i64, more: u64) -> i64
+        requires within { unsigned_abs amount ≤ self.capacity }
+        requires room { pos more ≤ℤ room_from from (arc_of self) amount }
+        requires below { self.capacity < 2 ^ 63 }
+        requires small { more < 2 ^ 63 }
+        ensures { result ≡ sent_amount (arc_of self) from amount more }
+    {
+        if self.a == from {
+            amount + more as i64
+        } else {
+            amount - more as i64
         }
     }
 }

@@ -1,5 +1,6 @@
 //! Which arcs have an end at which node.
 ghost use Rattle.std.specs.Prelude.{◌≡◌, ℕ, ◌+◌, ◌<◌, ◌≤◌, ◌++◌, ◌∷◌, [], length, IfOk, OnOk, slice_set};
+ghost use Rattle.flow_core.specs.Nets.{IsBounded};
 ghost use Rattle.flow_core.specs.Incidence.{row_at, IsIncidence};
 
 use crate::net::Net;
@@ -25,7 +26,8 @@ impl Model for Incidence {
 impl Incidence {
     /// The arcs of the net by their ends.
     pub fn new(alloc: Global, net: &Net) -> Result<Incidence, Memory>
-        ensures { IfOk result (IsIncidence net.now) }
+        ensures rows { IfOk result (IsIncidence net.now) }
+        ensures bounded { OnOk result (IsBounded net.now) }
     {
         let mut incidence = Incidence::empty(alloc, net.nodes())?;
         for i in 0..net.size() {

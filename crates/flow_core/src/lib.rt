@@ -2,10 +2,12 @@
 #![tactic(auto)]
 
 mod arc;
+mod flow;
 mod incidence;
 mod net;
 mod search;
 mod signed_list;
 
+pub use flow::Flow;
 pub use net::Net;
 pub use signed_list::SignedList;

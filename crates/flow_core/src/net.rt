@@ -1,6 +1,6 @@
 //! Nets, and how they grow.
 ghost use Rattle.std.specs.Prelude.{◌≡◌, ◌+◌, ◌≤◌, ◌<◌, ◌^◌, [], IfOk, OnOk, OnErr, length};
-ghost use Rattle.flow_core.specs.Nets.{IsArc, with_arc, total_capacity};
+ghost use Rattle.flow_core.specs.Nets.{IsArc, IsBounded, with_arc, total_capacity};
 ghost use Rattle.flow_core.specs.Residual.{arc_at};
 ghost use Rattle.flow_core.specs.View.{arc_of};
 
@@ -20,13 +20,13 @@ pub struct Net {
 impl Model for Net {
     ghost use Rattle.std.specs.Prelude.{◌≡◌, ◌≤◌};
     ghost use Rattle.flow_core.specs.Nets.{Net};
-    ghost use Rattle.flow_core.specs.View.{net_of, IsWithinLimits};
+    ghost use Rattle.flow_core.specs.View.{net_of, IsKept};
 
     ghost Value = { Net };
 
     ghost view = { λ net. net_of net.nodes net.arcs.items };
 
-    ghost invariant = { λ net. IsWithinLimits (net_of net.nodes net.arcs.items) net.total };
+    ghost invariant = { λ net. IsKept (net_of net.nodes net.arcs.items) net.total };
 }
 
 impl Net {
@@ -65,7 +65,7 @@ impl Net {
     /// The number of nodes.
     pub(crate) fn nodes(&self) -> u32
         ensures nodes { result ≡ self.now.nodes }
-        ensures most { result ≤ MOST_VERTICES }
+        ensures bounded { IsBounded self.now }
     {
         self.nodes
     }
@@ -77,13 +77,10 @@ impl Net {
         self.arcs.len()
     }
 
-    /// Arc `i`, counted from 0.
+    /// The arc at place `i`, counted from 0.
     pub(crate) fn arc(&self, i: usize) -> Arc
         requires { i < length self.now.arcs }
-        ensures arc { arc_of result ≡ arc_at self.now.arcs i }
-        ensures in_order { IsArc self.now.nodes (arc_of result) }
-        ensures most { self.now.nodes ≤ MOST_VERTICES }
-        ensures below { result.capacity < 2 ^ 63 }
+        ensures { arc_of result ≡ arc_at self.now.arcs i }
     {
         self.arcs[i]
     }

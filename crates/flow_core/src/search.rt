@@ -2,9 +2,10 @@
 ghost use Rattle.std.specs.Prelude.{◌≡◌, ℕ, ◌+◌, ◌-◌, ◌≤◌, ◌<◌, ◌≢◌, ◌||◌, ◌==◌, [], ◌∷◌, ◌++◌, true, false, length, IfOk, OnOk, MatchBool, ℤ, List};
 ghost use Rattle.counting.specs.Counts.{Within};
 ghost use Rattle.counting.specs.Lists.{mem};
+ghost use Rattle.flow_core.specs.Nets.{IsBounded};
 ghost use Rattle.flow_core.specs.Flows.{Fits};
 ghost use Rattle.flow_core.specs.Incidence.{IsIncidence};
-ghost use Rattle.flow_core.specs.Search.{node_at, IsTree, IsSearch};
+ghost use Rattle.flow_core.specs.Search.{first_node, last_node, IsTree, IsSearch};
 ghost use Rattle.flow_core.specs.Outcomes.{IsOutcome};
 
 use crate::incidence::Incidence;
@@ -40,12 +41,12 @@ pub enum Outcome {
 impl Reached {
     /// The source alone.
     fn from_source(alloc: Global, net: &Net, source: u32) -> Result<Reached, Memory>
-        requires { Within net.now.nodes source }
+        requires bounded { IsBounded net.now }
+        requires source { Within net.now.nodes source }
         ensures tree { IfOk result (λ reached. (amounts : List ℤ) → IsTree net.now amounts reached.visits.items reached.seen) }
-        ensures source { IfOk result (λ reached. node_at reached.visits.items 0 ≡ source) }
+        ensures source { IfOk result (λ reached. first_node reached.visits.items ≡ source) }
         ensures only { IfOk result (λ reached. (v : ℕ) → mem reached.seen v ≡ (source == v)) }
     {
-        let _most = net.nodes();
         let mut visits = Vec::new(alloc);
         visits.push(Visit {
             node: source,
@@ -81,14 +82,15 @@ fn scan(
     head: usize,
     reached: &mut Reached,
 ) -> Result<bool, Memory>
+    requires bounded { IsBounded net.now }
     requires fits { Fits net.now.arcs amounts.now }
     requires incidence { IsIncidence net.now incidence.now }
     requires search { IsSearch net.now amounts.now sink head reached.old.visits.items reached.old.seen }
     requires head { head < length reached.old.visits.items }
-    ensures first { OnOk result (node_at reached.new.visits.items 0 ≡ node_at reached.old.visits.items 0) }
+    ensures first { OnOk result (first_node reached.new.visits.items ≡ first_node reached.old.visits.items) }
     ensures tree { OnOk result (IsTree net.now amounts.now reached.new.visits.items reached.new.seen) }
     ensures found { IfOk result (λ found. MatchBool found
-        (node_at reached.new.visits.items (length reached.new.visits.items - 1) ≡ sink)
+        (last_node reached.new.visits.items ≡ sink)
         (IsSearch net.now amounts.now sink (head + 1) reached.new.visits.items reached.new.seen)) }
 {
     let from = reached.visits[head];
@@ -120,6 +122,7 @@ pub fn search(
     source: u32,
     sink: u32,
 ) -> Result<Outcome, Memory>
+    requires bounded { IsBounded net.now }
     requires fits { Fits net.now.arcs amounts.now }
     requires incidence { IsIncidence net.now incidence.now }
     requires source { Within net.now.nodes source }
