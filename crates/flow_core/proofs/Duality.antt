@@ -8,10 +8,10 @@ use Rattle.std.proofs.lemmas.List.Elements.{All-head, All-tail}
 use Rattle.std.proofs.lemmas.List.Sums.{sum_by-cons}
 use Rattle.counting.specs.Counts.{Within}
 use Rattle.counting.specs.Sets.{Set, singleton}
-use Rattle.counting.specs.Lists.{mem, IsRisingIn}
+use Rattle.counting.specs.Lists.{mem}
 use Rattle.flow_core.specs.Nets.{Arc, Net, IsArc, IsNet, leaves_set, value_of, total_capacity, Separates, IsLeastCut}
 use Rattle.flow_core.specs.Flows.{out_by, goes_out, Fits, IsFlow}
-use Rattle.flow_core.specs.Residual.{arc_at, amount_at, Joins, room_from, HasRoom, IsOpenWalk, IsReached}
+use Rattle.flow_core.specs.Residual.{arc_at, amount_at, Joins, room_from, IsOpenWalk, IsReachedSet}
 use Rattle.flow_core.proofs.IntegerSums.{sum_to, sum_to-congr, sum_to-add, sum_to-sub, sum_to-zero, sum_to-one}
 
 -- what an arc takes out of x
@@ -227,15 +227,12 @@ module _ (net : Net) (source sink : ℕ) (amounts : List ℤ) (value : ℕ) (is 
         absurd (full_stays x (arc_at net.arcs step.arc) (amount_at amounts step.arc) (AllFull-at x net.arcs amounts flow.fits (cut_full x s e) step.arc step.is_arc) w v step.joins (walk_stays x s e u w ws h r.0) t step.room)
   ]
 
-  -- the nodes that are reached from the source over arcs with room, without the sink, are the least minimum cut
-  pub reached_least : (set : List ℕ) → IsRisingIn net.nodes set → Separates source sink (mem set)
-      → ((v : ℕ) → mem set v ≡ true → IsReached net.arcs amounts source v)
-      → ((u w : ℕ) → mem set u ≡ true → HasRoom net.arcs amounts u w → mem set w ≡ true)
-      → IsLeastCut net source sink set value
-  reached_least set l s reached closed = record {
-    nodes = l;
-    separates = s;
-    is = full_value (mem set) s (AllFull-from (mem set) net.arcs amounts flow.fits (λ i b. stays_full (mem set) (arc_at net.arcs i) (amount_at amounts i) (Fits-at net.arcs amounts flow.fits i b) (λ u w j p q r. true≢false (sym (closed u w p (record { arc = i; is_arc = b; joins = j; room = r })) ∙ q))));
+  -- the nodes that are reached from the source over arcs with room, where the sink is not among them, are the least minimum cut
+  pub reached_least : (set : List ℕ) → IsReachedSet net amounts source sink set → IsLeastCut net source sink set value
+  reached_least set r = record {
+    nodes = r.nodes;
+    separates = r.separates;
+    is = full_value (mem set) r.separates (AllFull-from (mem set) net.arcs amounts flow.fits (λ i b. stays_full (mem set) (arc_at net.arcs i) (amount_at amounts i) (Fits-at net.arcs amounts flow.fits i b) (λ u w j p q k. true≢false (sym (r.closed u p w (record { arc = i; is_arc = b; joins = j; room = k })) ∙ q))));
     least = flow-le-value_of;
-    inside = λ x t e v m. let r = reached v m in walk_stays x t e source v r.0 t.holds r.1;
+    inside = λ x t e v m. let k = r.reached v m in walk_stays x t e source v k.0 t.holds k.1;
   }

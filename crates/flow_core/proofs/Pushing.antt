@@ -147,10 +147,10 @@ module _ (net : Net) (is : IsNet net) (old amounts : List ℤ) (visits : List Vi
     room = let r = p.room in let b = here.step.below in omega arith;
     rest = λ j q l. get_or-set_other amounts visit.arc (visit_at visits j).arc (sent_amount arc from.node (amount_at amounts visit.arc) d) (pos 0) (arcs-differ net old visits seen tree j at q (let e = here.earlier in omega arith) p.long) ∙ p.rest j q (let e = here.earlier in omega arith);
     out = λ v.
-      let a = goes_out-set net.arcs amounts visit.arc (sent_amount arc from.node (amount_at amounts visit.arc) d) v p.fits here.step.is_arc in
-      let b = out_by-sent_amount net.nodes arc from.node visit.node (amount_at amounts visit.arc) d v (IsNet-at net is visit.arc here.step.is_arc) here.step.joins in
-      let c = p.out v in
-      moved (goes_out net.arcs (set amounts visit.arc (sent_amount arc from.node (amount_at amounts visit.arc) d)) v) (goes_out net.arcs amounts v) (goes_out net.arcs old v) (out_by v arc (amount_at amounts visit.arc)) (out_by v arc (sent_amount arc from.node (amount_at amounts visit.arc) d)) (only_at from.node d v) (only_at visit.node d v) (only_at (last_node visits) d v) a b c;
+        let a = goes_out-set net.arcs amounts visit.arc (sent_amount arc from.node (amount_at amounts visit.arc) d) v p.fits here.step.is_arc in
+        let b = out_by-sent_amount net.nodes arc from.node visit.node (amount_at amounts visit.arc) d v (IsNet-at net is visit.arc here.step.is_arc) here.step.joins in
+        let c = p.out v in
+        moved (goes_out net.arcs (set amounts visit.arc (sent_amount arc from.node (amount_at amounts visit.arc) d)) v) (goes_out net.arcs amounts v) (goes_out net.arcs old v) (out_by v arc (amount_at amounts visit.arc)) (out_by v arc (sent_amount arc from.node (amount_at amounts visit.arc) d)) (only_at from.node d v) (only_at visit.node d v) (only_at (last_node visits) d v) a b c;
   }
     where
       moved : (new now was x y f n t : ℤ) → new +ℤ x ≡ now +ℤ y → y ≡ x +ℤ (f -ℤ n) → now ≡ was +ℤ (n -ℤ t) → new ≡ was +ℤ (f -ℤ t)

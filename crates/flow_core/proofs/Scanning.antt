@@ -11,9 +11,9 @@ use Rattle.counting.specs.Sets.{Set}
 use Rattle.counting.specs.Lists.{mem}
 use Rattle.counting.proofs.Lists.{or_front, or_back}
 use Rattle.flow_core.specs.Nets.{Arc, Net, IsArc}
-use Rattle.flow_core.specs.Residual.{arc_at, amount_at, Joins, room_from, HasRoom}
+use Rattle.flow_core.specs.Residual.{arc_at, amount_at, Joins, room_from, HasRoom, IsScanned}
 use Rattle.flow_core.specs.Incidence.{row_at, HasEnd, IsIncidence}
-use Rattle.flow_core.specs.Search.{visit_at, node_at, IsStep, IsTree, IsScanned, IsSearch}
+use Rattle.flow_core.specs.Search.{visit_at, node_at, IsStep, IsTree, IsSearch}
 use Rattle.flow_core.specs.declared.search.Visit.{Visit}
 use Rattle.flow_core.proofs.SearchTrees.{IsTree-push, visit_at-push, room-some}
 

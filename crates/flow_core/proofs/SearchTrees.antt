@@ -13,8 +13,8 @@ use Rattle.counting.proofs.Counts.{count_of_one, count_congr, count_le}
 use Rattle.counting.proofs.Choice.{count_put}
 use Rattle.counting.proofs.Lists.{or_front, or_back}
 use Rattle.flow_core.specs.Nets.{Arc, Net}
-use Rattle.flow_core.specs.Residual.{arc_at, amount_at, Joins, room_from, HasRoom, IsOpenWalk, IsReached}
-use Rattle.flow_core.specs.Search.{visit_at, node_at, IsStep, IsVisit, IsTree, IsScanned, IsSearch, IsReachedSet}
+use Rattle.flow_core.specs.Residual.{arc_at, amount_at, Joins, room_from, HasRoom, IsOpenWalk, IsReached, IsScanned, IsReachedSet}
+use Rattle.flow_core.specs.Search.{visit_at, node_at, IsStep, IsVisit, IsTree, IsSearch}
 use Rattle.flow_core.specs.declared.search.Visit.{Visit}
 
 -- the default visit
@@ -170,9 +170,9 @@ room-below net amounts visits seen tree j l = go (suc j) j (omega arith) l
     go (suc fuel) k h m = elim (cases_eq k 0) [
       | inl e ↦ subst (λ i. (visit_at visits i).room < 2 ^ 63) (sym e) (let r = tree.root in omega arith)
       | inr d ↦
-      let v = tree.each k (omega arith) m in
-      let p = go fuel (visit_at visits k).parent (let e = v.earlier in omega arith) (let e = v.earlier in omega arith) in
-      let b = v.step.below in omega arith
+          let v = tree.each k (omega arith) m in
+          let p = go fuel (visit_at visits k).parent (let e = v.earlier in omega arith) (let e = v.earlier in omega arith) in
+          let b = v.step.below in omega arith
     ]
 
 -- no more visits than nodes

@@ -6,3 +6,4 @@ pub mod Rows
 pub mod Incidence
 pub mod Search
 pub mod Outcomes
+pub mod Cuts

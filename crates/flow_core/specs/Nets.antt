@@ -52,6 +52,12 @@ pub record Separates (source sink : ℕ) (x : Set) : Type 0 where
   pub holds : x source ≡ true
   pub lacks : x sink ≡ false
 
+-- some set with the source and without the sink has a value of at most `above`
+pub record HasCutWithin (net : Net) (source sink above : ℕ) : Type 0 where
+  pub set : Set
+  pub separates : Separates source sink set
+  pub within : value_of net set ≤ above
+
 -- the least minimum cut: its value is the least of all sets with the source and without the sink, and it lies inside each
 -- other such set of that value
 pub record IsLeastCut (net : Net) (source sink : ℕ) (set : List ℕ) (value : ℕ) : Type 0 where

@@ -1,7 +1,8 @@
 -- What a search answers.
 use Rattle.std.specs.Prelude.{◌≡◌, ℕ, List, ℤ}
 use Rattle.flow_core.specs.Nets.{Net}
-use Rattle.flow_core.specs.Search.{IsReachedSet, HasPath, first_node, last_node}
+use Rattle.flow_core.specs.Residual.{IsReachedSet}
+use Rattle.flow_core.specs.Search.{HasPath, first_node, last_node}
 use Rattle.flow_core.specs.declared.search.Outcome.{Outcome}
 use Rattle.flow_core.specs.declared.search.Outcome.TheVariants.{Path, Closed}
 

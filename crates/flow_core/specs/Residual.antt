@@ -1,6 +1,8 @@
 -- What a flow leaves on the arcs: how much more each can take, and the nodes that are reached over arcs with room.
-use Rattle.std.specs.Prelude.{◌≡◌, ℕ, ◌<◌, ◌⊎◌, List, [], ◌∷◌, ◌==◌, length, slice_index_or, ℤ, pos, ◌+ℤ◌, ◌-ℤ◌, ◌<ℤ◌, if◌then◌else◌}
-use Rattle.flow_core.specs.Nets.{Arc}
+use Rattle.std.specs.Prelude.{◌≡◌, ℕ, ◌<◌, ◌⊎◌, true, List, [], ◌∷◌, ◌==◌, length, slice_index_or, ℤ, pos, ◌+ℤ◌, ◌-ℤ◌, ◌<ℤ◌, if◌then◌else◌}
+use Rattle.counting.specs.Sets.{Set}
+use Rattle.counting.specs.Lists.{mem, IsRisingIn}
+use Rattle.flow_core.specs.Nets.{Arc, Net, Separates}
 
 -- arc i, counted from 0
 abbrev pub arc_at : List Arc → ℕ → Arc
@@ -37,3 +39,14 @@ IsOpenWalk arcs amounts u (w ∷ ws) v = IsOpenWalk arcs amounts u ws w × HasRo
 -- some walk over arcs with room goes from u to v
 abbrev pub IsReached : List Arc → List ℤ → ℕ → ℕ → Type 0
 IsReached arcs amounts u v = (ws : List ℕ) × IsOpenWalk arcs amounts u ws v
+
+-- each arc with room out of u leads into x
+abbrev pub IsScanned : List Arc → List ℤ → Set → ℕ → Type 0
+IsScanned arcs amounts x u = (w : ℕ) → HasRoom arcs amounts u w → x w ≡ true
+
+-- the nodes that are reached from the source over arcs with room; the sink is not among them
+pub record IsReachedSet (net : Net) (amounts : List ℤ) (source sink : ℕ) (set : List ℕ) : Type 0 where
+  pub nodes : IsRisingIn net.nodes set
+  pub separates : Separates source sink (mem set)
+  pub reached : (v : ℕ) → mem set v ≡ true → IsReached net.arcs amounts source v
+  pub closed : (u : ℕ) → mem set u ≡ true → IsScanned net.arcs amounts (mem set) u

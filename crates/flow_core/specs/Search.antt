@@ -1,10 +1,9 @@
 -- The tree of a search over arcs with room: the visits in the order in which the nodes were reached.
 use Rattle.std.specs.Prelude.{◌≡◌, ◌≢◌, ℕ, ◌-◌, ◌≤◌, ◌<◌, ◌^◌, true, false, List, length, slice_index_or, ℤ, pos, ◌≤ℤ◌}
 use Rattle.counting.specs.Counts.{Within, count}
-use Rattle.counting.specs.Sets.{Set}
-use Rattle.counting.specs.Lists.{mem, IsRisingIn}
-use Rattle.flow_core.specs.Nets.{Arc, Net, Separates}
-use Rattle.flow_core.specs.Residual.{arc_at, amount_at, Joins, room_from, HasRoom, IsReached}
+use Rattle.counting.specs.Lists.{mem}
+use Rattle.flow_core.specs.Nets.{Arc, Net}
+use Rattle.flow_core.specs.Residual.{arc_at, amount_at, Joins, room_from, IsScanned}
 use Rattle.flow_core.specs.declared.search.Visit.{Visit}
 
 -- visit j, counted from 0
@@ -54,19 +53,8 @@ pub record HasPath (net : Net) (amounts : List ℤ) (visits : List Visit) : Type
   pub tree : IsTree net amounts visits seen
   pub differ : first_node visits ≢ last_node visits
 
--- each arc with room out of u leads into x
-abbrev pub IsScanned : List Arc → List ℤ → Set → ℕ → Type 0
-IsScanned arcs amounts x u = (w : ℕ) → HasRoom arcs amounts u w → x w ≡ true
-
 -- a search that has scanned the arcs at its first visits and has not seen the sink
 pub record IsSearch (net : Net) (amounts : List ℤ) (sink head : ℕ) (visits : List Visit) (seen : List ℕ) : Type 0 where
   pub tree : IsTree net amounts visits seen
   pub unseen : mem seen sink ≡ false
   pub scanned : (j : ℕ) → j < head → IsScanned net.arcs amounts (mem seen) (node_at visits j)
-
--- the nodes that are reached from the source over arcs with room; the sink is not among them
-pub record IsReachedSet (net : Net) (amounts : List ℤ) (source sink : ℕ) (set : List ℕ) : Type 0 where
-  pub nodes : IsRisingIn net.nodes set
-  pub separates : Separates source sink (mem set)
-  pub reached : (v : ℕ) → mem set v ≡ true → IsReached net.arcs amounts source v
-  pub closed : (u : ℕ) → mem set u ≡ true → IsScanned net.arcs amounts (mem set) u

@@ -43,7 +43,8 @@ impl Flow {
             let visit = visits[at];
             let from = visits[visit.parent].node;
             let amount = self.on.get(visit.arc);
-            self.on.set(visit.arc, net.arc(visit.arc).sent(from, amount, more));
+            self.on
+                .set(visit.arc, net.arc(visit.arc).sent(from, amount, more));
             at = visit.parent;
         }
         self.value += more;

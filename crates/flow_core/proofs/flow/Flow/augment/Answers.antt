@@ -38,7 +38,7 @@ sent-requires-clause-room c =
     let from = node_at visits visit.parent in
     let more = (visit_at visits (length visits - 1)).room in
     let amount : amount_at c.pushing.self.on visit.arc ≡ to_z w64 (of_z w64 c.get-amount.result) =
-        get_or_from_slice_get c.pushing.self.on visit.arc c.get-amount.result (pos 0) c.get-amount.ensures ∙ sym (to_z-of_z w64 c.get-amount.result (record { sfits = c.get-amount.type_inv })) in
+    get_or_from_slice_get c.pushing.self.on visit.arc c.get-amount.result (pos 0) c.get-amount.ensures ∙ sym (to_z-of_z w64 c.get-amount.result (record { sfits = c.get-amount.type_inv })) in
     subst (λ (arc : Arc). pos more ≤ℤ room_from from arc (to_z w64 (of_z w64 c.get-amount.result))) (sym c.arc.ensures)
     (subst (λ (z : ℤ). pos more ≤ℤ room_from from (arc_at net.arcs visit.arc) z) amount
     (push-within net c.requires.bounded.arcs c.args.self.now.on c.pushing.self.on visits c.requires.path.seen c.requires.path.tree more c.pushing.at p c.pushing-test.true))
@@ -55,19 +55,19 @@ set-requires c =
 pub pushing-preserved : goal.pushing-preserved
 pushing-preserved c = record {
   pushed =
-  let net = c.args.net.now in
-  let visits = c.args.visits.now in
-  let p = c.pushing.invariant.pushed in
-  let visit = visit_at visits c.pushing.at in
-  let from = node_at visits visit.parent in
-  let more = (visit_at visits (length visits - 1)).room in
-  let amount : to_z w64 (of_z w64 c.get-amount.result) ≡ amount_at c.pushing.self.on visit.arc =
+      let net = c.args.net.now in
+      let visits = c.args.visits.now in
+      let p = c.pushing.invariant.pushed in
+      let visit = visit_at visits c.pushing.at in
+      let from = node_at visits visit.parent in
+      let more = (visit_at visits (length visits - 1)).room in
+      let amount : to_z w64 (of_z w64 c.get-amount.result) ≡ amount_at c.pushing.self.on visit.arc =
       to_z-of_z w64 c.get-amount.result (record { sfits = c.get-amount.type_inv }) ∙ sym (get_or_from_slice_get c.pushing.self.on visit.arc c.get-amount.result (pos 0) c.get-amount.ensures) in
-  let sent : to_z w64 (of_z w64 c.sent.result) ≡ sent_amount (arc_at net.arcs visit.arc) from (amount_at c.pushing.self.on visit.arc) more =
+      let sent : to_z w64 (of_z w64 c.sent.result) ≡ sent_amount (arc_at net.arcs visit.arc) from (amount_at c.pushing.self.on visit.arc) more =
       to_z-of_z w64 c.sent.result (record { sfits = c.sent.type_inv }) ∙ c.sent.ensures ∙ ap₂ (λ (arc : Arc) (z : ℤ). sent_amount arc from z more) c.arc.ensures amount in
-  subst (λ (amounts : List ℤ). IsPushed net c.args.self.now.on amounts visits more visit.parent)
-  (sym (c.set.ensures ∙ ap (set c.pushing.self.on visit.arc) sent))
-  (IsPushed-step net c.requires.bounded.arcs c.args.self.now.on c.pushing.self.on visits c.requires.path.seen c.requires.path.tree more c.pushing.at p c.pushing-test.true);
+      subst (λ (amounts : List ℤ). IsPushed net c.args.self.now.on amounts visits more visit.parent)
+      (sym (c.set.ensures ∙ ap (set c.pushing.self.on visit.arc) sent))
+      (IsPushed-step net c.requires.bounded.arcs c.args.self.now.on c.pushing.self.on visits c.requires.path.seen c.requires.path.tree more c.pushing.at p c.pushing-test.true);
   value = c.pushing.invariant.value;
 }
 

@@ -1,4 +1,4 @@
-use Rattle.std.proofs.Common.{◌≡◌, ℕ, ◌+◌, List, sym, ap, ◌∙◌, subst}
+use Rattle.std.proofs.Common.{◌≡◌, ℕ, ◌+◌, List, sym, ap, ◌∙◌, subst, arith}
 use Rattle.flow_core.specs.Nets.{Arc, IsArc}
 use Rattle.flow_core.specs.Residual.{arc_at}
 use Rattle.flow_core.specs.Incidence.{ListsArcs}
