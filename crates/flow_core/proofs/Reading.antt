@@ -1,13 +1,16 @@
 -- What the code reads of a net, and how a list grows: a place of a mapped list, of a longer list and of a list with one item set.
 -- Idea: each is a reading law of lists at the one default that the definitions use.
-use Rattle.std.proofs.Common.{◌≡◌, ℕ, zero, suc, ◌<◌, ◌≤◌, ◌^◌, List, [], ◌∷◌, ◌++◌, length, get_or, set, map, refl, sym, ◌∙◌, ap, ap₂, subst, arith}
-use Rattle.std.specs.Prelude.{All}
+use Rattle.std.proofs.Common.{◌≡◌, ℕ, zero, suc, ◌<◌, ◌≤◌, ◌^◌, List, [], ◌∷◌, ◌++◌, length, get_or, set, map, refl, sym, ◌∙◌, ap, ap₂, subst, arith, w64, to_z, of_z}
+use Rattle.std.specs.Prelude.{All, ℤ, pos, slice_get, Some}
+use mir.Val.{SFits}
 use Rattle.std.specs.Global.{Vec}
+use Rattle.std.proofs.lemmas.Int.{to_z-of_z}
+use Rattle.std.proofs.lemmas.Option.{get_or_from_slice_get}
 use Rattle.std.proofs.lemmas.List.{get_or-map, length-map, map-set}
 use Rattle.std.proofs.lemmas.List.Elements.{All-head, All-tail}
 use Rattle.std.proofs.lemmas.List.Sums.{get_or-le-sum_by}
 use Rattle.flow_core.specs.Nets.{Arc, Net, IsArc, IsNet, IsBounded, total_capacity}
-use Rattle.flow_core.specs.Residual.{arc_at}
+use Rattle.flow_core.specs.Residual.{arc_at, amount_at}
 use Rattle.flow_core.specs.View.{arc_of}
 use Rattle.flow_core.specs.Rows.{rows_of}
 use Rattle.flow_core.specs.Incidence.{row_at}
@@ -44,3 +47,7 @@ pub rows_of-empty : (rows : List (Vec ℕ)) → All (λ (row : Vec ℕ). row.ite
 rows_of-empty [] h v = refl
 rows_of-empty (row ∷ rows) h zero = All-head (λ (r : Vec ℕ). r.items ≡ []) row rows h
 rows_of-empty (row ∷ rows) h (suc v) = rows_of-empty rows (All-tail (λ (r : Vec ℕ). r.items ≡ []) row rows h) v
+
+-- an amount that was read, as it is passed on
+pub amount-read : (amounts : List ℤ) (i : ℕ) (z : ℤ) → SFits w64 z → slice_get amounts i ≡ Some z → to_z w64 (of_z w64 z) ≡ amount_at amounts i
+amount-read amounts i z f e = to_z-of_z w64 z f ∙ sym (get_or_from_slice_get amounts i z (pos 0) e)

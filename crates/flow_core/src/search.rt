@@ -97,17 +97,21 @@ fn scan(
     for &i in incidence.row(from.node) {
         let arc = net.arc(i);
         let node = arc.far_end(from.node);
+        if reached.seen.contains(node) {
+            continue;
+        }
         let room = arc.room(from.node, amounts.get(i));
-        if room > 0 && !reached.seen.contains(node) {
-            reached.push(Visit {
-                node,
-                parent: head,
-                arc: i,
-                room: room.min(from.room),
-            })?;
-            if node == sink {
-                return Ok(true);
-            }
+        if room == 0 {
+            continue;
+        }
+        reached.push(Visit {
+            node,
+            parent: head,
+            arc: i,
+            room: room.min(from.room),
+        })?;
+        if node == sink {
+            return Ok(true);
         }
     }
     Ok(false)
