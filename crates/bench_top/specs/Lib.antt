@@ -1,0 +1,4 @@
+pub mod Commands
+pub mod Loading
+pub mod Facts
+pub mod Outcome
