@@ -1,0 +1,92 @@
+-- Formats of texts, line by line.
+use Rattle.std.specs.Prelude.{◌≡◌, ◌⊎◌, ℕ, ◌+◌, List, [], ◌∷◌, ◌++◌, length, map, Option, Some, None, Result, Ok, Err}
+use Rattle.line_text.specs.declared.format.Refusal.{Refusal}
+use Rattle.line_text.specs.declared.format.Refusal.TheVariants as refusal
+use Rattle.line_text.specs.declared.format.LineFault.{LineFault}
+use Rattle.line_text.specs.declared.format.LineFault.TheVariants as fault
+use Rattle.line_text.specs.Lines.{lines_of}
+use Rattle.line_text.specs.Words.{SignificantLine, significant_lines_of}
+
+-- a format: the rules for its header, for each line behind the header, and for the end of the text, which go on with
+-- what has been read so far or name a fault, and the fault of a text without a header
+pub record Rules (Body Value Kind : Type 0) : Type 0 where
+  pub header : List (List ℕ) → Result Body Kind
+  pub line : Body → List (List ℕ) → Result Body Kind
+  pub close : Body → Result Value Kind
+  pub headless : Kind
+
+-- what a rule returned, seen by view, is what it is to give, unless memory ran out
+abbrev pub Gives : {X Y Kind : Type 0} → (X → Y) → Result X (Refusal Kind) → Result Y Kind → Type 0
+Gives view (Ok x) given = given ≡ Ok (view x)
+Gives view (Err (refusal.Fault kind)) given = given ≡ Err kind
+Gives view (Err refusal.Memory) given = Unit {0}
+
+-- what reading a text returned, seen by view, is this value or this fault, unless memory ran out
+abbrev pub Reads : {X Value Kind : Type 0} → (X → Value) → Result X (LineFault Kind) → Result Value (ℕ × Kind) → Type 0
+Reads view (Ok x) outcome = outcome ≡ Ok (view x)
+Reads view (Err (fault.At line kind)) outcome = outcome ≡ Err (line, kind)
+Reads view (Err fault.Memory) outcome = Unit {0}
+
+-- goes on with what a rule gave, or places its fault in this line
+abbrev pub go_on : {Body Value Kind : Type 0} → ℕ → Result Body Kind → (Body → Result Value (ℕ × Kind)) → Result Value (ℕ × Kind)
+go_on number (Ok body) next = next body
+go_on number (Err kind) next = Err (number, kind)
+
+module _ {Body Value Kind : Type 0} (rules : Rules Body Value Kind) where
+  -- what the format says to the words of a significant line, the first of which is the header
+  abbrev pub step : Option Body → List (List ℕ) → Result Body Kind
+  step None words = rules.header words
+  step (Some body) words = rules.line body words
+
+  -- what the format says to the end of the text
+  abbrev pub finish : Option Body → Result Value Kind
+  finish None = Err rules.headless
+  finish (Some body) = rules.close body
+
+  -- these lines are a good beginning, which leads on from one state to the other
+  abbrev pub Begins : Option Body → List (List (List ℕ)) → Option Body → Type 0
+  Begins from [] to = to ≡ from
+  Begins from (words ∷ lines) to = (body : Body) × (step from words ≡ Ok body) × Begins (Some body) lines to
+
+  -- the text stands for the value: its significant lines are a good beginning, at whose end the format has this value
+  pub record Stands (text : List ℕ) (value : Value) : Type 0 where
+    pub reached : Option Body
+    pub begins : Begins None (map (λ line. line.words) (significant_lines_of text)) reached
+    pub ends : finish reached ≡ Ok value
+
+  -- a line breaks the format, and the significant lines before it are a good beginning
+  pub record BreaksAtLine (text : List ℕ) (number : ℕ) (kind : Kind) : Type 0 where
+    pub before : List SignificantLine
+    pub line : SignificantLine
+    pub after : List SignificantLine
+    pub cut : significant_lines_of text ≡ before ++ line ∷ after
+    pub numbered : line.number ≡ number
+    pub reached : Option Body
+    pub begins : Begins None (map (λ l. l.words) before) reached
+    pub breaks : step reached line.words ≡ Err kind
+
+  -- all significant lines are a good beginning, but the text ends too early, behind its last line
+  pub record BreaksAtEnd (text : List ℕ) (number : ℕ) (kind : Kind) : Type 0 where
+    pub numbered : number ≡ length (lines_of text) + 1
+    pub reached : Option Body
+    pub begins : Begins None (map (λ line. line.words) (significant_lines_of text)) reached
+    pub breaks : finish reached ≡ Err kind
+
+  -- the first fault of the text stands at the line of this number and is of this kind
+  abbrev pub FirstFault : List ℕ → ℕ → Kind → Type 0
+  FirstFault text number kind = BreaksAtLine text number kind ⊎ BreaksAtEnd text number kind
+
+  -- what comes of the further significant lines of a text with so many lines: the value, or the first fault's line and kind
+  abbrev pub reading_from : Option Body → List SignificantLine → ℕ → Result Value (ℕ × Kind)
+  reading_from from [] count = go_on (count + 1) (finish from) (λ value. Ok value)
+  reading_from from (line ∷ lines) count =
+      go_on line.number (step from line.words) (λ body. reading_from (Some body) lines count)
+
+  -- what comes of a text that is read line by line: the value, or the first fault's line and kind
+  abbrev pub reading_of : List ℕ → Result Value (ℕ × Kind)
+  reading_of text = reading_from None (significant_lines_of text) (length (lines_of text))
+
+  -- the fault that a reader names is the first one
+  abbrev pub IsFirst : List ℕ → LineFault Kind → Type 0
+  IsFirst text (fault.At line kind) = FirstFault text line kind
+  IsFirst text fault.Memory = Unit {0}
