@@ -1,3 +1,4 @@
 pub mod Digits
+pub mod LineByLine
 pub mod LineCuts
 pub mod ExactlyOne

@@ -58,7 +58,7 @@ lines_of-unfed (byte ∷ text) some unfed =
     let kept : lines_of_parts ((byte ∷ text) ∷ []) ≡ (byte ∷ text) ∷ [] = grind (arith, nat_tests) in
     ap lines_of_parts (slice_split-whole is_line_feed (byte ∷ text) unfed) ∙ kept
 
-lines_of-nil : lines_of [] ≡ []
+pub lines_of-nil : lines_of [] ≡ []
 unfolding lines_of
 lines_of-nil = refl
 

@@ -1,11 +1,12 @@
 -- Formats of texts, line by line.
-use Rattle.std.specs.Prelude.{◌≡◌, ◌⊎◌, ℕ, ◌+◌, List, [], ◌∷◌, ◌++◌, length, map, Option, Some, None, Result, Ok, Err}
+use Rattle.std.specs.Prelude.{◌≡◌, ◌⊎◌, ℕ, ◌+◌, List, [], ◌∷◌, ◌++◌, length, map, Option, Some, None, Result, Ok, Err, if◌then◌else◌}
+use Rattle.std.specs.Result.{result_map_both}
 use Rattle.line_text.specs.declared.format.Refusal.{Refusal}
 use Rattle.line_text.specs.declared.format.Refusal.TheVariants as refusal
 use Rattle.line_text.specs.declared.format.LineFault.{LineFault}
 use Rattle.line_text.specs.declared.format.LineFault.TheVariants as fault
 use Rattle.line_text.specs.Lines.{lines_of}
-use Rattle.line_text.specs.Words.{SignificantLine, significant_lines_of}
+use Rattle.line_text.specs.Words.{SignificantLine, significant_lines_of, is_skipped}
 
 -- a format: the rules for its header, for each line behind the header, and for the end of the text, which go on with
 -- what has been read so far or name a fault, and the fault of a text without a header
@@ -15,17 +16,30 @@ pub record Rules (Body Value Kind : Type 0) : Type 0 where
   pub close : Body → Result Value Kind
   pub headless : Kind
 
+-- a rule that refuses so names the fault that it is to give, unless memory ran out
+abbrev pub Refuses : {Y Kind : Type 0} → Refusal Kind → Result Y Kind → Type 0
+Refuses (refusal.Fault kind) given = given ≡ Err kind
+Refuses refusal.Memory given = Unit {0}
+
 -- what a rule returned, seen by view, is what it is to give, unless memory ran out
 abbrev pub Gives : {X Y Kind : Type 0} → (X → Y) → Result X (Refusal Kind) → Result Y Kind → Type 0
 Gives view (Ok x) given = given ≡ Ok (view x)
-Gives view (Err (refusal.Fault kind)) given = given ≡ Err kind
-Gives view (Err refusal.Memory) given = Unit {0}
+Gives view (Err refused) given = Refuses refused given
+
+-- a reader that fails so names the first fault that comes of the text, unless memory ran out
+abbrev pub Fails : {Value Kind : Type 0} → LineFault Kind → Result Value (ℕ × Kind) → Type 0
+Fails (fault.At line kind) outcome = outcome ≡ Err (line, kind)
+Fails fault.Memory outcome = Unit {0}
 
 -- what reading a text returned, seen by view, is this value or this fault, unless memory ran out
 abbrev pub Reads : {X Value Kind : Type 0} → (X → Value) → Result X (LineFault Kind) → Result Value (ℕ × Kind) → Type 0
 Reads view (Ok x) outcome = outcome ≡ Ok (view x)
-Reads view (Err (fault.At line kind)) outcome = outcome ≡ Err (line, kind)
-Reads view (Err fault.Memory) outcome = Unit {0}
+Reads view (Err failed) outcome = Fails failed outcome
+
+-- a rule's refusal, at the line of this number
+abbrev pub placed : {Kind : Type 0} → ℕ → Refusal Kind → LineFault Kind
+placed number (refusal.Fault kind) = fault.At number kind
+placed number refusal.Memory = fault.Memory
 
 -- goes on with what a rule gave, or places its fault in this line
 abbrev pub go_on : {Body Value Kind : Type 0} → ℕ → Result Body Kind → (Body → Result Value (ℕ × Kind)) → Result Value (ℕ × Kind)
@@ -37,6 +51,10 @@ module _ {Body Value Kind : Type 0} (rules : Rules Body Value Kind) where
   abbrev pub step : Option Body → List (List ℕ) → Result Body Kind
   step None words = rules.header words
   step (Some body) words = rules.line body words
+
+  -- the state behind a line with these words, which says nothing where it is skipped
+  abbrev pub state_after : Option Body → List (List ℕ) → Result (Option Body) Kind
+  state_after from words = if is_skipped words then Ok from else result_map_both (λ body. Some body) (λ kind. kind) (step from words)
 
   -- what the format says to the end of the text
   abbrev pub finish : Option Body → Result Value Kind

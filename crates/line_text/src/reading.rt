@@ -1,6 +1,7 @@
 ghost use Rattle.std.specs.Prelude.{◌≡◌, ◌<◌, ◌-◌, ◌^◌, ℕ, map, length, IfOk, IfErr, Ok, Err};
 ghost use Rattle.std.specs.Option.{option_map};
-ghost use Rattle.line_text.specs.Formats.{Gives, Reads, step, finish, reading_of, Stands, FirstFault, IsFirst};
+ghost use Rattle.line_text.specs.Words.{words_of};
+ghost use Rattle.line_text.specs.Formats.{Gives, Reads, state_after, finish, reading_of, placed, Stands, FirstFault, IsFirst};
 
 use crate::format::{LineFault, LineFormat, Refusal};
 use crate::lines::split_line;
@@ -8,16 +9,24 @@ use crate::words::{is_skipped, split_words};
 use std::alloc::Global;
 
 fn read_line<F: LineFormat>(
+    alloc: Global,
     format: &F,
     body: Option<F::Body>,
-    words: &[&[u8]],
-) -> Result<F::Body, Refusal<F::Kind>>
-    ensures { Gives F.state result (step (F.rules format.now) (option_map F.state body) (map (λ word. word.now) words.now)) }
+    line: &[u8],
+) -> Result<Option<F::Body>, Refusal<F::Kind>>
+    ensures { Gives (option_map F.state) result (state_after (F.rules format.now) (option_map F.state body) (words_of line.now)) }
 {
-    match body {
-        None => format.header(words),
-        Some(body) => format.line(body, words),
+    let Ok(words) = split_words(alloc, line) else {
+        return Err(Refusal::Memory);
+    };
+    if is_skipped(&words) {
+        return Ok(body);
     }
+    let next = match body {
+        None => format.header(&words),
+        Some(body) => format.line(body, &words),
+    };
+    next.map(Some)
 }
 
 fn read_end<F: LineFormat>(format: &F, body: Option<F::Body>) -> Result<F::Value, Refusal<F::Kind>>
@@ -26,6 +35,15 @@ fn read_end<F: LineFormat>(format: &F, body: Option<F::Body>) -> Result<F::Value
     match body {
         None => Err(Refusal::Fault(format.headless())),
         Some(body) => format.close(body),
+    }
+}
+
+fn place<K>(refusal: Refusal<K>, line: u32) -> LineFault<K>
+    ensures { result ≡ placed line refusal }
+{
+    match refusal {
+        Refusal::Fault(kind) => LineFault::At { line, kind },
+        Refusal::Memory => LineFault::Memory,
     }
 }
 
@@ -43,24 +61,13 @@ fn read_lines<F: LineFormat>(
     'lines: while let Some((first, others)) = split_line(rest) {
         rest = others;
         line += 1;
-        let Ok(words) = split_words(alloc, first) else {
-            return Err(LineFault::Memory);
-        };
-        if is_skipped(&words) {
-            continue;
-        }
-        match read_line(format, body, &words) {
-            Ok(next) => body = Some(next),
-            Err(Refusal::Fault(kind)) => return Err(LineFault::At { line, kind }),
-            Err(Refusal::Memory) => return Err(LineFault::Memory),
+        match read_line(alloc, format, body, first) {
+            Ok(next) => body = next,
+            Err(refusal) => return Err(place(refusal, line)),
         }
     }
     match read_end(format, body) {
         Ok(value) => Ok(value),
-        Err(Refusal::Fault(kind)) => Err(LineFault::At {
-            line: line + 1,
-            kind,
-        }),
-        Err(Refusal::Memory) => Err(LineFault::Memory),
+        Err(refusal) => Err(place(refusal, line + 1)),
     }
 }
