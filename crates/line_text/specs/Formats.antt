@@ -1,5 +1,5 @@
 -- Formats of texts, line by line.
-use Rattle.std.specs.Prelude.{◌≡◌, ◌⊎◌, ℕ, ◌+◌, List, [], ◌∷◌, ◌++◌, length, map, Option, Some, None, Result, Ok, Err, if◌then◌else◌}
+use Rattle.std.specs.Prelude.{◌≡◌, ◌⊎◌, ℕ, ◌+◌, List, [], ◌∷◌, ◌++◌, length, map, Option, Some, None, Result, Ok, Err, Bool, if◌then◌else◌}
 use Rattle.std.specs.Result.{result_map_both}
 use Rattle.line_text.specs.declared.format.Refusal.{Refusal}
 use Rattle.line_text.specs.declared.format.Refusal.TheVariants as refusal
@@ -15,6 +15,11 @@ pub record Rules (Body Value Kind : Type 0) : Type 0 where
   pub line : Body → List (List ℕ) → Result Body Kind
   pub close : Body → Result Value Kind
   pub headless : Kind
+
+-- a rule's table: the kind of the first test that applies, or the value where none does
+abbrev pub checked : {A Kind : Type 0} → List (Bool × Kind) → A → Result A Kind
+checked [] value = Ok value
+checked (test ∷ tests) value = if test.0 then Err test.1 else checked tests value
 
 -- a rule that refuses so names the fault that it is to give, unless memory ran out
 abbrev pub Refuses : {Y Kind : Type 0} → Refusal Kind → Result Y Kind → Type 0

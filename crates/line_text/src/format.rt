@@ -21,6 +21,7 @@ pub enum LineFault<K> {
 /// A format.
 pub trait LineFormat {
     ghost use Rattle.line_text.specs.Formats.{Rules, Gives};
+    ghost use Rattle.line_text.specs.Words.{texts_of};
 
     /// What has been read.
     type Body: Drop;
@@ -41,11 +42,11 @@ pub trait LineFormat {
 
     /// The header.
     fn header(&self, words: &[&[u8]]) -> Result<Self::Body, Refusal<Self::Kind>>
-        ensures { Gives state result ((rules self.now).header (map (λ word. word.now) words.now)) };
+        ensures { Gives state result ((rules self.now).header (texts_of words.now)) };
 
     /// A line.
     fn line(&self, body: Self::Body, words: &[&[u8]]) -> Result<Self::Body, Refusal<Self::Kind>>
-        ensures { Gives state result ((rules self.now).line (state body) (map (λ word. word.now) words.now)) };
+        ensures { Gives state result ((rules self.now).line (state body) (texts_of words.now)) };
 
     /// The end.
     fn close(&self, body: Self::Body) -> Result<Self::Value, Refusal<Self::Kind>>

@@ -9,5 +9,5 @@ mod words;
 
 pub use format::{LineFault, LineFormat, Refusal};
 pub use lines::split_line;
-pub use numerals::number;
-pub use words::{is_skipped, split_words};
+pub use numerals::{number, numbers};
+pub use words::{has_form, is_skipped, split_words, word};
