@@ -1,0 +1,5 @@
+pub mod Digits
+pub mod Forms
+pub mod LineByLine
+pub mod LineCuts
+pub mod ExactlyOne

@@ -1,0 +1,58 @@
+ghost use Rattle.std.specs.Prelude.{◌≡◌, ◌<◌, ◌-◌, ◌^◌, ℕ, List, map, length, option_map, IfOk, IfErr, Ok, Err};
+
+/// Why a rule refuses.
+#[derive(Clone, Copy, Debug, PartialEq, Eq, Drop)]
+pub enum Refusal<K> {
+    /// The format is broken.
+    Fault(K),
+    /// Memory ran out.
+    Memory,
+}
+
+/// Why a text is not read.
+#[derive(Clone, Copy, Debug, PartialEq, Eq, Drop)]
+pub enum LineFault<K> {
+    /// The first fault.
+    At { line: u32, kind: K },
+    /// Memory ran out.
+    Memory,
+}
+
+/// A format.
+pub trait LineFormat {
+    ghost use Rattle.line_text.specs.Formats.{Rules, Gives};
+    ghost use Rattle.line_text.specs.Words.{texts_of};
+
+    /// What has been read.
+    type Body: Drop;
+    /// What a text stands for.
+    type Value;
+    /// The kinds of faults.
+    type Kind;
+
+    ghost State: { Type 0 };
+
+    ghost Meaning: { Type 0 };
+
+    ghost state: { Self.Body → State };
+
+    ghost meaning: { Self.Value → Meaning };
+
+    ghost rules: { Self → Rules State Meaning Self.Kind };
+
+    /// The header.
+    fn header(&self, words: &[&[u8]]) -> Result<Self::Body, Refusal<Self::Kind>>
+        ensures { Gives state result ((rules self.now).header (texts_of words.now)) };
+
+    /// A line.
+    fn line(&self, body: Self::Body, words: &[&[u8]]) -> Result<Self::Body, Refusal<Self::Kind>>
+        ensures { Gives state result ((rules self.now).line (state body) (texts_of words.now)) };
+
+    /// The end.
+    fn close(&self, body: Self::Body) -> Result<Self::Value, Refusal<Self::Kind>>
+        ensures { Gives meaning result ((rules self.now).close (state body)) };
+
+    /// No header.
+    fn headless(&self) -> Self::Kind
+        ensures { result ≡ (rules self.now).headless };
+}

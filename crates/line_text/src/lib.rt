@@ -1,0 +1,13 @@
+//! Lines.
+#![tactic(auto)]
+
+mod format;
+mod lines;
+mod numerals;
+mod reading;
+mod words;
+
+pub use format::{LineFault, LineFormat, Refusal};
+pub use lines::split_line;
+pub use numerals::{number, numbers};
+pub use words::{has_form, is_skipped, split_words, word};

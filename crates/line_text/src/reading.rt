@@ -1,0 +1,73 @@
+ghost use Rattle.std.specs.Prelude.{◌≡◌, ◌<◌, ◌-◌, ◌^◌, ℕ, map, length, IfOk, IfErr, Ok, Err};
+ghost use Rattle.std.specs.Option.{option_map};
+ghost use Rattle.line_text.specs.Words.{words_of};
+ghost use Rattle.line_text.specs.Formats.{Gives, Reads, state_after, finish, reading_of, placed, Stands, FirstFault, IsFirst};
+
+use crate::format::{LineFault, LineFormat, Refusal};
+use crate::lines::split_line;
+use crate::words::{is_skipped, split_words};
+use std::alloc::Global;
+
+fn read_line<F: LineFormat>(
+    alloc: Global,
+    format: &F,
+    body: Option<F::Body>,
+    line: &[u8],
+) -> Result<Option<F::Body>, Refusal<F::Kind>>
+    ensures { Gives (option_map F.state) result (state_after (F.rules format.now) (option_map F.state body) (words_of line.now)) }
+{
+    let Ok(words) = split_words(alloc, line) else {
+        return Err(Refusal::Memory);
+    };
+    if is_skipped(&words) {
+        return Ok(body);
+    }
+    let next = match body {
+        None => format.header(&words),
+        Some(body) => format.line(body, &words),
+    };
+    next.map(Some)
+}
+
+fn read_end<F: LineFormat>(format: &F, body: Option<F::Body>) -> Result<F::Value, Refusal<F::Kind>>
+    ensures { Gives F.meaning result (finish (F.rules format.now) (option_map F.state body)) }
+{
+    match body {
+        None => Err(Refusal::Fault(format.headless())),
+        Some(body) => format.close(body),
+    }
+}
+
+fn place<K>(refusal: Refusal<K>, line: u32) -> LineFault<K>
+    ensures { result ≡ placed line refusal }
+{
+    match refusal {
+        Refusal::Fault(kind) => LineFault::At { line, kind },
+        Refusal::Memory => LineFault::Memory,
+    }
+}
+
+fn read_lines<F: LineFormat>(
+    alloc: Global,
+    format: &F,
+    text: &[u8],
+) -> Result<F::Value, LineFault<F::Kind>>
+    requires { length text.now < 2 ^ 32 - 1 }
+    ensures { Reads F.meaning result (reading_of (F.rules format.now) text.now) }
+{
+    let mut body = None;
+    let mut line = 0u32;
+    let mut rest = text;
+    'lines: while let Some((first, others)) = split_line(rest) {
+        rest = others;
+        line += 1;
+        match read_line(alloc, format, body, first) {
+            Ok(next) => body = next,
+            Err(refusal) => return Err(place(refusal, line)),
+        }
+    }
+    match read_end(format, body) {
+        Ok(value) => Ok(value),
+        Err(refusal) => Err(place(refusal, line + 1)),
+    }
+}
