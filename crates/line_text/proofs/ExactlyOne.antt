@@ -1,9 +1,11 @@
 -- Reading line by line and the two relations on the whole text say the same. Each step of a good beginning is forced by
 -- the line, so an induction over the significant lines, for every state, leads from one to the other.
-use Rattle.std.proofs.Common.{◌≡◌, ◌⊎◌, inl, inr, ℕ, ◌+◌, List, [], ◌∷◌, ◌++◌, length, map, Option, Some, None, Result, Ok, Err, refl, sym, ◌∙◌, ap}
+use Rattle.std.proofs.Common.{◌≡◌, ◌⊎◌, inl, inr, ℕ, ◌+◌, List, [], ◌∷◌, ◌++◌, length, map, Option, Some, None, Result, Ok, Err, IfOk, IfErr, refl, sym, ◌∙◌, ap, subst}
 use Rattle.line_text.specs.Lines.{lines_of}
 use Rattle.line_text.specs.Words.{SignificantLine, significant_lines_of}
-use Rattle.line_text.specs.Formats.{Rules, step, finish, Begins, Stands, BreaksAtLine, BreaksAtEnd, FirstFault, go_on, reading_from, reading_of}
+use Rattle.line_text.specs.Formats.{Rules, step, finish, Begins, Stands, BreaksAtLine, BreaksAtEnd, FirstFault, go_on, reading_from, reading_of, Reads, IsFirst}
+use Rattle.line_text.specs.declared.format.LineFault.{LineFault}
+use Rattle.line_text.specs.declared.format.LineFault.TheVariants as fault
 
 abbrev words_of_lines : List SignificantLine → List (List (List ℕ))
 words_of_lines lines = map (λ line. line.words) lines
@@ -101,3 +103,39 @@ module _ {Body Value Kind : Type 0} (rules : Rules Body Value Kind) where
       ap (λ (ls : List SignificantLine). reading_from rules None ls (length (lines_of text))) at.cut ∙ reading_from-at_line None at.before at.line at.after _ at.reached kind at.begins at.breaks ∙ ap (λ (n : ℕ). Err (n, kind)) at.numbered
   FirstFault-reading_of text number kind (inr at) =
       reading_from-at_end None _ _ at.reached kind at.begins at.breaks ∙ ap (λ (n : ℕ). Err (n, kind)) (sym at.numbered)
+
+  FirstFault-from_explains : (text : List ℕ) (outcome : Result Value (ℕ × Kind)) → Explains None (significant_lines_of text) (length (lines_of text)) outcome → (number : ℕ) (kind : Kind) → outcome ≡ Err (number, kind) → FirstFault rules text number kind
+  FirstFault-from_explains text (Ok known) why number kind is = cc is
+  FirstFault-from_explains text (Err fault) (inl at) number kind is = inl (record {
+    before = at.before;
+    line = at.line;
+    after = at.after;
+    cut = at.cut;
+    numbered = at.numbered ∙ (cc);
+    reached = at.reached;
+    begins = at.begins;
+    breaks = at.breaks ∙ (cc);
+  })
+  FirstFault-from_explains text (Err fault) (inr at) number kind is =
+      inr (record { numbered = (cc); reached = at.1.0; begins = at.1.1; breaks = at.1.2 ∙ (cc) })
+
+  pub FirstFault-from_reading : (text : List ℕ) (number : ℕ) (kind : Kind) → reading_of rules text ≡ Err (number, kind) → FirstFault rules text number kind
+  FirstFault-from_reading text number kind is = FirstFault-from_explains text _ (explains None _ _) number kind is
+
+  -- so a reader whose answer comes of the text names the value that it stands for, or its first fault
+  pub IfOk-reads : {X : Type 0} (meaning : X → Value) (text : List ℕ) (result : Result X (LineFault Kind)) → Reads meaning result (reading_of rules text) → IfOk result (λ x. Stands rules text (meaning x))
+  IfOk-reads meaning text (Ok x) reads = Stands-from_reading text (meaning x) reads
+  IfOk-reads meaning text (Err failed) reads = tt
+
+  pub IfErr-reads : {X : Type 0} (meaning : X → Value) (text : List ℕ) (result : Result X (LineFault Kind)) → Reads meaning result (reading_of rules text) → IfErr result (IsFirst rules text)
+  IfErr-reads meaning text (Ok x) reads = tt
+  IfErr-reads meaning text (Err (fault.At line kind)) reads = FirstFault-from_reading text line kind reads
+  IfErr-reads meaning text (Err fault.Memory) reads = tt
+
+  pub Reads-stands : {X : Type 0} (meaning : X → Value) (text : List ℕ) (result : Result X (LineFault Kind)) → Reads meaning result (reading_of rules text) → (value : Value) → Stands rules text value → Reads meaning result (Ok value)
+  Reads-stands meaning text result reads value stands =
+      subst (λ (outcome : Result Value (ℕ × Kind)). Reads meaning result outcome) (Stands-reading_of text value stands) reads
+
+  pub Reads-breaks : {X : Type 0} (meaning : X → Value) (text : List ℕ) (result : Result X (LineFault Kind)) → Reads meaning result (reading_of rules text) → (number : ℕ) (kind : Kind) → FirstFault rules text number kind → Reads meaning result (Err (number, kind))
+  Reads-breaks meaning text result reads number kind first =
+      subst (λ (outcome : Result Value (ℕ × Kind)). Reads meaning result outcome) (FirstFault-reading_of text number kind first) reads

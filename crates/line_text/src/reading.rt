@@ -71,3 +71,18 @@ fn read_lines<F: LineFormat>(
         Err(refusal) => Err(place(refusal, line + 1)),
     }
 }
+
+/// Reads a text by a format.
+pub fn read<F: LineFormat>(
+    alloc: Global,
+    format: &F,
+    text: &[u8],
+) -> Result<F::Value, LineFault<F::Kind>>
+    requires { length text.now < 2 ^ 32 - 1 }
+    ensures value { IfOk result (λ value. Stands (F.rules format.now) text.now (F.meaning value)) }
+    ensures fault { IfErr result (IsFirst (F.rules format.now) text.now) }
+    ensures stands { (value : F.Meaning) → Stands (F.rules format.now) text.now value → Reads F.meaning result (Ok value) }
+    ensures breaks { (line : ℕ) (kind : F.Kind) → FirstFault (F.rules format.now) text.now line kind → Reads F.meaning result (Err (line, kind)) }
+{
+    read_lines(alloc, format, text)
+}
