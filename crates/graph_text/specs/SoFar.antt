@@ -1,6 +1,6 @@
 -- How the code's body of a graph text is seen.
 use Rattle.graph_text.specs.GraphLines.{GraphSoFar}
-use Rattle.graph_text.specs.declared.graph_lines.Body.{Body}
+use Rattle.graph_text.specs.declared.body.Body.{Body}
 
 -- the graph as far as it has been read, and how many edges there are to be
 abbrev pub so_far : Body → GraphSoFar

@@ -6,16 +6,9 @@ ghost use Rattle.graph_core.specs.Graph.{Graph};
 ghost use Rattle.graph_text.specs.GraphLines.{GraphSoFar, edge_line, graph_line, graph_end};
 ghost use Rattle.graph_text.specs.SoFar.{so_far};
 
-use graph_core::{FaultKind, MOST_EDGES, MultiGraph};
+use crate::body::Body;
+use graph_core::{FaultKind, MultiGraph};
 use line_text::{Refusal, has_form, number, word};
-
-/// The graph as far as its text has been read, and how many edges it is to have.
-#[derive(Drop)]
-pub struct Body {
-    pub graph: MultiGraph,
-    pub edges: u32,
-    ghost within: { edges ≤ 2048 },
-}
 
 // The body with one edge more.
 fn with_edge(body: Body, words: &[&[u8]]) -> Result<Body, Refusal<FaultKind>>

@@ -1,6 +1,7 @@
 //! The text of a graph.
 #![tactic(auto)]
 
+mod body;
 mod graph_lines;
 mod version_one;
 

@@ -1,16 +1,20 @@
 //! Version 1 of the graph format.
-ghost use Rattle.std.specs.Prelude.{◌≡◌, ◌<◌, ◌-◌, ◌^◌, length};
-ghost use Rattle.line_text.specs.Formats.{Gives, Reads, reading_of};
+ghost use Rattle.std.specs.Prelude.{◌≡◌, ◌<◌, ◌-◌, ◌^◌, ℕ, length, IfOk, IfErr, Ok, Err};
+ghost use Rattle.line_text.specs.Formats.{Gives, Stands, FirstFault};
+ghost use Rattle.text_faults.specs.Readings.{IsFirstFault, ReadsText};
+ghost use Rattle.graph_core.specs.declared.faults.FaultKind.{FaultKind};
 ghost use Rattle.line_text.specs.Words.{texts_of};
 ghost use Rattle.graph_core.specs.Graph.{Graph};
 ghost use Rattle.graph_text.specs.GraphLines.{GraphSoFar};
 ghost use Rattle.graph_text.specs.SoFar.{so_far};
 ghost use Rattle.graph_text.specs.VersionOne.{version_one, header};
 
-use crate::graph_lines::{Body, close_graph, read_edge};
-use graph_core::{FaultKind, MultiGraph};
-use line_text::{LineFault, LineFormat, Refusal, has_form, number, read, word};
+use crate::body::Body;
+use crate::graph_lines::{close_graph, read_edge};
+use graph_core::{FaultKind, MultiGraph, TextFault};
+use line_text::{LineFormat, Refusal, has_form, number, word};
 use std::alloc::Global;
+use text_faults::read_text;
 
 const MOST_VERTICES: u32 = 64;
 
@@ -74,10 +78,14 @@ impl LineFormat for VersionOne {
     }
 }
 
-/// Reads a graph in version 1 of the format.
-pub fn read_graph(alloc: Global, bytes: &[u8]) -> Result<MultiGraph, LineFault<FaultKind>>
+/// Reads a graph in version 1 of the format: the graph that the bytes stand for, or the first line outside the format with the
+/// kind of its fault. Want of memory may come at any time.
+pub fn read_graph(alloc: Global, bytes: &[u8]) -> Result<MultiGraph, TextFault>
     requires { length bytes.now < 2 ^ 32 - 1 }
-    ensures { Reads (λ (g : Graph). g) result (reading_of version_one bytes.now) }
+    ensures value { IfOk result (λ g. Stands version_one bytes.now g) }
+    ensures fault { IfErr result (IsFirstFault version_one bytes.now) }
+    ensures stands { (g : Graph) → Stands version_one bytes.now g → ReadsText (λ (h : Graph). h) result (Ok g) }
+    ensures breaks { (line : ℕ) (kind : FaultKind) → FirstFault version_one bytes.now line kind → ReadsText (λ (h : Graph). h) result (Err (line, kind)) }
 {
-    read(alloc, &VersionOne { alloc }, bytes)
+    read_text(alloc, &VersionOne { alloc }, bytes)
 }
