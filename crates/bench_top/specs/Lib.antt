@@ -1,4 +1,7 @@
 pub mod Commands
+pub mod Asked
+pub mod Codes
 pub mod Loading
 pub mod Facts
 pub mod Outcome
+pub mod Loads
