@@ -5,3 +5,4 @@ pub mod Loading
 pub mod Facts
 pub mod Outcome
 pub mod Loads
+pub mod Calm

@@ -9,6 +9,10 @@ use Rattle.bench_top.specs.declared.stop.Stop.{Stop}
 use Rattle.bench_top.specs.declared.stop.Stop.TheVariants as stop
 use Rattle.bench_top.specs.declared.inputs.Inputs.TheVariants as code
 
+-- what the files of a command hold
+abbrev pub Held : Type 0
+Held = Loaded Inputs
+
 -- the inputs as they are seen
 abbrev pub inputs_of : code.the_data → Inputs
 inputs_of (code.Graph graph) = OneGraph graph

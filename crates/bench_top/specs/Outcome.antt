@@ -1,5 +1,5 @@
 -- Which status and which output the words and the files stand for. A named file that is not held fits no case.
-use Rattle.std.specs.Prelude.{◌≡◌, ℕ, ◌<◌, List, length, take}
+use Rattle.std.specs.Prelude.{◌≡◌, ℕ, ◌<◌, ◌⊎◌, List, length, take}
 use Rattle.std.specs.declared.option.Option.{Option}
 use Rattle.std.specs.declared.option.Option.TheVariants.{Some, None}
 use Rattle.outside.specs.Shelf.{Named}
@@ -11,7 +11,7 @@ use Rattle.bench_top.specs.Commands.{Command, Analyse, command_of}
 use Rattle.bench_top.specs.Loading.{Loaded, All, Bad, Absent, Inputs, OneGraph, loaded}
 use Rattle.bench_top.specs.Facts.{IsAnalysis}
 use Rattle.bench_top.specs.declared.status.Status.{Status}
-use Rattle.bench_top.specs.declared.status.Status.TheVariants.{Done, BadInput}
+use Rattle.bench_top.specs.declared.status.Status.TheVariants.{Done, Negative, BadInput}
 
 -- the structure of a graph: the output is the text of lines that are right
 pub record Analysed (g : Graph) (status : Status) (output : List ℕ) : Type 0 where
@@ -39,17 +39,30 @@ CommandGives files (Some command) status output = LoadedGives command (loaded fi
 abbrev pub Outcome : List (List ℕ) → List Named → Status → List ℕ → Type 0
 Outcome words files status output = CommandGives files (command_of words) status output
 
--- an outcome whose output was appended to what the sink had
-pub record Written (words : List (List ℕ)) (files : List Named) (status : Status) (before now : Option (List ℕ)) : Type 0 where
+-- the output of some outcome of this status was appended to what the sink had
+pub record Appended (gives : Status → List ℕ → Type 0) (status : Status) (before now : Option (List ℕ)) : Type 0 where
   pub output : List ℕ
-  pub outcome : Outcome words files status output
+  pub outcome : gives status output
   pub written : now ≡ appended before output
 
 -- a proper prefix of the output of some outcome was appended to what the sink had
-pub record CutOff (words : List (List ℕ)) (files : List Named) (before now : Option (List ℕ)) : Type 0 where
+pub record CutShort (gives : Status → List ℕ → Type 0) (before now : Option (List ℕ)) : Type 0 where
   pub status : Status
   pub output : List ℕ
   pub count : ℕ
-  pub outcome : Outcome words files status output
+  pub outcome : gives status output
   pub less : count < length output
   pub written : now ≡ appended before (take count output)
+
+-- a run that wrote its report: done, refused, or with a bad file named
+abbrev pub IsReported : Status → Type 0
+IsReported status = (status ≡ Done) ⊎ ((status ≡ Negative) ⊎ (status ≡ BadInput))
+
+-- a run that wrote its report on good files: done or refused
+abbrev pub IsSettled : Status → Type 0
+IsSettled status = (status ≡ Done) ⊎ (status ≡ Negative)
+
+-- a command that may refuse what it is given
+abbrev pub MayRefuse : Option Command → Type 0
+MayRefuse None = ⊥
+MayRefuse (Some (Analyse name)) = ⊥

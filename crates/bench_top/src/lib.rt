@@ -2,10 +2,16 @@
 #![tactic(auto)]
 
 mod command;
+mod emit;
 mod gather;
 mod inputs;
+mod judge;
 mod order;
+mod performing;
+mod report;
+mod running;
 mod status;
 mod stop;
 
+pub use running::run;
 pub use status::Status;
