@@ -12,6 +12,8 @@ mod report;
 mod running;
 mod status;
 mod stop;
+#[cfg(test)]
+mod tests;
 
 pub use running::run;
 pub use status::Status;
