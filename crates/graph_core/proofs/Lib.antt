@@ -12,3 +12,7 @@ pub mod Textbook
 pub mod Uncrossing
 pub mod Walks
 pub mod WeakDuality
+pub mod View
+pub mod Trees
+pub mod Sides
+pub mod Growth

@@ -67,6 +67,15 @@ impl MultiGraph {
         self.edges[e as usize - 1]
     }
 
+    /// Whether some edge joins `a` and `b`. Takes no memory.
+    pub fn adjacent(&self, a: u32, b: u32) -> bool
+        requires first { Within self.now.order a }
+        requires second { Within self.now.order b }
+        ensures { result ≡ adjacent self.now none a b }
+    {
+        self.edges.iter().any(|edge| edge.are(a, b))
+    }
+
     /// Appends an edge and answers its number. `Range` comes exactly where an end is no vertex, `Loop` exactly where both
     /// are vertices and equal, `TooMany` exactly where neither holds and there are `MOST_EDGES` edges; the graph is then
     /// unchanged, and after `Memory` too.

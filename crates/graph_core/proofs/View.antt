@@ -1,0 +1,41 @@
+-- The code's list of edges and the graph that it stands for: edge e of the graph is item e - 1 of the list, so that "some
+-- edge" of the graph is "some item" of the list.
+use Rattle.std.proofs.Common.{◌≡◌, ℕ, ◌+◌, ◌-◌, ◌≤◌, ◌<◌, Bool, ◌==◌, ◌||◌, refl, sym, ap, ap₂, ◌∙◌, arith, suc, zero, List, length, get_or, map, take, take_all, le_refl, subst}
+use Rattle.std.specs.List.{list_any}
+use Rattle.std.proofs.lemmas.List.{get_or-map, length-map}
+use Rattle.std.proofs.lemmas.List.Folds.{list_any_more}
+use Rattle.counting.specs.Counts.{Within}
+use Rattle.counting.specs.Sets.{none}
+use Rattle.counting.specs.Tests.{some}
+use Rattle.counting.proofs.Tests.{}
+use Rattle.graph_core.specs.Graph.{Graph, first_end, second_end, has_ends, size}
+use Rattle.graph_core.specs.View.{pair_of, graph_of, are_ends}
+use Rattle.graph_core.specs.declared.ends.Ends.{Ends}
+
+-- as many edges as items
+pub size-graph_of : (n : ℕ) (es : List Ends) → size (graph_of n es) ≡ length es
+size-graph_of n es = length-map es pair_of
+
+-- the ends of edge i + 1 are those of item i
+pub pair-graph_of : (n : ℕ) (es : List Ends) (i : ℕ) (d : Ends) → i < length es → (first_end (graph_of n es) (suc i) ≡ (get_or es i d).a) × (second_end (graph_of n es) (suc i) ≡ (get_or es i d).b)
+pair-graph_of n es i d h =
+    let s : suc i - 1 ≡ i = omega arith in
+    let p : get_or (map pair_of es) (suc i - 1) (0, 0) ≡ pair_of (get_or es i d) = rw s (get_or-map pair_of es i d (0, 0) h) in
+    (ap (λ (p : ℕ × ℕ). p.0) p, ap (λ (p : ℕ × ℕ). p.1) p)
+
+-- edge i + 1 has the ends u and v where item i has
+pub has_ends-graph_of : (n : ℕ) (es : List Ends) (u v i : ℕ) (d : Ends) → i < length es → has_ends (graph_of n es) u v (suc i) ≡ are_ends u v (get_or es i d)
+has_ends-graph_of n es u v i d h = let p = pair-graph_of n es i d h in rw (p.0, p.1) refl
+
+-- some of the first k edges has the ends u and v where some of the first k items has
+pub some-take : (n : ℕ) (es : List Ends) (u v k : ℕ) → k ≤ length es → some k (has_ends (graph_of n es) u v) ≡ list_any (are_ends u v) (take k es)
+some-take n es u v zero h = refl
+some-take n es u v (suc k) h =
+    let d : Ends = record { a = 0; b = 0 } in
+    let e : suc k ≡ k + 1 = omega arith in
+    ap₂ ◌||◌ (some-take n es u v k (omega arith)) (has_ends-graph_of n es u v k d (omega arith)) ∙ sym (list_any_more (are_ends u v) es k d (omega arith)) ∙ ap (λ j. list_any (are_ends u v) (take j es)) (sym e)
+
+-- some edge has the ends u and v where some item has
+pub some-graph_of : (n : ℕ) (es : List Ends) (u v : ℕ) → some (size (graph_of n es)) (has_ends (graph_of n es) u v) ≡ list_any (are_ends u v) es
+some-graph_of n es u v =
+    ap (λ k. some k (has_ends (graph_of n es) u v)) (size-graph_of n es) ∙ some-take n es u v (length es) (le_refl (length es)) ∙ ap (list_any (are_ends u v)) (take_all (length es) es (le_refl (length es)))
