@@ -110,13 +110,15 @@ module _ (g : Graph) (x : Set) (r : ℕ) (is : IsGraph g) where
       | inr n ↦ let f = old.found u (sym (gains_not u n) ∙ o) in (f.0, gone left left' w loses u f.1)
     ];
     start = (old.start.0, gone left left' w loses r old.start.1);
-    tree = record { stands = λ u wu out. let f = found_of left' u out in elim (cases_eq w u) [
-      | inl e ↦ inr (subst (Hangs g (complement (minus x left')) parent' depth') e new)
-      | inr n ↦ elim (old.tree.stands u wu (of_found left u (was_found u n f))) [
-        | inl k ↦ inl (k.0, (same u wu n).1 ∙ k.1)
-        | inr k ↦ inr (kept u wu n k)
-      ]
-    ] };
+    tree = record {
+      stands = λ u wu out. let f = found_of left' u out in elim (cases_eq w u) [
+        | inl e ↦ inr (subst (Hangs g (complement (minus x left')) parent' depth') e new)
+        | inr n ↦ elim (old.tree.stands u wu (of_found left u (was_found u n f))) [
+          | inl k ↦ inl (k.0, (same u wu n).1 ∙ k.1)
+          | inr k ↦ inr (kept u wu n k)
+        ]
+      ];
+    };
     done = λ u y xu lu o b. elim (cases_eq w u) [
       | inl e ↦ absurd (both_ways (open' u) o (gains u ∙ or_right (open_set u) (w == u) (eq-eqb w u e)))
       | inr n ↦ gone left left' w loses y (old.done u y xu (was_found u n (xu, lu)).1 (sym (gains_not u n) ∙ o) b)
@@ -207,11 +209,10 @@ module _ (g : Graph) (x : Set) (r : ℕ) (is : IsGraph g) where
           let j = joined_walk g (complement x) r v h in
           Walk-stays g.order (adjacent g (complement x)) (λ u. x u && not (left u)) (adjacent_within g (complement x) is)
           (λ a b wa wb fa ab.
-            let f = and_parts (x a) (not (left a)) fa in
-            let out = (adjacent-edge g (complement x) a b ab).1 in
-            and_from (x b) (not (left b)) (not-false (x b) out) (not_from_false (left b) (old.done a b f.0 (not-true (left a) f.1) (none_open a) ab)))
+          let f = and_parts (x a) (not (left a)) fa in
+          let out = (adjacent-edge g (complement x) a b ab).1 in
+          and_from (x b) (not (left b)) (not-false (x b) out) (not_from_false (left b) (old.done a b f.0 (not-true (left a) f.1) (none_open a) ab)))
           r v j.0 (and_from (x r) (not (left r)) old.start.0 (not_from_false (left r) old.start.1)) j.1
-
 
 -- nothing passes
 rising_list-nothing : (n : ℕ) (x : Set) → ((v : ℕ) → Within n v → x v ≡ false) → rising_list n x ≡ []
@@ -325,8 +326,8 @@ module _ (g : Graph) (s : Set) (is : IsGraph g) where
           let w = adjacent_within g s is a b ab in
           rest_same (left a) (left b) (left' a) (left' b) (old.closed a b ab) (smaller a) (smaller b)
           (taken a w.0 ∙ same_tests (joined g s u a) (joined g s u b)
-            (λ h. walk_joined g s is u b wu (joined_on g s u a b (joined_walk g s u a h) (b ∷ [], (ab, refl))))
-            (λ h. walk_joined g s is u a wu (joined_on g s u b a (joined_walk g s u b h) (a ∷ [], (adjacent_back g s a b ab, refl))))
+          (λ h. walk_joined g s is u b wu (joined_on g s u a b (joined_walk g s u a h) (b ∷ [], (ab, refl))))
+          (λ h. walk_joined g s is u a wu (joined_on g s u b a (joined_walk g s u b h) (a ∷ [], (adjacent_back g s a b ab, refl))))
           ∙ sym (taken b w.1))
         where
           rest_same : (p q p' q' : Bool) → p ≡ q → (p' ≡ true → p ≡ true) → (q' ≡ true → q ≡ true) → (p && not p') ≡ (q && not q') → p' ≡ q'
@@ -398,10 +399,12 @@ module _ (g : Graph) (s : Set) (is : IsGraph g) where
   pub stage_end : (left : Set) (parts : List (List ℕ)) (parent depth : ℕ → ℕ) → IsStage g s left parts parent depth → ((v : ℕ) → left v ≡ false) → (parts ≡ components g s) × IsForest g s (is_least g s) parent depth
   stage_end left parts parent depth old none_left = (
     sym (append-nil parts) ∙ ap (λ us. parts ++ map (λ u. rising_list g.order (joined g s u)) us) (sym (rising_list-nothing g.order (meet left (is_least g s)) (λ v w. ap (λ b. b && is_least g s v) (none_left v)))) ∙ old.rest,
-    record { stands = λ v w out. elim (old.tree.stands v w (rw (out, none_left v) refl)) [
-      | inl k ↦ inl k
-      | inr k ↦ inr (hangs_more g (union s left) s parent depth v (λ u h. first_out (s u) (left u) h) k)
-    ] },
+    record {
+      stands = λ v w out. elim (old.tree.stands v w (rw (out, none_left v) refl)) [
+        | inl k ↦ inl k
+        | inr k ↦ inr (hangs_more g (union s left) s parent depth v (λ u h. first_out (s u) (left u) h) k)
+      ];
+    },
   )
     where
       first_out : (a b : Bool) → (a || b) ≡ false → a ≡ false

@@ -97,7 +97,7 @@ module _ (g : Graph) (parent depth : ℕ → ℕ) (is : IsGraph g) (forest : IsF
         (Walk-join (adjacent g none) a top a (way_up parent (depth a) a) (way_down parent (depth b) b ++ a ∷ []) (up_walk g none (is_least g none) parent depth is forest (depth a) a (place a wa))
         (Walk-join (adjacent g none) top b a (way_down parent (depth b) b) (a ∷ []) down (back, refl))),
     ap (λ k. not (is_odd k)) (length-append (way_up parent (depth a) a) (way_down parent (depth b) b) ∙ ap₂ ◌+◌ (length-way_up parent (depth a) a) (length-way_down parent (depth b) b))
-    ∙ ap not (odd-add (depth a) (depth b)) ∙ twice (is_odd (depth a)) (is_odd (depth b)) odd,
+        ∙ ap not (odd-add (depth a) (depth b)) ∙ twice (is_odd (depth a)) (is_odd (depth b)) odd,
   )
     where
       wa : Within g.order a

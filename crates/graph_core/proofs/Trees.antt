@@ -47,11 +47,14 @@ module _ (g : Graph) (s roots : Set) (parent depth : ℕ → ℕ) (is : IsGraph 
   pub hangs_at : (k v : ℕ) → StandsAt g s roots parent depth (suc k) v → (adjacent g s (parent v) v ≡ true) × StandsAt g s roots parent depth k (parent v)
   hangs_at k v at = elim (forest.stands v at.within at.outside) [
     | inl r ↦ let z = r.1 in let d = at.deep in absurd (omega arith)
-    | inr h ↦ let d = h.deeper in let z = at.deep in (h.joins, record {
+    | inr h ↦ let d = h.deeper in let z = at.deep in (
+      h.joins,
+      record {
         within = (adjacent_within g s is (parent v) v h.joins).0;
         outside = (adjacent-edge g s (parent v) v h.joins).0;
         deep = omega arith;
-      })
+      },
+    )
   ]
 
   -- the way up leads to a root
@@ -96,3 +99,10 @@ least_same g s is u v wu wv a b j = elim (cases_order u v) [
         let p = and_parts (not (s u)) (not (some g.order (λ v. joined g s u v && nat_lt v u))) a in
         let q = true_some g.order (λ v. joined g s u v && nat_lt v u) v wv (and_from (joined g s u v) (nat_lt v u) (walk_joined g s is u v wu j) (lt-ltb v u l)) in
         both_ways (not (some g.order (λ v. joined g s u v && nat_lt v u))) (ap not q) p.1
+
+-- the ways of a vertex and of its parent
+pub way_up-step : (parent depth : ℕ → ℕ) (v : ℕ) → depth v ≡ depth (parent v) + 1 → way_up parent (depth v) v ≡ parent v ∷ way_up parent (depth (parent v)) (parent v)
+way_up-step parent depth v h = let e : depth v ≡ suc (depth (parent v)) = omega arith in ap (λ k. way_up parent k v) e
+
+pub way_down-step : (parent depth : ℕ → ℕ) (v : ℕ) → depth v ≡ depth (parent v) + 1 → way_down parent (depth v) v ≡ way_down parent (depth (parent v)) (parent v) ++ v ∷ []
+way_down-step parent depth v h = let e : depth v ≡ suc (depth (parent v)) = omega arith in ap (λ k. way_down parent k v) e

@@ -6,6 +6,7 @@ mod faults;
 mod graph;
 mod laws;
 mod numbers;
+mod tree;
 
 pub use ends::Ends;
 pub use faults::{AddFault, FaultKind, TextFault};
