@@ -1,4 +1,4 @@
-use Rattle.std.proofs.Common.{◌≡◌, ℕ, ◌+◌, ◌≤◌, ◌<◌, Bool, true, false, ◌==◌, ◌||◌, ◌&&◌, List, [], ◌∷◌, length, refl, sym, ap, ap₂, ◌∙◌, arith, ◌⊎◌, inl, inr, eq-eqb, ne_eqb, cond, subst, suc, zero, ◌*◌, ◌++◌, eqb-true, sum_by, filter}
+use Rattle.std.proofs.Common.{◌≡◌, ℕ, ◌+◌, ◌≤◌, ◌<◌, Bool, true, false, ◌==◌, ◌||◌, ◌&&◌, List, [], ◌∷◌, length, refl, sym, ap, ap₂, ◌∙◌, arith, ◌⊎◌, inl, inr, eq-eqb, ne_eqb, cond, subst, true≢false, suc, zero, ◌*◌, ◌++◌, eqb-true, sum_by, filter}
 use Rattle.std.specs.Prelude.{slice_index, slice_index_or, All}
 use Rattle.std.specs.List.Sorted.{IsStrictlyIncreasing}
 use Rattle.std.proofs.lemmas.Bool.{cases_eq, cases_order, both_ways, cases_lt, or_cases}
@@ -173,3 +173,19 @@ rises-from_set n (x ∷ xs) r = rises-from_neighbours 1 n (x ∷ xs) r.rising r.
 -- a set of numbers 1 to n as a list has as many items as its test counts
 pub count_mem_length : (n : ℕ) (xs : List ℕ) → IsRisingIn n xs → count n (mem xs) ≡ length xs
 count_mem_length n xs r = count_mem 1 n xs (omega arith) (rises-from_set n xs r)
+
+-- each member of a set of numbers 1 to n is one of them
+pub mem-within : (n : ℕ) (xs : List ℕ) → IsRisingIn n xs → (v : ℕ) → mem xs v ≡ true → Within n v
+mem-within n xs r v h = within 1 n xs (omega arith) (rises-from_set n xs r) v h
+  where
+    within : (low n : ℕ) (xs : List ℕ) → 1 ≤ low → Rises low n xs → (v : ℕ) → mem xs v ≡ true → Within n v
+    within low n [] l r v h = absurd (true≢false (sym h))
+    within low n (x ∷ xs) l r v h = elim (or_cases (x == v) (mem xs v) h) [
+      | inl e ↦ let q = eqb-true x v e in let a = r.0 in let b = r.1 in (omega arith, omega arith)
+      | inr e ↦ let a = r.0 in within (x + 1) n xs (omega arith) r.2 v e
+    ]
+
+-- a set of numbers 1 to n as a list that is not empty has a member
+pub member-of_set : (n : ℕ) (xs : List ℕ) → IsRisingIn n xs → 0 < length xs → (v : ℕ) × Within n v × (mem xs v ≡ true)
+member-of_set n [] r h = absurd (omega arith)
+member-of_set n (x ∷ xs) r h = let own : mem (x ∷ xs) x ≡ true = rw (eq-eqb x x refl) refl in (x, mem-within n (x ∷ xs) r x own, own)

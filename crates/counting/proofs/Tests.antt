@@ -1,4 +1,4 @@
-use Rattle.std.proofs.Common.{◌≡◌, ℕ, suc, zero, Bool, true, false, refl, sym, ap, ap₂, ◌∙◌, arith, ◌&&◌, ◌||◌, ◌⊎◌, inl, inr, subst, ◌<◌}
+use Rattle.std.proofs.Common.{◌≡◌, ℕ, suc, zero, Bool, true, false, cond, refl, sym, ap, ap₂, ◌∙◌, arith, ◌&&◌, ◌||◌, ◌⊎◌, inl, inr, subst, ◌<◌}
 use Rattle.std.proofs.lemmas.Bool.{cases_eq, cases_Bool, or_cases, and_parts, and_from, both_ways, or_left, or_right, true≢false, false_from_ne_true}
 use Rattle.counting.specs.Counts.{Within}
 use Rattle.counting.specs.Tests.{every, some}
@@ -58,3 +58,29 @@ scan (suc n) P Q h = elim (scan n P Q (λ v w. h v (omega arith))) [
     | inr q ↦ inr (λ v w. elim (cases_eq v (suc n)) [ inl e ↦ subst Q (sym e) q | inr e ↦ f v (omega arith) ])
   ]
 ]
+
+-- the first that passes
+pub least_of : ℕ → (ℕ → Bool) → ℕ
+least_of zero p = 0
+least_of (suc n) p = cond (some n p) (least_of n p) (suc n)
+
+pub least_of_is : (n : ℕ) (p : ℕ → Bool) → some n p ≡ true → Within n (least_of n p) × (p (least_of n p) ≡ true)
+unfolding least_of
+least_of_is zero p h = absurd (true≢false (sym h))
+least_of_is (suc n) p h = go (least_of_is n p) (some n p) refl
+  where
+    last : (a b : Bool) → a ≡ false → (a || b) ≡ true → b ≡ true
+    last a b x y = grind arith
+
+    go : (some n p ≡ true → Within n (least_of n p) × (p (least_of n p) ≡ true)) → (b : Bool) → some n p ≡ b → Within (suc n) (cond b (least_of n p) (suc n)) × (p (cond b (least_of n p) (suc n)) ≡ true)
+    go ih true e = let r = ih e in ((let a = r.0 in omega arith), r.1)
+    go ih false e = (omega arith, last (some n p) (p (suc n)) e h)
+
+pub some_congr : (n : ℕ) (p q : ℕ → Bool) → ((v : ℕ) → Within n v → p v ≡ q v) → some n p ≡ some n q
+some_congr zero p q h = refl
+some_congr (suc n) p q h = ap₂ ◌||◌ (some_congr n p q (λ v w. h v (omega arith))) (h (suc n) (omega arith))
+
+pub least_of_congr : (n : ℕ) (p q : ℕ → Bool) → ((v : ℕ) → Within n v → p v ≡ q v) → least_of n p ≡ least_of n q
+unfolding least_of
+least_of_congr zero p q h = refl
+least_of_congr (suc n) p q h = ap₂ (λ b k. cond b k (suc n)) (some_congr n p q (λ v w. h v (omega arith))) (least_of_congr n p q (λ v w. h v (omega arith)))

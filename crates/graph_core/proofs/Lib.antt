@@ -16,3 +16,9 @@ pub mod View
 pub mod Trees
 pub mod Sides
 pub mod Growth
+pub mod Merging
+pub mod MergeOrder
+pub mod QuotientTight
+pub mod BlockSets
+pub mod MergedShores
+pub mod Adjacency

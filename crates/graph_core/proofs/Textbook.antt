@@ -1,19 +1,11 @@
-use Rattle.std.proofs.Common.{◌≡◌, ℕ, suc, zero, ◌+◌, ◌*◌, ◌≤◌, ◌≢◌, Bool, true, false, ◌==◌, refl, sym, ap, ◌∙◌, arith, ◌⊎◌, inl, inr, eq-eqb, ne_eqb}
+use Rattle.std.proofs.Common.{◌≡◌, ℕ, suc, zero, ◌+◌, ◌*◌, ◌≤◌, ◌≢◌, Bool, true, false, ◌==◌, refl, sym, ap, ◌∙◌, arith, inl, inr, eq-eqb, ne_eqb}
 use Rattle.std.proofs.lemmas.Bool.{cases_eq, true≢false}
 use Rattle.counting.proofs.Totals.{total_none}
 use Rattle.counting.specs.Counts.{Within, bit, total}
 use Rattle.counting.specs.Sets.{Set, none}
 use Rattle.graph_core.proofs.Edits.{degree_sum, ends_of, ends_of_is, two_ends_le_degree}
 use Rattle.graph_core.specs.Graph.{Graph, HasNoLoop, IsGraph, degree, first_end, second_end, size}
-use Rattle.graph_core.specs.Matchings.{IsMatching}
-
--- v is an end of e
-abbrev pub IsEnd : Graph → ℕ → ℕ → Type 0
-IsEnd g e v = (first_end g e ≡ v) ⊎ (second_end g e ≡ v)
-
--- two edges of m that share an end are one
-abbrev pub Apart : Graph → Set → Type 0
-Apart g m = (e f v : ℕ) → Within (size g) e → Within (size g) f → Within g.order v → m e ≡ true → m f ≡ true → IsEnd g e v → IsEnd g f v → e ≡ f
+use Rattle.graph_core.specs.Matchings.{IsEnd, IsMatching, ShareNoEnd}
 
 one_end : (g : Graph) (e v : ℕ) → IsEnd g e v → 1 ≤ ends_of g e v
 one_end g e v h = let a = ends_of_is g e (first_end g e) (second_end g e) (inl (refl, refl)) v in elim h [
@@ -22,14 +14,14 @@ one_end g e v h = let a = ends_of_is g e (first_end g e) (second_end g e) (inl (
 ]
 
 -- in the textbook's words: a matching has no two edges that share an end
-pub matching_apart : (g : Graph) (m : Set) → IsMatching g none m → Apart g m
+pub matching_apart : (g : Graph) (m : Set) → IsMatching g none m → ShareNoEnd g m
 matching_apart g m mm e f v we wf wv me mf ee ff = elim (cases_eq e f) [
   | inl q ↦ q
   | inr q ↦ let a = two_ends_le_degree g m e f v we wf q me mf in let b = one_end g e v ee in let c = one_end g f v ff in let d = mm.once v wv in absurd (omega arith)
 ]
 
 -- and where no edge is a loop, such a set is a matching
-pub apart_matching : (g : Graph) (m : Set) → IsGraph g → HasNoLoop g → Apart g m → IsMatching g none m
+pub apart_matching : (g : Graph) (m : Set) → IsGraph g → HasNoLoop g → ShareNoEnd g m → IsMatching g none m
 apart_matching g m is no_loop h = record { once = once; away = λ v w o. absurd (true≢false (sym o)) }
   where
     ends_one : (e v : ℕ) → Within (size g) e → ends_of g e v ≤ 1

@@ -2,6 +2,7 @@ pub mod Graph
 pub mod Matchings
 pub mod Walks
 pub mod Trees
+pub mod Rows
 pub mod Nodes
 pub mod Growth
 pub mod Sides

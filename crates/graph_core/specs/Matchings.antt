@@ -1,15 +1,23 @@
 -- Matchings of a graph G without a vertex set R, as sets of edges. Any textbook; a matching of G - R is a set of edges of
 -- G of which at most one is at each vertex outside R, and none at a vertex of R.
-use Rattle.std.specs.Prelude.{◌≡◌, ℕ, ◌≤◌, Bool, true, false, ◌==◌, ◌&&◌, not, cond, nat_le}
+use Rattle.std.specs.Prelude.{◌≡◌, ℕ, ◌≤◌, ◌⊎◌, Bool, true, false, ◌==◌, ◌&&◌, not, cond, nat_le}
 use Rattle.counting.specs.Counts.{count, Within}
 use Rattle.counting.specs.Sets.{Set, none}
 use Rattle.counting.specs.Tests.{every, some_set}
-use Rattle.graph_core.specs.Graph.{Graph, size, degree}
+use Rattle.graph_core.specs.Graph.{Graph, size, degree, first_end, second_end}
 
 -- m is a matching of g without r
 pub record IsMatching (g : Graph) (r m : Set) : Type 0 where
   pub once : (v : ℕ) → Within g.order v → degree g m v ≤ 1
   pub away : (v : ℕ) → Within g.order v → r v ≡ true → degree g m v ≡ 0
+
+-- v is an end of edge e
+abbrev pub IsEnd : Graph → ℕ → ℕ → Type 0
+IsEnd g e v = (first_end g e ≡ v) ⊎ (second_end g e ≡ v)
+
+-- two edges of m that share an end are one edge: what a textbook asks of a matching of a graph without loops
+abbrev pub ShareNoEnd : Graph → Set → Type 0
+ShareNoEnd g m = (e f v : ℕ) → Within (size g) e → Within (size g) f → Within g.order v → m e ≡ true → m f ≡ true → IsEnd g e v → IsEnd g f v → e ≡ f
 
 -- m is a perfect matching of g without r: exactly one of its edges is at each vertex outside r
 pub record IsPerfect (g : Graph) (r m : Set) : Type 0 where

@@ -29,9 +29,9 @@ pub record AreBlocks (n : ℕ) (p : List (List ℕ)) : Type 0 where
 
 -- a partition of 1 to n: each block rises, and the names rise
 pub record IsPartition (n : ℕ) (p : List (List ℕ)) : Type 0 where
-  pub blocks : AreBlocks n p
-  pub rising : All IsStrictlyIncreasing p
-  pub by_name : IsStrictlyIncreasing (names_of p)
+  pub partition : AreBlocks n p
+  pub blocks : All IsStrictlyIncreasing p
+  pub order : IsStrictlyIncreasing (names_of p)
 
 -- the partition into single vertices
 abbrev pub singles : ℕ → List (List ℕ)

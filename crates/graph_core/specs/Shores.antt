@@ -1,6 +1,6 @@
 -- Shores at a partition: unions of blocks, tight at the partition (Lovász 1987).
-use Rattle.std.specs.Prelude.{◌≡◌, ℕ, List}
-use Rattle.counting.specs.Counts.{Within}
+use Rattle.std.specs.Prelude.{◌≡◌, ℕ, List, length}
+use Rattle.counting.specs.Counts.{count, Within}
 use Rattle.counting.specs.Sets.{Set}
 use Rattle.counting.specs.Lists.{all_in}
 use Rattle.graph_core.specs.Graph.{Graph}
@@ -14,6 +14,10 @@ IsUnion n p x = (u v : ℕ) → Within n u → Within n v → place p u ≡ plac
 -- the places of the blocks whose vertices are all in x
 abbrev pub blocks_in : List (List ℕ) → Set → Set
 blocks_in p x i = all_in (block p i) x
+
+-- how many blocks of p are in x
+abbrev pub block_count : List (List ℕ) → Set → ℕ
+block_count p x = count (length p) (blocks_in p x)
 
 -- x is a union of blocks and tight at p: the number of blocks is odd inside and outside, and each perfect matching at p has
 -- exactly one edge in the cut of x

@@ -1,13 +1,80 @@
-//! The laws on graphs, each the contract of a function that does nothing.
-ghost use Rattle.std.specs.Prelude.{◌≡◌, ℕ, List, Bool, ◌+◌, ◌*◌, ◌&&◌, ◌≤◌, true, false, length, ◌↔◌, ◌⊎◌, ◌≢◌};
+//! The laws on graphs. Each is the contract of a function that does nothing.
+ghost use Rattle.std.specs.Prelude.{◌≡◌, ℕ, List, Bool, ◌+◌, ◌*◌, ◌≤◌, ◌<◌, ◌&&◌, true, false, length, ◌↔◌};
 ghost use Rattle.counting.specs.Counts.{Within, count, is_odd};
-ghost use Rattle.counting.specs.Sets.{Set, none, union, meet, minus};
-ghost use Rattle.graph_core.specs.Graph.{Graph, size, IsGraph, in_cut, inside, connects};
-ghost use Rattle.graph_core.specs.Matchings.{IsPerfect, IsMatching};
+ghost use Rattle.counting.specs.Sets.{Set, none, union, meet, minus, complement, pair_set};
+ghost use Rattle.counting.specs.Lists.{mem, IsRisingIn};
+ghost use Rattle.graph_core.specs.Graph.{Graph, size, IsGraph, IsMultigraph, in_cut, inside, connects, edges_in_cut};
+ghost use Rattle.graph_core.specs.Matchings.{IsPerfect, IsMatching, ShareNoEnd, HasPerfect, has_perfect, missed_count};
+ghost use Rattle.graph_core.specs.Walks.{Joined, joined};
+ghost use Rattle.graph_core.specs.Components.{odd_component_count};
+ghost use Rattle.graph_core.specs.Covered.{IsCovered};
+ghost use Rattle.graph_core.specs.Partitions.{AreBlocks, IsPartition, contracted, merged, singles};
+ghost use Rattle.graph_core.specs.Shores.{IsUnion, IsTightAt, block_count};
+ghost use Rattle.graph_core.specs.Quotients.{quotient};
+ghost use Rattle.graph_core.specs.Tight.{IsTight};
 
-/// A perfect matching meets each vertex set by parity.
+/// In a multigraph a matching is a set of edges of which no two share an end.
+pub fn matching_law()
+    ensures { (g : Graph) (m : Set) → IsMultigraph g → (IsMatching g none m ↔ ShareNoEnd g m) }
+{}
+
+/// The vertices of a set are as many as the edges of a perfect matching in its cut, and twice those inside.
 #[tactic(auto, using(crate::proofs::Parity::parity))]
 pub fn parity_law()
     ensures { (g : Graph) (m x : Set) → IsGraph g → IsPerfect g none m →
-        count g.order x ≡ count (size g) (λ e. m e && in_cut g x e) + 2 * count (size g) (λ e. m e && inside g x e) }
+        count g.order x ≡ edges_in_cut g m x + 2 * count (size g) (λ e. m e && inside g x e) }
+{}
+
+/// The test `joined` says that a walk leads from one vertex to the other.
+pub fn walk_law()
+    ensures { (g : Graph) (s : Set) (u v : ℕ) → IsGraph g → Within g.order u → ((joined g s u v ≡ true) ↔ Joined g s u v) }
+{}
+
+/// The test `has_perfect` says that there is a perfect matching.
+pub fn perfect_matching_law()
+    ensures { (g : Graph) (r : Set) → ((has_perfect g r ≡ true) ↔ HasPerfect g r) }
+{}
+
+/// Weak duality: a matching of G - R misses at least as many vertices as G - R - S has odd components, less |S|.
+pub fn weak_duality_law()
+    ensures { (g : Graph) (r s m : Set) → IsGraph g → IsMatching g r m →
+        odd_component_count g (union r s) ≤ missed_count g r m + count g.order s }
+{}
+
+/// Uncrossing: where X and Y are tight shores at a partition whose quotient is covered, and an odd number of blocks is in
+/// both, then the intersection and the union are tight, and no edge joins the two differences.
+pub fn uncrossing_law()
+    ensures tight { (g : Graph) (p : List (List ℕ)) (x y : Set) → IsGraph g → AreBlocks g.order p → IsCovered (contracted g p) →
+        IsTightAt g p x → IsTightAt g p y → is_odd (block_count p (meet x y)) ≡ true →
+        IsTightAt g p (meet x y) × IsTightAt g p (union x y) }
+    ensures edges { (g : Graph) (p : List (List ℕ)) (x y : Set) → IsGraph g → AreBlocks g.order p → IsCovered (contracted g p) →
+        IsTightAt g p x → IsTightAt g p y → is_odd (block_count p (meet x y)) ≡ true →
+        (e : ℕ) → Within (size g) e → connects g (minus x y) (minus y x) e ≡ false }
+{}
+
+/// The complement of a tight shore is a tight shore.
+pub fn complement_law()
+    ensures { (g : Graph) (p : List (List ℕ)) (x : Set) → IsGraph g → AreBlocks g.order p → IsTightAt g p x → IsTightAt g p (complement x) }
+{}
+
+/// Merging a nonempty union of blocks gives a partition.
+pub fn merge_law()
+    ensures { (n : ℕ) (p : List (List ℕ)) (x : List ℕ) → IsPartition n p → IsRisingIn n x → 0 < length x → IsUnion n p (mem x) →
+        IsPartition n (merged p x) }
+{}
+
+/// Contraction: where a tight shore X of a partition with a covered quotient is merged, the quotient stays covered, a shore
+/// that is tight then was tight before, and a shore that was tight and is a union of the new blocks is tight then.
+pub fn contraction_law()
+    ensures covered { (g : Graph) (p : List (List ℕ)) (x : List ℕ) → IsGraph g → AreBlocks g.order p → IsRisingIn g.order x → 0 < length x →
+        IsTightAt g p (mem x) → IsCovered (contracted g p) → IsCovered (contracted g (merged p x)) }
+    ensures before { (g : Graph) (p : List (List ℕ)) (x : List ℕ) (y : Set) → IsGraph g → AreBlocks g.order p → IsRisingIn g.order x → 0 < length x →
+        IsTightAt g p (mem x) → IsCovered (contracted g p) → IsTightAt g (merged p x) y → IsTightAt g p y }
+    ensures after { (g : Graph) (p : List (List ℕ)) (x : List ℕ) (y : Set) → IsGraph g → AreBlocks g.order p → IsRisingIn g.order x → 0 < length x →
+        IsTightAt g p (mem x) → IsCovered (contracted g p) → IsTightAt g p y → IsUnion g.order (merged p x) y → IsTightAt g (merged p x) y }
+{}
+
+/// A set of blocks is tight in the quotient exactly where it is in the contracted graph.
+pub fn quotient_law()
+    ensures { (g : Graph) (p : List (List ℕ)) (y : Set) → IsGraph g → AreBlocks g.order p → (IsTight (quotient g p) y ↔ IsTight (contracted g p) y) }
 {}

@@ -6,10 +6,14 @@ mod faults;
 mod graph;
 mod laws;
 mod numbers;
+mod search;
 mod tree;
 
 pub use ends::Ends;
 pub use faults::{AddFault, FaultKind, TextFault};
 pub use graph::{MOST_EDGES, MultiGraph};
-pub use laws::parity_law;
+pub use laws::{
+    complement_law, contraction_law, matching_law, merge_law, parity_law, perfect_matching_law,
+    quotient_law, uncrossing_law, walk_law, weak_duality_law,
+};
 pub use numbers::Numbers;

@@ -1,0 +1,175 @@
+use Rattle.std.proofs.Common.{◌≡◌, ℕ, suc, zero, ◌+◌, ◌*◌, ◌≤◌, ◌≢◌, Bool, true, false, cond, ◌==◌, refl, sym, ap, ap₂, ◌∙◌, arith, ◌&&◌, ◌||◌, not, eq-eqb, ne_eqb, eqb-true, inl, inr}
+use Rattle.std.proofs.lemmas.Bool.{cases_eq, true≢false}
+use mathlib.Core.Path.{fun_ext}
+use Rattle.counting.proofs.Counts.{count_complement, count_congr}
+use Rattle.counting.proofs.Odd.{odd-add, odd-double}
+use Rattle.counting.proofs.Totals.{at_le_total, total_add, total_at, total_congr, total_mul, total_none, total_swap}
+use Rattle.counting.specs.Counts.{Within, bit, count, is_odd, total}
+use Rattle.counting.specs.Sets.{pair_set, Set, complement, minus, none, union}
+use Rattle.graph_core.proofs.Components.{joined_outside, one_leader, some_leader}
+use Rattle.graph_core.proofs.Edits.{missed_edges}
+use Rattle.graph_core.proofs.WeakDuality.{berge_bound}
+use Rattle.graph_core.specs.Components.{is_least, odd_component_count}
+use Rattle.graph_core.specs.Graph.{Graph, IsGraph, degree, size}
+use Rattle.graph_core.specs.Matchings.{IsMatching, IsPerfect, missed_count}
+use Rattle.graph_core.specs.Structure.{IsBarrier}
+use Rattle.graph_core.specs.Walks.{joined}
+use Rattle.match_core.proofs.TutteBerge.{TutteBerge, tutte_berge}
+
+pub odd_total : (n : ℕ) (f h : ℕ → ℕ) → ((v : ℕ) → Within n v → is_odd (f v) ≡ is_odd (h v)) → is_odd (total n f) ≡ is_odd (total n h)
+odd_total zero f h e = refl
+odd_total (suc n) f h e = odd-add (total n f) (f (suc n)) ∙ ap₂ (λ a b. cond a (not b) b) (odd_total n f h (λ v w. e v (omega arith))) (e (suc n) (omega arith)) ∙ sym (odd-add (total n h) (h (suc n)))
+
+-- the vertices outside s, component by component
+pub by_components : (g : Graph) (s : Set) → IsGraph g → count g.order (complement s) ≡ total g.order (λ u. bit (is_least g s u) * count g.order (joined g s u))
+by_components g s is =
+    total_congr g.order _ _ (λ v w. leader v w)
+    ∙ total_congr g.order _ _ (λ v w. sym (total_mul g.order (bit (not (s v))) (λ u. bit (is_least g s u && joined g s u v))))
+    ∙ total_swap g.order g.order (λ v u. bit (not (s v)) * bit (is_least g s u && joined g s u v))
+    ∙ total_congr g.order _ _ (λ u w. total_congr g.order _ _ (λ v x. regroup u v) ∙ total_mul g.order (bit (is_least g s u)) (λ v. bit (joined g s u v)))
+  where
+    leader : (v : ℕ) → Within g.order v → bit (not (s v)) ≡ bit (not (s v)) * count g.order (λ u. is_least g s u && joined g s u v)
+    leader v w = go (s v) refl
+      where
+        go : (b : Bool) → s v ≡ b → bit (not b) ≡ bit (not b) * count g.order (λ u. is_least g s u && joined g s u v)
+        go true e = omega arith
+        go false e = let a = one_leader g s is v w in let b = some_leader g s is v w e in omega arith
+
+    regroup : (u v : ℕ) → bit (not (s v)) * bit (is_least g s u && joined g s u v) ≡ bit (is_least g s u) * bit (joined g s u v)
+    regroup u v = bits (s v) (is_least g s u) (joined g s u v) (λ l j. joined_outside g s is u v (out (s u) _ l) j)
+      where
+        out : (a b : Bool) → (not a && b) ≡ true → a ≡ false
+        out a b h = grind arith
+
+        bits : (a c d : Bool) → (c ≡ true → d ≡ true → a ≡ false) → bit (not a) * bit (c && d) ≡ bit c * bit d
+        bits true true true h = absurd (true≢false (h refl refl))
+        bits false true true h = refl
+        bits a true false h = omega arith
+        bits a false d h = omega arith
+
+-- the number of odd components and of the vertices outside s are odd together
+pub odd_component_count-parity : (g : Graph) (s : Set) → IsGraph g → is_odd (count g.order (complement s)) ≡ is_odd (odd_component_count g s)
+unfolding odd_component_count
+odd_component_count-parity g s is = ap is_odd (by_components g s is) ∙ odd_total g.order _ _ (λ u w. each (is_least g s u) (count g.order (joined g s u)))
+  where
+    each : (b : Bool) (k : ℕ) → is_odd (bit b * k) ≡ is_odd (bit (b && is_odd k))
+    each false k = ap is_odd (zero_times k)
+      where
+        zero_times : (k : ℕ) → 0 * k ≡ 0
+        zero_times k = omega arith
+    each true k = ap is_odd (one_times k) ∙ sym (odd_bit (is_odd k))
+      where
+        one_times : (k : ℕ) → 1 * k ≡ k
+        one_times k = omega arith
+
+        odd_bit : (b : Bool) → is_odd (bit b) ≡ b
+        odd_bit true = refl
+        odd_bit false = refl
+
+pub perfect_matching : (g : Graph) (r m : Set) → IsPerfect g r m → IsMatching g r m
+perfect_matching g r m p = record { once = λ v w. go v w (r v) refl; away = p.away }
+  where
+    go : (v : ℕ) → Within g.order v → (b : Bool) → r v ≡ b → degree g m v ≤ 1
+    go v w true e = omega (arith, p.away v w e)
+    go v w false e = omega (arith, p.once v w e)
+
+pub perfect_misses : (g : Graph) (r m : Set) → IsPerfect g r m → missed_count g r m ≡ 0
+unfolding missed_count
+perfect_misses g r m p = total_none g.order _ (λ v w. go v w (r v) refl)
+  where
+    go : (v : ℕ) → Within g.order v → (b : Bool) → r v ≡ b → bit (not b && (degree g m v == 0)) ≡ 0
+    go v w true e = refl
+    go v w false e = ap (λ d. bit (d == 0)) (p.once v w e)
+
+pub misses_none : (g : Graph) (r m : Set) → IsMatching g r m → missed_count g r m ≡ 0 → IsPerfect g r m
+unfolding missed_count
+misses_none g r m mm z = record { once = λ v w o. one v w o; away = mm.away }
+  where
+    one : (v : ℕ) → Within g.order v → r v ≡ false → degree g m v ≡ 1
+    one v w o = elim (cases_eq (degree g m v) 0) [
+      | inl e ↦ let a = at_le_total g.order (λ v. bit (not (r v) && (degree g m v == 0))) v w in let b : bit (not (r v) && (degree g m v == 0)) ≡ 1 = rw (o, e) refl in absurd (omega arith)
+      | inr e ↦ let a = mm.once v w in omega arith
+    ]
+
+-- with a perfect matching no set leaves more odd components than it has vertices
+pub few_odd_components : (g : Graph) (s m : Set) → IsGraph g → IsPerfect g none m → odd_component_count g s ≤ count g.order s
+few_odd_components g s m is p = let a = berge_bound g none s m is (perfect_matching g none m p) in let b = perfect_misses g none m p in omega arith
+
+-- a set that holds a and b, without them
+pub two_less : (n : ℕ) (s : Set) (a b : ℕ) → Within n a → Within n b → a ≢ b → s a ≡ true → s b ≡ true → count n s ≡ count n (minus s (pair_set a b)) + 2
+two_less n s a b wa wb d sa sb =
+    total_congr n _ _ (λ v w. bits (s v) (a == v) (b == v) (λ t. ap s (sym (eqb-true a v t)) ∙ sa) (λ t. ap s (sym (eqb-true b v t)) ∙ sb) (λ t u. d (eqb-true a v t ∙ sym (eqb-true b v u))))
+    ∙ total_add n (λ v. bit (minus s (pair_set a b) v)) (λ v. bit (a == v) + bit (b == v))
+    ∙ ap (λ k. count n (minus s (pair_set a b)) + k) (total_add n (λ v. bit (a == v)) (λ v. bit (b == v)) ∙ ap₂ ◌+◌ (once a wa) (once b wb))
+  where
+    once : (c : ℕ) → Within n c → total n (λ v. bit (c == v)) ≡ 1
+    once c w = total_at n (λ v. bit (c == v)) c w (λ v u e. ap bit (ne_eqb c v (λ q. e (sym q)))) ∙ ap bit (eq-eqb c c refl)
+
+    bits : (x y z : Bool) → (y ≡ true → x ≡ true) → (z ≡ true → x ≡ true) → (y ≡ true → z ≡ true → ⊥) → bit x ≡ bit (x && not (y || z)) + (bit y + bit z)
+    bits x true true h k l = absurd (l refl refl)
+    bits true true false h k l = refl
+    bits true false true h k l = refl
+    bits true false false h k l = refl
+    bits false true false h k l = absurd (true≢false (sym (h refl)))
+    bits false false true h k l = absurd (true≢false (sym (k refl)))
+    bits false false false h k l = refl
+
+-- two vertices of a barrier are equivalent
+pub barrier_pair : (g : Graph) (s : Set) (a b : ℕ) → IsGraph g → IsBarrier g s → Within g.order a → Within g.order b → a ≢ b → s a ≡ true → s b ≡ true → (m : Set) → IsPerfect g (pair_set a b) m → ⊥
+barrier_pair g s a b is bar wa wb d sa sb m p =
+    let k = berge_bound g (pair_set a b) (minus s (pair_set a b)) m is (perfect_matching g (pair_set a b) m p) in
+    let z = perfect_misses g (pair_set a b) m p in
+    let e = ap (odd_component_count g) (fun_ext (λ v. back (s v) (a == v) (b == v) (λ t. ap s (sym (eqb-true a v t)) ∙ sa) (λ t. ap s (sym (eqb-true b v t)) ∙ sb))) in
+    let t = two_less g.order s a b wa wb d sa sb in absurd (omega (arith, bar, k, z, e, t))
+  where
+    back : (x y z : Bool) → (y ≡ true → x ≡ true) → (z ≡ true → x ≡ true) → ((y || z) || (x && not (y || z))) ≡ x
+    back x y z h k = grind arith
+
+-- two equivalent vertices lie in a barrier
+pub equivalent_barrier : (g : Graph) (m : Set) (a b : ℕ) → IsGraph g → IsPerfect g none m → Within g.order a → Within g.order b → a ≢ b → ((k : Set) → IsPerfect g (pair_set a b) k → ⊥) → (s : Set) × IsBarrier g s × (s a ≡ true) × (s b ≡ true)
+equivalent_barrier g m a b is p wa wb d no_match = (union (pair_set a b) t.s, equal, ap (λ c. (c || (b == a)) || t.s a) (eq-eqb a a refl), at_b (a == b) (b == b) (t.s b) (eq-eqb b b refl))
+  where
+    t : TutteBerge g (pair_set a b)
+    t = tutte_berge g (pair_set a b) is
+
+    at_b : (x y z : Bool) → y ≡ true → ((x || y) || z) ≡ true
+    at_b x y z h = grind arith
+
+    equal : IsBarrier g (union (pair_set a b) t.s)
+    equal = settle (missed_count g (pair_set a b) t.m) (count g.order t.s) (odd_component_count g (union (pair_set a b) t.s)) (count g.order (union (pair_set a b) t.s)) t.equal two_more (few_odd_components g (union (pair_set a b) t.s) m is p)
+        (λ z. no_match t.m (misses_none g (pair_set a b) t.m t.is z)) same_parity
+      where
+        two_more : count g.order (union (pair_set a b) t.s) ≡ count g.order t.s + 2
+        two_more = two_less g.order (union (pair_set a b) t.s) a b wa wb d (ap (λ c. (c || (b == a)) || t.s a) (eq-eqb a a refl)) (at_b (a == b) (b == b) (t.s b) (eq-eqb b b refl))
+            ∙ ap (λ k. k + 2) (count_congr g.order _ _ (λ v w. drop_pair (pair_set a b v) (t.s v) (t.outside v)))
+          where
+            drop_pair : (x y : Bool) → (y ≡ true → x ≡ false) → ((x || y) && not x) ≡ y
+            drop_pair x y h = grind arith
+
+        n_even : is_odd g.order ≡ false
+        n_even = let a = missed_edges g none m is (perfect_matching g none m p) in let b = perfect_misses g none m p in let c = count_complement g.order none in
+            let z : count g.order none ≡ 0 = total_none g.order _ (λ v w. refl) in
+            let e : g.order ≡ count (size g) m + count (size g) m = omega arith in ap is_odd e ∙ odd-double (count (size g) m)
+
+        same_parity : is_odd (odd_component_count g (union (pair_set a b) t.s)) ≡ is_odd (count g.order (union (pair_set a b) t.s))
+        same_parity = sym (odd_component_count-parity g (union (pair_set a b) t.s) is)
+            ∙ same (is_odd (count g.order (union (pair_set a b) t.s))) (is_odd (count g.order (complement (union (pair_set a b) t.s))))
+            (sym (odd-add (count g.order (union (pair_set a b) t.s)) (count g.order (complement (union (pair_set a b) t.s)))) ∙ ap is_odd (count_complement g.order (union (pair_set a b) t.s)) ∙ n_even)
+          where
+            same : (x y : Bool) → cond x (not y) y ≡ false → y ≡ x
+            same x y h = grind arith
+
+        settle : (k c o n : ℕ) → k + c ≡ o → n ≡ c + 2 → o ≤ n → (k ≡ 0 → ⊥) → is_odd o ≡ is_odd n → o ≡ n
+        settle zero c o n e f l h q = absurd (h refl)
+        settle (suc zero) c o n e f l h q = absurd (flip (is_odd c) (ap is_odd (e' c o e) ∙ q ∙ ap is_odd (f' c n f)))
+          where
+            e' : (c o : ℕ) → 1 + c ≡ o → suc c ≡ o
+            e' c o e = omega arith
+
+            f' : (c n : ℕ) → n ≡ c + 2 → n ≡ suc (suc c)
+            f' c n f = omega arith
+
+            flip : (x : Bool) → not x ≡ not (not x) → ⊥
+            flip true h = true≢false (sym h)
+            flip false h = true≢false h
+        settle (suc (suc k)) c o n e f l h q = omega arith

@@ -1,0 +1,6 @@
+//! Barriers.
+#![tactic(auto)]
+
+mod laws;
+
+pub use laws::{barrier_law, class_law, equivalence_law};

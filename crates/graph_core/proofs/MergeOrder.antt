@@ -1,0 +1,106 @@
+use Rattle.std.proofs.Common.{◌≡◌, ℕ, suc, zero, ◌+◌, ◌-◌, ◌≤◌, ◌<◌, Bool, true, false, not, cond, List, [], ◌∷◌, length, refl, sym, ap, ◌∙◌, arith, ◌⊎◌, inl, inr, subst, filter, nat_lt, All}
+use Rattle.std.specs.Prelude.{slice_index, slice_index_or}
+use Rattle.std.specs.List.Sorted.{IsStrictlyIncreasing}
+use Rattle.std.proofs.lemmas.Bool.{both_ways, cases_lt}
+use Rattle.std.proofs.lemmas.Bool.Decides.{nat_tests}
+use Rattle.counting.specs.Counts.{Within}
+use Rattle.counting.specs.Lists.{last_of, mem}
+use Rattle.graph_core.proofs.Merging.{Has, block_of, filter_has, has_block, insert_has, mem_last, merged_partition}
+use Rattle.graph_core.specs.Partitions.{IsPartition, insert_block, merged, names_of}
+use Rattle.graph_core.specs.Shores.{IsUnion}
+
+-- Merging keeps the order of blocks. Idea: each name is below all later ones, and the new name is none of the kept ones.
+
+-- each name is below all later ones
+abbrev Ordered : List (List ℕ) → Type 0
+Ordered [] = Unit {0}
+Ordered (b ∷ p) = ((c : List ℕ) → Has p c → last_of b < last_of c) × Ordered p
+
+-- a rising list of names, without its first
+rising_rest : (b : List ℕ) (p : List (List ℕ)) → IsStrictlyIncreasing (names_of (b ∷ p)) → IsStrictlyIncreasing (names_of p)
+rising_rest b p h k l = let e : suc k + 1 ≡ suc (k + 1) = omega arith in subst (λ j. slice_index (names_of p) k < slice_index (names_of (b ∷ p)) j) e (h (suc k) (omega arith))
+
+rising_ordered : (p : List (List ℕ)) → IsStrictlyIncreasing (names_of p) → Ordered p
+rising_ordered [] h = tt
+rising_ordered (b ∷ p) h = (below p h (rising_ordered p (rising_rest b p h)), rising_ordered p (rising_rest b p h))
+  where
+    below : (p : List (List ℕ)) → IsStrictlyIncreasing (names_of (b ∷ p)) → Ordered p → (c : List ℕ) → Has p c → last_of b < last_of c
+    below [] h o c k = absurd k
+    below (d ∷ p) h o c (inl e) = subst (λ (c : List ℕ). last_of b < last_of c) e (h 0 (omega arith))
+    below (d ∷ p) h o c (inr k) = let a : last_of b < last_of d = h 0 (omega arith) in let q = o.0 c k in omega arith
+
+ordered_rising : (p : List (List ℕ)) → Ordered p → IsStrictlyIncreasing (names_of p)
+ordered_rising [] o k l = absurd (omega arith)
+ordered_rising (b ∷ []) o k l = absurd (omega arith)
+ordered_rising (b ∷ c ∷ p) o zero l = o.0 c (inl refl)
+ordered_rising (b ∷ c ∷ p) o (suc k) l = let e : suc (k + 1) ≡ suc k + 1 = omega arith in subst (λ j. slice_index (names_of (c ∷ p)) k < slice_index (names_of (b ∷ c ∷ p)) j) e (ordered_rising (c ∷ p) o.1 k (omega arith))
+
+ordered_filter : (t : List ℕ → Bool) (p : List (List ℕ)) → Ordered p → Ordered (filter t p)
+ordered_filter t [] o = tt
+ordered_filter t (b ∷ p) o = go (t b) (ordered_filter t p o.1)
+  where
+    go : (s : Bool) → Ordered (filter t p) → Ordered (cond s (b ∷ filter t p) (filter t p))
+    go true ih = (λ c k. o.0 c (filter_has t c p k), ih)
+    go false ih = ih
+
+-- a block with a new name goes in at its place
+ordered_insert : (b : List ℕ) (p : List (List ℕ)) → Ordered p → ((c : List ℕ) → Has p c → last_of b ≡ last_of c → ⊥) → Ordered (insert_block b p)
+ordered_insert b [] o d = (λ c k. absurd k, tt)
+ordered_insert b (c ∷ p) o d = go (nat_lt (last_of b) (last_of c)) refl (ordered_insert b p o.1 (λ e k. d e (inr k)))
+  where
+    lower : nat_lt (last_of b) (last_of c) ≡ true → last_of b < last_of c
+    lower h = grind (arith, nat_tests, h)
+
+    upper : nat_lt (last_of b) (last_of c) ≡ false → last_of c ≤ last_of b
+    upper h = grind (arith, nat_tests, h)
+
+    go : (t : Bool) → nat_lt (last_of b) (last_of c) ≡ t → Ordered (insert_block b p) → Ordered (cond t (b ∷ c ∷ p) (c ∷ insert_block b p))
+    go true t ih = (first, o)
+      where
+        first : (e : List ℕ) → Has (c ∷ p) e → last_of b < last_of e
+        first e (inl s) = subst (λ (k : List ℕ). last_of b < last_of k) s (lower t)
+        first e (inr k) = let q = o.0 e k in let r = lower t in omega arith
+    go false t ih = (complement, ih)
+      where
+        complement : (e : List ℕ) → Has (insert_block b p) e → last_of c < last_of e
+        complement e k = elim (insert_has b e p k) [
+          | inl s ↦ subst (λ (k : List ℕ). last_of c < last_of k) s (let q = upper t in elim (cases_lt (last_of c) (last_of b)) [ inl l ↦ l | inr g ↦ absurd (d c (inl refl) (omega arith)) ])
+          | inr h ↦ o.0 e h
+        ]
+
+-- the names of a merged list rise
+pub merged_order : (p : List (List ℕ)) (x : List ℕ) (v : ℕ) → mem x v ≡ true → IsStrictlyIncreasing (names_of p) → IsStrictlyIncreasing (names_of (merged p x))
+merged_order p x v m h =
+    ordered_rising (merged p x) (ordered_insert x (filter (λ b. not (mem x (last_of b))) p) (ordered_filter (λ b. not (mem x (last_of b))) p (rising_ordered p h)) (λ c k e. new_name c (filter_test c p k) e))
+  where
+    filter_test : (c : List ℕ) (p : List (List ℕ)) → Has (filter (λ b. not (mem x (last_of b))) p) c → mem x (last_of c) ≡ false
+    filter_test c [] k = absurd k
+    filter_test c (d ∷ p) k = go (filter_test c p) (mem x (last_of d)) refl k
+      where
+        go : (Has (filter (λ b. not (mem x (last_of b))) p) c → mem x (last_of c) ≡ false) → (s : Bool) → mem x (last_of d) ≡ s → Has (cond (not s) (d ∷ filter (λ b. not (mem x (last_of b))) p) (filter (λ b. not (mem x (last_of b))) p)) c → mem x (last_of c) ≡ false
+        go ih true e k = ih k
+        go ih false e (inl s) = ap (λ (b : List ℕ). mem x (last_of b)) (sym s) ∙ e
+        go ih false e (inr k) = ih k
+
+    new_name : (c : List ℕ) → mem x (last_of c) ≡ false → last_of x ≡ last_of c → ⊥
+    new_name c n e = both_ways (mem x (last_of c)) n (ap (mem x) (sym e) ∙ mem_last x v m)
+
+all_has : (P : List ℕ → Type 0) (p : List (List ℕ)) (c : List ℕ) → All P p → Has p c → P c
+all_has P p c a h = let r = has_block p c h in let w = r.1 in subst P r.2 (a (r.0 - 1) [] (omega arith))
+
+item_has : (p : List (List ℕ)) (k : ℕ) (d : List ℕ) → k < length p → Has p (slice_index_or p k d)
+item_has [] k d l = absurd (omega arith)
+item_has (b ∷ p) zero d l = inl refl
+item_has (b ∷ p) (suc k) d l = inr (item_has p k d (omega arith))
+
+-- a block list stays one when a rising nonempty union of its blocks is merged
+pub merged_blocks : (n : ℕ) (p : List (List ℕ)) (x : List ℕ) → IsPartition n p → IsUnion n p (mem x) → IsStrictlyIncreasing x → ((v : ℕ) × Within n v × (mem x v ≡ true)) → ((v : ℕ) → mem x v ≡ true → Within n v) → IsPartition n (merged p x)
+merged_blocks n p x is union rising some low = record {
+  partition = merged_partition n p x is.partition union some low;
+  blocks = λ k d l. each (slice_index_or (merged p x) k d) (block_of n p x is.partition union some low (slice_index_or (merged p x) k d) (item_has (merged p x) k d l));
+  order = merged_order p x some.0 some.2 is.order;
+}
+  where
+    each : (c : List ℕ) → (x ≡ c) ⊎ Has p c → IsStrictlyIncreasing c
+    each c (inl e) = subst IsStrictlyIncreasing e rising
+    each c (inr h) = all_has IsStrictlyIncreasing p c is.blocks h
