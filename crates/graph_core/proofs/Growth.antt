@@ -410,3 +410,22 @@ module _ (g : Graph) (s : Set) (is : IsGraph g) where
       first_out : (a b : Bool) → (a || b) ≡ false → a ≡ false
       first_out false b h = refl
       first_out true b h = h
+
+-- a vertex that is left is not open, so that it makes the open set greater by one
+pub count_gained : (n : ℕ) (x x' : Set) (w : ℕ) → Within n w → x w ≡ false → ((v : ℕ) → x' v ≡ (x v || (w == v))) → count n x + 1 ≡ count n x'
+count_gained n x x' w i f gains = count_lost n x' x w i (gains w ∙ or_right (x w) (w == w) (eq-eqb w w refl)) (λ v. elim (cases_eq w v) [
+  | inl e ↦ ap x (sym e) ∙ f ∙ sym (rw (eq-eqb w v e) (no (x' v)))
+  | inr d ↦ sym (rw (ne_eqb w v d) (yes (x' v) ∙ gains v ∙ rw (ne_eqb w v d) (or_no (x v))))
+])
+  where
+    no : (b : Bool) → (b && false) ≡ false
+    no true = refl
+    no false = refl
+
+    yes : (b : Bool) → (b && true) ≡ b
+    yes true = refl
+    yes false = refl
+
+    or_no : (b : Bool) → (b || false) ≡ b
+    or_no true = refl
+    or_no false = refl

@@ -22,3 +22,4 @@ pub mod QuotientTight
 pub mod BlockSets
 pub mod MergedShores
 pub mod Adjacency
+pub mod Rows

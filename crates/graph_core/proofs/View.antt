@@ -7,8 +7,9 @@ use Rattle.std.proofs.lemmas.List.Folds.{list_any_more}
 use Rattle.counting.specs.Counts.{Within}
 use Rattle.counting.specs.Sets.{none}
 use Rattle.counting.specs.Tests.{some}
-use Rattle.counting.proofs.Tests.{}
-use Rattle.graph_core.specs.Graph.{Graph, first_end, second_end, has_ends, size}
+use Rattle.counting.specs.Lists.{item, mem}
+use Rattle.graph_core.specs.Graph.{Graph, IsGraph, first_end, second_end, has_ends, size}
+use Rattle.graph_core.specs.Rows.{AreRows}
 use Rattle.graph_core.specs.View.{pair_of, graph_of, are_ends}
 use Rattle.graph_core.specs.declared.ends.Ends.{Ends}
 
@@ -39,3 +40,17 @@ some-take n es u v (suc k) h =
 pub some-graph_of : (n : ℕ) (es : List Ends) (u v : ℕ) → some (size (graph_of n es)) (has_ends (graph_of n es) u v) ≡ list_any (are_ends u v) es
 some-graph_of n es u v =
     ap (λ k. some k (has_ends (graph_of n es) u v)) (size-graph_of n es) ∙ some-take n es u v (length es) (le_refl (length es)) ∙ ap (list_any (are_ends u v)) (take_all (length es) es (le_refl (length es)))
+
+-- the ends of an item are vertices
+pub ends_within : (n : ℕ) (es : List Ends) (i : ℕ) (d : Ends) → IsGraph (graph_of n es) → i < length es → Within n (get_or es i d).a × Within n (get_or es i d).b
+ends_within n es i d is h =
+    let p = pair-graph_of n es i d h in
+    let w = is (suc i) (let s = size-graph_of n es in omega arith) in
+    (subst (Within n) p.0 w.0, subst (Within n) p.1 w.1)
+
+-- rows that hold the neighbours by the list of edges
+pub rows-graph_of : (es : List Ends) (rows : List (List ℕ)) (n : ℕ) → length rows ≡ n → ((u w : ℕ) → Within (length rows) u → mem (item rows u) w ≡ list_any (are_ends u w) es) → AreRows (graph_of n es) rows
+rows-graph_of es rows n len h = record {
+  one_each = len;
+  adjacent_is = λ v w i. h v w (omega arith) ∙ sym (some-graph_of n es v w);
+}

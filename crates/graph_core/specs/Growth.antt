@@ -1,5 +1,5 @@
 -- How a search goes through a graph G without a vertex set: the states between its steps.
-use Rattle.std.specs.Prelude.{◌≡◌, ℕ, ◌+◌, ◌≤◌, true, false, ◌==◌, List, ◌++◌, map}
+use Rattle.std.specs.Prelude.{◌≡◌, ℕ, ◌+◌, ◌≤◌, true, false, ◌&&◌, not, List, ◌++◌, map}
 use Rattle.counting.specs.Counts.{Within, count}
 use Rattle.counting.specs.Lists.{rising_list}
 use Rattle.counting.specs.Sets.{Set, complement, meet, minus, singleton, union}
@@ -17,6 +17,12 @@ pub record IsGrowth (g : Graph) (x : Set) (r : ℕ) (left open_set : Set) (paren
   pub tree : IsForest g (complement (minus x left)) (singleton r) parent depth
   pub done : (v w : ℕ) → x v ≡ true → left v ≡ false → open_set v ≡ false → adjacent g (complement x) v w ≡ true → left w ≡ false
   pub shallow : (v : ℕ) → Within g.order v → x v ≡ true → left v ≡ false → depth v + count g.order left ≤ g.order
+
+-- the component of r in the set x is found: `left` is x without it, and a tree with the root r stands on it
+pub record IsGrown (g : Graph) (x : Set) (r : ℕ) (left : Set) (parent depth : ℕ → ℕ) : Type 0 where
+  pub smaller : (v : ℕ) → left v ≡ true → x v ≡ true
+  pub taken : (v : ℕ) → Within g.order v → (x v && not (left v)) ≡ joined g (complement x) r v
+  pub tree : IsForest g (complement (minus x left)) (singleton r) parent depth
 
 -- the components found so far are the first ones of g without s; `left` holds the vertices of the others
 pub record IsStage (g : Graph) (s left : Set) (parts : List (List ℕ)) (parent depth : ℕ → ℕ) : Type 0 where
