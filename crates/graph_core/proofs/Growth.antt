@@ -7,13 +7,13 @@ use Rattle.counting.specs.Lists.{IsRisingIn, mem, rising_list}
 use Rattle.counting.specs.Sets.{Set, complement, meet, minus, union, everything, put}
 use Rattle.counting.specs.Tests.{some}
 use Rattle.counting.proofs.Choice.{count_put}
-use Rattle.counting.proofs.Counts.{count_congr, count_le}
+use Rattle.counting.proofs.Counts.{count_congr, count_le, count_more}
 use Rattle.counting.proofs.RisingLists.{rising_list-congr, rising_list-rises, mem-rising_list, same_rising_list}
 use Rattle.counting.proofs.Tests.{true_some, some_true}
 use Rattle.counting.proofs.Totals.{total_none}
 use Rattle.graph_core.specs.Components.{components, is_least}
 use Rattle.graph_core.specs.Graph.{Graph, IsGraph}
-use Rattle.graph_core.specs.Growth.{IsGrowth, IsStage}
+use Rattle.graph_core.specs.Growth.{IsGrowth, IsGrown, IsStage}
 use Rattle.graph_core.specs.Trees.{Hangs, IsForest}
 use Rattle.graph_core.specs.Walks.{Joined, Walk, adjacent, joined}
 use Rattle.graph_core.proofs.Components.{joined_walk, walk_joined}
@@ -429,3 +429,8 @@ count_gained n x x' w i f gains = count_lost n x' x w i (gains w ∙ or_right (x
     or_no : (b : Bool) → (b || false) ≡ b
     or_no true = refl
     or_no false = refl
+
+-- the root goes with its component, so that less is left
+pub grown_less : (g : Graph) (x : Set) (r : ℕ) (left : Set) (parent depth : ℕ → ℕ) → IsGraph g → IsGrown g x r left parent depth → Within g.order r → x r ≡ true → count g.order left + 1 ≤ count g.order x
+grown_less g x r left parent depth is grown w xr = count_more g.order left x grown.smaller r w
+    (not-true (left r) (and_parts (x r) (not (left r)) (grown.taken r w ∙ walk_joined g (complement x) is r r w (joined_self g (complement x) r))).1) xr

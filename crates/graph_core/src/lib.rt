@@ -7,6 +7,7 @@ mod graph;
 mod laws;
 mod numbers;
 mod search;
+mod set_list;
 mod tree;
 
 pub use ends::Ends;
@@ -17,3 +18,4 @@ pub use laws::{
     quotient_law, uncrossing_law, walk_law, weak_duality_law,
 };
 pub use numbers::Numbers;
+pub use set_list::SetList;

@@ -1,15 +1,17 @@
 //! The search through a graph without a vertex set: its components, and for each of them a search tree.
-ghost use Rattle.std.specs.Prelude.{◌≡◌, ◌≢◌, ◌≤◌, ◌<◌, ◌+◌, ◌^◌, ◌==◌, ◌&&◌, ◌||◌, ℕ, true, false, [], All, IfOk, length};
+ghost use Rattle.std.specs.Prelude.{◌≡◌, ◌≢◌, ◌≤◌, ◌<◌, ◌+◌, ◌^◌, ◌==◌, ◌&&◌, ◌||◌, ℕ, true, false, [], All, IfOk, OnOk, length};
 ghost use Rattle.counting.specs.Counts.{Within};
 ghost use Rattle.counting.specs.Lists.{mem, item};
+ghost use Rattle.graph_core.specs.Components.{components, is_least};
 ghost use Rattle.graph_core.specs.Graph.{Graph, IsGraph};
 ghost use Rattle.graph_core.specs.Growth.{IsGrown};
 ghost use Rattle.graph_core.specs.Nodes.{node_at, parent_at, depth_at};
 ghost use Rattle.graph_core.specs.Rows.{AreRows};
+ghost use Rattle.graph_core.specs.Trees.{IsForest};
 ghost use Rattle.graph_core.specs.View.{graph_of};
 
-use crate::Ends;
 use crate::tree::TreeNode;
+use crate::{Ends, SetList};
 use std::alloc::{AllocError as Memory, Global};
 use vset_core::{MOST_VERTICES, VSet};
 
@@ -96,4 +98,30 @@ fn grow(rows: &[VSet], nodes: &mut [TreeNode], within: VSet, root: u32) -> VSet
         }
     }
     left
+}
+
+/// The components of the graph without `removed`, by least vertex. Writes for each vertex outside `removed` its place in the search tree
+/// of its component.
+fn search(
+    alloc: Global,
+    rows: &[VSet],
+    nodes: &mut [TreeNode],
+    removed: VSet,
+) -> Result<SetList, Memory>
+    requires few { length rows.now ≤ MOST_VERTICES }
+    requires graph { (g : Graph) × IsGraph g × AreRows g rows.now }
+    requires nodes { length nodes.old ≡ length rows.now }
+    ensures parts { IfOk result (λ parts. (g : Graph) → IsGraph g → AreRows g rows.now → parts ≡ components g (mem removed)) }
+    ensures trees { OnOk result ((g : Graph) → IsGraph g → AreRows g rows.now → IsForest g (mem removed) (is_least g (mem removed)) (parent_at nodes.new) (depth_at nodes.new)) }
+{
+    let mut parts = SetList::new(alloc);
+    let mut left = VSet::full(rows.len() as u32).minus(removed);
+    'searching: while let Some(least) = left.first() {
+        let rest = grow(rows, nodes, left, least);
+        let part = left.minus(rest);
+        part.rises();
+        parts.push(part)?;
+        left = rest;
+    }
+    Ok(parts)
 }

@@ -13,7 +13,6 @@ use Rattle.graph_core.proofs.Growth.{growth_start, growth_step, growth_drop, gro
 use Rattle.graph_core.proofs.Rows.{none_left, one_left}
 use Rattle.graph_core.proofs.search.grow.Goals as goal
 
-
 or_false : (b : Bool) → (b || false) ≡ b
 or_false true = refl
 or_false false = refl
@@ -81,7 +80,7 @@ growing-smaller c =
     let u = left_within (length c.args.rows.now) c.args.root c.args.within c.growing.left c.growing.open q.0 (parent_at c.growing.nodes) (depth_at c.growing.nodes) c.requires.vertices growth c.in-Some-first.w one.1 in
     let less = count_lost (length c.args.rows.now) (mem c.growing.left) (mem c.without-left-in-Some-first.result) c.in-Some-first.w u one.1 c.without-left-in-Some-first.ensures in
     let more = count_gained (length c.args.rows.now) (mem c.growing.open) (mem c.with-open.result) c.in-Some-first.w u
-        (false_from_ne_true (mem c.growing.open c.in-Some-first.w) (λ o. both_ways (mem c.growing.left c.in-Some-first.w) (growth.found c.in-Some-first.w o).1 one.1)) c.with-open.ensures in
+    (false_from_ne_true (mem c.growing.open c.in-Some-first.w) (λ o. both_ways (mem c.growing.left c.in-Some-first.w) (growth.found c.in-Some-first.w o).1 one.1)) c.with-open.ensures in
     omega arith
 
 pub growing-preserved : goal.growing-preserved
@@ -94,7 +93,7 @@ growing-preserved c = record {
       (parent_at c.growing.nodes) (parent_at c.hang.new.nodes) (depth_at c.growing.nodes) (depth_at c.hang.new.nodes) c.in-Some.v c.in-Some-first.w growth c.in-Some.ensures.some.member one.0 one.1
       c.without-left-in-Some-first.ensures c.with-open.ensures c.hang.ensures.parent c.hang.ensures.depth
       (λ u wu d. let e = c.hang.ensures.others u (let a = c.growing.auto.nodes in let b = are.one_each in let n = c.requires.nodes in omega arith) d in
-        (ap (λ (node : TreeNode). node.parent) e, ap (λ (node : TreeNode). node.depth) e));
+      (ap (λ (node : TreeNode). node.parent) e, ap (λ (node : TreeNode). node.depth) e));
   kept = λ v wv out.
       let q = c.requires.graph in
       let growth = c.growing.invariant.growth q.0 q.1 q.2 in
