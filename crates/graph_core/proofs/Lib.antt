@@ -14,7 +14,7 @@ pub mod Walks
 pub mod WeakDuality
 pub mod View
 pub mod Trees
-pub mod Sides
+pub mod TwoSides
 pub mod Growth
 pub mod Merging
 pub mod MergeOrder

@@ -1,7 +1,7 @@
 -- The code's list of edges and the graph that it stands for: edge e of the graph is item e - 1 of the list, so that "some
 -- edge" of the graph is "some item" of the list.
-use Rattle.std.proofs.Common.{◌≡◌, ℕ, ◌+◌, ◌-◌, ◌≤◌, ◌<◌, Bool, ◌==◌, ◌||◌, refl, sym, ap, ap₂, ◌∙◌, arith, suc, zero, List, length, get_or, map, take, take_all, le_refl, subst}
-use Rattle.std.specs.List.{list_any}
+use Rattle.std.proofs.Common.{◌≡◌, ℕ, ◌+◌, ◌-◌, ◌≤◌, ◌<◌, Bool, ◌==◌, ◌||◌, refl, sym, ap, ap₂, ◌∙◌, arith, suc, zero, List, length, get_or, map, take, take_all, le_refl, subst, eq-eqb, true}
+use Rattle.std.specs.List.{list_any, All, Contains}
 use Rattle.std.proofs.lemmas.List.{get_or-map, length-map}
 use Rattle.std.proofs.lemmas.List.Folds.{list_any_more}
 use Rattle.counting.specs.Counts.{Within}
@@ -11,6 +11,8 @@ use Rattle.counting.specs.Lists.{item, mem}
 use Rattle.graph_core.specs.Graph.{Graph, IsGraph, first_end, second_end, has_ends, size}
 use Rattle.graph_core.specs.Rows.{AreRows}
 use Rattle.graph_core.specs.View.{pair_of, graph_of, are_ends}
+use Rattle.graph_core.specs.Walks.{adjacent}
+use Rattle.graph_core.proofs.Walks.{adjacent_from}
 use Rattle.graph_core.specs.declared.ends.Ends.{Ends}
 
 -- as many edges as items
@@ -54,3 +56,21 @@ rows-graph_of es rows n len h = record {
   one_each = len;
   adjacent_is = λ v w i. h v w (omega arith) ∙ sym (some-graph_of n es v w);
 }
+
+-- an edge of the list has two vertices as its ends, which it makes adjacent
+pub contained_edge : (n : ℕ) (es : List Ends) (edge : Ends) → IsGraph (graph_of n es) → Contains es edge → Within n edge.a × Within n edge.b × (adjacent (graph_of n es) none edge.a edge.b ≡ true)
+contained_edge n es edge is c =
+    let w = ends_within n es c.0 edge is c.1 in
+    let wa = subst (λ (e : Ends). Within n e.a) c.2 w.0 in
+    let wb = subst (λ (e : Ends). Within n e.b) c.2 w.1 in
+    let h : has_ends (graph_of n es) edge.a edge.b (suc c.0) ≡ true = has_ends-graph_of n es edge.a edge.b c.0 edge c.1 ∙ ap (are_ends edge.a edge.b) c.2 ∙ rw (eq-eqb edge.a edge.a refl, eq-eqb edge.b edge.b refl) refl in
+    (wa, wb, adjacent_from (graph_of n es) none edge.a edge.b (suc c.0) refl refl (let s = size-graph_of n es in let l = c.1 in omega arith) h)
+
+-- what holds of the ends of each item holds of the ends of each edge
+pub each-edge : (P : ℕ → ℕ → Type 0) (n : ℕ) (es : List Ends) → All (λ (e : Ends). P e.a e.b) es → (e : ℕ) → Within (size (graph_of n es)) e → P (first_end (graph_of n es) e) (second_end (graph_of n es) e)
+each-edge P n es h zero w = absurd (omega arith)
+each-edge P n es h (suc i) w =
+    let d : Ends = record { a = 0; b = 0 } in
+    let l : i < length es = let s = size-graph_of n es in omega arith in
+    let p = pair-graph_of n es i d l in
+    subst (λ a. P a (second_end (graph_of n es) (suc i))) (sym p.0) (subst (λ b. P (get_or es i d).a b) (sym p.1) (h i d l))

@@ -8,6 +8,7 @@ mod laws;
 mod numbers;
 mod search;
 mod set_list;
+mod sides;
 mod tree;
 
 pub use ends::Ends;
@@ -19,3 +20,4 @@ pub use laws::{
 };
 pub use numbers::Numbers;
 pub use set_list::SetList;
+pub use sides::Sides;

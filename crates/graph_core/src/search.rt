@@ -125,3 +125,33 @@ fn search(
     }
     Ok(parts)
 }
+
+/// What a search finds: the components by least vertex, and for each vertex its place in the search tree of its component.
+#[derive(Drop)]
+pub(crate) struct Forest {
+    pub(crate) parts: SetList,
+    pub(crate) nodes: Vec<TreeNode>,
+}
+
+/// Searches through the graph of `n` vertices with these edges, without the vertices of `removed`.
+pub(crate) fn grow_forest(
+    alloc: Global,
+    n: u32,
+    edges: &[Ends],
+    removed: VSet,
+) -> Result<Forest, Memory>
+    requires few { n ≤ MOST_VERTICES }
+    requires graph { IsGraph (graph_of n edges.now) }
+    ensures parts { IfOk result (λ forest. forest.parts ≡ components (graph_of n edges.now) (mem removed)) }
+    ensures each { IfOk result (λ forest. length forest.nodes.items ≡ n) }
+    ensures trees { IfOk result (λ forest. IsForest (graph_of n edges.now) (mem removed) (is_least (graph_of n edges.now) (mem removed)) (parent_at forest.nodes.items) (depth_at forest.nodes.items)) }
+{
+    let rows = neighbours(alloc, n, edges)?;
+    let unplaced = TreeNode {
+        parent: 0,
+        depth: 0,
+    };
+    let mut nodes = vec![in alloc; unplaced; n as usize]?;
+    let parts = search(alloc, &rows, &mut nodes, removed)?;
+    Ok(Forest { parts, nodes })
+}

@@ -1,20 +1,22 @@
 -- Along a walk the side changes with each step, so the length of a walk tells whether its ends are on the same side: hence no
 -- closed walk is odd, and the left side is fixed by the least vertices. In a search tree the sides are the parities of depths.
-use Rattle.std.proofs.Common.{◌≡◌, ℕ, suc, zero, ◌+◌, ◌≤◌, Bool, true, false, cond, refl, sym, ap, ap₂, ◌∙◌, arith, ◌&&◌, ◌||◌, not, inl, inr, List, [], ◌∷◌, ◌++◌, subst, length, append_assoc}
+use Rattle.std.proofs.Common.{◌≡◌, ℕ, suc, zero, ◌+◌, ◌≤◌, ◌<◌, Bool, true, false, cond, refl, sym, ap, ap₂, ◌∙◌, arith, ◌&&◌, ◌||◌, not, inl, inr, List, [], ◌∷◌, ◌++◌, subst, length, append_assoc}
 use Rattle.std.proofs.lemmas.Bool.{and_parts, both_ways, cases_Bool}
 use Rattle.std.proofs.lemmas.List.{length-append}
 use Rattle.counting.specs.Counts.{Within, count, is_odd}
-use Rattle.counting.specs.Lists.{mem, IsRisingIn}
+use Rattle.counting.specs.Lists.{mem, rising_list}
 use Rattle.counting.specs.Sets.{Set, none}
 use Rattle.counting.proofs.Counts.{bit_true}
 use Rattle.counting.proofs.Odd.{odd-add}
-use Rattle.counting.proofs.RisingLists.{same_rising_list}
+use Rattle.counting.proofs.RisingLists.{mem-rising_list, rising_list-rises, same_rising_list}
 use Rattle.counting.proofs.Totals.{some_term}
 use Rattle.graph_core.specs.Components.{is_least}
 use Rattle.graph_core.specs.Graph.{Graph, IsBipartite, IsGraph, first_end, in_cut, second_end, size}
 use Rattle.graph_core.specs.Sides.{IsLeftSide}
-use Rattle.graph_core.specs.Trees.{IsForest, above, way_down, way_up}
+use Rattle.graph_core.specs.Nodes.{IsRooted, depth_at, parent_at}
+use Rattle.graph_core.specs.Trees.{Hangs, IsForest, above, way_down, way_up}
 use Rattle.graph_core.specs.Walks.{IsOddClosedWalk, Joined, Walk, adjacent, joined}
+use Rattle.graph_core.specs.declared.tree.TreeNode.{TreeNode}
 use Rattle.graph_core.proofs.Components.{joined_walk, some_leader}
 use Rattle.graph_core.proofs.Trees.{StandsAt, above_joined, above_root, down_walk, least_same, length-way_down, length-way_up, up_walk}
 use Rattle.graph_core.proofs.Walks.{Walk-join, adjacent-edge, adjacent_back, adjacent_within, has_ends-cases, joined_back, joined_on}
@@ -132,3 +134,32 @@ module _ (g : Graph) (parent depth : ℕ → ℕ) (is : IsGraph g) (forest : IsF
       twice true false e = absurd (both_ways false refl (sym e))
       twice false true e = absurd (both_ways false refl e)
       twice false false e = refl
+
+  -- where the ends of each edge are at depths of different parity, the even depths are the left side
+  pub even_side : ((e : ℕ) → Within (size g) e → is_odd (depth (first_end g e)) ≡ not (is_odd (depth (second_end g e)))) → IsLeftSide g (rising_list g.order (λ v. not (is_odd (depth v))))
+  even_side differ = record {
+    rising = rising_list-rises g.order (λ v. not (is_odd (depth v)));
+    cut = λ e w. let i = is e w in
+        ap₂ (λ s t. (s && not t) || (not s && t)) (mem-rising_list g.order (λ v. not (is_odd (depth v))) (first_end g e) i.0) (mem-rising_list g.order (λ v. not (is_odd (depth v))) (second_end g e) i.1)
+        ∙ one_end (is_odd (depth (first_end g e))) (is_odd (depth (second_end g e))) (differ e w);
+    least = λ v w l. mem-rising_list g.order (λ v. not (is_odd (depth v))) v w ∙ ap (λ k. not (is_odd k)) (least_depth v w l);
+  }
+    where
+      one_end : (s t : Bool) → s ≡ not t → ((not s && not (not t)) || (not (not s) && not t)) ≡ true
+      one_end true true e = absurd (both_ways false refl (sym e))
+      one_end true false e = refl
+      one_end false true e = refl
+      one_end false false e = absurd (both_ways false refl e)
+
+-- the tree as the code keeps it has a parent for each vertex below a root
+pub forest_rooted : (g : Graph) (roots : Set) (nodes : List TreeNode) → IsGraph g → length nodes ≡ g.order → IsForest g none roots (parent_at nodes) (depth_at nodes) → IsRooted nodes
+forest_rooted g roots nodes is len forest = record {
+  within = λ v w d. let h = hangs v w d in let i = (adjacent_within g none is (parent_at nodes v) v h.joins).0 in omega arith;
+  deeper = λ v w d. (hangs v w d).deeper;
+}
+  where
+    hangs : (v : ℕ) → Within (length nodes) v → 0 < depth_at nodes v → Hangs g none (parent_at nodes) (depth_at nodes) v
+    hangs v w d = elim (forest.stands v (omega arith) refl) [
+      | inl r ↦ let z = r.1 in absurd (omega arith)
+      | inr h ↦ h
+    ]
