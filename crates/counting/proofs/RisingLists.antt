@@ -213,3 +213,13 @@ set-wider n m xs l r = set-from_rises m xs (rises-wider 1 n m xs l (rises-from_s
 -- the list of all numbers 1 to n has just those
 pub mem-all : (n v : ℕ) → (mem (rising_list n everything) v ≡ true) ↔ Within n v
 mem-all n v = (mem-within n (rising_list n everything) (rising_list-rises n everything) v, λ w. mem-rising_list n everything v w)
+
+-- each item of a list is a number of it
+pub mem-item : (xs : List ℕ) (k d : ℕ) → k < length xs → mem xs (slice_index_or xs k d) ≡ true
+mem-item [] k d h = absurd (omega arith)
+mem-item (x ∷ xs) zero d h = or_left (x == x) (mem xs x) (eq-eqb x x refl)
+mem-item (x ∷ xs) (suc k) d h = or_right (x == slice_index_or xs k d) (mem xs (slice_index_or xs k d)) (mem-item xs k d (omega arith))
+
+-- a narrower bound that holds of each number
+pub set-narrower : (m n : ℕ) (xs : List ℕ) → IsRisingIn m xs → ((v : ℕ) → mem xs v ≡ true → Within n v) → IsRisingIn n xs
+set-narrower m n xs r h = record { rising = r.rising; within = λ k d l. h (slice_index_or xs k d) (mem-item xs k d l) }

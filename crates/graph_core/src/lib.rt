@@ -6,6 +6,10 @@ mod faults;
 mod graph;
 mod laws;
 mod numbers;
+mod search;
+mod set_list;
+mod sides;
+mod tree;
 
 pub use ends::Ends;
 pub use faults::{AddFault, FaultKind, TextFault};
@@ -15,3 +19,5 @@ pub use laws::{
     quotient_law, uncrossing_law, walk_law, weak_duality_law,
 };
 pub use numbers::Numbers;
+pub use set_list::SetList;
+pub use sides::Sides;
