@@ -1,6 +1,6 @@
 //! What a command makes of its inputs.
-ghost use Rattle.std.specs.Prelude.{◌≡◌, IfOk, Some};
-ghost use Rattle.graph_core.specs.Graph.{Graph};
+ghost use Rattle.std.specs.Prelude.{◌≡◌, ◌↔◌, IfOk, IsTrue, Some};
+ghost use Rattle.graph_core.specs.Graph.{IsBipartite};
 ghost use Rattle.bench_top.specs.Asked.{asked};
 ghost use Rattle.bench_top.specs.Loads.{inputs_of};
 ghost use Rattle.bench_top.specs.Facts.{IsAnalysis};
@@ -10,15 +10,32 @@ use crate::inputs::Inputs;
 use crate::order::Command;
 use crate::report::Report;
 use crate::status::Status;
-use graph_core::MultiGraph;
+use graph_core::{MultiGraph, Sides};
 use report_text::{AnalysisLines, analysis};
 use std::alloc::{AllocError as Memory, Global};
+
+// Whether some vertex set has all edges in its cut.
+fn is_bipartite(alloc: Global, g: &MultiGraph) -> Result<bool, Memory>
+    ensures { IfOk result (λ holds. IsTrue holds ↔ IsBipartite g.now) }
+{
+    match g.two_sides(alloc)? {
+        Sides::Even { .. } => Ok(true),
+        Sides::Odd { .. } => Ok(false),
+    }
+}
 
 // What `analyse` tells of the graph.
 fn analysis_lines(alloc: Global, g: &MultiGraph) -> Result<AnalysisLines, Memory>
     ensures { IfOk result (λ lines. IsAnalysis g.now lines) }
 {
-    Err(Memory)
+    let components = g.components(alloc)?;
+    let bipartite = is_bipartite(alloc, g)?;
+    Ok(AnalysisLines {
+        order: g.order(),
+        size: g.size(),
+        components,
+        bipartite,
+    })
 }
 
 /// The status and the whole report of a command, made in memory. Neither a shelf nor a sink is asked.

@@ -34,9 +34,15 @@ fn reports(rt: HostRuntime) -> Result<(), Fail> {
     let table = [
         (K4, K4_REPORT),
         ("p mcg 0 0\n", "graph 0 0\ncomponents 0\nbipartite yes\n"),
-        ("p mcg 4 2\ne 1 2\ne 3 4\n", "graph 4 2\ncomponents 2\nbipartite yes\n"),
+        (
+            "p mcg 4 2\ne 1 2\ne 3 4\n",
+            "graph 4 2\ncomponents 2\nbipartite yes\n",
+        ),
         // parallel edges are kept
-        ("p mcg 2 2\ne 1 2\ne 1 2\n", "graph 2 2\ncomponents 1\nbipartite yes\n"),
+        (
+            "p mcg 2 2\ne 1 2\ne 1 2\n",
+            "graph 2 2\ncomponents 1\nbipartite yes\n",
+        ),
         // comments, blanks, leading zeros, line ends of carriage return and line feed, no last line feed
         (
             "c from the lab\r\n\r\np  mcg 04 6\r\ne 1 2\r\ne 1  3\r\ne 1 4\r\n e 2\t3\r\ne 2 4\r\ne 3 4",
@@ -115,7 +121,10 @@ fn words_that_match_no_command(rt: HostRuntime) -> Result<(), Fail> {
         shelf.put("g", K4.as_bytes())?;
         let mut sink = MemSink::new(rt.alloc(), 100, 100)?;
         let words = words_of(rt.alloc(), words)?;
-        assert_eq!(rt; run(rt.alloc(), &words, &mut shelf, &mut sink), Status::Usage);
+        assert_eq!(rt;
+            run(rt.alloc(), &words, &mut shelf, &mut sink),
+            Status::Usage
+        );
         assert_eq!(rt; sink.bytes(), b"".as_slice());
     }
     Ok(())
@@ -127,26 +136,41 @@ fn faults_of_the_outside(rt: HostRuntime) -> Result<(), Fail> {
     let mut sink = MemSink::new(rt.alloc(), 100, 16)?;
 
     let mut empty = MemShelf::new(rt.alloc());
-    assert_eq!(rt; run(rt.alloc(), &words, &mut empty, &mut sink), Status::ReadFault);
+    assert_eq!(rt;
+        run(rt.alloc(), &words, &mut empty, &mut sink),
+        Status::ReadFault
+    );
 
     let mut failing = MemShelf::new(rt.alloc());
     failing.put("g", K4.as_bytes())?;
     failing.fail_read(1)?;
-    assert_eq!(rt; run(rt.alloc(), &words, &mut failing, &mut sink), Status::ReadFault);
+    assert_eq!(rt;
+        run(rt.alloc(), &words, &mut failing, &mut sink),
+        Status::ReadFault
+    );
     assert_eq!(rt; sink.bytes(), b"".as_slice());
 
     let mut shelf = MemShelf::new(rt.alloc());
     shelf.put("g", K4.as_bytes())?;
     sink.fail_write(2)?;
-    assert_eq!(rt; run(rt.alloc(), &words, &mut shelf, &mut sink), Status::WriteFault);
+    assert_eq!(rt;
+        run(rt.alloc(), &words, &mut shelf, &mut sink),
+        Status::WriteFault
+    );
     assert_eq!(rt; sink.bytes(), b"graph 4 6\ncompon".as_slice());
 
     let mut small = MemSink::new(rt.alloc(), 20, 16)?;
-    assert_eq!(rt; run(rt.alloc(), &words, &mut shelf, &mut small), Status::WriteFault);
+    assert_eq!(rt;
+        run(rt.alloc(), &words, &mut shelf, &mut small),
+        Status::WriteFault
+    );
     assert_eq!(rt; small.bytes().len(), 20);
 
     let mut counting = CountSink::new();
-    assert_eq!(rt; run(rt.alloc(), &words, &mut shelf, &mut counting), Status::Done);
+    assert_eq!(rt;
+        run(rt.alloc(), &words, &mut shelf, &mut counting),
+        Status::Done
+    );
     assert_eq!(rt; counting.count(), K4_REPORT.len() as u64);
     Ok(())
 }
