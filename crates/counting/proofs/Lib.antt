@@ -4,5 +4,6 @@ pub mod Lists
 pub mod Odd
 pub mod Pairs
 pub mod RisingLists
+pub mod SetSizes
 pub mod Tests
 pub mod Totals

@@ -1,9 +1,9 @@
 -- Rising lists of numbers 1 to n and their tests: the list is fixed by its test, the test by the list, and the length is the
 -- count. A list is read from its first item on, and `rising_list` is made from its last item on; `Rises` joins the two.
-use Rattle.std.proofs.Common.{◌≡◌, ℕ, ◌+◌, ◌≤◌, ◌<◌, Bool, true, false, ◌==◌, List, [], ◌∷◌, length, refl, sym, ap, ap₂, ◌∙◌, arith, inl, inr, eq-eqb, cond, subst, suc, zero, ◌++◌, eqb-true}
+use Rattle.std.proofs.Common.{◌≡◌, ℕ, ◌+◌, ◌≤◌, ◌<◌, Bool, true, false, ◌==◌, ◌||◌, ◌&&◌, not, List, [], ◌∷◌, length, refl, sym, ap, ap₂, ◌∙◌, arith, inl, inr, eq-eqb, ne_eqb, cond, subst, suc, zero, ◌++◌, eqb-true}
 use Rattle.std.specs.Prelude.{slice_index, slice_index_or, All}
 use Rattle.std.specs.List.Sorted.{IsStrictlyIncreasing}
-use Rattle.std.proofs.lemmas.Bool.{both_ways, cases_lt, or_cases, false_from_ne_true, and_parts, and_from, or_left, or_right}
+use Rattle.std.proofs.lemmas.Bool.{both_ways, cases_eq, cases_lt, cases_order, or_cases, false_from_ne_true, and_parts, and_from, or_left, or_right}
 use Rattle.counting.proofs.Counts.{count_congr}
 use Rattle.counting.proofs.Lists.{Rises, count_mem_length, mem_low, rises-from_set, rising_holds, rising_only, same_list}
 use Rattle.counting.specs.Counts.{Within, count}
@@ -157,3 +157,42 @@ true_all_in (y ∷ xs) x h = and_from (x y) (all_in xs x) (h y (or_left (y == y)
 -- a number of the list that is not in x shows that not all are
 pub all_in_false : (xs : List ℕ) (x : Set) (v : ℕ) → mem xs v ≡ true → x v ≡ false → all_in xs x ≡ false
 all_in_false xs x v m f = false_from_ne_true (all_in xs x) (λ h. both_ways (x v) f (all_in_true xs x h v m))
+
+-- the empty set, and the set of one number
+pub set-none : (n : ℕ) → IsRisingIn n []
+set-none n = set-from_rises n [] tt
+
+pub set-one : (n v : ℕ) → Within n v → IsRisingIn n (v ∷ [])
+set-one n v w = set-from_rises n (v ∷ []) (w.0, w.1, tt)
+
+-- a list with no number is empty
+pub no_members : (xs : List ℕ) → ((v : ℕ) → mem xs v ≡ false) → xs ≡ []
+no_members [] h = refl
+no_members (x ∷ xs) h = absurd (both_ways (mem (x ∷ xs) x) (h x) (or_left (x == x) (mem xs x) (eq-eqb x x refl)))
+
+-- a set is its least number before the others
+pub split_least : (n : ℕ) (xs ys : List ℕ) (v : ℕ) → IsRisingIn n xs → IsRisingIn n ys → mem xs v ≡ true → ((w : ℕ) → w < v → mem xs w ≡ false) → ((w : ℕ) → mem ys w ≡ (mem xs w && not (v == w))) → xs ≡ v ∷ ys
+split_least n xs ys v r s m least others = same_rising_list n xs (v ∷ ys) r whole (λ w _. same (mem xs w) (mem ys w) w refl (others w))
+  where
+    above : (zs : List ℕ) → Rises 1 n zs → ((w : ℕ) → mem zs w ≡ true → v < w) → Rises (v + 1) n zs
+    above [] q h = tt
+    above (z ∷ zs) q h = let a = h z (or_left (z == z) (mem zs z) (eq-eqb z z refl)) in (omega arith, q.1, q.2)
+
+    rest_above : (w : ℕ) → mem ys w ≡ true → v < w
+    rest_above w t = let p = and_parts (mem xs w) (not (v == w)) (sym (others w) ∙ t) in elim (cases_order v w) [
+      | inl e ↦ absurd (both_ways (not (v == w)) (rw (eq-eqb v w e) refl) p.1)
+      | inr d ↦ elim d [ inl l ↦ l | inr l ↦ absurd (both_ways (mem xs w) (least w l) p.0) ]
+    ]
+
+    whole : IsRisingIn n (v ∷ ys)
+    whole = let w = mem-within n xs r v m in set-from_rises n (v ∷ ys) (w.0, w.1, above ys (rises-from_set n ys s) rest_above)
+
+    same : (a b : Bool) (w : ℕ) → mem xs w ≡ a → b ≡ (mem xs w && not (v == w)) → a ≡ ((v == w) || b)
+    same a b w e f = elim (cases_eq v w) [
+      | inl q ↦ rw (eq-eqb v w q) (sym e ∙ ap (mem xs) (sym q) ∙ m)
+      | inr d ↦ let g = ne_eqb v w d in rw g (sym (f ∙ rw (g, e) (keeps a)))
+    ]
+      where
+        keeps : (c : Bool) → (c && true) ≡ c
+        keeps true = refl
+        keeps false = refl
