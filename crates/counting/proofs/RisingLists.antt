@@ -1,6 +1,6 @@
 -- Rising lists of numbers 1 to n and their tests: the list is fixed by its test, the test by the list, and the length is the
 -- count. A list is read from its first item on, and `rising_list` is made from its last item on; `Rises` joins the two.
-use Rattle.std.proofs.Common.{◌≡◌, ℕ, ◌+◌, ◌≤◌, ◌<◌, Bool, true, false, ◌==◌, ◌||◌, ◌&&◌, not, List, [], ◌∷◌, length, refl, sym, ap, ap₂, ◌∙◌, arith, inl, inr, eq-eqb, ne_eqb, cond, subst, suc, zero, ◌++◌, eqb-true}
+use Rattle.std.proofs.Common.{◌≡◌, ℕ, ◌+◌, ◌≤◌, ◌<◌, Bool, true, false, ◌==◌, ◌||◌, ◌&&◌, not, List, [], ◌∷◌, length, ◌↔◌, refl, sym, ap, ap₂, ◌∙◌, arith, inl, inr, eq-eqb, ne_eqb, cond, subst, suc, zero, ◌++◌, eqb-true}
 use Rattle.std.specs.Prelude.{slice_index, slice_index_or, All}
 use Rattle.std.specs.List.Sorted.{IsStrictlyIncreasing}
 use Rattle.std.proofs.lemmas.Bool.{both_ways, cases_eq, cases_lt, cases_order, or_cases, false_from_ne_true, and_parts, and_from, or_left, or_right}
@@ -8,7 +8,7 @@ use Rattle.counting.proofs.Counts.{count_congr}
 use Rattle.counting.proofs.Lists.{Rises, count_mem_length, mem_low, rises-from_set, rising_holds, rising_only, same_list}
 use Rattle.counting.specs.Counts.{Within, count}
 use Rattle.counting.specs.Lists.{IsRisingIn, all_in, last_of, mem, rising_list}
-use Rattle.counting.specs.Sets.{Set}
+use Rattle.counting.specs.Sets.{Set, everything}
 
 -- a number of the list is at least its lowest bound
 rises_first : (low n : ℕ) (xs : List ℕ) → Rises low n xs → 0 < length xs → low ≤ slice_index_or xs 0 0
@@ -196,3 +196,20 @@ split_least n xs ys v r s m least others = same_rising_list n xs (v ∷ ys) r wh
         keeps : (c : Bool) → (c && true) ≡ c
         keeps true = refl
         keeps false = refl
+
+-- where not all are in x, one is outside
+pub false_all_in : (xs : List ℕ) (x : Set) → all_in xs x ≡ false → (v : ℕ) × (mem xs v ≡ true) × (x v ≡ false)
+false_all_in [] x h = absurd (both_ways true h refl)
+false_all_in (y ∷ xs) x h = step (λ f. false_all_in xs x f) (x y) refl h
+  where
+    step : (all_in xs x ≡ false → (v : ℕ) × (mem xs v ≡ true) × (x v ≡ false)) → (b : Bool) → x y ≡ b → (b && all_in xs x) ≡ false → (v : ℕ) × ((y == v || mem xs v) ≡ true) × (x v ≡ false)
+    step found true e f = let r = found f in (r.0, or_right (y == r.0) (mem xs r.0) r.1, r.2)
+    step found false e f = (y, or_left (y == y) (mem xs y) (eq-eqb y y refl), e)
+
+-- a set of numbers 1 to n is one of numbers 1 to m
+pub set-wider : (n m : ℕ) (xs : List ℕ) → n ≤ m → IsRisingIn n xs → IsRisingIn m xs
+set-wider n m xs l r = set-from_rises m xs (rises-wider 1 n m xs l (rises-from_set n xs r))
+
+-- the list of all numbers 1 to n has just those
+pub mem-all : (n v : ℕ) → (mem (rising_list n everything) v ≡ true) ↔ Within n v
+mem-all n v = (mem-within n (rising_list n everything) (rising_list-rises n everything) v, λ w. mem-rising_list n everything v w)
