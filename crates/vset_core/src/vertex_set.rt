@@ -1,5 +1,7 @@
 //! The type `VSet`.
-ghost use Rattle.std.specs.Prelude.{◌≡◌, ◌≤◌, ◌<◌, ◌||◌, ◌&&◌, ◌==◌, ◌↔◌, not, ℕ, length, [], ◌∷◌, IfSome, IfNone, true, false};
+ghost use Rattle.std.specs.Prelude.{◌≡◌, ◌≤◌, ◌<◌, ◌||◌, ◌&&◌, ◌==◌, ◌↔◌, not, ℕ, length, [], ◌∷◌, IfSome, IfNone, true, false, bytes_eq};
+ghost use Rattle.std.specs.Cmp.{partial_equiv_from_equiv};
+ghost use Rattle.std.specs.Cmp.Lexicographic.{nat_list_eq_equiv};
 ghost use Rattle.counting.specs.Counts.{Within};
 ghost use Rattle.counting.specs.Lists.{mem, IsRisingIn, IsLeastOf, IsGreatestOf, IsNextAfter, is_subset, rising_list};
 ghost use Rattle.counting.specs.Sets.{everything};
@@ -191,4 +193,18 @@ impl VSet {
         others.rises();
         Some((v, others))
     }
+}
+
+impl PartialEq for VSet {
+    ghost eq = { bytes_eq };
+
+    ghost laws = { partial_equiv_from_equiv nat_list_eq_equiv };
+
+    fn eq(&self, o: &VSet) -> bool {
+        self.word == o.word
+    }
+}
+
+impl Eq for VSet {
+    ghost laws = { nat_list_eq_equiv };
 }
