@@ -160,7 +160,7 @@ impl VSet {
         if self.word == 0 {
             return None;
         }
-        Some(128 - self.word.leading_zeros())
+        Some(u128::BITS - self.word.leading_zeros())
     }
 
     /// The least member above `v`; `None` exactly where no member is above `v`.
