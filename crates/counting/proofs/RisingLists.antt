@@ -7,7 +7,7 @@ use Rattle.std.proofs.lemmas.Bool.{both_ways, cases_eq, cases_lt, cases_order, o
 use Rattle.counting.proofs.Counts.{count_congr}
 use Rattle.counting.proofs.Lists.{Rises, count_mem_length, mem_low, rises-from_set, rising_holds, rising_only, same_list}
 use Rattle.counting.specs.Counts.{Within, count}
-use Rattle.counting.specs.Lists.{IsRisingIn, all_in, last_of, mem, rising_list}
+use Rattle.counting.specs.Lists.{IsGreatestOf, IsLeastOf, IsRisingIn, all_in, last_of, mem, rising_list}
 use Rattle.counting.specs.Sets.{Set, everything}
 
 -- a number of the list is at least its lowest bound
@@ -213,3 +213,38 @@ set-wider n m xs l r = set-from_rises m xs (rises-wider 1 n m xs l (rises-from_s
 -- the list of all numbers 1 to n has just those
 pub mem-all : (n v : ℕ) → (mem (rising_list n everything) v ≡ true) ↔ Within n v
 mem-all n v = (mem-within n (rising_list n everything) (rising_list-rises n everything) v, λ w. mem-rising_list n everything v w)
+
+-- a set is the list of each test that it answers
+pub list-from_test : (n : ℕ) (xs : List ℕ) (x : Set) → IsRisingIn n xs → ((v : ℕ) → Within n v → mem xs v ≡ x v) → xs ≡ rising_list n x
+list-from_test n xs x r h = same_rising_list n xs (rising_list n x) r (rising_list-rises n x) (λ v w. h v w ∙ sym (mem-rising_list n x v w))
+
+-- a set of numbers 1 to m, all at most n, is one of numbers 1 to n
+pub set-narrower : (m n : ℕ) (xs : List ℕ) → IsRisingIn m xs → ((v : ℕ) → mem xs v ≡ true → v ≤ n) → IsRisingIn n xs
+set-narrower m n xs r h = set-from_rises n xs (go 1 xs (rises-from_set m xs r) h)
+  where
+    go : (low : ℕ) (ys : List ℕ) → Rises low m ys → ((v : ℕ) → mem ys v ≡ true → v ≤ n) → Rises low n ys
+    go low [] s k = tt
+    go low (y ∷ ys) s k = (s.0, k y (or_left (y == y) (mem ys y) (eq-eqb y y refl)), go (y + 1) ys s.2 (λ v t. k v (or_right (y == v) (mem ys v) t)))
+
+-- a part of a set of numbers 1 to n
+pub set-part : (m n : ℕ) (xs ys : List ℕ) → IsRisingIn m xs → IsRisingIn n ys → ((v : ℕ) → mem xs v ≡ true → mem ys v ≡ true) → IsRisingIn n xs
+set-part m n xs ys r s h = set-narrower m n xs r (λ v t. (mem-within n ys s v (h v t)).1)
+
+-- a union of two sets of numbers 1 to n
+pub set-union : (m n : ℕ) (us xs ys : List ℕ) → IsRisingIn m us → IsRisingIn n xs → IsRisingIn n ys → ((v : ℕ) → mem us v ≡ (mem xs v || mem ys v)) → IsRisingIn n us
+set-union m n us xs ys u r s h = set-narrower m n us u (λ v t. elim (or_cases (mem xs v) (mem ys v) (sym (h v) ∙ t)) [ inl a ↦ (mem-within n xs r v a).1 | inr b ↦ (mem-within n ys s v b).1 ])
+
+-- the least number is the first
+pub first-least : (n x v : ℕ) (xs : List ℕ) → IsRisingIn n (x ∷ xs) → IsLeastOf (x ∷ xs) v → x ≡ v
+first-least n x v xs r least = elim (cases_lt x v) [
+  | inl l ↦ absurd (both_ways (mem (x ∷ xs) x) (least.before x l) (or_left (x == x) (mem xs x) (eq-eqb x x refl)))
+  | inr g ↦ let l = first_is_least n x xs r v least.member in omega arith
+]
+
+-- the greatest number is the last
+pub last-greatest : (n v : ℕ) (xs : List ℕ) → IsRisingIn n xs → IsGreatestOf xs v → last_of xs ≡ v
+last-greatest n v [] r greatest = absurd (both_ways false refl greatest.member)
+last-greatest n v (x ∷ xs) r greatest = elim (cases_lt v (last_of (x ∷ xs))) [
+  | inl l ↦ absurd (both_ways (mem (x ∷ xs) (last_of (x ∷ xs))) (greatest.after (last_of (x ∷ xs)) l) (mem-last_of x xs))
+  | inr g ↦ let l = last_is_greatest n (x ∷ xs) r v greatest.member in omega arith
+]
