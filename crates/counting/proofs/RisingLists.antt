@@ -5,7 +5,7 @@ use Rattle.std.specs.Prelude.{slice_index, slice_index_or, All}
 use Rattle.std.specs.List.Sorted.{IsStrictlyIncreasing}
 use Rattle.std.proofs.lemmas.Bool.{both_ways, cases_eq, cases_lt, cases_order, or_cases, false_from_ne_true, and_parts, and_from, or_left, or_right}
 use Rattle.counting.proofs.Counts.{count_congr}
-use Rattle.counting.proofs.Lists.{Rises, count_mem_length, mem_low, rises-from_set, rising_holds, rising_only, same_list}
+use Rattle.counting.proofs.Lists.{Rises, count_mem_length, mem-within, mem_low, rises-from_set, rising_holds, rising_only, same_list}
 use Rattle.counting.specs.Counts.{Within, count}
 use Rattle.counting.specs.Lists.{IsGreatestOf, IsLeastOf, IsRisingIn, all_in, last_of, mem, rising_list}
 use Rattle.counting.specs.Sets.{Set, everything}
@@ -68,17 +68,6 @@ same_answers false false f g = refl
 -- within 1 to n the list of a test has its numbers
 pub mem-rising_list : (n : ℕ) (x : Set) (v : ℕ) → Within n v → mem (rising_list n x) v ≡ x v
 mem-rising_list n x v w = same_answers (mem (rising_list n x) v) (x v) (λ h. (rising_only n x v h).1) (rising_holds n x v w)
-
--- a number of a set of numbers 1 to n is one of 1 to n
-pub mem-within : (n : ℕ) (xs : List ℕ) → IsRisingIn n xs → (v : ℕ) → mem xs v ≡ true → Within n v
-mem-within n xs r v h = go 1 xs (omega arith) (rises-from_set n xs r) h
-  where
-    go : (low : ℕ) (ys : List ℕ) → 1 ≤ low → Rises low n ys → mem ys v ≡ true → Within n v
-    go low [] l s m = absurd (both_ways false refl m)
-    go low (y ∷ ys) l s m = let a = s.0 in let b = s.1 in elim (or_cases (y == v) (mem ys v) m) [
-      | inl e ↦ let d = eqb-true y v e in (omega arith, omega arith)
-      | inr t ↦ go (y + 1) ys (omega arith) s.2 t
-    ]
 
 -- past 1 to n it has nothing
 pub mem-outside : (n : ℕ) (xs : List ℕ) → IsRisingIn n xs → (v : ℕ) → (Within n v → ⊥) → mem xs v ≡ false
