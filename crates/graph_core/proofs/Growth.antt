@@ -1,16 +1,15 @@
 -- A search takes vertices from the set that is left and hangs each on one that was found before. When no found vertex has a
 -- neighbour left, what was found is a component: it is closed under steps, and the tree gives a walk to each of its vertices.
-use Rattle.std.proofs.Common.{◌≡◌, ℕ, suc, zero, ◌+◌, ◌≤◌, ◌<◌, Bool, true, false, ◌==◌, refl, sym, ap, ap₂, ◌∙◌, arith, ◌&&◌, ◌||◌, not, ◌⊎◌, inl, inr, List, [], ◌∷◌, ◌++◌, subst, length, eq-eqb, eqb-true, ne_eqb, cond, map, append_assoc, append-nil, nat_lt, ltb-true, lt-ltb}
-use Rattle.std.proofs.lemmas.Bool.{and_from, and_parts, both_ways, cases_Bool, cases_eq, or_cases, false_from_ne_true, or_left, or_right, not-true, not-false, not_from_false, cases_lt, true≢false}
+use Rattle.std.proofs.Common.{◌≡◌, ℕ, suc, zero, ◌+◌, ◌≤◌, ◌<◌, Bool, true, false, ◌==◌, refl, sym, ap, ap₂, ◌∙◌, arith, ◌&&◌, ◌||◌, not, ◌⊎◌, inl, inr, List, [], ◌∷◌, ◌++◌, subst, eq-eqb, eqb-true, ne_eqb, cond, map, append_assoc, append-nil, nat_lt, ltb-true}
+use Rattle.std.proofs.lemmas.Bool.{and_from, and_parts, both_ways, cases_Bool, cases_eq, false_from_ne_true, or_right, not-true, not-false, not_from_false, true≢false}
 use Rattle.counting.specs.Counts.{Within, bit, count}
 use Rattle.counting.specs.Lists.{IsRisingIn, mem, rising_list}
-use Rattle.counting.specs.Sets.{Set, complement, meet, minus, union, everything, put}
+use Rattle.counting.specs.Sets.{Set, complement, meet, minus, union, put}
 use Rattle.counting.specs.Tests.{some}
 use Rattle.counting.proofs.Choice.{count_put}
 use Rattle.counting.proofs.Counts.{count_congr, count_le, count_more}
 use Rattle.counting.proofs.RisingLists.{rising_list-congr, rising_list-rises, mem-rising_list, same_rising_list}
-use Rattle.counting.proofs.Tests.{true_some, some_true}
-use Rattle.counting.proofs.Totals.{total_none}
+use Rattle.counting.proofs.Tests.{some_true}
 use Rattle.graph_core.specs.Components.{components, is_least}
 use Rattle.graph_core.specs.Graph.{Graph, IsGraph}
 use Rattle.graph_core.specs.Growth.{IsGrowth, IsGrown, IsStage}

@@ -1,18 +1,18 @@
 -- A search tree hangs its vertices on those that were found before, so the way up from a vertex is a walk to a root, as long
 -- as the vertex is deep. Two ways up from the ends of an edge, closed by the edge, are an odd walk where the depths are alike.
-use Rattle.std.proofs.Common.{◌≡◌, ℕ, suc, zero, ◌+◌, ◌≤◌, ◌<◌, Bool, true, false, ◌==◌, refl, sym, ap, ap₂, ◌∙◌, arith, ◌&&◌, not, ◌⊎◌, inl, inr, List, [], ◌∷◌, ◌++◌, subst, length, nat_lt, lt-ltb, append_assoc}
-use Rattle.std.proofs.lemmas.Bool.{and_from, and_parts, both_ways, not_from_false, cases_order}
+use Rattle.std.proofs.Common.{◌≡◌, ℕ, suc, zero, ◌+◌, ◌<◌, Bool, true, false, refl, ap, ◌∙◌, arith, ◌&&◌, not, inl, inr, List, [], ◌∷◌, ◌++◌, length, nat_lt, lt-ltb}
+use Rattle.std.proofs.lemmas.Bool.{and_from, and_parts, both_ways, cases_order}
 use Rattle.std.proofs.lemmas.List.{length-append}
-use Rattle.counting.specs.Counts.{Within, is_odd}
-use Rattle.counting.specs.Sets.{Set, none}
+use Rattle.counting.specs.Counts.{Within}
+use Rattle.counting.specs.Sets.{Set}
 use Rattle.counting.specs.Tests.{some}
 use Rattle.counting.proofs.Tests.{true_some}
 use Rattle.graph_core.specs.Components.{is_least}
-use Rattle.graph_core.specs.Graph.{Graph, IsGraph, size, first_end, second_end}
+use Rattle.graph_core.specs.Graph.{Graph, IsGraph}
 use Rattle.graph_core.specs.Trees.{Hangs, IsForest, way_up, way_down, above}
-use Rattle.graph_core.specs.Walks.{Joined, Walk, adjacent, joined, IsOddClosedWalk}
+use Rattle.graph_core.specs.Walks.{Joined, Walk, adjacent, joined}
 use Rattle.graph_core.proofs.Components.{walk_joined}
-use Rattle.graph_core.proofs.Walks.{Walk-join, adjacent-edge, adjacent_back, adjacent_from, adjacent_within, has_ends-own, joined_back, joined_on}
+use Rattle.graph_core.proofs.Walks.{Walk-join, adjacent-edge, adjacent_back, adjacent_from, adjacent_within, joined_back}
 
 -- what is adjacent without a set is adjacent without a smaller one
 pub adjacent_more : (g : Graph) (s t : Set) → ((v : ℕ) → s v ≡ false → t v ≡ false) → (u v : ℕ) → adjacent g s u v ≡ true → adjacent g t u v ≡ true

@@ -1,9 +1,9 @@
 -- Along a walk the side changes with each step, so the length of a walk tells whether its ends are on the same side: hence no
 -- closed walk is odd, and the left side is fixed by the least vertices. In a search tree the sides are the parities of depths.
-use Rattle.std.proofs.Common.{◌≡◌, ℕ, suc, zero, ◌+◌, ◌≤◌, ◌<◌, Bool, true, false, cond, refl, sym, ap, ap₂, ◌∙◌, arith, ◌&&◌, ◌||◌, not, inl, inr, List, [], ◌∷◌, ◌++◌, subst, length, append_assoc}
-use Rattle.std.proofs.lemmas.Bool.{and_parts, both_ways, cases_Bool}
+use Rattle.std.proofs.Common.{◌≡◌, ℕ, suc, ◌+◌, ◌<◌, Bool, true, false, cond, refl, sym, ap, ap₂, ◌∙◌, arith, ◌&&◌, ◌||◌, not, inl, inr, List, [], ◌∷◌, ◌++◌, subst, length, append_assoc}
+use Rattle.std.proofs.lemmas.Bool.{and_parts, both_ways}
 use Rattle.std.proofs.lemmas.List.{length-append}
-use Rattle.counting.specs.Counts.{Within, count, is_odd}
+use Rattle.counting.specs.Counts.{Within, is_odd}
 use Rattle.counting.specs.Lists.{mem, rising_list}
 use Rattle.counting.specs.Sets.{Set, none}
 use Rattle.counting.proofs.Counts.{bit_true}

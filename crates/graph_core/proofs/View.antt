@@ -1,6 +1,6 @@
 -- The code's list of edges and the graph that it stands for: edge e of the graph is item e - 1 of the list, so that "some
 -- edge" of the graph is "some item" of the list.
-use Rattle.std.proofs.Common.{◌≡◌, ℕ, ◌+◌, ◌-◌, ◌≤◌, ◌<◌, Bool, ◌==◌, ◌||◌, refl, sym, ap, ap₂, ◌∙◌, arith, suc, zero, List, length, get_or, map, take, take_all, le_refl, subst, eq-eqb, true}
+use Rattle.std.proofs.Common.{◌≡◌, ℕ, ◌+◌, ◌-◌, ◌≤◌, ◌<◌, ◌||◌, refl, sym, ap, ap₂, ◌∙◌, arith, suc, zero, List, length, get_or, map, take, take_all, le_refl, subst, eq-eqb, true}
 use Rattle.std.specs.List.{list_any, All, Contains}
 use Rattle.std.proofs.lemmas.List.{get_or-map, length-map}
 use Rattle.std.proofs.lemmas.List.Folds.{list_any_more}
@@ -8,7 +8,7 @@ use Rattle.counting.specs.Counts.{Within}
 use Rattle.counting.specs.Sets.{none}
 use Rattle.counting.specs.Tests.{some}
 use Rattle.counting.specs.Lists.{item, mem}
-use Rattle.graph_core.specs.Graph.{Graph, IsGraph, first_end, second_end, has_ends, size}
+use Rattle.graph_core.specs.Graph.{IsGraph, first_end, second_end, has_ends, size}
 use Rattle.graph_core.specs.Rows.{AreRows}
 use Rattle.graph_core.specs.View.{pair_of, graph_of, are_ends}
 use Rattle.graph_core.specs.Walks.{adjacent}

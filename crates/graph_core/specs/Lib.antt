@@ -10,6 +10,7 @@ pub mod Components
 pub mod BergeSets
 pub mod GallaiEdmonds
 pub mod Covered
+pub mod Verdicts
 pub mod PairLists
 pub mod Tight
 pub mod Partitions

@@ -5,7 +5,7 @@ use Rattle.counting.specs.Counts.{Within}
 use Rattle.counting.specs.Sets.{none}
 use Rattle.counting.specs.Lists.{mem, IsRisingIn}
 use Rattle.graph_core.specs.Components.{is_least}
-use Rattle.graph_core.specs.Graph.{Graph, IsBipartite, size, in_cut}
+use Rattle.graph_core.specs.Graph.{Graph, size, in_cut}
 use Rattle.graph_core.specs.Walks.{IsOddClosedWalk}
 use Rattle.graph_core.specs.declared.sides.Sides.{Sides}
 use Rattle.graph_core.specs.declared.sides.Sides.TheVariants.{Even, Odd}

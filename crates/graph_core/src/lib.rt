@@ -10,6 +10,7 @@ mod search;
 mod set_list;
 mod sides;
 mod tree;
+mod verdict;
 
 pub use ends::Ends;
 pub use faults::{AddFault, FaultKind, TextFault};
@@ -21,3 +22,4 @@ pub use laws::{
 pub use numbers::Numbers;
 pub use set_list::SetList;
 pub use sides::Sides;
+pub use verdict::{Kind, Reason, Verdict};

@@ -1,12 +1,10 @@
-use Rattle.std.proofs.Common.{◌≡◌, ◌++◌, ◌∷◌, [], ◌+◌, ◌<◌, ◌≤◌, ℕ, length, true, false, ◌&&◌, not, ap, sym, ◌∙◌, subst, arith, List}
-use Rattle.std.proofs.lemmas.Bool.{and_from, and_parts, both_ways, false_from_ne_true, not-true, not_from_false}
-use Rattle.counting.specs.Counts.{Within, count}
+use Rattle.std.proofs.Common.{◌<◌, not, ap, sym, ◌∙◌, subst, arith}
+use Rattle.std.proofs.lemmas.Bool.{and_from, and_parts, not-true, not_from_false}
+use Rattle.counting.specs.Counts.{count}
 use Rattle.counting.specs.Lists.{mem}
 use Rattle.counting.proofs.RisingLists.{set-narrower}
-use Rattle.graph_core.specs.Graph.{Graph, IsGraph}
 use Rattle.graph_core.specs.Growth.{IsStage}
-use Rattle.graph_core.specs.Nodes.{node_at, parent_at, depth_at}
-use Rattle.graph_core.specs.Rows.{AreRows}
+use Rattle.graph_core.specs.Nodes.{parent_at, depth_at}
 use Rattle.graph_core.specs.declared.tree.TreeNode.{TreeNode}
 use Rattle.graph_core.proofs.Growth.{grown_less, stage_start, stage_step, stage_end}
 use Rattle.graph_core.proofs.search.search.Goals as goal

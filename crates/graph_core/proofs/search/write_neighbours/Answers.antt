@@ -1,7 +1,5 @@
-use Rattle.std.proofs.Common.{◌≡◌, ◌≤◌, ℕ, ◌<◌, arith, sym, ap, ◌∙◌, length, le_refl, subst, take, take_all, get_or}
+use Rattle.std.proofs.Common.{◌≡◌, arith, ap, ◌∙◌, length, take, take_all}
 use Rattle.std.specs.List.{list_any}
-use Rattle.counting.specs.Counts.{Within}
-use Rattle.counting.specs.Lists.{mem, item}
 use Rattle.graph_core.specs.View.{are_ends}
 use Rattle.graph_core.proofs.View.{ends_within, rows-graph_of}
 use Rattle.graph_core.proofs.search.write_neighbours.Goals as goal

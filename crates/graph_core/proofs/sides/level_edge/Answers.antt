@@ -1,9 +1,7 @@
-use Rattle.std.proofs.Common.{◌≡◌, ◌<◌, ◌≤◌, ℕ, Bool, true, false, not, refl, sym, ap, ◌∙◌, arith, length, get_or, inl, inr}
+use Rattle.std.proofs.Common.{◌≡◌, Bool, true, false, not, sym, ap, ◌∙◌, arith, length, get_or, inl, inr}
 use Rattle.std.proofs.lemmas.Bool.{cases_eq, true≢false}
 use Rattle.std.proofs.lemmas.List.{get_or_default}
 use mathlib.Core.Bool.{beq}
-use Rattle.counting.specs.Counts.{is_odd}
-use Rattle.graph_core.specs.Nodes.{depth_at}
 use Rattle.graph_core.specs.declared.ends.Ends.{Ends}
 use Rattle.graph_core.proofs.View.{ends_within}
 use Rattle.graph_core.proofs.sides.level_edge.Goals as goal
