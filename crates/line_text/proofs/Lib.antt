@@ -3,3 +3,4 @@ pub mod Forms
 pub mod LineByLine
 pub mod LineCuts
 pub mod ExactlyOne
+pub mod ReadBack
