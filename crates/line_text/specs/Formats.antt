@@ -1,5 +1,5 @@
 -- Formats of texts, line by line.
-use Rattle.std.specs.Prelude.{◌≡◌, ◌⊎◌, ℕ, ◌+◌, List, [], ◌∷◌, ◌++◌, length, map, Option, Some, None, Result, Ok, Err, Bool, if◌then◌else◌}
+use Rattle.std.specs.Prelude.{◌≡◌, ◌⊎◌, ◌↔◌, ℕ, ◌+◌, List, [], ◌∷◌, ◌++◌, length, map, Option, Some, None, Result, Ok, Err, Bool, if◌then◌else◌}
 use Rattle.std.specs.Result.{result_map_both}
 use Rattle.line_text.specs.declared.format.Refusal.{Refusal}
 use Rattle.line_text.specs.declared.format.Refusal.TheVariants as refusal
@@ -113,3 +113,23 @@ module _ {Body Value Kind : Type 0} (rules : Rules Body Value Kind) where
   abbrev pub IsFirst : List ℕ → LineFault Kind → Type 0
   IsFirst text (fault.At line kind) = FirstFault text line kind
   IsFirst text fault.Memory = Unit {0}
+
+  -- the text stands for one value alone, and has no fault
+  pub record StandsAlone (text : List ℕ) : Type 0 where
+    pub value : Value
+    pub stands : Stands text value
+    pub only : (other : Value) → Stands text other → other ≡ value
+    pub faultless : (number : ℕ) (kind : Kind) → FirstFault text number kind → ⊥
+
+  -- the text has one first fault alone, and stands for no value
+  pub record BreaksAlone (text : List ℕ) : Type 0 where
+    pub number : ℕ
+    pub kind : Kind
+    pub breaks : FirstFault text number kind
+    pub only : (other : ℕ) (other_kind : Kind) → FirstFault text other other_kind → (other ≡ number) × (other_kind ≡ kind)
+    pub valueless : (value : Value) → Stands text value → ⊥
+
+  -- reading line by line tells of a text whether it stands for a value, and else its first fault
+  pub record ReadingTells (text : List ℕ) : Type 0 where
+    pub values : (value : Value) → Stands text value ↔ (reading_of text ≡ Ok value)
+    pub faults : (number : ℕ) (kind : Kind) → FirstFault text number kind ↔ (reading_of text ≡ Err (number, kind))

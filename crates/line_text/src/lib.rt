@@ -2,6 +2,7 @@
 #![tactic(auto)]
 
 mod format;
+pub mod laws;
 mod lines;
 mod numerals;
 mod reading;
