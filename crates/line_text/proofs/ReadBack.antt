@@ -10,7 +10,7 @@ use Rattle.std.proofs.lemmas.List.Elements.{All-nil, All-cons}
 use Rattle.std.proofs.lemmas.List.Splits.{slice_split_at, slice_split_none}
 use Rattle.line_text.specs.Lines.{is_line_feed, lines_of, unlines, is_closed}
 use Rattle.line_text.specs.Words.{is_blank, words_of, unwords, is_word, AreWords, is_skipped, IsSignificant, IsComment, SignificantLine, significant_from, significant_lines_of, written, numbered_from}
-use Rattle.line_text.specs.Formats.{Rules, Begins, finish, Stands}
+use Rattle.line_text.specs.Format.{Rules, Begins, finish, Stands}
 use Rattle.line_text.proofs.LineCuts.{lines_of-nil, lines_of-feed, lines_of-byte, onto_first-lines_of}
 
 -- no byte of the line is a line feed
@@ -115,9 +115,9 @@ lines_of-written lines each = lines_of-unlines (map unwords lines) (one_lines li
   one_lines (words ∷ lines) each = (is_one_line-unwords words each.0, one_lines lines each.1)
 
 -- a line that is not skipped
-significant_from-said : (number : ℕ) (line : List ℕ) (lines : List (List ℕ)) (words : List (List ℕ)) → words_of line ≡ words → is_skipped words ≡ false → significant_from number (line ∷ lines) ≡ record { number = number; words = words } ∷ significant_from (number + 1) lines
+significant_from-kept : (number : ℕ) (line : List ℕ) (lines : List (List ℕ)) (words : List (List ℕ)) → words_of line ≡ words → is_skipped words ≡ false → significant_from number (line ∷ lines) ≡ record { number = number; words = words } ∷ significant_from (number + 1) lines
 unfolding significant_from
-significant_from-said number line lines words are said =
+significant_from-kept number line lines words are said =
     ap (λ ws. cond (is_skipped ws) (significant_from (number + 1) lines) (record { number = number; words = ws } ∷ significant_from (number + 1) lines)) are
     ∙ ap (λ b. cond b (significant_from (number + 1) lines) (record { number = number; words = words } ∷ significant_from (number + 1) lines)) said
 
@@ -128,7 +128,7 @@ significant_from-nil number = refl
 significant_from-written : (number : ℕ) (lines : List (List (List ℕ))) → AllByRecursion IsSignificant lines → significant_from number (map unwords lines) ≡ numbered_from number lines
 significant_from-written number [] each = significant_from-nil number
 significant_from-written number (words ∷ lines) each =
-    significant_from-said number (unwords words) (map unwords lines) words (words_of-unwords words each.0.each) each.0.said
+    significant_from-kept number (unwords words) (map unwords lines) words (words_of-unwords words each.0.each) each.0.kept
     ∙ ap (λ (ls : List SignificantLine). record { number = number; words = words } ∷ ls) (significant_from-written (number + 1) lines each.1)
 
 AreWords-each : (lines : List (List (List ℕ))) → AllByRecursion IsSignificant lines → AllByRecursion AreWords lines

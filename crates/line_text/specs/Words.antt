@@ -70,7 +70,7 @@ AreWords words = AllByRecursion (λ word. is_word word ≡ true) words
 
 -- the words of a line that is not skipped
 pub record IsSignificant (words : List (List ℕ)) : Type 0 where
-  pub said : is_skipped words ≡ false
+  pub kept : is_skipped words ≡ false
   pub each : AreWords words
 
 -- the words of a comment, a line that is skipped

@@ -1,5 +1,7 @@
 ghost use Rattle.std.specs.Prelude.{◌≡◌, ◌<◌, ◌-◌, ◌^◌, ℕ, List, map, length, option_map, IfOk, IfErr, Ok, Err};
 
+use std::alloc::{AllocError, AllocFailed};
+
 /// Why a rule refuses.
 #[derive(Clone, Copy, Debug, PartialEq, Eq, Drop)]
 pub enum Refusal<K> {
@@ -7,6 +9,28 @@ pub enum Refusal<K> {
     Fault(K),
     /// Memory ran out.
     Memory,
+}
+
+impl<K> From<AllocError> for Refusal<K> {
+    ghost use Rattle.std.specs.Prelude.{◌≡◌};
+    ghost use Rattle.line_text.specs.declared.format.Refusal.TheVariants.{Memory};
+
+    ghost from_gives = { λ _ refusal. refusal ≡ Memory };
+
+    fn from(_error: AllocError) -> Refusal<K> {
+        Refusal::Memory
+    }
+}
+
+impl<K, T: Drop> From<AllocFailed<T>> for Refusal<K> {
+    ghost use Rattle.std.specs.Prelude.{◌≡◌};
+    ghost use Rattle.line_text.specs.declared.format.Refusal.TheVariants.{Memory};
+
+    ghost from_gives = { λ _ refusal. refusal ≡ Memory };
+
+    fn from(_error: AllocFailed<T>) -> Refusal<K> {
+        Refusal::Memory
+    }
 }
 
 /// Why a text is not read.
@@ -20,7 +44,8 @@ pub enum LineFault<K> {
 
 /// A format.
 pub trait LineFormat {
-    ghost use Rattle.line_text.specs.Formats.{Rules, Gives};
+    ghost use Rattle.line_text.specs.Format.{Rules};
+    ghost use Rattle.line_text.specs.Reading.{Gives};
     ghost use Rattle.line_text.specs.Words.{texts_of};
 
     /// What has been read.

@@ -1,7 +1,8 @@
 ghost use Rattle.std.specs.Prelude.{◌≡◌, ◌<◌, ◌-◌, ◌^◌, ℕ, map, length, IfOk, IfErr, Ok, Err};
 ghost use Rattle.std.specs.Option.{option_map};
 ghost use Rattle.line_text.specs.Words.{words_of};
-ghost use Rattle.line_text.specs.Formats.{Gives, Reads, state_after, finish, reading_of, placed, Stands, FirstFault, IsFirst};
+ghost use Rattle.line_text.specs.Format.{finish, Stands, FirstFault};
+ghost use Rattle.line_text.specs.Reading.{Gives, Reads, state_after, reading_of, placed, IsFirst};
 
 use crate::format::{LineFault, LineFormat, Refusal};
 use crate::lines::split_line;

@@ -1,12 +1,15 @@
 //! The format of a list of picks, `s mcg K` and then K lines `pick N`, as a format is written over this crate.
 
-ghost use Rattle.std.specs.Prelude.{◌≡◌, ◌==◌, ◌∷◌, ℕ, List, [], ◌++◌, length, not, nat_lt, codes, Ok, Err};
-ghost use Rattle.line_text.specs.Formats.{checked};
+ghost use Rattle.std.specs.Prelude.{◌≡◌, ◌<◌, ◌-◌, ◌^◌, ◌==◌, ◌∷◌, ℕ, List, [], ◌++◌, length, not, nat_lt, codes, Ok, Err, IfOk, IfErr};
+ghost use Rattle.line_text.specs.Format.{checked, Stands, FirstFault};
 ghost use Rattle.line_text.specs.Numerals.{is_number, value_of};
 ghost use Rattle.line_text.specs.Words.{has_form, word_at};
 
-use crate::{LineFault, LineFormat, Refusal, has_form, number, read, word};
+use crate::{
+    LineFault, LineFormat, Refusal, has_form, number, numbers, read, split_line, split_words, word,
+};
 use std::alloc::Global;
+use std::test::Fail;
 
 #[derive(Clone, Copy, Debug, PartialEq, Eq)]
 enum PickFault {
@@ -24,6 +27,7 @@ struct PickList {
     picks: Vec<u32>,
 }
 
+#[derive(Drop)]
 struct Picks {
     alloc: Global,
 }
@@ -87,10 +91,8 @@ impl LineFormat for Picks {
         let Some(place) = number(word(words, 1)) else {
             return Err(Refusal::Fault(PickFault::Number));
         };
-        match picks.push(place) {
-            Ok(()) => Ok(PickList { count, picks }),
-            Err(_) => Err(Refusal::Memory),
-        }
+        picks.push(place)?;
+        Ok(PickList { count, picks })
     }
 
     fn close(&self, body: PickList) -> Result<Vec<u32>, Refusal<PickFault>> {
@@ -103,4 +105,86 @@ impl LineFormat for Picks {
     fn headless(&self) -> PickFault {
         PickFault::Header
     }
+}
+
+#[derive(Clone, Copy, Debug, PartialEq, Eq)]
+enum TextFault {
+    At { line: u32, kind: PickFault },
+    Memory,
+}
+
+fn read_picks(alloc: Global, text: &[u8]) -> Result<Vec<u32>, TextFault>
+    requires { length text.now < 2 ^ 32 - 1 }
+    ensures value { IfOk result (λ picks. Stands (⟦<Picks as LineFormat>⟧.rules (record { alloc = alloc })) text.now picks.items) }
+    ensures fault { (line : ℕ) (kind : PickFault) → result ≡ Err (TextFault.At line kind) → FirstFault (⟦<Picks as LineFormat>⟧.rules (record { alloc = alloc })) text.now line kind }
+{
+    match read(alloc, &Picks { alloc }, text) {
+        Ok(picks) => Ok(picks),
+        Err(LineFault::At { line, kind }) => Err(TextFault::At { line, kind }),
+        Err(LineFault::Memory) => Err(TextFault::Memory),
+    }
+}
+
+#[test]
+fn texts_that_stand_for_picks(rt: HostRuntime) -> Result<(), Fail> {
+    let rows: [(&[u8], &[u32]); 4] = [
+        (b"s mcg 0", &[]),
+        (b"s mcg 2\npick 7\npick 4\n", &[7, 4]),
+        (
+            b"c picks\n\ns mcg 2\r\n \t\r\n  pick\t007\r\nc pick 1\npick 4",
+            &[7, 4],
+        ),
+        (b"s mcg 001\npick 999999999\nc\n", &[999_999_999]),
+    ];
+    for (text, picks) in rows {
+        assert!(rt; text.len() < 100);
+        let read = read_picks(rt.alloc(), text).ok().ok_or("a fault")?;
+        assert_eq!(rt; read.as_slice(), picks);
+    }
+    Ok(())
+}
+
+#[test]
+fn first_faults_of_texts(rt: HostRuntime) {
+    let rows: [(&[u8], u32, PickFault); 12] = [
+        (b"", 1, PickFault::Header),
+        (b"\n", 2, PickFault::Header),
+        (b"c s mcg 1\npick 1", 2, PickFault::Header),
+        (b"s mcg 1 1", 1, PickFault::Header),
+        (b"\ns mcg x\npick", 2, PickFault::Number),
+        (b"s mcg 1234567890", 1, PickFault::Number),
+        (b"s mcg 128", 1, PickFault::Limit),
+        (b"s mcg 1", 2, PickFault::Missing),
+        (b"s mcg 2\npick 1\n\nc", 5, PickFault::Missing),
+        (b"s mcg 1\npick -1", 2, PickFault::Number),
+        (b"s mcg 1\npick 1 1", 2, PickFault::Word),
+        (b"s mcg 1\npick 1\ncc", 3, PickFault::Extra),
+    ];
+    for (text, line, kind) in rows {
+        assert!(rt; text.len() < 100);
+        let fault = read_picks(rt.alloc(), text).err();
+        assert_eq!(rt; fault, Some(TextFault::At { line, kind }));
+    }
+}
+
+#[test]
+fn lines_and_words(rt: HostRuntime) -> Result<(), Fail> {
+    assert_eq!(rt; split_line(b""), None);
+    assert_eq!(rt; split_line(b"\n"), Some((b"".as_slice(), b"".as_slice())));
+    assert_eq!(rt;
+        split_line(b"a b\n\nc"),
+        Some((b"a b".as_slice(), b"\nc".as_slice()))
+    );
+    assert_eq!(rt;
+        split_line(b"a b"),
+        Some((b"a b".as_slice(), b"".as_slice()))
+    );
+    let words = split_words(rt.alloc(), b"\t e  12\r0003 ")?;
+    assert_eq!(rt;
+        words.as_slice(),
+        [b"e".as_slice(), b"12", b"0003"].as_slice()
+    );
+    let numbers = numbers(rt.alloc(), &words)?;
+    assert!(rt; numbers.is_none());
+    Ok(())
 }

@@ -1,12 +1,12 @@
 ghost use Rattle.std.specs.Prelude.{◌≡◌, IfOk};
 ghost use Rattle.std.specs.List.{list_all, zip};
 ghost use Rattle.std.specs.Str.{bytes_eq};
-ghost use Rattle.line_text.specs.Words.{is_blank as blank, is_skipped as skipped, has_form as of_form, begin_with, word_at, words_of, texts_of};
+ghost use Rattle.line_text.specs.Words.{is_blank, is_skipped, has_form, begin_with, word_at, words_of, texts_of};
 
 use std::alloc::{AllocError as Memory, Global};
 
 fn is_blank(byte: u8) -> bool
-    ensures { result ≡ blank byte }
+    ensures { result ≡ is_blank byte }
 {
     matches!(byte, b' ' | b'\t' | b'\r')
 }
@@ -22,7 +22,7 @@ pub fn split_words(alloc: Global, line: &[u8]) -> Result<Vec<&[u8]>, Memory>
 
 /// Whether a line with these words says nothing: it has no word, or its first word is `c`.
 pub fn is_skipped(words: &[&[u8]]) -> bool
-    ensures { result ≡ skipped (texts_of words.now) }
+    ensures { result ≡ is_skipped (texts_of words.now) }
 {
     match words.split_first() {
         None => true,
@@ -55,7 +55,7 @@ fn start_with(words: &[&[u8]], keywords: &[&str]) -> bool
 /// Whether there are so many words, the first of which are the keywords.
 #[tactic(auto, unfolding(crate::specs::Words::has_form))]
 pub fn has_form(words: &[&[u8]], count: usize, keywords: &[&str]) -> bool
-    ensures { result ≡ of_form (texts_of words.now) count (texts_of keywords.now) }
+    ensures { result ≡ has_form (texts_of words.now) count (texts_of keywords.now) }
 {
     words.len() == count && start_with(words, keywords)
 }
