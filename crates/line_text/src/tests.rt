@@ -1,14 +1,17 @@
 //! The format of a list of picks, `s mcg K` and then K lines `pick N`, as a format is written over this crate.
 
-ghost use Rattle.std.specs.Prelude.{◌≡◌, ◌<◌, ◌-◌, ◌^◌, ◌==◌, ◌∷◌, ℕ, List, [], ◌++◌, length, not, nat_lt, codes, Ok, Err, IfOk, IfErr};
+ghost use Rattle.std.specs.Prelude.{◌≡◌, ◌<◌, ◌≤◌, ◌-◌, ◌^◌, ◌==◌, ◌∷◌, ℕ, List, [], ◌++◌, length, not, nat_lt, codes, Ok, Err, IfOk, map};
+ghost use Rattle.std.specs.Fmt.{decimal};
+ghost use Rattle.std.specs.List.{AllByRecursion};
 ghost use Rattle.line_text.specs.Format.{checked, Stands, FirstFault};
 ghost use Rattle.line_text.specs.Numerals.{is_number, value_of};
-ghost use Rattle.line_text.specs.Words.{has_form, word_at};
+ghost use Rattle.line_text.specs.Words.{has_form, word_at, written};
 
 use crate::{
     LineFault, LineFormat, Refusal, has_form, number, numbers, read, split_line, split_words, word,
 };
-use std::alloc::Global;
+use std::alloc::{AllocError, Global};
+use std::fmt::Write;
 use std::test::Fail;
 
 #[derive(Clone, Copy, Debug, PartialEq, Eq)]
@@ -124,6 +127,28 @@ fn read_picks(alloc: Global, text: &[u8]) -> Result<Vec<u32>, TextFault>
         Err(LineFault::Memory) => Err(TextFault::Memory),
     }
 }
+
+/// The text of a list of picks.
+fn write_picks(alloc: Global, picks: &[u32]) -> Result<Vec<u8>, AllocError>
+    ensures { IfOk result (λ text. text.items ≡ written ((codes "s" ∷ codes "mcg" ∷ decimal (length picks.now) ∷ [])
+        ∷ map (λ pick. codes "pick" ∷ decimal pick ∷ []) picks.now)) }
+{
+    let count = picks.len();
+    let mut text = format!(in alloc; "s mcg {count}\n")?;
+    let mut rest = picks;
+    'picks: while let Some((pick, others)) = rest.split_first() {
+        write!(text, "pick {pick}\n")?;
+        rest = others;
+    }
+    Ok(text.into_bytes())
+}
+
+/// What is written of picks stands for them.
+fn written_picks_stand()
+    ensures { (format : Picks) (picks : List ℕ) → length picks ≤ 127 → AllByRecursion (λ pick. pick < 10 ^ 9) picks
+        → Stands (⟦<Picks as LineFormat>⟧.rules format) (written ((codes "s" ∷ codes "mcg" ∷ decimal (length picks) ∷ [])
+        ∷ map (λ pick. codes "pick" ∷ decimal pick ∷ []) picks)) picks }
+{}
 
 #[test]
 fn texts_that_stand_for_picks(rt: HostRuntime) -> Result<(), Fail> {
