@@ -5,13 +5,16 @@ ghost use Rattle.line_text.specs.Words.{is_blank, is_skipped, has_form, begin_wi
 
 use std::alloc::{AllocError as Memory, Global};
 
+// Whether the byte is a space, a tab or a carriage return.
 fn is_blank(byte: u8) -> bool
     ensures { result ≡ is_blank byte }
 {
     matches!(byte, b' ' | b'\t' | b'\r')
 }
 
-/// The words of a line.
+/// The words of a line, as pieces of it: its longest runs of bytes that are neither space, tab nor carriage return.
+///
+/// Takes memory for the list of the pieces alone.
 pub fn split_words(alloc: Global, line: &[u8]) -> Result<Vec<&[u8]>, Memory>
     ensures { IfOk result (λ found. texts_of found.items ≡ words_of line.now) }
 {
@@ -20,7 +23,7 @@ pub fn split_words(alloc: Global, line: &[u8]) -> Result<Vec<&[u8]>, Memory>
         .collect(alloc)
 }
 
-/// Whether a line with these words says nothing: it has no word, or its first word is `c`.
+/// Whether a line with these words is skipped: it has none, or its first word is exactly `c`, which marks a comment.
 pub fn is_skipped(words: &[&[u8]]) -> bool
     ensures { result ≡ is_skipped (texts_of words.now) }
 {
@@ -37,6 +40,7 @@ pub fn word<'a>(words: &[&'a [u8]], place: usize) -> &'a [u8]
     words.get(place).copied().unwrap_or(&[])
 }
 
+// Whether the words and the keywords are the same, as far as the shorter list goes.
 fn are_same(words: &[&[u8]], keywords: &[&str]) -> bool
     ensures { result ≡ list_all (λ pair. bytes_eq pair.0.now pair.1.now) (zip words.now keywords.now) }
 {
@@ -46,13 +50,14 @@ fn are_same(words: &[&[u8]], keywords: &[&str]) -> bool
         .all(|(word, keyword)| *word == keyword.as_bytes())
 }
 
+// Whether the first words are the keywords.
 fn start_with(words: &[&[u8]], keywords: &[&str]) -> bool
     ensures { result ≡ begin_with (texts_of words.now) (texts_of keywords.now) }
 {
     keywords.len() <= words.len() && are_same(words, keywords)
 }
 
-/// Whether there are so many words, the first of which are the keywords.
+/// Whether there are exactly `count` words, the first of which are the keywords, in their order.
 #[tactic(auto, unfolding(crate::specs::Words::has_form))]
 pub fn has_form(words: &[&[u8]], count: usize, keywords: &[&str]) -> bool
     ensures { result ≡ has_form (texts_of words.now) count (texts_of keywords.now) }
