@@ -9,7 +9,7 @@ use Rattle.std.proofs.lemmas.Str.{digit_value_digit}
 use Rattle.std.specs.Borrow.{Bor}
 use Rattle.line_text.specs.Numerals.{number_of, is_number, numbers_of}
 use Rattle.line_text.specs.Words.{texts_of}
-use Rattle.line_text.proofs.Forms.{and-false}
+use Rattle.std.proofs.lemmas.Bool.{and_right}
 use Rattle.std.proofs.Math.Nat.{mul-le-mul_right, mul-le-mul_left, pow-succ', mul_assoc}
 
 pow_positive : (k : ℕ) → 1 ≤ 10 ^ k
@@ -43,7 +43,7 @@ list_all-is_number : (words : List (Bor (List ℕ))) (i : ℕ) (d : Bor (List �
 list_all-is_number [] i d within none = absurd (omega arith)
 list_all-is_number (word ∷ words) zero d within none = rw (sym none) refl
 list_all-is_number (word ∷ words) (suc i) d within none =
-    rw (list_all-is_number words i d (omega arith) none) (and-false (is_number word.now))
+    rw (list_all-is_number words i d (omega arith) none) (and_right (is_number word.now) false refl)
 
 pub numbers_of-none : (words : List (Bor (List ℕ))) (i : ℕ) (d : Bor (List ℕ)) → i < length words → None ≡ number_of (get_or words i d).now → None ≡ numbers_of (texts_of words)
 numbers_of-none words i d within none = rw (list_all-is_number words i d within none) refl

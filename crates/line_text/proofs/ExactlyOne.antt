@@ -3,7 +3,8 @@
 use Rattle.std.proofs.Common.{◌≡◌, ◌⊎◌, inl, inr, ℕ, ◌+◌, List, [], ◌∷◌, ◌++◌, length, map, Option, Some, None, Result, Ok, Err, IfOk, IfErr, refl, sym, ◌∙◌, ap, subst}
 use Rattle.line_text.specs.Lines.{lines_of}
 use Rattle.line_text.specs.Words.{SignificantLine, significant_lines_of}
-use Rattle.line_text.specs.Formats.{Rules, step, finish, Begins, Stands, BreaksAtLine, BreaksAtEnd, FirstFault, go_on, reading_from, reading_of, Reads, IsFirst}
+use Rattle.line_text.specs.Format.{Rules, step, finish, Begins, Stands, BreaksAtLine, BreaksAtEnd, FirstFault, StandsAlone, BreaksAlone}
+use Rattle.line_text.specs.Reading.{go_on, reading_from, reading_of, Reads, IsFirst, ReadingTells}
 use Rattle.line_text.specs.declared.format.LineFault.{LineFault}
 use Rattle.line_text.specs.declared.format.LineFault.TheVariants as fault
 
@@ -139,3 +140,28 @@ module _ {Body Value Kind : Type 0} (rules : Rules Body Value Kind) where
   pub Reads-breaks : {X : Type 0} (meaning : X → Value) (text : List ℕ) (result : Result X (LineFault Kind)) → Reads meaning result (reading_of rules text) → (number : ℕ) (kind : Kind) → FirstFault rules text number kind → Reads meaning result (Err (number, kind))
   Reads-breaks meaning text result reads number kind first =
       subst (λ (outcome : Result Value (ℕ × Kind)). Reads meaning result outcome) (FirstFault-reading_of text number kind first) reads
+
+  -- each text stands for exactly one value or has exactly one first fault
+  alone-from : (text : List ℕ) (outcome : Result Value (ℕ × Kind)) → reading_of rules text ≡ outcome → StandsAlone rules text ⊎ BreaksAlone rules text
+  alone-from text (Ok value) is = inl (record {
+    value = value;
+    stands = Stands-from_reading text value is;
+    only = λ other stands. let same = sym (Stands-reading_of text other stands) ∙ is in cc same;
+    faultless = λ number kind breaks. let same = sym (FirstFault-reading_of text number kind breaks) ∙ is in cc same;
+  })
+  alone-from text (Err found) is = inr (record {
+    number = found.0;
+    kind = found.1;
+    breaks = FirstFault-from_reading text found.0 found.1 is;
+    only = λ other other_kind breaks. let same = sym (FirstFault-reading_of text other other_kind breaks) ∙ is in (cc same, cc same);
+    valueless = λ value stands. let same = sym (Stands-reading_of text value stands) ∙ is in cc same;
+  })
+
+  pub exactly_one : (text : List ℕ) → StandsAlone rules text ⊎ BreaksAlone rules text
+  exactly_one text = alone-from text (reading_of rules text) refl
+
+  pub reading_tells : (text : List ℕ) → ReadingTells rules text
+  reading_tells text = record {
+    values = λ value. (Stands-reading_of text value, Stands-from_reading text value);
+    faults = λ number kind. (FirstFault-reading_of text number kind, FirstFault-from_reading text number kind);
+  }

@@ -5,7 +5,7 @@ use Rattle.std.specs.List.{slice_split, onto_first, position_or_len, before_firs
 use Rattle.std.proofs.lemmas.Bool.{cases_Bool, cases_lt, lt-ltb}
 use Rattle.std.proofs.lemmas.Bool.Decides.{nat_tests}
 use Rattle.std.proofs.lemmas.List.{take_all, drop_all}
-use Rattle.std.proofs.lemmas.List.Splits.{slice_split_first, slice_split-cons_no}
+use Rattle.std.proofs.lemmas.List.Splits.{slice_split_first, slice_split-cons_no, slice_split-cons_yes}
 use Rattle.std.proofs.lemmas.List.Sums.{prefix_len-le-length}
 use Rattle.line_text.specs.Lines.{is_line_feed, lines_of, lines_of_parts}
 
@@ -81,3 +81,31 @@ position_or_len-from_position text = elim (cases_lt (position_or_len is_line_fee
 
 pub position_or_len-within : (text : List ℕ) → position_or_len is_line_feed text ≤ length text
 position_or_len-within text = prefix_len-le-length _ text
+
+-- a line feed ends an empty line
+pub lines_of-feed : (byte : ℕ) (text : List ℕ) → is_line_feed byte ≡ true → lines_of (byte ∷ text) ≡ [] ∷ lines_of text
+unfolding lines_of
+lines_of-feed byte text feed =
+    ap lines_of_parts (slice_split-cons_yes is_line_feed byte text feed) ∙ lines_of_parts-cons [] _ (IsCons-slice_split text)
+
+lines_of_parts-onto_first : (byte : ℕ) (parts : List (List ℕ)) → lines_of_parts (onto_first byte parts) ≡ onto_first byte (lines_of_parts parts)
+lines_of_parts-onto_first byte [] = grind (arith, nat_tests)
+lines_of_parts-onto_first byte (part ∷ next ∷ parts) = refl
+lines_of_parts-onto_first byte ([] ∷ []) = grind (arith, nat_tests)
+lines_of_parts-onto_first byte ((first ∷ part) ∷ []) = grind (arith, nat_tests)
+
+-- any other byte begins the first line
+pub lines_of-byte : (byte : ℕ) (text : List ℕ) → is_line_feed byte ≡ false → lines_of (byte ∷ text) ≡ onto_first byte (lines_of text)
+unfolding lines_of
+lines_of-byte byte text other =
+    ap lines_of_parts (slice_split-cons_no is_line_feed byte text other) ∙ lines_of_parts-onto_first byte (slice_split is_line_feed text)
+
+onto_first-append : (byte : ℕ) (lines more : List (List ℕ)) → IsCons lines → onto_first byte (lines ++ more) ≡ onto_first byte lines ++ more
+unfolding IsCons
+onto_first-append byte [] more some = cc (some.2)
+onto_first-append byte (line ∷ lines) more some = refl
+
+-- a byte before a text that is not empty stands in that text's first line
+pub onto_first-lines_of : (byte : ℕ) (text : List ℕ) (more : List (List ℕ)) → 0 < length text → onto_first byte (lines_of text ++ more) ≡ onto_first byte (lines_of text) ++ more
+unfolding IsCons
+onto_first-lines_of byte text more some = onto_first-append byte (lines_of text) more (_, _, lines_of-first text some)

@@ -1,5 +1,5 @@
 -- The lines of a text.
-use Rattle.std.specs.Prelude.{ℕ, ◌==◌, List, [], ◌∷◌, ◌++◌, length, Bool, if◌then◌else◌}
+use Rattle.std.specs.Prelude.{ℕ, ◌==◌, List, [], ◌∷◌, ◌++◌, length, Bool, true, if◌then◌else◌}
 use Rattle.std.specs.List.{slice_split}
 
 abbrev pub is_line_feed : ℕ → Bool
@@ -19,3 +19,9 @@ lines_of text = lines_of_parts (slice_split is_line_feed text)
 abbrev pub unlines : List (List ℕ) → List ℕ
 unlines [] = []
 unlines (line ∷ lines) = line ++ 10 ∷ unlines lines
+
+-- whether the text is empty or a line feed ends it, so that more text begins with a line of its own
+abbrev pub is_closed : List ℕ → Bool
+is_closed [] = true
+is_closed (byte ∷ []) = is_line_feed byte
+is_closed (byte ∷ next ∷ text) = is_closed (next ∷ text)

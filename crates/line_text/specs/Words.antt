@@ -1,9 +1,9 @@
 -- The words of a line, and the significant lines of a text.
-use Rattle.std.specs.Prelude.{ℕ, ◌+◌, ◌==◌, ◌||◌, ◌&&◌, not, List, [], ◌∷◌, ◌++◌, length, filter, Bool, true, false, if◌then◌else◌, codes, map, slice_index_or}
+use Rattle.std.specs.Prelude.{◌≡◌, ℕ, ◌+◌, ◌==◌, ◌||◌, ◌&&◌, not, List, [], ◌∷◌, ◌++◌, length, filter, Bool, true, false, if◌then◌else◌, codes, map, slice_index_or}
 use Rattle.std.specs.Borrow.{Bor}
-use Rattle.std.specs.List.{slice_split, list_all}
+use Rattle.std.specs.List.{slice_split, list_all, AllByRecursion}
 use Rattle.std.specs.Str.{bytes_eq}
-use Rattle.line_text.specs.Lines.{is_line_feed, lines_of}
+use Rattle.line_text.specs.Lines.{is_line_feed, lines_of, unlines}
 
 -- the bytes of words that a program holds as pieces of a text
 abbrev pub texts_of : List (Bor (List ℕ)) → List (List ℕ)
@@ -56,3 +56,29 @@ abbrev pub unwords : List (List ℕ) → List ℕ
 unwords [] = []
 unwords (word ∷ []) = word
 unwords (word ∷ next ∷ words) = word ++ 32 ∷ unwords (next ∷ words)
+
+-- the text whose lines have these words
+abbrev pub written : List (List (List ℕ)) → List ℕ
+written lines = unlines (map unwords lines)
+
+-- a word: some bytes, none of which is a blank or a line feed
+abbrev pub is_word : List ℕ → Bool
+is_word word = not (length word == 0) && list_all (λ byte. not (is_blank byte || is_line_feed byte)) word
+
+abbrev pub AreWords : List (List ℕ) → Type 0
+AreWords words = AllByRecursion (λ word. is_word word ≡ true) words
+
+-- the words of a line that is not skipped
+pub record IsSignificant (words : List (List ℕ)) : Type 0 where
+  pub kept : is_skipped words ≡ false
+  pub each : AreWords words
+
+-- the words of a comment, a line that is skipped
+pub record IsComment (words : List (List ℕ)) : Type 0 where
+  pub skipped : is_skipped words ≡ true
+  pub each : AreWords words
+
+-- the lines with these words, numbered one after another
+abbrev pub numbered_from : ℕ → List (List (List ℕ)) → List SignificantLine
+numbered_from number [] = []
+numbered_from number (words ∷ lines) = record { number = number; words = words } ∷ numbered_from (number + 1) lines

@@ -7,14 +7,17 @@ ghost use Rattle.line_text.specs.Words.{texts_of};
 
 use std::alloc::{AllocError as Memory, Global};
 
+// The most digits that a number has, so that it fits 32 bits.
 const MOST_DIGITS: usize = 9;
 
+// Whether all bytes are ASCII digits.
 fn are_digits(word: &[u8]) -> bool
     ensures { result ≡ list_all is_ascii_digit word.now }
 {
     word.iter().all(|byte| byte.is_ascii_digit())
 }
 
+// The number that nine digits at most write.
 fn value_of_digits(digits: &[u8]) -> u32
     requires digits { list_all is_ascii_digit digits.now ≡ true }
     requires few { length digits.now ≤ 9 }
@@ -29,7 +32,9 @@ fn value_of_digits(digits: &[u8]) -> u32
     value
 }
 
-/// The number.
+/// The number that a word writes in decimal, from 0 to 999,999,999: one to nine ASCII digits, leading zeros allowed.
+///
+/// `None` exactly where the word is no number: where it has no byte, more than nine, or one that is no ASCII digit.
 #[tactic(auto, unfolding(crate::specs::Numerals::number_of))]
 pub fn number(word: &[u8]) -> Option<u32>
     ensures { result ≡ number_of word.now }
@@ -41,7 +46,7 @@ pub fn number(word: &[u8]) -> Option<u32>
     }
 }
 
-/// The numbers.
+/// The numbers that words write, in their order, or `None` exactly where one of the words is no number.
 pub fn numbers(alloc: Global, words: &[&[u8]]) -> Result<Option<Vec<u32>>, Memory>
     ensures { IfOk result (λ found. option_map (λ values. values.items) found ≡ numbers_of (texts_of words.now)) }
 {

@@ -1,13 +1,15 @@
 ghost use Rattle.std.specs.Prelude.{◌≡◌, ◌<◌, ◌-◌, ◌^◌, ℕ, map, length, IfOk, IfErr, Ok, Err};
 ghost use Rattle.std.specs.Option.{option_map};
 ghost use Rattle.line_text.specs.Words.{words_of};
-ghost use Rattle.line_text.specs.Formats.{Gives, Reads, state_after, finish, reading_of, placed, Stands, FirstFault, IsFirst};
+ghost use Rattle.line_text.specs.Format.{finish, Stands, FirstFault};
+ghost use Rattle.line_text.specs.Reading.{Gives, Reads, state_after, reading_of, placed, IsFirst};
 
 use crate::format::{LineFault, LineFormat, Refusal};
 use crate::lines::split_line;
 use crate::words::{is_skipped, split_words};
 use std::alloc::Global;
 
+// What has been read once this line is; before the header it is nothing.
 fn read_line<F: LineFormat>(
     alloc: Global,
     format: &F,
@@ -16,9 +18,7 @@ fn read_line<F: LineFormat>(
 ) -> Result<Option<F::Body>, Refusal<F::Kind>>
     ensures { Gives (option_map F.state) result (state_after (F.rules format.now) (option_map F.state body) (words_of line.now)) }
 {
-    let Ok(words) = split_words(alloc, line) else {
-        return Err(Refusal::Memory);
-    };
+    let words = split_words(alloc, line)?;
     if is_skipped(&words) {
         return Ok(body);
     }
@@ -29,6 +29,7 @@ fn read_line<F: LineFormat>(
     next.map(Some)
 }
 
+// What the text stands for, which ends here.
 fn read_end<F: LineFormat>(format: &F, body: Option<F::Body>) -> Result<F::Value, Refusal<F::Kind>>
     ensures { Gives F.meaning result (finish (F.rules format.now) (option_map F.state body)) }
 {
@@ -38,6 +39,7 @@ fn read_end<F: LineFormat>(format: &F, body: Option<F::Body>) -> Result<F::Value
     }
 }
 
+// The fault of a rule at a line.
 fn place<K>(refusal: Refusal<K>, line: u32) -> LineFault<K>
     ensures { result ≡ placed line refusal }
 {
@@ -47,6 +49,7 @@ fn place<K>(refusal: Refusal<K>, line: u32) -> LineFault<K>
     }
 }
 
+// Reads a text line by line.
 fn read_lines<F: LineFormat>(
     alloc: Global,
     format: &F,
@@ -72,17 +75,25 @@ fn read_lines<F: LineFormat>(
     }
 }
 
-/// Reads a text by a format.
+/// What a text stands for in a format, or its first fault.
+///
+/// `Ok` comes exactly where the text stands for a value, which is then the answer, and `LineFault::At` exactly where it
+/// has a first fault, with its line and kind; `LineFault::Memory` may come in place of either. Nothing but `header`, `line`
+/// and `close` of the format is asked, each once for a line that is not skipped and once for the end, and the time of
+/// the rest grows with the number of bytes.
 pub fn read<F: LineFormat>(
     alloc: Global,
     format: &F,
     text: &[u8],
 ) -> Result<F::Value, LineFault<F::Kind>>
+    // The number of a line, and that behind the last, fits 32 bits.
     requires { length text.now < 2 ^ 32 - 1 }
     ensures value { IfOk result (λ value. Stands (F.rules format.now) text.now (F.meaning value)) }
     ensures fault { IfErr result (IsFirst (F.rules format.now) text.now) }
-    ensures stands { (value : F.Meaning) → Stands (F.rules format.now) text.now value → Reads F.meaning result (Ok value) }
-    ensures breaks { (line : ℕ) (kind : F.Kind) → FirstFault (F.rules format.now) text.now line kind → Reads F.meaning result (Err (line, kind)) }
+    ensures stands { (value : F.Meaning) → Stands (F.rules format.now) text.now value
+        → Reads F.meaning result (Ok value) }
+    ensures breaks { (line : ℕ) (kind : F.Kind) → FirstFault (F.rules format.now) text.now line kind
+        → Reads F.meaning result (Err (line, kind)) }
 {
     read_lines(alloc, format, text)
 }

@@ -1,17 +1,20 @@
 ghost use Rattle.std.specs.Prelude.{◌≡◌, IfOk};
 ghost use Rattle.std.specs.List.{list_all, zip};
 ghost use Rattle.std.specs.Str.{bytes_eq};
-ghost use Rattle.line_text.specs.Words.{is_blank as blank, is_skipped as skipped, has_form as of_form, begin_with, word_at, words_of, texts_of};
+ghost use Rattle.line_text.specs.Words.{is_blank, is_skipped, has_form, begin_with, word_at, words_of, texts_of};
 
 use std::alloc::{AllocError as Memory, Global};
 
+// Whether the byte is a space, a tab or a carriage return.
 fn is_blank(byte: u8) -> bool
-    ensures { result ≡ blank byte }
+    ensures { result ≡ is_blank byte }
 {
     matches!(byte, b' ' | b'\t' | b'\r')
 }
 
-/// The words of a line.
+/// The words of a line, as pieces of it: its longest runs of bytes that are neither space, tab nor carriage return.
+///
+/// Takes memory for the list of the pieces alone.
 pub fn split_words(alloc: Global, line: &[u8]) -> Result<Vec<&[u8]>, Memory>
     ensures { IfOk result (λ found. texts_of found.items ≡ words_of line.now) }
 {
@@ -20,9 +23,9 @@ pub fn split_words(alloc: Global, line: &[u8]) -> Result<Vec<&[u8]>, Memory>
         .collect(alloc)
 }
 
-/// Whether a line with these words says nothing: it has no word, or its first word is `c`.
+/// Whether a line with these words is skipped: it has none, or its first word is exactly `c`, which marks a comment.
 pub fn is_skipped(words: &[&[u8]]) -> bool
-    ensures { result ≡ skipped (texts_of words.now) }
+    ensures { result ≡ is_skipped (texts_of words.now) }
 {
     match words.split_first() {
         None => true,
@@ -37,6 +40,7 @@ pub fn word<'a>(words: &[&'a [u8]], place: usize) -> &'a [u8]
     words.get(place).copied().unwrap_or(&[])
 }
 
+// Whether the words and the keywords are the same, as far as the shorter list goes.
 fn are_same(words: &[&[u8]], keywords: &[&str]) -> bool
     ensures { result ≡ list_all (λ pair. bytes_eq pair.0.now pair.1.now) (zip words.now keywords.now) }
 {
@@ -46,16 +50,17 @@ fn are_same(words: &[&[u8]], keywords: &[&str]) -> bool
         .all(|(word, keyword)| *word == keyword.as_bytes())
 }
 
+// Whether the first words are the keywords.
 fn start_with(words: &[&[u8]], keywords: &[&str]) -> bool
     ensures { result ≡ begin_with (texts_of words.now) (texts_of keywords.now) }
 {
     keywords.len() <= words.len() && are_same(words, keywords)
 }
 
-/// Whether there are so many words, the first of which are the keywords.
+/// Whether there are exactly `count` words, the first of which are the keywords, in their order.
 #[tactic(auto, unfolding(crate::specs::Words::has_form))]
 pub fn has_form(words: &[&[u8]], count: usize, keywords: &[&str]) -> bool
-    ensures { result ≡ of_form (texts_of words.now) count (texts_of keywords.now) }
+    ensures { result ≡ has_form (texts_of words.now) count (texts_of keywords.now) }
 {
     words.len() == count && start_with(words, keywords)
 }
