@@ -6,7 +6,7 @@ use Rattle.std.specs.declared.option.Option.TheVariants.{Some, None}
 use Rattle.std.specs.declared.result.Result.{Result}
 use Rattle.std.specs.declared.result.Result.TheVariants.{Ok, Err}
 use Rattle.outside.specs.Shelf.{Named, file_named}
-use Rattle.line_text.specs.Formats.{reading_of}
+use Rattle.line_text.specs.Reading.{reading_of}
 use Rattle.graph_core.specs.Graph.{Graph}
 use Rattle.graph_core.specs.Kinds.{kind_number}
 use Rattle.graph_core.specs.declared.faults.FaultKind.{FaultKind}

@@ -2,7 +2,7 @@
 ghost use Rattle.std.specs.Prelude.{◌≡◌, ◌≤◌, ◌<◌, ◌-◌, ◌^◌, List, ℕ, length, IfOk, OnErr, IsErrOf, IsTrue, Some, None};
 ghost use Rattle.outside.specs.Faults.{Rose};
 ghost use Rattle.outside.specs.Shelf.{Named, TellsFile, file_named};
-ghost use Rattle.line_text.specs.Formats.{reading_of};
+ghost use Rattle.line_text.specs.Reading.{reading_of};
 ghost use Rattle.graph_core.specs.Graph.{Graph};
 ghost use Rattle.graph_text.specs.VersionOne.{version_one};
 ghost use Rattle.bench_top.specs.Asked.{asked};

@@ -209,10 +209,6 @@ mem-item [] k d h = absurd (omega arith)
 mem-item (x ∷ xs) zero d h = or_left (x == x) (mem xs x) (eq-eqb x x refl)
 mem-item (x ∷ xs) (suc k) d h = or_right (x == slice_index_or xs k d) (mem xs (slice_index_or xs k d)) (mem-item xs k d (omega arith))
 
--- a narrower bound that holds of each number
-pub set-narrower : (m n : ℕ) (xs : List ℕ) → IsRisingIn m xs → ((v : ℕ) → mem xs v ≡ true → Within n v) → IsRisingIn n xs
-set-narrower m n xs r h = record { rising = r.rising; within = λ k d l. h (slice_index_or xs k d) (mem-item xs k d l) }
-
 -- a set is the list of each test that it answers
 pub list-from_test : (n : ℕ) (xs : List ℕ) (x : Set) → IsRisingIn n xs → ((v : ℕ) → Within n v → mem xs v ≡ x v) → xs ≡ rising_list n x
 list-from_test n xs x r h = same_rising_list n xs (rising_list n x) r (rising_list-rises n x) (λ v w. h v w ∙ sym (mem-rising_list n x v w))

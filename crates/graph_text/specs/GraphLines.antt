@@ -1,6 +1,6 @@
 -- The lines that both versions of the graph format share: what has been read so far, and an edge between numbered vertices.
 use Rattle.std.specs.Prelude.{ℕ, ◌==◌, ◌&&◌, ◌||◌, not, nat_lt, Bool, List, [], ◌∷◌, codes, Result, Ok, Err, if◌then◌else◌}
-use Rattle.line_text.specs.Formats.{checked}
+use Rattle.line_text.specs.Format.{checked}
 use Rattle.line_text.specs.Words.{has_form, word_at}
 use Rattle.line_text.specs.Numerals.{is_number, value_of}
 use Rattle.graph_core.specs.Graph.{Graph, size, with_edge}

@@ -1,6 +1,6 @@
 -- Version 1 of the graph format: a header `p mcg N M` and M lines `e A B`.
 use Rattle.std.specs.Prelude.{ℕ, ◌&&◌, ◌||◌, not, nat_lt, List, [], ◌∷◌, codes, Result}
-use Rattle.line_text.specs.Formats.{Rules, checked}
+use Rattle.line_text.specs.Format.{Rules, checked}
 use Rattle.line_text.specs.Words.{has_form, word_at}
 use Rattle.line_text.specs.Numerals.{is_number, value_of}
 use Rattle.graph_core.specs.Graph.{Graph}

@@ -1,6 +1,7 @@
 //! Version 1 of the graph format.
 ghost use Rattle.std.specs.Prelude.{◌≡◌, ◌<◌, ◌-◌, ◌^◌, ℕ, length, IfOk, IfErr, Ok, Err};
-ghost use Rattle.line_text.specs.Formats.{Gives, Stands, FirstFault};
+ghost use Rattle.line_text.specs.Reading.{Gives};
+ghost use Rattle.line_text.specs.Format.{Stands, FirstFault};
 ghost use Rattle.text_faults.specs.Readings.{IsFirstFault, ReadsText};
 ghost use Rattle.graph_core.specs.declared.faults.FaultKind.{FaultKind};
 ghost use Rattle.line_text.specs.Words.{texts_of};

@@ -1,6 +1,6 @@
 -- What a reader of a text answers, with the faults that all texts share.
 use Rattle.std.specs.Prelude.{◌≡◌, ℕ, List, Result, Ok, Err}
-use Rattle.line_text.specs.Formats.{Rules, FirstFault}
+use Rattle.line_text.specs.Format.{Rules, FirstFault}
 use Rattle.graph_core.specs.declared.faults.FaultKind.{FaultKind}
 use Rattle.graph_core.specs.declared.faults.TextFault.{TextFault}
 use Rattle.graph_core.specs.declared.faults.TextFault.TheVariants.{At, Memory}
