@@ -1,6 +1,6 @@
 -- The bytes that a loop of writes has appended so far. Two pieces appended in turn are one; the piece that is handed over
 -- is the rest of the output.
-use Rattle.std.proofs.Common.{◌≡◌, ℕ, ◌+◌, ◌-◌, List, length, take, drop, sym, subst, ◌∙◌, ap, arith, length-drop}
+use Rattle.std.proofs.Common.{◌≡◌, ℕ, ◌+◌, ◌-◌, List, length, take, drop, subst, ◌∙◌, ap, arith, length-drop}
 use Rattle.std.proofs.lemmas.List.{take_all}
 use Rattle.std.specs.declared.option.Option.{Option}
 use Rattle.outside.specs.Sink.{appended}

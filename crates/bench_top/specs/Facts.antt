@@ -1,5 +1,5 @@
 -- What the lines of a report claim of a graph.
-use Rattle.std.specs.Prelude.{◌≡◌, ◌↔◌, ℕ, true, IsTrue}
+use Rattle.std.specs.Prelude.{◌≡◌, ◌↔◌, IsTrue}
 use Rattle.counting.specs.Sets.{none}
 use Rattle.graph_core.specs.Graph.{Graph, size, IsBipartite}
 use Rattle.graph_core.specs.Components.{component_count}

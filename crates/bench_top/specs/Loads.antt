@@ -1,10 +1,8 @@
 -- What loading a file, or the files of a command, answers.
-use Rattle.std.specs.Prelude.{◌≡◌, ℕ, List}
-use Rattle.std.specs.declared.option.Option.{Option}
-use Rattle.std.specs.declared.option.Option.TheVariants.{Some, None}
+use Rattle.std.specs.Prelude.{◌≡◌}
 use Rattle.std.specs.declared.result.Result.{Result}
 use Rattle.std.specs.declared.result.Result.TheVariants.{Ok, Err}
-use Rattle.bench_top.specs.Loading.{Loaded, All, Bad, Absent, Inputs, OneGraph}
+use Rattle.bench_top.specs.Loading.{Loaded, All, Bad, Inputs, OneGraph}
 use Rattle.bench_top.specs.declared.stop.Stop.{Stop}
 use Rattle.bench_top.specs.declared.stop.Stop.TheVariants as stop
 use Rattle.bench_top.specs.declared.inputs.Inputs.TheVariants as code

@@ -1,4 +1,4 @@
-use Rattle.std.proofs.Common.{rules, arith}
+use Rattle.std.proofs.Common.{rules}
 use Rattle.bench_top.proofs.Appends.{appended_more}
 use Rattle.bench_top.proofs.emit.emit.Goals as goal
 

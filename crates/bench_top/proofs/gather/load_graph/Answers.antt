@@ -1,6 +1,5 @@
-use Rattle.std.proofs.Common.{subst, sym, ◌∙◌, ap, List, ℕ, Err, ◌≡◌, Ok}
+use Rattle.std.proofs.Common.{subst, sym, ◌∙◌, ap}
 use Rattle.outside.proofs.HeldFiles.{TellsFile-told}
-use Rattle.line_text.specs.Format.{Stands, FirstFault}
 use Rattle.line_text.specs.Reading.{reading_of}
 use Rattle.line_text.proofs.ExactlyOne.{Stands-reading_of, FirstFault-reading_of}
 use Rattle.text_faults.specs.Readings.{IsFirstFault}

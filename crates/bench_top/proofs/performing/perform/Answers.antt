@@ -1,4 +1,4 @@
-use Rattle.std.proofs.Common.{List, ℕ, ◌≡◌, length, take, subst, sym, ◌<◌}
+use Rattle.std.proofs.Common.{List, ℕ, ◌≡◌, length, take, subst, ◌<◌}
 use Rattle.outside.specs.Sink.{appended}
 use Rattle.bench_top.proofs.performing.perform.Goals as goal
 
