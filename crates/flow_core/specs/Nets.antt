@@ -26,8 +26,8 @@ abbrev pub IsNet : Net → Type 0
 IsNet net = All (IsArc net.nodes) net.arcs
 
 -- the net with one arc more, which comes last
-abbrev pub with_arc : Net → Arc → Net
-with_arc net arc = record net { arcs = net.arcs ++ arc ∷ [] }
+abbrev pub with_arc : Net → ℕ → ℕ → ℕ → Net
+with_arc net a b capacity = record net { arcs = net.arcs ++ record { a = a; b = b; capacity = capacity } ∷ [] }
 
 -- the sum of the capacities
 abbrev pub total_capacity : Net → ℕ

@@ -12,6 +12,6 @@ abbrev pub net_of : ℕ → List StoredArc → Net
 net_of k arcs = record { nodes = k; arcs = map arc_of arcs }
 
 -- a net within its limits, and its total capacity
-pub record IsKept (net : Net) (total : ℕ) : Type 0 where
+pub record HasTotal (net : Net) (total : ℕ) : Type 0 where
   pub bounded : IsBounded net
   pub sum : total ≡ total_capacity net

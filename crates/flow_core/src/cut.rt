@@ -12,16 +12,24 @@ use crate::search::{Outcome, search};
 use std::alloc::{AllocError as Memory, Global};
 use vset_core::VSet;
 
-/// What `min_cut` answers.
+/// What `min_cut` answers: a cut within the bound, or a flow above it.
 #[derive(Drop)]
 pub enum CutAnswer {
-    /// The least minimum cut: the nodes on the source's side, and its value.
+    /// The least minimum cut: its nodes, the source among them and the sink not, and its value.
     Cut { set: VSet, value: u64 },
-    /// A flow, which shows that each cut has a value above the bound.
+    /// A flow whose value is above the bound. No set of nodes with the source and without the sink has a value below it.
     Exceeds { flow: Flow },
 }
 
-/// The least minimum cut.
+/// The least minimum cut between source and sink, up to a bound. The sets meant here are those of nodes that hold the source and
+/// not the sink.
+///
+/// The answer is `Cut` exactly where some such set has a value of at most `above`. Its value is then the least of all, and its
+/// set lies inside each other such set of that value. Otherwise the answer is `Exceeds` with a flow of a value above `above`:
+/// by the theorem of Ford and Fulkerson on flows and cuts this shows that each such set has a value above `above`.
+///
+/// The flow grows along shortest paths (Edmonds and Karp), so that the number of rounds is bounded by the nodes and arcs of
+/// the net, and it stops as soon as it passes the bound. Out of memory is the only error.
 pub fn min_cut(
     alloc: Global,
     net: &Net,

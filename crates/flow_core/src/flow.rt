@@ -9,7 +9,9 @@ use crate::search::Visit;
 use crate::signed_list::SignedList;
 use std::alloc::{AllocError as Memory, Global};
 
-/// A flow: one amount for each arc of the net, in the order of the arcs and positive from `a` to `b`, and its value.
+/// A flow from a source to a sink of a net: one amount for each arc, in the order of the arcs and positive from `a` to `b`. No
+/// amount exceeds its arc's capacity in either direction, and at each node but source and sink as much comes in as goes out. Its
+/// value is what goes out of the source less what comes into it.
 #[derive(Drop)]
 pub struct Flow {
     pub on: SignedList,

@@ -1,6 +1,7 @@
 //! Nets, and how they grow.
-ghost use Rattle.std.specs.Prelude.{◌≡◌, ◌+◌, ◌≤◌, ◌<◌, ◌^◌, [], IfOk, OnOk, OnErr, length};
-ghost use Rattle.flow_core.specs.Nets.{IsArc, IsBounded, with_arc, total_capacity};
+ghost use Rattle.std.specs.Prelude.{◌≡◌, ◌≢◌, ◌+◌, ◌≤◌, ◌<◌, ◌^◌, [], IfOk, OnOk, OnErr, length};
+ghost use Rattle.counting.specs.Counts.{Within};
+ghost use Rattle.flow_core.specs.Nets.{IsBounded, with_arc, total_capacity};
 ghost use Rattle.flow_core.specs.Residual.{arc_at};
 ghost use Rattle.flow_core.specs.View.{arc_of};
 
@@ -9,7 +10,9 @@ use std::alloc::{AllocError as Memory, Global};
 use std::marker::Model;
 use vset_core::MOST_VERTICES;
 
-/// A network.
+/// A network with nodes 1 to k, k at most `MOST_VERTICES`, and undirected arcs with capacities, whose sum is below 2^63. Parallel
+/// arcs and capacities of 0 are allowed. Contracts see it as its number of nodes and its list of arcs, in the order in which they
+/// were added; the value of a set of nodes is the sum of the capacities of the arcs with exactly one node in it (`value_of`).
 #[derive(Drop)]
 pub struct Net {
     nodes: u32,
@@ -20,17 +23,17 @@ pub struct Net {
 impl Model for Net {
     ghost use Rattle.std.specs.Prelude.{◌≡◌, ◌≤◌};
     ghost use Rattle.flow_core.specs.Nets.{Net};
-    ghost use Rattle.flow_core.specs.View.{net_of, IsKept};
+    ghost use Rattle.flow_core.specs.View.{net_of, HasTotal};
 
     ghost Value = { Net };
 
     ghost view = { λ net. net_of net.nodes net.arcs.items };
 
-    ghost invariant = { λ net. IsKept (net_of net.nodes net.arcs.items) net.total };
+    ghost invariant = { λ net. HasTotal (net_of net.nodes net.arcs.items) net.total };
 }
 
 impl Net {
-    /// The net of `k` nodes without arcs.
+    /// The net of the nodes 1 to `k` without arcs.
     pub fn new(alloc: Global, k: u32) -> Result<Net, Memory>
         requires { k ≤ MOST_VERTICES }
         ensures { IfOk result (λ net. net ≡ record { nodes = k; arcs = [] }) }
@@ -50,11 +53,13 @@ impl Net {
         self.total
     }
 
-    /// Appends one arc.
+    /// Appends one arc between `a` and `b` with this capacity. After `Memory` the net is unchanged.
     pub fn add(&mut self, a: u32, b: u32, capacity: u64) -> Result<(), Memory>
-        requires arc { IsArc self.old.nodes (record { a = a; b = b; capacity = capacity }) }
+        requires from_a { Within self.old.nodes a }
+        requires to_b { Within self.old.nodes b }
+        requires differ { a ≢ b }
         requires below { total_capacity self.old + capacity < 2 ^ 63 }
-        ensures ok { OnOk result (self.new ≡ with_arc self.old (record { a = a; b = b; capacity = capacity })) }
+        ensures ok { OnOk result (self.new ≡ with_arc self.old a b capacity) }
         ensures err { OnErr result (self.new ≡ self.old) }
     {
         self.arcs.push(Arc { a, b, capacity })?;

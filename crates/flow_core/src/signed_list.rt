@@ -1,11 +1,10 @@
-//! Lists of signed numbers.
-ghost use Rattle.std.specs.Prelude.{◌≡◌, ◌<◌, ◌++◌, [], ◌∷◌, OnOk, OnErr, length, pos, replicate, slice_get, slice_set, IfOk};
-ghost use Rattle.flow_core.specs.Residual.{amount_at};
+//! Lists of signed numbers, as the amounts of a flow.
+ghost use Rattle.std.specs.Prelude.{◌≡◌, ◌<◌, ◌++◌, ◌∷◌, [], ◌==◌, OnOk, OnErr, length, pos, replicate, slice_get, slice_set, IfOk};
 
 use std::alloc::{AllocError as Memory, Global};
 use std::marker::Model;
 
-/// A list of signed numbers, which contracts see as a list.
+/// A list of signed numbers, seen by contracts as a list of integers.
 #[derive(Drop)]
 pub struct SignedList {
     items: Vec<i64>,
@@ -36,6 +35,13 @@ impl SignedList {
         self.items.len()
     }
 
+    /// Whether there is no item. Takes no memory.
+    pub fn is_empty(&self) -> bool
+        ensures { result ≡ (length self.now == 0) }
+    {
+        self.items.is_empty()
+    }
+
     /// The item at place `i`, counted from 0. Takes no memory.
     pub fn get(&self, i: usize) -> i64
         requires { i < length self.now }
@@ -44,13 +50,20 @@ impl SignedList {
         self.items[i]
     }
 
-    /// Appends the item. After `Memory` the list is unchanged.
+    /// Appends an item. After `Memory` the list is unchanged.
     pub fn push(&mut self, item: i64) -> Result<(), Memory>
         ensures ok { OnOk result (self.new ≡ self.old ++ item ∷ []) }
         ensures err { OnErr result (self.new ≡ self.old) }
     {
         self.items.push(item)?;
         Ok(())
+    }
+
+    /// The items as a slice. Takes no memory.
+    pub fn as_slice(&self) -> &[i64]
+        ensures { result.now ≡ self.now }
+    {
+        &self.items
     }
 
     /// The list of `n` zeros.
