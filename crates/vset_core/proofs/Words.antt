@@ -2,6 +2,9 @@
 -- and the list of the made word then has the numbers that the sets' tests say.
 use Rattle.std.proofs.Common.{◌≡◌, ℕ, zero, suc, ◌-◌, ◌*◌, ◌/◌, ◌%◌, ◌^◌, ◌≤◌, ◌<◌, ◌==◌, ◌||◌, ◌&&◌, not, List, [], ◌∷◌, refl, sym, ◌∙◌, ap, ap₂, arith, Bool, true, false, subst, eq-eqb, ne_eqb, inl, inr, bit_and, bit_or}
 use Rattle.std.specs.Prelude.{min, max}
+use Rattle.std.proofs.lemmas.Bool.Decides.{Decides-eqb, Decides-like, same_from_decides}
+use Rattle.std.proofs.lemmas.Slice.Eq.{bytes_eq-Decides}
+use Rattle.std.specs.Str.{bytes_eq}
 use Rattle.std.specs.Int.{bit_at, bit_not, w128}
 use Rattle.std.proofs.lemmas.Bool.{and_parts, both_ways, cases_eq, cases_lt, not-true, true≢false}
 use Rattle.counting.specs.Counts.{Within}
@@ -9,8 +12,8 @@ use Rattle.std.proofs.lemmas.Nat.Bits.{bit_at-lt, bit_at_and, bit_at_or, bit_at_
 use Rattle.std.proofs.lemmas.Nat.{or_lt, one_shl, and_le_l}
 use Rattle.counting.specs.Lists.{is_subset, mem}
 use Rattle.counting.proofs.RisingLists.{all_in_false, false_all_in, no_members, same_rising_list, set-one}
-use Rattle.vset_core.specs.Words.{in_word, members}
-use Rattle.vset_core.specs.WordLaws.{in_word_above, mem-members, members-rise}
+use Rattle.vset_core.specs.Words.{in_word, members, word_of_list}
+use Rattle.vset_core.specs.WordLaws.{word_of_list-members, in_word_above, mem-members, members-rise}
 
 -- a number of the set, by the word that stands for it
 pub seen : (word : ℕ) (set : List ℕ) → members word ≡ set → word < 2 ^ 128 → (v : ℕ) → mem set v ≡ in_word word v
@@ -132,3 +135,13 @@ minus-subset a b s t p q h k = zero_test (bit_and a (bit_not w128 b)) (and_fits 
 
     missing : is_subset s t ≡ false → (v : ℕ) × (in_word (bit_and a (bit_not w128 b)) v ≡ true)
     missing f = let found = false_all_in s (mem t) f in (found.0, has found.0 ∙ rw (found.1, found.2) refl)
+
+-- two words are equal exactly where their sets are
+pub same_word : (a b : ℕ) (s t : List ℕ) → members a ≡ s → members b ≡ t → a < 2 ^ 128 → b < 2 ^ 128 → (a == b) ≡ bytes_eq s t
+same_word a b s t p q h k = same_from_decides (a == b) (bytes_eq s t) (Decides-like (a == b) same back (Decides-eqb a b)) (bytes_eq-Decides s t)
+  where
+    same : a ≡ b → s ≡ t
+    same e = sym p ∙ ap members e ∙ q
+
+    back : s ≡ t → a ≡ b
+    back e = sym (word_of_list-members a h) ∙ ap word_of_list (p ∙ e ∙ sym q) ∙ word_of_list-members b k

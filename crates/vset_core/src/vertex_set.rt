@@ -1,5 +1,7 @@
 //! The type `VSet`.
-ghost use Rattle.std.specs.Prelude.{◌≡◌, ◌≤◌, ◌<◌, ◌||◌, ◌&&◌, ◌==◌, ◌↔◌, not, ℕ, length, [], ◌∷◌, IfSome, IfNone, true, false};
+ghost use Rattle.std.specs.Prelude.{◌≡◌, ◌≤◌, ◌<◌, ◌||◌, ◌&&◌, ◌==◌, ◌↔◌, not, ℕ, length, [], ◌∷◌, IfSome, IfNone, true, false, bytes_eq};
+ghost use Rattle.std.specs.Cmp.{partial_equiv_from_equiv};
+ghost use Rattle.std.specs.Cmp.Lexicographic.{nat_list_eq_equiv};
 ghost use Rattle.counting.specs.Counts.{Within};
 ghost use Rattle.counting.specs.Lists.{mem, IsRisingIn, IsLeastOf, IsGreatestOf, IsNextAfter, is_subset, rising_list};
 ghost use Rattle.counting.specs.Sets.{everything};
@@ -158,7 +160,7 @@ impl VSet {
         if self.word == 0 {
             return None;
         }
-        Some(128 - self.word.leading_zeros())
+        Some(u128::BITS - self.word.leading_zeros())
     }
 
     /// The least member above `v`; `None` exactly where no member is above `v`.
@@ -191,4 +193,18 @@ impl VSet {
         others.rises();
         Some((v, others))
     }
+}
+
+impl PartialEq for VSet {
+    ghost eq = { bytes_eq };
+
+    ghost laws = { partial_equiv_from_equiv nat_list_eq_equiv };
+
+    fn eq(&self, o: &VSet) -> bool {
+        self.word == o.word
+    }
+}
+
+impl Eq for VSet {
+    ghost laws = { nat_list_eq_equiv };
 }
