@@ -60,7 +60,7 @@ pub rising_list-rises : (n : ℕ) (x : Set) → IsRisingIn n (rising_list n x)
 rising_list-rises n x = set-from_rises n (rising_list n x) (rises-rising_list n x)
 
 -- two answers that are true together
-same_answers : (a b : Bool) → (a ≡ true → b ≡ true) → (b ≡ true → a ≡ true) → a ≡ b
+pub same_answers : (a b : Bool) → (a ≡ true → b ≡ true) → (b ≡ true → a ≡ true) → a ≡ b
 same_answers true b f g = sym (f refl)
 same_answers false true f g = g refl
 same_answers false false f g = refl
@@ -202,12 +202,6 @@ set-wider n m xs l r = set-from_rises m xs (rises-wider 1 n m xs l (rises-from_s
 -- the list of all numbers 1 to n has just those
 pub mem-all : (n v : ℕ) → (mem (rising_list n everything) v ≡ true) ↔ Within n v
 mem-all n v = (mem-within n (rising_list n everything) (rising_list-rises n everything) v, λ w. mem-rising_list n everything v w)
-
--- each item of a list is a number of it
-pub mem-item : (xs : List ℕ) (k d : ℕ) → k < length xs → mem xs (slice_index_or xs k d) ≡ true
-mem-item [] k d h = absurd (omega arith)
-mem-item (x ∷ xs) zero d h = or_left (x == x) (mem xs x) (eq-eqb x x refl)
-mem-item (x ∷ xs) (suc k) d h = or_right (x == slice_index_or xs k d) (mem xs (slice_index_or xs k d)) (mem-item xs k d (omega arith))
 
 -- a set is the list of each test that it answers
 pub list-from_test : (n : ℕ) (xs : List ℕ) (x : Set) → IsRisingIn n xs → ((v : ℕ) → Within n v → mem xs v ≡ x v) → xs ≡ rising_list n x
