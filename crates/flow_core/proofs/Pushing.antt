@@ -7,7 +7,7 @@ use Rattle.std.proofs.lemmas.List.{get_or-set_other}
 use Rattle.flow_core.specs.Nets.{Arc, Net, IsArc, IsNet, IsBounded}
 use Rattle.flow_core.specs.Flows.{out_by, goes_out, Fits, IsFlow}
 use Rattle.flow_core.specs.Residual.{arc_at, amount_at, Joins, room_from, sent_amount}
-use Rattle.flow_core.specs.Search.{visit_at, node_at, first_node, last_node, IsVisit, IsTree, HasPath}
+use Rattle.flow_core.specs.Search.{visit_at, node_at, first_node, last_node, IsVisit, IsTree}
 use Rattle.flow_core.specs.declared.search.Visit.{Visit}
 use Rattle.flow_core.proofs.Reading.{IsNet-at}
 use Rattle.flow_core.proofs.Duality.{Fits-at, flow-le-total}
@@ -112,7 +112,7 @@ IsPushed-last net old visits d l f r = record {
     same z = omega (arith, ints)
 
 -- one step back
-module _ (net : Net) (is : IsNet net) (old amounts : List ℤ) (visits : List Visit) (seen : List ℕ) (tree : IsTree net old visits seen) (d at : ℕ) (p : IsPushed net old amounts visits d at) (some : 0 < at) where
+module _ (net : Net) (is : IsNet net) (old amounts : List ℤ) (visits : List Visit) (tree : IsTree net old visits) (d at : ℕ) (p : IsPushed net old amounts visits d at) (some : 0 < at) where
   abbrev visit : Visit
   visit = visit_at visits at
 
@@ -142,7 +142,7 @@ module _ (net : Net) (is : IsNet net) (old amounts : List ℤ) (visits : List Vi
     long = let e = here.earlier in let l = p.long in omega arith;
     fits = Fits-set net.arcs amounts visit.arc (sent_amount arc from.node (amount_at amounts visit.arc) d) p.fits push-fits;
     room = let r = p.room in let b = here.step.below in omega arith;
-    rest = λ j q l. get_or-set_other amounts visit.arc (visit_at visits j).arc (sent_amount arc from.node (amount_at amounts visit.arc) d) (pos 0) (arcs-differ net old visits seen tree j at q (let e = here.earlier in omega arith) p.long) ∙ p.rest j q (let e = here.earlier in omega arith);
+    rest = λ j q l. get_or-set_other amounts visit.arc (visit_at visits j).arc (sent_amount arc from.node (amount_at amounts visit.arc) d) (pos 0) (arcs-differ net old visits tree j at q (let e = here.earlier in omega arith) p.long) ∙ p.rest j q (let e = here.earlier in omega arith);
     out = λ v.
         let a = goes_out-set net.arcs amounts visit.arc (sent_amount arc from.node (amount_at amounts visit.arc) d) v p.fits here.step.is_arc in
         let b = out_by-sent_amount net.nodes arc from.node visit.node (amount_at amounts visit.arc) d v (IsNet-at net is visit.arc here.step.is_arc) here.step.joins in
@@ -168,12 +168,12 @@ IsPushed-first net old amounts visits value d differ flow p = record {
     first s t new was e f h k = let g = rw (e, f) at h in omega (arith, ints)
 
 -- which is still at most all capacities
-pub pushed-flow : (net : Net) (old amounts : List ℤ) (visits : List Visit) (value d at : ℕ) → HasPath net old visits → IsFlow net (first_node visits) (last_node visits) old value → IsPushed net old amounts visits d at → at ≤ 0 → IsFlow net (first_node visits) (last_node visits) amounts (value + d)
-pushed-flow net old amounts visits value d at path flow p l =
+pub pushed-flow : (net : Net) (old amounts : List ℤ) (visits : List Visit) (value d at : ℕ) → first_node visits ≢ last_node visits → IsFlow net (first_node visits) (last_node visits) old value → IsPushed net old amounts visits d at → at ≤ 0 → IsFlow net (first_node visits) (last_node visits) amounts (value + d)
+pushed-flow net old amounts visits value d at differ flow p l =
     let e : at ≡ 0 = omega arith in
-    IsPushed-first net old amounts visits value d path.differ flow (subst (IsPushed net old amounts visits d) e p)
+    IsPushed-first net old amounts visits value d differ flow (subst (IsPushed net old amounts visits d) e p)
 
-pub flow-below : (net : Net) → IsBounded net → (amounts : List ℤ) (visits : List Visit) (old : List ℤ) (value : ℕ) → HasPath net old visits → IsFlow net (first_node visits) (last_node visits) amounts value → value < 2 ^ 63
-flow-below net b amounts visits old value path flow =
-    let t = flow-le-total net (first_node visits) (last_node visits) amounts value b.arcs (path.tree.nodes 0 path.tree.some) flow path.differ in
+pub flow-below : (net : Net) → IsBounded net → (amounts : List ℤ) (visits : List Visit) (old : List ℤ) (value : ℕ) → IsTree net old visits → first_node visits ≢ last_node visits → IsFlow net (first_node visits) (last_node visits) amounts value → value < 2 ^ 63
+flow-below net b amounts visits old value tree differ flow =
+    let t = flow-le-total net (first_node visits) (last_node visits) amounts value b.arcs (tree.nodes 0 tree.some) flow differ in
     let m = b.total in omega arith

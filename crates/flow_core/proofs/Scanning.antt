@@ -12,10 +12,10 @@ use Rattle.counting.proofs.Lists.{or_front, or_back}
 use Rattle.flow_core.specs.Nets.{Arc, Net, IsArc, IsNet}
 use Rattle.flow_core.specs.Residual.{arc_at, amount_at, Joins, room_from, HasRoom, IsScanned}
 use Rattle.flow_core.specs.Incidence.{row_at, HasEnd, IsIncidence}
-use Rattle.flow_core.specs.Search.{visit_at, node_at, first_node, last_node, IsStep, IsTree, IsSearch}
+use Rattle.flow_core.specs.Search.{visit_at, node_at, first_node, last_node, IsStep, IsTree, IsSeen, IsSearch}
 use Rattle.flow_core.specs.declared.search.Visit.{Visit}
 use Rattle.flow_core.proofs.Reading.{IsNet-at}
-use Rattle.flow_core.proofs.SearchTrees.{IsTree-push, visit_at-push, room-some}
+use Rattle.flow_core.proofs.SearchTrees.{IsTree-push, IsSeen-push, unseen-new, visit_at-push, room-some}
 
 -- arc i has no room out of u, or leads into x
 abbrev pub IsArcScanned : List Arc → List ℤ → Set → ℕ → ℕ → Type 0
@@ -114,13 +114,16 @@ module _ (net : Net) (amounts : List ℤ) (sink head : ℕ) (from : Visit) (row 
   is_seen : mem more node ≡ true
   is_seen = h node ∙ or_back (mem seen node) (node == node) (eq-eqb node node refl)
 
+  node_within : Within net.nodes node
+  node_within = end_within net.nodes (arc_at net.arcs (get_or row place 0)) from.node node t.in_order t.joins
+
   from_some : 0 < from.room
-  from_some = subst (λ (u : Visit). 0 < u.room) s.at_head (room-some net amounts visits seen s.search.tree head s.long)
+  from_some = subst (λ (u : Visit). 0 < u.room) s.at_head (room-some net amounts visits s.search.tree head s.long)
 
   -- the tree with the new visit
-  pub taken-tree : IsTree net amounts longer more
-  taken-tree = subst (λ (vs : List Visit). IsTree net amounts vs more) (sym grown) (
-      IsTree-push net amounts visits seen s.search.tree last more s.long
+  pub taken-tree : IsTree net amounts longer
+  taken-tree = subst (IsTree net amounts) (sym grown) (
+      IsTree-push net amounts visits s.search.tree last s.long
       (subst (λ (u : Visit). IsStep net.arcs amounts u last) (sym s.at_head) (record {
         is_arc = t.is_arc;
         joins = t.joins;
@@ -128,7 +131,7 @@ module _ (net : Net) (amounts : List ℤ) (sink head : ℕ) (from : Visit) (row 
         within = let e = t.room_is in omega (arith, ints);
         below = omega arith;
       }))
-      (end_within net.nodes (arc_at net.arcs (get_or row place 0)) from.node node t.in_order t.joins) new h
+      node_within (unseen-new net visits seen s.search.set node new)
       )
 
   -- its last node
@@ -151,6 +154,7 @@ module _ (net : Net) (amounts : List ℤ) (sink head : ℕ) (from : Visit) (row 
   IsScanning-take d = record {
     search = record {
       tree = taken-tree;
+      set = subst (λ (vs : List Visit). IsSeen net vs more) (sym grown) (IsSeen-push net visits seen s.search.set last more node_within new h);
       unseen = h sink ∙ ap (λ b. b || node == sink) s.search.unseen ∙ ne_eqb node sink d;
       scanned = λ j l w r. stays w (s.search.scanned j l w (subst (λ u. HasRoom net.arcs amounts u w) (ap (λ (u : Visit). u.node) (earlier j (let k = s.long in omega arith))) r));
     };
@@ -164,6 +168,7 @@ pub IsScanning-end : (net : Net) (rows : List (List ℕ)) (amounts : List ℤ) (
     → IsScanning net amounts sink head from row place visits seen → IsSearch net amounts sink (head + 1) visits seen
 IsScanning-end net rows amounts sink head from row place visits seen lists is e s = record {
   tree = s.search.tree;
+  set = s.search.set;
   unseen = s.search.unseen;
   scanned = below_more (λ j. IsScanned net.arcs amounts (mem seen) (node_at visits j)) head s.search.scanned (λ w r. here w (subst (λ u. HasRoom net.arcs amounts u w) (ap (λ (u : Visit). u.node) s.at_head) r));
 }

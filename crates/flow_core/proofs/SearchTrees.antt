@@ -14,7 +14,7 @@ use Rattle.counting.proofs.Choice.{count_put}
 use Rattle.counting.proofs.Lists.{or_front, or_back}
 use Rattle.flow_core.specs.Nets.{Arc, Net}
 use Rattle.flow_core.specs.Residual.{arc_at, Joins, HasRoom, IsReached, IsScanned, IsReachedSet}
-use Rattle.flow_core.specs.Search.{visit_at, node_at, IsStep, IsVisit, IsTree, IsSearch}
+use Rattle.flow_core.specs.Search.{visit_at, node_at, IsStep, IsVisit, IsTree, IsSeen, IsSearch}
 use Rattle.flow_core.specs.declared.search.Visit.{Visit}
 
 -- the default visit
@@ -81,89 +81,98 @@ count-with n x y v w f h =
     ]
 
 -- one visit, at the root
-pub IsTree-root : (net : Net) (amounts : List ℤ) (visit : Visit) (seen : List ℕ) → Within net.nodes visit.node → visit.room ≡ 2 ^ 63 - 1 → ((v : ℕ) → mem seen v ≡ (visit.node == v)) → IsTree net amounts (visit ∷ []) seen
-IsTree-root net amounts visit seen w r h = record {
+pub IsTree-root : (net : Net) (amounts : List ℤ) (visit : Visit) → Within net.nodes visit.node → visit.room ≡ 2 ^ 63 - 1 → IsTree net amounts (visit ∷ [])
+IsTree-root net amounts visit w r = record {
   some = omega arith;
   root = r;
   each = λ j p l. absurd (omega arith);
-  nodes = λ j l. subst (λ i. Within net.nodes (node_at (visit ∷ []) i)) (first j l) w;
+  nodes = λ j l. let e : 0 ≡ j = omega arith in subst (λ i. Within net.nodes (node_at (visit ∷ []) i)) e w;
   distinct = λ i j k l. absurd (omega arith);
-  all_seen = λ j l. subst (λ i. mem seen (node_at (visit ∷ []) i) ≡ true) (first j l) (h visit.node ∙ eq-eqb visit.node visit.node refl);
+}
+
+pub IsSeen-root : (net : Net) (visit : Visit) (seen : List ℕ) → Within net.nodes visit.node → ((v : ℕ) → mem seen v ≡ (visit.node == v)) → IsSeen net (visit ∷ []) seen
+IsSeen-root net visit seen w h = record {
+  all_seen = λ j l. let e : 0 ≡ j = omega arith in subst (λ i. mem seen (node_at (visit ∷ []) i) ≡ true) e (h visit.node ∙ eq-eqb visit.node visit.node refl);
   seen_only = λ v m. (0, omega arith, same v m);
   size = sym (count_congr net.nodes (mem seen) (λ v. visit.node == v) (λ v k. h v) ∙ count_of_one net.nodes everything visit.node w);
 }
   where
-    first : (j : ℕ) → j < 1 → 0 ≡ j
-    first j l = omega arith
-
     same : (v : ℕ) → mem seen v ≡ true → visit.node ≡ v
     same v m = elim (cases_eq visit.node v) [
       | inl e ↦ e
       | inr d ↦ absurd (both_ways (mem seen v) (h v ∙ ne_eqb visit.node v d) m)
     ]
 
+-- a place of the longer list is old or the last
+old_place : (visits : List Visit) (visit : Visit) (j : ℕ) → j < length (visits ++ visit ∷ []) → j ≢ length visits → j < length visits
+old_place visits visit j l d = omega (arith, length-push visits visit)
+
+old_node : (visits : List Visit) (visit : Visit) (j : ℕ) → j < length visits → node_at (visits ++ visit ∷ []) j ≡ node_at visits j
+old_node visits visit j l = ap (λ (u : Visit). u.node) (visit_at-push visits visit j l)
+
+new_node : (visits : List Visit) (visit : Visit) (j : ℕ) → j ≡ length visits → node_at (visits ++ visit ∷ []) j ≡ visit.node
+new_node visits visit j e = ap (node_at (visits ++ visit ∷ [])) e ∙ ap (λ (u : Visit). u.node) (visit_at-last visits visit)
+
 -- one visit more, at a new node
-pub IsTree-push : (net : Net) (amounts : List ℤ) (visits : List Visit) (seen : List ℕ) → IsTree net amounts visits seen
-    → (visit : Visit) (more : List ℕ) → visit.parent < length visits → IsStep net.arcs amounts (visit_at visits visit.parent) visit → Within net.nodes visit.node → mem seen visit.node ≡ false
-    → ((v : ℕ) → mem more v ≡ (mem seen v || visit.node == v))
-    → IsTree net amounts (visits ++ visit ∷ []) more
-IsTree-push net amounts visits seen tree visit more p s w f h = record {
+pub IsTree-push : (net : Net) (amounts : List ℤ) (visits : List Visit) → IsTree net amounts visits
+    → (visit : Visit) → visit.parent < length visits → IsStep net.arcs amounts (visit_at visits visit.parent) visit → Within net.nodes visit.node → ((j : ℕ) → j < length visits → node_at visits j ≢ visit.node)
+    → IsTree net amounts (visits ++ visit ∷ [])
+IsTree-push net amounts visits tree visit p s w new = record {
   some = let l = tree.some in omega (arith, length-push visits visit);
   root = ap (λ (u : Visit). u.room) (visit_at-push visits visit 0 tree.some) ∙ tree.root;
-  each = λ j q l. elim (cases_eq j n) [
-    | inl e ↦ subst (IsVisit net.arcs amounts longer) (sym e) (IsVisit-last net.arcs amounts visits visit p s)
-    | inr d ↦ IsVisit-push net.arcs amounts visits visit j (old j l d) (tree.each j q (old j l d))
+  each = λ j q l. elim (cases_eq j (length visits)) [
+    | inl e ↦ subst (IsVisit net.arcs amounts (visits ++ visit ∷ [])) (sym e) (IsVisit-last net.arcs amounts visits visit p s)
+    | inr d ↦ IsVisit-push net.arcs amounts visits visit j (old_place visits visit j l d) (tree.each j q (old_place visits visit j l d))
   ];
-  nodes = λ j l. elim (cases_eq j n) [
-    | inl e ↦ subst (Within net.nodes) (sym (new_node j e)) w
-    | inr d ↦ subst (Within net.nodes) (sym (old_node j (old j l d))) (tree.nodes j (old j l d))
+  nodes = λ j l. elim (cases_eq j (length visits)) [
+    | inl e ↦ subst (Within net.nodes) (sym (new_node visits visit j e)) w
+    | inr d ↦ subst (Within net.nodes) (sym (old_node visits visit j (old_place visits visit j l d))) (tree.nodes j (old_place visits visit j l d))
   ];
-  distinct = λ i j k l e. elim (cases_eq j n) [
-    | inl g ↦ both_ways (mem seen visit.node) f (ap (mem seen) (sym (sym (old_node i (let t = k in omega arith)) ∙ e ∙ new_node j g)) ∙ tree.all_seen i (let t = k in omega arith))
-    | inr d ↦ tree.distinct i j k (old j l d) (sym (old_node i (let t = old j l d in omega arith)) ∙ e ∙ old_node j (old j l d))
+  distinct = λ i j k l e. elim (cases_eq j (length visits)) [
+    | inl g ↦ new i (omega arith) (sym (old_node visits visit i (omega arith)) ∙ e ∙ new_node visits visit j g)
+    | inr d ↦
+        let m = old_place visits visit j l d in
+        tree.distinct i j k m (sym (old_node visits visit i (omega arith)) ∙ e ∙ old_node visits visit j m)
   ];
-  all_seen = λ j l. elim (cases_eq j n) [
-    | inl e ↦ ap (mem more) (new_node j e) ∙ h visit.node ∙ or_back (mem seen visit.node) (visit.node == visit.node) (eq-eqb visit.node visit.node refl)
-    | inr d ↦ ap (mem more) (old_node j (old j l d)) ∙ h (node_at visits j) ∙ or_front (mem seen (node_at visits j)) (visit.node == node_at visits j) (tree.all_seen j (old j l d))
+}
+
+pub IsSeen-push : (net : Net) (visits : List Visit) (seen : List ℕ) → IsSeen net visits seen
+    → (visit : Visit) (more : List ℕ) → Within net.nodes visit.node → mem seen visit.node ≡ false → ((v : ℕ) → mem more v ≡ (mem seen v || visit.node == v))
+    → IsSeen net (visits ++ visit ∷ []) more
+IsSeen-push net visits seen set visit more w f h = record {
+  all_seen = λ j l. elim (cases_eq j (length visits)) [
+    | inl e ↦ ap (mem more) (new_node visits visit j e) ∙ h visit.node ∙ or_back (mem seen visit.node) (visit.node == visit.node) (eq-eqb visit.node visit.node refl)
+    | inr d ↦
+        let m = old_place visits visit j l d in
+        ap (mem more) (old_node visits visit j m) ∙ h (node_at visits j) ∙ or_front (mem seen (node_at visits j)) (visit.node == node_at visits j) (set.all_seen j m)
   ];
   seen_only = λ v m. place v (mem seen v) refl m;
-  size = length-push visits visit ∙ ap (λ k. k + 1) tree.size ∙ sym (count-with net.nodes (mem seen) (mem more) visit.node w f h);
+  size = length-push visits visit ∙ ap (λ k. k + 1) set.size ∙ sym (count-with net.nodes (mem seen) (mem more) visit.node w f h);
 }
   where
-    n : ℕ
-    n = length visits
-
-    longer : List Visit
-    longer = visits ++ visit ∷ []
-
-    old : (j : ℕ) → j < length longer → j ≢ n → j < n
-    old j l d = omega (arith, length-push visits visit)
-
-    old_node : (j : ℕ) → j < n → node_at longer j ≡ node_at visits j
-    old_node j l = ap (λ (u : Visit). u.node) (visit_at-push visits visit j l)
-
-    new_node : (j : ℕ) → j ≡ n → node_at longer j ≡ visit.node
-    new_node j e = ap (node_at longer) e ∙ ap (λ (u : Visit). u.node) (visit_at-last visits visit)
-
-    place : (v : ℕ) (b : Bool) → mem seen v ≡ b → mem more v ≡ true → (j : ℕ) × (j < length longer) × (node_at longer j ≡ v)
+    place : (v : ℕ) (b : Bool) → mem seen v ≡ b → mem more v ≡ true → (j : ℕ) × (j < length (visits ++ visit ∷ [])) × (node_at (visits ++ visit ∷ []) j ≡ v)
     place v true e m =
-        let k = tree.seen_only v e in
-        (k.0, let l = k.1 in omega (arith, length-push visits visit), old_node k.0 k.1 ∙ k.2)
+        let k = set.seen_only v e in
+        (k.0, let l = k.1 in omega (arith, length-push visits visit), old_node visits visit k.0 k.1 ∙ k.2)
     place v false e m = elim (cases_eq visit.node v) [
-      | inl g ↦ (n, omega (arith, length-push visits visit), new_node n refl ∙ g)
+      | inl g ↦ (length visits, omega (arith, length-push visits visit), new_node visits visit (length visits) refl ∙ g)
       | inr d ↦ absurd (both_ways (mem more v) (h v ∙ ap (λ t. t || visit.node == v) e ∙ ne_eqb visit.node v d) m)
     ]
 
+-- a node that is not seen was not visited
+pub unseen-new : (net : Net) (visits : List Visit) (seen : List ℕ) → IsSeen net visits seen → (v : ℕ) → mem seen v ≡ false → (j : ℕ) → j < length visits → node_at visits j ≢ v
+unseen-new net visits seen set v f j l e = both_ways (mem seen v) f (ap (mem seen) (sym e) ∙ set.all_seen j l)
+
 -- something can go to each visit
-pub room-some : (net : Net) (amounts : List ℤ) (visits : List Visit) (seen : List ℕ) → IsTree net amounts visits seen → (j : ℕ) → j < length visits → 0 < (visit_at visits j).room
-room-some net amounts visits seen tree j l = elim (cases_eq j 0) [
+pub room-some : (net : Net) (amounts : List ℤ) (visits : List Visit) → IsTree net amounts visits → (j : ℕ) → j < length visits → 0 < (visit_at visits j).room
+room-some net amounts visits tree j l = elim (cases_eq j 0) [
   | inl e ↦ subst (λ i. 0 < (visit_at visits i).room) (sym e) (let r = tree.root in omega arith)
   | inr d ↦ (tree.each j (omega arith) l).step.some
 ]
 
 -- and no more than 2^63 - 1
-pub room-below : (net : Net) (amounts : List ℤ) (visits : List Visit) (seen : List ℕ) → IsTree net amounts visits seen → (j : ℕ) → j < length visits → (visit_at visits j).room < 2 ^ 63
-room-below net amounts visits seen tree j l = go (suc j) j (omega arith) l
+pub room-below : (net : Net) (amounts : List ℤ) (visits : List Visit) → IsTree net amounts visits → (j : ℕ) → j < length visits → (visit_at visits j).room < 2 ^ 63
+room-below net amounts visits tree j l = go (suc j) j (omega arith) l
   where
     go : (fuel k : ℕ) → k < fuel → k < length visits → (visit_at visits k).room < 2 ^ 63
     go zero k h m = absurd (omega arith)
@@ -176,9 +185,9 @@ room-below net amounts visits seen tree j l = go (suc j) j (omega arith) l
     ]
 
 -- no more visits than nodes
-pub visits-le-nodes : (net : Net) (amounts : List ℤ) (visits : List Visit) (seen : List ℕ) → IsTree net amounts visits seen → length visits ≤ net.nodes
-visits-le-nodes net amounts visits seen tree =
-    let s = tree.size in let c = count_le net.nodes (mem seen) in omega arith
+pub visits-le-nodes : (net : Net) (visits : List Visit) (seen : List ℕ) → IsSeen net visits seen → length visits ≤ net.nodes
+visits-le-nodes net visits seen set =
+    let s = set.size in let c = count_le net.nodes (mem seen) in omega arith
 
 -- the arc of a visit has room out of its parent's node
 step-HasRoom : (arcs : List Arc) (amounts : List ℤ) (from visit : Visit) → IsStep arcs amounts from visit → HasRoom arcs amounts from.node visit.node
@@ -190,8 +199,8 @@ step-HasRoom arcs amounts from visit s = record {
 }
 
 -- the node of each visit is reached from the root
-pub tree-reaches : (net : Net) (amounts : List ℤ) (visits : List Visit) (seen : List ℕ) → IsTree net amounts visits seen → (j : ℕ) → j < length visits → IsReached net.arcs amounts (node_at visits 0) (node_at visits j)
-tree-reaches net amounts visits seen tree j l = go (suc j) j (omega arith) l
+pub tree-reaches : (net : Net) (amounts : List ℤ) (visits : List Visit) → IsTree net amounts visits → (j : ℕ) → j < length visits → IsReached net.arcs amounts (node_at visits 0) (node_at visits j)
+tree-reaches net amounts visits tree j l = go (suc j) j (omega arith) l
   where
     go : (fuel k : ℕ) → k < fuel → k < length visits → IsReached net.arcs amounts (node_at visits 0) (node_at visits k)
     go zero k h m = absurd (omega arith)
@@ -205,8 +214,8 @@ tree-reaches net amounts visits seen tree j l = go (suc j) j (omega arith) l
     ]
 
 -- different visits come over different arcs
-pub arcs-differ : (net : Net) (amounts : List ℤ) (visits : List Visit) (seen : List ℕ) → IsTree net amounts visits seen → (i j : ℕ) → 0 < i → i < j → j < length visits → (visit_at visits i).arc ≢ (visit_at visits j).arc
-arcs-differ net amounts visits seen tree i j p k l e = elim u.step.joins [
+pub arcs-differ : (net : Net) (amounts : List ℤ) (visits : List Visit) → IsTree net amounts visits → (i j : ℕ) → 0 < i → i < j → j < length visits → (visit_at visits i).arc ≢ (visit_at visits j).arc
+arcs-differ net amounts visits tree i j p k l e = elim u.step.joins [
   | inl x ↦ elim other [
     | inl y ↦ tree.distinct i j k l (sym x.1 ∙ y.1)
     | inr y ↦ tree.distinct (visit_at visits i).parent j up l (sym x.0 ∙ y.1)
@@ -245,11 +254,14 @@ rising-within m n xs r h = record {
 -- a search that has scanned all its visits has found the nodes that are reached from its root, and the sink is not among them
 pub search-ends : (net : Net) (amounts : List ℤ) (source sink head : ℕ) (visits : List Visit) (seen : List ℕ) → IsSearch net amounts sink head visits seen → length visits ≤ head → node_at visits 0 ≡ source → IsRisingIn 128 seen → IsReachedSet net amounts source sink seen
 search-ends net amounts source sink head visits seen s e root r = record {
-  nodes = rising-within 128 net.nodes seen r (λ v m. let k = tree.seen_only v m in subst (Within net.nodes) k.2 (tree.nodes k.0 k.1));
-  separates = record { holds = ap (mem seen) (sym root) ∙ tree.all_seen 0 tree.some; lacks = s.unseen };
-  reached = λ v m. let k = tree.seen_only v m in subst (λ u. IsReached net.arcs amounts u v) root (subst (IsReached net.arcs amounts (node_at visits 0)) k.2 (tree-reaches net amounts visits seen tree k.0 k.1));
-  closed = λ u m. let k = tree.seen_only u m in subst (IsScanned net.arcs amounts (mem seen)) k.2 (s.scanned k.0 (let l = k.1 in omega arith));
+  nodes = rising-within 128 net.nodes seen r (λ v m. let k = set.seen_only v m in subst (Within net.nodes) k.2 (tree.nodes k.0 k.1));
+  separates = record { holds = ap (mem seen) (sym root) ∙ set.all_seen 0 tree.some; lacks = s.unseen };
+  reached = λ v m. let k = set.seen_only v m in subst (λ u. IsReached net.arcs amounts u v) root (subst (IsReached net.arcs amounts (node_at visits 0)) k.2 (tree-reaches net amounts visits tree k.0 k.1));
+  closed = λ u m. let k = set.seen_only u m in subst (IsScanned net.arcs amounts (mem seen)) k.2 (s.scanned k.0 (let l = k.1 in omega arith));
 }
   where
-    tree : IsTree net amounts visits seen
+    tree : IsTree net amounts visits
     tree = s.tree
+
+    set : IsSeen net visits seen
+    set = s.set

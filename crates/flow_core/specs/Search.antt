@@ -27,14 +27,16 @@ pub record IsVisit (arcs : List Arc) (amounts : List ℤ) (visits : List Visit) 
   pub earlier : (visit_at visits j).parent < j
   pub step : IsStep arcs amounts (visit_at visits (visit_at visits j).parent) (visit_at visits j)
 
--- a search tree, with the set of its nodes: its first visit is the root, each other comes from an earlier one, and no node is
--- visited twice
-pub record IsTree (net : Net) (amounts : List ℤ) (visits : List Visit) (seen : List ℕ) : Type 0 where
+-- a search tree: its first visit is the root, each other comes from an earlier one, and no node is visited twice
+pub record IsTree (net : Net) (amounts : List ℤ) (visits : List Visit) : Type 0 where
   pub some : 0 < length visits
   pub root : (visit_at visits 0).room ≡ 2 ^ 63 - 1
   pub each : (j : ℕ) → 0 < j → j < length visits → IsVisit net.arcs amounts visits j
   pub nodes : (j : ℕ) → j < length visits → Within net.nodes (node_at visits j)
   pub distinct : (i j : ℕ) → i < j → j < length visits → node_at visits i ≢ node_at visits j
+
+-- the set of the visited nodes
+pub record IsSeen (net : Net) (visits : List Visit) (seen : List ℕ) : Type 0 where
   pub all_seen : (j : ℕ) → j < length visits → mem seen (node_at visits j) ≡ true
   pub seen_only : (v : ℕ) → mem seen v ≡ true → (j : ℕ) × (j < length visits) × (node_at visits j ≡ v)
   pub size : length visits ≡ count net.nodes (mem seen)
@@ -47,14 +49,9 @@ first_node visits = node_at visits 0
 abbrev pub last_node : List Visit → ℕ
 last_node visits = node_at visits (length visits - 1)
 
--- a search tree from one node to another
-pub record HasPath (net : Net) (amounts : List ℤ) (visits : List Visit) : Type 0 where
-  pub seen : List ℕ
-  pub tree : IsTree net amounts visits seen
-  pub differ : first_node visits ≢ last_node visits
-
 -- a search that has scanned the arcs at its first visits and has not seen the sink
 pub record IsSearch (net : Net) (amounts : List ℤ) (sink head : ℕ) (visits : List Visit) (seen : List ℕ) : Type 0 where
-  pub tree : IsTree net amounts visits seen
+  pub tree : IsTree net amounts visits
+  pub set : IsSeen net visits seen
   pub unseen : mem seen sink ≡ false
   pub scanned : (j : ℕ) → j < head → IsScanned net.arcs amounts (mem seen) (node_at visits j)

@@ -1,8 +1,8 @@
 //! Flows, and how they grow along a path with room.
-ghost use Rattle.std.specs.Prelude.{◌≡◌, ℕ, ◌<◌, IfOk};
+ghost use Rattle.std.specs.Prelude.{◌≡◌, ◌≢◌, ℕ, ◌<◌, IfOk};
 ghost use Rattle.flow_core.specs.Nets.{IsBounded};
 ghost use Rattle.flow_core.specs.Flows.{IsFlow};
-ghost use Rattle.flow_core.specs.Search.{HasPath, first_node, last_node};
+ghost use Rattle.flow_core.specs.Search.{IsTree, first_node, last_node};
 
 use crate::net::Net;
 use crate::search::Visit;
@@ -33,7 +33,8 @@ impl Flow {
     /// Sends as much as can go from the first visit to the last, over the arcs of the visits between them.
     pub(crate) fn augment(&mut self, net: &Net, visits: &[Visit])
         requires bounded { IsBounded net.now }
-        requires path { HasPath net.now self.old.on visits.now }
+        requires tree { IsTree net.now self.old.on visits.now }
+        requires differ { first_node visits.now ≢ last_node visits.now }
         requires flow { IsFlow net.now (first_node visits.now) (last_node visits.now) self.old.on self.old.value }
         ensures flow { IsFlow net.now (first_node visits.now) (last_node visits.now) self.new.on self.new.value }
         ensures more { self.old.value < self.new.value }

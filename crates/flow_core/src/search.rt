@@ -5,7 +5,7 @@ ghost use Rattle.counting.specs.Lists.{mem};
 ghost use Rattle.flow_core.specs.Nets.{IsBounded};
 ghost use Rattle.flow_core.specs.Flows.{Fits};
 ghost use Rattle.flow_core.specs.Incidence.{IsIncidence};
-ghost use Rattle.flow_core.specs.Search.{first_node, last_node, IsTree, IsSearch};
+ghost use Rattle.flow_core.specs.Search.{first_node, last_node, IsTree, IsSeen, IsSearch};
 ghost use Rattle.flow_core.specs.Outcomes.{IsOutcome};
 
 use crate::incidence::Incidence;
@@ -43,7 +43,8 @@ impl Reached {
     fn from_source(alloc: Global, net: &Net, source: u32) -> Result<Reached, Memory>
         requires bounded { IsBounded net.now }
         requires source { Within net.now.nodes source }
-        ensures tree { IfOk result (λ reached. (amounts : List ℤ) → IsTree net.now amounts reached.visits.items reached.seen) }
+        ensures tree { IfOk result (λ reached. (amounts : List ℤ) → IsTree net.now amounts reached.visits.items) }
+        ensures seen { IfOk result (λ reached. IsSeen net.now reached.visits.items reached.seen) }
         ensures source { IfOk result (λ reached. first_node reached.visits.items ≡ source) }
         ensures only { IfOk result (λ reached. (v : ℕ) → mem reached.seen v ≡ (source == v)) }
     {
@@ -88,7 +89,7 @@ fn scan(
     requires search { IsSearch net.now amounts.now sink head reached.old.visits.items reached.old.seen }
     requires head { head < length reached.old.visits.items }
     ensures first { OnOk result (first_node reached.new.visits.items ≡ first_node reached.old.visits.items) }
-    ensures tree { OnOk result (IsTree net.now amounts.now reached.new.visits.items reached.new.seen) }
+    ensures tree { OnOk result (IsTree net.now amounts.now reached.new.visits.items) }
     ensures found { IfOk result (λ found. MatchBool found
         (last_node reached.new.visits.items ≡ sink)
         (IsSearch net.now amounts.now sink (head + 1) reached.new.visits.items reached.new.seen)) }

@@ -6,6 +6,7 @@ pub scanning-init : goal.scanning-init
 scanning-init c = record {
   search = record {
     tree = c.in_ok-reached.ensures.tree c.args.amounts.now;
+    set = c.in_ok-reached.ensures.seen;
     unseen = c.in_ok-reached.ensures.only c.args.sink ∙ ne_eqb c.args.source c.args.sink c.requires.differ;
     scanned = λ j l. absurd (omega arith);
   };
@@ -14,7 +15,7 @@ scanning-init c = record {
 
 pub scanning-smaller : goal.scanning-smaller
 scanning-smaller c =
-    let few = visits-le-nodes c.args.net.now c.args.amounts.now c.scanning.reached.visits.items c.scanning.reached.seen c.scanning.invariant.search.tree in
+    let few = visits-le-nodes c.args.net.now c.scanning.reached.visits.items c.scanning.reached.seen c.scanning.invariant.search.set in
     let long = c.scanning.reached.visits.ok.0 in
     let test = c.scanning-test.true in omega arith
 
