@@ -5,3 +5,4 @@ pub mod ArcRows
 pub mod SearchTrees
 pub mod Scanning
 pub mod Pushing
+pub mod Laying

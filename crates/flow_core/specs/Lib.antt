@@ -7,3 +7,4 @@ pub mod Incidence
 pub mod Search
 pub mod Outcomes
 pub mod Cuts
+pub mod Layers

@@ -35,6 +35,11 @@ pub record IsTree (net : Net) (amounts : List ℤ) (visits : List Visit) : Type 
   pub nodes : (j : ℕ) → j < length visits → Within net.nodes (node_at visits j)
   pub distinct : (i j : ℕ) → i < j → j < length visits → node_at visits i ≢ node_at visits j
 
+-- a search tree at some amounts
+pub record HasTree (net : Net) (visits : List Visit) : Type 0 where
+  pub amounts : List ℤ
+  pub tree : IsTree net amounts visits
+
 -- the set of the visited nodes
 pub record IsSeen (net : Net) (visits : List Visit) (seen : List ℕ) : Type 0 where
   pub all_seen : (j : ℕ) → j < length visits → mem seen (node_at visits j) ≡ true

@@ -18,6 +18,7 @@ mod cut;
 mod flow;
 mod incidence;
 mod laws;
+mod layers;
 mod net;
 mod search;
 mod signed_list;

@@ -1,0 +1,173 @@
+-- A path that goes from level to level: how it grows, goes back and starts again, and that there is always less left to do.
+-- Idea: visit j is at level j, so no node comes twice; each arc is passed over once, and a path is no longer than there are levels.
+use Rattle.std.proofs.Common.{◌≡◌, ◌≢◌, ℕ, zero, suc, ◌+◌, ◌-◌, ◌*◌, ◌≤◌, ◌<◌, ◌^◌, List, [], ◌∷◌, ◌++◌, length, get_or, set, take, min, refl, sym, ◌∙◌, ap, ap₂, subst, arith, inl, inr, length-append, slice_index}
+use Rattle.std.specs.Prelude.{ℤ, pos}
+use Rattle.std.proofs.Math.ListN.{length-set}
+use Rattle.std.proofs.Math.Seq.{get_or-append_seam}
+use Rattle.std.proofs.lemmas.Bool.{cases_eq}
+use Rattle.std.proofs.lemmas.Int.{ints}
+use Rattle.std.proofs.lemmas.List.{get_or-set_same, get_or-set_other, get_or-take, length-take}
+use Rattle.counting.specs.Counts.{Within, total}
+use Rattle.counting.proofs.Totals.{total_congr}
+use Rattle.flow_core.specs.Nets.{Arc, Net, IsArc}
+use Rattle.flow_core.specs.Residual.{arc_at, Joins}
+use Rattle.flow_core.specs.Incidence.{row_at}
+use Rattle.flow_core.specs.Search.{visit_at, node_at, first_node, last_node, IsStep, IsVisit, IsTree}
+use Rattle.flow_core.specs.Layers.{IsLaid, arcs_left, work_left}
+use Rattle.flow_core.specs.declared.search.Visit.{Visit}
+use Rattle.flow_core.proofs.SearchTrees.{IsTree-root, IsTree-push, visit_at-push, room-some}
+use Rattle.flow_core.proofs.Scanning.{Leads, taken, end_within}
+
+-- one term falls by one
+total-less : (n : ℕ) (f g : ℕ → ℕ) (a : ℕ) → Within n a → ((v : ℕ) → Within n v → v ≢ a → f v ≡ g v) → f a + 1 ≡ g a → total n f + 1 ≡ total n g
+total-less zero f g a w h e = absurd (omega arith)
+total-less (suc n) f g a w h e = elim (cases_eq a (suc n)) [
+  | inl t ↦
+      let same : total n f ≡ total n g = total_congr n f g (λ v u. h v (omega arith) (omega arith)) in
+      let last : f (suc n) + 1 ≡ g (suc n) = subst (λ k. f k + 1 ≡ g k) t e in omega arith
+  | inr d ↦
+      let less = total-less n f g a (omega arith) (λ v u k. h v (omega arith) k) e in
+      let last = h (suc n) (omega arith) (omega arith) in omega arith
+]
+
+-- an arc that is passed over is one arc less
+pub arcs_left-pass : (nodes : ℕ) (rows : List (List ℕ)) (places : List ℕ) (v : ℕ) → Within nodes v → v < length places → slice_index places v < length (row_at rows v)
+    → arcs_left nodes rows (set places v (slice_index places v + 1)) + 1 ≡ arcs_left nodes rows places
+arcs_left-pass nodes rows places v w l p =
+    total-less nodes (λ u. length (row_at rows u) - slice_index (set places v (slice_index places v + 1)) u) (λ u. length (row_at rows u) - slice_index places u) v w
+    (λ u k d. ap (λ x. length (row_at rows u) - x) (get_or-set_other places v u (slice_index places v + 1) 0 d))
+    (let e = get_or-set_same places v (slice_index places v + 1) 0 l in omega arith)
+
+-- the front of a list of visits
+visit_at-take : (path : List Visit) (n j : ℕ) → j < n → visit_at (take n path) j ≡ visit_at path j
+visit_at-take path n j l = get_or-take n path j (record { node = 0; parent = 0; arc = 0; room = 0 }) l
+
+node_at-take : (path : List Visit) (n j : ℕ) → j < n → node_at (take n path) j ≡ node_at path j
+node_at-take path n j l = ap (λ (u : Visit). u.node) (visit_at-take path n j l)
+
+long-take : (path : List Visit) (n : ℕ) → n ≤ length path → length (take n path) ≡ n
+long-take path n l = let e = length-take n path in omega arith
+
+-- the front of a tree is a tree
+pub IsTree-take : (net : Net) (amounts : List ℤ) (path : List Visit) → IsTree net amounts path → (n : ℕ) → 0 < n → n ≤ length path → IsTree net amounts (take n path)
+IsTree-take net amounts path tree n some l = record {
+  some = omega (arith, long-take path n l);
+  root = ap (λ (u : Visit). u.room) (visit_at-take path n 0 some) ∙ tree.root;
+  each = λ j p k. let m : j < n = omega (arith, long-take path n l) in front j m (tree.each j p (omega arith));
+  nodes = λ j k. let m : j < n = omega (arith, long-take path n l) in subst (Within net.nodes) (sym (node_at-take path n j m)) (tree.nodes j (omega arith));
+  distinct = λ i j k h e.
+      let m : j < n = omega (arith, long-take path n l) in
+      tree.distinct i j k (omega arith) (sym (node_at-take path n i (omega arith)) ∙ e ∙ node_at-take path n j m);
+}
+  where
+    front : (j : ℕ) → j < n → IsVisit net.arcs amounts path j → IsVisit net.arcs amounts (take n path) j
+    front j m v =
+        let was = visit_at path j in
+        let is : visit_at (take n path) j ≡ was = visit_at-take path n j m in
+        let from : visit_at (take n path) was.parent ≡ visit_at path was.parent = visit_at-take path n was.parent (let e = v.earlier in omega arith) in
+        record {
+          earlier = subst (λ (u : Visit). u.parent < j) (sym is) v.earlier;
+          step = subst (λ (u : Visit). IsStep net.arcs amounts (visit_at (take n path) u.parent) u) (sym is) (subst (λ (u : Visit). IsStep net.arcs amounts u was) (sym from) v.step);
+        }
+
+-- an arc of the last node is passed over
+pub IsLaid-pass : (net : Net) (rows : List (List ℕ)) (amounts : List ℤ) (levels places : List ℕ) (path : List Visit) → IsLaid net rows amounts levels places path → (p : ℕ)
+    → IsLaid net rows amounts levels (set places (last_node path) p) path
+IsLaid-pass net rows amounts levels places path laid p = record {
+  tree = laid.tree;
+  all_levels = laid.all_levels;
+  all_places = length-set places (last_node path) p ∙ laid.all_places;
+  rising = laid.rising;
+  ahead = λ j l.
+      let other : node_at path j ≢ last_node path = laid.tree.distinct j (length path - 1) (omega arith) (omega arith) in
+      subst (λ k. k < length (row_at rows (node_at path j))) (sym (get_or-set_other places (last_node path) (node_at path j) p 0 other)) (laid.ahead j l);
+}
+
+-- the path goes one step back, and the arc that it came by is passed over
+pub IsLaid-back : (net : Net) (rows : List (List ℕ)) (amounts : List ℤ) (levels places : List ℕ) (path : List Visit) → IsLaid net rows amounts levels places path → (last : ℕ) → length path ≡ last + 1 → 0 < last → (p : ℕ)
+    → IsLaid net rows amounts levels (set places (node_at path (last - 1)) p) (take last path)
+IsLaid-back net rows amounts levels places path laid last l some p = record {
+  tree = IsTree-take net amounts path laid.tree last some (omega arith);
+  all_levels = laid.all_levels;
+  all_places = length-set places (node_at path (last - 1)) p ∙ laid.all_places;
+  rising = λ j k. let m : j < last = omega (arith, long) in ap (slice_index levels) (node_at-take path last j m) ∙ laid.rising j (omega arith);
+  ahead = λ j k.
+      let m : suc j < last = omega (arith, long) in
+      let other : node_at path j ≢ node_at path (last - 1) = laid.tree.distinct j (last - 1) (omega arith) (omega arith) in
+      subst (λ v. slice_index (set places (node_at path (last - 1)) p) v < length (row_at rows v)) (sym (node_at-take path last j (omega arith)))
+      (subst (λ k. k < length (row_at rows (node_at path j))) (sym (get_or-set_other places (node_at path (last - 1)) (node_at path j) p 0 other)) (laid.ahead j (omega arith)));
+}
+  where
+    long : length (take last path) ≡ last
+    long = long-take path last (omega arith)
+
+-- the path goes on to a node of the next level
+module _ (net : Net) (rows : List (List ℕ)) (amounts : List ℤ) (levels places : List ℕ) (path : List Visit) (laid : IsLaid net rows amounts levels places path)
+    (last : ℕ) (long : length path ≡ last + 1) (from : Visit) (is : visit_at path last ≡ from) (row : List ℕ) (lists : row ≡ row_at rows from.node) (place : ℕ) (at : slice_index places from.node ≡ place) (here : place < length row)
+    (node room : ℕ) (t : Leads net amounts from.node row place node room) (some : 0 < room) (level : slice_index levels node ≡ last + 1) where
+  abbrev visit : Visit
+  visit = taken node last (get_or row place 0) (min room from.room)
+
+  old : (j : ℕ) → j < length path → node_at (path ++ visit ∷ []) j ≡ node_at path j
+  old j m = ap (λ (u : Visit). u.node) (visit_at-push path visit j m)
+
+  on : slice_index places (node_at path last) < length (row_at rows (node_at path last))
+  on =
+      subst (λ (u : Visit). slice_index places u.node < length (row_at rows u.node)) (sym is)
+      (let e = ap (λ (xs : List ℕ). length xs) lists in omega arith)
+
+  pub IsLaid-push : IsLaid net rows amounts levels places (path ++ taken node last (get_or row place 0) (min room from.room) ∷ [])
+  IsLaid-push = record {
+    tree = IsTree-push net amounts path laid.tree visit (omega arith)
+      (subst (λ (u : Visit). IsStep net.arcs amounts u visit) (sym is) (record {
+        is_arc = t.is_arc;
+        joins = t.joins;
+        some = let f = room-some net amounts path laid.tree last (omega arith) in let e = ap (λ (u : Visit). u.room) is in omega arith;
+        within = let e = t.room_is in omega (arith, ints);
+        below = omega arith;
+      }))
+      (end_within net.nodes (arc_at net.arcs (get_or row place 0)) from.node node t.in_order t.joins)
+      (λ j k e. let r = laid.rising j k in let s = ap (slice_index levels) e in omega arith);
+    all_levels = laid.all_levels;
+    all_places = laid.all_places;
+    rising = λ j k. elim (cases_eq j (length path)) [
+      | inl e ↦ ap (slice_index levels) (ap (node_at (path ++ visit ∷ [])) e ∙ ap (λ (u : Visit). u.node) (get_or-append_seam path visit [] (record { node = 0; parent = 0; arc = 0; room = 0 }))) ∙ level ∙ sym long ∙ sym e
+      | inr d ↦ let m : j < length path = omega (arith, length-append path (visit ∷ [])) in ap (slice_index levels) (old j m) ∙ laid.rising j m
+    ];
+    ahead = λ j k.
+      let m : j < length path = omega (arith, length-append path (visit ∷ [])) in
+      subst (λ v. slice_index places v < length (row_at rows v)) (sym (old j m)) (elim (cases_eq j last) [
+        | inl e ↦ subst (λ i. slice_index places (node_at path i) < length (row_at rows (node_at path i))) (sym e) on
+        | inr d ↦ laid.ahead j (omega arith)
+      ]);
+  }
+
+-- after a flow has grown along it, the path starts again at its first node
+pub IsLaid-start : (net : Net) (rows : List (List ℕ)) (before amounts : List ℤ) (levels places : List ℕ) (path : List Visit) → IsLaid net rows before levels places path → IsLaid net rows amounts levels places (take 1 path)
+IsLaid-start net rows before amounts levels places [] laid = absurd (let s = laid.tree.some in omega arith)
+IsLaid-start net rows before amounts levels places (visit ∷ path) laid = record {
+  tree = IsTree-root net amounts visit (laid.tree.nodes 0 laid.tree.some) laid.tree.root;
+  all_levels = laid.all_levels;
+  all_places = laid.all_places;
+  rising = λ j l. let e : 0 ≡ j = omega arith in subst (λ i. slice_index levels (node_at (visit ∷ []) i) ≡ i) e (laid.rising 0 laid.tree.some);
+  ahead = λ j l. absurd (omega arith);
+}
+
+-- with a step back there is less left
+pub work-back : (nodes : ℕ) (rows : List (List ℕ)) (places : List ℕ) (path : List Visit) (v last : ℕ) → length path ≡ last + 1 → Within nodes v → v < length places → slice_index places v < length (row_at rows v)
+    → work_left nodes rows (set places v (slice_index places v + 1)) (take last path) < work_left nodes rows places path
+work-back nodes rows places path v last l w m p =
+    let a = arcs_left-pass nodes rows places v w m p in let t = long-take path last (omega arith) in omega arith
+
+-- and with an arc that is passed over
+pub work-pass : (nodes : ℕ) (rows : List (List ℕ)) (places : List ℕ) (path : List Visit) (v : ℕ) → Within nodes v → v < length places → slice_index places v < length (row_at rows v)
+    → work_left nodes rows (set places v (slice_index places v + 1)) path < work_left nodes rows places path
+work-pass nodes rows places path v w m p = let a = arcs_left-pass nodes rows places v w m p in omega arith
+
+-- and with a step on
+pub work-push : (nodes : ℕ) (rows : List (List ℕ)) (places : List ℕ) (path : List Visit) (visit : Visit) → length path < 256 → work_left nodes rows places (path ++ visit ∷ []) < work_left nodes rows places path
+work-push nodes rows places path visit l = omega (arith, length-append path (visit ∷ []))
+
+-- a new start adds at most the levels
+pub work-start : (nodes : ℕ) (rows : List (List ℕ)) (places : List ℕ) (path : List Visit) → work_left nodes rows places (take 1 path) ≤ work_left nodes rows places path + 256
+work-start nodes rows places path = omega arith

@@ -1,0 +1,23 @@
+-- Paths that go from level to level of a search, with the place in each node's row where they go on.
+use Rattle.std.specs.Prelude.{◌≡◌, ℕ, suc, ◌+◌, ◌-◌, ◌*◌, ◌<◌, List, length, slice_index, ℤ}
+use Rattle.counting.specs.Counts.{total}
+use Rattle.flow_core.specs.Nets.{Net}
+use Rattle.flow_core.specs.Incidence.{row_at}
+use Rattle.flow_core.specs.Search.{node_at, IsTree}
+use Rattle.flow_core.specs.declared.search.Visit.{Visit}
+
+-- a path as a search tree: visit j is at level j, and the row of each node but the last has an arc at its place
+pub record IsLaid (net : Net) (rows : List (List ℕ)) (amounts : List ℤ) (levels places : List ℕ) (path : List Visit) : Type 0 where
+  pub tree : IsTree net amounts path
+  pub all_levels : length levels ≡ suc net.nodes
+  pub all_places : length places ≡ suc net.nodes
+  pub rising : (j : ℕ) → j < length path → slice_index levels (node_at path j) ≡ j
+  pub ahead : (j : ℕ) → suc j < length path → slice_index places (node_at path j) < length (row_at rows (node_at path j))
+
+-- how many arcs are left in the rows
+abbrev pub arcs_left : ℕ → List (List ℕ) → List ℕ → ℕ
+arcs_left nodes rows places = total nodes (λ v. length (row_at rows v) - slice_index places v)
+
+-- what is left to do: it falls with each step of the path, forward or back, and with each arc that is passed over
+abbrev pub work_left : ℕ → List (List ℕ) → List ℕ → List Visit → ℕ
+work_left nodes rows places path = 2 * arcs_left nodes rows places + (256 - length path)

@@ -1,0 +1,128 @@
+//! Many shortest paths after one search: paths that go from each node to one of the next level.
+ghost use Rattle.std.specs.Prelude.{◌≡◌, ◌≢◌, ℕ, suc, ◌≤◌, ◌<◌, ◌+◌, ◌-◌, length, IfOk, OnOk, IsTrue, List, ℤ, slice_index, slice_set, take};
+ghost use Rattle.counting.specs.Counts.{Within};
+ghost use Rattle.flow_core.specs.Nets.{IsBounded};
+ghost use Rattle.flow_core.specs.Flows.{Fits, IsFlow};
+ghost use Rattle.flow_core.specs.Incidence.{row_at, IsIncidence};
+ghost use Rattle.flow_core.specs.Search.{first_node, node_at, HasTree};
+ghost use Rattle.flow_core.specs.Layers.{IsLaid, work_left};
+
+use crate::flow::Flow;
+use crate::incidence::Incidence;
+use crate::net::Net;
+use crate::search::Visit;
+use crate::signed_list::SignedList;
+use std::alloc::{AllocError as Memory, Global};
+
+/// The level of a node that the search has not reached.
+const FAR: u8 = u8::MAX;
+
+/// The levels of a search, and a path that goes from level to level. Each node has a place in its row: the arcs before it
+/// lead no further.
+#[derive(Drop)]
+pub struct Layers {
+    levels: Vec<u8>,
+    places: Vec<usize>,
+    path: Vec<Visit>,
+}
+
+// How far each node is from the first visit, in steps of the search.
+fn levels_of(alloc: Global, net: &Net, visits: &[Visit]) -> Result<Vec<u8>, Memory>
+    requires bounded { IsBounded net.now }
+    requires tree { HasTree net.now visits.now }
+    ensures all { IfOk result (λ levels. length levels.items ≡ suc net.now.nodes) }
+    ensures first { IfOk result (λ levels. slice_index levels.items (first_node visits.now) ≡ 0) }
+{
+    let mut levels = vec![in alloc; FAR; net.nodes() as usize + 1]?;
+    levels[visits[0].node as usize] = 0;
+    for j in 1..visits.len() {
+        let before = levels[visits[visits[j].parent].node as usize];
+        levels[visits[j].node as usize] = before.saturating_add(1);
+    }
+    Ok(levels)
+}
+
+impl Layers {
+    /// The levels of a search, with a path that is at the first visit alone.
+    pub fn new(alloc: Global, net: &Net, visits: &[Visit]) -> Result<Layers, Memory>
+        requires bounded { IsBounded net.now }
+        requires tree { HasTree net.now visits.now }
+        ensures laid { IfOk result (λ layers. (rows : List (List ℕ)) (amounts : List ℤ) → IsLaid net.now rows amounts layers.levels.items layers.places.items layers.path.items) }
+        ensures first { IfOk result (λ layers. first_node layers.path.items ≡ first_node visits.now) }
+    {
+        let mut path = Vec::new(alloc);
+        path.push(visits[0])?;
+        Ok(Layers {
+            levels: levels_of(alloc, net, visits)?,
+            places: vec![in alloc; 0; net.nodes() as usize + 1]?,
+            path,
+        })
+    }
+
+    /// Takes the path one step back from visit `last`, which is its last one, and passes over the arc that it came by.
+    fn go_back(&mut self, incidence: &Incidence, last: usize)
+        requires last { length self.old.path.items ≡ last + 1 }
+        requires some { 0 < last }
+        requires place { slice_index self.old.places.items (node_at self.old.path.items (last - 1)) < length (row_at incidence.now (node_at self.old.path.items (last - 1))) }
+        requires row { node_at self.old.path.items (last - 1) < length incidence.now }
+        requires all { length self.old.places.items ≡ length incidence.now }
+        ensures path { self.new.path.items ≡ take last self.old.path.items }
+        ensures levels { self.new.levels.items ≡ self.old.levels.items }
+        ensures places { let v = node_at self.old.path.items (last - 1) in self.new.places.items ≡ slice_set self.old.places.items v (slice_index self.old.places.items v + 1) }
+    {
+        self.path.truncate(last);
+        let from = self.path[last - 1].node;
+        let more = incidence.row(from).len();
+        let place = self.places[from as usize];
+        prove!(place < more);
+        self.places[from as usize] = place + 1;
+    }
+
+    /// Takes the next arc at the last node of the path: goes on over it where it has room and leads to the next level, and
+    /// passes it over otherwise. Where no arc is left, goes one step back; answers false where there is no step to go back.
+    fn go_on(
+        &mut self,
+        net: &Net,
+        incidence: &Incidence,
+        amounts: &SignedList,
+    ) -> Result<bool, Memory>
+        requires bounded { IsBounded net.now }
+        requires fits { Fits net.now.arcs amounts.now }
+        requires incidence { IsIncidence net.now incidence.now }
+        requires laid { IsLaid net.now incidence.now amounts.now self.old.levels.items self.old.places.items self.old.path.items }
+        ensures laid { OnOk result (IsLaid net.now incidence.now amounts.now self.new.levels.items self.new.places.items self.new.path.items) }
+        ensures first { OnOk result (first_node self.new.path.items ≡ first_node self.old.path.items) }
+        ensures less { IfOk result (λ more. IsTrue more
+            → work_left net.now.nodes incidence.now self.new.places.items self.new.path.items
+            < work_left net.now.nodes incidence.now self.old.places.items self.old.path.items) }
+    {
+        let last = self.path.len() - 1;
+        let from = self.path[last];
+        let row = incidence.row(from.node);
+        let place = self.places[from.node as usize];
+        if place >= row.len() {
+            if last == 0 {
+                return Ok(false);
+            }
+            self.go_back(incidence, last);
+            return Ok(true);
+        }
+        let i = row[place];
+        let arc = net.arc(i);
+        let node = arc.far_end(from.node);
+        if usize::from(self.levels[node as usize]) == last + 1 {
+            let room = arc.room(from.node, amounts.get(i));
+            if room > 0 {
+                self.path.push(Visit {
+                    node,
+                    parent: last,
+                    arc: i,
+                    room: room.min(from.room),
+                })?;
+                return Ok(true);
+            }
+        }
+        self.places[from.node as usize] = place + 1;
+        Ok(true)
+    }
+}
