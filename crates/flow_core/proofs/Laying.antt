@@ -119,15 +119,15 @@ module _ (net : Net) (rows : List (List ℕ)) (amounts : List ℤ) (levels place
   pub IsLaid-push : IsLaid net rows amounts levels places (path ++ taken node last (get_or row place 0) (min room from.room) ∷ [])
   IsLaid-push = record {
     tree = IsTree-push net amounts path laid.tree visit (omega arith)
-      (subst (λ (u : Visit). IsStep net.arcs amounts u visit) (sym is) (record {
-        is_arc = t.is_arc;
-        joins = t.joins;
-        some = let f = room-some net amounts path laid.tree last (omega arith) in let e = ap (λ (u : Visit). u.room) is in omega arith;
-        within = let e = t.room_is in omega (arith, ints);
-        below = omega arith;
-      }))
-      (end_within net.nodes (arc_at net.arcs (get_or row place 0)) from.node node t.in_order t.joins)
-      (λ j k e. let r = laid.rising j k in let s = ap (slice_index levels) e in omega arith);
+        (subst (λ (u : Visit). IsStep net.arcs amounts u visit) (sym is) (record {
+          is_arc = t.is_arc;
+          joins = t.joins;
+          some = let f = room-some net amounts path laid.tree last (omega arith) in let e = ap (λ (u : Visit). u.room) is in omega arith;
+          within = let e = t.room_is in omega (arith, ints);
+          below = omega arith;
+        }))
+        (end_within net.nodes (arc_at net.arcs (get_or row place 0)) from.node node t.in_order t.joins)
+        (λ j k e. let r = laid.rising j k in let s = ap (slice_index levels) e in omega arith);
     all_levels = laid.all_levels;
     all_places = laid.all_places;
     rising = λ j k. elim (cases_eq j (length path)) [
@@ -135,11 +135,11 @@ module _ (net : Net) (rows : List (List ℕ)) (amounts : List ℤ) (levels place
       | inr d ↦ let m : j < length path = omega (arith, length-append path (visit ∷ [])) in ap (slice_index levels) (old j m) ∙ laid.rising j m
     ];
     ahead = λ j k.
-      let m : j < length path = omega (arith, length-append path (visit ∷ [])) in
-      subst (λ v. slice_index places v < length (row_at rows v)) (sym (old j m)) (elim (cases_eq j last) [
-        | inl e ↦ subst (λ i. slice_index places (node_at path i) < length (row_at rows (node_at path i))) (sym e) on
-        | inr d ↦ laid.ahead j (omega arith)
-      ]);
+        let m : j < length path = omega (arith, length-append path (visit ∷ [])) in
+        subst (λ v. slice_index places v < length (row_at rows v)) (sym (old j m)) (elim (cases_eq j last) [
+          | inl e ↦ subst (λ i. slice_index places (node_at path i) < length (row_at rows (node_at path i))) (sym e) on
+          | inr d ↦ laid.ahead j (omega arith)
+        ]);
   }
 
 -- after a flow has grown along it, the path starts again at its first node

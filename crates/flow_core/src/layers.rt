@@ -125,4 +125,34 @@ impl Layers {
         self.places[from.node as usize] = place + 1;
         Ok(true)
     }
+
+    /// Lets the flow grow along paths from level to level until there is no more, or until it is above the bound. After
+    /// `Memory` the flow is to be given up.
+    pub fn fill(
+        &mut self,
+        net: &Net,
+        incidence: &Incidence,
+        flow: &mut Flow,
+        sink: u32,
+        above: u64,
+    ) -> Result<(), Memory>
+        requires bounded { IsBounded net.now }
+        requires incidence { IsIncidence net.now incidence.now }
+        requires laid { IsLaid net.now incidence.now flow.old.on self.old.levels.items self.old.places.items self.old.path.items }
+        requires flow { IsFlow net.now (first_node self.old.path.items) sink flow.old.on flow.old.value }
+        requires differ { first_node self.old.path.items ≢ sink }
+        ensures flow { OnOk result (IsFlow net.now (first_node self.old.path.items) sink flow.new.on flow.new.value) }
+        ensures more { OnOk result (flow.old.value ≤ flow.new.value) }
+    {
+        'filling: while flow.value <= above {
+            if !self.go_on(net, incidence, &flow.on)? {
+                return Ok(());
+            }
+            if self.path[self.path.len() - 1].node == sink {
+                flow.augment(net, &self.path);
+                self.path.truncate(1);
+            }
+        }
+        Ok(())
+    }
 }

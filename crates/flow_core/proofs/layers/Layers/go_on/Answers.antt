@@ -73,7 +73,7 @@ returns-then-room-gt0-clause-laid c =
     let end = end_within net.nodes (arc_at net.arcs (get_or row place 0)) from.node node leads.in_order leads.joins in
     let level : slice_index levels node ≡ last + 1 = sym (get_or_read levels node c.index.result.now (omega arith) c.index.ensures 0) ∙ sym c.from.ensures ∙ c.if-from-last.true in
     let grown : c.push.new.self.items ≡ path ++ taken node last (get_or row place 0) (min room from.room) ∷ [] =
-        c.in_ok-push.ensures.items ∙ ap (λ r. path ++ taken node last (get_or row place 0) r ∷ []) c.min.ensures in
+    c.in_ok-push.ensures.items ∙ ap (λ r. path ++ taken node last (get_or row place 0) r ∷ []) c.min.ensures in
     subst (IsLaid net rows amounts levels places) (sym grown)
     (IsLaid-push net rows amounts levels places path laid last long from is row c.row-row.ensures place at c.if-place-row.false node room leads c.if-room-gt0.true level)
 
