@@ -7,6 +7,7 @@ ghost use Rattle.flow_core.specs.Cuts.{IsCut, IfCut, IfExceeds};
 
 use crate::flow::Flow;
 use crate::incidence::Incidence;
+use crate::layers::grow;
 use crate::net::Net;
 use crate::search::{Outcome, search};
 use std::alloc::{AllocError as Memory, Global};
@@ -48,7 +49,7 @@ pub fn min_cut(
     let mut flow = Flow::zero(alloc, net)?;
     'growing: while flow.value <= above {
         match search(alloc, net, &incidence, &flow.on, source, sink)? {
-            Outcome::Path(visits) => flow.augment(net, &visits),
+            Outcome::Path(visits) => grow(alloc, net, &incidence, &mut flow, &visits, above)?,
             Outcome::Closed(set) => {
                 return Ok(CutAnswer::Cut {
                     set,

@@ -4,7 +4,7 @@ ghost use Rattle.counting.specs.Counts.{Within};
 ghost use Rattle.flow_core.specs.Nets.{IsBounded};
 ghost use Rattle.flow_core.specs.Flows.{Fits, IsFlow};
 ghost use Rattle.flow_core.specs.Incidence.{row_at, IsIncidence};
-ghost use Rattle.flow_core.specs.Search.{first_node, node_at, HasTree};
+ghost use Rattle.flow_core.specs.Search.{first_node, last_node, node_at, IsTree, HasTree};
 ghost use Rattle.flow_core.specs.Layers.{IsLaid, work_left};
 
 use crate::flow::Flow;
@@ -155,4 +155,28 @@ impl Layers {
         }
         Ok(())
     }
+}
+
+/// Lets the flow grow along the path of a search to its last visit, and then along the other paths of its levels until there
+/// is no more, or until it is above the bound. After `Memory` the flow is to be given up.
+pub fn grow(
+    alloc: Global,
+    net: &Net,
+    incidence: &Incidence,
+    flow: &mut Flow,
+    visits: &[Visit],
+    above: u64,
+) -> Result<(), Memory>
+    requires bounded { IsBounded net.now }
+    requires incidence { IsIncidence net.now incidence.now }
+    requires tree { IsTree net.now flow.old.on visits.now }
+    requires differ { first_node visits.now ≢ last_node visits.now }
+    requires flow { IsFlow net.now (first_node visits.now) (last_node visits.now) flow.old.on flow.old.value }
+    ensures flow { OnOk result (IsFlow net.now (first_node visits.now) (last_node visits.now) flow.new.on flow.new.value) }
+    ensures more { OnOk result (flow.old.value < flow.new.value) }
+{
+    let sink = visits[visits.len() - 1].node;
+    let mut layers = Layers::new(alloc, net, visits)?;
+    flow.augment(net, visits);
+    layers.fill(net, incidence, flow, sink, above)
 }

@@ -13,14 +13,14 @@ growing-init c = c.in_ok-flow.ensures.flow c.args.source c.args.sink
 pub growing-smaller : goal.growing-smaller
 growing-smaller c =
     let net = c.args.net.now in
-    let new = c.augment.new.self in
+    let new = c.grow.new.flow in
     let path = subst (IsOutcome net c.growing.flow.on c.args.source c.args.sink) c.in-Path.is c.in_ok-visits.ensures in
     let first : first_node c.deref.result.now ≡ c.args.source = ap first_node c.deref.ensures.value ∙ path.1 in
     let last : last_node c.deref.result.now ≡ c.args.sink = ap last_node c.deref.ensures.value ∙ path.2 in
     let flow : IsFlow net c.args.source c.args.sink new.on new.value =
-    subst (λ source. IsFlow net source c.args.sink new.on new.value) first (subst (λ sink. IsFlow net (first_node c.deref.result.now) sink new.on new.value) last c.augment.ensures.flow) in
+    subst (λ source. IsFlow net source c.args.sink new.on new.value) first (subst (λ sink. IsFlow net (first_node c.deref.result.now) sink new.on new.value) last c.in_ok-grow-in-Path.ensures.flow) in
     let most = flow-le-total net c.args.source c.args.sink new.on new.value c.in_ok-incidence.ensures.bounded.arcs c.requires.source flow c.requires.differ in
-    let more = c.augment.ensures.more in omega arith
+    let more = c.in_ok-grow-in-Path.ensures.more in omega arith
 
 pub returns-in-Closed-clause-exactly : goal.returns-in-Closed-clause-exactly
 returns-in-Closed-clause-exactly c =
