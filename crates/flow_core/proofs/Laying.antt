@@ -1,7 +1,7 @@
 -- A path that goes from level to level: how it grows, goes back and starts again, and that there is always less left to do.
 -- Idea: visit j is at level j, so no node comes twice; each arc is passed over once, and a path is no longer than there are levels.
-use Rattle.std.proofs.Common.{◌≡◌, ◌≢◌, ℕ, zero, suc, ◌+◌, ◌-◌, ◌*◌, ◌≤◌, ◌<◌, ◌^◌, List, [], ◌∷◌, ◌++◌, length, get_or, set, take, min, refl, sym, ◌∙◌, ap, ap₂, subst, arith, inl, inr, length-append, slice_index}
-use Rattle.std.specs.Prelude.{ℤ, pos}
+use Rattle.std.proofs.Common.{◌≡◌, ◌≢◌, ℕ, zero, suc, ◌+◌, ◌-◌, ◌≤◌, ◌<◌, List, [], ◌∷◌, ◌++◌, length, get_or, set, take, min, sym, ◌∙◌, ap, subst, arith, inl, inr, length-append, slice_index}
+use Rattle.std.specs.Prelude.{ℤ}
 use Rattle.std.proofs.Math.ListN.{length-set}
 use Rattle.std.proofs.Math.Seq.{get_or-append_seam}
 use Rattle.std.proofs.lemmas.Bool.{cases_eq}
@@ -9,10 +9,10 @@ use Rattle.std.proofs.lemmas.Int.{ints}
 use Rattle.std.proofs.lemmas.List.{get_or-set_same, get_or-set_other, get_or-take, length-take}
 use Rattle.counting.specs.Counts.{Within, total}
 use Rattle.counting.proofs.Totals.{total_congr}
-use Rattle.flow_core.specs.Nets.{Arc, Net, IsArc}
-use Rattle.flow_core.specs.Residual.{arc_at, Joins}
+use Rattle.flow_core.specs.Nets.{Net}
+use Rattle.flow_core.specs.Residual.{arc_at}
 use Rattle.flow_core.specs.Incidence.{row_at}
-use Rattle.flow_core.specs.Search.{visit_at, node_at, first_node, last_node, IsStep, IsVisit, IsTree}
+use Rattle.flow_core.specs.Search.{visit_at, node_at, last_node, IsStep, IsVisit, IsTree}
 use Rattle.flow_core.specs.Layers.{IsLaid, arcs_left, work_left}
 use Rattle.flow_core.specs.declared.search.Visit.{Visit}
 use Rattle.flow_core.proofs.SearchTrees.{IsTree-root, IsTree-push, visit_at-push, room-some}

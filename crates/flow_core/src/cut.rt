@@ -29,8 +29,8 @@ pub enum CutAnswer {
 /// set lies inside each other such set of that value. Otherwise the answer is `Exceeds` with a flow of a value above `above`:
 /// by the theorem of Ford and Fulkerson on flows and cuts this shows that each such set has a value above `above`.
 ///
-/// The flow grows along shortest paths (Edmonds and Karp), so that the number of rounds is bounded by the nodes and arcs of
-/// the net, and it stops as soon as it passes the bound. Out of memory is the only error.
+/// In each round the flow grows along all shortest paths with room (Dinic), so that there are fewer rounds than nodes, whatever
+/// the capacities are; it stops as soon as it passes the bound. Out of memory is the only error.
 pub fn min_cut(
     alloc: Global,
     net: &Net,

@@ -1,6 +1,5 @@
 //! Many shortest paths after one search: paths that go from each node to one of the next level.
 ghost use Rattle.std.specs.Prelude.{◌≡◌, ◌≢◌, ℕ, suc, ◌≤◌, ◌<◌, ◌+◌, ◌-◌, length, IfOk, OnOk, IsTrue, List, ℤ, slice_index, slice_set, take};
-ghost use Rattle.counting.specs.Counts.{Within};
 ghost use Rattle.flow_core.specs.Nets.{IsBounded};
 ghost use Rattle.flow_core.specs.Flows.{Fits, IsFlow};
 ghost use Rattle.flow_core.specs.Incidence.{row_at, IsIncidence};

@@ -9,8 +9,9 @@
 //! `Net` is a net that grows by `add`; `Flow` has its amounts in a `SignedList`. Amounts fit i64; what an arc can still take is
 //! up to twice its capacity and is computed as u64, so that no sum wraps and none is refused.
 //!
-//! Stands on `counting` and `vset_core`. Ford and Fulkerson, "Flows in Networks" (1962); shortest augmenting paths are those of
-//! Edmonds and Karp (1972). That the nodes reached from the source are the least minimum cut is in Picard and Queyranne (1980).
+//! Stands on `counting` and `vset_core`. Ford and Fulkerson, "Flows in Networks" (1962); in a round the flow grows along all
+//! shortest paths, as in Dinic (1970). That the nodes reached from the source are the least minimum cut is in Picard and
+//! Queyranne (1980).
 #![tactic(auto)]
 
 mod arc;

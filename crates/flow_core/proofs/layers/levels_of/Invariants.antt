@@ -1,4 +1,4 @@
-use Rattle.std.proofs.Common.{◌≡◌, ℕ, suc, length, slice_index}
+use Rattle.std.proofs.Common.{◌≡◌, suc, length, slice_index}
 use Rattle.flow_core.specs.Search.{first_node}
 use Rattle.flow_core.proofs.layers.levels_of.Given as goal
 

@@ -1,6 +1,6 @@
 -- Each turn goes back, goes on or passes an arc over, by the lemmas on a path that is laid.
 use Rattle.std.proofs.Common.{◌≡◌, ◌+◌, ◌-◌, ◌≤◌, ◌<◌, ◌++◌, ◌∷◌, [], ℕ, List, length, get_or, set, min, sym, ◌∙◌, ap, subst, arith, w64, to_z, of_z, slice_index}
-use Rattle.std.specs.Prelude.{pos, unsigned_abs}
+use Rattle.std.specs.Prelude.{unsigned_abs}
 use Rattle.std.proofs.lemmas.List.{get_or_read}
 use Rattle.counting.specs.Counts.{Within}
 use Rattle.flow_core.specs.Nets.{Arc}
