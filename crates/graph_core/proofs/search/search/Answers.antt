@@ -36,7 +36,7 @@ searching-preserved c = λ g is are.
     (parent_at c.searching.nodes) (parent_at c.grow-rest.new.nodes) (depth_at c.searching.nodes) (depth_at c.grow-rest.new.nodes) c.in-Some.least old
     c.in-Some.ensures.some.member c.in-Some.ensures.some.before grown.smaller grown.taken grown.tree
     (λ v w out. let e = c.grow-rest.ensures.kept v (let n = are.one_each in omega arith) out in (ap (λ (node : TreeNode). node.parent) e, ap (λ (node : TreeNode). node.depth) e))
-    (set-narrower _ g.order c.minus-part.result c.rises.ensures (λ v m. (old.vertices v (and_parts (mem c.searching.left v) (not (mem c.grow-rest.result v)) (sym (c.minus-part.ensures v) ∙ m)).0).0))
+    (set-narrower _ g.order c.minus-part.result c.rises.ensures (λ v m. (old.vertices v (and_parts (mem c.searching.left v) (not (mem c.grow-rest.result v)) (sym (c.minus-part.ensures v) ∙ m)).0).0.1))
     (λ v w. c.minus-part.ensures v))
 
 pub returns-clause-parts : goal.returns-clause-parts
