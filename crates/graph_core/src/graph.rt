@@ -109,8 +109,8 @@ impl MultiGraph {
         Ok(forest.parts)
     }
 
-    /// Whether the graph is bipartite, with a witness: `Even` comes exactly where it is, with the left side, which holds the least
-    /// vertex of each component, and `Odd` exactly where it is not, with a closed walk of odd length (König 1916).
+    /// Whether the graph is bipartite, with what shows it: `Even` comes exactly where it is, with the left side, which holds the
+    /// least vertex of each component, and `Odd` exactly where it is not, with a closed walk of odd length (König 1916).
     pub fn two_sides(&self, alloc: Global) -> Result<Sides, Memory>
         ensures even { IfOk result (λ sides. IsEven sides ↔ IsBipartite self.now) }
         ensures sides { IfOk result (AreSides self.now) }
