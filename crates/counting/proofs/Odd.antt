@@ -1,7 +1,7 @@
-use Rattle.std.proofs.Common.{◌≡◌, ℕ, suc, zero, ◌+◌, ◌≤◌, Bool, true, false, refl, sym, ap, ◌∙◌, arith, not, cond, zero-add, suc-add}
+use Rattle.std.proofs.Common.{◌≡◌, ℕ, suc, zero, ◌+◌, ◌≤◌, Bool, true, false, refl, sym, ap, ap₂, ◌∙◌, arith, not, cond, zero-add, suc-add}
 use Rattle.std.proofs.lemmas.Bool.{true≢false}
 use Rattle.counting.proofs.Counts.{count_complement}
-use Rattle.counting.specs.Counts.{count, is_odd}
+use Rattle.counting.specs.Counts.{Within, total, count, is_odd}
 use Rattle.counting.specs.Sets.{Set, complement}
 
 -- the parity of a number
@@ -22,6 +22,11 @@ odd-add (suc a) b = ap is_odd (suc-add a b) ∙ ap not (odd-add a b) ∙ turn (i
     turn true false = refl
     turn false true = refl
     turn false false = refl
+
+-- sums whose terms are odd together are odd together
+pub odd_total : (n : ℕ) (f h : ℕ → ℕ) → ((v : ℕ) → Within n v → is_odd (f v) ≡ is_odd (h v)) → is_odd (total n f) ≡ is_odd (total n h)
+odd_total zero f h e = refl
+odd_total (suc n) f h e = odd-add (total n f) (f (suc n)) ∙ ap₂ (λ a b. cond a (not b) b) (odd_total n f h (λ v w. e v (omega arith))) (e (suc n) (omega arith)) ∙ sym (odd-add (total n h) (h (suc n)))
 
 pub odd_pos : (n : ℕ) → is_odd n ≡ true → 1 ≤ n
 odd_pos zero h = absurd (true≢false (sym h))

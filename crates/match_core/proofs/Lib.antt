@@ -1,2 +1,15 @@
 pub mod Gallai
 pub mod TutteBerge
+pub mod Certificates
+pub mod Shrinking
+pub mod OddCycles
+pub mod AlternatingPaths
+pub mod LongerPaths
+pub mod Forests
+pub mod Growth
+pub mod ClosingEdges
+pub mod StepTheorem
+pub mod OddComponents
+pub mod OuterComponents
+pub mod SymmetricDifference
+pub mod Alike

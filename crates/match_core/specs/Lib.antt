@@ -1,0 +1,4 @@
+pub mod Frames
+pub mod OddCycles
+pub mod Forests
+pub mod RepairPaths
