@@ -6,7 +6,8 @@ use Rattle.counting.specs.Counts.{Within, bit, count, total}
 use Rattle.counting.specs.Sets.{Set, put}
 use Rattle.graph_core.proofs.Parity.{degrees}
 use Rattle.graph_core.proofs.Walks.{adjacent-edge, has_ends-cases}
-use Rattle.graph_core.specs.Graph.{Graph, HasEnds, IsGraph, degree, first_end, in_cut, inside, second_end, size}
+pub use Rattle.graph_core.specs.Graph.{HasEnds}
+use Rattle.graph_core.specs.Graph.{Graph, IsGraph, degree, first_end, in_cut, inside, second_end, size}
 use Rattle.graph_core.specs.Matchings.{IsMatching, missed_count}
 use Rattle.graph_core.specs.Walks.{adjacent}
 
