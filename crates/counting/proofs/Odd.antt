@@ -1,17 +1,17 @@
-use Rattle.std.proofs.Common.{◌≡◌, ℕ, suc, zero, ◌+◌, ◌≤◌, Bool, true, false, refl, sym, ap, ap₂, ◌∙◌, arith, not, cond, zero-add, suc-add}
+use Rattle.std.proofs.Common.{◌≡◌, ℕ, suc, zero, ◌+◌, ◌≤◌, Bool, true, false, refl, sym, ap, ap₂, ◌∙◌, arith, not, cond, zero-add, suc-add, ◌%◌, ◌==◌, eq-eqb, ne_eqb}
 use Rattle.std.proofs.lemmas.Bool.{true≢false}
 use Rattle.counting.proofs.Counts.{count_complement}
 use Rattle.counting.specs.Counts.{Within, total, count, is_odd}
 use Rattle.counting.specs.Sets.{Set, complement}
 
+pub not_not : (b : Bool) → not (not b) ≡ b
+not_not true = refl
+not_not false = refl
+
 -- the parity of a number
 pub odd-double : (k : ℕ) → is_odd (k + k) ≡ false
 odd-double zero = refl
 odd-double (suc k) = let e : suc k + suc k ≡ suc (suc (k + k)) = omega arith in ap is_odd e ∙ not_not (is_odd (k + k)) ∙ odd-double k
-  where
-    not_not : (b : Bool) → not (not b) ≡ b
-    not_not true = refl
-    not_not false = refl
 
 pub odd-add : (a b : ℕ) → is_odd (a + b) ≡ cond (is_odd a) (not (is_odd b)) (is_odd b)
 odd-add zero b = ap is_odd (zero-add b)
@@ -40,3 +40,21 @@ complement_odd n x a b = go (is_odd (count n x)) (is_odd (count n (complement x)
   where
     go : (s t : Bool) → s ≡ true → cond s (not t) t ≡ false → t ≡ true
     go s t a b = grind arith
+
+-- half of an even number
+pub half : (j : ℕ) → is_odd j ≡ false → (t : ℕ) × (j ≡ t + t)
+half zero o = (0, omega arith)
+half (suc zero) o = absurd (true≢false o)
+half (suc (suc j)) o = let h = half j (sym (not_not (is_odd j)) ∙ o) in (suc h.0, let a = h.1 in omega arith)
+
+-- parity by the remainder of 2
+pub odd_remainder : (i : ℕ) → (i % 2 == 1) ≡ is_odd i
+odd_remainder i = go i (is_odd i) refl
+  where
+    go : (i : ℕ) (b : Bool) → is_odd i ≡ b → (i % 2 == 1) ≡ is_odd i
+    go i false o = let h = half i o in let a = h.1 in ne_eqb (i % 2) 1 (λ q. absurd (omega arith)) ∙ sym o
+    go zero true o = absurd (true≢false (sym o))
+    go (suc k) true o =
+        let h = half k (sym (not_not (is_odd k)) ∙ ap not o) in
+        let a = h.1 in
+        let r : suc k % 2 ≡ 1 = omega arith in eq-eqb (suc k % 2) 1 r ∙ sym o

@@ -2,7 +2,7 @@
 -- The paths meet last at an outer vertex; from there along one path, over the edge and back along the other.
 use Rattle.std.proofs.Common.{◌≡◌, ℕ, suc, zero, ◌+◌, ◌-◌, ◌≤◌, ◌<◌, ◌≢◌, Bool, true, false, cond, ◌==◌, refl, sym, ap, ap₂, ◌∙◌, arith, ◌&&◌, ◌||◌, not, eq-eqb, ne_eqb, eqb-true, ◌⊎◌, inl, inr, subst, nat_lt, nat_le, le-ltb}
 use Rattle.std.proofs.lemmas.Bool.{cases_eq, cases_Bool, cases_lt, cases_order, both_ways, true≢false, and_parts, le-leb, lt-leb}
-use Rattle.counting.proofs.Odd.{odd-add, odd-double}
+use Rattle.counting.proofs.Odd.{half, not_not, odd-add, odd-double}
 use Rattle.counting.proofs.Tests.{some_true}
 use Rattle.counting.specs.Counts.{Within, count, is_odd}
 use Rattle.counting.specs.Sets.{Set}
@@ -14,16 +14,6 @@ use Rattle.match_core.proofs.Forests.{one_edge, turned}
 use Rattle.match_core.proofs.AlternatingPaths.{flipped_count, flipped_end, flipped_matching, flipped_off}
 use Rattle.match_core.specs.OddCycles.{IsOddCycle, same_answer, next, every_other, picked}
 use Rattle.match_core.specs.Forests.{IsAlternating, flipped}
-
-not_not : (b : Bool) → not (not b) ≡ b
-not_not true = refl
-not_not false = refl
-
--- half of an even number
-pub half : (j : ℕ) → is_odd j ≡ false → (t : ℕ) × (j ≡ t + t)
-half zero o = (0, omega arith)
-half (suc zero) o = absurd (true≢false o)
-half (suc (suc j)) o = let h = half j (sym (not_not (is_odd j)) ∙ o) in (suc h.0, let a = h.1 in omega arith)
 
 -- the summand of an even sum whose other summand is even
 even_part : (m j t : ℕ) → m + j ≡ t → is_odd j ≡ false → is_odd t ≡ false → is_odd m ≡ false

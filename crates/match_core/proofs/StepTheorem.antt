@@ -5,6 +5,7 @@ use Rattle.std.proofs.lemmas.Bool.{cases_eq, cases_Bool, both_ways, and_parts, a
 use Rattle.std.proofs.lemmas.List.{get_or-map, length-map}
 use Rattle.counting.proofs.Counts.{count_le}
 use Rattle.counting.proofs.Tests.{scan, some_true}
+use Rattle.counting.proofs.Odd.{half}
 use Rattle.counting.specs.Counts.{Within, count, is_odd}
 use Rattle.counting.specs.Sets.{Set, complement, minus, none, union}
 use Rattle.graph_core.specs.Graph.{Graph, IsGraph, degree, first_end, second_end, size, HasEnds}
@@ -13,7 +14,7 @@ use Rattle.match_core.proofs.OddCycles.{cycle_holds, cycle_outside, cycle_size, 
 use Rattle.match_core.proofs.LongerPaths.{end_within, ends_by}
 use Rattle.match_core.proofs.Forests.{first_outer, forest_start, outer_edge, turned, final_frame}
 use Rattle.match_core.proofs.Growth.{mate, grown, grown_size, more_e, more_inner, more_k, more_outer, more_v}
-use Rattle.match_core.proofs.ClosingEdges.{even_j, half, cycle, stem_count, stem_free, stem_holds, stem_matching}
+use Rattle.match_core.proofs.ClosingEdges.{even_j, cycle, stem_count, stem_free, stem_holds, stem_matching}
 use Rattle.match_core.proofs.AlternatingPaths.{two_paths}
 use Rattle.match_core.proofs.Shrinking.{frame_up, shrunk_graph, complement_size, tip, down, up}
 use Rattle.match_core.specs.OddCycles.{IsOddCycle, listed, every_other, picked}

@@ -2,3 +2,5 @@ pub mod Frames
 pub mod OddCycles
 pub mod Forests
 pub mod RepairPaths
+pub mod Rows
+pub mod Meetings

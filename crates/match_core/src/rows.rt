@@ -1,0 +1,63 @@
+//! Rows of numbers: parts of a row put at the end of a row, and where a number stands.
+ghost use Rattle.std.specs.Prelude.{◌≡◌, ◌≢◌, ℕ, ◌+◌, ◌-◌, ◌<◌, ◌≤◌, length, slice_index, IfOk, Some, None};
+
+use std::alloc::AllocError as Memory;
+
+/// Puts `count` numbers of the row, from a place on, once more at its end.
+pub fn repeat_part(row: &mut Vec<u32>, from: usize, count: usize) -> Result<(), Memory>
+    requires within { from + count ≤ length row.old.items }
+    ensures length { IfOk result (λ _. length row.new.items ≡ length row.old.items + count) }
+    ensures old { IfOk result (λ _. (j : ℕ) → j < length row.old.items → slice_index row.new.items j ≡ slice_index row.old.items j) }
+    ensures new { IfOk result (λ _. (j : ℕ) → j < count → slice_index row.new.items (length row.old.items + j) ≡ slice_index row.old.items (from + j)) }
+{
+    for i in 0..count {
+        let v = row[from + i];
+        row.push(v)?;
+    }
+    Ok(())
+}
+
+/// Puts `count` numbers of another row, from a place on, at the end of the row.
+pub fn push_part(row: &mut Vec<u32>, of: &[u32], from: usize, count: usize) -> Result<(), Memory>
+    requires within { from + count ≤ length of.now }
+    ensures length { IfOk result (λ _. length row.new.items ≡ length row.old.items + count) }
+    ensures old { IfOk result (λ _. (j : ℕ) → j < length row.old.items → slice_index row.new.items j ≡ slice_index row.old.items j) }
+    ensures new { IfOk result (λ _. (j : ℕ) → j < count → slice_index row.new.items (length row.old.items + j) ≡ slice_index of.now (from + j)) }
+{
+    for i in 0..count {
+        row.push(of[from + i])?;
+    }
+    Ok(())
+}
+
+/// The same backwards: the last of the `count` numbers comes first.
+pub fn push_part_back(
+    row: &mut Vec<u32>,
+    of: &[u32],
+    from: usize,
+    count: usize,
+) -> Result<(), Memory>
+    requires within { from + count ≤ length of.now }
+    ensures length { IfOk result (λ _. length row.new.items ≡ length row.old.items + count) }
+    ensures old { IfOk result (λ _. (j : ℕ) → j < length row.old.items → slice_index row.new.items j ≡ slice_index row.old.items j) }
+    ensures new { IfOk result (λ _. (j : ℕ) → j < count → slice_index row.new.items (length row.old.items + j) ≡ slice_index of.now (from + (count - 1 - j))) }
+{
+    for i in 0..count {
+        row.push(of[from + (count - 1 - i)])?;
+    }
+    Ok(())
+}
+
+/// The first place of `v` among `count` numbers of a row, counted from the place `from`.
+pub fn find_in(row: &[u32], from: usize, count: usize, v: u32) -> Option<usize>
+    requires within { from + count ≤ length row.now }
+    ensures none { result ≡ None → (j : ℕ) → j < count → slice_index row.now (from + j) ≢ v }
+    ensures some { (j : ℕ) → result ≡ Some j → (j < count) × (slice_index row.now (from + j) ≡ v) }
+{
+    for j in 0..count {
+        if row[from + j] == v {
+            return Some(j);
+        }
+    }
+    None
+}
