@@ -4,3 +4,5 @@ pub mod Forests
 pub mod RepairPaths
 pub mod Rows
 pub mod Meetings
+pub mod ForestRows
+pub mod Searches

@@ -1,7 +1,7 @@
 //! Rows of numbers: parts of a row put at the end of a row, and where a number stands.
 ghost use Rattle.std.specs.Prelude.{◌≡◌, ◌≢◌, ℕ, ◌+◌, ◌-◌, ◌<◌, ◌≤◌, length, slice_index, IfOk, Some, None};
 
-use std::alloc::AllocError as Memory;
+use std::alloc::{AllocError as Memory, Global};
 
 /// Puts `count` numbers of the row, from a place on, once more at its end.
 pub fn repeat_part(row: &mut Vec<u32>, from: usize, count: usize) -> Result<(), Memory>
@@ -60,4 +60,52 @@ pub fn find_in(row: &[u32], from: usize, count: usize, v: u32) -> Option<usize>
         }
     }
     None
+}
+
+/// The numbers from 0 up to, not with, `n`.
+pub fn numbered(alloc: Global, n: u32) -> Result<Vec<u32>, Memory>
+    ensures length { IfOk result (λ xs. length xs.items ≡ n) }
+    ensures each { IfOk result (λ xs. (v : ℕ) → v < n → slice_index xs.items v ≡ v) }
+{
+    let mut xs = Vec::new(alloc);
+    for i in 0..n {
+        xs.push(i)?;
+    }
+    Ok(xs)
+}
+
+/// The places from 0 up to, not with, `n`.
+pub fn places(alloc: Global, n: usize) -> Result<Vec<usize>, Memory>
+    ensures length { IfOk result (λ xs. length xs.items ≡ n) }
+    ensures each { IfOk result (λ xs. (v : ℕ) → v < n → slice_index xs.items v ≡ v) }
+{
+    let mut xs = Vec::new(alloc);
+    for i in 0..n {
+        xs.push(i)?;
+    }
+    Ok(xs)
+}
+
+/// A row of `n` zeros.
+pub fn zeros(alloc: Global, n: usize) -> Result<Vec<u32>, Memory>
+    ensures length { IfOk result (λ xs. length xs.items ≡ n) }
+    ensures each { IfOk result (λ xs. (v : ℕ) → slice_index xs.items v ≡ 0) }
+{
+    let mut xs = Vec::new(alloc);
+    for _i in 0..n {
+        xs.push(0)?;
+    }
+    Ok(xs)
+}
+
+/// A row of `n` places, each 0.
+pub fn zero_places(alloc: Global, n: usize) -> Result<Vec<usize>, Memory>
+    ensures length { IfOk result (λ xs. length xs.items ≡ n) }
+    ensures each { IfOk result (λ xs. (v : ℕ) → slice_index xs.items v ≡ 0) }
+{
+    let mut xs = Vec::new(alloc);
+    for _i in 0..n {
+        xs.push(0)?;
+    }
+    Ok(xs)
 }
