@@ -13,3 +13,5 @@ pub mod OddComponents
 pub mod OuterComponents
 pub mod SymmetricDifference
 pub mod Alike
+pub mod GrownRows
+pub mod SearchRows

@@ -18,8 +18,8 @@ pub record AreEnds (n : ℕ) (ends : List Ends) : Type 0 where
 -- a graph within the limits of the code's sets and numbers; loops are allowed
 pub record IsGraphRow (n : ℕ) (ends : List Ends) : Type 0 where
   pub vertices : n ≤ 128
-  pub edges : length ends ≤ 2048
-  pub ends : AreEnds n ends
+  pub few : length ends ≤ 2048
+  pub within : AreEnds n ends
 
 -- x is outer and y is another vertex that is neither inner nor removed
 abbrev pub is_open_pair : Set → Set → Set → ℕ → ℕ → Bool

@@ -37,12 +37,7 @@ pub struct Forest {
 }
 
 /// The forest of the vertices of 1 to `n` that are not removed and that no marked edge meets, each a path by itself.
-pub fn first_forest(
-    alloc: Global,
-    n: u32,
-    removed: VSet,
-    at: &[u32],
-) -> Result<Forest, Memory>
+pub fn first_forest(alloc: Global, n: u32, removed: VSet, at: &[u32]) -> Result<Forest, Memory>
     requires most { n ≤ MOST_VERTICES }
     requires long { length at.now ≡ n + 1 }
     ensures { IfOk result (λ f. IsFirstForest n removed at.now f) }
@@ -80,29 +75,29 @@ fn free(n: u32, removed: VSet, at: &[u32]) -> VSet
 
 /// The open edge's end becomes inner and its mate outer: the mate's path is that of the edge's first vertex, and on by the
 /// two edges.
-pub fn grow(f: &mut Forest, n: u32, open: Open, mate: Mate) -> Result<(), Memory>
+pub fn grow(f: &mut Forest, n: u32, gap: Open, mate: Mate) -> Result<(), Memory>
     requires most { n ≤ MOST_VERTICES }
     requires sized { IsSized n f.old }
-    requires from_in { Within n open.from }
-    requires to_in { Within n open.to }
+    requires from_in { Within n gap.from }
+    requires to_in { Within n gap.to }
     requires mate_in { Within n mate.vertex }
-    requires room { numbers f.old.start.items open.from + (numbers f.old.pairs.items open.from + numbers f.old.pairs.items open.from) < length f.old.vertices.items }
+    requires room { numbers f.old.start.items gap.from + (numbers f.old.pairs.items gap.from + numbers f.old.pairs.items gap.from) < length f.old.vertices.items }
     ensures sized { IfOk result (λ _. IsSized n f.new) }
-    ensures grew { IfOk result (λ _. HasGrown f.old f.new open mate) }
+    ensures grew { IfOk result (λ _. HasGrown f.old f.new gap mate) }
 {
     let start = f.vertices.len();
-    let from = f.start[open.from as usize];
-    let pairs = f.pairs[open.from as usize];
+    let from = f.start[gap.from as usize];
+    let pairs = f.pairs[gap.from as usize];
     repeat_part(&mut f.vertices, from, pairs + pairs + 1)?;
-    f.vertices.push(open.to)?;
+    f.vertices.push(gap.to)?;
     f.vertices.push(mate.vertex)?;
     repeat_part(&mut f.edges, from, pairs + pairs)?;
-    f.edges.push(open.edge)?;
+    f.edges.push(gap.edge)?;
     f.edges.push(mate.edge)?;
     f.edges.push(0)?;
     f.start[mate.vertex as usize] = start;
     f.pairs[mate.vertex as usize] = pairs + 1;
     f.outer = f.outer.with(mate.vertex);
-    f.inner = f.inner.with(open.to);
+    f.inner = f.inner.with(gap.to);
     Ok(())
 }

@@ -40,15 +40,15 @@ pub fn search_forest(
     let mut from = 0;
     'growing: loop {
         match find_open(ends, from, removed, forest.outer, forest.inner) {
-            Some(open) => {
-                if forest.outer.contains(open.to) {
+            Some(gap) => {
+                if forest.outer.contains(gap.to) {
                     return Ok(Search {
                         forest,
-                        close: Some(open),
+                        close: Some(gap),
                     });
                 }
-                extend(&mut forest, n, ends, removed, mark, &at, open)?;
-                from = open.edge as usize;
+                extend(&mut forest, n, ends, removed, mark, &at, gap)?;
+                from = gap.edge as usize;
             }
             None => {
                 if from == 0 {
@@ -64,12 +64,7 @@ pub fn search_forest(
 }
 
 // For each vertex the marked edge that meets it, 0 if there is none.
-fn matched_edges(
-    alloc: Global,
-    n: u32,
-    ends: &[Ends],
-    mark: &[bool],
-) -> Result<Vec<u32>, Memory>
+fn matched_edges(alloc: Global, n: u32, ends: &[Ends], mark: &[bool]) -> Result<Vec<u32>, Memory>
     requires row { IsGraphRow n ends.now }
     requires long { length mark.now ≡ length ends.now + 1 }
     ensures length { IfOk result (λ at. length at.items ≡ n + 1) }
@@ -98,13 +93,7 @@ fn is_open(removed: VSet, outer: VSet, inner: VSet, x: u32, y: u32) -> bool
 }
 
 // The first edge, from a place on, that leads from an outer vertex to one that is not inner.
-fn find_open(
-    ends: &[Ends],
-    from: usize,
-    removed: VSet,
-    outer: VSet,
-    inner: VSet,
-) -> Option<Open>
+fn find_open(ends: &[Ends], from: usize, removed: VSet, outer: VSet, inner: VSet) -> Option<Open>
     requires few { length ends.now ≤ MOST_EDGES }
     requires ends { AreEnds MOST_VERTICES ends.now }
     requires from_in { from ≤ length ends.now }
@@ -145,7 +134,7 @@ fn extend(
     removed: VSet,
     mark: &[bool],
     at: &[u32],
-    open: Open,
+    gap: Open,
 ) -> Result<(), Memory>
     requires row { IsGraphRow n ends.now }
     requires sized { IsSized n forest.old }
@@ -153,13 +142,13 @@ fn extend(
     requires matching { IsMatching (graph_of n ends.now) (mem removed) (marks mark.now) }
     requires at_long { length at.now ≡ n + 1 }
     requires named { NamesEdges ends.now (marks mark.now) at.now (length ends.now) }
-    requires is_open { IsOpen ends.now (mem removed) (mem forest.old.outer) (mem forest.old.inner) open }
-    requires new { mem forest.old.outer open.to ≡ false }
+    requires is_open { IsOpen ends.now (mem removed) (mem forest.old.outer) (mem forest.old.inner) gap }
+    requires new { mem forest.old.outer gap.to ≡ false }
     ensures sized { IfOk result (λ _. IsSized n forest.new) }
     ensures holds { IfOk result (λ _. HoldsForest (graph_of n ends.now) (mem removed) (marks mark.now) forest.new) }
     ensures more { IfOk result (λ _. count n (mem forest.new.outer) + count n (mem forest.new.inner) ≡ count n (mem forest.old.outer) + count n (mem forest.old.inner) + 2) }
 {
-    let edge = at[open.to as usize];
-    let vertex = other_end(ends[edge as usize - 1], open.to);
-    grow(forest, n, open, Mate { edge, vertex })
+    let edge = at[gap.to as usize];
+    let vertex = other_end(ends[edge as usize - 1], gap.to);
+    grow(forest, n, gap, Mate { edge, vertex })
 }
