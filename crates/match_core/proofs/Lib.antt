@@ -15,3 +15,6 @@ pub mod SymmetricDifference
 pub mod Alike
 pub mod GrownRows
 pub mod SearchRows
+pub mod ClosedRows
+pub mod Closings
+pub mod ShrunkRows

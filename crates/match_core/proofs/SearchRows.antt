@@ -45,25 +45,29 @@ module _ (n : ℕ) (ends : List Ends) where
   row_graph row e w = let u : Within (length ends) e = (let s = size_is in omega arith) in
       let a = row.a (e - 1) (omega arith) in let b = row.b (e - 1) (omega arith) in let x = near_is e u in let y = far_is e u in (omega arith, omega arith)
 
+  -- a vertex that no marked edge meets
+  pub unmet_degree : (m : Set) (v : ℕ) → ((k : ℕ) → k < length ends → m (k + 1) ≡ true → (end_a ends k ≢ v) × (end_b ends k ≢ v)) → degree G m v ≡ 0
+  unmet_degree m v unmet = ap₂ ◌+◌
+      (total_none (size G) _ (λ e w. ap bit (none e (first_end G e) w (λ t y. let u = in_ends e w in (unmet (e - 1) (omega arith) (ap m (forth e w.0) ∙ t)).0 (sym (near_is e u) ∙ y)))))
+      (total_none (size G) _ (λ e w. ap bit (none e (second_end G e) w (λ t y. let u = in_ends e w in (unmet (e - 1) (omega arith) (ap m (forth e w.0) ∙ t)).1 (sym (far_is e u) ∙ y)))))
+    where
+      in_ends : (e : ℕ) → Within (size G) e → Within (length ends) e
+      in_ends e w = let s = size_is in omega arith
+
+      forth : (e : ℕ) → 1 ≤ e → e - 1 + 1 ≡ e
+      forth e l = omega arith
+
+      none : (e y : ℕ) → Within (size G) e → (m e ≡ true → y ≢ v) → (m e && (y == v)) ≡ false
+      none e y w h = go (m e) h
+        where
+          go : (b : Bool) → (b ≡ true → y ≢ v) → (b && (y == v)) ≡ false
+          go true h = ne_eqb y v (h refl)
+          go false h = refl
+
   module _ (m : Set) (at : List ℕ) (mates : NamesEdges ends m at (length ends)) where
     -- a vertex without a marked edge
     pub missed_degree : (v : ℕ) → numbers at v ≡ 0 → degree G m v ≡ 0
-    missed_degree v z = ap₂ ◌+◌
-        (total_none (size G) _ (λ e w. ap bit (none e (first_end G e) w (λ t y. let u = in_ends e w in (mates.missed v z (e - 1) (omega arith) (ap m (forth e w.0) ∙ t)).0 (sym (near_is e u) ∙ y)))))
-        (total_none (size G) _ (λ e w. ap bit (none e (second_end G e) w (λ t y. let u = in_ends e w in (mates.missed v z (e - 1) (omega arith) (ap m (forth e w.0) ∙ t)).1 (sym (far_is e u) ∙ y)))))
-      where
-        in_ends : (e : ℕ) → Within (size G) e → Within (length ends) e
-        in_ends e w = let s = size_is in omega arith
-
-        forth : (e : ℕ) → 1 ≤ e → e - 1 + 1 ≡ e
-        forth e l = omega arith
-
-        none : (e y : ℕ) → Within (size G) e → (m e ≡ true → y ≢ v) → (m e && (y == v)) ≡ false
-        none e y w h = go (m e) h
-          where
-            go : (b : Bool) → (b ≡ true → y ≢ v) → (b && (y == v)) ≡ false
-            go true h = ne_eqb y v (h refl)
-            go false h = refl
+    missed_degree v z = unmet_degree m v (mates.missed v z)
 
     -- the mate of a vertex that has one
     abbrev pub partner : ℕ → ℕ
@@ -84,45 +88,46 @@ module _ (n : ℕ) (ends : List Ends) where
           ],
         )
 
-    module _ (is : IsGraph G) (r : Set) (mm : IsMatching G r m) (f : Forest) (holds : HoldsForest G r m f) (o : Open) (is_open : IsOpen ends r (mem f.outer) (mem f.inner) o) (fresh_to : mem f.outer o.to ≡ false) where
-      pub open_parts : (r o.from ≡ false) × (r o.to ≡ false) × (o.from ≢ o.to) × (mem f.outer o.from ≡ true) × (mem f.inner o.to ≡ false)
-      open_parts =
-          let a = and_parts (mem f.outer o.from && not (mem f.inner o.to) && not (r o.from) && not (r o.to)) (not (o.from == o.to)) is_open.is_open in
-          let b = and_parts (mem f.outer o.from && not (mem f.inner o.to) && not (r o.from)) (not (r o.to)) a.0 in
-          let c = and_parts (mem f.outer o.from && not (mem f.inner o.to)) (not (r o.from)) b.0 in
-          let d = and_parts (mem f.outer o.from) (not (mem f.inner o.to)) c.0 in
-          (not-true (r o.from) c.1, not-true (r o.to) b.1, (λ q. both_ways (not (o.from == o.to)) (ap not (eq-eqb o.from o.to q)) a.1), d.0, not-true (mem f.inner o.to) d.1)
+  module _ (is : IsGraph G) (r m : Set) (mm : IsMatching G r m) (f : Forest) (holds : HoldsForest G r m f) (o : Open) (is_open : IsOpen ends r (mem f.outer) (mem f.inner) o) where
+    pub open_parts : (r o.from ≡ false) × (r o.to ≡ false) × (o.from ≢ o.to) × (mem f.outer o.from ≡ true) × (mem f.inner o.to ≡ false)
+    open_parts =
+        let a = and_parts (mem f.outer o.from && not (mem f.inner o.to) && not (r o.from) && not (r o.to)) (not (o.from == o.to)) is_open.is_open in
+        let b = and_parts (mem f.outer o.from && not (mem f.inner o.to) && not (r o.from)) (not (r o.to)) a.0 in
+        let c = and_parts (mem f.outer o.from && not (mem f.inner o.to)) (not (r o.from)) b.0 in
+        let d = and_parts (mem f.outer o.from) (not (mem f.inner o.to)) c.0 in
+        (not-true (r o.from) c.1, not-true (r o.to) b.1, (λ q. both_ways (not (o.from == o.to)) (ap not (eq-eqb o.from o.to q)) a.1), d.0, not-true (mem f.inner o.to) d.1)
 
-      pub open_real : Within (size G) o.edge
-      open_real = let s = size_is in let t = is_open.within in omega arith
+    pub open_real : Within (size G) o.edge
+    open_real = let s = size_is in let t = is_open.within in omega arith
 
-      pub open_ends : HasEnds G o.edge o.from o.to
-      open_ends = elim is_open.joined [
-        | inl q ↦ inl (near_is o.edge is_open.within ∙ q.0, far_is o.edge is_open.within ∙ q.1)
-        | inr q ↦ inr (near_is o.edge is_open.within ∙ q.0, far_is o.edge is_open.within ∙ q.1)
-      ]
+    pub open_ends : HasEnds G o.edge o.from o.to
+    open_ends = elim is_open.joined [
+      | inl q ↦ inl (near_is o.edge is_open.within ∙ q.0, far_is o.edge is_open.within ∙ q.1)
+      | inr q ↦ inr (near_is o.edge is_open.within ∙ q.0, far_is o.edge is_open.within ∙ q.1)
+    ]
 
-      pub from_in : Within n o.from
-      from_in = end_within G is o.edge o.from o.to open_real open_ends
+    pub from_in : Within n o.from
+    from_in = end_within G is o.edge o.from o.to open_real open_ends
 
-      pub to_in : Within n o.to
-      to_in = end_within G is o.edge o.to o.from open_real (turned G o.edge o.from o.to open_ends)
+    pub to_in : Within n o.to
+    to_in = end_within G is o.edge o.to o.from open_real (turned G o.edge o.from o.to open_ends)
 
+    module _ (at : List ℕ) (mates : NamesEdges ends m at (length ends)) (fresh_to : mem f.outer o.to ≡ false) where
       pub has_mate : numbers at o.to ≢ 0
-      has_mate z = both_ways (mem f.outer o.to) fresh_to (holds.forest.misses o.to to_in open_parts.1 (missed_degree o.to z))
+      has_mate z = both_ways (mem f.outer o.to) fresh_to (holds.forest.misses o.to to_in open_parts.1 (missed_degree m at mates o.to z))
 
-      pub partner_in : Within n (partner o.to)
-      partner_in = let p = pair_is o.to has_mate in end_within G is (numbers at o.to) (partner o.to) o.to p.0 (turned G (numbers at o.to) o.to (partner o.to) p.2)
+      pub partner_in : Within n (partner m at mates o.to)
+      partner_in = let p = pair_is m at mates o.to has_mate in end_within G is (numbers at o.to) (partner m at mates o.to) o.to p.0 (turned G (numbers at o.to) o.to (partner m at mates o.to) p.2)
 
-      module _ (h : Forest) (mate : Mate) (edge_is : mate.edge ≡ numbers at o.to) (vertex_is : mate.vertex ≡ partner o.to) (grew : HasGrown f h o mate) where
+      module _ (h : Forest) (mate : Mate) (edge_is : mate.edge ≡ numbers at o.to) (vertex_is : mate.vertex ≡ partner m at mates o.to) (grew : HasGrown f h o mate) where
         real : Within (size G) mate.edge
-        real = subst (Within (size G)) (sym edge_is) (pair_is o.to has_mate).0
+        real = subst (Within (size G)) (sym edge_is) (pair_is m at mates o.to has_mate).0
 
         marked : m mate.edge ≡ true
-        marked = ap m edge_is ∙ (pair_is o.to has_mate).1
+        marked = ap m edge_is ∙ (pair_is m at mates o.to has_mate).1
 
         mate_ends : HasEnds G mate.edge o.to mate.vertex
-        mate_ends = ends_by G mate.edge (numbers at o.to) o.to o.to mate.vertex (partner o.to) edge_is refl vertex_is (pair_is o.to has_mate).2
+        mate_ends = ends_by G mate.edge (numbers at o.to) o.to o.to mate.vertex (partner m at mates o.to) edge_is refl vertex_is (pair_is m at mates o.to has_mate).2
 
         pub held : HoldsForest G r m h
         held = holds_grown G is r m mm f h o mate holds grew open_real open_ends open_parts.3 open_parts.1 fresh_to open_parts.4 real marked mate_ends

@@ -8,6 +8,7 @@ use Rattle.match_core.specs.Rows.{numbers}
 use Rattle.match_core.specs.declared.forest.Forest.{Forest}
 use Rattle.match_core.specs.declared.forest.Open.{Open}
 use Rattle.match_core.specs.declared.forest.Mate.{Mate}
+use Rattle.match_core.specs.declared.forest.PathPlace.{PathPlace}
 
 -- the lengths of the rows of a forest of n vertices
 pub record IsSized (n : ℕ) (f : Forest) : Type 0 where
@@ -20,6 +21,11 @@ pub record HoldsForest (g : Graph) (r m : Set) (f : Forest) : Type 0 where
   pub forest : IsForest g r m (mem f.outer) (mem f.inner) (numbers f.pairs.items)
       (λ u j. numbers f.vertices.items (numbers f.start.items u + j)) (λ u j. numbers f.edges.items (numbers f.start.items u + j))
   pub room : (u : ℕ) → mem f.outer u ≡ true → numbers f.start.items u + (numbers f.pairs.items u + numbers f.pairs.items u) < length f.vertices.items
+
+-- p is where the path of v stands
+pub record IsPathOf (f : Forest) (v : ℕ) (p : PathPlace) : Type 0 where
+  pub start : p.start ≡ numbers f.start.items v
+  pub pairs : p.pairs ≡ numbers f.pairs.items v
 
 -- each vertex of 1 to n that no marked edge meets is a path by itself
 pub record IsFirstForest (n : ℕ) (removed at : List ℕ) (f : Forest) : Type 0 where

@@ -6,3 +6,4 @@ pub mod Rows
 pub mod Meetings
 pub mod ForestRows
 pub mod Searches
+pub mod Steps

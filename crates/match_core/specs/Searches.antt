@@ -44,5 +44,5 @@ pub record NamesEdges (ends : List Ends) (m : Set) (at : List ℕ) (k : ℕ) : T
 pub record IsSearched (n : ℕ) (ends : List Ends) (r m : Set) (s : Search) : Type 0 where
   pub sized : IsSized n s.forest
   pub holds : HoldsForest (graph_of n ends) r m s.forest
-  pub final : s.close ≡ None → (k : ℕ) → k < length ends → IsClosedAt ends r (mem s.forest.outer) (mem s.forest.inner) k
-  pub closing : (o : Open) → s.close ≡ Some o → IsOpen ends r (mem s.forest.outer) (mem s.forest.inner) o × (mem s.forest.outer o.to ≡ true)
+  pub final : s.closing ≡ None → (k : ℕ) → k < length ends → IsClosedAt ends r (mem s.forest.outer) (mem s.forest.inner) k
+  pub closing_edge : (o : Open) → s.closing ≡ Some o → IsOpen ends r (mem s.forest.outer) (mem s.forest.inner) o × (mem s.forest.outer o.to ≡ true)

@@ -1,6 +1,6 @@
 //! The odd cycle that a closing edge makes of two paths that meet.
 ghost use Rattle.std.specs.Prelude.{◌≡◌, ◌≢◌, ℕ, ◌+◌, ◌-◌, ◌<◌, ◌≤◌, Bool, cond, length, slice_index, IfOk, Some, None};
-ghost use Rattle.counting.specs.Counts.{is_odd};
+ghost use Rattle.counting.specs.Counts.{Within, is_odd};
 ghost use Rattle.match_core.specs.OddCycles.{every_other, picked};
 ghost use Rattle.match_core.specs.Rows.{marks, numbers};
 ghost use Rattle.match_core.specs.Meetings.{IsLastMeeting};
@@ -107,7 +107,7 @@ fn is_every_other(t: usize, i: usize) -> bool
 /// Marks or unmarks every other edge of a cycle, on the way round from place t to place t.
 pub fn mark_every_other(mark: &mut [bool], edges: &[u32], t: usize, value: bool)
     requires some { 1 ≤ length edges.now }
-    requires in_mark { (k : ℕ) → k < length edges.now → slice_index edges.now k < length mark.old }
+    requires in_mark { (i : ℕ) → Within (length edges.now - 1) i → numbers edges.now i < length mark.old }
     ensures { (e : ℕ) → marks mark.new e ≡ cond (picked (length edges.now - 1) (every_other t) (numbers edges.now) e) value (marks mark.old e) }
 {
     for j in 0..edges.len() - 1 {

@@ -4,6 +4,8 @@ ghost use Rattle.counting.specs.Sets.{put};
 ghost use Rattle.match_core.specs.Forests.{flipped};
 ghost use Rattle.match_core.specs.Rows.{marks, part};
 
+use crate::forest::PathPlace;
+
 /// Exchanges the marks along a path, whose edges are a part of a row, pair by pair: the first edge of each pair is
 /// marked, the second no more.
 pub fn exchange(mark: &mut [bool], edges: &[u32], from: usize, pairs: usize)
@@ -21,20 +23,18 @@ pub fn exchange(mark: &mut [bool], edges: &[u32], from: usize, pairs: usize)
 pub fn augment(
     mark: &mut [bool],
     edges: &[u32],
-    p: usize,
-    p_pairs: usize,
-    q: usize,
-    q_pairs: usize,
+    p: PathPlace,
+    q: PathPlace,
     a: u32,
 )
-    requires p_long { p + (p_pairs + p_pairs) ≤ length edges.now }
-    requires q_long { q + (q_pairs + q_pairs) ≤ length edges.now }
-    requires p_in { (k : ℕ) → k < p_pairs + p_pairs → slice_index edges.now (p + k) < length mark.old }
-    requires q_in { (k : ℕ) → k < q_pairs + q_pairs → slice_index edges.now (q + k) < length mark.old }
+    requires p_long { p.start + (p.pairs + p.pairs) ≤ length edges.now }
+    requires q_long { q.start + (q.pairs + q.pairs) ≤ length edges.now }
+    requires p_in { (k : ℕ) → k < p.pairs + p.pairs → slice_index edges.now (p.start + k) < length mark.old }
+    requires q_in { (k : ℕ) → k < q.pairs + q.pairs → slice_index edges.now (q.start + k) < length mark.old }
     requires a_in { a < length mark.old }
-    ensures { (e : ℕ) → marks mark.new e ≡ put (flipped (flipped (marks mark.old) (part edges.now p) p_pairs) (part edges.now q) q_pairs) a true e }
+    ensures { (e : ℕ) → marks mark.new e ≡ put (flipped (flipped (marks mark.old) (part edges.now p.start) p.pairs) (part edges.now q.start) q.pairs) a true e }
 {
-    exchange(mark, edges, p, p_pairs);
-    exchange(mark, edges, q, q_pairs);
+    exchange(mark, edges, p.start, p.pairs);
+    exchange(mark, edges, q.start, q.pairs);
     mark[a as usize] = true;
 }

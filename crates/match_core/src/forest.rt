@@ -3,7 +3,7 @@ ghost use Rattle.std.specs.Prelude.{◌≡◌, ℕ, ◌+◌, ◌<◌, ◌≤◌,
 ghost use Rattle.counting.specs.Lists.{mem};
 ghost use Rattle.counting.specs.Counts.{Within};
 ghost use Rattle.match_core.specs.Rows.{numbers};
-ghost use Rattle.match_core.specs.ForestRows.{IsSized, IsFirstForest, HasGrown};
+ghost use Rattle.match_core.specs.ForestRows.{IsSized, IsFirstForest, HasGrown, IsPathOf};
 
 use crate::rows::{numbered, places, repeat_part, zero_places, zeros};
 use std::alloc::{AllocError as Memory, Global};
@@ -34,6 +34,26 @@ pub struct Forest {
     pub pairs: Vec<usize>,
     pub vertices: Vec<u32>,
     pub edges: Vec<u32>,
+}
+
+/// Where the path of an outer vertex stands in the rows, and its number of pairs of edges.
+#[derive(Clone, Copy, Debug, PartialEq, Eq, Drop)]
+pub struct PathPlace {
+    pub start: usize,
+    pub pairs: usize,
+}
+
+/// The place of the path of `v`.
+pub fn path_place(forest: &Forest, n: u32, v: u32) -> PathPlace
+    requires most { n ≤ MOST_VERTICES }
+    requires sized { IsSized n forest.now }
+    requires within { Within n v }
+    ensures { IsPathOf forest.now v result }
+{
+    PathPlace {
+        start: forest.start[v as usize],
+        pairs: forest.pairs[v as usize],
+    }
 }
 
 /// The forest of the vertices of 1 to `n` that are not removed and that no marked edge meets, each a path by itself.

@@ -18,7 +18,7 @@ use vset_core::{MOST_VERTICES, VSet};
 #[derive(Drop)]
 pub struct Search {
     pub forest: Forest,
-    pub close: Option<Open>,
+    pub closing: Option<Open>,
 }
 
 /// Grows the forest of a matching of G - removed, given by its marks, until an edge joins two outer vertices or none leaves
@@ -44,7 +44,7 @@ pub fn search_forest(
                 if forest.outer.contains(gap.to) {
                     return Ok(Search {
                         forest,
-                        close: Some(gap),
+                        closing: Some(gap),
                     });
                 }
                 extend(&mut forest, n, ends, removed, mark, &at, gap)?;
@@ -54,7 +54,7 @@ pub fn search_forest(
                 if from == 0 {
                     return Ok(Search {
                         forest,
-                        close: None,
+                        closing: None,
                     });
                 }
                 from = 0;

@@ -27,7 +27,7 @@ returns-then-contains c = record {
   sized = c.growing.invariant.sized;
   holds = c.growing.invariant.holds;
   final = λ q. cc;
-  closing = λ o q. let e : c.in-Some.gap ≡ o = cc in (subst (IsOpen c.args.ends.now (mem c.args.removed) (mem c.growing.forest.outer) (mem c.growing.forest.inner)) e (c.find_open.ensures.some c.in-Some.gap c.in-Some.is), subst (λ (o : Open). mem c.growing.forest.outer o.to ≡ true) e (cc));
+  closing_edge = λ o q. let e : c.in-Some.gap ≡ o = cc in (subst (IsOpen c.args.ends.now (mem c.args.removed) (mem c.growing.forest.outer) (mem c.growing.forest.inner)) e (c.find_open.ensures.some c.in-Some.gap c.in-Some.is), subst (λ (o : Open). mem c.growing.forest.outer o.to ≡ true) e (cc));
 }
 
 one_or_none : (k : ℕ) → cond (k == 0) 0 1 ≤ 1
