@@ -18,3 +18,4 @@ pub mod SearchRows
 pub mod ClosedRows
 pub mod Closings
 pub mod ShrunkRows
+pub mod ShrunkSteps
