@@ -4,6 +4,7 @@ ghost use Rattle.counting.specs.Counts.{Within};
 ghost use Rattle.counting.specs.Sets.{none};
 ghost use Rattle.graph_core.specs.Graph.{size, first_end, second_end, with_edge};
 ghost use Rattle.graph_core.specs.Walks.{adjacent};
+ghost use Rattle.graph_core.specs.View.{graph_of, IsWithinLimits};
 
 use crate::{AddFault, Ends};
 use std::alloc::{AllocError as Memory, Global};
@@ -65,6 +66,14 @@ impl MultiGraph {
         ensures second { result.b ≡ second_end self.now e }
     {
         self.edges[e as usize - 1]
+    }
+
+    /// The ends of all edges, in the order of their numbers. Takes no memory.
+    pub fn edges(&self) -> &[Ends]
+        ensures edges { graph_of self.now.order result.now ≡ self.now }
+        ensures limits { IsWithinLimits self.now }
+    {
+        &self.edges
     }
 
     /// Appends an edge and answers its number. `Range` comes exactly where an end is no vertex, `Loop` exactly where both

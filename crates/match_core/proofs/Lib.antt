@@ -19,3 +19,5 @@ pub mod ClosedRows
 pub mod Closings
 pub mod ShrunkRows
 pub mod ShrunkSteps
+pub mod MatchingEdges
+pub mod FirstMarks

@@ -1,7 +1,7 @@
 -- The step of a shrunk graph is one of the graph: its matching goes up with every other edge of the cycle, its frame with
 -- the cycle's vertices among the outer ones.
 use Rattle.std.proofs.Common.{◌≡◌, ℕ, suc, zero, ◌+◌, ◌-◌, ◌*◌, ◌≤◌, ◌<◌, ◌≢◌, Bool, true, false, ◌==◌, refl, sym, ap, ◌∙◌, arith, not, ◌⊎◌, inl, inr, subst, subst₂, List, length, map, eqb-true}
-use Rattle.std.proofs.lemmas.Bool.{cases_order, both_ways, not-true}
+use Rattle.std.proofs.lemmas.Bool.{cases_order, both_ways, not-true, or_cases}
 use mathlib.Core.Path.{fun_ext}
 use Rattle.counting.proofs.Odd.{half}
 use Rattle.counting.proofs.Tests.{some_true}
@@ -170,8 +170,15 @@ module _ (n : ℕ) (ends : List Ends) (row : IsGraphRow n ends) (r f m : Set) (s
     answers (Final sets) (Final wide) a w = (
         let u = ups.1 in let b = below_size in let q = a.0 in omega arith,
         framed (frame_up G graph r cs z (map pair_of s.ends.items) shrunk cr wz cz m (mem sets.outer) (mem sets.inner) halves.0 (count (size H) m) (subst (λ (r : Set). IsMatching H r m) removed_is below_matching) below_free refl (subst (λ (r : Set). Frame H r (count (size H) m) (mem sets.outer) (mem sets.inner)) removed_is a.1) near_sets halves.1).2,
+        λ v. (λ q. outer_in v (sym (w.0 v) ∙ q), λ q. (a.2 v).1 (sym (ap (λ (x : List ℕ). mem x v) w.1) ∙ q)),
     )
       where
+        outer_in : (v : ℕ) → union (mem sets.outer) (mem s.ring.members) v ≡ true → Within n v
+        outer_in v q = elim (or_cases (mem sets.outer v) (mem s.ring.members v) q) [
+          | inl o ↦ (a.2 v).0 o
+          | inr o ↦ let at = some_true len (λ i. c i == v) (sym (is.ring.members v) ∙ o) in subst (Within n) (eqb-true (c at.0) v at.2) (cyc.within at.0 at.1)
+        ]
+
         outer_is : mem wide.outer ≡ union (mem sets.outer) cs
         outer_is = fun_ext (λ v. w.0 v ∙ ap (λ (x : Set). union (mem sets.outer) x v) members_are)
 

@@ -7,3 +7,5 @@ pub mod Meetings
 pub mod ForestRows
 pub mod Searches
 pub mod Steps
+pub mod MatchingRows
+pub mod Optimal

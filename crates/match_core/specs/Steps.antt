@@ -16,6 +16,7 @@ use Rattle.match_core.specs.declared.ring.Ring.{Ring}
 use Rattle.match_core.specs.declared.closing.Closing.{Closing}
 use Rattle.match_core.specs.declared.closing.Closing.TheVariants.{Augmented, Shrunk}
 use Rattle.match_core.specs.declared.closing.Contraction.{Contraction}
+use Rattle.match_core.specs.declared.step.FinalSets.{FinalSets}
 use Rattle.match_core.specs.declared.step.Answer.{Answer}
 use Rattle.match_core.specs.declared.step.Answer.TheVariants.{Grown, Final}
 
@@ -59,10 +60,14 @@ abbrev pub IsClosing : ℕ → List Ends → Set → Set → Set → Closing →
 IsClosing n ends r f m Augmented = IsMatching (graph_of n ends) r m × (count (size (graph_of n ends)) m ≡ count (size (graph_of n ends)) f + 1)
 IsClosing n ends r f m (Shrunk s) = IsContraction n ends r f m s
 
+-- the outer and the inner vertices are vertices
+abbrev pub AreVertexSets : Graph → FinalSets → Type 0
+AreVertexSets g sets = (v : ℕ) → (mem sets.outer v ≡ true → Within g.order v) × (mem sets.inner v ≡ true → Within g.order v)
+
 -- one edge more, or a frame for as many edges
 abbrev pub StepAnswer : Graph → Set → Set → Set → Answer → Type 0
 StepAnswer g r f m Grown = count (size g) m ≡ count (size g) f + 1
-StepAnswer g r f m (Final sets) = (count (size g) m ≡ count (size g) f) × Frame g r (count (size g) f) (mem sets.outer) (mem sets.inner)
+StepAnswer g r f m (Final sets) = (count (size g) m ≡ count (size g) f) × Frame g r (count (size g) f) (mem sets.outer) (mem sets.inner) × AreVertexSets g sets
 
 -- the marks f became the matching m
 pub record IsStep (g : Graph) (r f m : Set) (s : Answer) : Type 0 where

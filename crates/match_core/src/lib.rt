@@ -1,14 +1,17 @@
 //! Matchings.
 #![tactic(auto)]
 
+mod best;
 mod closing;
 mod cycle;
 mod exchange;
 mod forest;
 mod laws;
+mod matching;
 mod ring;
 mod rows;
 mod search;
 mod step;
 
 pub use laws::tutte_berge_law;
+pub use matching::{MatchRow, Matching};

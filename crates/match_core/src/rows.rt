@@ -1,5 +1,7 @@
 //! Rows of numbers: parts of a row put at the end of a row, and where a number stands.
-ghost use Rattle.std.specs.Prelude.{◌≡◌, ◌≢◌, ℕ, ◌+◌, ◌-◌, ◌<◌, ◌≤◌, length, slice_index, IfOk, Some, None};
+ghost use Rattle.std.specs.Prelude.{◌≡◌, ◌≢◌, ℕ, ◌+◌, ◌-◌, ◌<◌, ◌≤◌, length, slice_index, IfOk, Some, None, false, true};
+ghost use Rattle.counting.specs.Sets.{put};
+ghost use Rattle.match_core.specs.Rows.{marks};
 
 use std::alloc::{AllocError as Memory, Global};
 
@@ -108,4 +110,24 @@ pub fn zero_places(alloc: Global, n: usize) -> Result<Vec<usize>, Memory>
         xs.push(0)?;
     }
     Ok(xs)
+}
+
+/// A row of `n` truth values, each false.
+pub fn falses(alloc: Global, n: usize) -> Result<Vec<bool>, Memory>
+    ensures length { IfOk result (λ xs. length xs.items ≡ n) }
+    ensures each { IfOk result (λ xs. (v : ℕ) → marks xs.items v ≡ false) }
+{
+    let mut xs = Vec::new(alloc);
+    for _i in 0..n {
+        xs.push(false)?;
+    }
+    Ok(xs)
+}
+
+/// Marks one place.
+pub fn mark_place(mark: &mut [bool], place: usize)
+    requires { place < length mark.old }
+    ensures { (i : ℕ) → marks mark.new i ≡ put (marks mark.old) place true i }
+{
+    mark[place] = true;
 }

@@ -15,7 +15,7 @@ returns-in-None t c =
     let none : c.in_ok-forest.field-0.closing ≡ None = search rules in
     record {
       matching = c.requires.matching;
-      answer = (refl, searched_frame c.args.n c.args.ends.now (marks c.args.mark.now) (mem c.args.removed) (row_graph c.args.n c.args.ends.now c.requires.row.within) c.requires.matching c.in_ok-forest.field-0.forest c.in_ok-forest.ensures.holds (c.in_ok-forest.ensures.final none));
+      answer = (refl, searched_frame c.args.n c.args.ends.now (marks c.args.mark.now) (mem c.args.removed) (row_graph c.args.n c.args.ends.now c.requires.row.within) c.requires.matching c.in_ok-forest.field-0.forest c.in_ok-forest.ensures.holds (c.in_ok-forest.ensures.final none), λ v. (λ q. (c.in_ok-forest.ensures.holds.forest.outer_in v q).0, λ q. (c.in_ok-forest.ensures.holds.forest.inner_in v q).0));
     }
 
 pub close-requires-clause-is_open : goal.close-requires-clause-is_open
