@@ -137,6 +137,16 @@ module _ (n : ℕ) (ends : List Ends) where
             ap₂ ◌+◌ (total_congr n _ _ (λ v w. ap bit (grew.outer v))) (total_congr n _ _ (λ v w. ap bit (grew.inner v)))
             ∙ grown_size G is r m mm (mem f.outer) (mem f.inner) (numbers f.pairs.items) (λ u j. numbers f.vertices.items (numbers f.start.items u + j)) (λ u j. numbers f.edges.items (numbers f.start.items u + j)) holds.forest o.edge o.from o.to mate.edge mate.vertex open_real open_ends open_parts.3 open_parts.1 fresh_to open_parts.4 real marked mate_ends
 
+-- the ends at a place are those of the next edge
+pub ends_here : (n : ℕ) (ends : List Ends) (k : ℕ) → k < length ends → (end_a ends k ≡ first_end (graph_of n ends) (suc k)) × (end_b ends k ≡ second_end (graph_of n ends) (suc k))
+ends_here n ends k l = (
+  sym (near_is n ends (suc k) (omega arith) ∙ ap (end_a ends) (back k)),
+  sym (far_is n ends (suc k) (omega arith) ∙ ap (end_b ends) (back k)),
+)
+  where
+    back : (k : ℕ) → suc k - 1 ≡ k
+    back k = omega arith
+
 -- the first forest
 pub fresh_holds : (n : ℕ) (ends : List Ends) (m : Set) (at : List ℕ) → NamesEdges ends m at (length ends) → IsGraph (graph_of n ends) → (removed : List ℕ) → IsMatching (graph_of n ends) (mem removed) m → (f : Forest) → IsFirstForest n removed at f → HoldsForest (graph_of n ends) (mem removed) m f
 fresh_holds n ends m at mates is removed mm f fresh = record {

@@ -1,5 +1,6 @@
 //! A maximum matching of G - removed, with the frame that shows it to be one.
-ghost use Rattle.std.specs.Prelude.{◌≡◌, ℕ, ◌+◌, length, IfOk};
+ghost use Rattle.std.specs.Prelude.{◌≡◌, ℕ, ◌+◌, ◌≤◌, ◌==◌, ◌&&◌, not, length, IfOk};
+ghost use Rattle.counting.specs.Counts.{Within};
 ghost use Rattle.counting.specs.Lists.{mem};
 ghost use Rattle.graph_core.specs.View.{graph_of};
 ghost use Rattle.graph_core.specs.Matchings.{IsMatching};
@@ -11,7 +12,7 @@ use crate::rows::{falses, mark_place};
 use crate::step::{Answer, FinalSets, step};
 use graph_core::Ends;
 use std::alloc::{AllocError as Memory, Global};
-use vset_core::VSet;
+use vset_core::{MOST_VERTICES, VSet};
 
 /// The marks of a maximum matching, and its frame.
 #[derive(Drop)]
@@ -53,10 +54,19 @@ fn first_marks(
     let mut mark = falses(alloc, ends.len() + 1)?;
     let mut met = removed;
     for (k, e) in ends.iter().enumerate() {
-        if e.a != e.b && !met.contains(e.a) && !met.contains(e.b) {
+        if is_addable(*e, met) {
             mark_place(&mut mark, k + 1);
             met = met.with(e.a).with(e.b);
         }
     }
     Ok(mark)
+}
+
+// Whether an edge joins two different vertices outside the set.
+fn is_addable(e: Ends, met: VSet) -> bool
+    requires a { Within MOST_VERTICES e.a }
+    requires b { Within MOST_VERTICES e.b }
+    ensures { result ≡ (not (e.a == e.b) && (not (mem met e.a) && not (mem met e.b))) }
+{
+    e.a != e.b && (!met.contains(e.a) && !met.contains(e.b))
 }

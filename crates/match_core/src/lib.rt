@@ -8,6 +8,7 @@ mod exchange;
 mod forest;
 mod laws;
 mod matching;
+mod frames;
 mod ring;
 mod rows;
 mod search;
@@ -15,3 +16,4 @@ mod step;
 
 pub use laws::tutte_berge_law;
 pub use matching::{MatchRow, Matching};
+pub use frames::{Found, FrameSets, frame, maximum};

@@ -125,9 +125,10 @@ pub fn falses(alloc: Global, n: usize) -> Result<Vec<bool>, Memory>
 }
 
 /// Marks one place.
-pub fn mark_place(mark: &mut [bool], place: usize)
-    requires { place < length mark.old }
-    ensures { (i : ℕ) → marks mark.new i ≡ put (marks mark.old) place true i }
+pub fn mark_place(mark: &mut Vec<bool>, place: usize)
+    requires { place < length mark.old.items }
+    ensures length { length mark.new.items ≡ length mark.old.items }
+    ensures each { (i : ℕ) → marks mark.new.items i ≡ put (marks mark.old.items) place true i }
 {
     mark[place] = true;
 }
