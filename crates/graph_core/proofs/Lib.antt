@@ -23,3 +23,4 @@ pub mod BlockSets
 pub mod MergedShores
 pub mod Adjacency
 pub mod Rows
+pub mod Perfect

@@ -6,8 +6,8 @@ ghost use Rattle.counting.specs.Lists.{mem};
 ghost use Rattle.graph_core.specs.Components.{component_count, components};
 ghost use Rattle.graph_core.specs.Graph.{IsBipartite, size, first_end, second_end, with_edge};
 ghost use Rattle.graph_core.specs.Sides.{AreSides, IsEven};
-ghost use Rattle.graph_core.specs.View.{IsWithinLimits};
 ghost use Rattle.graph_core.specs.Walks.{adjacent};
+ghost use Rattle.graph_core.specs.View.{graph_of, IsWithinLimits};
 
 use crate::search::grow_forest;
 use crate::sides::sides_by_depth;
@@ -117,6 +117,14 @@ impl MultiGraph {
     {
         let forest = grow_forest(alloc, self.order, &self.edges, VSet::empty())?;
         sides_by_depth(alloc, &self.edges, &forest.nodes)
+    }
+
+    /// The ends of all edges, in the order of their numbers. Takes no memory.
+    pub fn edges(&self) -> &[Ends]
+        ensures edges { graph_of self.now.order result.now ≡ self.now }
+        ensures limits { IsWithinLimits self.now }
+    {
+        &self.edges
     }
 
     /// Appends an edge and answers its number. `Range` comes exactly where an end is no vertex, `Loop` exactly where both

@@ -1,6 +1,19 @@
 //! Matchings.
 #![tactic(auto)]
 
+mod best;
+mod closing;
+mod cycle;
+mod exchange;
+mod forest;
 mod laws;
+mod matching;
+mod frames;
+mod ring;
+mod rows;
+mod search;
+mod step;
 
 pub use laws::tutte_berge_law;
+pub use matching::{MatchRow, Matching};
+pub use frames::{Found, FrameSets, frame, maximum};
