@@ -6,14 +6,14 @@ mod closing;
 mod cycle;
 mod exchange;
 mod forest;
+mod frames;
 mod laws;
 mod matching;
-mod frames;
 mod ring;
 mod rows;
 mod search;
 mod step;
 
+pub use frames::{Found, FrameSets, frame, maximum};
 pub use laws::tutte_berge_law;
 pub use matching::{MatchRow, Matching};
-pub use frames::{Found, FrameSets, frame, maximum};
