@@ -1,9 +1,8 @@
 -- The arcs at one node, scanned one by one: each has no room out of the node, or leads to a node that is seen then.
 -- Idea: the arcs scanned so far stay scanned while the seen nodes grow, and the rows list every arc at the node.
-use Rattle.std.proofs.Common.{◌≡◌, ◌≢◌, ℕ, ◌+◌, ◌-◌, ◌≤◌, ◌<◌, ◌==◌, ◌||◌, Bool, true, false, List, [], ◌∷◌, ◌++◌, length, get_or, min, refl, sym, ◌∙◌, ap, ap₂, subst, arith, inl, inr, ◌⊎◌, eq-eqb, ne_eqb, below_more, length-append}
-use Rattle.std.specs.Prelude.{ℤ, pos, ◌≤ℤ◌, ◌<ℤ◌, Contains, MatchBool}
+use Rattle.std.proofs.Common.{◌≡◌, ◌≢◌, ℕ, ◌+◌, ◌-◌, ◌≤◌, ◌<◌, ◌==◌, ◌||◌, true, false, List, [], ◌∷◌, ◌++◌, length, get_or, min, refl, sym, ◌∙◌, ap, ap₂, subst, arith, inl, inr, eq-eqb, ne_eqb, below_more, length-append}
+use Rattle.std.specs.Prelude.{ℤ, pos, ◌<ℤ◌, Contains}
 use Rattle.std.proofs.Math.Seq.{get_or-append_seam}
-use Rattle.std.proofs.lemmas.Bool.{cases_eq, both_ways, true≢false}
 use Rattle.std.proofs.lemmas.Int.{ints}
 use Rattle.std.proofs.lemmas.List.{get_or_read}
 use Rattle.counting.specs.Counts.{Within}

@@ -1,19 +1,19 @@
 -- Search trees: how they grow, that each node is reached from the root over arcs with room, and that no arc is used twice.
 -- Idea: a visit is at a new node, so its arc has an end that no earlier arc has.
 use Rattle.std.proofs.Common.{◌≡◌, ◌≢◌, ℕ, zero, suc, ◌+◌, ◌-◌, ◌≤◌, ◌<◌, ◌^◌, ◌==◌, ◌||◌, Bool, true, false, cond, List, [], ◌∷◌, ◌++◌, length, get_or, refl, sym, ◌∙◌, ap, subst, arith, inl, inr, eq-eqb, ne_eqb, length-append}
-use Rattle.std.specs.Prelude.{ℤ, pos, ◌≤ℤ◌, ◌<ℤ◌}
+use Rattle.std.specs.Prelude.{ℤ}
 use Rattle.std.proofs.Math.Seq.{get_or-append_seam}
-use Rattle.std.proofs.lemmas.Bool.{cases_eq, both_ways, true≢false}
+use Rattle.std.proofs.lemmas.Bool.{cases_eq, both_ways}
 use Rattle.std.proofs.lemmas.Int.{ints}
 use Rattle.std.proofs.lemmas.List.{get_or_append_left}
 use Rattle.counting.specs.Counts.{Within, count, bit}
-use Rattle.counting.specs.Sets.{Set, put, singleton, everything}
+use Rattle.counting.specs.Sets.{Set, put, everything}
 use Rattle.counting.specs.Lists.{mem, IsRisingIn}
 use Rattle.counting.proofs.Counts.{count_of_one, count_congr, count_le}
 use Rattle.counting.proofs.Choice.{count_put}
 use Rattle.counting.proofs.Lists.{or_front, or_back}
 use Rattle.flow_core.specs.Nets.{Arc, Net}
-use Rattle.flow_core.specs.Residual.{arc_at, amount_at, Joins, room_from, HasRoom, IsOpenWalk, IsReached, IsScanned, IsReachedSet}
+use Rattle.flow_core.specs.Residual.{arc_at, Joins, HasRoom, IsReached, IsScanned, IsReachedSet}
 use Rattle.flow_core.specs.Search.{visit_at, node_at, IsStep, IsVisit, IsTree, IsSearch}
 use Rattle.flow_core.specs.declared.search.Visit.{Visit}
 

@@ -1,8 +1,7 @@
 -- Where the search closes, the nodes that it has reached are the least minimum cut; a flow above the bound rules out each cut within it.
-use Rattle.std.proofs.Common.{◌≡◌, ◌≤◌, ◌<◌, ◌∙◌, ap, subst, arith}
+use Rattle.std.proofs.Common.{◌≡◌, ◌∙◌, ap, subst, arith}
 use Rattle.counting.specs.Lists.{mem}
 use Rattle.flow_core.specs.Flows.{IsFlow}
-use Rattle.flow_core.specs.Nets.{IsLeastCut, HasCutWithin}
 use Rattle.flow_core.specs.Outcomes.{IsOutcome}
 use Rattle.flow_core.specs.Search.{first_node, last_node}
 use Rattle.flow_core.proofs.Duality.{flow-le-value_of, flow-le-total, reached_least}

@@ -1,20 +1,13 @@
 -- Each arc at the node is passed over or taken, by the lemmas on a search that is scanning a row.
-use Rattle.std.proofs.Common.{◌≡◌, ◌<◌, ◌≤◌, ◌^◌, ◌++◌, ◌∷◌, [], ℕ, true, false, List, length, get_or, min, sym, ◌∙◌, ap, ap₂, subst, arith, refl, w64, to_z, of_z}
-use Rattle.std.specs.Prelude.{ℤ, pos, unsigned_abs, slice_get, Some}
-use Rattle.std.proofs.lemmas.Int.{ints, to_z-of_z}
-use Rattle.std.proofs.lemmas.Option.{get_or_from_slice_get}
+use Rattle.std.proofs.Common.{◌≡◌, ◌≤◌, ◌++◌, ◌∷◌, [], get_or, min, sym, ◌∙◌, ap, subst, arith, refl, w64, to_z, of_z}
+use Rattle.std.specs.Prelude.{unsigned_abs}
 use Rattle.std.proofs.lemmas.List.{get_or_read}
-use Rattle.counting.specs.Counts.{Within}
-use Rattle.counting.specs.Lists.{mem}
-use Rattle.flow_core.specs.Nets.{Arc, Net, IsArc, IsBounded}
-use Rattle.flow_core.specs.Flows.{Fits}
-use Rattle.flow_core.specs.Residual.{arc_at, amount_at, Joins, room_from}
-use Rattle.flow_core.specs.Incidence.{row_at}
-use Rattle.flow_core.specs.Search.{visit_at}
+use Rattle.flow_core.specs.Nets.{Arc}
+use Rattle.flow_core.specs.Residual.{arc_at, Joins}
 use Rattle.flow_core.specs.View.{arc_of}
 use Rattle.flow_core.proofs.Duality.{Fits-at, Fits-length}
 use Rattle.flow_core.proofs.Reading.{IsNet-at, capacity-below, amount-read}
-use Rattle.flow_core.proofs.Scanning.{IsScanning, IsScanning-start, IsScanning-seen, IsScanning-full, IsScanning-take, IsScanning-end, Leads, Leads-read, taken, taken-tree, taken-last, taken-first, end_within, IsPlaced, IsPlaced-row}
+use Rattle.flow_core.proofs.Scanning.{IsScanning, IsScanning-start, IsScanning-seen, IsScanning-full, IsScanning-take, IsScanning-end, Leads, Leads-read, taken, taken-tree, taken-last, taken-first, end_within, IsPlaced-row}
 use Rattle.flow_core.proofs.search.scan.Goals as goal
 
 pub loop-i-init : goal.loop-i-init

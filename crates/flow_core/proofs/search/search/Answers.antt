@@ -1,5 +1,4 @@
-use Rattle.std.proofs.Common.{◌≡◌, ◌<◌, ◌==◌, false, sym, ◌∙◌, arith, ne_eqb}
-use Rattle.flow_core.specs.Search.{IsSearch}
+use Rattle.std.proofs.Common.{◌∙◌, arith, ne_eqb}
 use Rattle.flow_core.proofs.SearchTrees.{visits-le-nodes, search-ends}
 use Rattle.flow_core.proofs.search.search.Goals as goal
 

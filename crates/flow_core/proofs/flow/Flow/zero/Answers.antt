@@ -1,4 +1,4 @@
-use Rattle.std.proofs.Common.{◌≡◌, List, sym, subst, ap, ◌∙◌}
+use Rattle.std.proofs.Common.{List, sym, subst, ap, ◌∙◌}
 use Rattle.std.specs.Prelude.{ℤ, pos, replicate}
 use Rattle.flow_core.specs.Flows.{IsFlow}
 use Rattle.flow_core.proofs.Pushing.{IsFlow-zeros}

@@ -1,4 +1,4 @@
-use Rattle.std.proofs.Common.{◌≡◌, ◌==◌, ◌||◌, ap, ◌∙◌, rules, arith}
+use Rattle.std.proofs.Common.{◌==◌, ◌||◌, ap, ◌∙◌, arith}
 use Rattle.counting.specs.Lists.{mem}
 use Rattle.flow_core.proofs.SearchTrees.{IsTree-root}
 use Rattle.flow_core.proofs.search.Reached.from_source.Goals as goal
