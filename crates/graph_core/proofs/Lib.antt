@@ -18,3 +18,4 @@ pub mod QuotientTight
 pub mod BlockSets
 pub mod MergedShores
 pub mod Adjacency
+pub mod Simplicity

@@ -6,6 +6,7 @@ mod faults;
 mod graph;
 mod laws;
 mod numbers;
+mod simple;
 
 pub use ends::Ends;
 pub use faults::{AddFault, FaultKind, TextFault};
