@@ -1,1 +1,2 @@
 pub mod SixBits
+pub mod Columns

@@ -2,5 +2,7 @@
 #![tactic(auto)]
 
 mod digits;
+mod pairs;
 
 pub use digits::{to_bits, to_bytes};
+pub use pairs::to_pairs;
