@@ -93,3 +93,9 @@ outcome_of text = graph_unless (first_fault (faults_of (body_of text))) (graph_o
 abbrev pub IsFaultOf : Result Graph Fault → TextFault → Type 0
 IsFaultOf outcome (fault.At line kind) = outcome ≡ Err (line, kind)
 IsFaultOf outcome fault.Memory = Unit {0}
+
+-- what a check of these faults answers: that there is none, or the first of them
+abbrev pub Checks : Result (Unit {0}) TextFault → List (Bool × Fault) → Type 0
+Checks (Ok passed) rows = first_fault rows ≡ None
+Checks (Err (fault.At line kind)) rows = first_fault rows ≡ Some (line, kind)
+Checks (Err fault.Memory) rows = ⊥

@@ -11,6 +11,13 @@ pub const ZERO: u8 = 63;
 /// What the six bits of a digit weigh, the most significant first.
 const WEIGHTS: [u8; 6] = [32, 16, 8, 4, 2, 1];
 
+/// Whether a byte writes a digit.
+pub fn is_digit(byte: u8) -> bool
+    ensures { result ≡ is_digit byte }
+{
+    ZERO <= byte && byte <= ZERO + 63
+}
+
 /// The bits that bytes write, six in each.
 pub fn to_bits(alloc: Global, bytes: &[u8]) -> Result<Vec<bool>, Memory>
     requires { IsTrue (list_all is_digit bytes.now) }

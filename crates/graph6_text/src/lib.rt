@@ -2,5 +2,6 @@
 #![tactic(auto)]
 
 mod body;
+mod checks;
 mod digits;
 mod pairs;
