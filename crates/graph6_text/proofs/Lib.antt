@@ -1,2 +1,4 @@
 pub mod SixBits
 pub mod Columns
+pub mod Choosing
+pub mod Passing

@@ -94,3 +94,11 @@ packed_more bits rest six others front more size digit cut is_six least some inv
 
 pub packed_all : (bits rest : List Bool) (front : List ℕ) → length rest ≡ 0 → front ++ bytes_of rest ≡ bytes_of bits → front ≡ bytes_of bits
 packed_all bits rest front h inv = sym (append-nil front) ∙ ap (λ (xs : List ℕ). front ++ xs) (sym (ap bytes_of (nil_from_length rest h) ∙ bytes_of-nil)) ∙ inv
+
+-- six bits for each byte
+pub length-bits_of : (bytes : List ℕ) → length (bits_of bytes) ≡ 6 * length bytes
+length-bits_of [] = ap length bits_of-nil
+length-bits_of (byte ∷ bytes) = let h = length-bits_of bytes in
+    let e : length (bits_of (byte ∷ bytes)) ≡ length (bits_of_digit (digit_of byte)) + length (bits_of bytes) =
+    ap length (bits_of-cons byte bytes) ∙ length-append (bits_of_digit (digit_of byte)) (bits_of bytes) in
+    let six : length (bits_of_digit (digit_of byte)) ≡ 6 = refl in omega arith

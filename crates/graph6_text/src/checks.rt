@@ -10,7 +10,7 @@ use graph_core::{FaultKind, TextFault};
 use vset_core::MOST_VERTICES;
 
 /// The most vertices whose number one digit writes.
-pub const MOST_SHORT: u32 = 62;
+const MOST_SHORT: u32 = 62;
 
 /// A fault of this kind in the one line that a text has.
 pub fn fault(kind: FaultKind) -> TextFault
@@ -19,8 +19,17 @@ pub fn fault(kind: FaultKind) -> TextFault
     TextFault::At { line: 1, kind }
 }
 
+/// The size and the length of the data are those of a graph.
+pub fn check_body(body: &[u8]) -> Result<(), TextFault>
+    ensures { Checks result (take 9 (faults_of body.now)) }
+{
+    check_bytes(body)?;
+    check_size(body)?;
+    check_length(body)
+}
+
 /// Something remains, no line feed is in it, and each of its bytes writes a digit.
-pub fn check_bytes(body: &[u8]) -> Result<(), TextFault>
+fn check_bytes(body: &[u8]) -> Result<(), TextFault>
     ensures { Checks result (take 3 (faults_of body.now)) }
 {
     if body.is_empty() {
@@ -44,7 +53,7 @@ fn are_digits(body: &[u8]) -> bool
 }
 
 /// The size is whole, in the form that is due, and within the limit.
-pub fn check_size(body: &[u8]) -> Result<(), TextFault>
+fn check_size(body: &[u8]) -> Result<(), TextFault>
     requires digits { IsTrue (list_all is_digit body.now) }
     requires some { 0 < length body.now }
     ensures { Checks result (take 4 (drop 3 (faults_of body.now))) }
@@ -78,7 +87,7 @@ fn check_long(body: &[u8]) -> Result<(), TextFault>
 }
 
 /// The data are as long as the order asks for.
-pub fn check_length(body: &[u8]) -> Result<(), TextFault>
+fn check_length(body: &[u8]) -> Result<(), TextFault>
     requires digits { IsTrue (list_all is_digit body.now) }
     requires some { 0 < length body.now }
     requires whole { IsTrue (is_long body.now) → 4 ≤ length body.now }
@@ -105,7 +114,7 @@ fn data_len(n: u32) -> usize
 }
 
 /// The number of pairs of `n` vertices.
-pub fn pair_count(n: u32) -> usize
+fn pair_count(n: u32) -> usize
     requires { n ≤ 128 }
     ensures value { result ≡ pair_count n }
     ensures bound { result ≤ 8128 }

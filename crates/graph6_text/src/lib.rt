@@ -5,3 +5,4 @@ mod body;
 mod checks;
 mod digits;
 mod pairs;
+mod read;
