@@ -5,7 +5,7 @@ use Rattle.counting.proofs.Counts.{count_complement, count_congr}
 use Rattle.counting.proofs.Odd.{odd-add, odd-double}
 use Rattle.counting.proofs.Totals.{at_le_total, total_add, total_at, total_congr, total_mul, total_none, total_swap}
 use Rattle.counting.specs.Counts.{Within, bit, count, is_odd, total}
-use Rattle.counting.specs.Sets.{Set, complement, minus, none, singleton, union}
+use Rattle.counting.specs.Sets.{pair_set, Set, complement, minus, none, union}
 use Rattle.graph_core.proofs.Components.{joined_outside, one_leader, some_leader}
 use Rattle.graph_core.proofs.Edits.{missed_edges}
 use Rattle.graph_core.proofs.WeakDuality.{berge_bound}
@@ -94,9 +94,6 @@ misses_none g r m mm z = record { once = λ v w o. one v w o; away = mm.away }
 -- with a perfect matching no set leaves more odd components than it has vertices
 pub few_odd_components : (g : Graph) (s m : Set) → IsGraph g → IsPerfect g none m → odd_component_count g s ≤ count g.order s
 few_odd_components g s m is p = let a = berge_bound g none s m is (perfect_matching g none m p) in let b = perfect_misses g none m p in omega arith
-
-abbrev pub pair_set : ℕ → ℕ → Set
-pair_set a b = union (singleton a) (singleton b)
 
 -- a set that holds a and b, without them
 pub two_less : (n : ℕ) (s : Set) (a b : ℕ) → Within n a → Within n b → a ≢ b → s a ≡ true → s b ≡ true → count n s ≡ count n (minus s (pair_set a b)) + 2

@@ -1,9 +1,8 @@
 pub mod Barriers
-pub mod SharpBarriers
-pub mod Sides
-pub mod Folding
-pub mod FoldedMatching
-pub mod Lifting
-pub mod Transitivity
-pub mod Growing
-pub mod ClassBarriers
+pub mod Matched
+pub mod BarrierCuts
+pub mod Hall
+pub mod Enlarging
+pub mod Families
+pub mod Joining
+pub mod ClassLaw

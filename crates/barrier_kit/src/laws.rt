@@ -1,14 +1,36 @@
-//! The law of classes.
-ghost use Rattle.std.specs.Prelude.{ℕ};
-ghost use Rattle.counting.specs.Counts.{Within};
+//! The laws of barriers and classes. Each is the contract of a function that does nothing.
+ghost use Rattle.std.specs.Prelude.{◌≡◌, ◌≢◌, ℕ, true, false, ◌⊎◌, ◌↔◌, ◌≤◌};
+ghost use Rattle.counting.specs.Counts.{Within, count, is_odd};
 ghost use Rattle.counting.specs.Sets.{Set};
-ghost use Rattle.graph_core.specs.Graph.{Graph, IsGraph};
+ghost use Rattle.graph_core.specs.Graph.{Graph, IsGraph, size, first_end, second_end, inside};
+ghost use Rattle.graph_core.specs.Walks.{joined};
+ghost use Rattle.graph_core.specs.Components.{component_count};
 ghost use Rattle.graph_core.specs.Covered.{IsCovered};
+ghost use Rattle.graph_core.specs.Tight.{IsTight};
 ghost use Rattle.graph_core.specs.Structure.{Equivalent, IsBarrier, IsClass};
 
-/// The law of classes: in a covered graph being equivalent is an equivalence, and each class is a barrier.
-pub fn class_law()
+/// The relation "equal, or without the two there is no perfect matching" is an equivalence in a covered graph, and it is
+/// decided (Kotzig; Lovász and Plummer, "Matching Theory", chapter 5).
+pub fn equivalence_law()
+    ensures reflexive { (g : Graph) (a : ℕ) → Equivalent g a a }
     ensures symmetric { (g : Graph) (a b : ℕ) → Equivalent g a b → Equivalent g b a }
     ensures transitive { (g : Graph) (a b c : ℕ) → IsGraph g → IsCovered g → Within g.order a → Within g.order b → Within g.order c → Equivalent g a b → Equivalent g b c → Equivalent g a c }
+    ensures decided { (g : Graph) (a b : ℕ) → (Equivalent g a b) ⊎ (Equivalent g a b → ⊥) }
+{}
+
+/// In a covered graph the classes of this relation are the greatest barriers: each class is a barrier, and each barrier
+/// lies in the class of each of its vertices.
+pub fn class_law()
+    ensures found { (g : Graph) (a : ℕ) → IsGraph g → IsCovered g → Within g.order a → (s : Set) × IsBarrier g s × IsClass g a s }
     ensures barrier { (g : Graph) (a : ℕ) (s : Set) → IsGraph g → IsCovered g → Within g.order a → IsClass g a s → IsBarrier g s }
+    ensures greatest { (g : Graph) (a : ℕ) (s t : Set) → IsGraph g → Within g.order a → IsClass g a s → IsBarrier g t → t a ≡ true → (v : ℕ) → Within g.order v → t v ≡ true → s v ≡ true }
+{}
+
+/// A nonempty barrier of a covered graph: without it all components are odd, there are as many as it has vertices, and the
+/// cut of each is tight; no edge joins two of its vertices.
+pub fn barrier_law()
+    ensures odd { (g : Graph) (s : Set) (a u : ℕ) → IsGraph g → IsCovered g → IsBarrier g s → Within g.order a → s a ≡ true → Within g.order u → s u ≡ false → is_odd (count g.order (joined g s u)) ≡ true }
+    ensures many { (g : Graph) (s : Set) (a : ℕ) → IsGraph g → IsCovered g → IsBarrier g s → Within g.order a → s a ≡ true → component_count g s ≡ count g.order s }
+    ensures tight { (g : Graph) (s : Set) (a u : ℕ) → IsGraph g → IsCovered g → IsBarrier g s → Within g.order a → s a ≡ true → Within g.order u → s u ≡ false → IsTight g (joined g s u) }
+    ensures independent { (g : Graph) (s : Set) (e : ℕ) → IsGraph g → IsCovered g → IsBarrier g s → Within (size g) e → first_end g e ≢ second_end g e → inside g s e ≡ false }
 {}

@@ -3,4 +3,4 @@
 
 mod laws;
 
-pub use laws::class_law;
+pub use laws::{barrier_law, class_law, equivalence_law};

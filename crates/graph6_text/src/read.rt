@@ -30,8 +30,8 @@ fn to_graph(alloc: Global, body: &[u8]) -> Result<MultiGraph, TextFault>
     ensures fault { IfErr result (IsFirstFault (drop 9 (faults_of body.now))) }
 {
     let n = order(body);
-    let pairs = to_pairs(alloc, n).map_err(|_| TextFault::Memory)?;
-    let bits = to_bits(alloc, data(body)).map_err(|_| TextFault::Memory)?;
+    let pairs = to_pairs(alloc, n)?;
+    let bits = to_bits(alloc, data(body))?;
     check_filling(&bits, pairs.len())?;
     with_edges(alloc, n, &pairs, &bits)
 }
@@ -61,15 +61,13 @@ fn with_edges(alloc: Global, n: u32, pairs: &[Ends], bits: &[bool]) -> Result<Mu
     ensures within { OnOk result (first_fault (limit_row (chosen (map pair_of pairs.now) bits.now)) ≡ None) }
     ensures limit { IfErr result (IsFirstFault (limit_row (chosen (map pair_of pairs.now) bits.now))) }
 {
-    let mut graph = MultiGraph::new(alloc, n).map_err(|_| TextFault::Memory)?;
+    let mut graph = MultiGraph::new(alloc, n)?;
     for (pair, bit) in pairs.iter().zip(bits) {
         if *bit {
             if graph.size() == MOST_EDGES {
                 return Err(fault(FaultKind::Limit));
             }
-            graph
-                .add_edge(pair.a, pair.b)
-                .map_err(|_| TextFault::Memory)?;
+            graph.add_edge(pair.a, pair.b)?;
         }
     }
     Ok(graph)

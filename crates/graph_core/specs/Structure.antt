@@ -19,8 +19,8 @@ is_equivalent g a b = (a == b) || not (has_perfect g (pair_set a b))
 
 -- s is the class of a: the vertices equivalent to a
 pub record IsClass (g : Graph) (a : ℕ) (s : Set) : Type 0 where
-  pub only_these : (v : ℕ) → Within g.order v → s v ≡ true → Equivalent g a v
-  pub all_these : (v : ℕ) → Within g.order v → Equivalent g a v → s v ≡ true
+  pub holds : (v : ℕ) → Within g.order v → s v ≡ true → Equivalent g a v
+  pub all : (v : ℕ) → Within g.order v → Equivalent g a v → s v ≡ true
 
 -- a is the least vertex of its class
 abbrev pub is_least_of_class : Graph → Set

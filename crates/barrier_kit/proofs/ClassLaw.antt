@@ -1,0 +1,153 @@
+use Rattle.std.proofs.Common.{◌≡◌, ℕ, suc, zero, ◌+◌, ◌≤◌, Bool, true, false, ◌==◌, refl, sym, ap, ◌∙◌, arith, ◌&&◌, ◌||◌, not, eq-eqb, eqb-true, ◌⊎◌, inl, inr}
+use Rattle.std.proofs.lemmas.Bool.{cases_eq, cases_Bool, true≢false, both_ways}
+use Rattle.barrier_kit.proofs.BarrierCuts.{leader_of, leads_out, odd_part, part_out}
+use Rattle.barrier_kit.proofs.Barriers.{barrier_pair, few_odd_components}
+use Rattle.barrier_kit.proofs.Enlarging.{barrier_congr, enlarge, same_parity}
+use Rattle.barrier_kit.proofs.Joining.{join}
+use Rattle.barrier_kit.proofs.Matched.{count_only, covered_perfect, even_order, glue, perfect_congr, same_bool, scan}
+use Rattle.counting.proofs.Choice.{choose_set}
+use Rattle.counting.proofs.Counts.{count_le, count_more}
+use Rattle.counting.specs.Counts.{Within, count, is_odd}
+use Rattle.counting.specs.Sets.{Set, minus, singleton, union}
+use Rattle.graph_core.proofs.Decide.{is_perfect_congr, is_perfect_true, true_is_perfect}
+use Rattle.graph_core.specs.Components.{odd_component_count}
+use Rattle.graph_core.specs.Covered.{IsCovered}
+use Rattle.graph_core.specs.Graph.{Graph, IsGraph, size}
+use Rattle.graph_core.specs.Matchings.{IsPerfect, is_perfect}
+use Rattle.graph_core.specs.Structure.{Equivalent, IsBarrier, IsClass}
+use Rattle.graph_core.specs.Walks.{joined}
+
+pub perfect_or_not : (g : Graph) (r : Set) → ((m : Set) × IsPerfect g r m) ⊎ ((m : Set) → IsPerfect g r m → ⊥)
+perfect_or_not g r = elim (choose_set (size g) (is_perfect g r) (record { same = is_perfect_congr g r })) [
+  | inl f ↦ inl (f.0, is_perfect_true g r f.0 f.1)
+  | inr f ↦ inr (λ m p. both_ways (is_perfect g r m) (f m) (true_is_perfect g r m p))
+]
+
+pub equivalent_or_not : (g : Graph) (a b : ℕ) → (Equivalent g a b) ⊎ (Equivalent g a b → ⊥)
+equivalent_or_not g a b = elim (cases_eq a b) [
+  | inl e ↦ inl (inl e)
+  | inr d ↦ elim (perfect_or_not g (union (singleton a) (singleton b))) [
+    | inl m ↦ inr (λ q. elim q [
+      | inl e ↦ d e
+      | inr f ↦ f m
+    ])
+    | inr f ↦ inl (inr (λ h. f h.0 h.1))
+  ]
+]
+
+module _ (g : Graph) (is : IsGraph g) (cov : IsCovered g) (b : ℕ) (wb : Within g.order b) where
+  -- an equivalent vertex outside a barrier lets it grow
+  grow : (s : Set) → IsBarrier g s → s b ≡ true → (a : ℕ) → Within g.order a → s a ≡ false → Equivalent g b a → (t : Set) × IsBarrier g t × ((w : ℕ) → s w ≡ true → t w ≡ true) × (t a ≡ true)
+  grow s bar sb a wa sa q =
+      let l = leader_of g s is a wa sa in
+      let p = covered_perfect g is cov in
+      enlarge g is p.0 p.1 s bar l.0 l.1 l.2 (odd_part g is cov s bar l.0 b l.1 l.2 wb sb) a wa l.3 (λ k kp.
+      let j = join g is cov s bar b wb sb l.0 l.1 l.2 in
+      let m = glue g (λ v. not (b == v) && not (joined g s l.0 v)) (minus (joined g s l.0) (singleton a)) j.0 k is (λ v wv x y. apart (b == v) (joined g s l.0 v) (a == v) x y) j.1 kp in
+      let n = perfect_congr g _ (union (singleton b) (singleton a)) _ (λ v wv. same (b == v) (joined g s l.0 v) (a == v)
+      (λ t. ap (joined g s l.0) (sym (eqb-true b v t)) ∙ part_out g s l.0 b is (leads_out g s l.0 l.2) sb) (λ t. ap (joined g s l.0) (sym (eqb-true a v t)) ∙ l.3)) m in
+      elim q [
+        | inl e ↦ both_ways (s a) sa (ap s (sym e) ∙ sb)
+        | inr f ↦ f (_, n)
+      ])
+    where
+      apart : (x k y : Bool) → (not x && not k) ≡ true → (k && not y) ≡ true → ⊥
+      apart x k y h i = grind arith
+
+      same : (x k y : Bool) → (x ≡ true → k ≡ false) → (y ≡ true → k ≡ true) → not ((not x && not k) || (k && not y)) ≡ (x || y)
+      same x k y h i = grind arith
+
+  abbrev Full : Set → Type 0
+  Full t = IsBarrier g t × (t b ≡ true) × ((a : ℕ) → Within g.order a → t a ≡ false → Equivalent g b a → ⊥)
+
+  full : (k : ℕ) (s : Set) → IsBarrier g s → s b ≡ true → g.order ≤ count g.order s + k → (t : Set) × IsBarrier g t × (t b ≡ true) × ((a : ℕ) → Within g.order a → t a ≡ false → Equivalent g b a → ⊥)
+  full zero s bar sb le = elim (scan g.order (λ a. (s a ≡ false) × Equivalent g b a) (λ a. s a ≡ false → Equivalent g b a → ⊥) (λ a w. choose a)) [
+    | inl r ↦ let t = grow s bar sb r.0 r.1 r.2.0 r.2.1 in
+        absurd (let c = count_more g.order s t.0 t.2 r.0 r.1 r.2.0 t.3 in let d = count_le g.order t.0 in omega arith)
+    | inr f ↦ (s, bar, sb, f)
+  ]
+    where
+      choose : (a : ℕ) → ((s a ≡ false) × Equivalent g b a) ⊎ (s a ≡ false → Equivalent g b a → ⊥)
+      choose a = elim (cases_Bool (s a)) [
+        | inl t ↦ inr (λ f q. both_ways (s a) f t)
+        | inr f ↦ elim (equivalent_or_not g b a) [
+          | inl q ↦ inl (f, q)
+          | inr n ↦ inr (λ h. n)
+        ]
+      ]
+  full (suc k) s bar sb le = elim (scan g.order (λ a. (s a ≡ false) × Equivalent g b a) (λ a. s a ≡ false → Equivalent g b a → ⊥) (λ a w. choose a)) [
+    | inl r ↦ let t = grow s bar sb r.0 r.1 r.2.0 r.2.1 in
+        full k t.0 t.1 (t.2 b sb) (let c = count_more g.order s t.0 t.2 r.0 r.1 r.2.0 t.3 in omega arith)
+    | inr f ↦ (s, bar, sb, f)
+  ]
+    where
+      choose : (a : ℕ) → ((s a ≡ false) × Equivalent g b a) ⊎ (s a ≡ false → Equivalent g b a → ⊥)
+      choose a = elim (cases_Bool (s a)) [
+        | inl t ↦ inr (λ f q. both_ways (s a) f t)
+        | inr f ↦ elim (equivalent_or_not g b a) [
+          | inl q ↦ inl (f, q)
+          | inr n ↦ inr (λ h. n)
+        ]
+      ]
+
+  pub single_barrier : IsBarrier g (singleton b)
+  single_barrier =
+      let p = covered_perfect g is cov in
+      let c = count_only g.order b wb in
+      let l = few_odd_components g (singleton b) p.0 is p.1 in
+      let o : is_odd (odd_component_count g (singleton b)) ≡ true = same_parity g (singleton b) is (even_order g p.0 is p.1) ∙ ap is_odd c in
+      one (odd_component_count g (singleton b)) (count g.order (singleton b)) c l o
+    where
+      one : (o n : ℕ) → n ≡ 1 → o ≤ n → is_odd o ≡ true → o ≡ n
+      one zero n e l h = absurd (true≢false (sym h))
+      one (suc o) n e l h = omega arith
+
+  -- the class of b is a barrier
+  pub class_exists : (s : Set) × IsBarrier g s × IsClass g b s
+  class_exists =
+      let t = full g.order (singleton b) single_barrier (eq-eqb b b refl) (omega arith) in (
+        t.0,
+        t.1,
+        record {
+          holds = λ v w h. elim (cases_eq b v) [
+            | inl e ↦ inl e
+            | inr d ↦ inr (λ h'. barrier_pair g t.0 b v is t.1 wb w d t.2 h h'.0 h'.1)
+          ];
+          all = λ v w q. elim (cases_Bool (t.0 v)) [
+            | inl h ↦ h
+            | inr f ↦ absurd (t.3 v w f q)
+          ];
+        },
+      )
+
+pub equivalent_self : (g : Graph) (a : ℕ) → Equivalent g a a
+equivalent_self g a = inl refl
+
+pub equivalent_back : (g : Graph) (a b : ℕ) → Equivalent g a b → Equivalent g b a
+equivalent_back g a b q = elim q [
+  | inl e ↦ inl (sym e)
+  | inr f ↦ inr (λ h. f (h.0, perfect_congr g (union (singleton b) (singleton a)) (union (singleton a) (singleton b)) h.0 (λ v w. turn (b == v) (a == v)) h.1))
+]
+  where
+    turn : (x y : Bool) → (x || y) ≡ (y || x)
+    turn x y = grind arith
+
+pub equivalent_on : (g : Graph) (a b c : ℕ) → IsGraph g → IsCovered g → Within g.order a → Within g.order b → Within g.order c → Equivalent g a b → Equivalent g b c → Equivalent g a c
+equivalent_on g a b c is cov wa wb wc p q =
+    let s = class_exists g is cov b wb in
+    elim (cases_eq a c) [
+      | inl e ↦ inl e
+      | inr d ↦ inr (λ h. barrier_pair g s.0 a c is s.1 wa wc d (s.2.all a wa (equivalent_back g a b p)) (s.2.all c wc q) h.0 h.1)
+    ]
+
+pub class_barrier : (g : Graph) (b : ℕ) (s : Set) → IsGraph g → IsCovered g → Within g.order b → IsClass g b s → IsBarrier g s
+class_barrier g b s is cov wb c =
+    let t = class_exists g is cov b wb in
+    barrier_congr g t.0 s is (λ v w. same_bool (t.0 v) (s v) (λ h. c.all v w (t.2.holds v w h)) (λ h. t.2.all v w (c.holds v w h))) t.1
+
+-- a barrier lies in the class of each of its vertices
+pub class_holds_barrier : (g : Graph) (b : ℕ) (s t : Set) → IsGraph g → Within g.order b → IsClass g b s → IsBarrier g t → t b ≡ true → (v : ℕ) → Within g.order v → t v ≡ true → s v ≡ true
+class_holds_barrier g b s t is wb c bar tb v w tv = c.all v w (elim (cases_eq b v) [
+  | inl e ↦ inl e
+  | inr d ↦ inr (λ h'. barrier_pair g t b v is bar wb w d tb tv h'.0 h'.1)
+])

@@ -1,0 +1,48 @@
+use Rattle.std.proofs.Common.{◌≡◌, ℕ, suc, zero, ◌≤◌, Bool, true, false, refl, arith, ◌&&◌, ◌||◌, not}
+use Rattle.std.proofs.lemmas.Bool.{true≢false, and_parts}
+use Rattle.barrier_kit.proofs.Matched.{glue, perfect_congr}
+use Rattle.counting.proofs.Tests.{some_true}
+use Rattle.counting.proofs.Totals.{total_none}
+use Rattle.counting.specs.Counts.{Within}
+use Rattle.counting.specs.Sets.{Set, complement, none, union}
+use Rattle.counting.specs.Tests.{some}
+use Rattle.graph_core.specs.Graph.{Graph, IsGraph, size}
+use Rattle.graph_core.specs.Matchings.{IsPerfect}
+
+-- sets apart, each with a perfect matching: so has their union
+module _ (g : Graph) (is : IsGraph g) (from : Set) (star : ℕ → Set)
+    (matched : (z : ℕ) → Within g.order z → from z ≡ true → (m : Set) × IsPerfect g (complement (star z)) m)
+    (apart : (y z v : ℕ) → Within g.order y → Within g.order z → Within g.order v → from y ≡ true → star y v ≡ true → from z ≡ true → star z v ≡ true → y ≡ z) where
+  abbrev so_far : ℕ → Set
+  so_far k v = some k (λ z. from z && star z v)
+
+  glue_up_to : (k : ℕ) → k ≤ g.order → (m : Set) × IsPerfect g (complement (so_far k)) m
+  glue_up_to zero le = (
+    none,
+    record {
+      once = λ v w o. absurd (true≢false o);
+      away = λ v w o.
+          let a = total_none (size g) (λ e. 0) (λ e w. refl) in omega arith;
+    },
+  )
+  glue_up_to (suc k) le = let m = glue_up_to k (omega arith) in go (from (suc k)) refl m.0 m.1
+    where
+      go : (c : Bool) → from (suc k) ≡ c → (m : Set) → IsPerfect g (complement (so_far k)) m → (m : Set) × IsPerfect g (complement (so_far (suc k))) m
+      go false e m p = (m, perfect_congr g (complement (so_far k)) (complement (so_far (suc k))) m (λ v w. same (so_far k v) (from (suc k)) (star (suc k) v) e) p)
+        where
+          same : (a c d : Bool) → c ≡ false → not a ≡ not (a || (c && d))
+          same a c d h = grind arith
+      go true e m p =
+          let i : Within g.order (suc k) = omega arith in
+          let q = matched (suc k) i e in
+          let t = glue g (so_far k) (star (suc k)) m q.0 is (λ v wv a c.
+          let z = some_true k (λ z. from z && star z v) a in
+          let b = and_parts (from z.0) (star z.0 v) z.2 in
+          let same = apart z.0 (suc k) v (let l = z.1 in omega arith) i wv b.0 b.1 e c in let l = z.1 in omega arith) p q.1 in
+          (_, perfect_congr g (complement (union (so_far k) (star (suc k)))) (complement (so_far (suc k))) _ (λ v w. same (so_far k v) (from (suc k)) (star (suc k) v) e) t)
+        where
+          same : (a c d : Bool) → c ≡ true → not (a || d) ≡ not (a || (c && d))
+          same a c d h = grind arith
+
+  pub glue_family : (m : Set) × IsPerfect g (complement (λ v. some g.order (λ z. from z && star z v))) m
+  glue_family = glue_up_to g.order (omega arith)

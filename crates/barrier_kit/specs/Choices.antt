@@ -1,0 +1,15 @@
+-- Choices as in Hall's theorem (Hall 1935): each member of a set gets a partner of its own.
+use Rattle.std.specs.Prelude.{◌≡◌, ℕ, Bool, true, ◌&&◌}
+use Rattle.counting.specs.Counts.{Within}
+use Rattle.counting.specs.Sets.{Set}
+use Rattle.counting.specs.Tests.{some}
+
+-- the members of c that f relates to some member of z
+abbrev pub neighbours : ℕ → (ℕ → ℕ → Bool) → Set → Set → Set
+neighbours n f c z v = c v && some n (λ u. z u && f u v)
+
+-- each member of a gets a member of c of its own that f relates to it
+pub record Picks (n : ℕ) (f : ℕ → ℕ → Bool) (a c : Set) : Type 0 where
+  pub to : ℕ → ℕ
+  pub lands : (u : ℕ) → Within n u → a u ≡ true → Within n (to u) × (c (to u) ≡ true) × (f u (to u) ≡ true)
+  pub apart : (u v : ℕ) → Within n u → Within n v → a u ≡ true → a v ≡ true → to u ≡ to v → u ≡ v
