@@ -1,16 +1,19 @@
 -- What the checks of a body tell of it. Idea: where no fault of a list of tests is first, each test fails; and the first
 -- fault of two lists of tests is that of the one, or else that of the other.
-use Rattle.std.proofs.Common.{◌≡◌, ℕ, ◌+◌, ◌*◌, ◌/◌, ◌<◌, ◌≤◌, ◌==◌, ◌&&◌, Bool, true, false, not, cond, List, [], ◌∷◌, ◌++◌, length, take, drop, Option, Some, None, refl, sym, ap, ◌∙◌, arith, ltb, leb}
-use Rattle.std.proofs.lemmas.Bool.{and_parts, false≢true, true≢false, both_ways, not-false, eqb-false, ltb-false, leb-false, le-leb, le-ltb, eq-eqb, lt-ltb, cases_lt, cases_Bool}
-use Rattle.std.specs.Bool.{IsTrue}
-use Rattle.std.specs.List.{list_all, list_any}
+use Rattle.std.proofs.Common.{◌≡◌, ℕ, ◌+◌, ◌*◌, ◌/◌, ◌<◌, ◌≤◌, ◌==◌, ◌&&◌, Bool, true, false, not, cond, List, [], ◌∷◌, ◌++◌, length, take, drop, Option, Some, None, Ok, Err, refl, sym, ap, ap₂, ◌∙◌, arith, ltb, leb, nat_lt}
+use Rattle.std.proofs.lemmas.Bool.{and_parts, not-false, eqb-false, ltb-false, leb-false}
 use Rattle.std.proofs.lemmas.List.{take-append-drop}
 use Rattle.std.proofs.lemmas.List.Folds.{list_all-append}
+use Rattle.std.specs.List.{list_all, list_any}
+use Rattle.graph_core.specs.Graph.{Graph, size}
+use Rattle.graph_core.specs.declared.faults.FaultKind.TheVariants.{Padding, Limit}
+use Rattle.graph_core.specs.declared.faults.TextFault.{TextFault}
+use Rattle.graph_core.specs.declared.faults.TextFault.TheVariants as fault
 use Rattle.graph6_text.specs.Digits.{is_digit, bits_of}
-use Rattle.graph6_text.specs.Pairs.{column_pairs}
+use Rattle.graph6_text.specs.Pairs.{column_pairs, chosen}
+use Rattle.graph6_text.specs.Reading.{Fault, first_fault, faults_of, is_long, order_of, data_of, data_len, pair_count, limit_row, filling_of, graph_of, graph_unless, body_of, outcome_of, Checks, IsFirstFault, IsFaultOf}
 use Rattle.graph6_text.proofs.SixBits.{length-bits_of}
 use Rattle.graph6_text.proofs.Columns.{length-column_pairs}
-use Rattle.graph6_text.specs.Reading.{Fault, first_fault, faults_of, is_long, order_of, data_of, data_len, pair_count}
 
 -- each test of the list fails
 abbrev pub AllFail : List (Bool × Fault) → Type 0
@@ -87,3 +90,43 @@ enough_bits body h = let a = length-column_pairs (order_of body) in let b = leng
   where
     six : (p b d t : ℕ) → p ≡ t → b ≡ 6 * d → d ≡ (t + 5) / 6 → p ≤ b
     six p b d t e f g = omega arith
+
+-- the first fault of two lists of tests
+pub is_first-front : (xs ys : List (Bool × Fault)) (e : TextFault) → Checks (Err e) xs → IsFirstFault (xs ++ ys) e
+is_first-front xs ys (fault.At line kind) h = first_fault-front xs ys (line, kind) h
+is_first-front xs ys fault.Memory h = tt
+
+pub is_first-behind : (xs ys : List (Bool × Fault)) (e : TextFault) → first_fault xs ≡ None → IsFirstFault ys e → IsFirstFault (xs ++ ys) e
+is_first-behind xs ys (fault.At line kind) none h = first_fault-append xs ys none ∙ h
+is_first-behind xs ys fault.Memory none h = tt
+
+-- the last two rows of the table, which the bits tell
+abbrev pub padding_row : ℕ → List Bool → List (Bool × Fault)
+padding_row from bits = (list_any (λ bit. bit) (drop from bits), (1, Padding)) ∷ []
+
+pub graph-from_bits : (body : List ℕ) (n : ℕ) (pairs : List (ℕ × ℕ)) (bits : List Bool) → n ≡ order_of body → pairs ≡ column_pairs n → bits ≡ bits_of (data_of body) →
+    record { order = n; ends = chosen pairs bits } ≡ graph_of body
+unfolding graph_of
+graph-from_bits body n pairs bits order columns turned =
+    let make : ℕ → List (ℕ × ℕ) → Graph = λ k es. record { order = k; ends = es } in
+    ap₂ make order (ap₂ chosen (columns ∙ ap column_pairs order) turned)
+
+pub last_rows : (body : List ℕ) (n from : ℕ) (pairs : List (ℕ × ℕ)) (bits again : List Bool) → n ≡ order_of body → pairs ≡ column_pairs n → from ≡ length pairs →
+    bits ≡ bits_of (data_of body) → again ≡ bits_of (data_of body) → padding_row from bits ++ limit_row (chosen pairs again) ≡ drop 9 (faults_of body)
+last_rows body n from pairs bits again order columns place turned same =
+    let many : from ≡ pair_count (order_of body) = place ∙ ap length columns ∙ length-column_pairs n ∙ ap pair_count order in
+    let filling : list_any (λ bit. bit) (drop from bits) ≡ list_any (λ bit. bit) (filling_of body) =
+    ap₂ (λ (k : ℕ) (xs : List Bool). list_any (λ bit. bit) (drop k xs)) many turned in
+    let edges : nat_lt 2048 (length (chosen pairs again)) ≡ nat_lt 2048 (size (graph_of body)) =
+    ap (λ (g : Graph). nat_lt 2048 (size g)) (graph-from_bits body n pairs again order columns same) in
+    ap₂ (λ (x : Bool) (y : Bool). (x, (1, Padding)) ∷ (y, (1, Limit)) ∷ []) filling edges
+
+-- a text whose body has this first fault, or none
+pub outcome-fault : (text : List ℕ) (e : TextFault) → IsFirstFault (faults_of (body_of text)) e → IsFaultOf (outcome_of text) e
+unfolding outcome_of
+outcome-fault text (fault.At line kind) h = ap (λ (f : Option Fault). graph_unless f (graph_of (body_of text))) h
+outcome-fault text fault.Memory h = tt
+
+pub outcome-graph : (text : List ℕ) → first_fault (faults_of (body_of text)) ≡ None → outcome_of text ≡ Ok (graph_of (body_of text))
+unfolding outcome_of
+outcome-graph text h = ap (λ (f : Option Fault). graph_unless f (graph_of (body_of text))) h

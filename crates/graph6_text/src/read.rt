@@ -67,7 +67,9 @@ fn with_edges(alloc: Global, n: u32, pairs: &[Ends], bits: &[bool]) -> Result<Mu
             if graph.size() == MOST_EDGES {
                 return Err(fault(FaultKind::Limit));
             }
-            graph.add_edge(pair.a, pair.b)?;
+            graph
+                .add_edge(pair.a, pair.b)
+                .map_err(|_| TextFault::Memory)?;
         }
     }
     Ok(graph)
