@@ -33,6 +33,8 @@ impl Model for MultiGraph {
 }
 
 impl MultiGraph {
+    ghost use Rattle.graph_core.specs.View.{IsWithinLimits};
+
     /// The graph of `n` vertices without edges.
     pub fn new(alloc: Global, n: u32) -> Result<MultiGraph, Memory>
         requires { n ≤ MOST_VERTICES }
@@ -46,7 +48,9 @@ impl MultiGraph {
 
     /// The number of vertices. Takes no memory.
     pub fn order(&self) -> u32
-        ensures { result ≡ self.now.order }
+        ensures value { result ≡ self.now.order }
+        // What each value of the type keeps.
+        ensures limits { IsWithinLimits self.now }
     {
         self.order
     }
