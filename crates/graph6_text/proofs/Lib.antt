@@ -2,3 +2,4 @@ pub mod SixBits
 pub mod Columns
 pub mod Choosing
 pub mod Passing
+pub mod RoundTrip
