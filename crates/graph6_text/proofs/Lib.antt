@@ -3,3 +3,4 @@ pub mod Columns
 pub mod Choosing
 pub mod Passing
 pub mod RoundTrip
+pub mod DistinctPairs

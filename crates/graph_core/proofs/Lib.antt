@@ -19,3 +19,4 @@ pub mod BlockSets
 pub mod MergedShores
 pub mod Adjacency
 pub mod Simplicity
+pub mod EndLists
