@@ -1,9 +1,15 @@
 -- The pairs of vertices by columns are the pairs i < j of 1 to n, each once, and there are n (n - 1) / 2 of them. Idea:
 -- induction on the number of columns, and within a column on the number of its pairs.
-use Rattle.std.proofs.Common.{◌≡◌, ℕ, suc, zero, ◌+◌, ◌-◌, ◌*◌, ◌/◌, ◌<◌, ◌≤◌, List, [], ◌∷◌, ◌++◌, length, map, refl, sym, ap, ap₂, ◌∙◌, arith, add-one}
+use Rattle.std.proofs.Common.{◌≡◌, ℕ, suc, zero, ◌+◌, ◌-◌, ◌*◌, ◌/◌, ◌<◌, ◌≤◌, ◌==◌, ◌&&◌, ◌||◌, Bool, true, false, List, [], ◌∷◌, ◌++◌, length, refl, sym, ap, ap₂, ◌∙◌, arith, inl, inr}
+use Rattle.std.proofs.lemmas.Bool.{cases_eq, or_left, or_right}
+use Rattle.std.proofs.lemmas.Bool.Decides.{nat_tests}
 use Rattle.std.proofs.lemmas.List.{append_assoc, length-append}
+use Rattle.std.proofs.lemmas.List.Folds.{list_any-append}
+use Rattle.std.specs.List.{list_any}
+use Rattle.counting.specs.Counts.{Within}
 use Rattle.graph6_text.specs.Pairs.{column, column_pairs}
 use Rattle.graph6_text.specs.Reading.{pair_count}
+use Rattle.graph6_text.proofs.DistinctPairs.{Each, AreDistinct, each-append, each_weaker, distinct-append}
 
 pub column_pairs-zero : column_pairs 0 ≡ []
 unfolding column_pairs
@@ -60,3 +66,46 @@ columns_all b n front h k inv = let e : b - 1 ≡ n = omega arith in inv ∙ ap 
 
 pub columns_end : (b n : ℕ) (front more : List (ℕ × ℕ)) → 1 ≤ b → b ≡ n → front ≡ column_pairs (b - 1) → more ≡ front ++ column (b - 1) b → more ≡ column_pairs n
 columns_end b n front more h k inv e = columns_more b front more h inv e ∙ ap column_pairs k
+
+-- each pair of the columns has 1 ≤ i < j ≤ n, and no two are the same
+each_column : (i j : ℕ) → Each (λ q. (1 ≤ q.0) × (q.0 ≤ i) × (q.1 ≡ j)) (column i j)
+each_column zero j = tt
+each_column (suc i) j = each-append _ (column i j) ((suc i, j) ∷ [])
+    (each_weaker _ _ (column i j) (λ q h. (h.0, omega arith, h.2)) (each_column i j)) ((omega arith, omega arith, refl), tt)
+
+distinct_column : (i j : ℕ) → i < j → AreDistinct (column i j)
+distinct_column zero j l = tt
+distinct_column (suc i) j l = distinct-append (column i j) ((suc i, j) ∷ []) (distinct_column i j (omega arith)) (tt, tt)
+    (each_weaker _ _ (column i j) (λ q h. (other q.0 q.1 i j h.1 h.2, tt)) (each_column i j))
+  where
+    other : (a b i j : ℕ) → a ≤ i → b ≡ j → ((suc i == a && j == b) || (suc i == b && j == a)) ≡ false
+    other a b i j h k = grind (arith, nat_tests)
+
+pub each_column_pair : (n : ℕ) → Each (λ q. (1 ≤ q.0) × (q.0 < q.1) × (q.1 ≤ n)) (column_pairs n)
+each_column_pair zero = rw column_pairs-zero tt
+each_column_pair (suc n) = rw (column_pairs-suc n) (each-append _ (column_pairs n) (column n (suc n))
+    (each_weaker _ _ (column_pairs n) (λ q h. (h.0, h.1, omega arith)) (each_column_pair n))
+    (each_weaker _ _ (column n (suc n)) (λ q h. (h.0, omega arith, omega arith)) (each_column n (suc n))))
+
+pub distinct_column_pairs : (n : ℕ) → AreDistinct (column_pairs n)
+distinct_column_pairs zero = rw column_pairs-zero tt
+distinct_column_pairs (suc n) = rw (column_pairs-suc n) (distinct-append (column_pairs n) (column n (suc n)) (distinct_column_pairs n) (distinct_column n (suc n) (omega arith))
+    (each_weaker _ _ (column_pairs n) (λ p h. each_weaker _ _ (column n (suc n)) (λ q k. other p.0 p.1 q.0 q.1 n h.1 h.2 k.2) (each_column n (suc n))) (each_column_pair n)))
+  where
+    other : (a b c d n : ℕ) → a < b → b ≤ n → d ≡ suc n → ((c == a && d == b) || (c == b && d == a)) ≡ false
+    other a b c d n h k l = grind (arith, nat_tests)
+
+-- each such pair is there
+any_column : (test : ℕ × ℕ → Bool) (i j a : ℕ) → Within i a → test (a, j) ≡ true → list_any test (column i j) ≡ true
+any_column test zero j a w h = absurd (omega arith)
+any_column test (suc i) j a w h = list_any-append test (column i j) ((suc i, j) ∷ []) ∙ (elim (cases_eq a (suc i)) [
+  | inl e ↦ or_right (list_any test (column i j)) (test (suc i, j) || false) (or_left (test (suc i, j)) false (ap (λ (k : ℕ). test (k, j)) (sym e) ∙ h))
+  | inr d ↦ or_left (list_any test (column i j)) (test (suc i, j) || false) (any_column test i j a (omega arith) h)
+])
+
+pub any_column_pair : (test : ℕ × ℕ → Bool) (n a b : ℕ) → 1 ≤ a → a < b → b ≤ n → test (a, b) ≡ true → list_any test (column_pairs n) ≡ true
+any_column_pair test zero a b w l k h = absurd (omega arith)
+any_column_pair test (suc n) a b w l k h = ap (list_any test) (column_pairs-suc n) ∙ list_any-append test (column_pairs n) (column n (suc n)) ∙ (elim (cases_eq b (suc n)) [
+  | inl e ↦ or_right (list_any test (column_pairs n)) (list_any test (column n (suc n))) (any_column test n (suc n) a (omega arith) (ap (λ (k : ℕ). test (a, k)) (sym e) ∙ h))
+  | inr d ↦ or_left (list_any test (column_pairs n)) (list_any test (column n (suc n))) (any_column_pair test n a b w l (omega arith) h)
+])

@@ -107,3 +107,54 @@ simple_from_distinct g h e f we wf same = elim (cases_order e f) [
     | inr l ↦ absurd (both_ways _ (joins-back (get_or g.ends (f - 1) (0, 0)) (get_or g.ends (e - 1) (0, 0)) (distinct_at g.ends (f - 1) (e - 1) h (omega arith) (omega arith))) same)
   ]
 ]
+
+-- a test of pairs, as the bits that choose those that pass
+pub any_chosen : (test wanted : ℕ × ℕ → Bool) (ps : List (ℕ × ℕ)) → list_any wanted (chosen ps (map test ps)) ≡ list_any (λ p. test p && wanted p) ps
+any_chosen test wanted [] = refl
+any_chosen test wanted (p ∷ ps) = go (test p) (any_chosen test wanted ps)
+  where
+    go : (b : Bool) → list_any wanted (chosen ps (map test ps)) ≡ list_any (λ p. test p && wanted p) ps →
+        list_any wanted (cond b (p ∷ chosen ps (map test ps)) (chosen ps (map test ps))) ≡ ((b && wanted p) || list_any (λ p. test p && wanted p) ps)
+    go true ih = ap (λ (x : Bool). wanted p || x) ih
+    go false ih = ih
+
+pub any_none : (test : ℕ × ℕ → Bool) (ps : List (ℕ × ℕ)) → ((p : ℕ × ℕ) → test p ≡ false) → list_any test ps ≡ false
+any_none test [] h = refl
+any_none test (p ∷ ps) h = or_from (test p) (list_any test ps) (h p) (any_none test ps h)
+
+-- an edge is the same two numbers as one of the distinct pairs at most, so that not more pairs than edges are present
+none_else : (p e : ℕ × ℕ) (ps : List (ℕ × ℕ)) → Apart p ps → joins p.0 p.1 e ≡ true → length (chosen ps (map (λ q. joins q.0 q.1 e) ps)) ≡ 0
+none_else p e [] h s = refl
+none_else p e (q ∷ ps) h s = rw (joins-third p q e s h.0) (none_else p e ps h.1 s)
+
+one_at_most : (e : ℕ × ℕ) (ps : List (ℕ × ℕ)) → AreDistinct ps → length (chosen ps (map (λ q. joins q.0 q.1 e) ps)) ≤ 1
+one_at_most e [] h = omega arith
+one_at_most e (p ∷ ps) h = go (joins p.0 p.1 e) refl (one_at_most e ps h.1)
+  where
+    go : (b : Bool) → joins p.0 p.1 e ≡ b → length (chosen ps (map (λ q. joins q.0 q.1 e) ps)) ≤ 1 → length (cond b (p ∷ chosen ps (map (λ q. joins q.0 q.1 e) ps)) (chosen ps (map (λ q. joins q.0 q.1 e) ps))) ≤ 1
+    go true s ih = let n = none_else p e ps h.0 s in omega arith
+    go false s ih = ih
+
+either_at_most : (f g : ℕ × ℕ → Bool) (ps : List (ℕ × ℕ)) → length (chosen ps (map (λ p. f p || g p) ps)) ≤ length (chosen ps (map f ps)) + length (chosen ps (map g ps))
+either_at_most f g [] = omega arith
+either_at_most f g (p ∷ ps) = go (f p) (g p) (either_at_most f g ps)
+  where
+    go : (a b : Bool) → length (chosen ps (map (λ p. f p || g p) ps)) ≤ length (chosen ps (map f ps)) + length (chosen ps (map g ps)) →
+        length (cond (a || b) (p ∷ chosen ps (map (λ p. f p || g p) ps)) (chosen ps (map (λ p. f p || g p) ps))) ≤
+        length (cond a (p ∷ chosen ps (map f ps)) (chosen ps (map f ps))) + length (cond b (p ∷ chosen ps (map g ps)) (chosen ps (map g ps)))
+    go true true ih = omega arith
+    go true false ih = omega arith
+    go false true ih = omega arith
+    go false false ih = ih
+
+pub present_at_most : (es ps : List (ℕ × ℕ)) → AreDistinct ps → length (chosen ps (present es ps)) ≤ length es
+present_at_most [] ps h = let n = nothing ps in omega arith
+  where
+    nothing : (ps : List (ℕ × ℕ)) → length (chosen ps (map (λ p. false) ps)) ≡ 0
+    nothing [] = refl
+    nothing (p ∷ ps) = nothing ps
+present_at_most (e ∷ es) ps h =
+    let a = either_at_most (λ p. joins p.0 p.1 e) (λ p. list_any (joins p.0 p.1) es) ps in
+    let b = one_at_most e ps h in
+    let c = present_at_most es ps h in
+    omega arith
