@@ -12,6 +12,10 @@ pub mod Textbook
 pub mod Uncrossing
 pub mod Walks
 pub mod WeakDuality
+pub mod View
+pub mod Trees
+pub mod TwoSides
+pub mod Growth
 pub mod Merging
 pub mod MergeOrder
 pub mod QuotientTight
@@ -20,3 +24,4 @@ pub mod MergedShores
 pub mod Adjacency
 pub mod Simplicity
 pub mod EndLists
+pub mod Rows

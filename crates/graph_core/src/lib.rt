@@ -6,7 +6,12 @@ mod faults;
 mod graph;
 mod laws;
 mod numbers;
+mod search;
+mod set_list;
+mod sides;
 mod simple;
+mod tree;
+mod verdict;
 
 pub use ends::Ends;
 pub use faults::{AddFault, FaultKind, TextFault};
@@ -16,3 +21,6 @@ pub use laws::{
     quotient_law, uncrossing_law, walk_law, weak_duality_law,
 };
 pub use numbers::Numbers;
+pub use set_list::SetList;
+pub use sides::Sides;
+pub use verdict::{Kind, Reason, Verdict};
