@@ -10,7 +10,7 @@ use graph_core::{FaultKind, TextFault};
 use vset_core::MOST_VERTICES;
 
 /// The most vertices whose number one digit writes.
-const MOST_SHORT: u32 = 62;
+pub const MOST_SHORT: u32 = 62;
 
 /// A fault of this kind in the one line that a text has.
 pub fn fault(kind: FaultKind) -> TextFault

@@ -6,3 +6,4 @@ mod checks;
 mod digits;
 mod pairs;
 mod read;
+mod write;

@@ -40,7 +40,6 @@ impl MultiGraph {
         ensures { result ≡ has_ends self.now (first_end self.now e) (second_end self.now e) f }
     {
         let edge = self.ends(e);
-        let other = self.ends(f);
-        (other.a == edge.a && other.b == edge.b) || (other.a == edge.b && other.b == edge.a)
+        self.ends(f).are(edge.a, edge.b)
     }
 }
