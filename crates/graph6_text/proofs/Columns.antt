@@ -1,15 +1,17 @@
 -- The pairs of vertices by columns are the pairs i < j of 1 to n, each once, and there are n (n - 1) / 2 of them. Idea:
 -- induction on the number of columns, and within a column on the number of its pairs.
-use Rattle.std.proofs.Common.{◌≡◌, ℕ, suc, zero, ◌+◌, ◌-◌, ◌*◌, ◌/◌, ◌<◌, ◌≤◌, ◌==◌, ◌&&◌, ◌||◌, Bool, true, false, List, [], ◌∷◌, ◌++◌, length, refl, sym, ap, ap₂, ◌∙◌, arith, inl, inr}
+use Rattle.std.proofs.Common.{◌≡◌, ℕ, suc, zero, ◌+◌, ◌-◌, ◌*◌, ◌/◌, ◌<◌, ◌≤◌, ◌==◌, ◌&&◌, ◌||◌, Bool, true, false, List, [], ◌∷◌, ◌++◌, length, map, get_or, refl, sym, ap, ap₂, ◌∙◌, arith, inl, inr}
 use Rattle.std.proofs.lemmas.Bool.{cases_eq, or_left, or_right}
 use Rattle.std.proofs.lemmas.Bool.Decides.{nat_tests}
-use Rattle.std.proofs.lemmas.List.{append_assoc, length-append}
+use Rattle.std.proofs.lemmas.List.{append_assoc, length-append, length-map, get_or-map}
 use Rattle.std.proofs.lemmas.List.Folds.{list_any-append}
 use Rattle.std.specs.List.{list_any}
 use Rattle.counting.specs.Counts.{Within}
+use Rattle.graph_core.specs.View.{pair_of}
+use Rattle.graph_core.specs.declared.ends.Ends.{Ends}
 use Rattle.graph6_text.specs.Pairs.{column, column_pairs}
 use Rattle.graph6_text.specs.Reading.{pair_count}
-use Rattle.graph6_text.proofs.DistinctPairs.{Each, AreDistinct, each-append, each_weaker, distinct-append}
+use Rattle.graph6_text.proofs.DistinctPairs.{Each, AreDistinct, each-append, each_weaker, each_at, distinct-append}
 
 pub column_pairs-zero : column_pairs 0 ≡ []
 unfolding column_pairs
@@ -109,3 +111,13 @@ any_column_pair test (suc n) a b w l k h = ap (list_any test) (column_pairs-suc 
   | inl e ↦ or_right (list_any test (column_pairs n)) (list_any test (column n (suc n))) (any_column test n (suc n) a (omega arith) (ap (λ (k : ℕ). test (a, k)) (sym e) ∙ h))
   | inr d ↦ or_left (list_any test (column_pairs n)) (list_any test (column n (suc n))) (any_column_pair test n a b w l (omega arith) h)
 ])
+
+-- the loop over the pairs of a graph's vertices: both numbers of the next pair are vertices
+pub pair_within : (n : ℕ) (pairs : List Ends) (i : ℕ) (d : Ends) → map pair_of pairs ≡ column_pairs n → i < length pairs → Within n (get_or pairs i d).a × Within n (get_or pairs i d).b
+pair_within n pairs i d columns h =
+    let many = length-map pairs pair_of in
+    let e : get_or (column_pairs n) i (0, 0) ≡ pair_of (get_or pairs i d) = ap (λ (xs : List (ℕ × ℕ)). get_or xs i (0, 0)) (sym columns) ∙ get_or-map pair_of pairs i d (0, 0) h in
+    let w = each_at _ (column_pairs n) i (each_column_pair n) (omega (arith, ap length columns)) in
+    let first : (get_or (column_pairs n) i (0, 0)).0 ≡ (get_or pairs i d).a = ap (λ (p : ℕ × ℕ). p.0) e in
+    let second : (get_or (column_pairs n) i (0, 0)).1 ≡ (get_or pairs i d).b = ap (λ (p : ℕ × ℕ). p.1) e in
+    (omega arith, omega arith)

@@ -158,3 +158,8 @@ present_at_most (e ∷ es) ps h =
     let b = one_at_most e ps h in
     let c = present_at_most es ps h in
     omega arith
+
+pub each_at : (P : ℕ × ℕ → Type 0) (ps : List (ℕ × ℕ)) (i : ℕ) → Each P ps → i < length ps → P (get_or ps i (0, 0))
+each_at P [] i h l = absurd (omega arith)
+each_at P (p ∷ ps) zero h l = h.0
+each_at P (p ∷ ps) (suc i) h l = each_at P ps i h.1 (omega arith)

@@ -28,27 +28,27 @@ pub fn write_graph6(alloc: Global, g: &MultiGraph) -> Result<Vec<u8>, Memory>
 fn to_adjacency_bits(alloc: Global, g: &MultiGraph) -> Result<Vec<bool>, Memory>
     ensures { IfOk result (λ bits. bits.items ≡ adjacency_bits g.now) }
 {
+    let pairs = to_pairs(alloc, g.order())?;
     let mut bits = Vec::new(alloc);
-    for pair in &to_pairs(alloc, g.order())? {
+    for pair in &pairs {
         bits.push(g.adjacent(pair.a, pair.b))?;
     }
     Ok(bits)
 }
 
 /// The bytes that write the number of vertices.
+#[tactic(auto, unfolding(crate::specs::Writing::size_of))]
 fn to_size(alloc: Global, n: u32) -> Result<Vec<u8>, Memory>
     requires { n < 2 ^ 18 }
     ensures { IfOk result (λ size. size.items ≡ size_of n) }
 {
     if n <= MOST_SHORT {
-        return vec![in alloc; to_byte(n)];
+        return Vec::from_slice(alloc, &[to_byte(n)]);
     }
-    vec![in alloc;
-        LONG,
-        to_byte(n / 4096),
-        to_byte(n / 64 % 64),
-        to_byte(n % 64),
-    ]
+    let high = to_byte(n / 4096);
+    let middle = to_byte(n / 64 % 64);
+    let low = to_byte(n % 64);
+    Vec::from_slice(alloc, &[LONG, high, middle, low])
 }
 
 /// The byte that writes a digit.
