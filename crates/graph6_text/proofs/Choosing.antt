@@ -21,3 +21,10 @@ edges_all g n rest bits edges order ends stop =
     let same : g.ends ≡ edges = sym (append-nil g.ends) ∙ ap (λ (xs : List (ℕ × ℕ)). g.ends ++ xs) (sym none) ∙ ends in
     let make : ℕ → List (ℕ × ℕ) → Graph = λ k es. record { order = k; ends = es } in
     ap₂ make order same
+
+-- bits behind those of the pairs choose nothing
+pub chosen-filled : (pairs : List (ℕ × ℕ)) (bits filling : List Bool) → length bits ≡ length pairs → chosen pairs (bits ++ filling) ≡ chosen pairs bits
+chosen-filled [] bits filling h = refl
+chosen-filled (pair ∷ pairs) [] filling h = absurd (omega arith)
+chosen-filled (pair ∷ pairs) (true ∷ bits) filling h = ap (λ (xs : List (ℕ × ℕ)). pair ∷ xs) (chosen-filled pairs bits filling (omega arith))
+chosen-filled (pair ∷ pairs) (false ∷ bits) filling h = chosen-filled pairs bits filling (omega arith)

@@ -1,6 +1,6 @@
 -- Lists of pairs of which no two are the same two numbers. Idea: among such pairs the bits that choose some can be read off
 -- the chosen ones, and each edge of a graph is chosen at most once.
-use Rattle.std.proofs.Common.{◌≡◌, ℕ, suc, zero, ◌+◌, ◌-◌, ◌<◌, ◌≤◌, ◌≢◌, ◌==◌, ◌&&◌, ◌||◌, Bool, true, false, cond, List, [], ◌∷◌, ◌++◌, length, map, take, get_or, refl, sym, ap, ap₂, ◌∙◌, arith, inl, inr}
+use Rattle.std.proofs.Common.{◌≡◌, ℕ, suc, zero, ◌+◌, ◌-◌, ◌<◌, ◌≤◌, ◌≢◌, ◌==◌, ◌&&◌, ◌||◌, Bool, true, false, cond, List, [], ◌∷◌, ◌++◌, length, map, take, get_or, refl, sym, ap, ap₂, ◌∙◌, arith, ◌⊎◌, inl, inr}
 use Rattle.std.proofs.lemmas.Bool.{or_from, or_left, both_ways, cases_order}
 use Rattle.std.proofs.lemmas.Bool.Decides.{nat_tests}
 use Rattle.std.specs.List.{list_any}
@@ -40,6 +40,18 @@ joins-own p = tests p.0 p.1
   where
     tests : (a b : ℕ) → ((a == a && b == b) || (a == b && b == a)) ≡ true
     tests a b = grind (arith, nat_tests)
+
+pub joins-turned : (u v : ℕ) → joins u v (v, u) ≡ true
+joins-turned u v = tests u v
+  where
+    tests : (a b : ℕ) → ((b == a && a == b) || (b == b && a == a)) ≡ true
+    tests a b = grind (arith, nat_tests)
+
+pub joins-cases : (u v : ℕ) (p : ℕ × ℕ) → joins u v p ≡ true → ((p.0 ≡ u) × (p.1 ≡ v)) ⊎ ((p.0 ≡ v) × (p.1 ≡ u))
+joins-cases u v p h = tests p.0 p.1 u v h
+  where
+    tests : (a b u v : ℕ) → ((a == u && b == v) || (a == v && b == u)) ≡ true → ((a ≡ u) × (b ≡ v)) ⊎ ((a ≡ v) × (b ≡ u))
+    tests a b u v h = grind (arith, nat_tests)
 
 pub joins-back : (p q : ℕ × ℕ) → joins p.0 p.1 q ≡ false → joins q.0 q.1 p ≡ false
 joins-back p q h = tests p.0 p.1 q.0 q.1 h

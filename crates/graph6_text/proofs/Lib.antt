@@ -4,3 +4,5 @@ pub mod Choosing
 pub mod Passing
 pub mod RoundTrip
 pub mod DistinctPairs
+pub mod Canonical
+pub mod ReadBack

@@ -28,6 +28,10 @@ all_fail (row ∷ rows) h = go (all_fail rows) row.0 refl h
     go ih true e h = absurd cc
     go ih false e h = (e, ih h)
 
+pub none_from_all_fail : (rows : List (Bool × Fault)) → AllFail rows → first_fault rows ≡ None
+none_from_all_fail [] h = refl
+none_from_all_fail (row ∷ rows) h = rw (h.0) (none_from_all_fail rows h.1)
+
 pub first_fault-append : (xs ys : List (Bool × Fault)) → first_fault xs ≡ None → first_fault (xs ++ ys) ≡ first_fault ys
 first_fault-append [] ys h = refl
 first_fault-append (row ∷ xs) ys h = go (first_fault-append xs ys) row.0 h

@@ -68,7 +68,7 @@ byte-digit_of b h = let p = and_parts (leb 63 b) (leb b 126) h in let q = leb-tr
 digit_of-lt : (b : ℕ) → is_digit b ≡ true → digit_of b < 64
 digit_of-lt b h = let p = and_parts (leb 63 b) (leb b 126) h in let q = leb-true b 126 p.1 in omega arith
 
-is_digit-byte_of : (d : ℕ) → d < 64 → is_digit (byte_of d) ≡ true
+pub is_digit-byte_of : (d : ℕ) → d < 64 → is_digit (byte_of d) ≡ true
 is_digit-byte_of d h = and_from (leb 63 (byte_of d)) (leb (byte_of d) 126) (le-leb 63 (byte_of d) (omega arith)) (le-leb (byte_of d) 126 (omega arith))
 
 -- all bits of the list are zeros
