@@ -23,6 +23,10 @@ without_line_end text =
 unfoldable pub body_of : List ℕ → List ℕ
 body_of text = without_line_end (without_header text)
 
+-- a text without header and line end
+abbrev pub IsBare : List ℕ → Type 0
+IsBare text = body_of text ≡ text
+
 -- the size is written in the long form: the byte 126 and three digits
 abbrev pub is_long : List ℕ → Bool
 is_long body = slice_index body 0 == 126

@@ -4,6 +4,11 @@
 mod body;
 mod checks;
 mod digits;
+mod laws;
 mod pairs;
 mod read;
 mod write;
+
+pub use laws::{canonical_law, read_back_law};
+pub use read::read_graph6;
+pub use write::write_graph6;
