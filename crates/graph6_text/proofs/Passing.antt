@@ -11,7 +11,8 @@ use Rattle.graph_core.specs.declared.faults.TextFault.{TextFault}
 use Rattle.graph_core.specs.declared.faults.TextFault.TheVariants as fault
 use Rattle.graph6_text.specs.Digits.{is_digit, bits_of}
 use Rattle.graph6_text.specs.Pairs.{column_pairs, chosen}
-use Rattle.graph6_text.specs.Reading.{Fault, first_fault, faults_of, is_long, order_of, data_of, data_len, pair_count, limit_row, filling_of, graph_of, graph_unless, body_of, outcome_of, Checks, IsFirstFault, IsFaultOf}
+use Rattle.graph6_text.specs.Checks.{limit_row, Checks, IsFirstFault}
+use Rattle.graph6_text.specs.Reading.{Fault, first_fault, faults_of, is_long, order_of, data_of, data_len, pair_count, filling_of, graph_of, graph_unless, body_of, outcome_of, IsFaultOf}
 use Rattle.graph6_text.proofs.SixBits.{length-bits_of}
 use Rattle.graph6_text.proofs.Columns.{length-column_pairs}
 

@@ -97,18 +97,3 @@ outcome_of text = graph_unless (first_fault (faults_of (body_of text))) (graph_o
 abbrev pub IsFaultOf : Result Graph Fault → TextFault → Type 0
 IsFaultOf outcome (fault.At line kind) = outcome ≡ Err (line, kind)
 IsFaultOf outcome fault.Memory = Unit {0}
-
--- the row of the limit of edges
-abbrev pub limit_row : List (ℕ × ℕ) → List (Bool × Fault)
-limit_row edges = (nat_lt 2048 (length edges), (1, Limit)) ∷ []
-
--- the first of these faults, or want of memory
-abbrev pub IsFirstFault : List (Bool × Fault) → TextFault → Type 0
-IsFirstFault rows (fault.At line kind) = first_fault rows ≡ Some (line, kind)
-IsFirstFault rows fault.Memory = Unit {0}
-
--- what a check of these faults answers: that there is none, or the first of them
-abbrev pub Checks : Result (Unit {0}) TextFault → List (Bool × Fault) → Type 0
-Checks (Ok passed) rows = first_fault rows ≡ None
-Checks (Err (fault.At line kind)) rows = first_fault rows ≡ Some (line, kind)
-Checks (Err fault.Memory) rows = ⊥

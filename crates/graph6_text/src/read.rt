@@ -1,9 +1,11 @@
 //! Reading graph6 texts.
 ghost use Rattle.std.specs.Prelude.{◌≡◌, ◌≤◌, [], ◌∷◌, IfOk, IfErr, OnOk, None, length, drop, map, take};
 ghost use Rattle.std.specs.List.{list_any};
+ghost use Rattle.graph_core.specs.Simple.{IsSimple};
 ghost use Rattle.graph_core.specs.View.{pair_of};
 ghost use Rattle.graph6_text.specs.Pairs.{chosen};
-ghost use Rattle.graph6_text.specs.Reading.{outcome_of, graph_of, faults_of, first_fault, limit_row, Checks, IsFirstFault, IsFaultOf};
+ghost use Rattle.graph6_text.specs.Checks.{limit_row, Checks, IsFirstFault};
+ghost use Rattle.graph6_text.specs.Reading.{outcome_of, graph_of, faults_of, first_fault, IsFaultOf};
 
 use crate::body::{body, data, order};
 use crate::checks::{check_body, fault};
@@ -12,9 +14,15 @@ use crate::pairs::to_pairs;
 use graph_core::{Ends, FaultKind, MOST_EDGES, MultiGraph, TextFault};
 use std::alloc::Global;
 
-/// The graph that a graph6 text stands for.
+/// The graph that a graph6 text stands for. The text may begin with the header `>>graph6<<` and may end with one line end;
+/// it holds one graph. The edges come column by column of the adjacency matrix. `At` comes exactly where the text stands for
+/// no graph, with line and kind of its first fault, in this order: nothing remains (Missing); a line feed remains (Extra, at
+/// line 2, where every other fault is at line 1); a byte is outside 63 to 126 (Range); a long size is cut short (Missing) or
+/// is of 36 bits (Limit) or of at most 62 vertices (LongForm); more than `MOST_VERTICES` vertices (Limit); the data are too
+/// short (Missing) or too long (Extra); a filling bit is set (Padding); more than `MOST_EDGES` edges (Limit).
 pub fn read_graph6(alloc: Global, bytes: &[u8]) -> Result<MultiGraph, TextFault>
     ensures graph { IfOk result (λ g. outcome_of bytes.now ≡ Ok g) }
+    ensures simple { IfOk result IsSimple }
     ensures fault { IfErr result (IsFaultOf (outcome_of bytes.now)) }
 {
     let body = body(bytes);

@@ -1,8 +1,11 @@
 use Rattle.std.proofs.Common.{◌≡◌, ◌∙◌, ◌++◌, ap, sym, subst, take, drop, List, ℕ, Result, Ok, Err, None}
-use Rattle.std.proofs.lemmas.Result.{err_from_is_err_and, IfErr-weaker}
+use Rattle.std.proofs.lemmas.Result.{err_from_is_err_and, IfOk-weaker, IfErr-weaker}
 use Rattle.std.specs.Result.{IfOk, OnOk}
 use Rattle.graph_core.specs.Graph.{Graph}
-use Rattle.graph6_text.specs.Reading.{body_of, faults_of, first_fault, graph_of, outcome_of, IsFaultOf, IsFirstFault}
+use Rattle.graph_core.specs.Simple.{IsSimple}
+use Rattle.graph6_text.proofs.Canonical.{simple-graph_of}
+use Rattle.graph6_text.specs.Checks.{IsFirstFault}
+use Rattle.graph6_text.specs.Reading.{body_of, faults_of, first_fault, graph_of, outcome_of, IsFaultOf}
 use Rattle.graph6_text.proofs.Passing.{outcome-fault, outcome-graph, is_first-front, is_first-behind, first_fault-append}
 use Rattle.graph6_text.proofs.read.read_graph6.Goals as goal
 
@@ -26,6 +29,10 @@ returns-clause-graph c =
     (λ g is none. outcome-graph c.args.bytes.now (subst (λ (xs : List ℕ). first_fault (faults_of xs) ≡ None) c.body-body.ensures
     (first_fault-append (take 9 (faults_of body)) (drop 9 (faults_of body)) c.in_ok-check_body.ensures ∙ none))
     ∙ ap (λ (g : Graph). Ok g) (sym (is ∙ ap graph_of c.body-body.ensures)))
+
+pub returns-clause-simple : goal.returns-clause-simple
+returns-clause-simple c =
+    IfOk-weaker c.to_graph.result (λ g. g ≡ graph_of c.body-body.result.now) IsSimple (λ g is. subst IsSimple (sym is) (simple-graph_of c.body-body.result.now)) c.to_graph.ensures.graph
 
 pub returns-clause-fault : goal.returns-clause-fault
 returns-clause-fault c =

@@ -4,7 +4,8 @@ use Rattle.std.proofs.lemmas.Result.{err_from_is_err_and, IfOk-weaker, IfErr-wea
 use Rattle.graph_core.specs.View.{pair_of}
 use Rattle.graph6_text.specs.Digits.{bits_of}
 use Rattle.graph6_text.specs.Pairs.{chosen, column_pairs}
-use Rattle.graph6_text.specs.Reading.{Fault, data_of, faults_of, first_fault, IsFirstFault, limit_row}
+use Rattle.graph6_text.specs.Checks.{IsFirstFault, limit_row}
+use Rattle.graph6_text.specs.Reading.{Fault, data_of, faults_of, first_fault}
 use Rattle.graph6_text.proofs.Passing.{formed, digits-data, enough_bits, padding_row, last_rows, graph-from_bits, is_first-front, is_first-behind, first_fault-append}
 use Rattle.graph6_text.proofs.read.to_graph.Goals as goal
 
