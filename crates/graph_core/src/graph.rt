@@ -39,6 +39,8 @@ impl Model for MultiGraph {
 }
 
 impl MultiGraph {
+    ghost use Rattle.graph_core.specs.View.{IsWithinLimits};
+
     /// The graph of `n` vertices without edges.
     pub fn new(alloc: Global, n: u32) -> Result<MultiGraph, Memory>
         requires { n ≤ MOST_VERTICES }
@@ -61,6 +63,7 @@ impl MultiGraph {
     pub fn order(&self) -> u32
         ensures is { result ≡ self.now.order }
         ensures few { result ≤ MOST_VERTICES }
+        ensures limits { IsWithinLimits self.now }
     {
         self.order
     }

@@ -9,6 +9,7 @@ mod numbers;
 mod search;
 mod set_list;
 mod sides;
+mod simple;
 mod tree;
 mod verdict;
 
