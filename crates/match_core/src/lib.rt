@@ -9,6 +9,7 @@ mod forest;
 mod laws;
 mod matching;
 mod frames;
+mod questions;
 mod ring;
 mod rows;
 mod search;
@@ -16,4 +17,5 @@ mod step;
 
 pub use laws::tutte_berge_law;
 pub use matching::{MatchRow, Matching};
+pub use questions::perfect_without;
 pub use frames::{Found, FrameSets, frame, maximum};
