@@ -21,3 +21,4 @@ pub mod ShrunkRows
 pub mod ShrunkSteps
 pub mod MatchingEdges
 pub mod FirstMarks
+pub mod FrameFacts
