@@ -61,7 +61,7 @@ impl MultiGraph {
 
     /// The number of vertices. Takes no memory.
     pub fn order(&self) -> u32
-        ensures value { result ≡ self.now.order }
+        ensures is { result ≡ self.now.order }
         ensures few { result ≤ MOST_VERTICES }
         ensures limits { IsWithinLimits self.now }
     {
