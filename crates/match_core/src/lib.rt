@@ -17,5 +17,5 @@ mod step;
 
 pub use laws::tutte_berge_law;
 pub use matching::{MatchRow, Matching};
-pub use questions::perfect_without;
+pub use questions::{perfect_with, perfect_without};
 pub use frames::{Found, FrameSets, frame, maximum};
