@@ -1,4 +1,6 @@
-use Rattle.std.proofs.Common.{◌≡◌, ℕ, suc, zero, ◌+◌, ◌≤◌, Bool, true, false, refl, sym, ap, ap₂, ◌∙◌, arith, not, cond, zero-add, suc-add, ◌%◌, ◌==◌, eq-eqb, ne_eqb}
+-- The parity of sums and doubles, and of the two sides of a set of numbers 1 to n.
+-- By induction on the number, with the truth table of "one of the two is odd".
+use Rattle.std.proofs.Common.{◌≡◌, ℕ, suc, zero, ◌+◌, ◌≤◌, ◌<◌, ◌/◌, ◌%◌, ◌==◌, Bool, true, false, refl, sym, ap, ap₂, ◌∙◌, arith, not, cond, zero-add, suc-add}
 use Rattle.std.proofs.lemmas.Bool.{true≢false}
 use Rattle.counting.proofs.Counts.{count_complement}
 use Rattle.counting.specs.Counts.{Within, total, count, is_odd}
@@ -47,14 +49,12 @@ half zero o = (0, omega arith)
 half (suc zero) o = absurd (true≢false o)
 half (suc (suc j)) o = let h = half j (sym (not_not (is_odd j)) ∙ o) in (suc h.0, let a = h.1 in omega arith)
 
--- parity by the remainder of 2
-pub odd_remainder : (i : ℕ) → (i % 2 == 1) ≡ is_odd i
-odd_remainder i = go i (is_odd i) refl
+-- a number is odd where division by two leaves one
+pub is_odd_remainder : (n : ℕ) → is_odd n ≡ (n % 2 == 1)
+is_odd_remainder n =
+    let h : n ≡ (n / 2 + n / 2) + n % 2 = omega arith in
+    ap is_odd h ∙ odd-add (n / 2 + n / 2) (n % 2) ∙ ap (λ b. cond b (not (is_odd (n % 2))) (is_odd (n % 2))) (odd-double (n / 2)) ∙ small (n % 2) (omega arith)
   where
-    go : (i : ℕ) (b : Bool) → is_odd i ≡ b → (i % 2 == 1) ≡ is_odd i
-    go i false o = let h = half i o in let a = h.1 in ne_eqb (i % 2) 1 (λ q. absurd (omega arith)) ∙ sym o
-    go zero true o = absurd (true≢false (sym o))
-    go (suc k) true o =
-        let h = half k (sym (not_not (is_odd k)) ∙ ap not o) in
-        let a = h.1 in
-        let r : suc k % 2 ≡ 1 = omega arith in eq-eqb (suc k % 2) 1 r ∙ sym o
+    small : (r : ℕ) → r < 2 → is_odd r ≡ (r == 1)
+    small zero l = refl
+    small (suc r) l = let z : r ≡ zero = omega arith in rw z refl
