@@ -22,3 +22,4 @@ pub mod ShrunkSteps
 pub mod MatchingEdges
 pub mod FirstMarks
 pub mod FrameFacts
+pub mod Gluing

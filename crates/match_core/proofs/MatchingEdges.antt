@@ -1,6 +1,7 @@
 -- The edges of the rows of a matching are a matching: a vertex stands in the rows as often as edges meet it.
 -- A degree is a sum over the edges in the set, and that sum goes along the rising list of the rows.
-use Rattle.std.proofs.Common.{◌≡◌, ℕ, suc, zero, ◌+◌, ◌*◌, ◌≤◌, ◌<◌, Bool, true, false, ◌==◌, ◌&&◌, not, refl, sym, ap, ap₂, ◌∙◌, arith, List, [], ◌∷◌, ◌++◌, length, map, filter, cond, subst, inl}
+use Rattle.std.proofs.lemmas.Bool.{both_ways, cases_Bool, false_from_ne_true, or_cases}
+use Rattle.std.proofs.Common.{inr, eqb-true, ◌||◌, ◌≡◌, ℕ, suc, zero, ◌+◌, ◌*◌, ◌≤◌, ◌<◌, Bool, true, false, ◌==◌, ◌&&◌, not, refl, sym, ap, ap₂, ◌∙◌, arith, List, [], ◌∷◌, ◌++◌, length, map, filter, cond, subst, inl}
 use Rattle.std.specs.Prelude.{All, sum_by, slice_index_or}
 use Rattle.std.proofs.lemmas.List.{map-append}
 use Rattle.std.proofs.lemmas.List.Elements.{All-map, All-filter}
@@ -8,7 +9,7 @@ use Rattle.std.proofs.lemmas.List.Sums.{sum_by-cons}
 use Rattle.counting.specs.Counts.{Within, bit, count, total}
 use Rattle.counting.specs.Sets.{Set, none}
 use Rattle.counting.specs.Lists.{mem, rising_list, IsRisingIn}
-use Rattle.counting.proofs.Lists.{Rises, total_mem, rises-from_set}
+use Rattle.counting.proofs.Lists.{Rises, total_mem, rises-from_set, rising_holds, rising_only, mem-within}
 use Rattle.counting.proofs.RisingLists.{set-from_rises, rising_list-rises, mem-rising_list}
 use Rattle.graph_core.proofs.Decide.{degree_congr}
 use Rattle.graph_core.proofs.Edits.{degree_sum, ends_of}
@@ -117,3 +118,16 @@ keeps-filter p m keeps = record {
   within = All-filter p (λ (row : MatchRow). Within m.order row.a × Within m.order row.b) m.rows keeps.within;
   once = λ v w. let a = filter-ends_at p m.rows v in let b = keeps.once v w in omega arith;
 }
+
+-- an edge more in the rising list of a set
+pub joined_edges : (n : ℕ) (es : List ℕ) (x : Set) (e : ℕ) → Within n e → IsRisingIn n es → ((i : ℕ) → x i ≡ (mem es i || (e == i))) → (i : ℕ) → mem (rising_list n x) i ≡ (mem es i || (e == i))
+joined_edges n es x e we rises h i = elim (cases_Bool (mem es i || (e == i))) [
+  | inl t ↦ rising_holds n x i (within t) (h i ∙ t) ∙ sym t
+  | inr f ↦ false_from_ne_true (mem (rising_list n x) i) (λ q. both_ways (mem es i || (e == i)) f (sym (h i) ∙ (rising_only n x i q).1)) ∙ sym f
+]
+  where
+    within : (mem es i || (e == i)) ≡ true → Within n i
+    within t = elim (or_cases (mem es i) (e == i) t) [
+      | inl q ↦ mem-within n es rises i q
+      | inr q ↦ subst (Within n) (eqb-true e i q) we
+    ]

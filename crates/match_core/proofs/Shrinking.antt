@@ -29,13 +29,13 @@ degree_split g k m e v h =
     each : (a b c d : ℕ) → a ≡ b + c → a * d ≡ b * d + c * d
     each a b c d q = ap (λ k. k * d) q ∙ Rattle.std.proofs.Common.add-mul b c d
 
-bit_minus : (m e : Bool) → (e ≡ true → m ≡ true) → bit m ≡ bit (m && not e) + bit e
+pub bit_minus : (m e : Bool) → (e ≡ true → m ≡ true) → bit m ≡ bit (m && not e) + bit e
 bit_minus true true h = refl
 bit_minus true false h = refl
 bit_minus false true h = absurd (true≢false (sym (h refl)))
 bit_minus false false h = refl
 
-bit_union : (m e : Bool) → (m ≡ true → e ≡ true → ⊥) → bit (m || e) ≡ bit m + bit e
+pub bit_union : (m e : Bool) → (m ≡ true → e ≡ true → ⊥) → bit (m || e) ≡ bit m + bit e
 bit_union true true h = absurd (h refl refl)
 bit_union true false h = refl
 bit_union false true h = refl

@@ -9,3 +9,4 @@ pub mod Searches
 pub mod Steps
 pub mod MatchingRows
 pub mod Optimal
+pub mod Questions

@@ -52,8 +52,8 @@ fn first_marks(alloc: Global, n: u32, ends: &[Ends], removed: VSet) -> Result<Ve
     Ok(mark)
 }
 
-// Whether an edge joins two different vertices outside the set.
-fn is_addable(e: Ends, met: VSet) -> bool
+/// Whether an edge joins two different vertices outside the set.
+pub fn is_addable(e: Ends, met: VSet) -> bool
     requires a { Within MOST_VERTICES e.a }
     requires b { Within MOST_VERTICES e.b }
     ensures { result ≡ (not (e.a == e.b) && (not (mem met e.a) && not (mem met e.b))) }

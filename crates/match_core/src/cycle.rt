@@ -86,7 +86,7 @@ pub fn cycle_edges(
     Ok(gs)
 }
 
-#[tactic(auto, using(counting::proofs::Odd::odd_remainder))]
+#[tactic(auto, using(counting::proofs::Odd::is_odd_remainder))]
 fn is_odd_place(i: usize) -> bool
     ensures { result ≡ is_odd i }
 {

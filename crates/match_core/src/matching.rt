@@ -1,15 +1,17 @@
 //! Matchings as lists of rows.
-ghost use Rattle.std.specs.Prelude.{◌≡◌, ℕ, ◌+◌, ◌<◌, ◌≤◌, length, map, filter, slice_get, Some, IfOk, All};
+ghost use Rattle.std.specs.Prelude.{◌≡◌, ℕ, ◌+◌, ◌<◌, ◌≤◌, ◌==◌, ◌||◌, length, map, filter, slice_get, Some, IfOk, All};
 ghost use Rattle.counting.specs.Counts.{Within};
 ghost use Rattle.counting.specs.Sets.{none};
 ghost use Rattle.counting.specs.Lists.{mem, rising_list};
+ghost use Rattle.graph_core.specs.Graph.{size, degree, first_end, second_end};
 ghost use Rattle.graph_core.specs.View.{graph_of};
 ghost use Rattle.graph_core.specs.Matchings.{IsMatching};
 ghost use Rattle.match_core.specs.Rows.{marks};
 ghost use Rattle.match_core.specs.Searches.{IsGraphRow};
 ghost use Rattle.match_core.specs.MatchingRows.{KeepsMatching, IsOf, edges_of, is_clear, row_at};
 
-use graph_core::Ends;
+use crate::rows::{falses, mark_place};
+use graph_core::{Ends, MOST_EDGES, MultiGraph};
 use std::alloc::{AllocError as Memory, Global};
 use std::marker::Model;
 use vset_core::{MOST_VERTICES, VSet};
@@ -73,6 +75,45 @@ impl Matching {
             order: self.order,
             rows: clear_rows(alloc, &self.rows, removed)?,
         })
+    }
+
+    /// The matching of `g` with the same edges and edge `e`, whose ends it does not meet.
+    pub fn joined(&self, alloc: Global, g: &MultiGraph, e: u32) -> Result<Matching, Memory>
+        requires of { IsOf g.now self.now }
+        requires edge { Within (size g.now) e }
+        requires first { degree g.now (mem (edges_of self.now)) (first_end g.now e) ≡ 0 }
+        requires second { degree g.now (mem (edges_of self.now)) (second_end g.now e) ≡ 0 }
+        ensures of { IfOk result (λ m. IsOf g.now m) }
+        ensures edges { IfOk result (λ m. (i : ℕ) → mem (edges_of m) i ≡ (mem (edges_of self.now) i || (e == i))) }
+    {
+        let ends = g.edges();
+        self.keeps_matching();
+        let mut mark = self.marks(alloc, ends.len())?;
+        mark_place(&mut mark, e as usize);
+        matching_of(alloc, g.order(), ends, &mark)
+    }
+
+    /// The edges as marks on 1 to `size`.
+    pub(crate) fn marks(&self, alloc: Global, size: usize) -> Result<Vec<bool>, Memory>
+        requires few { size ≤ MOST_EDGES }
+        requires within { All (λ row. Within size row.edge) self.now.rows }
+        ensures long { IfOk result (λ mark. length mark.items ≡ size + 1) }
+        ensures each { IfOk result (λ mark. (i : ℕ) → marks mark.items i ≡ mem (edges_of self.now) i) }
+    {
+        let mut mark = falses(alloc, size + 1)?;
+        mark_rows(&mut mark, &self.rows);
+        Ok(mark)
+    }
+}
+
+// Marks the edges of the rows.
+fn mark_rows(mark: &mut Vec<bool>, rows: &[MatchRow])
+    requires { All (λ row. row.edge < length mark.old.items) rows.now }
+    ensures length { length mark.new.items ≡ length mark.old.items }
+    ensures each { (i : ℕ) → marks mark.new.items i ≡ (marks mark.old.items i || mem (map (λ row. row.edge) rows.now) i) }
+{
+    for row in rows {
+        mark_place(mark, row.edge as usize);
     }
 }
 

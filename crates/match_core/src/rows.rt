@@ -1,5 +1,6 @@
 //! Rows of numbers: parts of a row put at the end of a row, and where a number stands.
-ghost use Rattle.std.specs.Prelude.{◌≡◌, ◌≢◌, ℕ, ◌+◌, ◌-◌, ◌<◌, ◌≤◌, length, slice_index, IfOk, Some, None, false, true};
+ghost use Rattle.std.specs.Prelude.{◌≡◌, ◌≢◌, ℕ, ◌+◌, ◌-◌, ◌<◌, ◌≤◌, length, slice_index, IfOk, Some, None, All, ◌||◌, false, true};
+ghost use Rattle.counting.specs.Lists.{mem};
 ghost use Rattle.counting.specs.Sets.{put};
 ghost use Rattle.match_core.specs.Rows.{marks};
 
@@ -131,4 +132,23 @@ pub fn mark_place(mark: &mut Vec<bool>, place: usize)
     ensures each { (i : ℕ) → marks mark.new.items i ≡ put (marks mark.old.items) place true i }
 {
     mark[place] = true;
+}
+
+/// Marks all places of a list.
+pub fn mark_places(mark: &mut Vec<bool>, places: &[u32])
+    requires { All (λ place. place < length mark.old.items) places.now }
+    ensures length { length mark.new.items ≡ length mark.old.items }
+    ensures each { (i : ℕ) → marks mark.new.items i ≡ (marks mark.old.items i || mem places.now i) }
+{
+    for place in places {
+        mark_place(mark, *place as usize);
+    }
+}
+
+/// Whether a place is marked.
+pub fn is_marked(mark: &[bool], place: u32) -> bool
+    requires { place < length mark.now }
+    ensures { result ≡ marks mark.now place }
+{
+    mark[place as usize]
 }
