@@ -168,9 +168,9 @@ module _ (n : ℕ) (ends : List Ends) (row : IsGraphRow n ends) (r f m : Set) (s
     answers Grown (Final sets) a w = absurd w
     answers (Final sets) Grown a w = absurd w
     answers (Final sets) (Final wide) a w = (
-        let u = ups.1 in let b = below_size in let q = a.0 in omega arith,
-        framed (frame_up G graph r cs z (map pair_of s.ends.items) shrunk cr wz cz m (mem sets.outer) (mem sets.inner) halves.0 (count (size H) m) (subst (λ (r : Set). IsMatching H r m) removed_is below_matching) below_free refl (subst (λ (r : Set). Frame H r (count (size H) m) (mem sets.outer) (mem sets.inner)) removed_is a.1) near_sets halves.1).2,
-        λ v. (λ q. outer_in v (sym (w.0 v) ∙ q), λ q. (a.2 v).1 (sym (ap (λ (x : List ℕ). mem x v) w.1) ∙ q)),
+      let u = ups.1 in let b = below_size in let q = a.0 in omega arith,
+      framed (frame_up G graph r cs z (map pair_of s.ends.items) shrunk cr wz cz m (mem sets.outer) (mem sets.inner) halves.0 (count (size H) m) (subst (λ (r : Set). IsMatching H r m) removed_is below_matching) below_free refl (subst (λ (r : Set). Frame H r (count (size H) m) (mem sets.outer) (mem sets.inner)) removed_is a.1) near_sets halves.1).2,
+      λ v. (λ q. outer_in v (sym (w.0 v) ∙ q), λ q. (a.2 v).1 (sym (ap (λ (x : List ℕ). mem x v) w.1) ∙ q)),
     )
       where
         outer_in : (v : ℕ) → union (mem sets.outer) (mem s.ring.members) v ≡ true → Within n v

@@ -22,12 +22,7 @@ pub struct Best {
 }
 
 /// Makes a maximum matching of G - removed: one edge after the other at first, then by augmentations.
-pub fn find_best(
-    alloc: Global,
-    n: u32,
-    ends: &[Ends],
-    removed: VSet,
-) -> Result<Best, Memory>
+pub fn find_best(alloc: Global, n: u32, ends: &[Ends], removed: VSet) -> Result<Best, Memory>
     requires { IsGraphRow n ends.now }
     ensures { IfOk result (λ b. IsBest (graph_of n ends.now) (mem removed) b) }
 {
@@ -41,12 +36,7 @@ pub fn find_best(
 }
 
 // The marks of a matching that no single edge enlarges: each edge in turn, if both its ends are free.
-fn first_marks(
-    alloc: Global,
-    n: u32,
-    ends: &[Ends],
-    removed: VSet,
-) -> Result<Vec<bool>, Memory>
+fn first_marks(alloc: Global, n: u32, ends: &[Ends], removed: VSet) -> Result<Vec<bool>, Memory>
     requires { IsGraphRow n ends.now }
     ensures long { IfOk result (λ mark. length mark.items ≡ length ends.now + 1) }
     ensures matching { IfOk result (λ mark. IsMatching (graph_of n ends.now) (mem removed) (marks mark.items)) }

@@ -64,9 +64,7 @@ pub fn close(
             Ok(Closing::Augmented)
         }
         Some(meeting) => {
-            let ring = open_ring(
-                alloc, n, ends, removed, forest, gap, p, q, meeting, mark,
-            )?;
+            let ring = open_ring(alloc, n, ends, removed, forest, gap, p, q, meeting, mark)?;
             Ok(Closing::Shrunk(contract(alloc, n, ends, removed, ring)?))
         }
     }
@@ -99,12 +97,7 @@ fn contract(
 }
 
 // The ends with each vertex of the set replaced by z.
-fn shrunk_ends(
-    alloc: Global,
-    ends: &[Ends],
-    set: VSet,
-    z: u32,
-) -> Result<Vec<Ends>, Memory>
+fn shrunk_ends(alloc: Global, ends: &[Ends], set: VSet, z: u32) -> Result<Vec<Ends>, Memory>
     requires ends { AreEnds MOST_VERTICES ends.now }
     ensures length { IfOk result (λ es. length es.items ≡ length ends.now) }
     ensures a { IfOk result (λ es. (k : ℕ) → k < length ends.now → end_a es.items k ≡ shrunk_vertex (mem set) z (end_a ends.now k)) }

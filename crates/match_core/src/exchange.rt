@@ -20,13 +20,7 @@ pub fn exchange(mark: &mut [bool], edges: &[u32], from: usize, pairs: usize)
 }
 
 /// Exchanges the marks along two paths, and marks the edge between their ends.
-pub fn augment(
-    mark: &mut [bool],
-    edges: &[u32],
-    p: PathPlace,
-    q: PathPlace,
-    a: u32,
-)
+pub fn augment(mark: &mut [bool], edges: &[u32], p: PathPlace, q: PathPlace, a: u32)
     requires p_long { p.start + (p.pairs + p.pairs) ≤ length edges.now }
     requires q_long { q.start + (q.pairs + q.pairs) ≤ length edges.now }
     requires p_in { (k : ℕ) → k < p.pairs + p.pairs → slice_index edges.now (p.start + k) < length mark.old }

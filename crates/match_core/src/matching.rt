@@ -118,11 +118,7 @@ fn mark_rows(mark: &mut Vec<bool>, rows: &[MatchRow])
 }
 
 // The rows that meet no vertex of the set.
-fn clear_rows(
-    alloc: Global,
-    rows: &[MatchRow],
-    removed: VSet,
-) -> Result<Vec<MatchRow>, Memory>
+fn clear_rows(alloc: Global, rows: &[MatchRow], removed: VSet) -> Result<Vec<MatchRow>, Memory>
     requires { All (λ row. Within MOST_VERTICES row.a × Within MOST_VERTICES row.b) rows.now }
     ensures { IfOk result (λ kept. kept.items ≡ filter (is_clear (mem removed)) rows.now) }
 {
@@ -136,12 +132,7 @@ fn clear_rows(
 }
 
 /// The matching whose edges are the marked ones.
-pub fn matching_of(
-    alloc: Global,
-    n: u32,
-    ends: &[Ends],
-    mark: &[bool],
-) -> Result<Matching, Memory>
+pub fn matching_of(alloc: Global, n: u32, ends: &[Ends], mark: &[bool]) -> Result<Matching, Memory>
     requires row { IsGraphRow n ends.now }
     requires mark_long { length mark.now ≡ length ends.now + 1 }
     requires matching { IsMatching (graph_of n ends.now) none (marks mark.now) }
@@ -155,12 +146,7 @@ pub fn matching_of(
 }
 
 // The marked edges as rows.
-fn marked_rows(
-    alloc: Global,
-    n: u32,
-    ends: &[Ends],
-    mark: &[bool],
-) -> Result<Vec<MatchRow>, Memory>
+fn marked_rows(alloc: Global, n: u32, ends: &[Ends], mark: &[bool]) -> Result<Vec<MatchRow>, Memory>
     requires row { IsGraphRow n ends.now }
     requires mark_long { length mark.now ≡ length ends.now + 1 }
     ensures { IfOk result (λ rows. rows.items ≡ map (row_at (graph_of n ends.now)) (rising_list (length ends.now) (marks mark.now))) }

@@ -43,8 +43,7 @@ pub fn step(
     requires matching { IsMatching (graph_of n ends.now) (mem removed) (marks mark.old) }
     ensures { IfOk result (λ s. IsStep (graph_of n ends.now) (mem removed) (marks mark.old) (marks mark.new) s) }
 {
-    let Search { forest, closing } =
-        search_forest(alloc, n, ends, removed, mark)?;
+    let Search { forest, closing } = search_forest(alloc, n, ends, removed, mark)?;
     match closing {
         None => Ok(Answer::Final(FinalSets {
             outer: forest.outer,

@@ -33,10 +33,10 @@ loop-k-preserved c = elim c.if-is_addable.branch [
       let size = size_is c.args.n c.args.ends.now in
       let below = c.loop-k-test.true in
       let added = added_edge (graph_of c.args.n c.args.ends.now) (mem c.args.removed) (marks c.loop-k.mark.items) (mem c.loop-k.met) (mem c.if-is_addable.met) (c.loop-k.k + 1) a b
-          c.loop-k.invariant.matching c.loop-k.invariant.free (omega arith) (c.requires.within.a c.loop-k.k c.loop-k-test.true) (c.requires.within.b c.loop-k.k c.loop-k-test.true)
-          (inl (ap (first_end (graph_of c.args.n c.args.ends.now)) (next c.loop-k.k) ∙ sym here.0, ap (second_end (graph_of c.args.n c.args.ends.now)) (next c.loop-k.k) ∙ sym here.1))
-          (λ q. both_ways (a == b) t.0 (eq-eqb a b q)) t.1 t.2
-          (λ v. ap (λ m. mem m v) w.met-is ∙ w.with-met.ensures v ∙ ap (λ s. s || (b == v)) (w.with.ensures v)) in
+      c.loop-k.invariant.matching c.loop-k.invariant.free (omega arith) (c.requires.within.a c.loop-k.k c.loop-k-test.true) (c.requires.within.b c.loop-k.k c.loop-k-test.true)
+      (inl (ap (first_end (graph_of c.args.n c.args.ends.now)) (next c.loop-k.k) ∙ sym here.0, ap (second_end (graph_of c.args.n c.args.ends.now)) (next c.loop-k.k) ∙ sym here.1))
+      (λ q. both_ways (a == b) t.0 (eq-eqb a b q)) t.1 t.2
+      (λ v. ap (λ m. mem m v) w.met-is ∙ w.with-met.ensures v ∙ ap (λ s. s || (b == v)) (w.with.ensures v)) in
       let now : marks c.if-is_addable.mark.items ≡ put (marks c.loop-k.mark.items) (c.loop-k.k + 1) true = fun_ext (λ i. ap (λ m. marks m.items i) w.mark-is ∙ w.mark_place.ensures.each i) in
       record {
         long = ap (λ m. length m.items) w.mark-is ∙ w.mark_place.ensures.length ∙ c.loop-k.invariant.long;

@@ -15,7 +15,7 @@ invariant_of-result c =
     let rows : c.in_ok-marked_rows.field-0.items ≡ map (row_at (graph_of c.args.n c.args.ends.now)) (rising_list (size_of (graph_of c.args.n c.args.ends.now)) (marks c.args.mark.now)) = c.in_ok-marked_rows.ensures ∙ ap (λ k. map (row_at (graph_of c.args.n c.args.ends.now)) (rising_list k (marks c.args.mark.now))) (sym size) in
     let few = c.requires.row.few in
     subst (λ (rows : List MatchRow). KeepsMatching (record { order = c.args.n; rows = rows })) (sym rows)
-        (marked-keeps (graph_of c.args.n c.args.ends.now) (marks c.args.mark.now) (row_graph c.args.n c.args.ends.now c.requires.row.within) c.requires.row.vertices (omega arith) c.requires.matching)
+    (marked-keeps (graph_of c.args.n c.args.ends.now) (marks c.args.mark.now) (row_graph c.args.n c.args.ends.now c.requires.row.within) c.requires.row.vertices (omega arith) c.requires.matching)
 
 pub returns-clause-of : goal.returns-clause-of
 returns-clause-of c =

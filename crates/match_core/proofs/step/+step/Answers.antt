@@ -28,8 +28,7 @@ step-requires t c =
     let long = below_long c.args.n c.args.ends.now c.requires.row (mem c.args.removed) (marks c.args.mark.now) (marks c.close.new.mark) c.in-Shrunk.shrunk con in
     let same = c.close.auto.mark in
     let marked = c.requires.mark_long in
-    let falls = c.decreases in
-    (
+    let falls = c.decreases in (
       first_of (omega arith, search rules),
       (
         subst (IsGraphRow c.args.n) (sym c.deref.ensures.value) con.row,
