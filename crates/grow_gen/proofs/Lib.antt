@@ -1,0 +1,5 @@
+pub mod EdgeSums
+pub mod Rehanging
+pub mod Renumbering
+pub mod ThreeEdges
+pub mod Splicing

@@ -1,0 +1,4 @@
+pub mod Pieces
+pub mod Splices
+pub mod Cubic
+pub mod Growth

@@ -1,0 +1,7 @@
+//! Large matching covered graphs from a number.
+#![tactic(auto)]
+
+mod laws;
+mod pieces;
+
+pub use laws::splice_law;
