@@ -106,6 +106,10 @@ pub each-append : {A : Type 0} (P : A → Type 0) (xs ys : List A) → Each P xs
 each-append P [] ys c d = d
 each-append P (x ∷ xs) ys c d = (c.0, each-append P xs ys c.1 d)
 
+pub each-split : {A : Type 0} (P : A → Type 0) (xs ys : List A) → Each P (xs ++ ys) → Each P xs × Each P ys
+each-split P [] ys c = (tt, c)
+each-split P (x ∷ xs) ys c = let r = each-split P xs ys c.1 in ((c.0, r.0), r.1)
+
 -- the marks of two rows joined
 pub marked-front : (bs cs : List Bool) (e : ℕ) → Within (length bs) e → marked (bs ++ cs) e ≡ marked bs e
 marked-front bs cs e w = get_or_append_left bs cs false (e - 1) (omega arith)

@@ -3,3 +3,5 @@ pub mod Rehanging
 pub mod Renumbering
 pub mod ThreeEdges
 pub mod Splicing
+pub mod Connecting
+pub mod CoveredSplices

@@ -14,7 +14,7 @@ use Rattle.graph_core.proofs.Decide.{degree_congr}
 use Rattle.grow_gen.specs.Cubic.{IsCubic}
 use Rattle.grow_gen.specs.Splices.{is_at, neighbours, new_number, permutation, renumbered_edge, rehung_edges, targets_of, splice}
 use Rattle.grow_gen.proofs.EdgeSums.{Each, sum_edges, sum_edges-append, ends_at, row_where, row_from, marked, marked-front, marked-back, each-append, edge-at, edge-at_place, each-weaker, degree-row, degree-marked, length-row_from, length-row_where, marked-row_from}
-use Rattle.grow_gen.proofs.Rehanging.{IsEdge, IsClear, flags_at, caught, each-rehung, length-rehung_edges, sum_edges-rehung_elsewhere, sum_edges-rehung_there}
+use Rattle.grow_gen.proofs.Rehanging.{IsEdge, IsClear, flags_at, caught, each-rehung, length-rehung_edges, member-first, member-later, sum_edges-rehung_elsewhere, sum_edges-rehung_there}
 use Rattle.grow_gen.proofs.Renumbering.{kept_edges, kept_row, ends_beside, each-beside, each-kept, new_number-same, new_number-where, old_or_new, sum_edges-kept_new, sum_edges-kept_old}
 use Rattle.grow_gen.proofs.ThreeEdges.{true_count, unit, unit-of_one, three-items, three-true, each-edge_of, edges-at, flags-three, flags-perfect, PerfectRow, row-with, row-through}
 
@@ -42,27 +42,47 @@ pub caught-permuted : (x : Set) (f : ℕ → ℕ) (a b c : Bool) (p q r : ℕ) (
 caught-permuted x f a b c p q r = by_permutation (λ i. caught x (permuted i (a ∷ b ∷ c ∷ [])) (permuted_values i f (p ∷ q ∷ r ∷ [])) ≡ caught (λ v. x (f v)) (a ∷ b ∷ c ∷ []) (p ∷ q ∷ r ∷ []))
     (omega arith) (omega arith) (omega arith) (omega arith) (omega arith) (omega arith)
 
+-- a member of a list of three is one of them
+pub mem-three : (t x y z : ℕ) → mem (x ∷ y ∷ z ∷ []) t ≡ true → (t ≡ x) ⊎ ((t ≡ y) ⊎ (t ≡ z))
+mem-three t x y z h = elim (or_cases (x == t) ((y == t) || ((z == t) || false)) h) [
+  | inl k ↦ inl (sym (eqb-true x t k))
+  | inr k ↦ elim (or_cases (y == t) ((z == t) || false) k) [
+    | inl m ↦ inr (inl (sym (eqb-true y t m)))
+    | inr m ↦ elim (or_cases (z == t) false m) [
+      | inl n ↦ inr (inr (sym (eqb-true z t n)))
+      | inr n ↦ absurd (true≢false (sym n))
+    ]
+  ]
+]
+
 -- a permuted list holds what the list holds
 pub mem-permuted : (f : ℕ → ℕ) (p q r t : ℕ) (i : ℕ) → i < 6 → mem (permuted_values i f (p ∷ q ∷ r ∷ [])) t ≡ true → (t ≡ f p) ⊎ ((t ≡ f q) ⊎ (t ≡ f r))
 mem-permuted f p q r t = by_permutation (λ i. mem (permuted_values i f (p ∷ q ∷ r ∷ [])) t ≡ true → (t ≡ f p) ⊎ ((t ≡ f q) ⊎ (t ≡ f r)))
-    (λ h. elim (one_of (f p) (f q) (f r) h) [ inl z ↦ inl z | inr z ↦ elim z [ inl y ↦ inr (inl y) | inr y ↦ inr (inr y) ] ])
-    (λ h. elim (one_of (f p) (f r) (f q) h) [ inl z ↦ inl z | inr z ↦ elim z [ inl y ↦ inr (inr y) | inr y ↦ inr (inl y) ] ])
-    (λ h. elim (one_of (f q) (f p) (f r) h) [ inl z ↦ inr (inl z) | inr z ↦ elim z [ inl y ↦ inl y | inr y ↦ inr (inr y) ] ])
-    (λ h. elim (one_of (f q) (f r) (f p) h) [ inl z ↦ inr (inl z) | inr z ↦ elim z [ inl y ↦ inr (inr y) | inr y ↦ inl y ] ])
-    (λ h. elim (one_of (f r) (f p) (f q) h) [ inl z ↦ inr (inr z) | inr z ↦ elim z [ inl y ↦ inl y | inr y ↦ inr (inl y) ] ])
-    (λ h. elim (one_of (f r) (f q) (f p) h) [ inl z ↦ inr (inr z) | inr z ↦ elim z [ inl y ↦ inr (inl y) | inr y ↦ inl y ] ])
+    (λ h. elim (mem-three t (f p) (f q) (f r) h) [ inl z ↦ inl z | inr z ↦ elim z [ inl y ↦ inr (inl y) | inr y ↦ inr (inr y) ] ])
+    (λ h. elim (mem-three t (f p) (f r) (f q) h) [ inl z ↦ inl z | inr z ↦ elim z [ inl y ↦ inr (inr y) | inr y ↦ inr (inl y) ] ])
+    (λ h. elim (mem-three t (f q) (f p) (f r) h) [ inl z ↦ inr (inl z) | inr z ↦ elim z [ inl y ↦ inl y | inr y ↦ inr (inr y) ] ])
+    (λ h. elim (mem-three t (f q) (f r) (f p) h) [ inl z ↦ inr (inl z) | inr z ↦ elim z [ inl y ↦ inr (inr y) | inr y ↦ inl y ] ])
+    (λ h. elim (mem-three t (f r) (f p) (f q) h) [ inl z ↦ inr (inr z) | inr z ↦ elim z [ inl y ↦ inl y | inr y ↦ inr (inl y) ] ])
+    (λ h. elim (mem-three t (f r) (f q) (f p) h) [ inl z ↦ inr (inr z) | inr z ↦ elim z [ inl y ↦ inr (inl y) | inr y ↦ inl y ] ])
+
+pub permuted-mem : (f : ℕ → ℕ) (p q r : ℕ) (i : ℕ) → i < 6 →
+    (mem (permuted_values i f (p ∷ q ∷ r ∷ [])) (f p) ≡ true) × (mem (permuted_values i f (p ∷ q ∷ r ∷ [])) (f q) ≡ true) × (mem (permuted_values i f (p ∷ q ∷ r ∷ [])) (f r) ≡ true)
+permuted-mem f p q r = by_permutation (λ i. (mem (permuted_values i f (p ∷ q ∷ r ∷ [])) (f p) ≡ true) × (mem (permuted_values i f (p ∷ q ∷ r ∷ [])) (f q) ≡ true) × (mem (permuted_values i f (p ∷ q ∷ r ∷ [])) (f r) ≡ true))
+    (first (f p) (f q) (f r), second (f p) (f q) (f r), third (f p) (f q) (f r))
+    (first (f p) (f r) (f q), third (f p) (f r) (f q), second (f p) (f r) (f q))
+    (second (f q) (f p) (f r), first (f q) (f p) (f r), third (f q) (f p) (f r))
+    (third (f q) (f r) (f p), first (f q) (f r) (f p), second (f q) (f r) (f p))
+    (second (f r) (f p) (f q), third (f r) (f p) (f q), first (f r) (f p) (f q))
+    (third (f r) (f q) (f p), second (f r) (f q) (f p), first (f r) (f q) (f p))
   where
-    one_of : (x y z : ℕ) → mem (x ∷ y ∷ z ∷ []) t ≡ true → (t ≡ x) ⊎ ((t ≡ y) ⊎ (t ≡ z))
-    one_of x y z h = elim (or_cases (x == t) ((y == t) || ((z == t) || false)) h) [
-      | inl k ↦ inl (sym (eqb-true x t k))
-      | inr k ↦ elim (or_cases (y == t) ((z == t) || false) k) [
-        | inl m ↦ inr (inl (sym (eqb-true y t m)))
-        | inr m ↦ elim (or_cases (z == t) false m) [
-          | inl n ↦ inr (inr (sym (eqb-true z t n)))
-          | inr n ↦ absurd (true≢false (sym n))
-        ]
-      ]
-    ]
+    first : (x y z : ℕ) → mem (x ∷ y ∷ z ∷ []) x ≡ true
+    first x y z = member-first x (y ∷ z ∷ [])
+
+    second : (x y z : ℕ) → mem (x ∷ y ∷ z ∷ []) y ≡ true
+    second x y z = member-later y x (y ∷ z ∷ []) (member-first y (z ∷ []))
+
+    third : (x y z : ℕ) → mem (x ∷ y ∷ z ∷ []) z ≡ true
+    third x y z = member-later z x (y ∷ z ∷ []) (member-later z y (z ∷ []) (member-first z []))
 
 -- a permutation keeps how many are true, and each three come from three
 pub true_count-permuted : (a b c : Bool) (i : ℕ) → i < 6 → (x : Bool) × (y : Bool) × (z : Bool) × (permuted i (a ∷ b ∷ c ∷ []) ≡ x ∷ y ∷ z ∷ []) × (true_count (x ∷ y ∷ z ∷ []) ≡ true_count (a ∷ b ∷ c ∷ []))
@@ -78,7 +98,7 @@ pub length-permuted : (f : ℕ → ℕ) (p q r : ℕ) (i : ℕ) → i < 6 → le
 length-permuted f p q r = by_permutation (λ i. length (permuted_values i f (p ∷ q ∷ r ∷ [])) ≡ 3) refl refl refl refl refl refl
 
 module _ (g h : Graph) (w i : ℕ) (mg : IsMultigraph g) (mh : IsMultigraph h) (cg : IsCubic g) (ch : IsCubic h) (two : 2 ≤ h.order) (ww : Within g.order w) (li : i < 6) where
-  one : Within h.order 1
+  pub one : Within h.order 1
   one = (omega arith, omega arith)
 
   -- the new number of a vertex of h
@@ -86,21 +106,21 @@ module _ (g h : Graph) (w i : ℕ) (mg : IsMultigraph g) (mh : IsMultigraph h) (
   new x = new_number g.order w x
 
   -- the three neighbours of vertex 1
-  beside : (p : ℕ) × (q : ℕ) × (r : ℕ) × (neighbours h 1 ≡ p ∷ q ∷ r ∷ [])
+  pub beside : (p : ℕ) × (q : ℕ) × (r : ℕ) × (neighbours h 1 ≡ p ∷ q ∷ r ∷ [])
   beside = three-items (neighbours h 1) (length-map (filter (is_at 1) h.ends) _ ∙ edges-at h mh ch 1 one)
 
   -- a vertex of h but 1
   abbrev pub InRange : ℕ → Type 0
   InRange v = (2 ≤ v) × (v ≤ h.order)
 
-  beside-in_range : InRange beside.0 × InRange beside.1 × InRange beside.2
+  pub beside-in_range : InRange beside.0 × InRange beside.1 × InRange beside.2
   beside-in_range = let e = subst (Each InRange) beside.3 (each-beside h.order h.ends (each-edge_of h mh)) in (e.0, e.1.0, e.1.1.0)
 
   -- the new ends of the three edges at w
   abbrev pub targets : List ℕ
   targets = targets_of g.order w h (permutation i)
 
-  targets-permuted : targets ≡ permuted_values i new (beside.0 ∷ beside.1 ∷ beside.2 ∷ [])
+  pub targets-permuted : targets ≡ permuted_values i new (beside.0 ∷ beside.1 ∷ beside.2 ∷ [])
   targets-permuted = ap (permuted_values i new) beside.3
 
   -- each is the new number of a neighbour
@@ -113,10 +133,10 @@ module _ (g h : Graph) (w i : ℕ) (mg : IsMultigraph g) (mh : IsMultigraph h) (
   new-where : (x : ℕ) → InRange x → Within (g.order + h.order - 2) (new x) × ((new x ≡ w) ⊎ (g.order < new x))
   new-where x r = new_number-where g.order w ww h.order x two r.0 r.1
 
-  targets-three : length targets ≡ 3
+  pub targets-three : length targets ≡ 3
   targets-three = ap length targets-permuted ∙ length-permuted new beside.0 beside.1 beside.2 i li
 
-  target-place : (t : ℕ) → mem targets t ≡ true → Within (g.order + h.order - 2) t × ((t ≡ w) ⊎ (g.order < t))
+  pub target-place : (t : ℕ) → mem targets t ≡ true → Within (g.order + h.order - 2) t × ((t ≡ w) ⊎ (g.order < t))
   target-place t m = let x = target-new t m in subst (λ v. Within (g.order + h.order - 2) v × ((v ≡ w) ⊎ (g.order < v))) (sym x.2) (new-where x.0 x.1)
 
   -- the row of both parts

@@ -1,4 +1,12 @@
+use Rattle.grow_gen.proofs.Splicing.{splice-multigraph, splice-cubic}
+use Rattle.grow_gen.proofs.CoveredSplices.{splice-covered}
 use Rattle.grow_gen.proofs.laws.splice_law.Goals as goal
 
-pub returns : goal.returns
-returns c = ?
+pub returns-clause-multigraph : goal.returns-clause-multigraph
+returns-clause-multigraph c g h w i mg mh cg ch two ww li = splice-multigraph g h w i mg mh cg ch two ww li
+
+pub returns-clause-cubic : goal.returns-clause-cubic
+returns-clause-cubic c g h w i mg mh cg ch two ww li = splice-cubic g h w i mg mh cg ch two ww li
+
+pub returns-clause-covered : goal.returns-clause-covered
+returns-clause-covered c g h w i mg mh cg ch vg vh ww li = splice-covered g h w i mg mh cg ch vg vh ww li
