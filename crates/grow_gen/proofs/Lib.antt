@@ -5,3 +5,4 @@ pub mod ThreeEdges
 pub mod Splicing
 pub mod Connecting
 pub mod CoveredSplices
+pub mod PieceFacts
