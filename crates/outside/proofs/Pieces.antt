@@ -1,0 +1,25 @@
+-- What is written piece by piece is written as one: a piece after a piece is the two joined.
+-- The told case is the associativity of lists, the other computes.
+use Rattle.std.proofs.Common.{◌≡◌, ℕ, ◌+◌, List, [], ◌++◌, take, drop, refl, ap, sym, ◌∙◌, append_assoc}
+use Rattle.std.proofs.lemmas.List.{append-nil}
+use Rattle.std.proofs.Math.Seq.{take-add}
+use Rattle.std.specs.declared.option.Option.{Option}
+use Rattle.std.specs.declared.option.Option.TheVariants.{Some, None}
+use Rattle.outside.specs.Sink.{appended}
+
+pub appended-nil : (told : Option (List ℕ)) → appended told [] ≡ told
+appended-nil None = refl
+appended-nil (Some bytes) = ap Some (append-nil bytes)
+
+pub appended-appended :
+    (told : Option (List ℕ)) (first second : List ℕ) → appended (appended told first) second ≡ appended told (first ++ second)
+appended-appended None first second = refl
+appended-appended (Some bytes) first second = ap Some (append_assoc bytes first second)
+
+-- the next bytes of an output after its first ones are more of its first ones
+pub appended-take :
+    (told : Option (List ℕ)) (output : List ℕ) (done count : ℕ) →
+    appended (appended told (take done output)) (take count (drop done output)) ≡ appended told (take (done + count) output)
+appended-take told output done count =
+    appended-appended told (take done output) (take count (drop done output))
+    ∙ ap (appended told) (sym (take-add done count output))

@@ -1,0 +1,19 @@
+-- Counts of faults and of calls, which never fall and stay at their greatest value.
+use Rattle.std.specs.Prelude.{ℕ, ◌+◌, ◌-◌, ◌^◌, ◌≤◌, ◌==◌, ◌&&◌, min, nat_lt, if◌then◌else◌}
+
+-- a count of faults after one more
+abbrev pub next_fault : ℕ → ℕ
+next_fault faults = min (faults + 1) (2 ^ 64 - 1)
+
+-- the count of faults after a write that took so many bytes of a piece of that size: one more where none was taken
+-- and the piece is not empty
+abbrev pub faults_after : ℕ → ℕ → ℕ → ℕ
+faults_after faults count size = if count == 0 && nat_lt 0 size then next_fault faults else faults
+
+-- a count of calls after one more: the number of that call, counted from 1
+abbrev pub next_call : ℕ → ℕ
+next_call calls = min (calls + 1) (2 ^ 32 - 1)
+
+-- the count of faults is greater now than before, or stands at the greatest u64
+abbrev pub Rose : ℕ → ℕ → Type 0
+Rose before now = next_fault before ≤ now

@@ -1,0 +1,28 @@
+-- What a shelf tells of its files.
+use Rattle.std.specs.Prelude.{◌≡◌, ℕ, ◌<◌, List, [], ◌∷◌, length, if◌then◌else◌}
+use Rattle.std.specs.declared.option.Option.{Option}
+use Rattle.std.specs.declared.option.Option.TheVariants.{Some, None}
+use Rattle.std.specs.Str.{bytes_eq}
+
+-- a file: its name and its bytes
+abbrev pub Named : Type 0
+Named = List ℕ × List ℕ
+
+-- the bytes of the first file of that name; none where the name is not held
+abbrev pub file_named : List ℕ → List Named → Option (List ℕ)
+file_named name [] = None
+file_named name (file ∷ files) = if bytes_eq file.0 name then Some file.1 else file_named name files
+
+-- the name is held, and its file has more bytes than the limit
+abbrev pub HoldsLonger : List Named → List ℕ → ℕ → Type 0
+HoldsLonger files name limit = (bytes : List ℕ) × (file_named name files ≡ Some bytes) × (limit < length bytes)
+
+-- where the files are told, this is the file of that name, or none
+abbrev pub TellsFile : Option (List Named) → List ℕ → Option (List ℕ) → Type 0
+TellsFile None name file = Unit {0}
+TellsFile (Some files) name file = file_named name files ≡ file
+
+-- where the files are told, the one of that name is longer than the limit; where not, more bytes than it were taken
+abbrev pub IsLonger : Option (List Named) → List ℕ → ℕ → ℕ → Type 0
+IsLonger None name limit taken = limit < taken
+IsLonger (Some files) name limit taken = HoldsLonger files name limit

@@ -1,0 +1,8 @@
+-- The files that a shelf in memory keeps.
+use Rattle.std.specs.Prelude.{List, map, string_bytes}
+use Rattle.outside.specs.declared.mem_shelf.StoredFile.{StoredFile}
+use Rattle.outside.specs.Shelf.{Named}
+
+-- each file as its name and its bytes
+abbrev pub named_files : List StoredFile → List Named
+named_files files = map (λ file. (string_bytes file.name, file.bytes.items)) files

@@ -1,0 +1,53 @@
+// A sink that counts bytes and keeps none.
+ghost use Rattle.std.specs.Prelude.{◌≡◌, ◌+◌, ◌-◌, ◌^◌, Ok, length, min};
+ghost use Rattle.std.specs.declared.option.Option.TheVariants.{None};
+
+use crate::{Sink, SinkFailed};
+use std::marker::Model;
+
+/// A sink that counts bytes and keeps none: it takes every piece whole, never fails, and tells no content.
+///
+/// A contract sees it as the number of bytes written, which stays at the greatest u64 once it is there. No call takes
+/// memory.
+#[derive(Drop)]
+pub struct CountSink {
+    count: u64,
+}
+
+impl Model for CountSink {
+    ghost use Rattle.std.specs.Prelude.{ℕ};
+
+    ghost Value = { ℕ };
+
+    ghost view = { λ sink. sink.count };
+}
+
+impl CountSink {
+    /// A sink to which nothing was written.
+    pub fn new() -> CountSink
+        ensures { result ≡ 0 }
+    {
+        CountSink { count: 0 }
+    }
+
+    /// How many bytes were written, at most the greatest u64.
+    pub fn count(&self) -> u64
+        ensures { result ≡ self.now }
+    {
+        self.count
+    }
+}
+
+impl Sink for CountSink {
+    ghost written = { λ sink. None };
+
+    ghost faults = { λ sink. 0 };
+
+    fn write(&mut self, bytes: &[u8]) -> Result<usize, SinkFailed>
+        ensures whole { result ≡ Ok (length bytes.now) }
+        ensures count { self.new ≡ min (self.old + length bytes.now) (2 ^ 64 - 1) }
+    {
+        self.count = self.count.saturating_add(bytes.len() as u64);
+        Ok(bytes.len())
+    }
+}

@@ -1,0 +1,101 @@
+// A shelf of the files that a runtime reaches by name.
+ghost use Rattle.std.specs.Prelude.{◌≡◌, ◌≤◌, ◌<◌, ◌-◌, ◌+◌, ◌^◌, ◌⊎◌, length, false, IfOk, IsErrOf};
+ghost use Rattle.std.specs.declared.option.Option.TheVariants.{None};
+ghost use Rattle.std.proofs.Common.{rules};
+ghost use Rattle.outside.specs.Faults.{next_fault};
+
+use crate::{Shelf, ShelfFault};
+use std::alloc::Global;
+use std::fs;
+use std::io::Read;
+use std::marker::Model;
+use std::rt::Files;
+
+// how many bytes one turn of a read asks for
+const PIECE: usize = 4096;
+
+/// A shelf of the files that a runtime reaches by name: the trusted edge, which tells nothing of content and is never
+/// steady.
+///
+/// A contract sees it as an `OpenState`: the bytes that the last read took, and the count of faults, which stays at
+/// the greatest u64 once it is there.
+#[derive(Drop)]
+pub struct DirShelf<'a, R: Files> {
+    runtime: &'a R,
+    taken: usize,
+    faults: u64,
+}
+
+impl<'a, R: Files> Model for DirShelf<'a, R> {
+    ghost use Rattle.outside.specs.DirShelf.{OpenState};
+
+    ghost Value = { OpenState };
+
+    ghost view = { λ shelf. record { taken = shelf.taken; faults = shelf.faults } };
+}
+
+impl<'a, R: Files> DirShelf<'a, R> {
+    /// The shelf of that runtime's files. It takes no memory.
+    pub fn new(runtime: &'a R) -> DirShelf<'a, R>
+        ensures { result ≡ record { taken = 0; faults = 0 } }
+    {
+        DirShelf {
+            runtime,
+            taken: 0,
+            faults: 0,
+        }
+    }
+}
+
+impl<R: Files> Shelf for DirShelf<'_, R> {
+    ghost files = { λ shelf. None };
+
+    ghost taken = { λ shelf. shelf.taken };
+
+    ghost faults = { λ shelf. shelf.faults };
+
+    ghost steady = { λ shelf. false };
+
+    ghost steady_tells = { λ shelf is. Prim.search rules };
+
+    /// Each turn takes at least one byte or ends the read, which ends at `limit + 1` bytes at the latest. An error of
+    /// the runtime, at the opening or at any turn, is `Failed`.
+    fn read(&mut self, alloc: Global, name: &str, limit: usize) -> Result<Vec<u8>, ShelfFault>
+        requires { limit < 2 ^ 64 - 1 }
+
+        ensures within { IfOk result (λ bytes. length bytes.items ≤ limit) }
+        ensures taken { IfOk result (λ bytes. length bytes.items ≡ self.new.taken) }
+        ensures too_long { IsErrOf result ShelfFault.TooLong → self.new.taken ≡ limit + 1 }
+        ensures ends { self.new.taken ≤ limit + 1 }
+
+        // The count of faults goes up exactly where the call fails.
+        ensures later { self.old.faults ≤ self.new.faults }
+        ensures rises { IsErrOf result ShelfFault.Failed → self.new.faults ≡ next_fault self.old.faults }
+        ensures stays { IsErrOf result ShelfFault.Failed ⊎ (self.new.faults ≡ self.old.faults) }
+    {
+        self.taken = 0;
+        let Ok(mut file) = fs::open(self.runtime, name) else {
+            self.faults = self.faults.saturating_add(1);
+            return Err(ShelfFault::Failed);
+        };
+        let mut piece = [0u8; PIECE];
+        let mut bytes = Vec::new(alloc);
+        'reading: while bytes.len() <= limit {
+            let room = PIECE.min(limit + 1 - bytes.len());
+            match file.read(&mut piece[..room]) {
+                Err(_) => {
+                    self.faults = self.faults.saturating_add(1);
+                    return Err(ShelfFault::Failed);
+                }
+                Ok(0) => return Ok(bytes),
+                Ok(count) => {
+                    self.taken += count;
+                    bytes
+                        .extend_from_slice(&piece[..count])
+                        .map_err(|_| ShelfFault::Memory)?;
+                }
+            }
+        }
+        Err(ShelfFault::TooLong)
+    }
+}

@@ -1,0 +1,45 @@
+// A place that takes the bytes of an output piece by piece.
+ghost use Rattle.std.specs.Prelude.{◌≡◌, ◌≤◌, ◌<◌, ℕ, List, IfOk, OnErr, length, take};
+ghost use Rattle.std.specs.declared.option.Option.{Option};
+ghost use Rattle.outside.specs.Faults.{Rose};
+ghost use Rattle.outside.specs.Sink.{appended};
+
+use std::error::Error;
+use std::fmt;
+
+/// A write that failed: none of its bytes counts as written.
+#[derive(Clone, Copy, Debug, PartialEq, Eq)]
+pub struct SinkFailed;
+
+impl fmt::Display for SinkFailed {
+    fn fmt<W: fmt::Write>(&self, f: &mut fmt::Formatter<W>) -> fmt::Result {
+        write!(f, "the bytes could not be written")
+    }
+}
+
+impl Error for SinkFailed {}
+
+/// A place that takes the bytes of an output piece by piece.
+///
+/// As POSIX's `write`, it may take a part of a piece. A caller writes the rest again, until nothing is left, until
+/// `SinkFailed`, or until nothing is taken of a rest that is not empty: the last two are faults, and are counted.
+pub trait Sink {
+    /// The bytes written so far, where the sink tells them.
+    ghost written: { Self → Option (List ℕ) };
+
+    /// The count of writes that failed or took nothing of a piece that is not empty; it never falls.
+    ghost faults: { Self → ℕ };
+
+    /// Appends the first bytes of the piece, and answers how many.
+    ///
+    /// `SinkFailed`, and 0 for a piece that is not empty, come only where the count of faults rose in this call. After
+    /// `SinkFailed` what was written is as before.
+    fn write(&mut self, bytes: &[u8]) -> Result<usize, SinkFailed>
+        ensures within { IfOk result (λ count. count ≤ length bytes.now) }
+        ensures written { IfOk result (λ count. written self.new ≡ appended (written self.old) (take count bytes.now)) }
+        ensures unwritten { OnErr result (written self.new ≡ written self.old) }
+
+        ensures later { faults self.old ≤ faults self.new }
+        ensures failed { OnErr result (Rose (faults self.old) (faults self.new)) }
+        ensures stuck { IfOk result (λ count. count ≡ 0 → 0 < length bytes.now → Rose (faults self.old) (faults self.new)) };
+}

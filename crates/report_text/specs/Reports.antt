@@ -1,0 +1,28 @@
+-- The bytes of each report as a function of the values that it tells.
+use Rattle.std.specs.Prelude.{ℕ, List, ◌++◌, Bool, if◌then◌else◌, codes}
+use Rattle.std.specs.Fmt.{decimal}
+use Rattle.report_text.specs.declared.analyses.AnalysisLines.{AnalysisLines}
+
+-- `yes` or `no`
+abbrev pub yes_or_no : Bool → List ℕ
+yes_or_no holds = if holds then codes "yes" else codes "no"
+
+-- the line with the number of vertices and of edges
+abbrev pub graph_line : ℕ → ℕ → List ℕ
+graph_line order size = codes "graph " ++ decimal order ++ codes " " ++ decimal size ++ codes "\n"
+
+-- the line with the number of components
+abbrev pub components_line : ℕ → List ℕ
+components_line count = codes "components " ++ decimal count ++ codes "\n"
+
+-- the line that tells whether the graph is bipartite
+abbrev pub bipartite_line : Bool → List ℕ
+bipartite_line holds = codes "bipartite " ++ yes_or_no holds ++ codes "\n"
+
+-- the report of `analyse`
+unfoldable pub analysis_text : AnalysisLines → List ℕ
+analysis_text lines = (graph_line lines.order lines.size ++ components_line lines.components) ++ bipartite_line lines.bipartite
+
+-- the report of a file that is outside its format: its place among the named files, the line and the kind of the fault
+unfoldable pub bad_input_text : (file line kind : ℕ) → List ℕ
+bad_input_text file line kind = codes "file " ++ decimal file ++ codes " line " ++ decimal line ++ codes " kind " ++ decimal kind ++ codes "\n"

@@ -1,0 +1,56 @@
+//! The report of `analyse`.
+ghost use Rattle.std.specs.Prelude.{◌≡◌, ◌++◌, codes, OnOk, IfOk, string_bytes};
+ghost use Rattle.report_text.specs.Reports.{analysis_text, graph_line, components_line, bipartite_line, yes_or_no};
+
+use std::alloc::{AllocError as Memory, Global};
+
+/// What `analyse` tells of a graph.
+#[derive(Drop)]
+pub struct AnalysisLines {
+    /// The number of vertices.
+    pub order: u32,
+    /// The number of edges.
+    pub size: u32,
+    /// The number of components.
+    pub components: u32,
+    /// Whether some vertex set has all edges in its cut.
+    pub bipartite: bool,
+}
+
+// `yes` or `no`
+fn yes_or_no_text(holds: bool) -> &'static str
+    ensures { result.now ≡ yes_or_no holds }
+{
+    if holds { "yes" } else { "no" }
+}
+
+fn push_graph(text: &mut String, order: u32, size: u32) -> Result<(), Memory>
+    ensures { OnOk result (string_bytes text.new ≡ string_bytes text.old ++ graph_line order size) }
+{
+    write!(text, "graph {order} {size}\n")
+}
+
+fn push_components(text: &mut String, count: u32) -> Result<(), Memory>
+    ensures { OnOk result (string_bytes text.new ≡ string_bytes text.old ++ components_line count) }
+{
+    write!(text, "components {count}\n")
+}
+
+fn push_bipartite(text: &mut String, holds: bool) -> Result<(), Memory>
+    ensures { OnOk result (string_bytes text.new ≡ string_bytes text.old ++ bipartite_line holds) }
+{
+    let answer = yes_or_no_text(holds);
+    write!(text, "bipartite {answer}\n")
+}
+
+/// Writes the lines of `analyse`.
+#[tactic(auto, unfolding(crate::specs::Reports::analysis_text))]
+pub fn analysis(alloc: Global, lines: &AnalysisLines) -> Result<Vec<u8>, Memory>
+    ensures { IfOk result (λ text. text.items ≡ analysis_text lines.now) }
+{
+    let mut text = String::new(alloc);
+    push_graph(&mut text, lines.order, lines.size)?;
+    push_components(&mut text, lines.components)?;
+    push_bipartite(&mut text, lines.bipartite)?;
+    Ok(text.into_bytes())
+}
