@@ -3,5 +3,7 @@ pub mod Counts
 pub mod Lists
 pub mod Odd
 pub mod Pairs
+pub mod RisingLists
+pub mod SetSizes
 pub mod Tests
 pub mod Totals

@@ -1,5 +1,5 @@
 -- Sets as rising lists of numbers, and lists of pairs in lexicographic order.
-use Rattle.std.specs.Prelude.{◌≡◌, ℕ, zero, suc, ◌-◌, Bool, true, false, List, [], ◌∷◌, ◌++◌, ◌==◌, ◌&&◌, ◌||◌, cond, map, flat_map, slice_index_or, nat_lt, All}
+use Rattle.std.specs.Prelude.{◌≡◌, ℕ, zero, suc, ◌-◌, ◌<◌, Bool, true, false, List, [], ◌∷◌, ◌++◌, ◌==◌, ◌&&◌, ◌||◌, cond, map, flat_map, slice_index_or, nat_lt, All}
 use Rattle.std.specs.List.Sorted.{IsStrictlyIncreasing}
 use Rattle.counting.specs.Counts.{Within}
 use Rattle.counting.specs.Sets.{Set, minus, everything}
@@ -43,6 +43,22 @@ abbrev pub last_of : List ℕ → ℕ
 last_of [] = 0
 last_of (x ∷ []) = x
 last_of (x ∷ y ∷ xs) = last_of (y ∷ xs)
+
+-- v is the least number of the list
+pub record IsLeastOf (xs : List ℕ) (v : ℕ) : Type 0 where
+  pub member : mem xs v ≡ true
+  pub before : (w : ℕ) → w < v → mem xs w ≡ false
+
+-- v is the greatest number of the list
+pub record IsGreatestOf (xs : List ℕ) (v : ℕ) : Type 0 where
+  pub member : mem xs v ≡ true
+  pub after : (w : ℕ) → v < w → mem xs w ≡ false
+
+-- v is the least number of the list above a
+pub record IsNextAfter (xs : List ℕ) (a v : ℕ) : Type 0 where
+  pub member : mem xs v ≡ true
+  pub above : a < v
+  pub between : (w : ℕ) → a < w → w < v → mem xs w ≡ false
 
 -- item i of a list of lists, counted from 1
 abbrev pub item : {A : Type 0} → List (List A) → ℕ → List A

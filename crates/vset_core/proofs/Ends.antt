@@ -1,0 +1,132 @@
+-- The least and the greatest member, and the least above a number, by the places of ones in the word: a one with zeros before it,
+-- a one with nothing above it, and the lowest one after a shift. The word of all numbers 1 to n has ones below n.
+use Rattle.std.proofs.Common.{◌≡◌, ℕ, zero, suc, ◌+◌, ◌-◌, ◌*◌, ◌/◌, ◌%◌, ◌^◌, ◌≤◌, ◌<◌, List, [], ◌↔◌, refl, sym, ◌∙◌, ap, arith, true, false, subst, inl, inr}
+use Rattle.std.specs.Int.{bit_at, w128, trailing_zeros}
+use Rattle.std.specs.Int.Count.{count_leading_zeros}
+use Rattle.std.proofs.lemmas.Bool.{cases_lt}
+use Rattle.std.proofs.lemmas.Nat.{leading_top, mod_below, pow_below, pow_pos, shr-shr, shr_le, shr_split}
+use Rattle.std.proofs.lemmas.Nat.Bits.{bit_at-trailing_zeros, bit_at_above, bit_at_cat_high, bit_at_ones, bit_at_ones_above, ones_shr}
+use Rattle.counting.proofs.RisingLists.{mem-all, mem-outside, mem-rising_list, rising_list-rises, same_rising_list, set-wider}
+use Rattle.counting.specs.Counts.{Within}
+use Rattle.counting.specs.Lists.{IsGreatestOf, IsLeastOf, IsNextAfter, mem, rising_list}
+use Rattle.counting.specs.Sets.{everything}
+use Rattle.vset_core.specs.Words.{in_word, members}
+use Rattle.vset_core.specs.WordLaws.{members-rise, mem-members}
+use Rattle.vset_core.proofs.Words.{members-zero, seen}
+
+-- a bit that is 0 is no member
+no_bit : (word v : ℕ) → ((i : ℕ) → v ≡ suc i → bit_at word i ≡ 0) → in_word word v ≡ false
+no_bit word zero h = refl
+no_bit word (suc i) h = rw (h i refl) refl
+
+-- a one is a member
+one_bit : (word i : ℕ) → bit_at word i ≡ 1 → in_word word (i + 1) ≡ true
+one_bit word i h = let e : i + 1 ≡ suc i = omega arith in rw (e, h) refl
+
+-- the empty set, by its word
+pub empty_word : (word : ℕ) (set : List ℕ) → members word ≡ set → word ≡ 0 → set ≡ []
+empty_word word set is e = sym is ∙ ap members e ∙ members-zero
+
+-- the lowest one
+pub least_bit : (word : ℕ) (set : List ℕ) → members word ≡ set → word < 2 ^ 128 → 0 < word → IsLeastOf set (trailing_zeros w128 word + 1) × Within 128 (trailing_zeros w128 word + 1)
+least_bit word set is fits some =
+    let low = bit_at-trailing_zeros w128 word some fits in (
+      record {
+        member = seen word set is fits (trailing_zeros w128 word + 1) ∙ one_bit word (trailing_zeros w128 word) low.1;
+        before = λ w l. seen word set is fits w ∙ no_bit word w (λ i e. low.2 i (omega arith));
+      },
+      (omega arith, let b = low.0 in omega arith),
+    )
+
+-- the lowest one above v
+pub next_bit : (word : ℕ) (set : List ℕ) (v : ℕ) → members word ≡ set → word < 2 ^ 128 → v < 128 → 0 < word / 2 ^ v → IsNextAfter set v (v + trailing_zeros w128 (word / 2 ^ v) + 1) × Within 128 (v + trailing_zeros w128 (word / 2 ^ v) + 1)
+next_bit word set v is fits inside some =
+    let low = bit_at-trailing_zeros w128 (word / 2 ^ v) some shifted_fits in (
+      record {
+        member = seen word set is fits (v + trailing_zeros w128 (word / 2 ^ v) + 1) ∙ one_bit word (v + trailing_zeros w128 (word / 2 ^ v)) (sym (moved (trailing_zeros w128 (word / 2 ^ v))) ∙ low.1);
+        above = omega arith;
+        between = λ w a l. seen word set is fits w ∙ no_bit word w (λ i e. before i (omega arith) (low.2 (i - v) (omega arith)));
+      },
+      (omega arith, fit (trailing_zeros w128 (word / 2 ^ v)) low.1),
+    )
+  where
+    shifted_fits : word / 2 ^ v < 2 ^ 128
+    shifted_fits = let l = shr_le word v in omega arith
+
+    moved : (i : ℕ) → bit_at (word / 2 ^ v) i ≡ bit_at word (v + i)
+    moved i = ap (λ k. k % 2) (shr-shr word v i)
+
+    before : (i : ℕ) → v ≤ i → bit_at (word / 2 ^ v) (i - v) ≡ 0 → bit_at word i ≡ 0
+    before i l e = let s : v + (i - v) ≡ i = omega arith in subst (λ k. bit_at word k ≡ 0) s (sym (moved (i - v)) ∙ e)
+
+    fit : (k : ℕ) → bit_at (word / 2 ^ v) k ≡ 1 → v + k + 1 ≤ 128
+    fit k e = elim (cases_lt (v + k) 128) [
+      | inl l ↦ omega arith
+      | inr g ↦ let z = bit_at_above word 128 (v + k) fits g in let m = moved k in absurd (omega arith)
+    ]
+
+-- no one above v
+pub no_bit_above : (word : ℕ) (set : List ℕ) (v : ℕ) → members word ≡ set → word < 2 ^ 128 → word / 2 ^ v ≡ 0 → (w : ℕ) → v < w → mem set w ≡ false
+no_bit_above word set v is fits none w l = seen word set is fits w ∙ no_bit word w (λ i e. bit_at_above word v i below (omega arith))
+  where
+    below : word < 2 ^ v
+    below = let whole = shr_split word v in let b = mod_below word (2 ^ v) (pow_pos v) in let z : word / 2 ^ v * 2 ^ v ≡ 0 = rw none (omega arith) in omega arith
+
+-- the highest one
+pub greatest_bit : (word : ℕ) (set : List ℕ) → members word ≡ set → word < 2 ^ 128 → 0 < word → IsGreatestOf set (128 - count_leading_zeros 128 word) × Within 128 (128 - count_leading_zeros 128 word)
+greatest_bit word set is fits some =
+    let top = leading_top 128 word some fits in
+    let j = top.0 in
+    let e : 128 - count_leading_zeros 128 word ≡ j + 1 = let t = top.1 in omega arith in
+    subst (λ k. IsGreatestOf set k × Within 128 k) (sym e) (
+      record {
+        member = seen word set is fits (j + 1) ∙ one_bit word j (highest j top.2 top.3);
+        after = λ w l. seen word set is fits w ∙ no_bit word w (λ i q. bit_at_above word (suc j) i top.3 (omega arith));
+      },
+      (omega arith, let t = top.1 in omega arith),
+    )
+  where
+    highest : (j : ℕ) → 2 ^ j ≤ word → word < 2 ^ suc j → bit_at word j ≡ 1
+    highest j l g =
+        let double : 2 ^ suc j ≡ 2 * 2 ^ j = omega arith in
+        let whole : 1 * 2 ^ j + (word - 2 ^ j) ≡ word = omega arith in
+        let z : j - j ≡ 0 = omega arith in
+        ap (λ w. bit_at w j) (sym whole) ∙ bit_at_cat_high 1 j (word - 2 ^ j) j (omega arith) (omega arith) ∙ rw z refl
+
+pow_le : (n m : ℕ) → n ≤ m → 2 ^ n ≤ 2 ^ m
+pow_le n m l = elim (cases_lt n m) [
+  | inl h ↦ let p = pow_below n m h in omega arith
+  | inr h ↦ let e : n ≡ m = omega arith in rw e (omega arith)
+]
+
+-- the word of n ones
+pub all_bits : (n : ℕ) → n ≤ 128 → members ((2 ^ 128 - 1) / 2 ^ (128 - n)) ≡ rising_list n everything
+all_bits n l = ap members (ones_shr 128 (128 - n) (omega arith) ∙ ap (λ k. 2 ^ k - 1) back) ∙ same_rising_list 128 (members (2 ^ n - 1)) (rising_list n everything) (members-rise (2 ^ n - 1)) (set-wider n 128 (rising_list n everything) l (rising_list-rises n everything)) (λ v w. mem-members (2 ^ n - 1) v fits ∙ same v w)
+  where
+    back : 128 - (128 - n) ≡ n
+    back = omega arith
+
+    fits : 2 ^ n - 1 < 2 ^ 128
+    fits = let p : 2 ^ n ≤ 2 ^ 128 = pow_le n 128 l in let q = pow_pos n in omega arith
+
+    same : (v : ℕ) → Within 128 v → in_word (2 ^ n - 1) v ≡ mem (rising_list n everything) v
+    same zero w = absurd (omega arith)
+    same (suc i) w = elim (cases_lt i n) [
+      | inl h ↦ rw (bit_at_ones n i h) (sym (mem-rising_list n everything (suc i) (omega arith)))
+      | inr h ↦ rw (bit_at_ones_above n i h) (sym (mem-outside n (rising_list n everything) (rising_list-rises n everything) (suc i) (λ u. absurd (omega arith))))
+    ]
+
+-- has just the numbers 1 to n
+pub mem-all_bits : (n : ℕ) → n ≤ 128 → (v : ℕ) → (mem (members ((2 ^ 128 - 1) / 2 ^ (128 - n))) v ≡ true) ↔ Within n v
+mem-all_bits n l v = subst (λ xs. (mem xs v ≡ true) ↔ Within n v) (sym (all_bits n l)) (mem-all n v)
+
+-- the empty word has just the numbers 1 to 0
+pub no_bits : (n : ℕ) → n ≡ 0 → members 0 ≡ rising_list n everything
+no_bits n e = members-zero ∙ ap (λ k. rising_list k everything) (sym e)
+
+pub mem-no_bits : (n : ℕ) → n ≡ 0 → (v : ℕ) → (mem (members 0) v ≡ true) ↔ Within n v
+mem-no_bits n e v = subst (λ xs. (mem xs v ≡ true) ↔ Within n v) (sym (no_bits n e)) (mem-all n v)
+
+-- a shift by all bits leaves nothing
+pub shifted_out : (word v : ℕ) → word < 2 ^ 128 → v ≡ 128 → word / 2 ^ v ≡ 0
+shifted_out word v fits e = rw e (omega arith)

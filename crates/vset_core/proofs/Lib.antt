@@ -1,0 +1,3 @@
+pub mod Ends
+pub mod Sizes
+pub mod Words

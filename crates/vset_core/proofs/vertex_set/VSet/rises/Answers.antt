@@ -1,0 +1,7 @@
+use Rattle.std.proofs.Common.{subst}
+use Rattle.counting.specs.Lists.{IsRisingIn}
+use Rattle.vset_core.specs.WordLaws.{members-rise}
+use Rattle.vset_core.proofs.vertex_set.VSet.rises.Goals as goal
+
+pub returns : goal.returns
+returns c = subst (λ xs. IsRisingIn 128 xs) c.self.view_is (members-rise c.self.inside.word)

@@ -1,0 +1,8 @@
+-- The fields of a set come back from its members.
+use Rattle.std.proofs.Common.{◌≡◌, ℕ, ◌<◌, ◌^◌, ap}
+use Rattle.vset_core.specs.Words.{members, word_of_list}
+use Rattle.vset_core.specs.WordLaws.{word_of_list-members}
+use Rattle.vset_core.specs.declared.vertex_set.VSet.TheInside.{Inside}
+
+pub word-members : (set : Inside) → set.word < 2 ^ 128 → record { word = word_of_list (members set.word) } ≡ set
+word-members set fits = ap (λ (w : ℕ). record { word = w }) (word_of_list-members set.word fits)

@@ -1,0 +1,43 @@
+//! Iteration over a set.
+ghost use Rattle.std.specs.Prelude.{◌≡◌};
+ghost use Rattle.std.specs.Iterator.{YieldsFirst, item_count};
+
+use crate::VSet;
+use std::marker::Model;
+
+/// The members of a set that are still to come, in rising order. Contracts see it as their list.
+#[derive(Drop)]
+pub struct Members {
+    rest: VSet,
+}
+
+impl Model for Members {
+    ghost use Rattle.std.specs.Prelude.{List, ℕ};
+
+    ghost Value = { List ℕ };
+
+    ghost view = { λ s. s.rest };
+}
+
+impl VSet {
+    /// The members in rising order.
+    pub fn iter(self) -> Members
+        ensures { result ≡ self }
+    {
+        Members { rest: self }
+    }
+}
+
+impl Iterator for Members {
+    type Item = u32;
+
+    ghost next_gives = { YieldsFirst (λ s. s) };
+
+    ghost remaining = { item_count (λ s. s) };
+
+    fn next(&mut self) -> Option<u32> {
+        let (v, others) = self.rest.split_first()?;
+        self.rest = others;
+        Some(v)
+    }
+}
