@@ -6,3 +6,4 @@ pub mod Splicing
 pub mod Connecting
 pub mod CoveredSplices
 pub mod PieceFacts
+pub mod SoundGrowth

@@ -34,7 +34,7 @@ gains n w p opposite = if is_bipartite_piece p
 
 -- a class without w and with what it gains
 abbrev pub next_class : ℕ → ℕ → Piece → List ℕ → Bool → List ℕ
-next_class n w p class opposite = rising_list (n + piece_order p) (λ v. (mem class v && not (v == w)) || mem (gains n w p opposite) v)
+next_class n w p class opposite = rising_list (n + piece_order p - 2) (λ v. (mem class v && not (v == w)) || mem (gains n w p opposite) v)
 
 -- one more piece by its two draws: the first picks the vertex w where it is spliced, the second the permutation; the
 -- vertices opposite to vertex 1 get the class of w, the others the other class
