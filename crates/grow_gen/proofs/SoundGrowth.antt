@@ -14,10 +14,10 @@ use Rattle.graph_core.specs.Graph.{Graph, size, IsMultigraph}
 use Rattle.graph_core.specs.Covered.{IsCovered}
 use Rattle.grow_gen.specs.declared.pieces.Piece.{Piece}
 use Rattle.grow_gen.specs.declared.pieces.Piece.TheVariants.{K33, K4, Prism, Cube}
-use Rattle.grow_gen.specs.Pieces.{piece_order, piece_ends, piece_graph, is_bipartite_piece, opposite_side, further_piece}
+use Rattle.grow_gen.specs.Pieces.{piece_order, piece_ends, piece_graph, is_bipartite_piece, side, further_piece}
 use Rattle.grow_gen.specs.Cubic.{IsCubic}
 use Rattle.grow_gen.specs.Splices.{is_at, new_number, permutation, splice, renumbered_edge, rehung_edges, targets_of}
-use Rattle.grow_gen.specs.Growth.{Growth, first_growth, eligible, gains, next_class, with_piece}
+use Rattle.grow_gen.specs.Growth.{Growth, first_growth, eligible, next_class, with_piece}
 use Rattle.grow_gen.proofs.Rehanging.{length-rehung_edges}
 use Rattle.grow_gen.proofs.PieceFacts.{piece-multigraph, piece-cubic, piece-covered, piece-two}
 use Rattle.grow_gen.proofs.Splicing.{splice-multigraph, splice-cubic}
@@ -68,8 +68,8 @@ bipartite_next i h = go (i % 4) refl (mod_below i 4 (omega arith)) h
     go (suc (suc (suc (suc r)))) e l k = absurd (omega arith)
 
 -- what passes is in the next class
-next-member : (n w : ℕ) (p : Piece) (class : List ℕ) (opposite : Bool) (v : ℕ) → Within (n + piece_order p - 2) v → mem (gains n w p opposite) v ≡ true → mem (next_class n w p class opposite) v ≡ true
-next-member n w p class opposite v u m = rising_holds (n + piece_order p - 2) _ v u (or_right (mem class v && not (v == w)) (mem (gains n w p opposite) v) m)
+next-member : (n w : ℕ) (p : Piece) (class : List ℕ) (opposite : Bool) (v : ℕ) → Within (n + piece_order p - 2) v → mem (map (new_number n w) (side p opposite)) v ≡ true → mem (next_class n w p class opposite) v ≡ true
+next-member n w p class opposite v u m = rising_holds (n + piece_order p - 2) _ v u (or_right (mem class v && not (w == v)) (mem (map (new_number n w) (side p opposite)) v) m)
 
 is_first : (a : ℕ) (b : Bool) → (a == a || b) ≡ true
 is_first a b = or_left (a == a) b (eq-eqb a a refl)
@@ -78,7 +78,7 @@ is_second : (x a : ℕ) (b : Bool) → (x == a || (a == a || b)) ≡ true
 is_second x a b = or_right (x == a) (a == a || b) (is_first a b)
 
 -- a bipartite piece brings at least two vertices into each class
-two_gains : (n w : ℕ) → Within n w → (p : Piece) (opposite : Bool) → is_bipartite_piece p ≡ true → (a : ℕ) × (b : ℕ) × (a ≢ b) × (Within (n + piece_order p - 2) a × (mem (gains n w p opposite) a ≡ true)) × (Within (n + piece_order p - 2) b × (mem (gains n w p opposite) b ≡ true))
+two_gains : (n w : ℕ) → Within n w → (p : Piece) (opposite : Bool) → is_bipartite_piece p ≡ true → (a : ℕ) × (b : ℕ) × (a ≢ b) × (Within (n + piece_order p - 2) a × (mem (map (new_number n w) (side p opposite)) a ≡ true)) × (Within (n + piece_order p - 2) b × (mem (map (new_number n w) (side p opposite)) b ≡ true))
 two_gains n w u K33 true e = (n + 4 - 2, n + 5 - 2, (λ q. absurd (omega arith)), ((omega arith, omega arith), is_first (n + 4 - 2) _), ((omega arith, omega arith), is_second (n + 4 - 2) (n + 5 - 2) _))
 two_gains n w u K33 false e = (n + 3 - 2, w, (λ q. absurd (omega arith)), ((omega arith, omega arith), is_second w (n + 3 - 2) _), ((omega arith, omega arith), is_first w _))
 two_gains n w u K4 o e = absurd (true≢false (sym e))
@@ -142,11 +142,11 @@ module _ (i : ℕ) (s : Growth) (sound : IsSound i s) (x : ℕ) where
   next_some = elim (cases_Bool (is_bipartite_piece piece)) [
     | inl b ↦ let t = two_gains n picked picked-within piece (mem s.in_a picked) b in (t.0, next-member n picked piece s.in_a (mem s.in_a picked) t.0 t.3.0 t.3.1)
     | inr b ↦ let o = sound.other b picked in let w = mem-within n s.in_a sound.in_a o.0 o.2 in let k = piece-two piece in
-        (o.0, rising_holds (n + piece_order piece - 2) _ o.0 (omega arith) (or_left (mem s.in_a o.0 && not (o.0 == picked)) _ (stays o.0 o.1 o.2)))
+        (o.0, rising_holds (n + piece_order piece - 2) _ o.0 (omega arith) (or_left (mem s.in_a o.0 && not (picked == o.0)) _ (stays o.0 o.1 o.2)))
   ]
     where
-      stays : (v : ℕ) → v ≢ picked → mem s.in_a v ≡ true → (mem s.in_a v && not (v == picked)) ≡ true
-      stays v d m = ap₂ (λ a b. a && not b) m (ne_eqb v picked d)
+      stays : (v : ℕ) → v ≢ picked → mem s.in_a v ≡ true → (mem s.in_a v && not (picked == v)) ≡ true
+      stays v d m = ap₂ (λ a b. a && not b) m (ne_eqb picked v (λ q. d (sym q)))
 
   -- and another one before a piece that is not bipartite
   next_other : is_bipartite_piece (further_piece (i + 1)) ≡ false → (w : ℕ) → (v : ℕ) × (v ≢ w) × (mem (next_class n picked piece s.in_a (mem s.in_a picked)) v ≡ true)

@@ -1,7 +1,7 @@
 -- The generator: a graph that grows from K3,3 by splices of small cubic graphs, where and how by the words of the generator
 -- PCG (O'Neill 2014, "PCG: a family of simple fast space-efficient statistically good algorithms for random number
 -- generation").
-use Rattle.std.specs.Prelude.{ℕ, zero, suc, ◌+◌, ◌-◌, ◌%◌, Bool, true, false, List, [], ◌∷◌, ◌==◌, ◌&&◌, ◌||◌, not, map, length, slice_index, if◌then◌else◌}
+use Rattle.std.specs.Prelude.{ℕ, zero, suc, ◌+◌, ◌-◌, ◌%◌, Bool, List, [], ◌∷◌, ◌==◌, ◌&&◌, ◌||◌, not, map, length, slice_index, if◌then◌else◌}
 use Rattle.counting.specs.Sets.{union}
 use Rattle.counting.specs.Lists.{mem, rising_list}
 use Rattle.graph_core.specs.Graph.{Graph}
@@ -9,7 +9,7 @@ use Rattle.rand_pcg.specs.Lcg.{Lcg, started, increment_of}
 use Rattle.rand_pcg.specs.Pcg.{pcg32, multiplier_64}
 use Rattle.grow_gen.specs.declared.pieces.Piece.{Piece}
 use Rattle.grow_gen.specs.declared.pieces.Piece.TheVariants.{K33}
-use Rattle.grow_gen.specs.Pieces.{piece_order, piece_graph, is_bipartite_piece, opposite_side, further_piece}
+use Rattle.grow_gen.specs.Pieces.{piece_order, piece_graph, is_bipartite_piece, side, further_piece}
 use Rattle.grow_gen.specs.Splices.{new_number, permutation, splice}
 
 -- a graph that grows, with its skeleton: the vertices where a piece may be spliced, in two classes A and B
@@ -26,18 +26,12 @@ first_growth = record { graph = piece_graph K33; in_a = 1 ∷ 2 ∷ 3 ∷ []; in
 abbrev pub eligible : Growth → Piece → List ℕ
 eligible s p = if is_bipartite_piece p then rising_list s.graph.order (union (mem s.in_a) (mem s.in_b)) else s.in_a
 
--- the new numbers of the vertices 2 and on of a bipartite piece that are on the side of vertex 1, or on the opposite side
-abbrev pub gains : ℕ → ℕ → Piece → Bool → List ℕ
-gains n w p opposite = if is_bipartite_piece p
-  then map (new_number n w) (rising_list (piece_order p) (λ x. not (x == 1) && (if opposite then mem (opposite_side p) x else not (mem (opposite_side p) x))))
-  else []
-
--- a class without w and with what it gains
+-- a class without w and with the vertices of one side of the piece, under their new numbers
 abbrev pub next_class : ℕ → ℕ → Piece → List ℕ → Bool → List ℕ
-next_class n w p class opposite = rising_list (n + piece_order p - 2) (λ v. (mem class v && not (v == w)) || mem (gains n w p opposite) v)
+next_class n w p class opposite = rising_list (n + piece_order p - 2) (λ v. (mem class v && not (w == v)) || mem (map (new_number n w) (side p opposite)) v)
 
--- one more piece by its two draws: the first picks the vertex w where it is spliced, the second the permutation; the
--- vertices opposite to vertex 1 get the class of w, the others the other class
+-- one more piece by its two draws: the first picks the vertex w where it is spliced, the second the permutation; of
+-- the vertices of a bipartite piece those opposite to vertex 1 get the class of w, the others the other class
 unfoldable pub with_piece : Growth → Piece → (x y : ℕ) → Growth
 with_piece s p x y =
     let w = slice_index (eligible s p) (x % length (eligible s p)) in

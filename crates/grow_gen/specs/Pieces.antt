@@ -29,12 +29,15 @@ is_bipartite_piece K4 = false
 is_bipartite_piece Prism = false
 is_bipartite_piece Cube = true
 
--- of a bipartite piece the side that holds the neighbours of vertex 1
-abbrev pub opposite_side : Piece → List ℕ
-opposite_side K33 = 4 ∷ 5 ∷ 6 ∷ []
-opposite_side K4 = []
-opposite_side Prism = []
-opposite_side Cube = 2 ∷ 4 ∷ 5 ∷ 7 ∷ []
+-- the vertices 2 and on of a bipartite piece that are on the side of the neighbours of vertex 1, or on the side of vertex 1;
+-- none of a piece that is not bipartite
+abbrev pub side : Piece → Bool → List ℕ
+side K33 true = 4 ∷ 5 ∷ 6 ∷ []
+side K33 false = 2 ∷ 3 ∷ []
+side K4 opposite = []
+side Prism opposite = []
+side Cube true = 2 ∷ 4 ∷ 5 ∷ 7 ∷ []
+side Cube false = 3 ∷ 6 ∷ 8 ∷ []
 
 -- piece i after the first, counted from 0: K4, K3,3, prism, cube, and so on
 abbrev pub further_piece : ℕ → Piece
