@@ -7,3 +7,4 @@ pub mod Connecting
 pub mod CoveredSplices
 pub mod PieceFacts
 pub mod SoundGrowth
+pub mod RehangSteps

@@ -3,5 +3,6 @@
 
 mod laws;
 mod pieces;
+mod splices;
 
 pub use laws::splice_law;
