@@ -8,3 +8,5 @@ pub mod CoveredSplices
 pub mod PieceFacts
 pub mod SoundGrowth
 pub mod RehangSteps
+pub mod Skeleton
+pub mod OnePiece

@@ -20,6 +20,7 @@ use Rattle.grow_gen.specs.Splices.{is_at, new_number, permutation, splice, renum
 use Rattle.grow_gen.specs.Growth.{Growth, first_growth, eligible, next_class, with_piece}
 use Rattle.grow_gen.proofs.Rehanging.{length-rehung_edges}
 use Rattle.grow_gen.proofs.PieceFacts.{piece-multigraph, piece-cubic, piece-covered, piece-two}
+use Rattle.grow_gen.proofs.Skeleton.{eligible-within}
 use Rattle.grow_gen.proofs.Splicing.{splice-multigraph, splice-cubic}
 use Rattle.grow_gen.proofs.CoveredSplices.{splice-covered}
 
@@ -46,12 +47,6 @@ other_member xs a b d p q w = elim (cases_eq a w) [
 member-place : (xs : List ℕ) (v : ℕ) → mem xs v ≡ true → 0 < length xs
 member-place [] v m = absurd (true≢false (sym m))
 member-place (x ∷ xs) v m = omega arith
-
--- an item is a member
-item-member : (xs : List ℕ) (i : ℕ) → i < length xs → mem xs (slice_index xs i) ≡ true
-item-member [] i l = absurd (omega arith)
-item-member (x ∷ xs) zero l = or_left (x == x) (mem xs x) (eq-eqb x x refl)
-item-member (x ∷ xs) (suc i) l = or_right (x == slice_index xs i) (mem xs (slice_index xs i)) (item-member xs i (omega arith))
 
 -- after a piece that is not bipartite comes one that is
 bipartite_next : (i : ℕ) → is_bipartite_piece (further_piece i) ≡ false → is_bipartite_piece (further_piece (i + 1)) ≡ true
@@ -108,11 +103,7 @@ module _ (i : ℕ) (s : Growth) (sound : IsSound i s) (x : ℕ) where
 
   -- it is one of the graph
   pub picked-within : Within n picked
-  picked-within = go (is_bipartite_piece piece) (item-member (eligible s piece) (x % length (eligible s piece)) (mod_below x (length (eligible s piece)) some-eligible))
-    where
-      go : (b : Bool) → mem (cond b (rising_list n (union (mem s.in_a) (mem s.in_b))) s.in_a) picked ≡ true → Within n picked
-      go true m = (rising_only n (union (mem s.in_a) (mem s.in_b)) picked m).0
-      go false m = mem-within n s.in_a sound.in_a picked m
+  picked-within = eligible-within s piece sound.in_a (x % length (eligible s piece)) (mod_below x (length (eligible s piece)) some-eligible)
 
   order-bound : piece_order piece ≤ 8
   order-bound = go piece

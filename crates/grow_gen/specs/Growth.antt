@@ -1,9 +1,9 @@
 -- The generator: a graph that grows from K3,3 by splices of small cubic graphs, where and how by the words of the generator
 -- PCG (O'Neill 2014, "PCG: a family of simple fast space-efficient statistically good algorithms for random number
 -- generation").
-use Rattle.std.specs.Prelude.{ℕ, zero, suc, ◌+◌, ◌-◌, ◌%◌, Bool, List, [], ◌∷◌, ◌==◌, ◌&&◌, ◌||◌, not, map, length, slice_index, if◌then◌else◌}
+use Rattle.std.specs.Prelude.{ℕ, zero, suc, ◌+◌, ◌-◌, ◌%◌, ◌≤◌, ◌<◌, Bool, List, [], ◌∷◌, ◌==◌, ◌&&◌, ◌||◌, not, map, length, slice_index, if◌then◌else◌}
 use Rattle.counting.specs.Sets.{union}
-use Rattle.counting.specs.Lists.{mem, rising_list}
+use Rattle.counting.specs.Lists.{mem, rising_list, IsRisingIn}
 use Rattle.graph_core.specs.Graph.{Graph}
 use Rattle.rand_pcg.specs.Lcg.{Lcg, started, increment_of}
 use Rattle.rand_pcg.specs.Pcg.{pcg32, multiplier_64}
@@ -50,3 +50,10 @@ growth_from i (suc n) words s = growth_from (i + 1) n (pcg32 (pcg32 words).1).1 
 -- the graph of a seed and a number of pieces
 unfoldable pub grown : (seed pieces : ℕ) → Graph
 grown seed pieces = (growth_from 0 (pieces - 1) (started 64 multiplier_64 seed (increment_of 64 1)) first_growth).graph
+
+-- what one more piece needs: new numbers of at most 128, classes of vertices, and a vertex for the piece
+pub record MayTake (s : Growth) (p : Piece) : Type 0 where
+  pub room : s.graph.order + piece_order p ≤ 130
+  pub in_a : IsRisingIn s.graph.order s.in_a
+  pub in_b : IsRisingIn s.graph.order s.in_b
+  pub some : 0 < length (eligible s p)

@@ -2,3 +2,4 @@ pub mod Pieces
 pub mod Splices
 pub mod Cubic
 pub mod Growth
+pub mod Growing

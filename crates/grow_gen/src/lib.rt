@@ -1,6 +1,7 @@
 //! Large matching covered graphs from a number.
 #![tactic(auto)]
 
+mod growing;
 mod laws;
 mod pieces;
 mod splices;
