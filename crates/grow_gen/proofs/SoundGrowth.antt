@@ -17,7 +17,7 @@ use Rattle.grow_gen.specs.declared.pieces.Piece.TheVariants.{K33, K4, Prism, Cub
 use Rattle.grow_gen.specs.Pieces.{piece_order, piece_ends, piece_graph, is_bipartite_piece, side, further_piece}
 use Rattle.grow_gen.specs.Cubic.{IsCubic}
 use Rattle.grow_gen.specs.Splices.{is_at, new_number, permutation, splice, renumbered_edge, rehung_edges, targets_of}
-use Rattle.grow_gen.specs.Growth.{Growth, first_growth, eligible, next_class, with_piece}
+use Rattle.grow_gen.specs.Growth.{Growth, first_growth, eligible, next_class, with_piece, MayTake}
 use Rattle.grow_gen.proofs.Rehanging.{length-rehung_edges}
 use Rattle.grow_gen.proofs.PieceFacts.{piece-multigraph, piece-cubic, piece-covered, piece-two}
 use Rattle.grow_gen.proofs.Skeleton.{eligible-within}
@@ -113,6 +113,15 @@ module _ (i : ℕ) (s : Growth) (sound : IsSound i s) (x : ℕ) where
       go K4 = omega arith
       go Prism = omega arith
       go Cube = omega arith
+
+  -- the piece can be spliced, as long as there are at most fifteen pieces
+  pub may-take : i ≤ 14 → MayTake s piece
+  may-take l = record {
+    room = let a = sound.vertices in let b = order-bound in omega arith;
+    in_a = sound.in_a;
+    in_b = sound.in_b;
+    some = some-eligible;
+  }
 
   -- the second draw names a permutation
   permutation-below : (y : ℕ) → y % 6 < 6
