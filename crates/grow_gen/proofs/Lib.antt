@@ -10,3 +10,4 @@ pub mod SoundGrowth
 pub mod RehangSteps
 pub mod Skeleton
 pub mod OnePiece
+pub mod Parallel

@@ -27,7 +27,7 @@ abbrev pub permuted_values : ℕ → (ℕ → ℕ) → List ℕ → List ℕ
 permuted_values i f xs = map (λ j. f (slice_index xs (j - 1))) (permutation i)
 
 -- six cases
-by_permutation : (P : ℕ → Type 0) → P 0 → P 1 → P 2 → P 3 → P 4 → P 5 → (i : ℕ) → i < 6 → P i
+pub by_permutation : (P : ℕ → Type 0) → P 0 → P 1 → P 2 → P 3 → P 4 → P 5 → (i : ℕ) → i < 6 → P i
 by_permutation P a b c d e f zero l = a
 by_permutation P a b c d e f (suc zero) l = b
 by_permutation P a b c d e f (suc (suc zero)) l = c
