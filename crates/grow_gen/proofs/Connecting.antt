@@ -108,17 +108,17 @@ sum_edges-crossing n w x [] (b ∷ bs) (e ∷ es) c s l f = by_test (is_at w e)
     (λ a. length (cond a (b ∷ flags_at w bs es) (flags_at w bs es)) ≤ 0 → bit (b && crosses (without w x) e) + sum_edges (λ b e. bit (b && crosses (without w x) e)) bs es ≡ caught x (cond a (b ∷ flags_at w bs es) (flags_at w bs es)) [])
     (λ a k. absurd (omega arith))
     (λ a k. let d = not_at-ends w e a in
-        ap₂ ◌+◌ (crosses-none b (without w x) e (without-other w e.0 x d.0 ∙ s.0 ∙ sym (without-other w e.1 x d.1)))
-        (sum_edges-crossing n w x [] bs es c.1 (subst (Each (Stays x)) (sym (rehung_edges-none w es)) s.1) (omega arith) k ∙ caught-none x (flags_at w bs es))
-        ∙ sym (caught-none x (flags_at w bs es)))
+    ap₂ ◌+◌ (crosses-none b (without w x) e (without-other w e.0 x d.0 ∙ s.0 ∙ sym (without-other w e.1 x d.1)))
+    (sum_edges-crossing n w x [] bs es c.1 (subst (Each (Stays x)) (sym (rehung_edges-none w es)) s.1) (omega arith) k ∙ caught-none x (flags_at w bs es))
+    ∙ sym (caught-none x (flags_at w bs es)))
     f
 sum_edges-crossing n w x (t ∷ ts) (b ∷ bs) (e ∷ es) c s l f = by_test (is_at w e)
     (λ a. is_at w e ≡ a → Each (Stays x) (cond a (edge_with_end w t e ∷ rehung_edges w ts es) (e ∷ rehung_edges w (t ∷ ts) es)) → length (cond a (b ∷ flags_at w bs es) (flags_at w bs es)) ≤ suc (length ts) →
-        bit (b && crosses (without w x) e) + sum_edges (λ b e. bit (b && crosses (without w x) e)) bs es ≡ caught x (cond a (b ∷ flags_at w bs es) (flags_at w bs es)) (t ∷ ts))
+    bit (b && crosses (without w x) e) + sum_edges (λ b e. bit (b && crosses (without w x) e)) bs es ≡ caught x (cond a (b ∷ flags_at w bs es) (flags_at w bs es)) (t ∷ ts))
     (λ a p z k. ap₂ ◌+◌ (here a z.0) (sum_edges-crossing n w x ts bs es c.1 z.1 (omega arith) (omega arith)))
     (λ a p z k. let d = not_at-ends w e a in
-        ap₂ ◌+◌ (crosses-none b (without w x) e (without-other w e.0 x d.0 ∙ z.0 ∙ sym (without-other w e.1 x d.1))) (sum_edges-crossing n w x (t ∷ ts) bs es c.1 z.1 (omega arith) k)
-        ∙ (let q : 0 + caught x (flags_at w bs es) (t ∷ ts) ≡ caught x (flags_at w bs es) (t ∷ ts) = omega arith in q))
+    ap₂ ◌+◌ (crosses-none b (without w x) e (without-other w e.0 x d.0 ∙ z.0 ∙ sym (without-other w e.1 x d.1))) (sum_edges-crossing n w x (t ∷ ts) bs es c.1 z.1 (omega arith) k)
+    ∙ (let q : 0 + caught x (flags_at w bs es) (t ∷ ts) ≡ caught x (flags_at w bs es) (t ∷ ts) = omega arith in q))
     refl s f
   where
     here : is_at w e ≡ true → Stays x (edge_with_end w t e) → bit (b && crosses (without w x) e) ≡ bit (b && x t)
@@ -133,13 +133,13 @@ each-stays_old n w x s ts [] c k l h = tt
 each-stays_old n w x s [] (e ∷ es) c k l h = by_test (is_at w e) (λ a. length (cond a (e ∷ filter (is_at w) es) (filter (is_at w) es)) ≤ 0 → Each (Stays (with_answer w s x)) (e ∷ es))
     (λ a m. absurd (omega arith))
     (λ a m. let d = not_at-ends w e a in
-        (answer-other w e.0 s x d.0 ∙ k.0 ∙ sym (answer-other w e.1 s x d.1), each-stays_old n w x s [] es c.1 (subst (Each (Stays x)) (sym (rehung_edges-none w es)) k.1) m h))
+    (answer-other w e.0 s x d.0 ∙ k.0 ∙ sym (answer-other w e.1 s x d.1), each-stays_old n w x s [] es c.1 (subst (Each (Stays x)) (sym (rehung_edges-none w es)) k.1) m h))
     l
 each-stays_old n w x s (t ∷ ts) (e ∷ es) c k l h = by_test (is_at w e)
     (λ a. Each (Stays x) (cond a (edge_with_end w t e ∷ rehung_edges w ts es) (e ∷ rehung_edges w (t ∷ ts) es)) → length (cond a (e ∷ filter (is_at w) es) (filter (is_at w) es)) ≤ suc (length ts) → Each (Stays (with_answer w s x)) (e ∷ es))
     (λ a z m. (here a z.0, each-stays_old n w x s ts es c.1 z.1 (omega arith) (λ u j. h u (member-later u t ts j))))
     (λ a z m. let d = not_at-ends w e a in
-        (answer-other w e.0 s x d.0 ∙ z.0 ∙ sym (answer-other w e.1 s x d.1), each-stays_old n w x s (t ∷ ts) es c.1 z.1 m h))
+    (answer-other w e.0 s x d.0 ∙ z.0 ∙ sym (answer-other w e.1 s x d.1), each-stays_old n w x s (t ∷ ts) es c.1 z.1 m h))
     k l
   where
     here : is_at w e ≡ true → Stays x (edge_with_end w t e) → Stays (with_answer w s x) e
@@ -155,7 +155,7 @@ each-stays_new k n w x s (e ∷ es) c z b = by_test (is_at 1 e)
     (λ a. Each (Stays x) (map (renumbered_edge n w) (cond (not a) (e ∷ kept_edges es) (kept_edges es))) → Each (λ v. x (new_number n w v) ≡ s) (map (other_end 1) (cond a (e ∷ filter (is_at 1) es) (filter (is_at 1) es))) → Each (Stays (with_answer 1 s (λ v. x (new_number n w v)))) (e ∷ es))
     (λ a p q. (here a q.0, each-stays_new k n w x s es c.1 p q.1))
     (λ a p q. let d = not_at-ends 1 e a in
-        (answer-other 1 e.0 s (λ v. x (new_number n w v)) d.0 ∙ p.0 ∙ sym (answer-other 1 e.1 s (λ v. x (new_number n w v)) d.1), each-stays_new k n w x s es c.1 p.1 q))
+    (answer-other 1 e.0 s (λ v. x (new_number n w v)) d.0 ∙ p.0 ∙ sym (answer-other 1 e.1 s (λ v. x (new_number n w v)) d.1), each-stays_new k n w x s es c.1 p.1 q))
     z b
   where
     here : is_at 1 e ≡ true → x (new_number n w (other_end 1 e)) ≡ s → Stays (with_answer 1 s (λ v. x (new_number n w v))) e

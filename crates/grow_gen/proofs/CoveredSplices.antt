@@ -62,10 +62,10 @@ module _ (g h : Graph) (w i : ℕ) (mg : IsMultigraph g) (mh : IsMultigraph h) (
     end-odd a l =
         let b = row-through g mg cg w ww vg a l in
         let crossing : count (size g) (λ e. Rattle.grow_gen.proofs.EdgeSums.marked b.0.row e && in_cut g (without w x) e) ≡ bit (x (slice_index_or (ends-three.0 ∷ ends-three.1 ∷ ends-three.2 ∷ []) a 0)) =
-            total-edges (λ k e. bit (k && Rattle.grow_gen.proofs.Connecting.crosses (without w x) e)) b.0.row g.ends b.0.whole
-            ∙ sum_edges-crossing g.order w x ends b.0.row g.ends (each-edge_of g mg) parts.0 b.0.whole (let p = length-row_where (is_at w) b.0.row g.ends b.0.whole in let q = edges-at g mg cg w ww in let r = targets-three g h w i mg mh cg ch vh.two ww li in omega arith)
-            ∙ ap₂ (caught x) b.1 ends-three.3
-            ∙ caught-unit x ends-three.0 ends-three.1 ends-three.2 a l in
+        total-edges (λ k e. bit (k && Rattle.grow_gen.proofs.Connecting.crosses (without w x) e)) b.0.row g.ends b.0.whole
+        ∙ sum_edges-crossing g.order w x ends b.0.row g.ends (each-edge_of g mg) parts.0 b.0.whole (let p = length-row_where (is_at w) b.0.row g.ends b.0.whole in let q = edges-at g mg cg w ww in let r = targets-three g h w i mg mh cg ch vh.two ww li in omega arith)
+        ∙ ap₂ (caught x) b.1 ends-three.3
+        ∙ caught-unit x ends-three.0 ends-three.1 ends-three.2 a l in
         sym (odd-bit (x (slice_index_or (ends-three.0 ∷ ends-three.1 ∷ ends-three.2 ∷ []) a 0)))
         ∙ ap is_odd (sym crossing)
         ∙ sym (odd-even _ (count (size g) (λ e. Rattle.grow_gen.proofs.EdgeSums.marked b.0.row e && inside g (without w x) e)))

@@ -148,13 +148,13 @@ pub edge-at_place : (p : ℕ × ℕ → Bool) (es : List (ℕ × ℕ)) (c : ℕ)
 edge-at_place p [] c l = absurd (omega arith)
 edge-at_place p (e ∷ es) zero l =
     let r = by_test (p e) (λ s. 0 < length (cond s (e ∷ filter p es) (filter p es)) → (i : ℕ) × StandsBehind p es 0 i s)
-        (λ s k. (1, (omega arith, λ b bs q. refl)))
-        (λ s k. let h = edge-at_place p es 0 k in let w = h.1.0 in (h.0 + 1, ((omega arith, omega arith), λ b bs q. h.1.1 bs q ∙ sym (item-next b false bs h.0 w.0))))
-        l in
+    (λ s k. (1, (omega arith, λ b bs q. refl)))
+    (λ s k. let h = edge-at_place p es 0 k in let w = h.1.0 in (h.0 + 1, ((omega arith, omega arith), λ b bs q. h.1.1 bs q ∙ sym (item-next b false bs h.0 w.0))))
+    l in
     (r.0, stands-behind p e es 0 r.0 r.1)
 edge-at_place p (e ∷ es) (suc c) l =
     let r = by_test (p e) (λ s. suc c < length (cond s (e ∷ filter p es) (filter p es)) → (i : ℕ) × StandsBehind p es (suc c) i s)
-        (λ s k. let h = edge-at_place p es c (omega arith) in let w = h.1.0 in (h.0 + 1, ((omega arith, omega arith), λ b bs q. h.1.1 bs q ∙ sym (item-next b false bs h.0 w.0))))
-        (λ s k. let h = edge-at_place p es (suc c) k in let w = h.1.0 in (h.0 + 1, ((omega arith, omega arith), λ b bs q. h.1.1 bs q ∙ sym (item-next b false bs h.0 w.0))))
-        l in
+    (λ s k. let h = edge-at_place p es c (omega arith) in let w = h.1.0 in (h.0 + 1, ((omega arith, omega arith), λ b bs q. h.1.1 bs q ∙ sym (item-next b false bs h.0 w.0))))
+    (λ s k. let h = edge-at_place p es (suc c) k in let w = h.1.0 in (h.0 + 1, ((omega arith, omega arith), λ b bs q. h.1.1 bs q ∙ sym (item-next b false bs h.0 w.0))))
+    l in
     (r.0, stands-behind p e es (suc c) r.0 r.1)

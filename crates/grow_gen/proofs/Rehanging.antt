@@ -94,17 +94,17 @@ sum_edges-rehung_there w y [] (b ∷ bs) (e ∷ es) c l f = by_test (is_at w e)
     (λ s. length (cond s (b ∷ flags_at w bs es) (flags_at w bs es)) ≤ 0 → ends_at y b e + sum_edges (ends_at y) bs es ≡ caught (λ t. t == y) (cond s (b ∷ flags_at w bs es) (flags_at w bs es)) [])
     (λ a k. absurd (omega arith))
     (λ a k. let n = not_at-ends w e a in
-        ap₂ ◌+◌ (ap₂ ◌+◌ (no_end b e.0 y (λ q. n.0 (c.0.0 q))) (no_end b e.1 y (λ q. n.1 (c.0.1 q))))
-        (ap (sum_edges (ends_at y) bs) (sym (rehung_edges-none w es)) ∙ sum_edges-rehung_there w y [] bs es c.1 (omega arith) k ∙ caught-none (λ t. t == y) (flags_at w bs es))
-        ∙ sym (caught-none (λ t. t == y) (flags_at w bs es)))
+    ap₂ ◌+◌ (ap₂ ◌+◌ (no_end b e.0 y (λ q. n.0 (c.0.0 q))) (no_end b e.1 y (λ q. n.1 (c.0.1 q))))
+    (ap (sum_edges (ends_at y) bs) (sym (rehung_edges-none w es)) ∙ sum_edges-rehung_there w y [] bs es c.1 (omega arith) k ∙ caught-none (λ t. t == y) (flags_at w bs es))
+    ∙ sym (caught-none (λ t. t == y) (flags_at w bs es)))
     f
 sum_edges-rehung_there w y (t ∷ ts) (b ∷ bs) (e ∷ es) c l f = by_test (is_at w e)
     (λ s. length (cond s (b ∷ flags_at w bs es) (flags_at w bs es)) ≤ suc (length ts) →
-        sum_edges (ends_at y) (b ∷ bs) (cond s (edge_with_end w t e ∷ rehung_edges w ts es) (e ∷ rehung_edges w (t ∷ ts) es)) ≡ caught (λ t. t == y) (cond s (b ∷ flags_at w bs es) (flags_at w bs es)) (t ∷ ts))
+    sum_edges (ends_at y) (b ∷ bs) (cond s (edge_with_end w t e ∷ rehung_edges w ts es) (e ∷ rehung_edges w (t ∷ ts) es)) ≡ caught (λ t. t == y) (cond s (b ∷ flags_at w bs es) (flags_at w bs es)) (t ∷ ts))
     (λ a k. ap₂ ◌+◌ (new_end a) (sum_edges-rehung_there w y ts bs es c.1 (omega arith) (omega arith)))
     (λ a k. let n = not_at-ends w e a in
-        ap₂ ◌+◌ (ap₂ ◌+◌ (no_end b e.0 y (λ q. n.0 (c.0.0 q))) (no_end b e.1 y (λ q. n.1 (c.0.1 q)))) (sum_edges-rehung_there w y (t ∷ ts) bs es c.1 (omega arith) k)
-        ∙ (let z : 0 + 0 + caught (λ t. t == y) (flags_at w bs es) (t ∷ ts) ≡ caught (λ t. t == y) (flags_at w bs es) (t ∷ ts) = omega arith in z))
+    ap₂ ◌+◌ (ap₂ ◌+◌ (no_end b e.0 y (λ q. n.0 (c.0.0 q))) (no_end b e.1 y (λ q. n.1 (c.0.1 q)))) (sum_edges-rehung_there w y (t ∷ ts) bs es c.1 (omega arith) k)
+    ∙ (let z : 0 + 0 + caught (λ t. t == y) (flags_at w bs es) (t ∷ ts) ≡ caught (λ t. t == y) (flags_at w bs es) (t ∷ ts) = omega arith in z))
     f
   where
     new_end : is_at w e ≡ true → ends_at y b (edge_with_end w t e) ≡ bit (b && (t == y))

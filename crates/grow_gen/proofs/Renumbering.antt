@@ -77,10 +77,10 @@ module _ (n w : ℕ) (ww : Within n w) where
   sum_edges-kept_new k x [] (e ∷ es) a c l = absurd (omega arith)
   sum_edges-kept_new k x (b ∷ bs) (e ∷ es) a c l = by_test (is_at 1 e)
       (λ s. sum_edges (ends_at (new_number n w x)) (cond (not s) (b ∷ kept_row bs es) (kept_row bs es)) (map (renumbered_edge n w) (cond (not s) (e ∷ kept_edges es) (kept_edges es)))
-        + caught (λ t. t == x) (cond s (b ∷ flags_at 1 bs es) (flags_at 1 bs es)) (map (other_end 1) (cond s (e ∷ filter (is_at 1) es) (filter (is_at 1) es))) ≡ ends_at x b e + sum_edges (ends_at x) bs es)
+      + caught (λ t. t == x) (cond s (b ∷ flags_at 1 bs es) (flags_at 1 bs es)) (map (other_end 1) (cond s (e ∷ filter (is_at 1) es) (filter (is_at 1) es))) ≡ ends_at x b e + sum_edges (ends_at x) bs es)
       (λ s. let h = sum_edges-kept_new k x bs es a c.1 (omega arith) in let q = beside s in omega (arith, h, q))
       (λ s. let h = sum_edges-kept_new k x bs es a c.1 (omega arith) in let d = not_at-ends 1 e s in
-        let q = moved_ends x b e a (above_one k e.0 c.0.0 d.0) (above_one k e.1 c.0.1 d.1) in omega (arith, h, q))
+      let q = moved_ends x b e a (above_one k e.0 c.0.0 d.0) (above_one k e.1 c.0.1 d.1) in omega (arith, h, q))
     where
       beside : is_at 1 e ≡ true → ends_at x b e ≡ bit (b && (other_end 1 e == x))
       beside s = elim (at-cases 1 0 e s) [
@@ -97,7 +97,7 @@ module _ (n w : ℕ) (ww : Within n w) where
       (λ s. sum_edges (ends_at v) (cond (not s) (b ∷ kept_row bs es) (kept_row bs es)) (map (renumbered_edge n w) (cond (not s) (e ∷ kept_edges es) (kept_edges es))) ≡ 0)
       (λ s. sum_edges-kept_old k v bs es t l d c.1 (omega arith))
       (λ s. let q = not_at-ends 1 e s in let h = sum_edges-kept_old k v bs es t l d c.1 (omega arith) in
-        let x = no_end b (new_number n w e.0) v (far e.0 c.0.0 q.0) in let y = no_end b (new_number n w e.1) v (far e.1 c.0.1 q.1) in omega (arith, h, x, y))
+      let x = no_end b (new_number n w e.0) v (far e.0 c.0.0 q.0) in let y = no_end b (new_number n w e.1) v (far e.1 c.0.1 q.1) in omega (arith, h, x, y))
     where
       far : (x : ℕ) → Within k x → x ≢ 1 → new_number n w x ≢ v
       far x u r z = elim (new_number-where k x t (above_one k x u r) u.1).1 [ inl a ↦ d (sym z ∙ a) | inr a ↦ absurd (omega arith) ]
@@ -108,7 +108,7 @@ module _ (n w : ℕ) (ww : Within n w) where
   each-kept k (e ∷ es) t c = by_test (is_at 1 e) (λ s. Each (IsEdge (n + k - 2)) (map (renumbered_edge n w) (cond (not s) (e ∷ kept_edges es) (kept_edges es))))
       (λ s. each-kept k es t c.1)
       (λ s. let q = not_at-ends 1 e s in let a = above_one k e.0 c.0.0 q.0 in let b = above_one k e.1 c.0.1 q.1 in
-        (((new_number-where k e.0 t a c.0.0.1).0, (new_number-where k e.1 t b c.0.1.1).0, new_number-apart e.0 e.1 a b c.0.2), each-kept k es t c.1))
+      (((new_number-where k e.0 t a c.0.0.1).0, (new_number-where k e.1 t b c.0.1.1).0, new_number-apart e.0 e.1 a b c.0.2), each-kept k es t c.1))
 
 -- the neighbours of vertex 1 are 2 and on
 pub each-beside : (k : ℕ) (es : List (ℕ × ℕ)) → Each (IsEdge k) es → Each (λ v. (2 ≤ v) × (v ≤ k)) (ends_beside 1 es)

@@ -179,11 +179,11 @@ module _ (g h : Graph) (w i : ℕ) (mg : IsMultigraph g) (mh : IsMultigraph h) (
       degree-marked (splice g w h (permutation i)) (both_rows bs cs) (new x) (length-both_rows bs cs lb lc)
       ∙ sum_edges-append (ends_at (new x)) bs (kept_row cs h.ends) (rehung_edges w targets g.ends) _ (lb ∙ sym (length-rehung_edges w targets g.ends))
       ∙ ap (λ z. z + sum_edges (ends_at (new x)) (kept_row cs h.ends) (map (renumbered_edge g.order w) (kept_edges h.ends))) (
-        sum_edges-rehung_there w (new x) targets bs g.ends (each-weaker (IsEdge g.order) (IsClear w (new x)) g.ends clear (each-edge_of g mg)) lb few
-        ∙ ap₂ (caught (λ t. t == new x)) (agree ∙ ap (permuted i) f.3) targets-permuted
-        ∙ caught-permuted (λ t. t == new x) new f.0 f.1 f.2 beside.0 beside.1 beside.2 i li
-        ∙ same f.0 f.1 f.2
-        ∙ ap₂ (caught (λ t. t == x)) (sym f.3) (sym beside.3)
+      sum_edges-rehung_there w (new x) targets bs g.ends (each-weaker (IsEdge g.order) (IsClear w (new x)) g.ends clear (each-edge_of g mg)) lb few
+      ∙ ap₂ (caught (λ t. t == new x)) (agree ∙ ap (permuted i) f.3) targets-permuted
+      ∙ caught-permuted (λ t. t == new x) new f.0 f.1 f.2 beside.0 beside.1 beside.2 i li
+      ∙ same f.0 f.1 f.2
+      ∙ ap₂ (caught (λ t. t == x)) (sym f.3) (sym beside.3)
       )
       ∙ (let z : caught (λ t. t == x) (flags_at 1 cs h.ends) (ends_beside 1 h.ends) + sum_edges (ends_at (new x)) (kept_row cs h.ends) (map (renumbered_edge g.order w) (kept_edges h.ends)) ≡ sum_edges (ends_at x) cs h.ends = omega (arith, k) in z)
       ∙ sym (degree-marked h cs x lc)
@@ -221,10 +221,14 @@ module _ (g h : Graph) (w i : ℕ) (mg : IsMultigraph g) (mh : IsMultigraph h) (
       elim (cases_lt (size g) e) [
         | inr l ↦ inl ((u.0, l), λ bs cs lb lc. marked-front bs (kept_row cs h.ends) e (u.0, let z = l in omega arith))
         | inl l ↦ let j = edge-at_place (λ f. not (is_at 1 f)) h.ends (e - size g - 1) (let z = u in omega arith) in
-            inr (j.0, j.1.0, λ bs cs lb lc.
-              ap (marked (both_rows bs cs)) (let q : e ≡ length bs + (e - size g) = omega arith in q)
-              ∙ marked-back bs (kept_row cs h.ends) (e - size g) (omega arith)
-              ∙ j.1.1 cs lc)
+            inr (
+              j.0,
+              j.1.0,
+              λ bs cs lb lc.
+                  ap (marked (both_rows bs cs)) (let q : e ≡ length bs + (e - size g) = omega arith in q)
+                  ∙ marked-back bs (kept_row cs h.ends) (e - size g) (omega arith)
+                  ∙ j.1.1 cs lc,
+            )
       ]
 
   -- the splice is a multigraph

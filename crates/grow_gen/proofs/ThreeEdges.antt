@@ -140,9 +140,10 @@ module _ (g : Graph) (m : IsMultigraph g) (cubic : IsCubic g) (w : ℕ) (ww : Wi
 
   -- an edge of a covered graph is in a perfect matching
   pub row-with : IsCovered g → (e : ℕ) → Within (size g) e → (r : PerfectRow g) × (marked r.row e ≡ true)
-  row-with cov e u = let a = cov.allowed e u (m.no_loop e u) in
-      (record { row = row_from 0 (size g) a.0; whole = length-row_from 0 (size g) a.0; perfect = perfect-row a.0 a.1 },
-       marked-row_from 0 (size g) a.0 e u ∙ ap a.0 (let q : 0 + e ≡ e = omega arith in q) ∙ a.2)
+  row-with cov e u = let a = cov.allowed e u (m.no_loop e u) in (
+    record { row = row_from 0 (size g) a.0; whole = length-row_from 0 (size g) a.0; perfect = perfect-row a.0 a.1 },
+    marked-row_from 0 (size g) a.0 e u ∙ ap a.0 (let q : 0 + e ≡ e = omega arith in q) ∙ a.2,
+  )
 
   -- some perfect matching of a covered graph has the edge at place i at w
   pub row-through : IsCovered g → (i : ℕ) → i < 3 → (r : PerfectRow g) × (flags_at w r.row g.ends ≡ unit i)

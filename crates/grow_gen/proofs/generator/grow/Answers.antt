@@ -39,7 +39,7 @@ loop-i-preserved c =
     let y : c.next_word-second.result ≡ (pcg32 (pcg32 w).1).0 = ap (λ p. p.0) second ∙ ap (λ v. (pcg32 v).0) left in
     let end : c.next_word-second.new.self ≡ (pcg32 (pcg32 w).1).1 = ap (λ p. p.1) second ∙ ap (λ v. (pcg32 v).1) left in
     let made : growth_of c.in_ok-growing-2.growing ≡ with_piece s (further_piece i) (pcg32 w).0 (pcg32 (pcg32 w).1).0 =
-        c.in_ok-growing-2.ensures ∙ ap (λ p. with_piece s p c.next_word-first.result c.next_word-second.result) c.further.ensures ∙ ap₂ (with_piece s (further_piece i)) x y in
+    c.in_ok-growing-2.ensures ∙ ap (λ p. with_piece s p c.next_word-first.result c.next_word-second.result) c.further.ensures ∙ ap₂ (with_piece s (further_piece i)) x y in
     record {
       sound = subst (IsSound (i + 1)) (sym made) (sound-next i s c.loop-i.invariant.sound (pcg32 w).0 (pcg32 (pcg32 w).1).0);
       rest = ap₂ (growth_from (i + 1) (c.args.pieces - 1 - (i + 1))) end made ∙ sym (growth_from-more i (c.args.pieces - 1) w s c.loop-i-test.true) ∙ c.loop-i.invariant.rest;
@@ -54,7 +54,7 @@ pub returns-clause-graph : goal.returns-clause-graph
 unfolding grown
 returns-clause-graph c =
     let whole : growth_of c.loop-i.growing ≡ growth_from 0 (c.args.pieces - 1) (started 64 multiplier_64 c.args.seed (increment_of 64 1)) first_growth =
-        sym (growth_from-none c.loop-i.i (c.args.pieces - 1) c.loop-i.words (growth_of c.loop-i.growing) c.loop-i-test.false) ∙ c.loop-i.invariant.rest in
+    sym (growth_from-none c.loop-i.i (c.args.pieces - 1) c.loop-i.words (growth_of c.loop-i.growing) c.loop-i-test.false) ∙ c.loop-i.invariant.rest in
     IfOk-weaker c.to_graph.result _ (λ g. g ≡ grown c.args.seed c.args.pieces) (λ g e. e ∙ ap (λ (s : Growth). s.graph) whole) c.to_graph.ensures
 
 pub returns-clause-cubic : goal.returns-clause-cubic

@@ -15,6 +15,6 @@ loop-x-preserved c v =
 pub returns : goal.returns
 returns c =
     let all : take c.loop-x.x-index c.side-x-items.result.now ≡ side c.args.piece (mem c.args.class c.args.w) =
-        take_all c.loop-x.x-index c.side-x-items.result.now c.loop-x-test.false ∙ c.side-x-items.ensures ∙ ap (side c.args.piece) c.contains.ensures in
+    take_all c.loop-x.x-index c.side-x-items.result.now c.loop-x-test.false ∙ c.side-x-items.ensures ∙ ap (side c.args.piece) c.contains.ensures in
     next_class-rising c.args.n 128 c.args.w c.args.piece c.args.class c.loop-x.next (mem c.args.class c.args.w) (let r = c.requires.room in omega arith) c.requires.vertex c.requires.rising c.rises.ensures
     (λ v. c.loop-x.invariant v ∙ ap (λ xs. (mem c.args.class v && not (c.args.w == v)) || mem (map (new_number c.args.n c.args.w) xs) v) all)
