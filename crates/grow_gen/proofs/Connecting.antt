@@ -1,24 +1,17 @@
 -- A splice of two covered cubic graphs is connected. Idea: let no edge leave a set S of its vertices. By parity each of the
 -- joined edges is inside S where S has an odd number of old vertices, and else each is outside; so S, with the vertex that
 -- was given up put on that side, is all or nothing in both graphs.
-use Rattle.std.proofs.Common.{◌≡◌, ℕ, suc, zero, ◌+◌, ◌-◌, ◌*◌, ◌≤◌, ◌<◌, ◌≢◌, Bool, true, false, cond, ◌==◌, ◌&&◌, ◌||◌, not, ◌⊎◌, inl, inr, List, [], ◌∷◌, ◌++◌, length, map, filter, refl, sym, ap, ap₂, ◌∙◌, arith, subst, eq-eqb, ne_eqb, eqb-true}
-use Rattle.std.specs.Prelude.{slice_index_or}
-use Rattle.std.proofs.lemmas.Bool.{cases_eq, cases_Bool, true≢false}
-use Rattle.counting.specs.Counts.{Within, bit, count, is_odd}
+use Rattle.std.proofs.Common.{◌≡◌, ℕ, suc, ◌+◌, ◌≤◌, ◌≢◌, Bool, true, false, cond, ◌==◌, ◌&&◌, ◌||◌, not, inl, inr, List, [], ◌∷◌, length, map, filter, refl, sym, ap, ap₂, ◌∙◌, arith, subst, eq-eqb, ne_eqb}
+use Rattle.counting.specs.Counts.{Within, bit}
 use Rattle.counting.specs.Sets.{Set, none}
 use Rattle.counting.specs.Lists.{mem}
-use Rattle.counting.proofs.Odd.{odd-add, odd-double}
 use Rattle.graph_core.specs.Graph.{Graph, size, first_end, second_end, IsGraph, IsMultigraph, edges_in_cut, in_cut, inside}
-use Rattle.graph_core.specs.Matchings.{IsPerfect}
 use Rattle.graph_core.specs.Walks.{Joined, Walk, adjacent, joined}
 use Rattle.graph_core.specs.Components.{IsConnected}
-use Rattle.graph_core.specs.Covered.{IsCovered}
 use Rattle.graph_core.proofs.Walks.{adjacent-edge, adjacent_from, has_ends-back, has_ends-cases, has_ends-own, joined_on, joined_self}
 use Rattle.graph_core.proofs.Components.{joined_walk, walk_joined}
-use Rattle.graph_core.proofs.Parity.{parity}
-use Rattle.grow_gen.specs.Cubic.{IsCubic}
-use Rattle.grow_gen.specs.Splices.{is_at, other_end, edge_with_end, neighbours, new_number, permutation, renumbered_edge, rehung_edges, targets_of, splice}
-use Rattle.grow_gen.proofs.EdgeSums.{Each, by_test, sum_edges, total-edges, row_where, marked, each-edge, edge-at, length-row_where}
+use Rattle.grow_gen.specs.Splices.{is_at, other_end, edge_with_end, new_number, renumbered_edge, rehung_edges}
+use Rattle.grow_gen.proofs.EdgeSums.{Each, by_test, sum_edges, each-edge, edge-at}
 use Rattle.grow_gen.proofs.Rehanging.{IsEdge, flags_at, caught, caught-none, at-cases, not_at-ends, rehung_edges-none, member-first, member-later}
 use Rattle.grow_gen.proofs.Renumbering.{kept_edges, ends_beside}
 

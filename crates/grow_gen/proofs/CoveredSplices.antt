@@ -1,20 +1,18 @@
 -- A splice of two covered cubic graphs is covered. Idea: its edges are allowed, and it is connected since a set that no edge
 -- leaves holds the new ends of all joined edges or of none.
-use Rattle.std.proofs.Common.{◌≡◌, ℕ, suc, zero, ◌+◌, ◌-◌, ◌*◌, ◌≤◌, ◌<◌, ◌≢◌, Bool, true, false, ◌==◌, ◌&&◌, ◌⊎◌, inl, inr, List, [], ◌∷◌, length, map, refl, sym, ap, ap₂, ◌∙◌, arith, subst}
+use Rattle.std.proofs.Common.{◌≡◌, ℕ, suc, zero, ◌+◌, ◌-◌, ◌*◌, ◌≤◌, ◌<◌, ◌≢◌, Bool, true, false, ◌&&◌, inl, inr, List, [], ◌∷◌, map, refl, sym, ap, ap₂, ◌∙◌, arith, subst}
 use Rattle.std.specs.Prelude.{slice_index_or}
-use Rattle.std.proofs.lemmas.Bool.{cases_eq}
 use Rattle.counting.specs.Counts.{Within, bit, count, is_odd}
-use Rattle.counting.specs.Sets.{Set, none}
+use Rattle.counting.specs.Sets.{Set}
 use Rattle.counting.specs.Lists.{mem}
 use Rattle.counting.proofs.Odd.{odd-add, odd-double}
 use Rattle.graph_core.specs.Graph.{Graph, size, IsMultigraph, in_cut, inside}
 use Rattle.graph_core.specs.Covered.{IsCovered}
-use Rattle.graph_core.specs.Components.{IsConnected}
 use Rattle.graph_core.proofs.Parity.{parity}
 use Rattle.grow_gen.specs.Cubic.{IsCubic}
-use Rattle.grow_gen.specs.Splices.{is_at, neighbours, new_number, permutation, renumbered_edge, rehung_edges, splice}
+use Rattle.grow_gen.specs.Splices.{is_at, new_number, permutation, renumbered_edge, rehung_edges, splice}
 use Rattle.grow_gen.proofs.EdgeSums.{Each, each-split, total-edges, length-row_where}
-use Rattle.grow_gen.proofs.Rehanging.{flags_at, caught}
+use Rattle.grow_gen.proofs.Rehanging.{caught}
 use Rattle.grow_gen.proofs.Renumbering.{kept_edges, ends_beside, old_or_new}
 use Rattle.grow_gen.proofs.ThreeEdges.{unit, three-items, each-edge_of, edges-at, row-through}
 use Rattle.grow_gen.proofs.Splicing.{new, one, beside, targets, targets-permuted, targets-three, mem-three, permuted-mem, splice-multigraph, splice-allowed}

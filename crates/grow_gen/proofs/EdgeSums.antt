@@ -1,9 +1,9 @@
 -- Sums over the edges of a graph, taken along the list of edges with a row of truth values for a set of edges.
 -- Idea: a sum from 1 on is its first term and the sum that begins one later, so it follows the list.
-use Rattle.std.proofs.Common.{◌≡◌, ℕ, suc, zero, ◌+◌, ◌-◌, ◌*◌, ◌≤◌, ◌<◌, ◌≢◌, Bool, true, false, cond, ◌==◌, ◌&&◌, List, [], ◌∷◌, ◌++◌, length, filter, refl, sym, ap, ap₂, ◌∙◌, arith, subst}
+use Rattle.std.proofs.Common.{◌≡◌, ℕ, suc, zero, ◌+◌, ◌-◌, ◌≤◌, ◌<◌, Bool, true, false, cond, ◌==◌, ◌&&◌, List, [], ◌∷◌, ◌++◌, length, filter, refl, sym, ap, ap₂, ◌∙◌, arith, subst}
 use Rattle.std.specs.Prelude.{slice_index_or}
 use Rattle.std.proofs.lemmas.List.{get_or_append_left, get_or-append-add}
-use Rattle.counting.specs.Counts.{Within, bit, count, total}
+use Rattle.counting.specs.Counts.{Within, bit, total}
 use Rattle.counting.specs.Sets.{Set}
 use Rattle.counting.proofs.Totals.{total_add, total_congr}
 use Rattle.graph_core.specs.Graph.{Graph, size, first_end, second_end, degree}

@@ -1,9 +1,9 @@
 -- A splice of graphs without parallel edges has none. Idea: two vertices of one side are joined by at most the edges that
 -- joined them, and an old and a new vertex only by the one edge at w whose target the new vertex is.
-use Rattle.std.proofs.Common.{◌≡◌, ℕ, suc, zero, ◌+◌, ◌-◌, ◌≤◌, ◌<◌, ◌≢◌, Bool, true, false, cond, ◌==◌, ◌&&◌, ◌||◌, not, ◌⊎◌, inl, inr, List, [], ◌∷◌, ◌++◌, length, map, filter, refl, sym, ap, ap₂, ◌∙◌, arith, subst, eq-eqb, ne_eqb, eqb-true, le_trans}
+use Rattle.std.proofs.Common.{◌≡◌, ℕ, suc, ◌+◌, ◌-◌, ◌≤◌, ◌<◌, ◌≢◌, Bool, true, false, cond, ◌==◌, ◌&&◌, ◌||◌, not, ◌⊎◌, inl, inr, List, [], ◌∷◌, ◌++◌, length, map, filter, refl, sym, ap, ap₂, ◌∙◌, arith, subst, eq-eqb, ne_eqb, eqb-true, le_trans}
 use Rattle.std.specs.Prelude.{slice_index_or}
-use Rattle.std.proofs.lemmas.Bool.{cases_eq, cases_Bool, or_cases, or_from, or_left, or_right, and_parts, and_from, and_left, and_right, both_ways, false_from_ne_true}
-use Rattle.counting.specs.Counts.{Within, bit, count, total}
+use Rattle.std.proofs.lemmas.Bool.{or_cases, or_from, or_left, or_right, and_parts, and_from, and_left, and_right}
+use Rattle.counting.specs.Counts.{Within, bit, total}
 use Rattle.counting.specs.Lists.{mem}
 use Rattle.counting.proofs.Counts.{count_le_one, only_one}
 use Rattle.counting.proofs.Totals.{total_congr, at_le_total}

@@ -1,7 +1,7 @@
 -- The pieces are cubic, matching covered multigraphs. Idea: tests that compute, with three perfect matchings that hold all
 -- edges, and all vertices reached from vertex 1 along the edges.
-use Rattle.std.proofs.Common.{◌≡◌, ℕ, suc, zero, ◌+◌, ◌≤◌, ◌<◌, ◌≢◌, Bool, true, false, cond, ◌==◌, ◌&&◌, ◌||◌, not, ◌⊎◌, inl, inr, List, [], ◌∷◌, length, refl, sym, ap, ◌∙◌, arith, eqb-true, nat_le, leb-true}
-use Rattle.std.proofs.lemmas.Bool.{and_parts, or_cases, both_ways, eqb-false, not-true, cases_Bool, true≢false}
+use Rattle.std.proofs.Common.{◌≡◌, ℕ, ◌≤◌, Bool, true, false, cond, ◌==◌, ◌&&◌, ◌||◌, not, inl, inr, List, [], ◌∷◌, refl, sym, ap, ◌∙◌, arith, eqb-true, nat_le, leb-true}
+use Rattle.std.proofs.lemmas.Bool.{and_parts, or_cases, eqb-false, not-true, true≢false}
 use Rattle.counting.specs.Counts.{Within}
 use Rattle.counting.specs.Sets.{Set, everything, none}
 use Rattle.counting.specs.Lists.{mem}
@@ -15,7 +15,7 @@ use Rattle.graph_core.specs.Covered.{IsCovered}
 use Rattle.graph_core.proofs.Decide.{is_perfect_true}
 use Rattle.grow_gen.specs.declared.pieces.Piece.{Piece}
 use Rattle.grow_gen.specs.declared.pieces.Piece.TheVariants.{K33, K4, Prism, Cube}
-use Rattle.grow_gen.specs.Pieces.{piece_order, piece_ends, piece_graph}
+use Rattle.grow_gen.specs.Pieces.{piece_order, piece_graph}
 use Rattle.grow_gen.specs.Cubic.{IsCubic, HasNoParallel}
 use Rattle.grow_gen.proofs.EdgeSums.{Each}
 use Rattle.grow_gen.proofs.Connecting.{Stays, connected-steady}

@@ -1,16 +1,16 @@
 -- A graph that grows stays a covered cubic multigraph, and each piece finds a vertex. Idea: class A gets at least two vertices
 -- with each bipartite piece and gives up at most one with each other piece, and no two others come in a row.
-use Rattle.std.proofs.Common.{◌≡◌, ℕ, suc, zero, ◌+◌, ◌-◌, ◌*◌, ◌/◌, ◌%◌, ◌≤◌, ◌<◌, ◌≢◌, Bool, true, false, cond, ◌==◌, ◌&&◌, ◌||◌, not, ◌⊎◌, inl, inr, List, [], ◌∷◌, ◌++◌, length, map, filter, refl, sym, ap, ap₂, ◌∙◌, arith, subst, eq-eqb, ne_eqb, eqb-true}
+use Rattle.std.proofs.Common.{◌≡◌, ℕ, suc, zero, ◌+◌, ◌-◌, ◌*◌, ◌/◌, ◌%◌, ◌≤◌, ◌<◌, ◌≢◌, Bool, true, false, cond, ◌==◌, ◌&&◌, ◌||◌, not, inl, inr, List, [], ◌∷◌, length, map, filter, refl, sym, ap, ap₂, ◌∙◌, arith, eq-eqb, ne_eqb}
 use Rattle.std.specs.Prelude.{slice_index, slice_index_or}
 use Rattle.std.proofs.lemmas.List.{length-append, length-map}
-use Rattle.std.proofs.lemmas.Bool.{cases_eq, cases_Bool, and_parts, or_cases, or_left, or_right, true≢false}
+use Rattle.std.proofs.lemmas.Bool.{cases_eq, cases_Bool, or_left, or_right, true≢false}
 use Rattle.std.proofs.lemmas.Nat.{div-add-mod', mod_below, mod-mul-add}
 use Rattle.counting.specs.Counts.{Within}
-use Rattle.counting.specs.Sets.{Set, union}
+use Rattle.counting.specs.Sets.{union}
 use Rattle.counting.specs.Lists.{mem, rising_list, IsRisingIn}
-use Rattle.counting.proofs.Lists.{rising_holds, rising_only}
-use Rattle.counting.proofs.RisingLists.{rising_list-rises, mem-within, set-wider}
-use Rattle.graph_core.specs.Graph.{Graph, size, IsMultigraph}
+use Rattle.counting.proofs.Lists.{rising_holds}
+use Rattle.counting.proofs.RisingLists.{rising_list-rises, mem-within}
+use Rattle.graph_core.specs.Graph.{size, IsMultigraph}
 use Rattle.graph_core.specs.Covered.{IsCovered}
 use Rattle.grow_gen.specs.declared.pieces.Piece.{Piece}
 use Rattle.grow_gen.specs.declared.pieces.Piece.TheVariants.{K33, K4, Prism, Cube}

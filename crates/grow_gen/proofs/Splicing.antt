@@ -1,22 +1,22 @@
 -- A splice of two covered cubic graphs is a covered cubic graph. Idea: a perfect matching of each that agree on the edges
 -- that are joined give one of the splice, and each edge is in such a pair since each of the joined edges is allowed.
-use Rattle.std.proofs.Common.{◌≡◌, ℕ, suc, zero, ◌+◌, ◌-◌, ◌*◌, ◌≤◌, ◌<◌, ◌≢◌, Bool, true, false, cond, ◌==◌, ◌&&◌, ◌||◌, not, ◌⊎◌, inl, inr, List, [], ◌∷◌, ◌++◌, length, map, filter, refl, sym, ap, ap₂, ◌∙◌, arith, subst, eq-eqb, ne_eqb, eqb-true}
+use Rattle.std.proofs.Common.{◌≡◌, ℕ, suc, zero, ◌+◌, ◌-◌, ◌≤◌, ◌<◌, ◌≢◌, Bool, true, false, ◌==◌, ◌&&◌, ◌||◌, not, ◌⊎◌, inl, inr, List, [], ◌∷◌, ◌++◌, length, map, filter, refl, sym, ap, ap₂, ◌∙◌, arith, subst, eqb-true}
 use Rattle.std.specs.Prelude.{slice_index, slice_index_or}
 use Rattle.std.proofs.lemmas.List.{length-append, length-map}
-use Rattle.std.proofs.lemmas.Bool.{cases_eq, cases_lt, or_cases, true≢false}
+use Rattle.std.proofs.lemmas.Bool.{cases_lt, or_cases, true≢false}
 use Rattle.counting.specs.Counts.{Within, bit}
 use Rattle.counting.specs.Sets.{Set, everything, none}
 use Rattle.counting.specs.Lists.{mem}
-use Rattle.graph_core.specs.Graph.{Graph, size, degree, first_end, second_end, IsMultigraph}
+use Rattle.graph_core.specs.Graph.{Graph, size, degree, IsMultigraph}
 use Rattle.graph_core.specs.Matchings.{IsPerfect, Allowed}
 use Rattle.graph_core.specs.Covered.{IsCovered}
 use Rattle.graph_core.proofs.Decide.{degree_congr}
 use Rattle.grow_gen.specs.Cubic.{IsCubic}
 use Rattle.grow_gen.specs.Splices.{is_at, neighbours, new_number, permutation, renumbered_edge, rehung_edges, targets_of, splice}
-use Rattle.grow_gen.proofs.EdgeSums.{Each, sum_edges, sum_edges-append, ends_at, row_where, row_from, marked, marked-front, marked-back, each-append, edge-at, edge-at_place, each-weaker, degree-row, degree-marked, length-row_from, length-row_where, marked-row_from}
+use Rattle.grow_gen.proofs.EdgeSums.{Each, sum_edges, sum_edges-append, ends_at, row_from, marked, marked-front, marked-back, each-append, edge-at, edge-at_place, each-weaker, degree-marked, length-row_from, length-row_where, marked-row_from}
 use Rattle.grow_gen.proofs.Rehanging.{IsEdge, IsClear, flags_at, caught, each-rehung, length-rehung_edges, member-first, member-later, sum_edges-rehung_elsewhere, sum_edges-rehung_there}
 use Rattle.grow_gen.proofs.Renumbering.{kept_edges, kept_row, ends_beside, each-beside, each-kept, new_number-same, new_number-where, old_or_new, sum_edges-kept_new, sum_edges-kept_old}
-use Rattle.grow_gen.proofs.ThreeEdges.{true_count, unit, unit-of_one, three-items, three-true, each-edge_of, edges-at, flags-three, flags-perfect, PerfectRow, row-with, row-through}
+use Rattle.grow_gen.proofs.ThreeEdges.{true_count, unit-of_one, three-items, three-true, each-edge_of, edges-at, flags-three, PerfectRow, row-with, row-through}
 
 -- three truth values in the order of a permutation
 abbrev pub permuted : ℕ → List Bool → List Bool

@@ -1,17 +1,17 @@
 -- The three edges at a vertex of a cubic graph. Idea: the truth values of the edges at a vertex are a list of three, and
 -- exactly one of them is true for a perfect matching.
-use Rattle.std.proofs.Common.{◌≡◌, ℕ, suc, zero, ◌+◌, ◌-◌, ◌≤◌, ◌<◌, ◌≢◌, Bool, true, false, cond, ◌==◌, ◌&&◌, ◌||◌, not, ◌⊎◌, inl, inr, List, [], ◌∷◌, length, map, filter, refl, sym, ap, ap₂, ◌∙◌, arith, subst, eq-eqb, ne_eqb, eqb-true}
+use Rattle.std.proofs.Common.{◌≡◌, ℕ, suc, zero, ◌+◌, ◌≤◌, ◌<◌, Bool, true, false, cond, ◌==◌, ◌&&◌, inl, inr, List, [], ◌∷◌, length, filter, refl, sym, ap, ◌∙◌, arith, eq-eqb}
 use Rattle.std.specs.Prelude.{slice_index_or}
-use Rattle.std.proofs.lemmas.Bool.{cases_eq, true≢false}
+use Rattle.std.proofs.lemmas.Bool.{true≢false}
 use Rattle.counting.specs.Counts.{Within, bit}
 use Rattle.counting.specs.Sets.{Set, everything, none}
 use Rattle.graph_core.specs.Graph.{Graph, size, degree, IsMultigraph}
-use Rattle.graph_core.specs.Matchings.{IsPerfect, Allowed}
+use Rattle.graph_core.specs.Matchings.{IsPerfect}
 use Rattle.graph_core.specs.Covered.{IsCovered}
 use Rattle.graph_core.proofs.Decide.{degree_congr}
 use Rattle.grow_gen.specs.Cubic.{IsCubic}
 use Rattle.grow_gen.specs.Splices.{is_at}
-use Rattle.grow_gen.proofs.EdgeSums.{Each, sum_edges, ends_at, by_test, row_where, row_from, marked, each-edge, edge-at_place, degree-row, degree-marked, length-row_from, length-row_where, marked-row_from}
+use Rattle.grow_gen.proofs.EdgeSums.{Each, sum_edges, ends_at, by_test, row_from, marked, each-edge, edge-at_place, degree-row, degree-marked, length-row_from, length-row_where, marked-row_from}
 use Rattle.grow_gen.proofs.Rehanging.{IsEdge, flags_at, at-cases, not_at-ends, no_end}
 
 -- how many are true

@@ -1,6 +1,6 @@
 -- Splicing (Lucchesi and Murty, "Perfect Matchings"): a vertex of one graph and a vertex of another are taken away, and the
 -- edges that ended there are joined in pairs. Here the second graph gives up its vertex 1.
-use Rattle.std.specs.Prelude.{ℕ, ◌+◌, ◌-◌, Bool, true, false, List, [], ◌∷◌, ◌++◌, ◌==◌, ◌||◌, not, map, filter, slice_index, slice_index_or, if◌then◌else◌}
+use Rattle.std.specs.Prelude.{ℕ, ◌+◌, ◌-◌, Bool, List, [], ◌∷◌, ◌++◌, ◌==◌, ◌||◌, not, map, filter, slice_index, slice_index_or, if◌then◌else◌}
 use Rattle.graph_core.specs.Graph.{Graph}
 
 -- the edge is at v

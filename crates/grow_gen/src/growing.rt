@@ -12,7 +12,7 @@ use crate::pieces::Piece;
 use crate::splices;
 use graph_core::{AddFault, Ends, MOST_EDGES, MultiGraph};
 use std::alloc::{AllocError as Memory, Global};
-use vset_core::VSet;
+use vset_core::{MOST_VERTICES, VSet};
 
 /// A graph that grows, with the two classes of its skeleton.
 #[derive(Drop)]
@@ -117,10 +117,8 @@ fn add(graph: &mut MultiGraph, edge: Ends) -> Result<(), Memory>
 /// The member of a set at a place, counted from 0 in rising order.
 fn member_at(set: VSet, place: u32) -> u32
     requires { place < length set }
-    ensures value { result ≡ slice_index set place }
-    ensures within { Within 128 result }
+    ensures { result ≡ slice_index set place }
 {
-    set.rises();
     match set.iter().nth(place as usize) {
         Some(v) => v,
         None => unreachable!(),
@@ -130,7 +128,7 @@ fn member_at(set: VSet, place: u32) -> u32
 /// A class without `w` and with the vertices that the piece brings into it: those opposite to its vertex 1 where `w` is in
 /// the class, and the others where it is not.
 fn next_class(class: VSet, piece: Piece, n: u32, w: u32) -> VSet
-    requires room { n + piece_order piece ≤ 130 }
+    requires room { n + piece_order piece ≤ MOST_VERTICES + 2 }
     requires rising { IsRisingIn n class }
     requires vertex { Within n w }
     ensures { result ≡ next_class n w piece class (mem class w) }

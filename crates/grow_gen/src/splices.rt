@@ -7,6 +7,7 @@ ghost use Rattle.grow_gen.specs.Splices.{edge_with_end, is_at, new_number, permu
 use crate::pieces::Piece;
 use graph_core::Ends;
 use std::alloc::AllocError as Memory;
+use vset_core::MOST_VERTICES;
 
 /// The number that vertex `x`, 2 or greater, of a piece gets when it is spliced at `w` into a graph of `n` vertices.
 pub fn new_number(n: u32, w: u32, x: u32) -> u32
@@ -34,7 +35,7 @@ pub fn permuted(items: [u32; 3], i: u32) -> [u32; 3]
 
 /// The new ends of the three edges at `w` where the piece is spliced by permutation `i`.
 pub fn targets(piece: Piece, n: u32, w: u32, i: u32) -> [u32; 3]
-    requires size { n ≤ 1000 }
+    requires room { n + piece_order piece ≤ MOST_VERTICES + 2 }
     requires order { i < 6 }
     ensures { result ≡ targets_of n w (piece_graph piece) (permutation i) }
 {
@@ -79,7 +80,7 @@ pub fn rehang(edges: &mut Vec<Ends>, w: u32, targets: &[u32])
 
 /// Appends the edges of the piece that are not at its vertex 1, under their new numbers.
 pub fn append_kept(edges: &mut Vec<Ends>, piece: Piece, n: u32, w: u32) -> Result<(), Memory>
-    requires { n ≤ 1000 }
+    requires { n + piece_order piece ≤ MOST_VERTICES + 2 }
     ensures { OnOk result (map pair_of edges.new.items ≡ map pair_of edges.old.items ++ map (renumbered_edge n w) (filter (λ e. not (is_at 1 e)) (piece_ends piece))) }
 {
     for &(a, b) in piece.ends() {

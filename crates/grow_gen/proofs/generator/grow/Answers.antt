@@ -1,9 +1,7 @@
-use Rattle.std.proofs.Common.{◌≡◌, ℕ, suc, zero, ◌+◌, ◌-◌, ◌≤◌, ◌<◌, ap, ap₂, sym, ◌∙◌, arith, subst, refl, Result, Ok, Err}
-use Rattle.std.specs.Prelude.{IfOk}
+use Rattle.std.proofs.Common.{◌≡◌, ℕ, suc, ◌+◌, ◌-◌, ◌≤◌, ◌<◌, ap, ap₂, sym, ◌∙◌, arith, subst}
 use Rattle.std.proofs.lemmas.Result.{IfOk-weaker}
 use Rattle.rand_pcg.specs.Lcg.{Lcg, started, increment_of}
 use Rattle.rand_pcg.specs.Pcg.{multiplier_64, pcg32}
-use Rattle.graph_core.specs.Graph.{Graph}
 use Rattle.grow_gen.specs.Pieces.{further_piece}
 use Rattle.grow_gen.specs.Growing.{growth_of}
 use Rattle.grow_gen.specs.Growth.{Growth, MayTake, first_growth, growth_from, grown, with_piece}

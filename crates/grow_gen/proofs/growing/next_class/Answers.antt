@@ -1,7 +1,7 @@
-use Rattle.std.proofs.Common.{◌≡◌, ℕ, ◌-◌, ◌+◌, ◌≤◌, ◌==◌, ◌&&◌, ◌||◌, not, map, take, ap, ap₂, sym, ◌∙◌, arith}
+use Rattle.std.proofs.Common.{◌≡◌, ◌==◌, ◌&&◌, ◌||◌, not, map, take, ap, ap₂, ◌∙◌, arith}
 use Rattle.std.proofs.lemmas.List.{take_all}
 use Rattle.counting.specs.Lists.{mem}
-use Rattle.grow_gen.specs.Pieces.{piece_order, side}
+use Rattle.grow_gen.specs.Pieces.{side}
 use Rattle.grow_gen.specs.Splices.{new_number}
 use Rattle.grow_gen.proofs.Skeleton.{next_class-rising, mem-image_more}
 use Rattle.grow_gen.proofs.growing.next_class.Goals as goal

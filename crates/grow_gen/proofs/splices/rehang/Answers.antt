@@ -1,4 +1,4 @@
-use Rattle.std.proofs.Common.{◌≡◌, ℕ, ◌+◌, ◌≤◌, ◌<◌, sym, ap, ap₂, ◌∙◌, arith, inl, inr, true, false, subst, length, get_or, drop}
+use Rattle.std.proofs.Common.{◌+◌, ◌<◌, sym, ap₂, ◌∙◌, arith, inl, inr, length, drop}
 use Rattle.std.proofs.lemmas.List.{set-get_or, drop_all}
 use Rattle.graph_core.specs.declared.ends.Ends.{Ends}
 use Rattle.grow_gen.proofs.RehangSteps.{Halfway, kept_step, rehung_step}

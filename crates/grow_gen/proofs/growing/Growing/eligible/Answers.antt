@@ -1,4 +1,4 @@
-use Rattle.std.proofs.Common.{◌≡◌, ℕ, ◌≤◌, ap, sym, ◌∙◌, arith, cond}
+use Rattle.std.proofs.Common.{ap, sym, ◌∙◌, arith, cond}
 use Rattle.counting.specs.Sets.{union}
 use Rattle.counting.specs.Lists.{mem, rising_list}
 use Rattle.grow_gen.proofs.PieceFacts.{piece-two}

@@ -1,10 +1,9 @@
-use Rattle.std.proofs.Common.{◌≡◌, ℕ, ◌∷◌, [], Bool, true, false, ◌==◌, ◌||◌, length, map, take, ap, ap₂, sym, ◌∙◌, arith, refl, List}
+use Rattle.std.proofs.Common.{◌≡◌, ℕ, ◌∷◌, [], Bool, true, false, ◌==◌, ◌||◌, map, ap, ap₂, ◌∙◌, arith, refl, List}
 use Rattle.std.proofs.lemmas.List.{take_all}
 use Rattle.counting.specs.Lists.{mem}
 use Rattle.counting.proofs.RisingLists.{same_rising_list, rising_list-rises, set-wider}
 use Rattle.graph_core.specs.View.{pair_of}
 use Rattle.grow_gen.specs.Growth.{Growth}
-use Rattle.grow_gen.specs.Pieces.{piece_ends}
 use Rattle.grow_gen.proofs.growing.Growing.first.Goals as goal
 
 pub returns : goal.returns

@@ -1,4 +1,4 @@
-use Rattle.std.proofs.Common.{◌≡◌, ℕ, ap, sym, subst, get_or}
+use Rattle.std.proofs.Common.{ap, sym, subst, get_or}
 use Rattle.counting.specs.Counts.{Within}
 use Rattle.graph_core.specs.View.{graph_of}
 use Rattle.graph_core.specs.Graph.{Graph, IsMultigraph}

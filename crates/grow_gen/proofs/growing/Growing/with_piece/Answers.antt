@@ -1,4 +1,4 @@
-use Rattle.std.proofs.Common.{◌≡◌, ℕ, ◌-◌, ◌+◌, ◌%◌, ◌++◌, map, filter, not, ap, ap₂, ◌∙◌}
+use Rattle.std.proofs.Common.{◌-◌, ◌+◌, ◌++◌, map, filter, not, ap, ◌∙◌}
 use Rattle.graph_core.specs.View.{pair_of}
 use Rattle.grow_gen.specs.Growing.{growth_of}
 use Rattle.grow_gen.specs.Pieces.{piece_ends}
