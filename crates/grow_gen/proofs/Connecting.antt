@@ -5,7 +5,7 @@ use Rattle.std.proofs.Common.{◌≡◌, ℕ, suc, ◌+◌, ◌≤◌, ◌≢◌
 use Rattle.counting.specs.Counts.{Within, bit}
 use Rattle.counting.specs.Sets.{Set, none}
 use Rattle.counting.specs.Lists.{mem}
-use Rattle.graph_core.specs.Graph.{Graph, size, first_end, second_end, IsGraph, IsMultigraph, edges_in_cut, in_cut, inside}
+use Rattle.graph_core.specs.Graph.{Graph, size, first_end, second_end, IsGraph, IsMultigraph, edges_in_cut, in_cut, inside, has_ends}
 use Rattle.graph_core.specs.Walks.{Joined, Walk, adjacent, joined}
 use Rattle.graph_core.specs.Components.{IsConnected}
 use Rattle.graph_core.proofs.Walks.{adjacent-edge, adjacent_from, has_ends-back, has_ends-cases, has_ends-own, joined_on, joined_self}
@@ -39,7 +39,7 @@ pub connected-steady : (g : Graph) → IsGraph g → ((x : Set) → Each (Stays 
 unfolding Joined
 connected-steady g is h u v wu wv = joined_walk g none u v (sym (h (joined g none u) (each-edge (Stays (joined g none u)) g.ends same) u v wu wv) ∙ walk_joined g none is u u wu (joined_self g none u))
   where
-    step : (a b e : ℕ) → Within (size g) e → Rattle.graph_core.specs.Graph.has_ends g a b e ≡ true → joined g none u a ≡ true → joined g none u b ≡ true
+    step : (a b e : ℕ) → Within (size g) e → has_ends g a b e ≡ true → joined g none u a ≡ true → joined g none u b ≡ true
     step a b e w k j = walk_joined g none is u b wu (joined_on g none u a b (joined_walk g none u a j) (b ∷ [], (adjacent_from g none a b e refl refl w k, refl)))
 
     same : (e : ℕ) → Within (size g) e → joined g none u (first_end g e) ≡ joined g none u (second_end g e)

@@ -1,6 +1,6 @@
 -- A splice of two covered cubic graphs is covered. Idea: its edges are allowed, and it is connected since a set that no edge
 -- leaves holds the new ends of all joined edges or of none.
-use Rattle.std.proofs.Common.{◌≡◌, ℕ, suc, zero, ◌+◌, ◌-◌, ◌*◌, ◌≤◌, ◌<◌, ◌≢◌, Bool, true, false, ◌&&◌, inl, inr, List, [], ◌∷◌, map, refl, sym, ap, ap₂, ◌∙◌, arith, subst}
+use Rattle.std.proofs.Common.{◌≡◌, ℕ, suc, zero, ◌+◌, ◌-◌, ◌*◌, ◌≤◌, ◌<◌, ◌≢◌, Bool, true, false, ◌&&◌, inl, inr, List, [], ◌∷◌, map, refl, sym, ap, ap₂, ◌∙◌, arith, subst, cond, not}
 use Rattle.std.specs.Prelude.{slice_index_or}
 use Rattle.counting.specs.Counts.{Within, bit, count, is_odd}
 use Rattle.counting.specs.Sets.{Set}
@@ -11,18 +11,18 @@ use Rattle.graph_core.specs.Covered.{IsCovered}
 use Rattle.graph_core.proofs.Parity.{parity}
 use Rattle.grow_gen.specs.Cubic.{IsCubic}
 use Rattle.grow_gen.specs.Splices.{is_at, new_number, permutation, renumbered_edge, rehung_edges, splice}
-use Rattle.grow_gen.proofs.EdgeSums.{Each, each-split, total-edges, length-row_where}
+use Rattle.grow_gen.proofs.EdgeSums.{Each, each-split, total-edges, length-marks_where, marked}
 use Rattle.grow_gen.proofs.Rehanging.{caught}
 use Rattle.grow_gen.proofs.Renumbering.{kept_edges, ends_beside, old_or_new}
-use Rattle.grow_gen.proofs.ThreeEdges.{unit, three-items, each-edge_of, edges-at, row-through}
-use Rattle.grow_gen.proofs.Splicing.{new, one, beside, targets, targets-permuted, targets-three, mem-three, permuted-mem, splice-multigraph, splice-allowed}
-use Rattle.grow_gen.proofs.Connecting.{Stays, without, with_answer, answer-own, answer-other, steady-connected, connected-steady, sum_edges-crossing, each-stays_old, each-stays_new}
+use Rattle.grow_gen.proofs.ThreeEdges.{unit, three-items, each-edge_of, edges-at, marks-through}
+use Rattle.grow_gen.proofs.Splicing.{new, one, beside, targets, targets-permuted, targets-three, mem-three, permuted-mem, splice-multigraph, splice-allowed, permuted_values}
+use Rattle.grow_gen.proofs.Connecting.{Stays, without, with_answer, answer-own, answer-other, steady-connected, connected-steady, sum_edges-crossing, each-stays_old, each-stays_new, crosses}
 
 -- twice a number does not change the parity
 odd-even : (c k : ℕ) → is_odd (c + 2 * k) ≡ is_odd c
-odd-even c k = ap (λ j. is_odd (c + j)) (let q : 2 * k ≡ k + k = omega arith in q) ∙ odd-add c (k + k) ∙ ap (λ b. Rattle.std.specs.Prelude.cond (is_odd c) (Rattle.std.specs.Prelude.not b) b) (odd-double k) ∙ same (is_odd c)
+odd-even c k = ap (λ j. is_odd (c + j)) (let q : 2 * k ≡ k + k = omega arith in q) ∙ odd-add c (k + k) ∙ ap (λ b. cond (is_odd c) (not b) b) (odd-double k) ∙ same (is_odd c)
   where
-    same : (b : Bool) → Rattle.std.specs.Prelude.cond b true false ≡ b
+    same : (b : Bool) → cond b true false ≡ b
     same true = refl
     same false = refl
 
@@ -58,16 +58,16 @@ module _ (g h : Graph) (w i : ℕ) (mg : IsMultigraph g) (mh : IsMultigraph h) (
     end-odd : (a : ℕ) → a < 3 → x (slice_index_or (ends-three.0 ∷ ends-three.1 ∷ ends-three.2 ∷ []) a 0) ≡ odd_old
     unfolding odd_old
     end-odd a l =
-        let b = row-through g mg cg w ww vg a l in
-        let crossing : count (size g) (λ e. Rattle.grow_gen.proofs.EdgeSums.marked b.0.row e && in_cut g (without w x) e) ≡ bit (x (slice_index_or (ends-three.0 ∷ ends-three.1 ∷ ends-three.2 ∷ []) a 0)) =
-        total-edges (λ k e. bit (k && Rattle.grow_gen.proofs.Connecting.crosses (without w x) e)) b.0.row g.ends b.0.whole
-        ∙ sum_edges-crossing g.order w x ends b.0.row g.ends (each-edge_of g mg) parts.0 b.0.whole (let p = length-row_where (is_at w) b.0.row g.ends b.0.whole in let q = edges-at g mg cg w ww in let r = targets-three g h w i mg mh cg ch vh.two ww li in omega arith)
+        let b = marks-through g mg cg w ww vg a l in
+        let crossing : count (size g) (λ e. marked b.0.marks e && in_cut g (without w x) e) ≡ bit (x (slice_index_or (ends-three.0 ∷ ends-three.1 ∷ ends-three.2 ∷ []) a 0)) =
+        total-edges (λ k e. bit (k && crosses (without w x) e)) b.0.marks g.ends b.0.whole
+        ∙ sum_edges-crossing g.order w x ends b.0.marks g.ends (each-edge_of g mg) parts.0 b.0.whole (let p = length-marks_where (is_at w) b.0.marks g.ends b.0.whole in let q = edges-at g mg cg w ww in let r = targets-three g h w i mg mh cg ch vh.two ww li in omega arith)
         ∙ ap₂ (caught x) b.1 ends-three.3
         ∙ caught-unit x ends-three.0 ends-three.1 ends-three.2 a l in
         sym (odd-bit (x (slice_index_or (ends-three.0 ∷ ends-three.1 ∷ ends-three.2 ∷ []) a 0)))
         ∙ ap is_odd (sym crossing)
-        ∙ sym (odd-even _ (count (size g) (λ e. Rattle.grow_gen.proofs.EdgeSums.marked b.0.row e && inside g (without w x) e)))
-        ∙ ap is_odd (sym (parity g mg.ends (Rattle.grow_gen.proofs.EdgeSums.marked b.0.row) (without w x) b.0.perfect))
+        ∙ sym (odd-even _ (count (size g) (λ e. marked b.0.marks e && inside g (without w x) e)))
+        ∙ ap is_odd (sym (parity g mg.ends (marked b.0.marks) (without w x) b.0.perfect))
 
     all_ends : (t : ℕ) → mem ends t ≡ true → x t ≡ odd_old
     all_ends t m = elim (mem-three t ends-three.0 ends-three.1 ends-three.2 (ap (λ ts. mem ts t) (sym ends-three.3) ∙ m)) [
@@ -80,7 +80,7 @@ module _ (g h : Graph) (w i : ℕ) (mg : IsMultigraph g) (mh : IsMultigraph h) (
     all_beside =
         let n = beside g h w i mg mh cg ch vh.two ww li in
         let p = permuted-mem (new_number g.order w) n.0 n.1 n.2 i li in
-        let to : (t : ℕ) → mem (Rattle.grow_gen.proofs.Splicing.permuted_values i (new_number g.order w) (n.0 ∷ n.1 ∷ n.2 ∷ [])) t ≡ true → x t ≡ odd_old = λ t m. all_ends t (ap (λ ts. mem ts t) (targets-permuted g h w i mg mh cg ch vh.two ww li) ∙ m) in
+        let to : (t : ℕ) → mem (permuted_values i (new_number g.order w) (n.0 ∷ n.1 ∷ n.2 ∷ [])) t ≡ true → x t ≡ odd_old = λ t m. all_ends t (ap (λ ts. mem ts t) (targets-permuted g h w i mg mh cg ch vh.two ww li) ∙ m) in
         subst (Each (λ v. x (new_number g.order w v) ≡ odd_old)) (sym n.3) (to _ p.0, (to _ p.1, (to _ p.2, tt)))
 
     old-odd : (v : ℕ) → Within g.order v → v ≢ w → x v ≡ odd_old

@@ -8,7 +8,7 @@ use Rattle.counting.specs.Lists.{mem}
 use Rattle.counting.proofs.Counts.{count_le_one, only_one}
 use Rattle.counting.proofs.Totals.{total_congr, at_le_total}
 use Rattle.graph_core.specs.Graph.{Graph, size, first_end, second_end, has_ends, IsMultigraph}
-use Rattle.graph_core.proofs.Walks.{has_ends-own, has_ends-cases}
+use Rattle.graph_core.proofs.Walks.{has_ends-own, has_ends-cases, has_ends-back}
 use Rattle.grow_gen.specs.Cubic.{IsCubic, HasNoParallel}
 use Rattle.grow_gen.specs.Splices.{is_at, other_end, edge_with_end, new_number, permutation, renumbered_edge, rehung_edges, splice}
 use Rattle.grow_gen.proofs.EdgeSums.{Each, by_test, total-first, item-next, each-weaker}
@@ -47,7 +47,7 @@ few_links g h u v = let t = total-links u v g.ends in let c = count_le_one (size
     ]
       where
         turn : (u v f : ℕ) → has_ends g u v f ≡ true → has_ends g v u f ≡ true
-        turn u v f h = Rattle.graph_core.proofs.Walks.has_ends-back g u v f h
+        turn u v f h = has_ends-back g u v f h
 
 -- and the other way round
 pub no_parallel-from_links : (g : Graph) → ((e : ℕ) → Within (size g) e → link_count (first_end g e) (second_end g e) g.ends ≤ 1) → HasNoParallel g

@@ -1,16 +1,16 @@
 -- What changes where the edges at w get other ends in the place of w: nothing at the other vertices, and a new end meets
--- the edges that were given it. Idea: along the list of edges, with the truth values of the edges at w taken out in order.
+-- the edges that were given it. Idea: along the list of edges, with the marks of the edges at w taken out in order.
 use Rattle.std.proofs.Common.{◌≡◌, ℕ, suc, ◌+◌, ◌≤◌, ◌<◌, ◌≢◌, Bool, true, false, cond, ◌==◌, ◌&&◌, ◌⊎◌, inl, inr, List, [], ◌∷◌, length, refl, sym, ap, ap₂, ◌∙◌, arith, subst, eq-eqb, ne_eqb, eqb-true}
 use Rattle.std.proofs.lemmas.Bool.{cases_eq, or_cases, or_parts, both_ways, or_left, or_right}
 use Rattle.counting.specs.Counts.{Within, bit}
 use Rattle.counting.specs.Sets.{Set}
 use Rattle.counting.specs.Lists.{mem}
 use Rattle.grow_gen.specs.Splices.{is_at, other_end, edge_with_end, rehung_edges}
-use Rattle.grow_gen.proofs.EdgeSums.{Each, sum_edges, ends_at, by_test, row_where}
+use Rattle.grow_gen.proofs.EdgeSums.{Each, sum_edges, ends_at, by_test, marks_where}
 
--- the truth values of the edges at w
+-- the marks of the edges at w
 abbrev pub flags_at : ℕ → List Bool → List (ℕ × ℕ) → List Bool
-flags_at w bs es = row_where (is_at w) bs es
+flags_at w bs es = marks_where (is_at w) bs es
 
 -- how many true flags have their target in x
 abbrev pub caught : Set → List Bool → List ℕ → ℕ

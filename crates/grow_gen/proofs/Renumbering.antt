@@ -1,19 +1,19 @@
 -- The edges that a spliced graph brings in: those not at its vertex 1, with new numbers for their ends. Idea: a vertex has
 -- all its edges, once those to vertex 1 are counted among the edges that got new ends.
 use Rattle.std.proofs.Common.{◌≡◌, ℕ, ◌+◌, ◌-◌, ◌≤◌, ◌<◌, ◌≢◌, Bool, true, cond, ◌==◌, ◌&&◌, not, ◌⊎◌, inl, inr, List, [], ◌∷◌, length, map, filter, refl, sym, ap, ap₂, ◌∙◌, arith, subst, eq-eqb, ne_eqb}
-use Rattle.std.proofs.lemmas.Bool.{cases_eq}
+use Rattle.std.proofs.lemmas.Bool.{cases_eq, cases_lt}
 use Rattle.counting.specs.Counts.{Within, bit}
 use Rattle.grow_gen.specs.Splices.{is_at, other_end, new_number, renumbered_edge}
-use Rattle.grow_gen.proofs.EdgeSums.{Each, sum_edges, ends_at, by_test, row_where}
+use Rattle.grow_gen.proofs.EdgeSums.{Each, sum_edges, ends_at, by_test, marks_where}
 use Rattle.grow_gen.proofs.Rehanging.{IsEdge, flags_at, caught, at-cases, not_at-ends, no_end}
 
 -- the edges that are not at vertex 1
 abbrev pub kept_edges : List (ℕ × ℕ) → List (ℕ × ℕ)
 kept_edges es = filter (λ e. not (is_at 1 e)) es
 
--- their truth values
-abbrev pub kept_row : List Bool → List (ℕ × ℕ) → List Bool
-kept_row bs es = row_where (λ e. not (is_at 1 e)) bs es
+-- their marks
+abbrev pub kept_marks : List Bool → List (ℕ × ℕ) → List Bool
+kept_marks bs es = marks_where (λ e. not (is_at 1 e)) bs es
 
 -- the other ends of the edges at v
 abbrev pub ends_beside : ℕ → List (ℕ × ℕ) → List ℕ
@@ -53,7 +53,7 @@ module _ (n w : ℕ) (ww : Within n w) where
   pub old_or_new : (k v : ℕ) → 2 ≤ k → Within (n + k - 2) v → (Within n v × (v ≢ w)) ⊎ ((x : ℕ) × (2 ≤ x) × (x ≤ k) × (new_number n w x ≡ v))
   old_or_new k v l u = elim (cases_eq v w) [
     | inl q ↦ inr (2, omega arith, l, sym q)
-    | inr q ↦ go q (Rattle.std.proofs.lemmas.Bool.cases_lt n v)
+    | inr q ↦ go q (cases_lt n v)
   ]
     where
       go : v ≢ w → (n < v) ⊎ (v ≤ n) → (Within n v × (v ≢ w)) ⊎ ((x : ℕ) × (2 ≤ x) × (x ≤ k) × (new_number n w x ≡ v))
@@ -71,11 +71,11 @@ module _ (n w : ℕ) (ww : Within n w) where
 
   -- a new vertex has its edges in the graph, those to vertex 1 by the new ends
   pub sum_edges-kept_new : (k x : ℕ) (bs : List Bool) (es : List (ℕ × ℕ)) → 2 ≤ x → Each (IsEdge k) es → length bs ≡ length es →
-      sum_edges (ends_at (new_number n w x)) (kept_row bs es) (map (renumbered_edge n w) (kept_edges es)) + caught (λ t. t == x) (flags_at 1 bs es) (ends_beside 1 es) ≡ sum_edges (ends_at x) bs es
+      sum_edges (ends_at (new_number n w x)) (kept_marks bs es) (map (renumbered_edge n w) (kept_edges es)) + caught (λ t. t == x) (flags_at 1 bs es) (ends_beside 1 es) ≡ sum_edges (ends_at x) bs es
   sum_edges-kept_new k x bs [] a c l = refl
   sum_edges-kept_new k x [] (e ∷ es) a c l = absurd (omega arith)
   sum_edges-kept_new k x (b ∷ bs) (e ∷ es) a c l = by_test (is_at 1 e)
-      (λ s. sum_edges (ends_at (new_number n w x)) (cond (not s) (b ∷ kept_row bs es) (kept_row bs es)) (map (renumbered_edge n w) (cond (not s) (e ∷ kept_edges es) (kept_edges es)))
+      (λ s. sum_edges (ends_at (new_number n w x)) (cond (not s) (b ∷ kept_marks bs es) (kept_marks bs es)) (map (renumbered_edge n w) (cond (not s) (e ∷ kept_edges es) (kept_edges es)))
       + caught (λ t. t == x) (cond s (b ∷ flags_at 1 bs es) (flags_at 1 bs es)) (map (other_end 1) (cond s (e ∷ filter (is_at 1) es) (filter (is_at 1) es))) ≡ ends_at x b e + sum_edges (ends_at x) bs es)
       (λ s. let h = sum_edges-kept_new k x bs es a c.1 (omega arith) in let q = beside s in omega (arith, h, q))
       (λ s. let h = sum_edges-kept_new k x bs es a c.1 (omega arith) in let d = not_at-ends 1 e s in
@@ -89,11 +89,11 @@ module _ (n w : ℕ) (ww : Within n w) where
 
   -- an old vertex has none of them
   pub sum_edges-kept_old : (k v : ℕ) (bs : List Bool) (es : List (ℕ × ℕ)) → 2 ≤ k → v ≤ n → v ≢ w → Each (IsEdge k) es → length bs ≡ length es →
-      sum_edges (ends_at v) (kept_row bs es) (map (renumbered_edge n w) (kept_edges es)) ≡ 0
+      sum_edges (ends_at v) (kept_marks bs es) (map (renumbered_edge n w) (kept_edges es)) ≡ 0
   sum_edges-kept_old k v bs [] t l d c m = refl
   sum_edges-kept_old k v [] (e ∷ es) t l d c m = absurd (omega arith)
   sum_edges-kept_old k v (b ∷ bs) (e ∷ es) t l d c m = by_test (is_at 1 e)
-      (λ s. sum_edges (ends_at v) (cond (not s) (b ∷ kept_row bs es) (kept_row bs es)) (map (renumbered_edge n w) (cond (not s) (e ∷ kept_edges es) (kept_edges es))) ≡ 0)
+      (λ s. sum_edges (ends_at v) (cond (not s) (b ∷ kept_marks bs es) (kept_marks bs es)) (map (renumbered_edge n w) (cond (not s) (e ∷ kept_edges es) (kept_edges es))) ≡ 0)
       (λ s. sum_edges-kept_old k v bs es t l d c.1 (omega arith))
       (λ s. let q = not_at-ends 1 e s in let h = sum_edges-kept_old k v bs es t l d c.1 (omega arith) in
       let x = no_end b (new_number n w e.0) v (far e.0 c.0.0 q.0) in let y = no_end b (new_number n w e.1) v (far e.1 c.0.1 q.1) in omega (arith, h, x, y))

@@ -1,4 +1,4 @@
--- The three edges at a vertex of a cubic graph. Idea: the truth values of the edges at a vertex are a list of three, and
+-- The three edges at a vertex of a cubic graph. Idea: the marks of the edges at a vertex are a list of three, and
 -- exactly one of them is true for a perfect matching.
 use Rattle.std.proofs.Common.{◌≡◌, ℕ, suc, zero, ◌+◌, ◌≤◌, ◌<◌, Bool, true, false, cond, ◌==◌, ◌&&◌, inl, inr, List, [], ◌∷◌, length, filter, refl, sym, ap, ◌∙◌, arith, eq-eqb}
 use Rattle.std.specs.Prelude.{slice_index_or}
@@ -11,7 +11,7 @@ use Rattle.graph_core.specs.Covered.{IsCovered}
 use Rattle.graph_core.proofs.Decide.{degree_congr}
 use Rattle.grow_gen.specs.Cubic.{IsCubic}
 use Rattle.grow_gen.specs.Splices.{is_at}
-use Rattle.grow_gen.proofs.EdgeSums.{Each, sum_edges, ends_at, by_test, row_from, marked, each-edge, edge-at_place, degree-row, degree-marked, length-row_from, length-row_where, marked-row_from}
+use Rattle.grow_gen.proofs.EdgeSums.{Each, sum_edges, ends_at, by_test, marks_from, marked, each-edge, edge-at_place, degree-marks, degree-marked, length-marks_from, length-marks_where, marked-marks_from}
 use Rattle.grow_gen.proofs.Rehanging.{IsEdge, flags_at, at-cases, not_at-ends, no_end}
 
 -- how many are true
@@ -19,7 +19,7 @@ abbrev pub true_count : List Bool → ℕ
 true_count [] = 0
 true_count (b ∷ bs) = bit b + true_count bs
 
--- the truth values of which that at place c alone is true
+-- three marks of which that at place c alone is true
 abbrev pub unit : ℕ → List Bool
 unit c = (c == 0) ∷ (c == 1) ∷ (c == 2) ∷ []
 
@@ -45,9 +45,9 @@ true_count-flags n w (b ∷ bs) (e ∷ es) c l = by_test (is_at w e) (λ s. true
     ]
 
 -- all edges at w are as many as there are
-true_count-everything : (k w : ℕ) (es : List (ℕ × ℕ)) → true_count (flags_at w (row_from k (length es) everything) es) ≡ length (filter (is_at w) es)
+true_count-everything : (k w : ℕ) (es : List (ℕ × ℕ)) → true_count (flags_at w (marks_from k (length es) everything) es) ≡ length (filter (is_at w) es)
 true_count-everything k w [] = refl
-true_count-everything k w (e ∷ es) = by_test (is_at w e) (λ s. true_count (cond s (true ∷ flags_at w (row_from (k + 1) (length es) everything) es) (flags_at w (row_from (k + 1) (length es) everything) es)) ≡ length (cond s (e ∷ filter (is_at w) es) (filter (is_at w) es)))
+true_count-everything k w (e ∷ es) = by_test (is_at w e) (λ s. true_count (cond s (true ∷ flags_at w (marks_from (k + 1) (length es) everything) es) (flags_at w (marks_from (k + 1) (length es) everything) es)) ≡ length (cond s (e ∷ filter (is_at w) es) (filter (is_at w) es)))
     (λ s. let h = true_count-everything (k + 1) w es in omega arith)
     (λ s. true_count-everything (k + 1) w es)
 
@@ -106,49 +106,49 @@ three-true false b c h = absurd (omega (arith, h, at_most b, at_most c))
 pub each-edge_of : (g : Graph) → IsMultigraph g → Each (IsEdge g.order) g.ends
 each-edge_of g m = each-edge (IsEdge g.order) g.ends (λ i w. ((m.ends i w).0, (m.ends i w).1, m.no_loop i w))
 
--- a row of truth values that marks a perfect matching
-pub record PerfectRow (g : Graph) : Type 0 where
-  pub row : List Bool
-  pub whole : length row ≡ size g
-  pub perfect : IsPerfect g none (marked row)
+-- the marks of a perfect matching
+pub record PerfectMarks (g : Graph) : Type 0 where
+  pub marks : List Bool
+  pub whole : length marks ≡ size g
+  pub perfect : IsPerfect g none (marked marks)
 
 module _ (g : Graph) (m : IsMultigraph g) (cubic : IsCubic g) (w : ℕ) (ww : Within g.order w) where
   -- a vertex has three edges
   pub edges-at : length (filter (is_at w) g.ends) ≡ 3
-  edges-at = sym (true_count-everything 0 w g.ends) ∙ true_count-flags g.order w (row_from 0 (size g) everything) g.ends (each-edge_of g m) (length-row_from 0 (size g) everything)
-      ∙ sym (degree-row g everything w) ∙ cubic w ww
+  edges-at = sym (true_count-everything 0 w g.ends) ∙ true_count-flags g.order w (marks_from 0 (size g) everything) g.ends (each-edge_of g m) (length-marks_from 0 (size g) everything)
+      ∙ sym (degree-marks g everything w) ∙ cubic w ww
 
-  -- the truth values at a vertex are three, of which as many are true as the set has ends there
+  -- the marks at a vertex are three, of which as many are true as the set has ends there
   pub flags-three : (bs : List Bool) → length bs ≡ size g → (a : Bool) × (b : Bool) × (c : Bool) × (flags_at w bs g.ends ≡ a ∷ b ∷ c ∷ []) × (true_count (a ∷ b ∷ c ∷ []) ≡ degree g (marked bs) w)
   flags-three bs l =
-      let r = three-items (flags_at w bs g.ends) (length-row_where (is_at w) bs g.ends l ∙ edges-at) in
+      let r = three-items (flags_at w bs g.ends) (length-marks_where (is_at w) bs g.ends l ∙ edges-at) in
       (r.0, r.1, r.2, r.3, ap true_count (sym r.3) ∙ true_count-flags g.order w bs g.ends (each-edge_of g m) l ∙ sym (degree-marked g bs w l))
 
   -- of a perfect matching one is true
   pub flags-perfect : (bs : List Bool) → length bs ≡ size g → IsPerfect g none (marked bs) → (i : ℕ) × (i < 3) × (flags_at w bs g.ends ≡ unit i)
   flags-perfect bs l p = let r = flags-three bs l in let u = unit-of_one r.0 r.1 r.2 (r.4 ∙ p.once w ww refl) in (u.0, u.1, r.3 ∙ u.2)
 
-  -- a set is perfect where its row is
-  pub perfect-row : (k : Set) → IsPerfect g none k → IsPerfect g none (marked (row_from 0 (size g) k))
-  perfect-row k p = record {
-    once = λ v u o. degree_congr g (marked (row_from 0 (size g) k)) k v same ∙ p.once v u o;
-    away = λ v u o. degree_congr g (marked (row_from 0 (size g) k)) k v same ∙ p.away v u o;
+  -- the marks of a perfect matching are perfect
+  pub perfect-marks : (k : Set) → IsPerfect g none k → IsPerfect g none (marked (marks_from 0 (size g) k))
+  perfect-marks k p = record {
+    once = λ v u o. degree_congr g (marked (marks_from 0 (size g) k)) k v same ∙ p.once v u o;
+    away = λ v u o. degree_congr g (marked (marks_from 0 (size g) k)) k v same ∙ p.away v u o;
   }
     where
-      same : (e : ℕ) → Within (size g) e → marked (row_from 0 (size g) k) e ≡ k e
-      same e u = marked-row_from 0 (size g) k e u ∙ ap k (let q : 0 + e ≡ e = omega arith in q)
+      same : (e : ℕ) → Within (size g) e → marked (marks_from 0 (size g) k) e ≡ k e
+      same e u = marked-marks_from 0 (size g) k e u ∙ ap k (let q : 0 + e ≡ e = omega arith in q)
 
   -- an edge of a covered graph is in a perfect matching
-  pub row-with : IsCovered g → (e : ℕ) → Within (size g) e → (r : PerfectRow g) × (marked r.row e ≡ true)
-  row-with cov e u = let a = cov.allowed e u (m.no_loop e u) in (
-    record { row = row_from 0 (size g) a.0; whole = length-row_from 0 (size g) a.0; perfect = perfect-row a.0 a.1 },
-    marked-row_from 0 (size g) a.0 e u ∙ ap a.0 (let q : 0 + e ≡ e = omega arith in q) ∙ a.2,
+  pub marks-with : IsCovered g → (e : ℕ) → Within (size g) e → (r : PerfectMarks g) × (marked r.marks e ≡ true)
+  marks-with cov e u = let a = cov.allowed e u (m.no_loop e u) in (
+    record { marks = marks_from 0 (size g) a.0; whole = length-marks_from 0 (size g) a.0; perfect = perfect-marks a.0 a.1 },
+    marked-marks_from 0 (size g) a.0 e u ∙ ap a.0 (let q : 0 + e ≡ e = omega arith in q) ∙ a.2,
   )
 
   -- some perfect matching of a covered graph has the edge at place i at w
-  pub row-through : IsCovered g → (i : ℕ) → i < 3 → (r : PerfectRow g) × (flags_at w r.row g.ends ≡ unit i)
-  row-through cov i l =
+  pub marks-through : IsCovered g → (i : ℕ) → i < 3 → (r : PerfectMarks g) × (flags_at w r.marks g.ends ≡ unit i)
+  marks-through cov i l =
       let e = edge-at_place (is_at w) g.ends i (let q = edges-at in omega arith) in
-      let r = row-with cov e.0 e.1.0 in
-      let f = flags-three r.0.row r.0.whole in
-      (r.0, f.3 ∙ unit-at f.0 f.1 f.2 i (f.4 ∙ r.0.perfect.once w ww refl) (ap (λ fs. slice_index_or fs i false) (sym f.3) ∙ e.1.1 r.0.row r.0.whole ∙ r.1))
+      let r = marks-with cov e.0 e.1.0 in
+      let f = flags-three r.0.marks r.0.whole in
+      (r.0, f.3 ∙ unit-at f.0 f.1 f.2 i (f.4 ∙ r.0.perfect.once w ww refl) (ap (λ fs. slice_index_or fs i false) (sym f.3) ∙ e.1.1 r.0.marks r.0.whole ∙ r.1))
