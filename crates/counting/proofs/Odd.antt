@@ -1,4 +1,6 @@
-use Rattle.std.proofs.Common.{◌≡◌, ℕ, suc, zero, ◌+◌, ◌≤◌, Bool, true, false, refl, sym, ap, ◌∙◌, arith, not, cond, zero-add, suc-add}
+-- The parity of sums and doubles, and of the two sides of a set of numbers 1 to n.
+-- By induction on the number, with the truth table of "one of the two is odd".
+use Rattle.std.proofs.Common.{◌≡◌, ℕ, suc, zero, ◌+◌, ◌≤◌, ◌<◌, ◌/◌, ◌%◌, ◌==◌, Bool, true, false, refl, sym, ap, ◌∙◌, arith, not, cond, zero-add, suc-add}
 use Rattle.std.proofs.lemmas.Bool.{true≢false}
 use Rattle.counting.proofs.Counts.{count_complement}
 use Rattle.counting.specs.Counts.{count, is_odd}
@@ -35,3 +37,13 @@ complement_odd n x a b = go (is_odd (count n x)) (is_odd (count n (complement x)
   where
     go : (s t : Bool) → s ≡ true → cond s (not t) t ≡ false → t ≡ true
     go s t a b = grind arith
+
+-- a number is odd where division by two leaves one
+pub is_odd_remainder : (n : ℕ) → is_odd n ≡ (n % 2 == 1)
+is_odd_remainder n =
+    let h : n ≡ (n / 2 + n / 2) + n % 2 = omega arith in
+    ap is_odd h ∙ odd-add (n / 2 + n / 2) (n % 2) ∙ ap (λ b. cond b (not (is_odd (n % 2))) (is_odd (n % 2))) (odd-double (n / 2)) ∙ small (n % 2) (omega arith)
+  where
+    small : (r : ℕ) → r < 2 → is_odd r ≡ (r == 1)
+    small zero l = refl
+    small (suc r) l = let z : r ≡ zero = omega arith in rw z refl

@@ -5,9 +5,9 @@ use Rattle.std.specs.Prelude.{slice_index, slice_index_or, All}
 use Rattle.std.specs.List.Sorted.{IsStrictlyIncreasing}
 use Rattle.std.proofs.lemmas.Bool.{both_ways, cases_eq, cases_lt, cases_order, or_cases, false_from_ne_true, and_parts, and_from, or_left, or_right}
 use Rattle.counting.proofs.Counts.{count_congr}
-use Rattle.counting.proofs.Lists.{Rises, count_mem_length, mem_low, rises-from_set, rising_holds, rising_only, same_list}
+use Rattle.counting.proofs.Lists.{Rises, count_mem_length, mem-within, mem_low, rises-from_set, rising_holds, rising_only, same_list}
 use Rattle.counting.specs.Counts.{Within, count}
-use Rattle.counting.specs.Lists.{IsRisingIn, all_in, last_of, mem, rising_list}
+use Rattle.counting.specs.Lists.{IsGreatestOf, IsLeastOf, IsRisingIn, all_in, last_of, mem, rising_list}
 use Rattle.counting.specs.Sets.{Set, everything}
 
 -- a number of the list is at least its lowest bound
@@ -60,7 +60,7 @@ pub rising_list-rises : (n : ℕ) (x : Set) → IsRisingIn n (rising_list n x)
 rising_list-rises n x = set-from_rises n (rising_list n x) (rises-rising_list n x)
 
 -- two answers that are true together
-same_answers : (a b : Bool) → (a ≡ true → b ≡ true) → (b ≡ true → a ≡ true) → a ≡ b
+pub same_answers : (a b : Bool) → (a ≡ true → b ≡ true) → (b ≡ true → a ≡ true) → a ≡ b
 same_answers true b f g = sym (f refl)
 same_answers false true f g = g refl
 same_answers false false f g = refl
@@ -68,17 +68,6 @@ same_answers false false f g = refl
 -- within 1 to n the list of a test has its numbers
 pub mem-rising_list : (n : ℕ) (x : Set) (v : ℕ) → Within n v → mem (rising_list n x) v ≡ x v
 mem-rising_list n x v w = same_answers (mem (rising_list n x) v) (x v) (λ h. (rising_only n x v h).1) (rising_holds n x v w)
-
--- a number of a set of numbers 1 to n is one of 1 to n
-pub mem-within : (n : ℕ) (xs : List ℕ) → IsRisingIn n xs → (v : ℕ) → mem xs v ≡ true → Within n v
-mem-within n xs r v h = go 1 xs (omega arith) (rises-from_set n xs r) h
-  where
-    go : (low : ℕ) (ys : List ℕ) → 1 ≤ low → Rises low n ys → mem ys v ≡ true → Within n v
-    go low [] l s m = absurd (both_ways false refl m)
-    go low (y ∷ ys) l s m = let a = s.0 in let b = s.1 in elim (or_cases (y == v) (mem ys v) m) [
-      | inl e ↦ let d = eqb-true y v e in (omega arith, omega arith)
-      | inr t ↦ go (y + 1) ys (omega arith) s.2 t
-    ]
 
 -- past 1 to n it has nothing
 pub mem-outside : (n : ℕ) (xs : List ℕ) → IsRisingIn n xs → (v : ℕ) → (Within n v → ⊥) → mem xs v ≡ false
@@ -213,3 +202,38 @@ set-wider n m xs l r = set-from_rises m xs (rises-wider 1 n m xs l (rises-from_s
 -- the list of all numbers 1 to n has just those
 pub mem-all : (n v : ℕ) → (mem (rising_list n everything) v ≡ true) ↔ Within n v
 mem-all n v = (mem-within n (rising_list n everything) (rising_list-rises n everything) v, λ w. mem-rising_list n everything v w)
+
+-- a set is the list of each test that it answers
+pub list-from_test : (n : ℕ) (xs : List ℕ) (x : Set) → IsRisingIn n xs → ((v : ℕ) → Within n v → mem xs v ≡ x v) → xs ≡ rising_list n x
+list-from_test n xs x r h = same_rising_list n xs (rising_list n x) r (rising_list-rises n x) (λ v w. h v w ∙ sym (mem-rising_list n x v w))
+
+-- a set of numbers 1 to m, all at most n, is one of numbers 1 to n
+pub set-narrower : (m n : ℕ) (xs : List ℕ) → IsRisingIn m xs → ((v : ℕ) → mem xs v ≡ true → v ≤ n) → IsRisingIn n xs
+set-narrower m n xs r h = set-from_rises n xs (go 1 xs (rises-from_set m xs r) h)
+  where
+    go : (low : ℕ) (ys : List ℕ) → Rises low m ys → ((v : ℕ) → mem ys v ≡ true → v ≤ n) → Rises low n ys
+    go low [] s k = tt
+    go low (y ∷ ys) s k = (s.0, k y (or_left (y == y) (mem ys y) (eq-eqb y y refl)), go (y + 1) ys s.2 (λ v t. k v (or_right (y == v) (mem ys v) t)))
+
+-- a part of a set of numbers 1 to n
+pub set-part : (m n : ℕ) (xs ys : List ℕ) → IsRisingIn m xs → IsRisingIn n ys → ((v : ℕ) → mem xs v ≡ true → mem ys v ≡ true) → IsRisingIn n xs
+set-part m n xs ys r s h = set-narrower m n xs r (λ v t. (mem-within n ys s v (h v t)).1)
+
+-- a union of two sets of numbers 1 to n
+pub set-union : (m n : ℕ) (us xs ys : List ℕ) → IsRisingIn m us → IsRisingIn n xs → IsRisingIn n ys → ((v : ℕ) → mem us v ≡ (mem xs v || mem ys v)) → IsRisingIn n us
+set-union m n us xs ys u r s h = set-narrower m n us u (λ v t. elim (or_cases (mem xs v) (mem ys v) (sym (h v) ∙ t)) [ inl a ↦ (mem-within n xs r v a).1 | inr b ↦ (mem-within n ys s v b).1 ])
+
+-- the least number is the first
+pub first-least : (n x v : ℕ) (xs : List ℕ) → IsRisingIn n (x ∷ xs) → IsLeastOf (x ∷ xs) v → x ≡ v
+first-least n x v xs r least = elim (cases_lt x v) [
+  | inl l ↦ absurd (both_ways (mem (x ∷ xs) x) (least.before x l) (or_left (x == x) (mem xs x) (eq-eqb x x refl)))
+  | inr g ↦ let l = first_is_least n x xs r v least.member in omega arith
+]
+
+-- the greatest number is the last
+pub last-greatest : (n v : ℕ) (xs : List ℕ) → IsRisingIn n xs → IsGreatestOf xs v → last_of xs ≡ v
+last-greatest n v [] r greatest = absurd (both_ways false refl greatest.member)
+last-greatest n v (x ∷ xs) r greatest = elim (cases_lt v (last_of (x ∷ xs))) [
+  | inl l ↦ absurd (both_ways (mem (x ∷ xs) (last_of (x ∷ xs))) (greatest.after (last_of (x ∷ xs)) l) (mem-last_of x xs))
+  | inr g ↦ let l = last_is_greatest n (x ∷ xs) r v greatest.member in omega arith
+]

@@ -1,13 +1,18 @@
-use Rattle.std.proofs.Common.{◌≡◌, ℕ, ◌≤◌, true, false, refl, ap, arith, ◌&&◌, not, inl, inr, nat_lt, lt-ltb, ltb-true}
+-- The test for a walk against walks, and each vertex in exactly one component, which its least vertex stands for.
+-- A walk of as many steps as there are vertices is enough, and two least vertices of one component are one.
+use Rattle.std.proofs.Common.{◌≡◌, ℕ, ◌≤◌, true, false, refl, ap, ◌∙◌, length, arith, ◌&&◌, not, inl, inr, nat_lt, lt-ltb, ltb-true}
 use Rattle.std.proofs.lemmas.Bool.{cases_Bool, and_parts, and_from, both_ways}
-use Rattle.counting.proofs.Counts.{count_le_one}
+use Rattle.std.proofs.lemmas.List.{length-map}
+use Rattle.counting.proofs.Counts.{count_le, count_le_one}
 use Rattle.counting.proofs.Tests.{least_true, some_true, true_some}
 use Rattle.counting.proofs.Totals.{at_le_total}
 use Rattle.counting.specs.Counts.{Within, bit, count}
+use Rattle.counting.proofs.RisingLists.{length-rising_list}
+use Rattle.counting.specs.Lists.{rising_list}
 use Rattle.counting.specs.Sets.{Set}
 use Rattle.counting.specs.Tests.{some}
 use Rattle.graph_core.proofs.Walks.{IsClosed, Walk-stays, adjacent-edge, adjacent_within, flood_closed, flood_own, flood_walk, joined_back, joined_on, joined_self}
-use Rattle.graph_core.specs.Components.{is_least}
+use Rattle.graph_core.specs.Components.{component_count, components, is_least}
 use Rattle.graph_core.specs.Graph.{Graph, IsGraph}
 use Rattle.graph_core.specs.Walks.{Joined, adjacent, joined}
 
@@ -51,3 +56,13 @@ some_leader g s is v w o =
     ]) in
     let one : bit (is_least g s l.0 && joined g s l.0 v) ≡ 1 = rw (lead, walk_joined g s is l.0 v l.1 (joined_back g s v l.0 vu)) refl in
     let a = at_le_total g.order (λ u. bit (is_least g s u && joined g s u v)) l.0 l.1 in omega arith
+
+-- the list of the components is as long as there are components
+pub length-components : (g : Graph) (s : Set) → length (components g s) ≡ component_count g s
+unfolding components component_count
+length-components g s = length-map (rising_list g.order (is_least g s)) (λ u. rising_list g.order (joined g s u)) ∙ length-rising_list g.order (is_least g s)
+
+-- there are at most as many components as vertices
+pub component_count_le : (g : Graph) (s : Set) → component_count g s ≤ g.order
+unfolding component_count
+component_count_le g s = count_le g.order (is_least g s)

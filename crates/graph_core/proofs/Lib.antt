@@ -12,9 +12,14 @@ pub mod Textbook
 pub mod Uncrossing
 pub mod Walks
 pub mod WeakDuality
+pub mod View
+pub mod Trees
+pub mod TwoSides
+pub mod Growth
 pub mod Merging
 pub mod MergeOrder
 pub mod QuotientTight
 pub mod BlockSets
 pub mod MergedShores
 pub mod Adjacency
+pub mod Rows

@@ -1,10 +1,16 @@
 pub mod Graph
 pub mod Matchings
 pub mod Walks
+pub mod Trees
+pub mod Rows
+pub mod Nodes
+pub mod Growth
+pub mod Sides
 pub mod Components
 pub mod BergeSets
 pub mod GallaiEdmonds
 pub mod Covered
+pub mod Verdicts
 pub mod PairLists
 pub mod Tight
 pub mod Partitions

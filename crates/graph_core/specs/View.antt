@@ -1,11 +1,15 @@
 -- How the code's multigraph is seen: its order and its list of ends, within the limits of size.
-use Rattle.std.specs.Prelude.{ℕ, ◌≤◌, List, map}
+use Rattle.std.specs.Prelude.{ℕ, ◌≤◌, ◌==◌, ◌&&◌, ◌||◌, Bool, List, map}
 use Rattle.graph_core.specs.Graph.{Graph, IsMultigraph, size}
 use Rattle.graph_core.specs.declared.ends.Ends.{Ends}
 
 -- the two ends as a pair
 abbrev pub pair_of : Ends → ℕ × ℕ
 pair_of e = (e.a, e.b)
+
+-- the two ends are u and v, in either order
+abbrev pub are_ends : ℕ → ℕ → Ends → Bool
+are_ends u v e = (e.a == u && e.b == v) || (e.a == v && e.b == u)
 
 -- the graph of that order with these edges
 abbrev pub graph_of : ℕ → List Ends → Graph

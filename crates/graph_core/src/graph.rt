@@ -2,13 +2,18 @@
 ghost use Rattle.std.specs.Prelude.{◌≡◌, ◌≢◌, ◌≤◌, ◌<◌, ◌-◌, ◌↔◌, [], OnOk, OnErr, IfOk, IsErrOf, length};
 ghost use Rattle.counting.specs.Counts.{Within};
 ghost use Rattle.counting.specs.Sets.{none};
-ghost use Rattle.graph_core.specs.Graph.{size, first_end, second_end, with_edge};
+ghost use Rattle.counting.specs.Lists.{mem};
+ghost use Rattle.graph_core.specs.Components.{component_count, components};
+ghost use Rattle.graph_core.specs.Graph.{IsBipartite, size, first_end, second_end, with_edge};
+ghost use Rattle.graph_core.specs.Sides.{AreSides, IsEven};
 ghost use Rattle.graph_core.specs.Walks.{adjacent};
 
-use crate::{AddFault, Ends};
+use crate::search::grow_forest;
+use crate::sides::sides_by_depth;
+use crate::{AddFault, Ends, SetList, Sides};
 use std::alloc::{AllocError as Memory, Global};
 use std::marker::Model;
-use vset_core::MOST_VERTICES;
+use vset_core::{MOST_VERTICES, VSet};
 
 /// The most edges that a graph may have.
 pub const MOST_EDGES: u32 = 2048;
@@ -67,6 +72,41 @@ impl MultiGraph {
         self.edges[e as usize - 1]
     }
 
+    /// Whether some edge joins `a` and `b`. Takes no memory.
+    pub fn adjacent(&self, a: u32, b: u32) -> bool
+        requires first { Within self.now.order a }
+        requires second { Within self.now.order b }
+        ensures { result ≡ adjacent self.now none a b }
+    {
+        self.edges.iter().any(|edge| edge.are(a, b))
+    }
+
+    /// The number of components.
+    pub fn components(&self, alloc: Global) -> Result<u32, Memory>
+        ensures { IfOk result (λ found. found ≡ component_count self.now none) }
+    {
+        let forest = grow_forest(alloc, self.order, &self.edges, VSet::empty())?;
+        Ok(forest.parts.len() as u32)
+    }
+
+    /// The components of the graph without the vertices of `set`, by least vertex.
+    pub fn components_without(&self, alloc: Global, set: VSet) -> Result<SetList, Memory>
+        ensures { IfOk result (λ found. found ≡ components self.now (mem set)) }
+    {
+        let forest = grow_forest(alloc, self.order, &self.edges, set)?;
+        Ok(forest.parts)
+    }
+
+    /// Whether the graph is bipartite, with a witness: `Even` comes exactly where it is, with the left side, which holds the least
+    /// vertex of each component, and `Odd` exactly where it is not, with a closed walk of odd length (König 1916).
+    pub fn two_sides(&self, alloc: Global) -> Result<Sides, Memory>
+        ensures even { IfOk result (λ sides. IsEven sides ↔ IsBipartite self.now) }
+        ensures sides { IfOk result (AreSides self.now) }
+    {
+        let forest = grow_forest(alloc, self.order, &self.edges, VSet::empty())?;
+        sides_by_depth(alloc, &self.edges, &forest.nodes)
+    }
+
     /// Appends an edge and answers its number. `Range` comes exactly where an end is no vertex, `Loop` exactly where both
     /// are vertices and equal, `TooMany` exactly where neither holds and there are `MOST_EDGES` edges; the graph is then
     /// unchanged, and after `Memory` too.
@@ -92,3 +132,6 @@ impl MultiGraph {
         Ok(self.edges.len() as u32)
     }
 }
+
+#[cfg(test)]
+mod tests;

@@ -6,6 +6,11 @@ mod faults;
 mod graph;
 mod laws;
 mod numbers;
+mod search;
+mod set_list;
+mod sides;
+mod tree;
+mod verdict;
 
 pub use ends::Ends;
 pub use faults::{AddFault, FaultKind, TextFault};
@@ -15,3 +20,6 @@ pub use laws::{
     quotient_law, uncrossing_law, walk_law, weak_duality_law,
 };
 pub use numbers::Numbers;
+pub use set_list::SetList;
+pub use sides::Sides;
+pub use verdict::{Kind, Reason, Verdict};

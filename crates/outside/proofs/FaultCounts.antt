@@ -1,6 +1,6 @@
 -- A count of faults never falls, so a rise in one call of a chain is a rise over the whole chain, and where a whole
 -- chain shows no rise, none of its calls does. All of it is linear arithmetic on the counts.
-use Rattle.std.proofs.Common.{◌≡◌, ℕ, ◌-◌, ◌^◌, ◌<◌, ◌≤◌, ◌⊎◌, arith}
+use Rattle.std.proofs.Common.{◌≡◌, ℕ, ◌-◌, ◌^◌, ◌<◌, ◌≤◌, ◌⊎◌, ◌↔◌, arith}
 use Rattle.std.proofs.lemmas.Bool.Decides.{nat_tests}
 use Rattle.outside.specs.Faults.{Rose, next_fault, faults_after}
 
@@ -26,5 +26,5 @@ pub same-not_Rose : (before now : ℕ) → before ≤ now → ¬ Rose before now
 same-not_Rose before now later not_risen = omega arith
 
 -- a count within u64 rose exactly where it is greater than before or stands at the greatest u64
-pub cases-Rose : (before now : ℕ) → now < 2 ^ 64 → Rose before now → (before < now) ⊎ (now ≡ 2 ^ 64 - 1)
-cases-Rose before now fits rose = grind arith
+pub Rose-cases : (before now : ℕ) → now < 2 ^ 64 → Rose before now ↔ ((before < now) ⊎ (now ≡ 2 ^ 64 - 1))
+Rose-cases before now fits = (λ rose. grind arith, λ cases. grind arith)

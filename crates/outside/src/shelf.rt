@@ -66,8 +66,10 @@ pub trait Shelf {
         ensures told { IfOk result (λ bytes. TellsFile (files self.old) name.now (Some bytes.items)) }
 
         ensures failed { IsErrOf result ShelfFault.Failed → Rose (faults self.old) (faults self.new) }
-        ensures missing { IsErrOf result ShelfFault.Failed → IsTrue (steady self.old) → TellsFile (files self.old) name.now None }
-        ensures too_long { IsErrOf result ShelfFault.TooLong → IsLonger (files self.old) name.now limit (taken self.new) };
+        ensures missing { IsErrOf result ShelfFault.Failed → IsTrue (steady self.old) →
+            TellsFile (files self.old) name.now None }
+        ensures too_long { IsErrOf result ShelfFault.TooLong →
+            IsLonger (files self.old) name.now limit (taken self.new) };
 
     /// A steady shelf tells its files.
     ghost steady_tells: { (shelf : Self) → IsTrue (steady shelf) → IsSome (files shelf) };

@@ -36,10 +36,12 @@ pub trait Sink {
     /// `SinkFailed` what was written is as before.
     fn write(&mut self, bytes: &[u8]) -> Result<usize, SinkFailed>
         ensures within { IfOk result (λ count. count ≤ length bytes.now) }
-        ensures written { IfOk result (λ count. written self.new ≡ appended (written self.old) (take count bytes.now)) }
+        ensures written { IfOk result (λ count.
+            written self.new ≡ appended (written self.old) (take count bytes.now)) }
         ensures unwritten { OnErr result (written self.new ≡ written self.old) }
 
         ensures later { faults self.old ≤ faults self.new }
         ensures failed { OnErr result (Rose (faults self.old) (faults self.new)) }
-        ensures stuck { IfOk result (λ count. count ≡ 0 → 0 < length bytes.now → Rose (faults self.old) (faults self.new)) };
+        ensures stuck { IfOk result (λ count. count ≡ 0 → 0 < length bytes.now →
+            Rose (faults self.old) (faults self.new)) };
 }

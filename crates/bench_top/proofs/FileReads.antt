@@ -1,0 +1,28 @@
+-- What is read of a file that is held and within the limit of bytes is what its text is read as.
+-- Each lemma looks the file up, leaves the test of its length behind, and computes.
+use Rattle.std.proofs.Common.{◌≡◌, ℕ, ◌≤◌, List, length, Ok, Err, Result, false, ap, ◌∙◌, arith, Some, Option, Bool, cond, nat_lt}
+use Rattle.std.proofs.lemmas.Bool.Decides.{nat_tests}
+use Rattle.graph_core.specs.Kinds.{kind_number}
+use Rattle.graph_core.specs.declared.faults.FaultKind.{FaultKind}
+use Rattle.bench_top.specs.Loading.{Loaded, All, Bad, file_read, from_reading}
+
+-- within the limit of bytes the text is read
+file_read-within : {A : Type 0} (place : ℕ) (reading : List ℕ → Result A (ℕ × FaultKind)) (file : Option (List ℕ)) (bytes : List ℕ) → file ≡ Some bytes → length bytes ≤ 1048576 → file_read place reading file ≡ from_reading place (reading bytes)
+file_read-within {A} place reading file bytes held within = ap (file_read place reading) held ∙ go (nat_lt 1048576 (length bytes)) short
+  where
+    short : nat_lt 1048576 (length bytes) ≡ false
+    short = grind (arith, nat_tests, within)
+
+    long : Loaded A
+    long = Bad place 0 6
+
+    go : (b : Bool) → b ≡ false → cond b long (from_reading place (reading bytes)) ≡ from_reading place (reading bytes)
+    go b e = ap (λ (t : Bool). cond t long (from_reading place (reading bytes))) e
+
+-- a text that is read as a value
+pub file_read-value : {A : Type 0} (place : ℕ) (reading : List ℕ → Result A (ℕ × FaultKind)) (file : Option (List ℕ)) (bytes : List ℕ) (value : A) → file ≡ Some bytes → length bytes ≤ 1048576 → reading bytes ≡ Ok value → file_read place reading file ≡ All value
+file_read-value place reading file bytes value held within read = file_read-within place reading file bytes held within ∙ ap (from_reading place) read
+
+-- a text that has a first fault
+pub file_read-fault : {A : Type 0} (place : ℕ) (reading : List ℕ → Result A (ℕ × FaultKind)) (file : Option (List ℕ)) (bytes : List ℕ) (line : ℕ) (kind : FaultKind) → file ≡ Some bytes → length bytes ≤ 1048576 → reading bytes ≡ Err (line, kind) → file_read place reading file ≡ Bad place line (kind_number kind)
+file_read-fault place reading file bytes line kind held within read = file_read-within place reading file bytes held within ∙ ap (from_reading place) read

@@ -1,0 +1,52 @@
+//! The top call.
+ghost use Rattle.std.specs.Prelude.{◌≡◌, ◌⊎◌, ◌↔◌, ℕ, List, map, string_bytes, IsTrue, Some, None};
+ghost use Rattle.outside.specs.Faults.{Rose};
+ghost use Rattle.outside.specs.Shelf.{Named};
+ghost use Rattle.bench_top.specs.Commands.{Command, command_of};
+ghost use Rattle.bench_top.specs.Loading.{Inputs, All, Bad, Absent, loaded};
+ghost use Rattle.bench_top.specs.Outcome.{Outcome, Appended, CutShort, IsReported, IsSettled, MayRefuse};
+ghost use Rattle.bench_top.specs.Calm.{IsCalm};
+
+use crate::command::plan;
+use crate::performing::perform;
+use crate::status::Status;
+use outside::{Shelf, Sink};
+use std::alloc::Global;
+
+/// Does what the words ask for: reads the files that they name from the shelf, and appends the report to the sink.
+///
+/// The clauses say, for each status, its cause. `outcome` ties the words, the files, the status and the output together:
+/// `Outcome` has one case for each command and cites the definitions of `graph_core` and of the crates above it.
+pub fn run<S: Shelf, K: Sink>(
+    alloc: Global,
+    words: &[String],
+    shelf: &mut S,
+    sink: &mut K,
+) -> Status
+    // Usage comes exactly where the words match no command.
+    ensures usage { result ≡ Status.Usage ↔ (command_of (map string_bytes words.now) ≡ None) }
+    // Some commands never refuse.
+    ensures negative { result ≡ Status.Negative → MayRefuse (command_of (map string_bytes words.now)) }
+    // A fault of the outside comes only where its count rose in this call.
+    ensures read_fault { result ≡ Status.ReadFault → Rose (S.faults shelf.old) (S.faults shelf.new) }
+    ensures write_fault { result ≡ Status.WriteFault → Rose (K.faults sink.old) (K.faults sink.new) }
+    // Nothing is written before the whole report is made.
+    ensures nothing { (result ≡ Status.Usage) ⊎ ((result ≡ Status.ReadFault) ⊎ (result ≡ Status.Memory)) → K.written sink.new ≡ K.written sink.old }
+
+    // What was written is the output that the words and the files stand for, or a proper prefix of it.
+    ensures outcome { (files : List Named) → S.files shelf.old ≡ Some files → IsReported result → Appended (Outcome (map string_bytes words.now) files) result (K.written sink.old) (K.written sink.new) }
+    ensures cut { (files : List Named) → S.files shelf.old ≡ Some files → result ≡ Status.WriteFault → CutShort (Outcome (map string_bytes words.now) files) (K.written sink.old) (K.written sink.new) }
+
+    // Over a steady shelf a read fails only where a named file is not held and all before it are held and good.
+    ensures missing { (files : List Named) (command : Command) → S.files shelf.old ≡ Some files → command_of (map string_bytes words.now) ≡ Some command → result ≡ Status.ReadFault → IsTrue (S.steady shelf.old) → loaded files command ≡ Absent }
+
+    // What the files hold decides the status, where the outside does not fail and memory lasts.
+    ensures absent { (files : List Named) (command : Command) → S.files shelf.old ≡ Some files → command_of (map string_bytes words.now) ≡ Some command → loaded files command ≡ Absent → (result ≡ Status.ReadFault) ⊎ (result ≡ Status.Memory) }
+    ensures bad { (files : List Named) (command : Command) (file line kind : ℕ) → S.files shelf.old ≡ Some files → command_of (map string_bytes words.now) ≡ Some command → loaded files command ≡ Bad file line kind → IsCalm (S.steady shelf.old) (S.faults shelf.old) (S.faults shelf.new) (K.faults sink.old) (K.faults sink.new) → (result ≡ Status.BadInput) ⊎ (result ≡ Status.Memory) }
+    ensures good { (files : List Named) (command : Command) (inputs : Inputs) → S.files shelf.old ≡ Some files → command_of (map string_bytes words.now) ≡ Some command → loaded files command ≡ All inputs → IsCalm (S.steady shelf.old) (S.faults shelf.old) (S.faults shelf.new) (K.faults sink.old) (K.faults sink.new) → IsSettled result ⊎ (result ≡ Status.Memory) }
+{
+    match plan(words) {
+        Some(command) => perform(alloc, command, shelf, sink),
+        None => Status::Usage,
+    }
+}

@@ -1,0 +1,176 @@
+// The worked examples of the command `analyse`, its refusals, and faults of the outside.
+use crate::{Status, run};
+use outside::{CountSink, MemShelf, MemSink};
+use std::alloc::Global;
+use std::test::Fail;
+
+const K4: &str = "p mcg 4 6\ne 1 2\ne 1 3\ne 1 4\ne 2 3\ne 2 4\ne 3 4\n";
+
+const K4_REPORT: &str = "graph 4 6\ncomponents 1\nbipartite no\n";
+
+// The words of a command.
+fn words_of(alloc: Global, words: &[&str]) -> Result<Vec<String>, Fail> {
+    let mut list = Vec::new(alloc);
+    for word in words {
+        list.push(String::from_str(alloc, word)?)?;
+    }
+    Ok(list)
+}
+
+// What `analyse` of a file with these bytes answers and writes.
+fn analysed(alloc: Global, bytes: &[u8]) -> Result<(Status, Vec<u8>), Fail> {
+    let mut shelf = MemShelf::new(alloc);
+    shelf.put("g", bytes)?;
+    let mut sink = MemSink::new(alloc, 4096, 4096)?;
+    let words = words_of(alloc, &["analyse", "g"])?;
+    let status = run(alloc, &words, &mut shelf, &mut sink);
+    let mut written = Vec::new(alloc);
+    written.extend_from_slice(sink.bytes())?;
+    Ok((status, written))
+}
+
+#[test]
+fn reports(rt: HostRuntime) -> Result<(), Fail> {
+    let table = [
+        (K4, K4_REPORT),
+        ("p mcg 0 0\n", "graph 0 0\ncomponents 0\nbipartite yes\n"),
+        (
+            "p mcg 4 2\ne 1 2\ne 3 4\n",
+            "graph 4 2\ncomponents 2\nbipartite yes\n",
+        ),
+        // parallel edges are kept
+        (
+            "p mcg 2 2\ne 1 2\ne 1 2\n",
+            "graph 2 2\ncomponents 1\nbipartite yes\n",
+        ),
+        // comments, blanks, leading zeros, line ends of carriage return and line feed, no last line feed
+        (
+            "c from the lab\r\n\r\np  mcg 04 6\r\ne 1 2\r\ne 1  3\r\ne 1 4\r\n e 2\t3\r\ne 2 4\r\ne 3 4",
+            K4_REPORT,
+        ),
+    ];
+    for (text, report) in &table {
+        let (status, written) = analysed(rt.alloc(), text.as_bytes())?;
+        assert_eq!(rt; status, Status::Done);
+        assert_eq!(rt; written.as_slice(), report.as_bytes());
+    }
+    Ok(())
+}
+
+#[test]
+fn refused_files(rt: HostRuntime) -> Result<(), Fail> {
+    let table = [
+        ("p mcg 3 2\ne 1 2\ne 3 3\n", "file 1 line 3 kind 5\n"),
+        ("p mcg 3 2\ne 1 2\n", "file 1 line 3 kind 7\n"),
+        ("p mcg 2 1\ne 1 2\ne 1 2\n", "file 1 line 3 kind 8\n"),
+        ("p mcg 2 1\ne 1 3\n", "file 1 line 2 kind 4\n"),
+        ("p mcg 2 1\ne 1 x\n", "file 1 line 2 kind 3\n"),
+        ("p mcg 2 1\nf 1 2\n", "file 1 line 2 kind 2\n"),
+        ("", "file 1 line 1 kind 1\n"),
+        ("p mcg 65 65\n", "file 1 line 1 kind 6\n"),
+        ("p mcg x 1\n", "file 1 line 1 kind 3\n"),
+        ("c nothing else\n", "file 1 line 2 kind 1\n"),
+    ];
+    for (text, report) in &table {
+        let (status, written) = analysed(rt.alloc(), text.as_bytes())?;
+        assert_eq!(rt; status, Status::BadInput);
+        assert_eq!(rt; written.as_slice(), report.as_bytes());
+    }
+    Ok(())
+}
+
+#[test]
+fn files_of_spaces(rt: HostRuntime) -> Result<(), Fail> {
+    let table = [
+        (131_073, "file 1 line 2 kind 1\n"),
+        (1_048_576, "file 1 line 2 kind 1\n"),
+        (1_048_577, "file 1 line 0 kind 6\n"),
+    ];
+    for (size, report) in &table {
+        let spaces = vec![in rt.alloc(); b' '; *size]?;
+        let (status, written) = analysed(rt.alloc(), &spaces)?;
+        assert_eq!(rt; status, Status::BadInput);
+        assert_eq!(rt; written.as_slice(), report.as_bytes());
+    }
+    Ok(())
+}
+
+#[test]
+fn prefixes_of_a_file(rt: HostRuntime) -> Result<(), Fail> {
+    let table = [
+        (0, "file 1 line 1 kind 1\n"),
+        (8, "file 1 line 1 kind 1\n"),
+        (9, "file 1 line 2 kind 7\n"),
+        (40, "file 1 line 7 kind 7\n"),
+        (41, "file 1 line 7 kind 2\n"),
+        (44, "file 1 line 7 kind 2\n"),
+        (45, K4_REPORT),
+    ];
+    for (kept, report) in &table {
+        let (_, written) = analysed(rt.alloc(), &K4.as_bytes()[..*kept])?;
+        assert_eq!(rt; written.as_slice(), report.as_bytes());
+    }
+    Ok(())
+}
+
+#[test]
+fn words_that_match_no_command(rt: HostRuntime) -> Result<(), Fail> {
+    let table: [&[&str]; 4] = [&[], &["analyse"], &["analyse", "g", "g"], &["--help"]];
+    for words in &table {
+        let mut shelf = MemShelf::new(rt.alloc());
+        shelf.put("g", K4.as_bytes())?;
+        let mut sink = MemSink::new(rt.alloc(), 100, 100)?;
+        let words = words_of(rt.alloc(), words)?;
+        assert_eq!(rt;
+            run(rt.alloc(), &words, &mut shelf, &mut sink),
+            Status::Usage
+        );
+        assert_eq!(rt; sink.bytes(), b"".as_slice());
+    }
+    Ok(())
+}
+
+#[test]
+fn faults_of_the_outside(rt: HostRuntime) -> Result<(), Fail> {
+    let words = words_of(rt.alloc(), &["analyse", "g"])?;
+    let mut sink = MemSink::new(rt.alloc(), 100, 16)?;
+
+    let mut empty = MemShelf::new(rt.alloc());
+    assert_eq!(rt;
+        run(rt.alloc(), &words, &mut empty, &mut sink),
+        Status::ReadFault
+    );
+
+    let mut failing = MemShelf::new(rt.alloc());
+    failing.put("g", K4.as_bytes())?;
+    failing.fail_read(1)?;
+    assert_eq!(rt;
+        run(rt.alloc(), &words, &mut failing, &mut sink),
+        Status::ReadFault
+    );
+    assert_eq!(rt; sink.bytes(), b"".as_slice());
+
+    let mut shelf = MemShelf::new(rt.alloc());
+    shelf.put("g", K4.as_bytes())?;
+    sink.fail_write(2)?;
+    assert_eq!(rt;
+        run(rt.alloc(), &words, &mut shelf, &mut sink),
+        Status::WriteFault
+    );
+    assert_eq!(rt; sink.bytes(), b"graph 4 6\ncompon".as_slice());
+
+    let mut small = MemSink::new(rt.alloc(), 20, 16)?;
+    assert_eq!(rt;
+        run(rt.alloc(), &words, &mut shelf, &mut small),
+        Status::WriteFault
+    );
+    assert_eq!(rt; small.bytes().len(), 20);
+
+    let mut counting = CountSink::new();
+    assert_eq!(rt;
+        run(rt.alloc(), &words, &mut shelf, &mut counting),
+        Status::Done
+    );
+    assert_eq!(rt; counting.count(), K4_REPORT.len() as u64);
+    Ok(())
+}

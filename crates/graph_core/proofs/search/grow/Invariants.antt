@@ -1,0 +1,17 @@
+use Rattle.std.proofs.Common.{◌≡◌, ◌+◌, ◌*◌, ℕ, length, false}
+use Rattle.counting.specs.Counts.{Within, count}
+use Rattle.counting.specs.Lists.{mem}
+use Rattle.graph_core.specs.Graph.{Graph, IsGraph}
+use Rattle.graph_core.specs.Growth.{IsGrowth}
+use Rattle.graph_core.specs.Nodes.{node_at, parent_at, depth_at}
+use Rattle.graph_core.specs.Rows.{AreRows}
+use Rattle.graph_core.proofs.search.grow.Given as goal
+
+abbrev pub invariant-growing : goal.invariant-growing
+invariant-growing l = record {
+  growth : (g : Graph) → IsGraph g → AreRows g l.rows → IsGrowth g (mem l.fn.within) l.root (mem l.left) (mem l.«open») (parent_at l.nodes) (depth_at l.nodes);
+  kept : (v : ℕ) → Within (length l.rows) v → mem l.fn.within v ≡ false → node_at l.nodes v ≡ node_at l.fn.nodes v;
+}
+
+abbrev pub decreases-growing : goal.decreases-growing
+decreases-growing l = 2 * count (length l.rows) (mem l.left) + count (length l.rows) (mem l.«open»)

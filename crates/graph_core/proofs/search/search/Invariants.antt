@@ -1,0 +1,14 @@
+use Rattle.std.proofs.Common.{length}
+use Rattle.counting.specs.Counts.{count}
+use Rattle.counting.specs.Lists.{mem}
+use Rattle.graph_core.specs.Graph.{Graph, IsGraph}
+use Rattle.graph_core.specs.Growth.{IsStage}
+use Rattle.graph_core.specs.Nodes.{parent_at, depth_at}
+use Rattle.graph_core.specs.Rows.{AreRows}
+use Rattle.graph_core.proofs.search.search.Given as goal
+
+abbrev pub invariant-searching : goal.invariant-searching
+invariant-searching l = (g : Graph) → IsGraph g → AreRows g l.rows → IsStage g (mem l.fn.removed) (mem l.left) l.parts (parent_at l.nodes) (depth_at l.nodes)
+
+abbrev pub decreases-searching : goal.decreases-searching
+decreases-searching l = count (length l.rows) (mem l.left)

@@ -1,0 +1,14 @@
+use Rattle.std.proofs.Common.{◌≡◌, ◌++◌, length}
+use Rattle.counting.specs.Counts.{Within}
+use Rattle.graph_core.specs.Nodes.{parent_at, depth_at}
+use Rattle.graph_core.specs.Trees.{way_up}
+use Rattle.graph_core.proofs.tree.climb.Given as goal
+
+abbrev pub invariant-climbing : goal.invariant-climbing
+invariant-climbing l = record {
+  within : Within (length l.nodes) l.v;
+  way : l.walk ++ way_up (parent_at l.nodes) (depth_at l.nodes l.v) l.v ≡ l.fn.walk ++ way_up (parent_at l.nodes) (depth_at l.nodes l.from) l.from;
+}
+
+abbrev pub decreases-climbing : goal.decreases-climbing
+decreases-climbing l = depth_at l.nodes l.v

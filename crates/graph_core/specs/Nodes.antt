@@ -1,0 +1,26 @@
+-- The search tree as the code keeps it: item v - 1 of the list is what it keeps of vertex v.
+use Rattle.std.specs.Prelude.{◌≡◌, ℕ, ◌+◌, ◌-◌, ◌<◌, List, length, not, slice_index_or}
+use Rattle.counting.specs.Counts.{Within, is_odd}
+use Rattle.counting.specs.Sets.{Set}
+use Rattle.graph_core.specs.declared.tree.TreeNode.{TreeNode}
+
+-- what is kept of v
+abbrev pub node_at : List TreeNode → ℕ → TreeNode
+node_at nodes v = slice_index_or nodes (v - 1) (record { parent = 0; depth = 0 })
+
+-- the parent of v
+abbrev pub parent_at : List TreeNode → ℕ → ℕ
+parent_at nodes v = (node_at nodes v).parent
+
+-- the depth of v
+abbrev pub depth_at : List TreeNode → ℕ → ℕ
+depth_at nodes v = (node_at nodes v).depth
+
+-- v lies an even number of steps below its root
+abbrev pub is_even_at : List TreeNode → Set
+is_even_at nodes v = not (is_odd (depth_at nodes v))
+
+-- each vertex below a root has a parent, which is one step less deep
+pub record IsRooted (nodes : List TreeNode) : Type 0 where
+  pub within : (v : ℕ) → Within (length nodes) v → 0 < depth_at nodes v → Within (length nodes) (parent_at nodes v)
+  pub deeper : (v : ℕ) → Within (length nodes) v → 0 < depth_at nodes v → depth_at nodes v ≡ depth_at nodes (parent_at nodes v) + 1

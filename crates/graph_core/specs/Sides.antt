@@ -1,0 +1,27 @@
+-- The two sides of a bipartite graph. Any textbook; differs in that the left side is fixed: it holds the least vertex of each
+-- component.
+use Rattle.std.specs.Prelude.{◌≡◌, ℕ, true, List}
+use Rattle.counting.specs.Counts.{Within}
+use Rattle.counting.specs.Sets.{none}
+use Rattle.counting.specs.Lists.{mem, IsRisingIn}
+use Rattle.graph_core.specs.Components.{is_least}
+use Rattle.graph_core.specs.Graph.{Graph, size, in_cut}
+use Rattle.graph_core.specs.Walks.{IsOddClosedWalk}
+use Rattle.graph_core.specs.declared.sides.Sides.{Sides}
+use Rattle.graph_core.specs.declared.sides.Sides.TheVariants.{Even, Odd}
+
+-- a vertex set as a rising list: each edge has exactly one end in it, and the least vertex of each component is in it
+pub record IsLeftSide (g : Graph) (left : List ℕ) : Type 0 where
+  pub rising : IsRisingIn g.order left
+  pub cut : (e : ℕ) → Within (size g) e → in_cut g (mem left) e ≡ true
+  pub least : (v : ℕ) → Within g.order v → is_least g none v ≡ true → mem left v ≡ true
+
+-- the answer shows its side: the left side of a bipartite graph, or an odd closed walk
+abbrev pub AreSides : Graph → Sides → Type 0
+AreSides g (Even left) = IsLeftSide g left
+AreSides g (Odd walk) = IsOddClosedWalk g walk
+
+-- the answer is that there are two sides
+abbrev pub IsEven : Sides → Type 0
+IsEven (Even left) = Unit {0}
+IsEven (Odd walk) = ⊥

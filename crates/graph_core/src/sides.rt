@@ -1,0 +1,76 @@
+//! The two sides of a bipartite graph, or an odd closed walk.
+ghost use Rattle.std.specs.Prelude.{◌≡◌, ◌≤◌, ◌++◌, ◌∷◌, ◌↔◌, not, All, Contains, IfOk, IfSome, IfNone, length};
+ghost use Rattle.counting.specs.Counts.{Within, is_odd};
+ghost use Rattle.counting.specs.Sets.{none};
+ghost use Rattle.graph_core.specs.Components.{is_least};
+ghost use Rattle.graph_core.specs.Graph.{IsBipartite, IsGraph};
+ghost use Rattle.graph_core.specs.Nodes.{parent_at, depth_at, IsRooted};
+ghost use Rattle.graph_core.specs.Sides.{AreSides, IsEven};
+ghost use Rattle.graph_core.specs.Trees.{IsForest, way_up, way_down};
+ghost use Rattle.graph_core.specs.View.{graph_of};
+
+use crate::tree::{TreeNode, climb, descend, even_vertices};
+use crate::{Ends, Numbers};
+use std::alloc::{AllocError as Memory, Global};
+use vset_core::MOST_VERTICES;
+
+/// Whether a graph is bipartite, with what shows it.
+#[derive(Drop)]
+pub enum Sides {
+    /// Each edge has exactly one end in `left`, a rising list that holds the least vertex of each component.
+    Even { left: Numbers },
+    /// A closed walk of odd length, its first vertex not repeated at the end.
+    Odd { walk: Numbers },
+}
+
+/// The first edge whose ends lie at depths of one parity.
+fn level_edge(edges: &[Ends], nodes: &[TreeNode]) -> Option<Ends>
+    requires { IsGraph (graph_of (length nodes.now) edges.now) }
+    ensures found { IfSome result (λ edge. Contains edges.now edge × (is_odd (depth_at nodes.now edge.a) ≡ is_odd (depth_at nodes.now edge.b))) }
+    ensures none { IfNone result (All (λ edge. is_odd (depth_at nodes.now edge.a) ≡ not (is_odd (depth_at nodes.now edge.b))) edges.now) }
+{
+    for edge in edges {
+        let first = nodes[edge.a as usize - 1];
+        let second = nodes[edge.b as usize - 1];
+        if first.is_odd() == second.is_odd() {
+            return Some(*edge);
+        }
+    }
+    None
+}
+
+/// The walk from `a` up to the root of its tree and from there down to `b`.
+fn walk_over_root(alloc: Global, nodes: &[TreeNode], a: u32, b: u32) -> Result<Numbers, Memory>
+    requires rooted { IsRooted nodes.now }
+    requires first { Within (length nodes.now) a }
+    requires second { Within (length nodes.now) b }
+    ensures { IfOk result (λ walk. walk ≡ a ∷ (way_up (parent_at nodes.now) (depth_at nodes.now a) a ++ way_down (parent_at nodes.now) (depth_at nodes.now b) b)) }
+{
+    let mut walk = Numbers::new(alloc);
+    walk.push(a)?;
+    climb(nodes, a, &mut walk)?;
+    descend(nodes, b, &mut walk)?;
+    Ok(walk)
+}
+
+/// The sides of the graph with these edges, by the parities of depths in its search trees.
+pub(crate) fn sides_by_depth(
+    alloc: Global,
+    edges: &[Ends],
+    nodes: &[TreeNode],
+) -> Result<Sides, Memory>
+    requires few { length nodes.now ≤ MOST_VERTICES }
+    requires graph { IsGraph (graph_of (length nodes.now) edges.now) }
+    requires trees { IsForest (graph_of (length nodes.now) edges.now) none (is_least (graph_of (length nodes.now) edges.now) none) (parent_at nodes.now) (depth_at nodes.now) }
+    ensures even { IfOk result (λ sides. IsEven sides ↔ IsBipartite (graph_of (length nodes.now) edges.now)) }
+    ensures sides { IfOk result (AreSides (graph_of (length nodes.now) edges.now)) }
+{
+    match level_edge(edges, nodes) {
+        Some(edge) => Ok(Sides::Odd {
+            walk: walk_over_root(alloc, nodes, edge.a, edge.b)?,
+        }),
+        None => Ok(Sides::Even {
+            left: even_vertices(alloc, nodes)?,
+        }),
+    }
+}

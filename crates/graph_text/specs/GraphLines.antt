@@ -1,0 +1,37 @@
+-- The lines that both versions of the graph format share: what has been read so far, and an edge between numbered vertices.
+use Rattle.std.specs.Prelude.{ℕ, ◌==◌, ◌&&◌, ◌||◌, not, nat_lt, Bool, List, [], ◌∷◌, codes, Result, Ok, Err, if◌then◌else◌}
+use Rattle.line_text.specs.Format.{checked}
+use Rattle.line_text.specs.Words.{has_form, word_at}
+use Rattle.line_text.specs.Numerals.{is_number, value_of}
+use Rattle.graph_core.specs.Graph.{Graph, size, with_edge}
+use Rattle.graph_core.specs.declared.faults.FaultKind.{FaultKind}
+use Rattle.graph_core.specs.declared.faults.FaultKind.TheVariants as kind
+
+-- the edges read so far, and how many there are to be
+pub record GraphSoFar : Type 0 where
+  pub graph : Graph
+  pub edges : ℕ
+
+-- v is no vertex of a graph of that order
+abbrev pub is_no_vertex : ℕ → ℕ → Bool
+is_no_vertex n v = (v == 0) || nat_lt n v
+
+-- a line `e A B` adds an edge
+abbrev pub edge_line : GraphSoFar → List (List ℕ) → Result GraphSoFar FaultKind
+edge_line body words =
+    let a = value_of (word_at words 1) in
+    let b = value_of (word_at words 2) in
+    checked ((not (has_form words 3 (codes "e" ∷ [])), kind.Word)
+    ∷ (not (is_number (word_at words 1) && is_number (word_at words 2)), kind.Number)
+    ∷ (is_no_vertex body.graph.order a || is_no_vertex body.graph.order b, kind.Range)
+    ∷ (a == b, kind.Loop)
+    ∷ [])
+    (record body { graph = with_edge body.graph a b })
+
+-- a significant line behind the header is an edge, or too much where all edges have been read
+abbrev pub graph_line : GraphSoFar → List (List ℕ) → Result GraphSoFar FaultKind
+graph_line body words = if size body.graph == body.edges then Err kind.Extra else edge_line body words
+
+-- the end of the text comes when all edges have been read
+abbrev pub graph_end : GraphSoFar → Result Graph FaultKind
+graph_end body = if size body.graph == body.edges then Ok body.graph else Err kind.Missing

@@ -1,0 +1,31 @@
+-- Version 1 of the graph format: a header `p mcg N M` and M lines `e A B`.
+use Rattle.std.specs.Prelude.{ℕ, ◌&&◌, ◌||◌, not, nat_lt, List, [], ◌∷◌, codes, Result}
+use Rattle.line_text.specs.Format.{Rules, checked}
+use Rattle.line_text.specs.Words.{has_form, word_at}
+use Rattle.line_text.specs.Numerals.{is_number, value_of}
+use Rattle.graph_core.specs.Graph.{Graph}
+use Rattle.graph_core.specs.declared.faults.FaultKind.{FaultKind}
+use Rattle.graph_core.specs.declared.faults.FaultKind.TheVariants as kind
+use Rattle.graph_text.specs.GraphLines.{GraphSoFar, graph_line, graph_end}
+
+-- the most vertices and the most edges in version 1
+abbrev pub most_vertices : ℕ
+most_vertices = 64
+
+abbrev pub most_edges : ℕ
+most_edges = 512
+
+-- the header, by its words
+abbrev pub header : List (List ℕ) → Result GraphSoFar FaultKind
+header words =
+    let n = value_of (word_at words 2) in
+    let m = value_of (word_at words 3) in
+    checked ((not (has_form words 4 (codes "p" ∷ codes "mcg" ∷ [])), kind.Header)
+    ∷ (not (is_number (word_at words 2) && is_number (word_at words 3)), kind.Number)
+    ∷ (nat_lt most_vertices n || nat_lt most_edges m, kind.Limit)
+    ∷ [])
+    (record { graph = record { order = n; ends = [] }; edges = m })
+
+-- the format
+abbrev pub version_one : Rules GraphSoFar Graph FaultKind
+version_one = record { header = header; line = graph_line; close = graph_end; headless = kind.Header }

@@ -1,0 +1,56 @@
+//! What both versions of the graph format share.
+ghost use Rattle.std.specs.Prelude.{◌≡◌, ◌≤◌};
+ghost use Rattle.line_text.specs.Reading.{Gives};
+ghost use Rattle.line_text.specs.Words.{texts_of};
+ghost use Rattle.graph_core.specs.Graph.{Graph};
+ghost use Rattle.graph_text.specs.GraphLines.{GraphSoFar, edge_line, graph_line, graph_end};
+ghost use Rattle.graph_text.specs.SoFar.{so_far};
+
+use crate::body::Body;
+use graph_core::{FaultKind, MultiGraph};
+use line_text::{Refusal, has_form, number, word};
+
+// The body with one edge more.
+fn with_edge(body: Body, words: &[&[u8]]) -> Result<Body, Refusal<FaultKind>>
+    ensures { Gives so_far result (edge_line (so_far body) (texts_of words.now)) }
+{
+    if !has_form(words, 3, &["e"]) {
+        return Err(Refusal::Fault(FaultKind::Word));
+    }
+    let (Some(a), Some(b)) = (number(word(words, 1)), number(word(words, 2))) else {
+        return Err(Refusal::Fault(FaultKind::Number));
+    };
+    let mut body = body;
+    let n = body.graph.order();
+    if a == 0 || a > n || b == 0 || b > n {
+        return Err(Refusal::Fault(FaultKind::Range));
+    }
+    if a == b {
+        return Err(Refusal::Fault(FaultKind::Loop));
+    }
+    match body.graph.add_edge(a, b) {
+        Ok(_) => Ok(body),
+        Err(_) => Err(Refusal::Memory),
+    }
+}
+
+/// A significant line behind the header.
+pub fn read_edge(body: Body, words: &[&[u8]]) -> Result<Body, Refusal<FaultKind>>
+    ensures { Gives so_far result (graph_line (so_far body) (texts_of words.now)) }
+{
+    if body.graph.size() == body.edges {
+        return Err(Refusal::Fault(FaultKind::Extra));
+    }
+    with_edge(body, words)
+}
+
+/// The end of the text.
+pub fn close_graph(body: Body) -> Result<MultiGraph, Refusal<FaultKind>>
+    ensures { Gives (λ (g : Graph). g) result (graph_end (so_far body)) }
+{
+    if body.graph.size() == body.edges {
+        Ok(body.graph)
+    } else {
+        Err(Refusal::Fault(FaultKind::Missing))
+    }
+}

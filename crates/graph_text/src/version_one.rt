@@ -1,0 +1,92 @@
+//! Version 1 of the graph format.
+ghost use Rattle.std.specs.Prelude.{◌≡◌, ◌<◌, ◌-◌, ◌^◌, ℕ, length, IfOk, IfErr, Ok, Err};
+ghost use Rattle.line_text.specs.Reading.{Gives};
+ghost use Rattle.line_text.specs.Format.{Stands, FirstFault};
+ghost use Rattle.text_faults.specs.Readings.{IsFirstFault, ReadsText};
+ghost use Rattle.graph_core.specs.declared.faults.FaultKind.{FaultKind};
+ghost use Rattle.line_text.specs.Words.{texts_of};
+ghost use Rattle.graph_core.specs.Graph.{Graph};
+ghost use Rattle.graph_text.specs.GraphLines.{GraphSoFar};
+ghost use Rattle.graph_text.specs.SoFar.{so_far};
+ghost use Rattle.graph_text.specs.VersionOne.{version_one, header};
+
+use crate::body::Body;
+use crate::graph_lines::{close_graph, read_edge};
+use graph_core::{FaultKind, MultiGraph, TextFault};
+use line_text::{LineFormat, Refusal, has_form, number, word};
+use std::alloc::Global;
+use text_faults::read_text;
+
+const MOST_VERTICES: u32 = 64;
+
+const MOST_EDGES: u32 = 512;
+
+// The format.
+#[derive(Drop)]
+struct VersionOne {
+    alloc: Global,
+}
+
+fn read_header(alloc: Global, words: &[&[u8]]) -> Result<Body, Refusal<FaultKind>>
+    ensures { Gives so_far result (header (texts_of words.now)) }
+{
+    if !has_form(words, 4, &["p", "mcg"]) {
+        return Err(Refusal::Fault(FaultKind::Header));
+    }
+    let (Some(n), Some(m)) = (number(word(words, 2)), number(word(words, 3))) else {
+        return Err(Refusal::Fault(FaultKind::Number));
+    };
+    if n > MOST_VERTICES || m > MOST_EDGES {
+        return Err(Refusal::Fault(FaultKind::Limit));
+    }
+    match MultiGraph::new(alloc, n) {
+        Ok(graph) => Ok(Body { graph, edges: m }),
+        Err(_) => Err(Refusal::Memory),
+    }
+}
+
+impl LineFormat for VersionOne {
+    type Body = Body;
+
+    type Value = MultiGraph;
+
+    type Kind = FaultKind;
+
+    ghost State = { GraphSoFar };
+
+    ghost Meaning = { Graph };
+
+    ghost state = { so_far };
+
+    ghost meaning = { λ g. g };
+
+    ghost rules = { λ _. version_one };
+
+    fn header(&self, words: &[&[u8]]) -> Result<Body, Refusal<FaultKind>> {
+        read_header(self.alloc, words)
+    }
+
+    fn line(&self, body: Body, words: &[&[u8]]) -> Result<Body, Refusal<FaultKind>> {
+        read_edge(body, words)
+    }
+
+    fn close(&self, body: Body) -> Result<MultiGraph, Refusal<FaultKind>> {
+        close_graph(body)
+    }
+
+    fn headless(&self) -> FaultKind {
+        FaultKind::Header
+    }
+}
+
+/// Reads a graph in version 1 of the format: the graph that the bytes stand for, or the first line outside the format with the
+/// kind of its fault. Want of memory may come at any time.
+pub fn read_graph(alloc: Global, bytes: &[u8]) -> Result<MultiGraph, TextFault>
+    requires { length bytes.now < 2 ^ 32 - 1 }
+    ensures value { IfOk result (λ g. Stands version_one bytes.now g) }
+    ensures fault { IfErr result (IsFirstFault version_one bytes.now) }
+    ensures stands { (g : Graph) → Stands version_one bytes.now g → ReadsText (λ (h : Graph). h) result (Ok g) }
+    ensures breaks { (line : ℕ) (kind : FaultKind) → FirstFault version_one bytes.now line kind → ReadsText (λ (h : Graph). h) result (Err (line, kind)) }
+{
+    read_text(alloc, &VersionOne { alloc }, bytes)
+}

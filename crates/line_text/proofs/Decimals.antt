@@ -1,0 +1,55 @@
+-- What is written of a number is a word of digits, and std tells that they read as that number. Below 10 ^ 9 they are
+-- nine at most, so the word is a number.
+use Rattle.std.proofs.Common.{◌≡◌, ℕ, ◌^◌, ◌≤◌, ◌<◌, List, [], ◌∷◌, length, Bool, true, not, ◌||◌, ◌==◌, cond, Some, None, refl, ◌∙◌, ap, arith, rules}
+use Rattle.std.specs.Char.{is_ascii_digit}
+use Rattle.std.specs.Fmt.{decimal}
+use Rattle.std.specs.List.{list_all}
+use Rattle.std.specs.Str.Parse.{digits_value}
+use Rattle.std.proofs.lemmas.Bool.{and_from, le-leb}
+use Rattle.std.proofs.lemmas.Bool.Decides.{nat_tests}
+use Rattle.std.proofs.lemmas.Fmt.{digits_decimal, digits_value-decimal, decimal_nonempty, length-decimal-le}
+use Rattle.std.proofs.lemmas.Str.Parse.{IsNumeralModel, IsDigitsTest, numerals_by_value}
+use Rattle.line_text.specs.Lines.{is_line_feed}
+use Rattle.line_text.specs.Numerals.{number_of}
+use Rattle.line_text.specs.Words.{is_blank, is_word}
+use Rattle.line_text.proofs.Digits.{digits-cons}
+
+-- the test for digits is std's
+tells_digits : IsDigitsTest (λ ds. list_all is_ascii_digit ds ≡ true)
+tells_digits = search rules
+
+numerals : IsNumeralModel (λ ds. list_all is_ascii_digit ds ≡ true) (digits_value 10)
+numerals = numerals_by_value (λ ds. list_all is_ascii_digit ds ≡ true) tells_digits
+
+pub digits-decimal : (n : ℕ) → n < 10 ^ 9 → list_all is_ascii_digit (decimal n) ≡ true
+digits-decimal n small = digits_decimal numerals n (omega arith)
+
+-- what holds of each digit holds of each byte of a number
+pub list_all-digits : (test : ℕ → Bool) → ((byte : ℕ) → 48 ≤ byte → byte ≤ 57 → test byte ≡ true) → (word : List ℕ) → list_all is_ascii_digit word ≡ true → list_all test word ≡ true
+list_all-digits test holds [] digits = refl
+list_all-digits test holds (byte ∷ word) digits =
+    let first = digits-cons byte word digits in
+    and_from _ _ (holds byte first.0 first.1) (list_all-digits test holds word first.2)
+
+-- one to nine digits are a number
+pub number_of-digits : (word : List ℕ) → 0 < length word → length word ≤ 9 → list_all is_ascii_digit word ≡ true → number_of word ≡ Some (digits_value 10 word)
+unfolding number_of
+number_of-digits word some few digits =
+    ap (λ b. cond b (Some (digits_value 10 word)) None) (and_from _ _ (le-leb 1 (length word) some) (and_from _ _ (le-leb (length word) 9 few) digits))
+
+-- what is written of a number is read as that number
+pub number_of-decimal : (n : ℕ) → n < 10 ^ 9 → number_of (decimal n) ≡ Some n
+number_of-decimal n small =
+    number_of-digits (decimal n) (decimal_nonempty n (omega arith)) (length-decimal-le 9 n (omega arith) small (omega arith)) (digits-decimal n small)
+    ∙ ap (λ k. Some k) (digits_value-decimal numerals n (omega arith))
+
+-- and it is a word
+word_byte : (byte : ℕ) → 48 ≤ byte → byte ≤ 57 → not (is_blank byte || is_line_feed byte) ≡ true
+word_byte byte low high = grind (arith, nat_tests)
+
+nonempty : (word : List ℕ) → 0 < length word → not (length word == 0) ≡ true
+nonempty word some = grind (arith, nat_tests)
+
+pub is_word-decimal : (n : ℕ) → n < 10 ^ 9 → is_word (decimal n) ≡ true
+is_word-decimal n small =
+    and_from _ _ (nonempty (decimal n) (decimal_nonempty n (omega arith))) (list_all-digits (λ byte. not (is_blank byte || is_line_feed byte)) word_byte (decimal n) (digits-decimal n small))

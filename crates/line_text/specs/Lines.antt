@@ -1,0 +1,28 @@
+-- The lines of a text.
+use Rattle.std.specs.Prelude.{ℕ, ◌==◌, List, [], ◌∷◌, ◌++◌, length, Bool, true, if◌then◌else◌}
+use Rattle.std.specs.List.{slice_split}
+
+-- the line feed, byte 10
+abbrev pub is_line_feed : ℕ → Bool
+is_line_feed byte = byte == 10
+
+-- the parts before, between and behind the line feeds are the lines, but an empty part behind the last line feed is none
+abbrev pub lines_of_parts : List (List ℕ) → List (List ℕ)
+lines_of_parts [] = []
+lines_of_parts (part ∷ []) = if length part == 0 then [] else part ∷ []
+lines_of_parts (part ∷ next ∷ parts) = part ∷ lines_of_parts (next ∷ parts)
+
+-- the lines of a text, which is cut at each line feed
+unfoldable pub lines_of : List ℕ → List (List ℕ)
+lines_of text = lines_of_parts (slice_split is_line_feed text)
+
+-- the text with these lines, each of which a line feed ends
+abbrev pub unlines : List (List ℕ) → List ℕ
+unlines [] = []
+unlines (line ∷ lines) = line ++ 10 ∷ unlines lines
+
+-- whether the text is empty or a line feed ends it, so that more text begins with a line of its own
+abbrev pub is_closed : List ℕ → Bool
+is_closed [] = true
+is_closed (byte ∷ []) = is_line_feed byte
+is_closed (byte ∷ next ∷ text) = is_closed (next ∷ text)
