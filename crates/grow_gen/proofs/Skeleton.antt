@@ -6,8 +6,8 @@ use Rattle.std.specs.Prelude.{slice_index}
 use Rattle.counting.specs.Counts.{Within}
 use Rattle.counting.specs.Sets.{Set, union}
 use Rattle.counting.specs.Lists.{mem, rising_list, IsRisingIn}
-use Rattle.counting.proofs.Lists.{mem-append, rising_only}
-use Rattle.counting.proofs.RisingLists.{same_rising_list, rising_list-rises, mem-rising_list, mem-within, mem-outside, set-wider}
+use Rattle.counting.proofs.Lists.{mem-append, rising_only, mem-within}
+use Rattle.counting.proofs.RisingLists.{same_rising_list, rising_list-rises, mem-rising_list, mem-outside, set-wider}
 use Rattle.grow_gen.specs.declared.pieces.Piece.{Piece}
 use Rattle.grow_gen.specs.declared.pieces.Piece.TheVariants.{K33, K4, Prism, Cube}
 use Rattle.grow_gen.specs.Pieces.{piece_order, is_bipartite_piece, side}

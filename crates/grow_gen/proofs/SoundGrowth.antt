@@ -8,8 +8,8 @@ use Rattle.std.proofs.lemmas.Nat.{div-add-mod', mod_below, mod-mul-add}
 use Rattle.counting.specs.Counts.{Within}
 use Rattle.counting.specs.Sets.{union}
 use Rattle.counting.specs.Lists.{mem, rising_list, IsRisingIn}
-use Rattle.counting.proofs.Lists.{rising_holds}
-use Rattle.counting.proofs.RisingLists.{rising_list-rises, mem-within}
+use Rattle.counting.proofs.Lists.{rising_holds, mem-within}
+use Rattle.counting.proofs.RisingLists.{rising_list-rises}
 use Rattle.graph_core.specs.Graph.{size, IsMultigraph}
 use Rattle.graph_core.specs.Covered.{IsCovered}
 use Rattle.grow_gen.specs.declared.pieces.Piece.{Piece}
