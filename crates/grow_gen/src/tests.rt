@@ -1,9 +1,21 @@
-//! A generated graph edge by edge, the sizes of a larger one, and the reference words of the random generator.
+//! A generated graph edge by edge, the sizes and degrees of larger ones, and the reference words of the random generator.
 use crate::grow;
-use graph_core::Ends;
+use graph_core::{Ends, MultiGraph};
 use rand_core::utils::NextWord;
 use rand_pcg::Lcg64Xsh32;
 use std::alloc::AllocError;
+
+// How many edges are at a vertex.
+fn degree(g: &MultiGraph, v: u32) -> u32 {
+    let mut degree = 0u32;
+    for e in 1..=g.size() {
+        let ends = g.ends(e);
+        if ends.a == v || ends.b == v {
+            degree = degree.wrapping_add(1);
+        }
+    }
+    degree
+}
 
 #[test]
 fn one_piece(rt: HostRuntime) -> Result<(), AllocError> {
@@ -28,19 +40,14 @@ fn one_piece(rt: HostRuntime) -> Result<(), AllocError> {
 }
 
 #[test]
-fn twelve_pieces(rt: HostRuntime) -> Result<(), AllocError> {
-    let g = grow(rt.alloc(), 7, 12)?;
-    assert_eq!(rt; g.order(), 48);
-    assert_eq!(rt; g.size(), 72);
-    for v in 1..=g.order() {
-        let mut degree = 0u32;
-        for e in 1..=g.size() {
-            let ends = g.ends(e);
-            if ends.a == v || ends.b == v {
-                degree = degree.wrapping_add(1);
-            }
+fn sizes_and_degrees(rt: HostRuntime) -> Result<(), AllocError> {
+    for (pieces, order, size) in [(2, 8, 12), (12, 48, 72), (16, 64, 96)] {
+        let g = grow(rt.alloc(), 7, pieces)?;
+        assert_eq!(rt; g.order(), order, "{pieces} pieces");
+        assert_eq!(rt; g.size(), size, "{pieces} pieces");
+        for v in 1..=g.order() {
+            assert_eq!(rt; degree(&g, v), 3, "at {v} of {pieces} pieces");
         }
-        assert_eq!(rt; degree, 3, "at {v}");
     }
     Ok(())
 }
