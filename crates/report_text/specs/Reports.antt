@@ -44,9 +44,13 @@ unfoldable pub verdict_text : Verdict → List ℕ
 verdict_text Covered = codes "covered yes\n"
 verdict_text (NotCovered reason) = codes "covered no" ++ reason_text reason ++ codes "\n"
 
--- the two lines of a maximum matching: its edges, and the vertices that it misses
-abbrev pub maximum_lines : ℕ → ℕ → List ℕ
-maximum_lines matching deficiency = codes "matching " ++ decimal matching ++ codes "\ndeficiency " ++ decimal deficiency ++ codes "\n"
+-- the line with the number of edges of a maximum matching
+abbrev pub matching_line : ℕ → List ℕ
+matching_line edges = codes "matching " ++ decimal edges ++ codes "\n"
+
+-- the line with the number of vertices that a maximum matching misses
+abbrev pub deficiency_line : ℕ → List ℕ
+deficiency_line missed = codes "deficiency " ++ decimal missed ++ codes "\n"
 
 -- the lines on the graph and its sides
 abbrev pub graph_lines : AnalysisLines → List ℕ
@@ -58,7 +62,7 @@ with_three_sets before lines = ((before ++ list_line (codes "D") lines.d) ++ lis
 
 -- the report of `analyse`
 unfoldable pub analysis_text : AnalysisLines → List ℕ
-analysis_text lines = with_three_sets (graph_lines lines ++ maximum_lines lines.matching lines.deficiency) lines
+analysis_text lines = with_three_sets ((graph_lines lines ++ matching_line lines.matching) ++ deficiency_line lines.deficiency) lines
 
 -- the report of a file that is outside its format: its place among the named files, the line and the kind of the fault
 unfoldable pub bad_input_text : (file line kind : ℕ) → List ℕ

@@ -1,6 +1,6 @@
 //! The report of `analyse`.
 ghost use Rattle.std.specs.Prelude.{◌≡◌, ◌++◌, codes, OnOk, IfOk, string_bytes};
-ghost use Rattle.report_text.specs.Reports.{analysis_text, graph_line, components_line, bipartite_line, maximum_lines, list_line, yes_or_no};
+ghost use Rattle.report_text.specs.Reports.{analysis_text, graph_line, components_line, bipartite_line, matching_line, deficiency_line, list_line, yes_or_no};
 
 use crate::numbers::push_set;
 use std::alloc::{AllocError as Memory, Global};
@@ -55,10 +55,16 @@ fn push_bipartite(text: &mut String, holds: bool) -> Result<(), Memory>
     write!(text, "bipartite {answer}\n")
 }
 
-fn push_maximum(text: &mut String, matching: u32, deficiency: u32) -> Result<(), Memory>
-    ensures { OnOk result (string_bytes text.new ≡ string_bytes text.old ++ maximum_lines matching deficiency) }
+fn push_matching(text: &mut String, matching: u32) -> Result<(), Memory>
+    ensures { OnOk result (string_bytes text.new ≡ string_bytes text.old ++ matching_line matching) }
 {
-    write!(text, "matching {matching}\ndeficiency {deficiency}\n")
+    write!(text, "matching {matching}\n")
+}
+
+fn push_deficiency(text: &mut String, deficiency: u32) -> Result<(), Memory>
+    ensures { OnOk result (string_bytes text.new ≡ string_bytes text.old ++ deficiency_line deficiency) }
+{
+    write!(text, "deficiency {deficiency}\n")
 }
 
 fn push_set_line(text: &mut String, word: &str, set: VSet) -> Result<(), Memory>
@@ -78,7 +84,8 @@ pub fn analysis(alloc: Global, lines: &AnalysisLines) -> Result<Vec<u8>, Memory>
     push_graph(&mut text, lines.order, lines.size)?;
     push_components(&mut text, lines.components)?;
     push_bipartite(&mut text, lines.bipartite)?;
-    push_maximum(&mut text, lines.matching, lines.deficiency)?;
+    push_matching(&mut text, lines.matching)?;
+    push_deficiency(&mut text, lines.deficiency)?;
     push_set_line(&mut text, "D", lines.d)?;
     push_set_line(&mut text, "A", lines.a)?;
     push_set_line(&mut text, "C", lines.c)?;
