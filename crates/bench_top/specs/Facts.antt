@@ -1,5 +1,5 @@
 -- What the lines of a report claim of a graph.
-use Rattle.std.specs.Prelude.{◌≡◌, ◌↔◌, IsTrue}
+use Rattle.std.specs.Prelude.{◌≡◌, ◌↔◌, ℕ, IsTrue}
 use Rattle.counting.specs.Counts.{count}
 use Rattle.counting.specs.Sets.{Set, none}
 use Rattle.counting.specs.Lists.{Lists}
@@ -13,8 +13,8 @@ use Rattle.report_text.specs.declared.analyses.AnalysisLines.{AnalysisLines}
 pub record HasMaximum (g : Graph) (edges missed : ℕ) : Type 0 where
   pub matching : Set
   pub maximum : IsMaximum g none matching
-  pub edges : count (size g) matching ≡ edges
-  pub missed : missed_count g none matching ≡ missed
+  pub size_is : count (size g) matching ≡ edges
+  pub misses : missed_count g none matching ≡ missed
 
 -- each line of `analyse` is right
 pub record IsAnalysis (g : Graph) (lines : AnalysisLines) : Type 0 where

@@ -32,6 +32,7 @@ fn maximum_sizes(alloc: Global, g: &MultiGraph) -> Result<(u32, u32), Memory>
 {
     let found = maximum(alloc, g)?;
     found.matching.keeps_matching();
+    g.keeps_limits();
     let edges = found.matching.len() as u32;
     Ok((edges, g.order() - 2 * edges))
 }
