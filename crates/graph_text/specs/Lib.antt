@@ -1,3 +1,4 @@
 pub mod GraphLines
 pub mod VersionOne
 pub mod SoFar
+pub mod Writing

@@ -3,6 +3,9 @@
 
 mod body;
 mod graph_lines;
+pub mod laws;
 mod version_one;
+mod writing;
 
 pub use version_one::read_graph;
+pub use writing::write_graph;

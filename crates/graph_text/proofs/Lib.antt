@@ -1,0 +1,3 @@
+pub mod TextSoFar
+pub mod Edges
+pub mod VersionOneReadBack
