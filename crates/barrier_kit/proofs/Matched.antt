@@ -1,3 +1,5 @@
+-- Small facts on perfect matchings without a set of vertices, and on counts that are tight.
+-- Where each term is at least one and the sum is no more than the number of terms, each term is one.
 use Rattle.std.proofs.Common.{ap₂, ◌≡◌, ℕ, suc, zero, ◌+◌, ◌≤◌, ◌<◌, ◌≢◌, Bool, true, false, ◌==◌, refl, sym, ap, ◌∙◌, arith, ◌&&◌, ◌||◌, not, eq-eqb, ne_eqb, eqb-true, ◌⊎◌, inl, inr, subst}
 use Rattle.std.proofs.lemmas.Bool.{cases_eq, cases_Bool, true≢false, false_from_ne_true, both_ways}
 use Rattle.barrier_kit.proofs.Barriers.{perfect_matching, perfect_misses}

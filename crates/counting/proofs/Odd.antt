@@ -1,3 +1,5 @@
+-- The parity of sums and doubles, and of the two sides of a set of numbers 1 to n.
+-- By induction on the number, with the truth table of "one of the two is odd".
 use Rattle.std.proofs.Common.{◌≡◌, ℕ, suc, zero, ◌+◌, ◌≤◌, ◌<◌, ◌/◌, ◌%◌, ◌==◌, Bool, true, false, refl, sym, ap, ◌∙◌, arith, not, cond, zero-add, suc-add}
 use Rattle.std.proofs.lemmas.Bool.{true≢false}
 use Rattle.counting.proofs.Counts.{count_complement}

@@ -1,3 +1,5 @@
+-- Tightness and being covered depend on adjacency alone: they go over from a graph to one with the same adjacent pairs.
+-- A perfect matching goes over by choosing, for each of its edges, the least edge with the same ends.
 use Rattle.std.proofs.Common.{◌≡◌, ℕ, ◌≢◌, true, cond, ◌==◌, refl, sym, ap, ◌∙◌, arith, ◌&&◌, ◌||◌, eq-eqb, ne_eqb, ◌⊎◌, inl, inr, List, [], ◌∷◌, subst, subst₂}
 use Rattle.std.proofs.lemmas.Bool.{cases_eq, and_from}
 use Rattle.std.proofs.lemmas.Bool.Decides.{nat_tests}

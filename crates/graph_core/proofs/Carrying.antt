@@ -1,3 +1,5 @@
+-- A perfect matching goes over along a map of vertices and a choice of edges, and so do the edges in a cut.
+-- Sums over the images are sums over the originals.
 use Rattle.std.proofs.Common.{◌≡◌, ℕ, ◌+◌, ◌*◌, ◌≤◌, ◌≢◌, Bool, true, false, ◌==◌, refl, sym, ap, ap₂, ◌∙◌, arith, ◌&&◌, ◌||◌, not, eq-eqb, ne_eqb, eqb-true, inl, inr, mul_comm}
 use Rattle.std.proofs.lemmas.Bool.{cases_eq, and_parts, true≢false}
 use Rattle.counting.proofs.Counts.{bit-and, count_le_one, some_le_count}

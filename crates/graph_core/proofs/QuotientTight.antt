@@ -1,3 +1,5 @@
+-- A set of blocks is tight in the quotient exactly where it is in the contracted graph.
+-- Perfect matchings go over both ways by the least edge with the same ends.
 use Rattle.std.proofs.Common.{◌≡◌, ℕ, suc, zero, ◌<◌, ◌≢◌, Bool, true, false, not, cond, ◌&&◌, ◌||◌, ◌==◌, List, length, refl, sym, ap, ◌∙◌, arith, inl, inr, subst, eq-eqb, eqb-true, ne_eqb}
 use Rattle.std.proofs.lemmas.Bool.{both_ways, or_cases, and_parts, and_from, cases_lt}
 use Rattle.std.proofs.lemmas.List.{length-map}

@@ -132,3 +132,6 @@ impl MultiGraph {
         Ok(self.edges.len() as u32)
     }
 }
+
+#[cfg(test)]
+mod tests;

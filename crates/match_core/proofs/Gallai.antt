@@ -1,3 +1,5 @@
+-- Gallai's lemma: where each vertex is missed by some maximum matching, none misses two vertices of one component.
+-- By induction on a walk between the two, and an exchange of one edge that makes two maximum matchings share one edge more.
 use Rattle.std.proofs.Common.{◌≡◌, ℕ, suc, zero, ◌+◌, ◌*◌, ◌≤◌, ◌<◌, ◌≢◌, Bool, true, false, cond, ◌==◌, refl, sym, ap, ◌∙◌, arith, ◌&&◌, not, eq-eqb, ne_eqb, eqb-true, inl, inr, subst, List, [], ◌∷◌}
 use Rattle.std.proofs.lemmas.Bool.{cases_eq, cases_Bool, cases_order, both_ways, true≢false}
 use Rattle.std.proofs.lemmas.Bool.Decides.{nat_tests}
