@@ -6,6 +6,7 @@ ghost use Rattle.counting.specs.Lists.{mem};
 ghost use Rattle.graph_core.specs.Components.{component_count, components};
 ghost use Rattle.graph_core.specs.Graph.{IsBipartite, size, first_end, second_end, with_edge};
 ghost use Rattle.graph_core.specs.Sides.{AreSides, IsEven};
+ghost use Rattle.graph_core.specs.View.{IsWithinLimits};
 ghost use Rattle.graph_core.specs.Walks.{adjacent};
 
 use crate::search::grow_forest;
@@ -49,16 +50,25 @@ impl MultiGraph {
         })
     }
 
+    /// The law that the graph is a multigraph within the limits of size. It does nothing: a caller states it where it needs it.
+    pub fn keeps_limits(&self)
+        ensures { IsWithinLimits self.now }
+    {
+        let _ = &self.order;
+    }
+
     /// The number of vertices. Takes no memory.
     pub fn order(&self) -> u32
-        ensures { result ≡ self.now.order }
+        ensures is { result ≡ self.now.order }
+        ensures few { result ≤ MOST_VERTICES }
     {
         self.order
     }
 
     /// The number of edges. Takes no memory.
     pub fn size(&self) -> u32
-        ensures { result ≡ size self.now }
+        ensures is { result ≡ size self.now }
+        ensures few { result ≤ MOST_EDGES }
     {
         self.edges.len() as u32
     }
@@ -68,6 +78,8 @@ impl MultiGraph {
         requires { Within (size self.now) e }
         ensures first { result.a ≡ first_end self.now e }
         ensures second { result.b ≡ second_end self.now e }
+        ensures vertices { Within self.now.order result.a × Within self.now.order result.b }
+        ensures different { result.a ≢ result.b }
     {
         self.edges[e as usize - 1]
     }

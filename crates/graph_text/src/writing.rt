@@ -29,6 +29,7 @@ pub fn write_graph(alloc: Global, g: &MultiGraph) -> Result<Vec<u8>, Memory>
     ensures stands { IfOk result (λ text. Stands version_one text.items g.now) }
     ensures alone { IfOk result (λ text. StandsAlone version_one text.items) }
 {
+    g.keeps_limits();
     let order = g.order();
     let size = g.size();
     let mut text = format!(in alloc; "p mcg {order} {size}\n")?;

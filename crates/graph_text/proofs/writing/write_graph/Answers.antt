@@ -1,5 +1,4 @@
 use Rattle.std.proofs.Common.{rules, ◌≡◌, ◌+◌, ◌-◌, ◌<◌, [], ◌∷◌, ◌++◌, ℕ, List, length, get_or, subst, sym, ◌∙◌, ap, ap₂, arith, Vec, Global}
-use Rattle.graph_core.specs.View.{IsWithinLimits}
 use Rattle.line_text.specs.Format.{Stands, StandsAlone}
 use Rattle.line_text.specs.Words.{written}
 use Rattle.graph_core.specs.Graph.{size}
@@ -16,7 +15,7 @@ loop-i-preserved c =
     let same : i + 1 - 1 ≡ i = omega arith in
     let first = c.ends.ensures.first ∙ ap (λ k. (get_or g.ends k (0, 0)).0) same in
     let second = c.ends.ensures.second ∙ ap (λ k. (get_or g.ends k (0, 0)).1) same in
-    let less : i < length g.ends = let all = c.size-size.ensures in let test = c.loop-i-test.true in omega arith in
+    let less : i < length g.ends = let all = c.size-size.ensures.is in let test = c.loop-i-test.true in omega arith in
     c.in_ok-push_edge.ensures
     ∙ ap₂ (λ t (line : List ℕ). t ++ line) c.loop-i.invariant (ap₂ (λ a b. written (edge_words (a, b) ∷ [])) first second)
     ∙ sym (written-more edge_words (header_words c.order-order.result c.size-size.result ∷ []) g.ends i (0, 0) less)
@@ -24,14 +23,16 @@ loop-i-preserved c =
 pub returns-clause-text : goal.returns-clause-text
 returns-clause-text c =
     ap (λ (v : Vec ℕ Global). v.items) c.into_bytes.ensures.value ∙ c.loop-i.invariant
-    ∙ graph_text-by_edges c.args.g.now c.order-order.result c.size-size.result c.loop-i.i c.order-order.ensures c.size-size.ensures c.loop-i-test.false
+    ∙ graph_text-by_edges c.args.g.now c.order-order.result c.size-size.result c.loop-i.i c.order-order.ensures.is c.size-size.ensures.is c.loop-i-test.false
 
 pub returns-clause-stands : goal.returns-clause-stands
 returns-clause-stands c =
-    let within : IsWithinLimits c.args.g.now = c.well_formed in
-    let fits : FitsVersionOne c.args.g.now = record { multigraph = within.multigraph; vertices = c.requires.vertices; edges = c.requires.edges } in
-    let text = ap (λ (v : Vec ℕ Global). v.items) c.into_bytes.ensures.value ∙ c.loop-i.invariant ∙ graph_text-by_edges c.args.g.now c.order-order.result c.size-size.result c.loop-i.i c.order-order.ensures c.size-size.ensures c.loop-i-test.false in
+    let fits : FitsVersionOne c.args.g.now = record { multigraph = c.keeps_limits.ensures.multigraph; vertices = c.requires.vertices; edges = c.requires.edges } in
+    let text = ap (λ (v : Vec ℕ Global). v.items) c.into_bytes.ensures.value ∙ c.loop-i.invariant ∙ graph_text-by_edges c.args.g.now c.order-order.result c.size-size.result c.loop-i.i c.order-order.ensures.is c.size-size.ensures.is c.loop-i-test.false in
     subst (λ t. Stands version_one t c.args.g.now) (sym text) (Stands-graph_text c.args.g.now fits)
 
 pub returns-clause-alone : goal.returns-clause-alone
-returns-clause-alone c = ?
+returns-clause-alone c =
+    let fits : FitsVersionOne c.args.g.now = record { multigraph = c.keeps_limits.ensures.multigraph; vertices = c.requires.vertices; edges = c.requires.edges } in
+    let text = ap (λ (v : Vec ℕ Global). v.items) c.into_bytes.ensures.value ∙ c.loop-i.invariant ∙ graph_text-by_edges c.args.g.now c.order-order.result c.size-size.result c.loop-i.i c.order-order.ensures.is c.size-size.ensures.is c.loop-i-test.false in
+    subst (λ t. StandsAlone version_one t) (sym text) (StandsAlone-stands version_one (graph_text c.args.g.now) c.args.g.now (Stands-graph_text c.args.g.now fits))
