@@ -1,21 +1,18 @@
 -- What is written of a graph in version 1 is read as this graph: the header leads to the graph without edges, and the line
 -- of each edge adds it, by induction over the edges. No test of the tables applies.
-use Rattle.std.proofs.Common.{◌≡◌, ◌≢◌, ◌+◌, ◌^◌, ◌≤◌, ◌<◌, ◌==◌, ℕ, List, [], ◌∷◌, ◌++◌, length, map, codes, true, Some, Ok, inl, inr, refl, ap, subst, arith, append_assoc}
-use Rattle.std.specs.Fmt.{decimal}
+use Rattle.std.proofs.Common.{◌≡◌, ◌+◌, ◌≤◌, ◌<◌, ℕ, List, [], ◌∷◌, ◌++◌, length, map, true, Some, Ok, inl, inr, refl, ap, subst, arith, append_assoc}
 use Rattle.std.specs.List.{AllByRecursion}
 use Rattle.std.proofs.lemmas.Bool.Decides.{nat_tests}
 use Rattle.std.proofs.lemmas.List.{append-nil, length-append}
-use Rattle.counting.specs.Counts.{Within}
 use Rattle.line_text.specs.Format.{Rules, Begins, Stands, StandsAlone}
 use Rattle.line_text.specs.Lines.{lines_of}
-use Rattle.line_text.specs.Words.{has_form, words_of, unwords, is_skipped, written, IsSignificant}
+use Rattle.line_text.specs.Words.{has_form, words_of, unwords, is_skipped, IsSignificant}
 use Rattle.line_text.proofs.Decimals.{number_of-decimal, is_word-decimal}
 use Rattle.line_text.proofs.ExactlyOne.{exactly_one}
 use Rattle.line_text.proofs.ReadBack.{Stands-written, Stands-comments, is_closed-unlines}
 use Rattle.graph_core.specs.Graph.{Graph, size}
-use Rattle.graph_core.specs.declared.faults.FaultKind.{FaultKind}
 use Rattle.graph_text.specs.GraphLines.{GraphSoFar}
-use Rattle.graph_text.specs.VersionOne.{version_one, header, FitsVersionOne}
+use Rattle.graph_text.specs.VersionOne.{version_one, FitsVersionOne}
 use Rattle.graph_text.specs.Writing.{edge_words, header_words, graph_words, graph_text}
 use Rattle.graph_text.proofs.Edges.{IsEdgeIn, edges-multigraph}
 

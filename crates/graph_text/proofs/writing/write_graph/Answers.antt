@@ -1,7 +1,6 @@
-use Rattle.std.proofs.Common.{rules, ◌≡◌, ◌+◌, ◌-◌, ◌<◌, [], ◌∷◌, ◌++◌, ℕ, List, length, get_or, subst, sym, ◌∙◌, ap, ap₂, arith, Vec, Global}
+use Rattle.std.proofs.Common.{◌≡◌, ◌+◌, ◌-◌, ◌<◌, [], ◌∷◌, ◌++◌, ℕ, List, length, get_or, subst, sym, ◌∙◌, ap, ap₂, arith, Vec, Global}
 use Rattle.line_text.specs.Format.{Stands, StandsAlone}
 use Rattle.line_text.specs.Words.{written}
-use Rattle.graph_core.specs.Graph.{size}
 use Rattle.graph_text.specs.VersionOne.{version_one, FitsVersionOne}
 use Rattle.graph_text.specs.Writing.{edge_words, header_words, graph_text}
 use Rattle.graph_text.proofs.TextSoFar.{written-more, graph_text-by_edges}
