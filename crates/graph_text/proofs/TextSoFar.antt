@@ -5,7 +5,7 @@ use Rattle.std.proofs.Math.Seq.{take-suc}
 use Rattle.std.proofs.lemmas.List.{map-append}
 use Rattle.line_text.specs.Words.{unwords, written}
 use Rattle.graph_core.specs.Graph.{Graph, size}
-use Rattle.graph_text.specs.Writing.{edge_words, header_words, graph_text}
+use Rattle.graph_text.specs.Writing.{edge_words, header_words, graph_text, name_words, named_edge_words, named_header_words, named_text}
 
 -- what is written of lines and further lines
 written-append : (lines more : List (List (List ℕ))) → written (lines ++ more) ≡ written lines ++ written more
@@ -29,3 +29,10 @@ unfolding graph_text
 graph_text-by_edges g order edges i vertices all done =
     ap₂ (λ n m. written (header_words n m ∷ map edge_words (take i g.ends))) vertices all
     ∙ ap (λ ends. written (header_words g.order (size g) ∷ map edge_words ends)) (take_all i g.ends (omega arith))
+
+-- all edges between named vertices
+pub named_text-by_edges : (g : Graph) (names : List (List ℕ)) (order edges i : ℕ) → order ≡ g.order → edges ≡ size g → edges ≤ i → written (named_header_words order edges ∷ map name_words names ++ map (named_edge_words names) (take i g.ends)) ≡ named_text g names
+unfolding named_text
+named_text-by_edges g names order edges i vertices all done =
+    ap₂ (λ n m. written (named_header_words n m ∷ map name_words names ++ map (named_edge_words names) (take i g.ends))) vertices all
+    ∙ ap (λ ends. written (named_header_words g.order (size g) ∷ map name_words names ++ map (named_edge_words names) ends)) (take_all i g.ends (omega arith))

@@ -2,3 +2,5 @@ pub mod GraphLines
 pub mod VersionOne
 pub mod SoFar
 pub mod Writing
+pub mod Names
+pub mod EitherVersion

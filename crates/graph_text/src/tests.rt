@@ -1,5 +1,5 @@
 //! Worked texts: what is read of them, and what is written.
-use crate::{read_graph, write_graph};
+use crate::{read_any, read_graph, write_graph, write_named};
 use graph_core::{FaultKind, TextFault};
 use std::test::Fail;
 
@@ -44,6 +44,47 @@ fn first_faults_of_version_one(rt: HostRuntime) {
     for (text, line, kind) in rows {
         assert!(rt; text.len() < 100);
         let fault = read_graph(rt.alloc(), text).err();
+        assert_eq!(rt; fault, Some(TextFault::At { line, kind }));
+    }
+}
+
+#[test]
+fn names_written_and_read_again(rt: HostRuntime) -> Result<(), Fail> {
+    let text: &[u8] = b"p mcg2 4 4\nv a\nv b\nv c\nv d\ne a b\ne b c\ne c d\ne d a\n";
+    let named = read_any(rt.alloc(), text)?;
+    let names = named.names.ok_or("no names")?;
+    assert_eq!(rt; names.len(), 4);
+    for (i, name) in ["a", "b", "c", "d"].iter().enumerate() {
+        assert!(rt; i < names.len());
+        assert_eq!(rt; names.get(i), *name);
+    }
+    assert!(rt; names.len() == named.graph.order() as usize);
+    assert_eq!(rt;
+        write_named(rt.alloc(), &named.graph, &names)?.as_slice(),
+        text
+    );
+    let plain = read_any(rt.alloc(), b"p mcg 2 2\ne 1 2\ne 1 2\n")?;
+    assert!(rt; plain.names.is_none());
+    assert_eq!(rt; plain.graph.size(), 2);
+    Ok(())
+}
+
+#[test]
+fn first_faults_of_version_two(rt: HostRuntime) {
+    let rows: [(&[u8], u32, FaultKind); 9] = [
+        (b"p mcg2 2 1\nv a\nv a\n", 3, FaultKind::SameName),
+        (b"p mcg2 2 1\nv a\nv b!\n", 3, FaultKind::BadName),
+        (b"p mcg2 2 1\nv a\nv b\ne a c\n", 4, FaultKind::Unnamed),
+        (b"p mcg2 2 1\nv a\nv b\ne a a\n", 4, FaultKind::Loop),
+        (b"p mcg2 2 1\nv a\nv b\ne a b\ne a b\n", 5, FaultKind::Extra),
+        (b"p mcg2 2 1\ne 1 2\n", 2, FaultKind::Word),
+        (b"p mcg2 129 129\n", 1, FaultKind::Limit),
+        (b"p mcg 65 65\n", 1, FaultKind::Limit),
+        (b"p mcg3 2 1\n", 1, FaultKind::Header),
+    ];
+    for (text, line, kind) in rows {
+        assert!(rt; text.len() < 100);
+        let fault = read_any(rt.alloc(), text).err();
         assert_eq!(rt; fault, Some(TextFault::At { line, kind }));
     }
 }
