@@ -1,28 +1,27 @@
 -- The text of a graph is accepted, with a graph of the same order and the same adjacent pairs. Idea: each of its bytes writes a
 -- digit, so that nothing is set aside; the bits that are read are those that were written, with zeros behind them.
-use Rattle.std.proofs.Common.{◌≡◌, ℕ, suc, zero, ◌+◌, ◌-◌, ◌*◌, ◌/◌, ◌%◌, ◌<◌, ◌≤◌, ◌≢◌, ◌==◌, ◌&&◌, ◌||◌, not, Bool, true, false, cond, List, [], ◌∷◌, ◌++◌, length, map, take, drop, Option, Some, None, Ok, refl, sym, ap, ap₂, ◌∙◌, arith, leb, ltb, inl, inr, subst, codes, nat_eq, get_or}
-use Rattle.std.proofs.lemmas.Bool.{and_parts, and_from, and_left, and_right, or_from, both_ways, cases_lt, cases_order, cases_Bool, false_from_ne_true, not_from_true, ne_eqb, le-leb, lt-leb, le-ltb, true≢false, cond-false}
-use Rattle.std.proofs.lemmas.Bool.Decides.{Decides-eqb, nat_tests}
-use Rattle.std.proofs.lemmas.List.{drop_at, length-append, length-map}
+use Rattle.std.proofs.Common.{◌≡◌, ℕ, ◌+◌, ◌-◌, ◌/◌, ◌%◌, ◌<◌, ◌≤◌, ◌≢◌, ◌==◌, ◌&&◌, Bool, true, false, cond, List, [], ◌∷◌, ◌++◌, length, map, take, drop, None, Ok, refl, sym, ap, ap₂, ◌∙◌, arith, leb, ltb, inl, inr, subst, codes, nat_eq, get_or}
+use Rattle.std.proofs.lemmas.Bool.{and_parts, and_from, and_left, and_right, or_from, both_ways, cases_lt, cases_order, cases_Bool, false_from_ne_true, not_from_true, ne_eqb, lt-leb, le-ltb, cond-false}
+use Rattle.std.proofs.lemmas.Bool.Decides.{Decides-eqb}
+use Rattle.std.proofs.lemmas.List.{drop_at, length-map}
 use Rattle.std.proofs.lemmas.List.Folds.{list_all-append}
 use Rattle.std.proofs.lemmas.Slice.Eq.{starts_is, ends_is}
 use Rattle.std.specs.List.{list_all, list_any, starts_with, ends_with}
-use Rattle.counting.specs.Counts.{Within}
 use Rattle.counting.specs.Sets.{none}
 use Rattle.graph_core.specs.Graph.{Graph, size, first_end, second_end, has_ends}
 use Rattle.graph_core.specs.View.{IsWithinLimits}
 use Rattle.graph_core.specs.Walks.{adjacent}
 use Rattle.graph_core.proofs.EndLists.{joins, adjacent-ends}
 use Rattle.graph_core.proofs.Walks.{adjacent-edge, adjacent_back, adjacent_within, has_ends-cases}
-use Rattle.graph6_text.specs.Digits.{byte_of, digit_of, is_digit, bits_of, bytes_of}
+use Rattle.graph6_text.specs.Digits.{byte_of, is_digit, bits_of, bytes_of}
 use Rattle.graph6_text.specs.Pairs.{column_pairs, chosen}
-use Rattle.graph6_text.specs.Reading.{without_header, without_line_end, Fault, first_fault, faults_of, is_long, digit_at, order_of, data_of, data_len, pair_count, filling_of, graph_of, body_of, outcome_of}
+use Rattle.graph6_text.specs.Reading.{without_header, without_line_end, first_fault, faults_of, is_long, order_of, data_of, data_len, pair_count, filling_of, graph_of, body_of}
 use Rattle.graph6_text.specs.Writing.{size_of, adjacency_bits, text_of, ReadsBack}
 use Rattle.graph6_text.proofs.Canonical.{digit_bounds, size-short, size-long, order-short, order-long, present-adjacent, simple-graph_of}
 use Rattle.graph6_text.proofs.Choosing.{chosen-filled}
 use Rattle.graph6_text.proofs.Columns.{length-column_pairs, distinct_column_pairs, any_column_pair}
 use Rattle.graph6_text.proofs.DistinctPairs.{present, present_at_most, any_chosen, any_none, joins-own, joins-turned, joins-cases}
-use Rattle.graph6_text.proofs.Passing.{AllFail, none_from_all_fail, outcome-graph}
+use Rattle.graph6_text.proofs.Passing.{none_from_all_fail, outcome-graph}
 use Rattle.graph6_text.proofs.RoundTrip.{AreZeros, Filled, bits-bytes_of, length-bytes_of, is_digit-byte_of, digits-bytes_of}
 
 -- a list of digits holds no byte that is none

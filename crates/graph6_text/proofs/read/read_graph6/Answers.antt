@@ -1,11 +1,11 @@
-use Rattle.std.proofs.Common.{◌≡◌, ◌∙◌, ◌++◌, ap, sym, subst, take, drop, List, ℕ, Result, Ok, Err, None}
+use Rattle.std.proofs.Common.{◌≡◌, ◌∙◌, ap, sym, subst, take, drop, List, ℕ, Result, Ok, Err, None}
 use Rattle.std.proofs.lemmas.Result.{err_from_is_err_and, IfOk-weaker, IfErr-weaker}
 use Rattle.std.specs.Result.{IfOk, OnOk}
 use Rattle.graph_core.specs.Graph.{Graph}
 use Rattle.graph_core.specs.Simple.{IsSimple}
 use Rattle.graph6_text.proofs.Canonical.{simple-graph_of}
 use Rattle.graph6_text.specs.Checks.{IsFirstFault}
-use Rattle.graph6_text.specs.Reading.{body_of, faults_of, first_fault, graph_of, outcome_of, IsFaultOf}
+use Rattle.graph6_text.specs.Reading.{faults_of, first_fault, graph_of, outcome_of}
 use Rattle.graph6_text.proofs.Passing.{outcome-fault, outcome-graph, is_first-front, is_first-behind, first_fault-append}
 use Rattle.graph6_text.proofs.read.read_graph6.Goals as goal
 
