@@ -1,6 +1,10 @@
+-- What a barrier of a covered graph leaves: odd components, as many as it has vertices, each with a tight cut.
+-- Each odd component is left by at least one edge of a perfect matching, and the barrier meets no more of them than it has vertices.
 use Rattle.std.proofs.Common.{◌≡◌, ℕ, ◌*◌, ◌≤◌, ◌≢◌, Bool, true, false, refl, sym, ap, ap₂, ◌∙◌, arith, ◌&&◌, ◌||◌, not, inl, inr, nat_lt, [], ◌∷◌}
 use Rattle.std.proofs.lemmas.Bool.{cases_Bool, true≢false, false_from_ne_true, both_ways, and_parts, and_from}
-use Rattle.barrier_kit.proofs.Matched.{count_zero, covered_perfect, cut_matching, edges_in_cut, even_order, inner, same_bool, some_count, tight_congr, total_tight}
+use Rattle.barrier_kit.proofs.Matched.{count_zero, cut_matching, even_order, inner, some_count, tight_congr, total_tight}
+use Rattle.graph_core.proofs.Decide.{covered_perfect}
+use Rattle.counting.proofs.RisingLists.{same_answers}
 use Rattle.counting.proofs.Counts.{bit_true, count_congr, only_one}
 use Rattle.counting.proofs.Odd.{complement_odd}
 use Rattle.counting.proofs.Tests.{some_true, true_some}
@@ -14,7 +18,7 @@ use Rattle.graph_core.proofs.Uncrossing.{odd_meets}
 use Rattle.graph_core.proofs.Walks.{adjacent_from, has_ends-own, joined_back, joined_on, joined_self}
 use Rattle.graph_core.specs.Components.{component_count, is_least, odd_component_count}
 use Rattle.graph_core.specs.Covered.{IsCovered}
-use Rattle.graph_core.specs.Graph.{Graph, IsGraph, first_end, in_cut, inside, second_end, size}
+use Rattle.graph_core.specs.Graph.{Graph, IsGraph, edges_in_cut, first_end, in_cut, inside, second_end, size}
 use Rattle.graph_core.specs.Matchings.{IsPerfect}
 use Rattle.graph_core.specs.Structure.{IsBarrier}
 use Rattle.graph_core.specs.Tight.{IsTight}
@@ -29,7 +33,7 @@ leads_out g s u h = let a = and_parts (not (s u)) (not (some g.order (λ v. join
 -- an edge outside s keeps in each component
 pub part_step : (g : Graph) (s : Set) (u e : ℕ) → IsGraph g → Within g.order u → Within (size g) e → s (first_end g e) ≡ false → s (second_end g e) ≡ false → joined g s u (first_end g e) ≡ joined g s u (second_end g e)
 unfolding Joined
-part_step g s u e is wu w a b = same_bool _ _
+part_step g s u e is wu w a b = same_answers _ _
     (λ t. walk_joined g s is u (second_end g e) wu (joined_on g s u (first_end g e) (second_end g e) (joined_walk g s u (first_end g e) t) step))
     (λ t. walk_joined g s is u (first_end g e) wu (joined_on g s u (second_end g e) (first_end g e) (joined_walk g s u (second_end g e) t) (joined_back g s (first_end g e) (second_end g e) step)))
   where
@@ -77,7 +81,7 @@ module _ (g : Graph) (is : IsGraph g) (s c : Set) (lead : (u : ℕ) → c u ≡ 
 
   pub covers_step : (e : ℕ) → Within (size g) e → s (first_end g e) ≡ false → s (second_end g e) ≡ false → covers (first_end g e) ≡ covers (second_end g e)
   unfolding covers
-  covers_step e w a b = same_bool _ _ (λ t. over (first_end g e) (second_end g e) (λ u wu. part_step g s u e is wu w a b) t) (λ t. over (second_end g e) (first_end g e) (λ u wu. sym (part_step g s u e is wu w a b)) t)
+  covers_step e w a b = same_answers _ _ (λ t. over (first_end g e) (second_end g e) (λ u wu. part_step g s u e is wu w a b) t) (λ t. over (second_end g e) (first_end g e) (λ u wu. sym (part_step g s u e is wu w a b)) t)
     where
       over : (x y : ℕ) → ((u : ℕ) → Within g.order u → joined g s u x ≡ joined g s u y) → some g.order (λ u. c u && joined g s u x) ≡ true → some g.order (λ u. c u && joined g s u y) ≡ true
       over x y h t = let r = some_true g.order (λ u. c u && joined g s u x) t in let p = and_parts (c r.0) (joined g s r.0 x) r.2 in
@@ -235,7 +239,7 @@ leader_same g s is u v w wu wv ww lu ju lw jw =
 
 -- two vertices of a component have one component
 pub part_same : (g : Graph) (s : Set) → IsGraph g → (u a : ℕ) → Within g.order u → Within g.order a → joined g s u a ≡ true → (v : ℕ) → joined g s u v ≡ joined g s a v
-part_same g s is u a wu wa j v = same_bool _ _
+part_same g s is u a wu wa j v = same_answers _ _
     (λ t. walk_joined g s is a v wa (joined_on g s a u v (joined_back g s u a (joined_walk g s u a j)) (joined_walk g s u v t)))
     (λ t. walk_joined g s is u v wu (joined_on g s u a v (joined_walk g s u a j) (joined_walk g s a v t)))
 

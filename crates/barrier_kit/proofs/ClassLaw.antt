@@ -1,15 +1,19 @@
+-- The classes of a covered graph are its greatest barriers, and being equivalent is an equivalence.
+-- A barrier grows by each equivalent vertex outside it, until it is the whole class.
 use Rattle.std.proofs.Common.{◌≡◌, ℕ, suc, zero, ◌+◌, ◌≤◌, Bool, true, false, ◌==◌, refl, sym, ap, ◌∙◌, arith, ◌&&◌, ◌||◌, not, eq-eqb, eqb-true, ◌⊎◌, inl, inr}
 use Rattle.std.proofs.lemmas.Bool.{cases_eq, cases_Bool, true≢false, both_ways}
 use Rattle.barrier_kit.proofs.BarrierCuts.{leader_of, leads_out, odd_part, part_out}
 use Rattle.barrier_kit.proofs.Barriers.{barrier_pair, few_odd_components}
 use Rattle.barrier_kit.proofs.Enlarging.{barrier_congr, enlarge, same_parity}
 use Rattle.barrier_kit.proofs.Joining.{join}
-use Rattle.barrier_kit.proofs.Matched.{count_only, covered_perfect, even_order, glue, perfect_congr, same_bool, scan}
+use Rattle.barrier_kit.proofs.Matched.{count_only, even_order, glue, perfect_congr}
+use Rattle.counting.proofs.RisingLists.{same_answers}
+use Rattle.counting.proofs.Tests.{scan}
 use Rattle.counting.proofs.Choice.{choose_set}
 use Rattle.counting.proofs.Counts.{count_le, count_more}
 use Rattle.counting.specs.Counts.{Within, count, is_odd}
 use Rattle.counting.specs.Sets.{Set, minus, singleton, union}
-use Rattle.graph_core.proofs.Decide.{is_perfect_congr, is_perfect_true, true_is_perfect}
+use Rattle.graph_core.proofs.Decide.{covered_perfect, is_perfect_congr, is_perfect_true, true_is_perfect}
 use Rattle.graph_core.specs.Components.{odd_component_count}
 use Rattle.graph_core.specs.Covered.{IsCovered}
 use Rattle.graph_core.specs.Graph.{Graph, IsGraph, size}
@@ -143,7 +147,7 @@ equivalent_on g a b c is cov wa wb wc p q =
 pub class_barrier : (g : Graph) (b : ℕ) (s : Set) → IsGraph g → IsCovered g → Within g.order b → IsClass g b s → IsBarrier g s
 class_barrier g b s is cov wb c =
     let t = class_exists g is cov b wb in
-    barrier_congr g t.0 s is (λ v w. same_bool (t.0 v) (s v) (λ h. c.all v w (t.2.holds v w h)) (λ h. t.2.all v w (c.holds v w h))) t.1
+    barrier_congr g t.0 s is (λ v w. same_answers (t.0 v) (s v) (λ h. c.all v w (t.2.holds v w h)) (λ h. t.2.all v w (c.holds v w h))) t.1
 
 -- a barrier lies in the class of each of its vertices
 pub class_holds_barrier : (g : Graph) (b : ℕ) (s t : Set) → IsGraph g → Within g.order b → IsClass g b s → IsBarrier g t → t b ≡ true → (v : ℕ) → Within g.order v → t v ≡ true → s v ≡ true

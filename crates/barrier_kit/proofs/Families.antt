@@ -1,3 +1,5 @@
+-- Sets of vertices apart, each with a perfect matching of its own: their union has one.
+-- The matchings are put side by side; a count over the family shows that each vertex is met once.
 use Rattle.std.proofs.Common.{◌≡◌, ℕ, suc, zero, ◌≤◌, Bool, true, false, refl, arith, ◌&&◌, ◌||◌, not}
 use Rattle.std.proofs.lemmas.Bool.{true≢false, and_parts}
 use Rattle.barrier_kit.proofs.Matched.{glue, perfect_congr}

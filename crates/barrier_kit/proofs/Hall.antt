@@ -1,10 +1,12 @@
+-- Hall's theorem: where each part of a set has at least as many neighbours, each member gets a neighbour of its own.
+-- By induction on the set: either some proper part is just met, and both sides are done apart, or one member takes any neighbour.
 use Rattle.std.proofs.Common.{◌≡◌, ℕ, suc, zero, ◌+◌, ◌≤◌, ◌<◌, ◌≢◌, Bool, true, false, cond, ◌==◌, refl, sym, ap, ap₂, ◌∙◌, arith, ◌&&◌, ◌||◌, not, eq-eqb, eqb-true, nat_lt, lt-ltb, ltb-true, inl, inr}
 use Rattle.std.proofs.lemmas.Bool.{cases_eq, false_from_ne_true, both_ways, and_parts, and_from}
-use Rattle.barrier_kit.proofs.Matched.{count_member, count_minus, count_only, count_sub, count_zero, member_count, some_congr, some_or, total_tight}
+use Rattle.barrier_kit.proofs.Matched.{count_member, count_minus, count_only, count_sub, count_zero, member_count, some_or, total_tight}
 use Rattle.barrier_kit.specs.Choices.{Picks, neighbours}
 use Rattle.counting.proofs.Choice.{Respects, choose_set}
 use Rattle.counting.proofs.Counts.{count_congr, count_le_one, count_of_one}
-use Rattle.counting.proofs.Tests.{some_true, true_some}
+use Rattle.counting.proofs.Tests.{some_congr, some_true, true_some}
 use Rattle.counting.proofs.Totals.{total_add, total_congr, total_le, total_none, total_swap}
 use Rattle.counting.specs.Counts.{Within, bit, count, total}
 use Rattle.counting.specs.Sets.{Set, meet, minus, singleton, union}

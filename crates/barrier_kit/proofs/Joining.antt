@@ -1,9 +1,12 @@
+-- A covered graph without a vertex of a barrier and one component of the rest has a perfect matching.
+-- Hall's theorem gives each other vertex of the barrier a component of its own, and the matchings of the components are joined.
 use Rattle.std.proofs.Common.{◌≡◌, ℕ, ◌+◌, ◌*◌, ◌≤◌, ◌≢◌, Bool, true, false, ◌==◌, refl, sym, ap, ◌∙◌, arith, ◌&&◌, ◌||◌, not, eq-eqb, ne_eqb, eqb-true, ◌⊎◌, inl, inr}
 use Rattle.std.proofs.lemmas.Bool.{cases_eq, cases_Bool, true≢false, false_from_ne_true, both_ways, and_parts, and_from, or_cases}
 use Rattle.barrier_kit.proofs.BarrierCuts.{cover_in, covers, covers_out, cut_family, leader_of, leader_same, leads_out, many_parts, none_inside, one_cut, part_out, part_same, sat_inside}
 use Rattle.barrier_kit.proofs.Families.{glue_family}
 use Rattle.barrier_kit.proofs.Hall.{hall, hits}
-use Rattle.barrier_kit.proofs.Matched.{count_member, count_minus, count_only, count_zero, cut_matching, edges_in_cut, inner, loop_free, perfect_congr, restrict, same_bool}
+use Rattle.barrier_kit.proofs.Matched.{count_member, count_minus, count_only, count_zero, cut_matching, inner, loop_free, perfect_congr, restrict}
+use Rattle.counting.proofs.RisingLists.{same_answers}
 use Rattle.barrier_kit.specs.Choices.{Picks, neighbours}
 use Rattle.counting.proofs.Tests.{some_true, true_some}
 use Rattle.counting.proofs.Totals.{at_le_total, total_add, total_congr, total_le, total_none}
@@ -14,7 +17,7 @@ use Rattle.graph_core.proofs.Components.{joined_outside}
 use Rattle.graph_core.proofs.Parity.{parity, two_cuts}
 use Rattle.graph_core.specs.Components.{is_least}
 use Rattle.graph_core.specs.Covered.{IsCovered}
-use Rattle.graph_core.specs.Graph.{Graph, IsGraph, connects, first_end, in_cut, inside, second_end, size}
+use Rattle.graph_core.specs.Graph.{Graph, IsGraph, connects, edges_in_cut, first_end, in_cut, inside, second_end, size}
 use Rattle.graph_core.specs.Matchings.{IsPerfect}
 use Rattle.graph_core.specs.Structure.{IsBarrier}
 use Rattle.graph_core.specs.Walks.{joined}
@@ -214,7 +217,7 @@ module _ (g : Graph) (is : IsGraph g) (cov : IsCovered g) (s : Set) (bar : IsBar
     left_over v = not (b == v) && not (joined g s l v)
 
     all_stars : (v : ℕ) → Within g.order v → so_far g.order v ≡ left_over v
-    all_stars v w = same_bool _ _ there back
+    all_stars v w = same_answers _ _ there back
       where
         there : so_far g.order v ≡ true → left_over v ≡ true
         there h = let z = some_true g.order (λ z. from z && star_set z v) h in let p = in_star z.0 v z.2 in

@@ -1,4 +1,6 @@
-use Rattle.std.proofs.Common.{ap₂, ◌≡◌, ℕ, suc, zero, ◌+◌, ◌≤◌, ◌<◌, ◌≢◌, Bool, true, false, ◌==◌, refl, sym, ap, ◌∙◌, arith, ◌&&◌, ◌||◌, not, eq-eqb, ne_eqb, eqb-true, ◌⊎◌, inl, inr, subst}
+-- Small facts on perfect matchings without a set of vertices, and on counts that are tight.
+-- Where each term is at least one and the sum is no more than the number of terms, each term is one.
+use Rattle.std.proofs.Common.{ap₂, ◌≡◌, ℕ, suc, zero, ◌+◌, ◌≤◌, ◌<◌, ◌≢◌, Bool, true, false, ◌==◌, refl, sym, ap, ◌∙◌, arith, ◌&&◌, ◌||◌, not, eq-eqb, ne_eqb, eqb-true, inl, inr}
 use Rattle.std.proofs.lemmas.Bool.{cases_eq, cases_Bool, true≢false, false_from_ne_true, both_ways}
 use Rattle.barrier_kit.proofs.Barriers.{perfect_matching, perfect_misses}
 use Rattle.counting.proofs.Counts.{bit_true, count_complement, count_congr, some_le_count}
@@ -11,20 +13,12 @@ use Rattle.counting.specs.Tests.{some}
 use Rattle.graph_core.proofs.Edits.{ends_le_degree, ends_of, missed_edges}
 use Rattle.graph_core.proofs.Walks.{parted}
 use Rattle.graph_core.specs.Covered.{IsCovered}
-use Rattle.graph_core.specs.Graph.{Graph, IsGraph, degree, first_end, in_cut, inside, second_end, size}
+use Rattle.graph_core.specs.Graph.{Graph, IsGraph, degree, edges_in_cut, first_end, in_cut, inside, second_end, size}
 use Rattle.graph_core.specs.Matchings.{IsPerfect}
 use Rattle.graph_core.specs.Tight.{IsNontrivial, IsTight}
 
-abbrev pub edges_in_cut : Graph → Set → Set → ℕ
-edges_in_cut g m x = count (size g) (λ e. m e && in_cut g x e)
-
 abbrev pub inner : Graph → Set → Set → ℕ
 inner g m x = count (size g) (λ e. m e && inside g x e)
-
-pub same_bool : (a b : Bool) → (a ≡ true → b ≡ true) → (b ≡ true → a ≡ true) → a ≡ b
-same_bool true b f h = sym (f refl)
-same_bool false true f h = h refl
-same_bool false false f h = refl
 
 pub some_count : (n : ℕ) (p : ℕ → Bool) → count n p ≤ 1 → bit (some n p) ≡ count n p
 some_count n p h = go (some n p) refl
@@ -50,19 +44,6 @@ count_zero n p h v w = go (p v) refl
     go : (b : Bool) → p v ≡ b → p v ≡ false
     go false e = e
     go true e = let a = at_le_total n (λ v. bit (p v)) v w in let b = ap bit e in absurd (omega arith)
-
-pub scan : (n : ℕ) (P Q : ℕ → Type 0) → ((v : ℕ) → Within n v → (P v) ⊎ (Q v)) → ((v : ℕ) × Within n v × P v) ⊎ ((v : ℕ) → Within n v → Q v)
-scan zero P Q d = inr (λ v w. absurd (omega arith))
-scan (suc n) P Q d = elim (d (suc n) (omega arith)) [
-  | inl p ↦ inl (suc n, omega arith, p)
-  | inr q ↦ elim (scan n P Q (λ v w. d v (omega arith))) [
-    | inl r ↦ inl (r.0, let a = r.1 in omega arith, r.2)
-    | inr f ↦ inr (λ v w. elim (cases_eq v (suc n)) [
-      | inl e ↦ subst Q (sym e) q
-      | inr e ↦ f v (omega arith)
-    ])
-  ]
-]
 
 pub perfect_congr : (g : Graph) (r s m : Set) → ((v : ℕ) → Within g.order v → r v ≡ s v) → IsPerfect g r m → IsPerfect g s m
 perfect_congr g r s m h p = record { once = λ v w o. p.once v w (h v w ∙ o); away = λ v w o. p.away v w (h v w ∙ o) }
@@ -184,17 +165,10 @@ cut_matching g x u v is c wu wv xu xv =
     let o : bit (a.0 e.0 && in_cut g x e.0) ≡ 1 = rw (a.2, e.2) refl in
     (a.0, a.1, omega (arith, at_le_total (size g) (λ i. bit (a.0 i && in_cut g x i)) e.0 e.1))
 
-pub covered_perfect : (g : Graph) → IsGraph g → IsCovered g → (m : Set) × IsPerfect g none m
-covered_perfect g is c = let two = c.two in let r = cut_matching g (singleton 1) 1 2 is c (omega arith) (omega arith) refl refl in (r.0, r.1)
-
 pub even_order : (g : Graph) (m : Set) → IsGraph g → IsPerfect g none m → is_odd g.order ≡ false
 even_order g m is p = let a = missed_edges g none m is (perfect_matching g none m p) in let b = perfect_misses g none m p in let c = count_complement g.order none in
     let z : count g.order none ≡ 0 = total_none g.order _ (λ v w. refl) in
     let e : g.order ≡ count (size g) m + count (size g) m = omega arith in ap is_odd e ∙ odd-double (count (size g) m)
-
-pub some_congr : (n : ℕ) (p q : ℕ → Bool) → ((v : ℕ) → Within n v → p v ≡ q v) → some n p ≡ some n q
-some_congr zero p q h = refl
-some_congr (suc n) p q h = ap₂ ◌||◌ (some_congr n p q (λ v w. h v (omega arith))) (h (suc n) (omega arith))
 
 pub some_or : (n : ℕ) (p q : ℕ → Bool) → some n (λ v. p v || q v) ≡ (some n p || some n q)
 some_or zero p q = refl

@@ -1,3 +1,5 @@
+-- A test of sets that goes by 1 to n alone is passed by some set or by none, and the search over all sets finds out.
+-- By induction on n: the sets with n and those without.
 use Rattle.std.proofs.Common.{◌≡◌, ℕ, suc, zero, ◌+◌, ◌≢◌, Bool, true, false, ◌==◌, refl, sym, ap, ◌∙◌, arith, ◌||◌, not, eq-eqb, ne_eqb, ◌⊎◌, inl, inr, ◌*◌}
 use Rattle.std.proofs.lemmas.Bool.{cases_eq, cases_Bool, or_cases, or_parts, both_ways}
 use Rattle.counting.proofs.Totals.{total_add, total_at, total_congr}

@@ -1,3 +1,5 @@
+-- The list of pairs in lexicographic order holds each pair a < b once, and a filter keeps those that pass.
+-- By induction on the first number, row by row.
 use Rattle.std.proofs.Common.{◌≡◌, ℕ, suc, zero, ◌<◌, Bool, true, false, cond, ◌==◌, List, [], ◌∷◌, ◌++◌, length, map, refl, sym, ap, ap₂, ◌∙◌, arith, ◌⊎◌, inl, inr, subst, eq-eqb, eqb-true, get_or, filter, nat_lt, flat_map}
 use Rattle.std.proofs.lemmas.Bool.{both_ways, or_cases}
 use Rattle.counting.proofs.Lists.{or_back, or_front, rising_holds, rising_only}

@@ -60,7 +60,7 @@ pub rising_list-rises : (n : ℕ) (x : Set) → IsRisingIn n (rising_list n x)
 rising_list-rises n x = set-from_rises n (rising_list n x) (rises-rising_list n x)
 
 -- two answers that are true together
-same_answers : (a b : Bool) → (a ≡ true → b ≡ true) → (b ≡ true → a ≡ true) → a ≡ b
+pub same_answers : (a b : Bool) → (a ≡ true → b ≡ true) → (b ≡ true → a ≡ true) → a ≡ b
 same_answers true b f g = sym (f refl)
 same_answers false true f g = g refl
 same_answers false false f g = refl

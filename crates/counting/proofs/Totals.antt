@@ -1,3 +1,5 @@
+-- Sums over 1 to n: term by term, of sums and multiples, in two orders, of one term alone.
+-- By induction on n.
 use Rattle.std.proofs.Common.{◌≡◌, ℕ, suc, zero, ◌+◌, ◌*◌, ◌≤◌, ◌<◌, ◌≢◌, refl, sym, ap, ap₂, ◌∙◌, arith, inl, inr}
 use Rattle.std.proofs.lemmas.Bool.{cases_eq}
 use Rattle.counting.specs.Counts.{Within, total}

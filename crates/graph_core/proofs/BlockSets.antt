@@ -1,3 +1,5 @@
+-- Unions of blocks block by block: how many blocks are in them, and uncrossing at a partition.
+-- A union of blocks is counted at the first vertex of each block; uncrossing is that of the contracted graph.
 use Rattle.std.proofs.Common.{◌≡◌, ℕ, suc, zero, ◌-◌, ◌<◌, ◌+◌, ◌*◌, ◌≤◌, Bool, true, false, ◌==◌, refl, sym, ap, ap₂, ◌∙◌, arith, ◌&&◌, ◌||◌, not, eq-eqb, eqb-true, inl, inr, List, [], ◌∷◌, length}
 use Rattle.std.proofs.lemmas.Bool.{cases_Bool, both_ways, and_parts, and_from, cases_eq}
 use Rattle.std.proofs.lemmas.List.{get_or-map, length-map}
@@ -10,6 +12,7 @@ use Rattle.counting.specs.Sets.{Set, complement, meet, minus, none, union}
 use Rattle.counting.specs.Tests.{some}
 use Rattle.graph_core.proofs.Blocks.{contracted-graph, first, in_union, place_in, place_is}
 use Rattle.graph_core.proofs.Carrying.{image, total_image}
+use Rattle.graph_core.proofs.Shores.{cut_congr}
 use Rattle.graph_core.proofs.Contraction.{tight_from_cut}
 use Rattle.graph_core.proofs.Decide.{covered_perfect}
 use Rattle.graph_core.proofs.Uncrossing.{meet_tight, no_edge_joins, union_tight}
@@ -18,7 +21,6 @@ use Rattle.graph_core.specs.Graph.{Graph, IsGraph, connects, first_end, second_e
 use Rattle.graph_core.specs.Matchings.{IsPerfect}
 use Rattle.graph_core.specs.Partitions.{AreBlocks, block, contracted, place}
 use Rattle.graph_core.specs.Shores.{block_count, IsTightAt, IsUnion, blocks_in}
-use Rattle.graph_core.specs.Tight.{CutIsTight}
 
 -- Blocks by their first vertices, numbers of blocks, and both laws of tight cuts at a partition.
 
@@ -116,9 +118,6 @@ module _ (n : ℕ) (p : List (List ℕ)) (pp : AreBlocks n p) where
 
 -- tight at p, by the cut alone
 module _ (g : Graph) (is : IsGraph g) (p : List (List ℕ)) (pp : AreBlocks g.order p) where
-  pub cut_congr : (h : Graph) (x y : Set) → IsGraph h → ((v : ℕ) → Within h.order v → x v ≡ y v) → CutIsTight h x → CutIsTight h y
-  cut_congr h x y is q t m k = count_congr (size h) _ _ (λ e w. ap₂ (λ a b. m e && ((a && not b) || (not a && b))) (sym (q (first_end h e) (is e w).0)) (sym (q (second_end h e) (is e w).1))) ∙ t m k
-
   pub tight_congr : (x y : Set) → ((v : ℕ) → Within g.order v → x v ≡ y v) → IsTightAt g p x → IsTightAt g p y
   unfolding contracted
   tight_congr x y h t =

@@ -1,3 +1,5 @@
+-- The tests for matchings, tightness and equivalence against the relations; each is decided.
+-- Each test goes by the edge numbers alone, so the search over all edge sets misses none.
 use Rattle.std.proofs.Common.{◌≡◌, ℕ, suc, zero, ◌+◌, ◌≢◌, Bool, true, false, cond, ◌==◌, refl, sym, ap, ap₂, ◌∙◌, arith, ◌&&◌, ◌||◌, not, eq-eqb, eqb-true, ◌⊎◌, inl, inr, ◌≤◌, ◌<◌, nat_le, leb-true, le-leb, List, [], ◌∷◌}
 use Rattle.std.proofs.lemmas.Bool.{cases_eq, cases_Bool, or_cases, and_parts, and_from, both_ways}
 use Rattle.std.proofs.lemmas.Bool.Decides.{nat_tests}

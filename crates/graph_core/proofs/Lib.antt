@@ -25,3 +25,5 @@ pub mod Adjacency
 pub mod Simplicity
 pub mod EndLists
 pub mod Rows
+pub mod Perfect
+pub mod Rows

@@ -1,3 +1,5 @@
+-- The list that merging gives is the partition with the union made one block.
+-- Each vertex is in exactly one of the kept blocks or in the new one.
 use Rattle.std.proofs.Common.{◌≡◌, ℕ, suc, zero, ◌+◌, ◌-◌, ◌*◌, ◌≤◌, Bool, true, false, not, cond, ◌||◌, ◌==◌, List, [], ◌∷◌, length, refl, sym, ap, ◌∙◌, arith, ◌⊎◌, inl, inr, eq-eqb, subst, get_or, filter, nat_lt}
 use Rattle.std.proofs.lemmas.Bool.{both_ways}
 use Rattle.counting.proofs.Totals.{total_congr}

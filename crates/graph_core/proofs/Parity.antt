@@ -1,3 +1,5 @@
+-- The vertices of a set are the edges of a perfect matching in its cut and twice those inside; two cuts against their meet and union.
+-- Degrees are summed vertex by vertex and edge by edge.
 use Rattle.std.proofs.Common.{◌≡◌, ℕ, ◌+◌, ◌*◌, Bool, true, false, ◌==◌, refl, sym, ap, mul-add, ap₂, ◌∙◌, arith, ◌&&◌, ◌||◌, not}
 use Rattle.counting.proofs.Counts.{bit-and, count_of_one}
 use Rattle.counting.proofs.Totals.{total_add, total_congr, total_mul, total_swap}

@@ -1,3 +1,5 @@
+-- The edges of the quotient are exactly the adjacent pairs of places.
+-- By the list of pairs in lexicographic order, filtered.
 use Rattle.std.proofs.Common.{◌≡◌, ℕ, suc, ◌-◌, ◌<◌, true, List, length, refl, ap, ◌∙◌, arith, get_or, nat_lt}
 use Rattle.std.proofs.lemmas.Bool.Decides.{nat_tests}
 use Rattle.counting.proofs.Lists.{rising_holds, rising_only}

@@ -1,3 +1,5 @@
+-- The law of contraction for shores at a partition and at a merge of it.
+-- A union of the new blocks is a union of the old ones, block by block, so the contracted graphs can be compared.
 use Rattle.std.proofs.Common.{◌≡◌, ℕ, sym, ap, ap₂, ◌∙◌, ◌&&◌, ◌||◌, not, List}
 use Rattle.counting.proofs.Counts.{count_congr}
 use Rattle.counting.specs.Counts.{Within}
@@ -11,7 +13,7 @@ use Rattle.graph_core.specs.Partitions.{AreBlocks, IsMerge, block, contracted, p
 use Rattle.graph_core.specs.Shores.{IsTightAt, IsUnion, blocks_in}
 use Rattle.graph_core.specs.Tight.{CutIsTight}
 
-cut_congr : (g : Graph) (x y : Set) → IsGraph g → ((v : ℕ) → Within g.order v → x v ≡ y v) → CutIsTight g x → CutIsTight g y
+pub cut_congr : (g : Graph) (x y : Set) → IsGraph g → ((v : ℕ) → Within g.order v → x v ≡ y v) → CutIsTight g x → CutIsTight g y
 cut_congr g x y is h t m p = count_congr (size g) _ _ (λ e w. ap₂ (λ a b. m e && ((a && not b) || (not a && b))) (sym (h (first_end g e) (is e w).0)) (sym (h (second_end g e) (is e w).1))) ∙ t m p
 
 module _ (g : Graph) (is : IsGraph g) (p q : List (List ℕ)) (x : Set) (pp : AreBlocks g.order p) (tx : IsTightAt g p x) (merge : IsMerge g.order p x q) (cov : IsCovered (contracted g p)) where

@@ -1,3 +1,5 @@
+-- A matching by degrees is a set of edges of which no two share an end.
+-- Two edges at a vertex would make its degree two; where no two are there, a sum of ends is at most one.
 use Rattle.std.proofs.Common.{◌≡◌, ℕ, suc, zero, ◌+◌, ◌*◌, ◌≤◌, ◌≢◌, Bool, true, false, ◌==◌, refl, sym, ap, ◌∙◌, arith, inl, inr, eq-eqb, ne_eqb}
 use Rattle.std.proofs.lemmas.Bool.{cases_eq, true≢false}
 use Rattle.counting.proofs.Totals.{total_none}

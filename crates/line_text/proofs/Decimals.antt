@@ -1,5 +1,6 @@
--- What is written of a number is a word of digits, and is read as that number. Below 10 ^ 9 it has nine digits at most.
-use Rattle.std.proofs.Common.{◌≡◌, ℕ, ◌+◌, ◌^◌, ◌≤◌, ◌<◌, List, [], ◌∷◌, length, Bool, true, false, not, ◌&&◌, ◌||◌, ◌==◌, cond, Option, Some, None, refl, sym, ◌∙◌, ap, subst, arith, rules}
+-- What is written of a number is a word of digits, and std tells that they read as that number. Below 10 ^ 9 they are
+-- nine at most, so the word is a number.
+use Rattle.std.proofs.Common.{◌≡◌, ℕ, ◌^◌, ◌≤◌, ◌<◌, List, [], ◌∷◌, length, Bool, true, not, ◌||◌, ◌==◌, cond, Some, None, refl, ◌∙◌, ap, arith, rules}
 use Rattle.std.specs.Char.{is_ascii_digit}
 use Rattle.std.specs.Fmt.{decimal}
 use Rattle.std.specs.List.{list_all}
@@ -10,7 +11,7 @@ use Rattle.std.proofs.lemmas.Fmt.{digits_decimal, digits_value-decimal, decimal_
 use Rattle.std.proofs.lemmas.Str.Parse.{IsNumeralModel, IsDigitsTest, numerals_by_value}
 use Rattle.line_text.specs.Lines.{is_line_feed}
 use Rattle.line_text.specs.Numerals.{number_of}
-use Rattle.line_text.specs.Words.{is_blank, is_word, is_skipped}
+use Rattle.line_text.specs.Words.{is_blank, is_word}
 use Rattle.line_text.proofs.Digits.{digits-cons}
 
 -- the test for digits is std's
@@ -20,7 +21,7 @@ tells_digits = search rules
 numerals : IsNumeralModel (λ ds. list_all is_ascii_digit ds ≡ true) (digits_value 10)
 numerals = numerals_by_value (λ ds. list_all is_ascii_digit ds ≡ true) tells_digits
 
-digits-decimal : (n : ℕ) → n < 10 ^ 9 → list_all is_ascii_digit (decimal n) ≡ true
+pub digits-decimal : (n : ℕ) → n < 10 ^ 9 → list_all is_ascii_digit (decimal n) ≡ true
 digits-decimal n small = digits_decimal numerals n (omega arith)
 
 -- what holds of each digit holds of each byte of a number

@@ -1,10 +1,10 @@
 -- One line more: a skipped line changes nothing, and what the format says to a significant line decides what comes of
 -- it and the lines behind it.
-use Rattle.std.proofs.Common.{◌≡◌, ℕ, ◌+◌, List, [], ◌∷◌, Bool, true, false, cond, Option, Some, None, Result, Ok, Err, refl, sym, ◌∙◌, ap}
+use Rattle.std.proofs.Common.{◌≡◌, ℕ, ◌+◌, List, [], ◌∷◌, Bool, true, false, cond, Option, Some, Result, Ok, Err, refl, ◌∙◌, ap}
 use Rattle.std.specs.Result.{result_map_both}
 use Rattle.line_text.specs.declared.format.Refusal.{Refusal}
 use Rattle.line_text.specs.declared.format.Refusal.TheVariants as refusal
-use Rattle.line_text.specs.Words.{SignificantLine, words_of, is_skipped, significant_from}
+use Rattle.line_text.specs.Words.{words_of, is_skipped, significant_from}
 use Rattle.line_text.specs.Format.{Rules, step, finish}
 use Rattle.line_text.specs.Reading.{Refuses, Fails, state_after, placed, go_on, reading_from}
 

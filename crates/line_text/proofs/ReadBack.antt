@@ -1,10 +1,8 @@
 -- What is written is read as it was meant: lines by line feeds, words by spaces, numbers by their digits. Byte by byte,
 -- a line feed begins a new line, and any other byte stands at the front of the first line of what follows it.
-use Rattle.std.proofs.Common.{◌≡◌, ◌⊎◌, inl, inr, ℕ, zero, suc, ◌+◌, ◌<◌, ◌≤◌, List, [], ◌∷◌, ◌++◌, length, map, filter, Bool, true, false, not, ◌&&◌, ◌||◌, ◌==◌, cond, Option, Some, None, Ok, refl, sym, ◌∙◌, ap, subst, arith, rules}
+use Rattle.std.proofs.Common.{◌≡◌, inl, inr, ℕ, ◌+◌, List, [], ◌∷◌, ◌++◌, length, map, filter, Bool, true, false, not, ◌||◌, ◌==◌, cond, Option, Some, None, Ok, refl, sym, ◌∙◌, ap, subst, arith}
 use Rattle.std.specs.List.{slice_split, onto_first, list_all, AllByRecursion, All}
 use Rattle.std.proofs.lemmas.Bool.{cases_Bool, and_parts, and_from, or_parts, not-true}
-use Rattle.std.proofs.lemmas.Bool.Decides.{nat_tests}
-use Rattle.std.proofs.lemmas.List.{append_assoc, append-nil}
 use Rattle.std.proofs.lemmas.List.Folds.{list_all-append}
 use Rattle.std.proofs.lemmas.List.Elements.{All-nil, All-cons}
 use Rattle.std.proofs.lemmas.List.Splits.{slice_split_at, slice_split_none}
@@ -36,7 +34,7 @@ lines_of-append (byte ∷ next ∷ text) tail closed = elim (cases_Bool (is_line
 ]
 
 -- the lines of a text that is written line by line
-lines_of-unlines : (lines : List (List ℕ)) → AllByRecursion (λ line. is_one_line line ≡ true) lines → lines_of (unlines lines) ≡ lines
+pub lines_of-unlines : (lines : List (List ℕ)) → AllByRecursion (λ line. is_one_line line ≡ true) lines → lines_of (unlines lines) ≡ lines
 lines_of-unlines [] each = lines_of-nil
 lines_of-unlines (line ∷ lines) each =
     lines_of-line line (unlines lines) each.0 ∙ ap (λ ls. line ∷ ls) (lines_of-unlines lines each.1)
@@ -108,7 +106,7 @@ words_of-unwords (word ∷ next ∷ words) each =
     ∙ kept word (slice_split is_blank (unwords (next ∷ words))) each.0 ∙ ap (λ ws. word ∷ ws) (words_of-unwords (next ∷ words) each.1)
 
 -- the lines of a written text
-lines_of-written : (lines : List (List (List ℕ))) → AllByRecursion AreWords lines → lines_of (written lines) ≡ map unwords lines
+pub lines_of-written : (lines : List (List (List ℕ))) → AllByRecursion AreWords lines → lines_of (written lines) ≡ map unwords lines
 lines_of-written lines each = lines_of-unlines (map unwords lines) (one_lines lines each) where
   one_lines : (lines : List (List (List ℕ))) → AllByRecursion AreWords lines → AllByRecursion (λ line. is_one_line line ≡ true) (map unwords lines)
   one_lines [] each = tt

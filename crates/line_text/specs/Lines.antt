@@ -2,10 +2,11 @@
 use Rattle.std.specs.Prelude.{ℕ, ◌==◌, List, [], ◌∷◌, ◌++◌, length, Bool, true, if◌then◌else◌}
 use Rattle.std.specs.List.{slice_split}
 
+-- the line feed, byte 10
 abbrev pub is_line_feed : ℕ → Bool
 is_line_feed byte = byte == 10
 
--- the parts before, between and behind the line feeds are the lines, but nothing behind the last line feed is no line
+-- the parts before, between and behind the line feeds are the lines, but an empty part behind the last line feed is none
 abbrev pub lines_of_parts : List (List ℕ) → List (List ℕ)
 lines_of_parts [] = []
 lines_of_parts (part ∷ []) = if length part == 0 then [] else part ∷ []

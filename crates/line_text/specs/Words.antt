@@ -9,7 +9,7 @@ use Rattle.line_text.specs.Lines.{is_line_feed, lines_of, unlines}
 abbrev pub texts_of : List (Bor (List ℕ)) → List (List ℕ)
 texts_of words = map (λ word. word.now) words
 
--- the space, the tab and the carriage return
+-- the space, the tab and the carriage return, bytes 32, 9 and 13
 abbrev pub is_blank : ℕ → Bool
 is_blank byte = (byte == 32) || ((byte == 9) || (byte == 13))
 
@@ -65,6 +65,7 @@ written lines = unlines (map unwords lines)
 abbrev pub is_word : List ℕ → Bool
 is_word word = not (length word == 0) && list_all (λ byte. not (is_blank byte || is_line_feed byte)) word
 
+-- all of them are words
 abbrev pub AreWords : List (List ℕ) → Type 0
 AreWords words = AllByRecursion (λ word. is_word word ≡ true) words
 

@@ -9,10 +9,10 @@
 //! A format is written in four steps, as that of the picks in `tests.rt`. (1) Its rules, an `abbrev` of `specs/`: one
 //! `checked` table a rule, over `has_form`, `word_at`, `is_number` and `value_of`. (2) A type with its parameters, and an
 //! `impl LineFormat` whose methods make the tests of the tables in their order, by `has_form`, `word`, `number` and
-//! `numbers`; it wants no proof file, most often. (3) Its reader: a call of `read`, and a `match` into its own faults.
+//! `numbers`; most often it wants no proof file. (3) Its reader: a call of `read`, and a `match` into its own faults.
 //! (4) For its writer an induction over the value: its lines lead to it (`Begins`). The rest is `written_text_stands`.
 //!
-//! Stands on std alone. The manner of these texts is that of the DIMACS challenges' graph files (1990 to 1993).
+//! It stands on std alone. The manner of the texts is that of the graph files of the DIMACS challenges (1990 to 1993).
 #![tactic(auto)]
 
 mod format;

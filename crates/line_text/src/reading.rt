@@ -16,7 +16,8 @@ fn read_line<F: LineFormat>(
     body: Option<F::Body>,
     line: &[u8],
 ) -> Result<Option<F::Body>, Refusal<F::Kind>>
-    ensures { Gives (option_map F.state) result (state_after (F.rules format.now) (option_map F.state body) (words_of line.now)) }
+    ensures { Gives (option_map F.state) result
+        (state_after (F.rules format.now) (option_map F.state body) (words_of line.now)) }
 {
     let words = split_words(alloc, line)?;
     if is_skipped(&words) {

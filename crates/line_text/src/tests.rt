@@ -205,11 +205,13 @@ fn lines_and_words(rt: HostRuntime) -> Result<(), Fail> {
         Some((b"a b".as_slice(), b"".as_slice()))
     );
     let words = split_words(rt.alloc(), b"\t e  12\r0003 ")?;
+    assert_eq!(rt; words.len(), 3);
     assert_eq!(rt;
         words.as_slice(),
         [b"e".as_slice(), b"12", b"0003"].as_slice()
     );
-    let numbers = numbers(rt.alloc(), &words)?;
-    assert!(rt; numbers.is_none());
+    assert!(rt; numbers(rt.alloc(), &words)?.is_none());
+    let values = numbers(rt.alloc(), &words[1..])?.ok_or("no numbers")?;
+    assert_eq!(rt; values.as_slice(), [12, 3].as_slice());
     Ok(())
 }

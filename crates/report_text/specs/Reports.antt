@@ -1,6 +1,10 @@
 -- The bytes of each report as a function of the values that it tells.
-use Rattle.std.specs.Prelude.{ℕ, List, ◌++◌, Bool, if◌then◌else◌, codes}
+use Rattle.std.specs.Prelude.{ℕ, List, [], ◌∷◌, ◌++◌, Bool, if◌then◌else◌, codes}
 use Rattle.std.specs.Fmt.{decimal}
+use Rattle.graph_core.specs.declared.verdict.Reason.{Reason}
+use Rattle.graph_core.specs.declared.verdict.Reason.TheVariants.{Small, Parted, Unmatched, Unallowed}
+use Rattle.graph_core.specs.declared.verdict.Verdict.{Verdict}
+use Rattle.graph_core.specs.declared.verdict.Verdict.TheVariants.{Covered, NotCovered}
 use Rattle.report_text.specs.declared.analyses.AnalysisLines.{AnalysisLines}
 
 -- `yes` or `no`
@@ -18,6 +22,27 @@ components_line count = codes "components " ++ decimal count ++ codes "\n"
 -- the line that tells whether the graph is bipartite
 abbrev pub bipartite_line : Bool → List ℕ
 bipartite_line holds = codes "bipartite " ++ yes_or_no holds ++ codes "\n"
+
+-- one space before each number of the list
+abbrev pub numbers_text : List ℕ → List ℕ
+numbers_text [] = []
+numbers_text (n ∷ ns) = codes " " ++ (decimal n ++ numbers_text ns)
+
+-- a line of a word and a list of numbers
+abbrev pub list_line : List ℕ → List ℕ → List ℕ
+list_line word ns = word ++ numbers_text ns ++ codes "\n"
+
+-- what a reason adds to the line of a graph that is not covered
+abbrev pub reason_text : Reason → List ℕ
+reason_text Small = codes " order"
+reason_text (Parted a b) = codes " parts " ++ decimal a ++ codes " " ++ decimal b
+reason_text (Unmatched berge) = codes " berge" ++ numbers_text berge
+reason_text (Unallowed edge) = codes " edge " ++ decimal edge
+
+-- the line of the verdict
+unfoldable pub verdict_text : Verdict → List ℕ
+verdict_text Covered = codes "covered yes\n"
+verdict_text (NotCovered reason) = codes "covered no" ++ reason_text reason ++ codes "\n"
 
 -- the report of `analyse`
 unfoldable pub analysis_text : AnalysisLines → List ℕ

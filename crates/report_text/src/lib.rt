@@ -10,6 +10,9 @@
 
 mod analyses;
 mod faults;
+mod numbers;
+mod verdicts;
 
 pub use analyses::{AnalysisLines, analysis};
 pub use faults::bad_input;
+pub use verdicts::verdict_line;

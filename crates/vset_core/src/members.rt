@@ -1,8 +1,9 @@
-//! Iteration over a set.
+//! Iteration over a set, and how a set is printed.
 ghost use Rattle.std.specs.Prelude.{◌≡◌};
 ghost use Rattle.std.specs.Iterator.{YieldsFirst, item_count};
 
 use crate::VSet;
+use std::fmt;
 use std::marker::Model;
 
 /// The members of a set that are still to come, in rising order. Contracts see it as their list.
@@ -39,5 +40,12 @@ impl Iterator for Members {
         let (v, others) = self.rest.split_first()?;
         self.rest = others;
         Some(v)
+    }
+}
+
+// The members in rising order, as in `{1, 2, 3}`.
+impl fmt::Debug for VSet {
+    fn fmt<W: fmt::Write>(&self, f: &mut fmt::Formatter<W>) -> fmt::Result {
+        f.debug_set().entries(self.iter()).finish()
     }
 }

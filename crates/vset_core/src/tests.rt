@@ -1,5 +1,6 @@
 //! The operations on sets of vertices of a hexagon, and at both ends of the range.
 use crate::{MOST_VERTICES, VSet};
+use std::test::Fail;
 
 // The set of these numbers, of which each is 1 to `MOST_VERTICES`.
 fn set_of(numbers: &[u32]) -> VSet {
@@ -26,7 +27,7 @@ fn two_shores(rt: HostRuntime) {
 }
 
 #[test]
-fn the_members_in_order(rt: HostRuntime) {
+fn the_members_in_order(rt: HostRuntime) -> Result<(), Fail> {
     let set = set_of(&[128, 7, 64, 65, 1]);
     for (v, want) in set.iter().zip([1, 7, 64, 65, 128]) {
         assert_eq!(rt; v, want);
@@ -45,4 +46,7 @@ fn the_members_in_order(rt: HostRuntime) {
     assert_eq!(rt; VSet::empty().last(), None);
     assert!(rt; VSet::empty().split_first().is_none());
     assert!(rt; set.split_first() == Some((1, set_of(&[7, 64, 65, 128]))));
+    let text = format!(in rt.alloc(); "{set:?}")?;
+    assert!(rt; text.as_str() == "{1, 7, 64, 65, 128}");
+    Ok(())
 }

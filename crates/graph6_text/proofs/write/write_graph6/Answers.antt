@@ -8,7 +8,7 @@ pub returns-clause-text : goal.returns-clause-text
 unfolding text_of
 returns-clause-text c =
     c.in_ok-extend_from_slice.ensures.items
-    ∙ ap₂ ◌++◌ (c.in_ok-text.ensures ∙ ap size_of c.order.ensures.value)
+    ∙ ap₂ ◌++◌ (c.in_ok-text.ensures ∙ ap size_of c.order.ensures.is)
     (c.deref-2.ensures.value ∙ c.in_ok-data.ensures ∙ ap bytes_of (c.deref.ensures.value ∙ c.in_ok-bits.ensures))
 
 pub returns-clause-reads_back : goal.returns-clause-reads_back

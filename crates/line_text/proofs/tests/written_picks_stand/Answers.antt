@@ -1,15 +1,15 @@
 -- What is written of picks stands for them: the header line leads to the empty list and the count, and each further
 -- line adds its pick, by induction over the picks. All tests of the table are false, by what is written.
-use Rattle.std.proofs.Common.{◌≡◌, ◌+◌, ◌^◌, ◌≤◌, ◌<◌, ◌==◌, ℕ, List, [], ◌∷◌, ◌++◌, length, map, not, nat_lt, codes, false, true, Bool, Option, Some, None, Result, Ok, Err, refl, sym, ◌∙◌, ap, subst, rules as common, arith, append_assoc}
+use Rattle.std.proofs.Common.{◌≡◌, ◌+◌, ◌^◌, ◌≤◌, ◌<◌, ◌==◌, ℕ, List, [], ◌∷◌, ◌++◌, length, map, not, nat_lt, codes, Some, Ok, refl, ap, subst, arith, append_assoc}
 use Rattle.std.specs.Fmt.{decimal}
 use Rattle.std.specs.List.{AllByRecursion}
 use Rattle.std.proofs.lemmas.Bool.Decides.{nat_tests}
 use Rattle.std.proofs.lemmas.List.{append-nil, length-append}
 use Rattle.line_text.specs.declared.tests.PickFault.{PickFault}
 use Rattle.line_text.specs.declared.tests.PickFault.TheVariants as pick
-use Rattle.line_text.specs.Format.{Rules, checked, Begins, Stands}
-use Rattle.line_text.specs.Numerals.{number_of, is_number, value_of}
-use Rattle.line_text.specs.Words.{has_form, word_at, written, IsSignificant}
+use Rattle.line_text.specs.Format.{Rules, checked, Begins}
+use Rattle.line_text.specs.Numerals.{is_number, value_of}
+use Rattle.line_text.specs.Words.{has_form, word_at, IsSignificant}
 use Rattle.line_text.proofs.Decimals.{number_of-decimal, is_word-decimal}
 use Rattle.line_text.proofs.ReadBack.{Stands-written}
 use Rattle.line_text.proofs.tests.written_picks_stand.Goals as goal

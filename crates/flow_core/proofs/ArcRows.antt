@@ -1,0 +1,97 @@
+-- Arc by arc the rows come to list all arcs of the net: with each arc, its place goes to the rows of its two ends.
+-- Idea: a row that grows at its end keeps what it has, and every other row stays.
+use Rattle.std.proofs.Common.{◌≡◌, ℕ, suc, ◌+◌, ◌<◌, ◌≢◌, List, [], ◌∷◌, ◌++◌, length, set, sym, ◌∙◌, subst, arith, inl, inr, length-append}
+use Rattle.std.specs.Prelude.{All, Contains}
+use Rattle.std.proofs.Math.ListN.{length-set}
+use Rattle.std.proofs.Math.Seq.{get_or-append_seam}
+use Rattle.std.proofs.lemmas.Bool.{cases_eq}
+use Rattle.std.proofs.lemmas.List.{get_or-set_same, get_or-set_other, get_or_append_left}
+use Rattle.std.proofs.lemmas.List.Elements.{All-push, All-nil, All-weaker}
+use Rattle.flow_core.specs.Nets.{Net, IsArc}
+use Rattle.flow_core.specs.Residual.{arc_at}
+use Rattle.flow_core.specs.Incidence.{row_at, HasEnd, ListsArcs}
+
+-- the rows with i at the end of the row of v
+abbrev pub with_place : List (List ℕ) → ℕ → ℕ → List (List ℕ)
+with_place rows v i = set rows v (row_at rows v ++ i ∷ [])
+
+Contains-push : (xs : List ℕ) (i j : ℕ) → Contains xs j → Contains (xs ++ i ∷ []) j
+Contains-push xs i j h =
+    (h.0, let l = h.1 in omega (arith, length-append xs (i ∷ [])), get_or_append_left xs (i ∷ []) j h.0 h.1 ∙ h.2)
+
+Contains-last : (xs : List ℕ) (i : ℕ) → Contains (xs ++ i ∷ []) i
+Contains-last xs i = (length xs, omega (arith, length-append xs (i ∷ [])), get_or-append_seam xs i [] i)
+
+row_at-same : (rows : List (List ℕ)) (v i : ℕ) → v < length rows → row_at (with_place rows v i) v ≡ row_at rows v ++ i ∷ []
+row_at-same rows v i l = get_or-set_same rows v (row_at rows v ++ i ∷ []) [] l
+
+row_at-other : (rows : List (List ℕ)) (v i w : ℕ) → w ≢ v → row_at (with_place rows v i) w ≡ row_at rows w
+row_at-other rows v i w d = get_or-set_other rows v w (row_at rows v ++ i ∷ []) [] d
+
+-- the rows keep what they have
+kept : (rows : List (List ℕ)) (v i w j : ℕ) → v < length rows → Contains (row_at rows w) j → Contains (row_at (with_place rows v i) w) j
+kept rows v i w j l h = elim (cases_eq w v) [
+  | inl e ↦
+      let g : Contains (row_at rows v) j = subst (λ u. Contains (row_at rows u) j) e h in
+      subst (λ u. Contains (row_at (with_place rows v i) u) j) (sym e) (subst (λ (r : List ℕ). Contains r j) (sym (row_at-same rows v i l)) (Contains-push (row_at rows v) i j g))
+  | inr d ↦ subst (λ (r : List ℕ). Contains r j) (sym (row_at-other rows v i w d)) h
+]
+
+-- and have the new place
+added : (rows : List (List ℕ)) (v i : ℕ) → v < length rows → Contains (row_at (with_place rows v i) v) i
+added rows v i l = subst (λ (r : List ℕ). Contains r i) (sym (row_at-same rows v i l)) (Contains-last (row_at rows v) i)
+
+-- what holds of all places in a row, and of the new one, holds after it too
+each : (P : ℕ → Type 0) (rows : List (List ℕ)) (v i w : ℕ) → v < length rows → All P (row_at rows w) → (w ≡ v → P i) → All P (row_at (with_place rows v i) w)
+each P rows v i w l h p = elim (cases_eq w v) [
+  | inl e ↦
+      let g : All P (row_at rows v) = subst (λ u. All P (row_at rows u)) e h in
+      subst (λ u. All P (row_at (with_place rows v i) u)) (sym e) (subst (All P) (sym (row_at-same rows v i l)) (All-push P (row_at rows v) i g (p e)))
+  | inr d ↦ subst (All P) (sym (row_at-other rows v i w d)) h
+]
+
+-- no arcs, and rows that are all empty
+pub ListsArcs-none : (net : Net) (rows : List (List ℕ)) → length rows ≡ suc net.nodes → ((v : ℕ) → row_at rows v ≡ []) → ListsArcs net 0 rows
+ListsArcs-none net rows l h = record {
+  size = l;
+  ends = λ v. subst (All (λ i. (i < 0) × HasEnd (arc_at net.arcs i) v)) (sym (h v)) (All-nil (λ i. (i < 0) × HasEnd (arc_at net.arcs i) v));
+  at_a = λ i b. absurd (omega arith);
+  at_b = λ i b. absurd (omega arith);
+}
+
+-- one arc more
+pub ListsArcs-more : (net : Net) (n : ℕ) → IsArc net.nodes (arc_at net.arcs n) → (rows : List (List ℕ)) → ListsArcs net n rows
+    → ListsArcs net (n + 1) (with_place (with_place rows (arc_at net.arcs n).a n) (arc_at net.arcs n).b n)
+ListsArcs-more net n is rows h = record {
+  size = length-set one b (row_at one b ++ n ∷ []) ∙ longer ∙ h.size;
+  ends = λ v. each (Holds (n + 1) v) one b n v in_b (each (Holds (n + 1) v) rows a n v in_a (All-weaker (Holds n v) (Holds (n + 1) v) (λ i k. (let m = k.0 in omega arith, k.1)) (row_at rows v) (h.ends v)) (λ e. (omega arith, inl (sym e)))) (λ e. (omega arith, inr (sym e)));
+  at_a = λ i k. kept one b n (arc_at net.arcs i).a i in_b (elim (cases_eq i n) [
+    | inl e ↦ subst (λ j. Contains (row_at one (arc_at net.arcs j).a) j) (sym e) (added rows a n in_a)
+    | inr d ↦ kept rows a n (arc_at net.arcs i).a i in_a (h.at_a i (omega arith))
+  ]);
+  at_b = λ i k. elim (cases_eq i n) [
+    | inl e ↦ subst (λ j. Contains (row_at (with_place one b n) (arc_at net.arcs j).b) j) (sym e) (added one b n in_b)
+    | inr d ↦ kept one b n (arc_at net.arcs i).b i in_b (kept rows a n (arc_at net.arcs i).b i in_a (h.at_b i (omega arith)))
+  ];
+}
+  where
+    a : ℕ
+    a = (arc_at net.arcs n).a
+
+    b : ℕ
+    b = (arc_at net.arcs n).b
+
+    one : List (List ℕ)
+    one = with_place rows a n
+
+    Holds : ℕ → ℕ → ℕ → Type 0
+    Holds m v i = (i < m) × HasEnd (arc_at net.arcs i) v
+
+    longer : length one ≡ length rows
+    longer = length-set rows a (row_at rows a ++ n ∷ [])
+
+    in_a : a < length rows
+    in_a = let w = is.from_a in let s = h.size in omega arith
+
+    in_b : b < length one
+    in_b = let w = is.to_b in let s = h.size in omega (arith, longer)

@@ -1,0 +1,53 @@
+-- What the code reads of a net, and how a list grows: a place of a mapped list, of a longer list and of a list with one item set.
+-- Idea: each is a reading law of lists at the one default that the definitions use.
+use Rattle.std.proofs.Common.{◌≡◌, ℕ, zero, suc, ◌<◌, ◌≤◌, ◌^◌, List, [], ◌∷◌, ◌++◌, length, get_or, set, map, refl, sym, ◌∙◌, ap, ap₂, arith, w64, to_z, of_z}
+use Rattle.std.specs.Prelude.{All, ℤ, pos, slice_get, Some}
+use mir.Val.{SFits}
+use Rattle.std.specs.Global.{Vec}
+use Rattle.std.proofs.lemmas.Int.{to_z-of_z}
+use Rattle.std.proofs.lemmas.Option.{get_or_from_slice_get}
+use Rattle.std.proofs.lemmas.List.{get_or-map, length-map, map-set}
+use Rattle.std.proofs.lemmas.List.Elements.{All-head, All-tail}
+use Rattle.std.proofs.lemmas.List.Sums.{get_or-le-sum_by}
+use Rattle.flow_core.specs.Nets.{Arc, Net, IsArc, IsNet, IsBounded, total_capacity}
+use Rattle.flow_core.specs.Residual.{arc_at, amount_at}
+use Rattle.flow_core.specs.View.{arc_of}
+use Rattle.flow_core.specs.Rows.{rows_of}
+use Rattle.flow_core.specs.Incidence.{row_at}
+use Rattle.flow_core.specs.declared.arc.Arc.{Arc as StoredArc}
+
+-- the stored arc at a place is the arc at that place
+pub arc_of-read : (items : List StoredArc) (i : ℕ) (d : StoredArc) → i < length (map arc_of items) → arc_of (get_or items i d) ≡ arc_at (map arc_of items) i
+arc_of-read items i d l = sym (get_or-map arc_of items i d (record { a = 0; b = 0; capacity = 0 }) (let m = length-map items arc_of in omega arith))
+
+-- an arc of a net in order is in order
+pub IsNet-at : (net : Net) → IsNet net → (i : ℕ) → i < length net.arcs → IsArc net.nodes (arc_at net.arcs i)
+IsNet-at net is i l = is i (record { a = 0; b = 0; capacity = 0 }) l
+
+-- no capacity is more than all
+pub capacity-le-total : (net : Net) (i : ℕ) → i < length net.arcs → (arc_at net.arcs i).capacity ≤ total_capacity net
+capacity-le-total net i l = get_or-le-sum_by (λ (arc : Arc). arc.capacity) net.arcs i (record { a = 0; b = 0; capacity = 0 }) l
+
+-- an arc of a net within its limits has a capacity below 2^63
+pub capacity-below : (net : Net) → IsBounded net → (i : ℕ) → i < length net.arcs → (arc_at net.arcs i).capacity < 2 ^ 63
+capacity-below net b i l = let c = capacity-le-total net i l in let t = b.total in omega arith
+
+-- a row that has grown at its end
+pub rows_of-push : (rows : List (Vec ℕ)) (view : List (List ℕ)) → rows_of rows ≡ view → (v : ℕ) → v < length view → (row new : Vec ℕ) → row ≡ get_or rows v row → (i : ℕ) → new.items ≡ row.items ++ i ∷ [] → rows_of (set rows v new) ≡ set view v (row_at view v ++ i ∷ [])
+rows_of-push rows view is v l row new e i grown =
+    let items : Vec ℕ → List ℕ = λ (r : Vec ℕ). r.items in
+    let at : v < length rows = let m = length-map rows items in let n = ap length is in omega arith in
+    let read : row_at (rows_of rows) v ≡ row.items = get_or-map items rows v row [] at ∙ ap items (sym e) in
+    map-set items rows v new
+    ∙ ap₂ (λ (xs : List (List ℕ)) (r : List ℕ). set xs v r) is
+    (grown ∙ ap (λ (r : List ℕ). r ++ i ∷ []) (sym read ∙ ap (λ (xs : List (List ℕ)). row_at xs v) is))
+
+-- rows that are all empty
+pub rows_of-empty : (rows : List (Vec ℕ)) → All (λ (row : Vec ℕ). row.items ≡ []) rows → (v : ℕ) → row_at (rows_of rows) v ≡ []
+rows_of-empty [] h v = refl
+rows_of-empty (row ∷ rows) h zero = All-head (λ (r : Vec ℕ). r.items ≡ []) row rows h
+rows_of-empty (row ∷ rows) h (suc v) = rows_of-empty rows (All-tail (λ (r : Vec ℕ). r.items ≡ []) row rows h) v
+
+-- an amount that was read, as it is passed on
+pub amount-read : (amounts : List ℤ) (i : ℕ) (z : ℤ) → SFits w64 z → slice_get amounts i ≡ Some z → to_z w64 (of_z w64 z) ≡ amount_at amounts i
+amount-read amounts i z f e = to_z-of_z w64 z f ∙ sym (get_or_from_slice_get amounts i z (pos 0) e)

@@ -1,0 +1,179 @@
+-- The arcs at one node, scanned one by one: each has no room out of the node, or leads to a node that is seen then.
+-- Idea: the arcs scanned so far stay scanned while the seen nodes grow, and the rows list every arc at the node.
+use Rattle.std.proofs.Common.{◌≡◌, ◌≢◌, ℕ, ◌+◌, ◌-◌, ◌≤◌, ◌<◌, ◌==◌, ◌||◌, true, false, List, [], ◌∷◌, ◌++◌, length, get_or, min, refl, sym, ◌∙◌, ap, ap₂, subst, arith, inl, inr, eq-eqb, ne_eqb, below_more, length-append}
+use Rattle.std.specs.Prelude.{ℤ, pos, ◌<ℤ◌, Contains}
+use Rattle.std.proofs.Math.Seq.{get_or-append_seam}
+use Rattle.std.proofs.lemmas.Int.{ints}
+use Rattle.std.proofs.lemmas.List.{get_or_read}
+use Rattle.counting.specs.Counts.{Within}
+use Rattle.counting.specs.Sets.{Set}
+use Rattle.counting.specs.Lists.{mem}
+use Rattle.counting.proofs.Lists.{or_front, or_back}
+use Rattle.flow_core.specs.Nets.{Arc, Net, IsArc, IsNet}
+use Rattle.flow_core.specs.Residual.{arc_at, amount_at, Joins, room_from, HasRoom, IsScanned}
+use Rattle.flow_core.specs.Incidence.{row_at, HasEnd, IsIncidence}
+use Rattle.flow_core.specs.Search.{visit_at, node_at, first_node, last_node, IsStep, IsTree, IsSearch}
+use Rattle.flow_core.specs.declared.search.Visit.{Visit}
+use Rattle.flow_core.proofs.Reading.{IsNet-at}
+use Rattle.flow_core.proofs.SearchTrees.{IsTree-push, visit_at-push, room-some}
+
+-- arc i has no room out of u, or leads into x
+abbrev pub IsArcScanned : List Arc → List ℤ → Set → ℕ → ℕ → Type 0
+IsArcScanned arcs amounts x u i = (w : ℕ) → Joins (arc_at arcs i) u w → pos 0 <ℤ room_from u (arc_at arcs i) (amount_at amounts i) → x w ≡ true
+
+-- a search that is scanning the row of its visit `head`, up to a place in it
+pub record IsScanning (net : Net) (amounts : List ℤ) (sink head : ℕ) (from : Visit) (row : List ℕ) (place : ℕ) (visits : List Visit) (seen : List ℕ) : Type 0 where
+  pub search : IsSearch net amounts sink head visits seen
+  pub long : head < length visits
+  pub at_head : visit_at visits head ≡ from
+  pub done : (p : ℕ) → p < place → IsArcScanned net.arcs amounts (mem seen) from.node (get_or row p 0)
+
+-- an arc has one other end
+pub other_end : (n : ℕ) (arc : Arc) (u v w : ℕ) → IsArc n arc → Joins arc u v → Joins arc u w → w ≡ v
+other_end n arc u v w is (inl x) (inl y) = sym y.1 ∙ x.1
+other_end n arc u v w is (inl x) (inr y) = absurd (is.differ (x.0 ∙ sym y.0))
+other_end n arc u v w is (inr x) (inl y) = absurd (is.differ (y.0 ∙ sym x.0))
+other_end n arc u v w is (inr x) (inr y) = sym y.1 ∙ x.1
+
+-- the other end is a node
+pub end_within : (n : ℕ) (arc : Arc) (u w : ℕ) → IsArc n arc → Joins arc u w → Within n w
+end_within n arc u w is (inl x) = subst (Within n) x.1 is.to_b
+end_within n arc u w is (inr x) = subst (Within n) x.1 is.from_a
+
+-- what stands at a place of a row: an arc of the net with an end at the row's node
+pub record IsPlaced (net : Net) (u : ℕ) (row : List ℕ) (place : ℕ) : Type 0 where
+  pub is_arc : get_or row place 0 < length net.arcs
+  pub end : HasEnd (arc_at net.arcs (get_or row place 0)) u
+
+pub IsPlaced-row : (net : Net) (rows : List (List ℕ)) (u : ℕ) (row : List ℕ) (place : ℕ) → IsIncidence net rows → row ≡ row_at rows u → place < length row → IsPlaced net u row place
+IsPlaced-row net rows u row place lists e l =
+    subst (λ (xs : List ℕ). IsPlaced net u xs place) (sym e)
+    (let h = lists.ends u place 0 (subst (λ (xs : List ℕ). place < length xs) e l) in record { is_arc = h.0; end = h.1 })
+
+-- at the start of the row
+pub IsScanning-start : (net : Net) (amounts : List ℤ) (sink head : ℕ) (row : List ℕ) (visits : List Visit) (seen : List ℕ) → IsSearch net amounts sink head visits seen → head < length visits → IsScanning net amounts sink head (visit_at visits head) row 0 visits seen
+IsScanning-start net amounts sink head row visits seen s l = record {
+  search = s;
+  long = l;
+  at_head = refl;
+  done = λ p q. absurd (omega arith);
+}
+
+-- where an arc at the row's node leads, and how much more it can take there
+pub record Leads (net : Net) (amounts : List ℤ) (u : ℕ) (row : List ℕ) (place node room : ℕ) : Type 0 where
+  pub is_arc : get_or row place 0 < length net.arcs
+  pub in_order : IsArc net.nodes (arc_at net.arcs (get_or row place 0))
+  pub joins : Joins (arc_at net.arcs (get_or row place 0)) u node
+  pub room_is : pos room ≡ room_from u (arc_at net.arcs (get_or row place 0)) (amount_at amounts (get_or row place 0))
+
+-- as the code reads it
+pub Leads-read : (net : Net) → IsNet net → (amounts : List ℤ) (u : ℕ) (row : List ℕ) (place : ℕ) → IsPlaced net u row place
+    → (arc : Arc) → arc ≡ arc_at net.arcs (get_or row place 0) → (node : ℕ) → Joins arc u node → (amount : ℤ) → amount ≡ amount_at amounts (get_or row place 0) → (room : ℕ) → pos room ≡ room_from u arc amount
+    → Leads net amounts u row place node room
+Leads-read net is amounts u row place p arc e node joins amount z room r = record {
+  is_arc = p.is_arc;
+  in_order = IsNet-at net is (get_or row place 0) p.is_arc;
+  joins = subst (λ (x : Arc). Joins x u node) e joins;
+  room_is = r ∙ ap₂ (λ (x : Arc) (y : ℤ). room_from u x y) e z;
+}
+
+-- an arc is passed over: its other end is seen, or it has no room
+pub IsScanning-seen : (net : Net) (amounts : List ℤ) (sink head : ℕ) (from : Visit) (row : List ℕ) (place : ℕ) (visits : List Visit) (seen : List ℕ) → IsScanning net amounts sink head from row place visits seen
+    → (node : ℕ) → IsArc net.nodes (arc_at net.arcs (get_or row place 0)) → Joins (arc_at net.arcs (get_or row place 0)) from.node node → mem seen node ≡ true
+    → IsScanning net amounts sink head from row (place + 1) visits seen
+IsScanning-seen net amounts sink head from row place visits seen s node is joins m = record {
+  search = s.search;
+  long = s.long;
+  at_head = s.at_head;
+  done = below_more (λ p. IsArcScanned net.arcs amounts (mem seen) from.node (get_or row p 0)) place s.done (λ w k r. ap (mem seen) (other_end net.nodes (arc_at net.arcs (get_or row place 0)) from.node node w is joins k) ∙ m);
+}
+
+pub IsScanning-full : (net : Net) (amounts : List ℤ) (sink head : ℕ) (from : Visit) (row : List ℕ) (place : ℕ) (visits : List Visit) (seen : List ℕ) → IsScanning net amounts sink head from row place visits seen
+    → (node : ℕ) → Leads net amounts from.node row place node 0
+    → IsScanning net amounts sink head from row (place + 1) visits seen
+IsScanning-full net amounts sink head from row place visits seen s node t = record {
+  search = s.search;
+  long = s.long;
+  at_head = s.at_head;
+  done = below_more (λ p. IsArcScanned net.arcs amounts (mem seen) from.node (get_or row p 0)) place s.done (λ w k r. let e = t.room_is in absurd (omega (arith, ints)));
+}
+
+-- a visit with these parts
+abbrev pub taken : ℕ → ℕ → ℕ → ℕ → Visit
+taken node parent arc room = record { node = node; parent = parent; arc = arc; room = room }
+
+-- an arc is taken: it has room, and its other end is new
+module _ (net : Net) (amounts : List ℤ) (sink head : ℕ) (from : Visit) (row : List ℕ) (place : ℕ) (visits : List Visit) (seen : List ℕ) (s : IsScanning net amounts sink head from row place visits seen)
+    (node room : ℕ) (t : Leads net amounts from.node row place node room) (some : room ≢ 0) (new : mem seen node ≡ false) (longer : List Visit) (grown : longer ≡ visits ++ taken node head (get_or row place 0) (min room from.room) ∷ []) (more : List ℕ) (h : (v : ℕ) → mem more v ≡ (mem seen v || node == v)) where
+  abbrev last : Visit
+  last = taken node head (get_or row place 0) (min room from.room)
+
+  stays : (v : ℕ) → mem seen v ≡ true → mem more v ≡ true
+  stays v m = h v ∙ or_front (mem seen v) (node == v) m
+
+  is_seen : mem more node ≡ true
+  is_seen = h node ∙ or_back (mem seen node) (node == node) (eq-eqb node node refl)
+
+  from_some : 0 < from.room
+  from_some = subst (λ (u : Visit). 0 < u.room) s.at_head (room-some net amounts visits seen s.search.tree head s.long)
+
+  -- the tree with the new visit
+  pub taken-tree : IsTree net amounts longer more
+  taken-tree = subst (λ (vs : List Visit). IsTree net amounts vs more) (sym grown) (
+      IsTree-push net amounts visits seen s.search.tree last more s.long
+      (subst (λ (u : Visit). IsStep net.arcs amounts u last) (sym s.at_head) (record {
+        is_arc = t.is_arc;
+        joins = t.joins;
+        some = let f = from_some in omega arith;
+        within = let e = t.room_is in omega (arith, ints);
+        below = omega arith;
+      }))
+      (end_within net.nodes (arc_at net.arcs (get_or row place 0)) from.node node t.in_order t.joins) new h
+      )
+
+  -- its last node
+  pub taken-last : last_node longer ≡ node
+  taken-last =
+      let e : length longer - 1 ≡ length visits = let l = ap (λ (vs : List Visit). length vs) grown in omega (arith, length-append visits (last ∷ [])) in
+      ap (node_at longer) e ∙ ap (λ (vs : List Visit). node_at vs (length visits)) grown
+      ∙ ap (λ (u : Visit). u.node) (get_or-append_seam visits last [] (record { node = 0; parent = 0; arc = 0; room = 0 }))
+
+  -- an earlier visit stays
+  earlier : (j : ℕ) → j < length visits → visit_at longer j ≡ visit_at visits j
+  earlier j l = ap (λ (vs : List Visit). visit_at vs j) grown ∙ visit_at-push visits last j l
+
+  -- the first among them
+  pub taken-first : first_node longer ≡ first_node visits
+  taken-first = ap (λ (u : Visit). u.node) (earlier 0 s.search.tree.some)
+
+  -- where the new node is not the sink, the scan goes on
+  pub IsScanning-take : node ≢ sink → IsScanning net amounts sink head from row (place + 1) longer more
+  IsScanning-take d = record {
+    search = record {
+      tree = taken-tree;
+      unseen = h sink ∙ ap (λ b. b || node == sink) s.search.unseen ∙ ne_eqb node sink d;
+      scanned = λ j l w r. stays w (s.search.scanned j l w (subst (λ u. HasRoom net.arcs amounts u w) (ap (λ (u : Visit). u.node) (earlier j (let k = s.long in omega arith))) r));
+    };
+    long = let l = s.long in let g = ap (λ (vs : List Visit). length vs) grown in omega (arith, length-append visits (last ∷ []));
+    at_head = earlier head s.long ∙ s.at_head;
+    done = below_more (λ p. IsArcScanned net.arcs amounts (mem more) from.node (get_or row p 0)) place (λ p l w j r. stays w (s.done p l w j r)) (λ w j r. ap (mem more) (other_end net.nodes (arc_at net.arcs (get_or row place 0)) from.node node w t.in_order t.joins j) ∙ is_seen);
+  }
+
+-- at the end of the row the node is scanned
+pub IsScanning-end : (net : Net) (rows : List (List ℕ)) (amounts : List ℤ) (sink head : ℕ) (from : Visit) (row : List ℕ) (place : ℕ) (visits : List Visit) (seen : List ℕ) → IsIncidence net rows → row ≡ row_at rows from.node → length row ≤ place
+    → IsScanning net amounts sink head from row place visits seen → IsSearch net amounts sink (head + 1) visits seen
+IsScanning-end net rows amounts sink head from row place visits seen lists is e s = record {
+  tree = s.search.tree;
+  unseen = s.search.unseen;
+  scanned = below_more (λ j. IsScanned net.arcs amounts (mem seen) (node_at visits j)) head s.search.scanned (λ w r. here w (subst (λ u. HasRoom net.arcs amounts u w) (ap (λ (u : Visit). u.node) s.at_head) r));
+}
+  where
+    listed : (i u w : ℕ) → i < length net.arcs → Joins (arc_at net.arcs i) u w → Contains (row_at rows u) i
+    listed i u w l (inl x) = subst (λ v. Contains (row_at rows v) i) x.0 (lists.at_a i l)
+    listed i u w l (inr x) = subst (λ v. Contains (row_at rows v) i) x.0 (lists.at_b i l)
+
+    here : (w : ℕ) → HasRoom net.arcs amounts from.node w → mem seen w ≡ true
+    here w r =
+        let k : Contains row r.arc = subst (λ (xs : List ℕ). Contains xs r.arc) (sym is) (listed r.arc from.node w r.is_arc r.joins) in
+        let i : get_or row k.0 0 ≡ r.arc = sym (get_or_read row k.0 r.arc k.1 (sym k.2) 0) in
+        s.done k.0 (let l = k.1 in omega arith) w (subst (λ j. Joins (arc_at net.arcs j) from.node w) (sym i) r.joins) (subst (λ j. pos 0 <ℤ room_from from.node (arc_at net.arcs j) (amount_at amounts j)) (sym i) r.room)

@@ -1,0 +1,255 @@
+-- Search trees: how they grow, that each node is reached from the root over arcs with room, and that no arc is used twice.
+-- Idea: a visit is at a new node, so its arc has an end that no earlier arc has.
+use Rattle.std.proofs.Common.{◌≡◌, ◌≢◌, ℕ, zero, suc, ◌+◌, ◌-◌, ◌≤◌, ◌<◌, ◌^◌, ◌==◌, ◌||◌, Bool, true, false, cond, List, [], ◌∷◌, ◌++◌, length, get_or, refl, sym, ◌∙◌, ap, subst, arith, inl, inr, eq-eqb, ne_eqb, length-append}
+use Rattle.std.specs.Prelude.{ℤ}
+use Rattle.std.proofs.Math.Seq.{get_or-append_seam}
+use Rattle.std.proofs.lemmas.Bool.{cases_eq, both_ways}
+use Rattle.std.proofs.lemmas.Int.{ints}
+use Rattle.std.proofs.lemmas.List.{get_or_append_left}
+use Rattle.counting.specs.Counts.{Within, count, bit}
+use Rattle.counting.specs.Sets.{Set, put, everything}
+use Rattle.counting.specs.Lists.{mem, IsRisingIn}
+use Rattle.counting.proofs.Counts.{count_of_one, count_congr, count_le}
+use Rattle.counting.proofs.Choice.{count_put}
+use Rattle.counting.proofs.Lists.{or_front, or_back}
+use Rattle.flow_core.specs.Nets.{Arc, Net}
+use Rattle.flow_core.specs.Residual.{arc_at, Joins, HasRoom, IsReached, IsScanned, IsReachedSet}
+use Rattle.flow_core.specs.Search.{visit_at, node_at, IsStep, IsVisit, IsTree, IsSearch}
+use Rattle.flow_core.specs.declared.search.Visit.{Visit}
+
+-- the default visit
+abbrev none_visited : Visit
+none_visited = record { node = 0; parent = 0; arc = 0; room = 0 }
+
+pub visit_at-push : (visits : List Visit) (visit : Visit) (j : ℕ) → j < length visits → visit_at (visits ++ visit ∷ []) j ≡ visit_at visits j
+visit_at-push visits visit j l = get_or_append_left visits (visit ∷ []) none_visited j l
+
+visit_at-last : (visits : List Visit) (visit : Visit) → visit_at (visits ++ visit ∷ []) (length visits) ≡ visit
+visit_at-last visits visit = get_or-append_seam visits visit [] none_visited
+
+length-push : (visits : List Visit) (visit : Visit) → length (visits ++ visit ∷ []) ≡ length visits + 1
+length-push visits visit = omega (arith, length-append visits (visit ∷ []))
+
+-- an earlier visit stays one
+IsVisit-push : (arcs : List Arc) (amounts : List ℤ) (visits : List Visit) (visit : Visit) (j : ℕ) → j < length visits → IsVisit arcs amounts visits j → IsVisit arcs amounts (visits ++ visit ∷ []) j
+IsVisit-push arcs amounts visits visit j l v =
+    let longer = visits ++ visit ∷ [] in
+    let was = visit_at visits j in
+    let from : visit_at longer was.parent ≡ visit_at visits was.parent = visit_at-push visits visit was.parent (let e = v.earlier in omega arith) in
+    let is : visit_at longer j ≡ was = visit_at-push visits visit j l in
+    record {
+      earlier = subst (λ (u : Visit). u.parent < j) (sym is) v.earlier;
+      step = subst (λ (u : Visit). IsStep arcs amounts (visit_at longer u.parent) u) (sym is) (subst (λ (u : Visit). IsStep arcs amounts u was) (sym from) v.step);
+    }
+
+-- the last visit
+IsVisit-last : (arcs : List Arc) (amounts : List ℤ) (visits : List Visit) (visit : Visit) → visit.parent < length visits → IsStep arcs amounts (visit_at visits visit.parent) visit → IsVisit arcs amounts (visits ++ visit ∷ []) (length visits)
+IsVisit-last arcs amounts visits visit l s =
+    let longer = visits ++ visit ∷ [] in
+    let from : visit_at longer visit.parent ≡ visit_at visits visit.parent = visit_at-push visits visit visit.parent l in
+    let is : visit_at longer (length visits) ≡ visit = visit_at-last visits visit in
+    record {
+      earlier = subst (λ (u : Visit). u.parent < length visits) (sym is) l;
+      step = subst (λ (u : Visit). IsStep arcs amounts (visit_at longer u.parent) u) (sym is) (subst (λ (u : Visit). IsStep arcs amounts u visit) (sym from) s);
+    }
+
+-- a new node adds one to the size of the set
+count-with : (n : ℕ) (x y : Set) (v : ℕ) → Within n v → x v ≡ false → ((w : ℕ) → y w ≡ (x w || v == w)) → count n y ≡ count n x + 1
+count-with n x y v w f h =
+    let c = count_congr n y (put x v true) (λ u t. h u ∙ same u) in
+    let p = count_put n x v true w in
+    let z : bit (x v) ≡ 0 = ap bit f in omega arith
+  where
+    pick : (b : Bool) → (b || true) ≡ true
+    pick true = refl
+    pick false = refl
+
+    drop_false : (b : Bool) → (b || false) ≡ b
+    drop_false true = refl
+    drop_false false = refl
+
+    same : (u : ℕ) → (x u || v == u) ≡ put x v true u
+    same u = elim (cases_eq u v) [
+      | inl e ↦
+          let a : (v == u) ≡ true = eq-eqb v u (sym e) in
+          let b : (u == v) ≡ true = eq-eqb u v e in
+          ap (λ t. x u || t) a ∙ pick (x u) ∙ sym (ap (λ t. cond t true (x u)) b)
+      | inr d ↦
+          let a : (v == u) ≡ false = ne_eqb v u (λ e. d (sym e)) in
+          let b : (u == v) ≡ false = ne_eqb u v d in
+          ap (λ t. x u || t) a ∙ drop_false (x u) ∙ sym (ap (λ t. cond t true (x u)) b)
+    ]
+
+-- one visit, at the root
+pub IsTree-root : (net : Net) (amounts : List ℤ) (visit : Visit) (seen : List ℕ) → Within net.nodes visit.node → visit.room ≡ 2 ^ 63 - 1 → ((v : ℕ) → mem seen v ≡ (visit.node == v)) → IsTree net amounts (visit ∷ []) seen
+IsTree-root net amounts visit seen w r h = record {
+  some = omega arith;
+  root = r;
+  each = λ j p l. absurd (omega arith);
+  nodes = λ j l. subst (λ i. Within net.nodes (node_at (visit ∷ []) i)) (first j l) w;
+  distinct = λ i j k l. absurd (omega arith);
+  all_seen = λ j l. subst (λ i. mem seen (node_at (visit ∷ []) i) ≡ true) (first j l) (h visit.node ∙ eq-eqb visit.node visit.node refl);
+  seen_only = λ v m. (0, omega arith, same v m);
+  size = sym (count_congr net.nodes (mem seen) (λ v. visit.node == v) (λ v k. h v) ∙ count_of_one net.nodes everything visit.node w);
+}
+  where
+    first : (j : ℕ) → j < 1 → 0 ≡ j
+    first j l = omega arith
+
+    same : (v : ℕ) → mem seen v ≡ true → visit.node ≡ v
+    same v m = elim (cases_eq visit.node v) [
+      | inl e ↦ e
+      | inr d ↦ absurd (both_ways (mem seen v) (h v ∙ ne_eqb visit.node v d) m)
+    ]
+
+-- one visit more, at a new node
+pub IsTree-push : (net : Net) (amounts : List ℤ) (visits : List Visit) (seen : List ℕ) → IsTree net amounts visits seen
+    → (visit : Visit) (more : List ℕ) → visit.parent < length visits → IsStep net.arcs amounts (visit_at visits visit.parent) visit → Within net.nodes visit.node → mem seen visit.node ≡ false
+    → ((v : ℕ) → mem more v ≡ (mem seen v || visit.node == v))
+    → IsTree net amounts (visits ++ visit ∷ []) more
+IsTree-push net amounts visits seen tree visit more p s w f h = record {
+  some = let l = tree.some in omega (arith, length-push visits visit);
+  root = ap (λ (u : Visit). u.room) (visit_at-push visits visit 0 tree.some) ∙ tree.root;
+  each = λ j q l. elim (cases_eq j n) [
+    | inl e ↦ subst (IsVisit net.arcs amounts longer) (sym e) (IsVisit-last net.arcs amounts visits visit p s)
+    | inr d ↦ IsVisit-push net.arcs amounts visits visit j (old j l d) (tree.each j q (old j l d))
+  ];
+  nodes = λ j l. elim (cases_eq j n) [
+    | inl e ↦ subst (Within net.nodes) (sym (new_node j e)) w
+    | inr d ↦ subst (Within net.nodes) (sym (old_node j (old j l d))) (tree.nodes j (old j l d))
+  ];
+  distinct = λ i j k l e. elim (cases_eq j n) [
+    | inl g ↦ both_ways (mem seen visit.node) f (ap (mem seen) (sym (sym (old_node i (let t = k in omega arith)) ∙ e ∙ new_node j g)) ∙ tree.all_seen i (let t = k in omega arith))
+    | inr d ↦ tree.distinct i j k (old j l d) (sym (old_node i (let t = old j l d in omega arith)) ∙ e ∙ old_node j (old j l d))
+  ];
+  all_seen = λ j l. elim (cases_eq j n) [
+    | inl e ↦ ap (mem more) (new_node j e) ∙ h visit.node ∙ or_back (mem seen visit.node) (visit.node == visit.node) (eq-eqb visit.node visit.node refl)
+    | inr d ↦ ap (mem more) (old_node j (old j l d)) ∙ h (node_at visits j) ∙ or_front (mem seen (node_at visits j)) (visit.node == node_at visits j) (tree.all_seen j (old j l d))
+  ];
+  seen_only = λ v m. place v (mem seen v) refl m;
+  size = length-push visits visit ∙ ap (λ k. k + 1) tree.size ∙ sym (count-with net.nodes (mem seen) (mem more) visit.node w f h);
+}
+  where
+    n : ℕ
+    n = length visits
+
+    longer : List Visit
+    longer = visits ++ visit ∷ []
+
+    old : (j : ℕ) → j < length longer → j ≢ n → j < n
+    old j l d = omega (arith, length-push visits visit)
+
+    old_node : (j : ℕ) → j < n → node_at longer j ≡ node_at visits j
+    old_node j l = ap (λ (u : Visit). u.node) (visit_at-push visits visit j l)
+
+    new_node : (j : ℕ) → j ≡ n → node_at longer j ≡ visit.node
+    new_node j e = ap (node_at longer) e ∙ ap (λ (u : Visit). u.node) (visit_at-last visits visit)
+
+    place : (v : ℕ) (b : Bool) → mem seen v ≡ b → mem more v ≡ true → (j : ℕ) × (j < length longer) × (node_at longer j ≡ v)
+    place v true e m =
+        let k = tree.seen_only v e in
+        (k.0, let l = k.1 in omega (arith, length-push visits visit), old_node k.0 k.1 ∙ k.2)
+    place v false e m = elim (cases_eq visit.node v) [
+      | inl g ↦ (n, omega (arith, length-push visits visit), new_node n refl ∙ g)
+      | inr d ↦ absurd (both_ways (mem more v) (h v ∙ ap (λ t. t || visit.node == v) e ∙ ne_eqb visit.node v d) m)
+    ]
+
+-- something can go to each visit
+pub room-some : (net : Net) (amounts : List ℤ) (visits : List Visit) (seen : List ℕ) → IsTree net amounts visits seen → (j : ℕ) → j < length visits → 0 < (visit_at visits j).room
+room-some net amounts visits seen tree j l = elim (cases_eq j 0) [
+  | inl e ↦ subst (λ i. 0 < (visit_at visits i).room) (sym e) (let r = tree.root in omega arith)
+  | inr d ↦ (tree.each j (omega arith) l).step.some
+]
+
+-- and no more than 2^63 - 1
+pub room-below : (net : Net) (amounts : List ℤ) (visits : List Visit) (seen : List ℕ) → IsTree net amounts visits seen → (j : ℕ) → j < length visits → (visit_at visits j).room < 2 ^ 63
+room-below net amounts visits seen tree j l = go (suc j) j (omega arith) l
+  where
+    go : (fuel k : ℕ) → k < fuel → k < length visits → (visit_at visits k).room < 2 ^ 63
+    go zero k h m = absurd (omega arith)
+    go (suc fuel) k h m = elim (cases_eq k 0) [
+      | inl e ↦ subst (λ i. (visit_at visits i).room < 2 ^ 63) (sym e) (let r = tree.root in omega arith)
+      | inr d ↦
+          let v = tree.each k (omega arith) m in
+          let p = go fuel (visit_at visits k).parent (let e = v.earlier in omega arith) (let e = v.earlier in omega arith) in
+          let b = v.step.below in omega arith
+    ]
+
+-- no more visits than nodes
+pub visits-le-nodes : (net : Net) (amounts : List ℤ) (visits : List Visit) (seen : List ℕ) → IsTree net amounts visits seen → length visits ≤ net.nodes
+visits-le-nodes net amounts visits seen tree =
+    let s = tree.size in let c = count_le net.nodes (mem seen) in omega arith
+
+-- the arc of a visit has room out of its parent's node
+step-HasRoom : (arcs : List Arc) (amounts : List ℤ) (from visit : Visit) → IsStep arcs amounts from visit → HasRoom arcs amounts from.node visit.node
+step-HasRoom arcs amounts from visit s = record {
+  arc = visit.arc;
+  is_arc = s.is_arc;
+  joins = s.joins;
+  room = let a = s.some in let b = s.within in omega (arith, ints);
+}
+
+-- the node of each visit is reached from the root
+pub tree-reaches : (net : Net) (amounts : List ℤ) (visits : List Visit) (seen : List ℕ) → IsTree net amounts visits seen → (j : ℕ) → j < length visits → IsReached net.arcs amounts (node_at visits 0) (node_at visits j)
+tree-reaches net amounts visits seen tree j l = go (suc j) j (omega arith) l
+  where
+    go : (fuel k : ℕ) → k < fuel → k < length visits → IsReached net.arcs amounts (node_at visits 0) (node_at visits k)
+    go zero k h m = absurd (omega arith)
+    go (suc fuel) k h m = elim (cases_eq k 0) [
+      | inl e ↦ ([], ap (node_at visits) (sym e))
+      | inr d ↦
+          let v = tree.each k (omega arith) m in
+          let p = (visit_at visits k).parent in
+          let w = go fuel p (let e = v.earlier in omega arith) (let e = v.earlier in omega arith) in
+          (node_at visits p ∷ w.0, (w.1, step-HasRoom net.arcs amounts (visit_at visits p) (visit_at visits k) v.step))
+    ]
+
+-- different visits come over different arcs
+pub arcs-differ : (net : Net) (amounts : List ℤ) (visits : List Visit) (seen : List ℕ) → IsTree net amounts visits seen → (i j : ℕ) → 0 < i → i < j → j < length visits → (visit_at visits i).arc ≢ (visit_at visits j).arc
+arcs-differ net amounts visits seen tree i j p k l e = elim u.step.joins [
+  | inl x ↦ elim other [
+    | inl y ↦ tree.distinct i j k l (sym x.1 ∙ y.1)
+    | inr y ↦ tree.distinct (visit_at visits i).parent j up l (sym x.0 ∙ y.1)
+  ]
+  | inr x ↦ elim other [
+    | inl y ↦ tree.distinct (visit_at visits i).parent j up l (sym x.0 ∙ y.1)
+    | inr y ↦ tree.distinct i j k l (sym x.1 ∙ y.1)
+  ]
+]
+  where
+    u : IsVisit net.arcs amounts visits i
+    u = tree.each i p (omega arith)
+
+    v : IsVisit net.arcs amounts visits j
+    v = tree.each j (omega arith) l
+
+    up : (visit_at visits i).parent < j
+    up = let h = u.earlier in omega arith
+
+    other : Joins (arc_at net.arcs (visit_at visits i).arc) (node_at visits (visit_at visits j).parent) (node_at visits j)
+    other = subst (λ a. Joins (arc_at net.arcs a) (node_at visits (visit_at visits j).parent) (node_at visits j)) (sym e) v.step.joins
+
+-- an item of a list is in it
+mem-item : (xs : List ℕ) (k d : ℕ) → k < length xs → mem xs (get_or xs k d) ≡ true
+mem-item [] k d l = absurd (omega arith)
+mem-item (x ∷ xs) zero d l = or_front (x == x) (mem xs x) (eq-eqb x x refl)
+mem-item (x ∷ xs) (suc k) d l = or_back (x == get_or xs k d) (mem xs (get_or xs k d)) (mem-item xs k d (omega arith))
+
+-- a rising list whose members are numbers 1 to n
+rising-within : (m n : ℕ) (xs : List ℕ) → IsRisingIn m xs → ((v : ℕ) → mem xs v ≡ true → Within n v) → IsRisingIn n xs
+rising-within m n xs r h = record {
+  rising = r.rising;
+  within = λ k d l. h (get_or xs k d) (mem-item xs k d l);
+}
+
+-- a search that has scanned all its visits has found the nodes that are reached from its root, and the sink is not among them
+pub search-ends : (net : Net) (amounts : List ℤ) (source sink head : ℕ) (visits : List Visit) (seen : List ℕ) → IsSearch net amounts sink head visits seen → length visits ≤ head → node_at visits 0 ≡ source → IsRisingIn 128 seen → IsReachedSet net amounts source sink seen
+search-ends net amounts source sink head visits seen s e root r = record {
+  nodes = rising-within 128 net.nodes seen r (λ v m. let k = tree.seen_only v m in subst (Within net.nodes) k.2 (tree.nodes k.0 k.1));
+  separates = record { holds = ap (mem seen) (sym root) ∙ tree.all_seen 0 tree.some; lacks = s.unseen };
+  reached = λ v m. let k = tree.seen_only v m in subst (λ u. IsReached net.arcs amounts u v) root (subst (IsReached net.arcs amounts (node_at visits 0)) k.2 (tree-reaches net amounts visits seen tree k.0 k.1));
+  closed = λ u m. let k = tree.seen_only u m in subst (IsScanned net.arcs amounts (mem seen)) k.2 (s.scanned k.0 (let l = k.1 in omega arith));
+}
+  where
+    tree : IsTree net amounts visits seen
+    tree = s.tree

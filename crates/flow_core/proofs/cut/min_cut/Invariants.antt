@@ -1,0 +1,10 @@
+use Rattle.std.proofs.Common.{◌-◌}
+use Rattle.flow_core.specs.Nets.{total_capacity}
+use Rattle.flow_core.specs.Flows.{IsFlow}
+use Rattle.flow_core.proofs.cut.min_cut.Given as goal
+
+abbrev pub invariant-growing : goal.invariant-growing
+invariant-growing l = IsFlow l.net l.source l.sink l.flow.on l.flow.value
+
+abbrev pub decreases-growing : goal.decreases-growing
+decreases-growing l = total_capacity l.net - l.flow.value

@@ -1,0 +1,9 @@
+use Rattle.std.proofs.Common.{◌==◌, ◌||◌, ap, ◌∙◌, arith}
+use Rattle.counting.specs.Lists.{mem}
+use Rattle.flow_core.proofs.SearchTrees.{IsTree-root}
+use Rattle.flow_core.proofs.search.Reached.from_source.Goals as goal
+
+pub returns-clause-tree : goal.returns-clause-tree
+returns-clause-tree c = λ amounts.
+    rw (c.in_ok-push.ensures.items, c.new-visits.ensures.items)
+    (IsTree-root c.args.net.now amounts _ c.with.result c.requires.source (omega arith) (λ v. c.with.ensures v ∙ ap (λ set. (mem set v || c.args.source == v)) c.empty.ensures))

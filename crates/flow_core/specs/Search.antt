@@ -1,0 +1,60 @@
+-- The tree of a search over arcs with room: the visits in the order in which the nodes were reached.
+use Rattle.std.specs.Prelude.{◌≡◌, ◌≢◌, ℕ, ◌-◌, ◌≤◌, ◌<◌, ◌^◌, true, false, List, length, slice_index_or, ℤ, pos, ◌≤ℤ◌}
+use Rattle.counting.specs.Counts.{Within, count}
+use Rattle.counting.specs.Lists.{mem}
+use Rattle.flow_core.specs.Nets.{Arc, Net}
+use Rattle.flow_core.specs.Residual.{arc_at, amount_at, Joins, room_from, IsScanned}
+use Rattle.flow_core.specs.declared.search.Visit.{Visit}
+
+-- visit j, counted from 0
+abbrev pub visit_at : List Visit → ℕ → Visit
+visit_at visits j = slice_index_or visits j (record { node = 0; parent = 0; arc = 0; room = 0 })
+
+-- the node of visit j
+abbrev pub node_at : List Visit → ℕ → ℕ
+node_at visits j = (visit_at visits j).node
+
+-- the visit comes from another over an arc with room; its own room can go all the way from the first visit
+pub record IsStep (arcs : List Arc) (amounts : List ℤ) (from visit : Visit) : Type 0 where
+  pub is_arc : visit.arc < length arcs
+  pub joins : Joins (arc_at arcs visit.arc) from.node visit.node
+  pub some : 0 < visit.room
+  pub within : pos visit.room ≤ℤ room_from from.node (arc_at arcs visit.arc) (amount_at amounts visit.arc)
+  pub below : visit.room ≤ from.room
+
+-- visit j comes from an earlier one
+pub record IsVisit (arcs : List Arc) (amounts : List ℤ) (visits : List Visit) (j : ℕ) : Type 0 where
+  pub earlier : (visit_at visits j).parent < j
+  pub step : IsStep arcs amounts (visit_at visits (visit_at visits j).parent) (visit_at visits j)
+
+-- a search tree, with the set of its nodes: its first visit is the root, each other comes from an earlier one, and no node is
+-- visited twice
+pub record IsTree (net : Net) (amounts : List ℤ) (visits : List Visit) (seen : List ℕ) : Type 0 where
+  pub some : 0 < length visits
+  pub root : (visit_at visits 0).room ≡ 2 ^ 63 - 1
+  pub each : (j : ℕ) → 0 < j → j < length visits → IsVisit net.arcs amounts visits j
+  pub nodes : (j : ℕ) → j < length visits → Within net.nodes (node_at visits j)
+  pub distinct : (i j : ℕ) → i < j → j < length visits → node_at visits i ≢ node_at visits j
+  pub all_seen : (j : ℕ) → j < length visits → mem seen (node_at visits j) ≡ true
+  pub seen_only : (v : ℕ) → mem seen v ≡ true → (j : ℕ) × (j < length visits) × (node_at visits j ≡ v)
+  pub size : length visits ≡ count net.nodes (mem seen)
+
+-- the node of the first visit
+abbrev pub first_node : List Visit → ℕ
+first_node visits = node_at visits 0
+
+-- the node of the last visit
+abbrev pub last_node : List Visit → ℕ
+last_node visits = node_at visits (length visits - 1)
+
+-- a search tree from one node to another
+pub record HasPath (net : Net) (amounts : List ℤ) (visits : List Visit) : Type 0 where
+  pub seen : List ℕ
+  pub tree : IsTree net amounts visits seen
+  pub differ : first_node visits ≢ last_node visits
+
+-- a search that has scanned the arcs at its first visits and has not seen the sink
+pub record IsSearch (net : Net) (amounts : List ℤ) (sink head : ℕ) (visits : List Visit) (seen : List ℕ) : Type 0 where
+  pub tree : IsTree net amounts visits seen
+  pub unseen : mem seen sink ≡ false
+  pub scanned : (j : ℕ) → j < head → IsScanned net.arcs amounts (mem seen) (node_at visits j)

@@ -1,0 +1,54 @@
+//! Arcs, and how much more they can take.
+ghost use Rattle.std.specs.Prelude.{◌≡◌, ◌≤◌, ◌<◌, ◌^◌, pos, ◌≤ℤ◌, unsigned_abs};
+ghost use Rattle.flow_core.specs.Residual.{Joins, room_from, sent_amount};
+ghost use Rattle.flow_core.specs.Incidence.{HasEnd};
+
+/// An arc between two nodes, to be used in both directions.
+#[derive(Clone, Copy)]
+pub struct Arc {
+    pub a: u32,
+    pub b: u32,
+    pub capacity: u64,
+}
+
+impl Arc {
+    ghost use Rattle.flow_core.specs.View.{arc_of};
+
+    /// The end that is not `from`.
+    pub fn far_end(self, from: u32) -> u32
+        requires { HasEnd (arc_of self) from }
+        ensures { Joins (arc_of self) from result }
+    {
+        if self.a == from { self.b } else { self.a }
+    }
+
+    /// How much more the arc with this amount, which is positive from `a` to `b`, can take out of its end `from`. This is at
+    /// most twice the capacity, so it needs a type wider than that of amounts.
+    pub fn room(self, from: u32, amount: i64) -> u64
+        requires within { unsigned_abs amount ≤ self.capacity }
+        requires below { self.capacity < 2 ^ 63 }
+        ensures { pos result ≡ room_from from (arc_of self) amount }
+    {
+        let out = if self.a == from { amount } else { -amount };
+        if out >= 0 {
+            self.capacity - out as u64
+        } else {
+            self.capacity + out.unsigned_abs()
+        }
+    }
+
+    /// The amount after `more` is sent out of the end `from`. It is within the capacity again.
+    pub fn sent(self, from: u32, amount: i64, more: u64) -> i64
+        requires within { unsigned_abs amount ≤ self.capacity }
+        requires room { pos more ≤ℤ room_from from (arc_of self) amount }
+        requires below { self.capacity < 2 ^ 63 }
+        requires small { more < 2 ^ 63 }
+        ensures { result ≡ sent_amount (arc_of self) from amount more }
+    {
+        if self.a == from {
+            amount + more as i64
+        } else {
+            amount - more as i64
+        }
+    }
+}

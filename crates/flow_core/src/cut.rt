@@ -1,0 +1,61 @@
+//! The least minimum cut up to a bound, or a flow above it.
+ghost use Rattle.std.specs.Prelude.{◌≡◌, ◌≢◌, ◌≤◌, ◌<◌, ◌↔◌, IfOk};
+ghost use Rattle.counting.specs.Counts.{Within};
+ghost use Rattle.flow_core.specs.Nets.{IsLeastCut, HasCutWithin};
+ghost use Rattle.flow_core.specs.Flows.{IsFlow};
+ghost use Rattle.flow_core.specs.Cuts.{IsCut, IfCut, IfExceeds};
+
+use crate::flow::Flow;
+use crate::incidence::Incidence;
+use crate::net::Net;
+use crate::search::{Outcome, search};
+use std::alloc::{AllocError as Memory, Global};
+use vset_core::VSet;
+
+/// What `min_cut` answers: a cut within the bound, or a flow above it.
+#[derive(Drop)]
+pub enum CutAnswer {
+    /// The least minimum cut: its nodes, the source among them and the sink not, and its value.
+    Cut { set: VSet, value: u64 },
+    /// A flow whose value is above the bound. No set of nodes with the source and without the sink has a value below it.
+    Exceeds { flow: Flow },
+}
+
+/// The least minimum cut between source and sink, up to a bound. The sets meant here are those of nodes that hold the source and
+/// not the sink.
+///
+/// The answer is `Cut` exactly where some such set has a value of at most `above`. Its value is then the least of all, and its
+/// set lies inside each other such set of that value. Otherwise the answer is `Exceeds` with a flow of a value above `above`:
+/// by the theorem of Ford and Fulkerson on flows and cuts this shows that each such set has a value above `above`.
+///
+/// The flow grows along shortest paths (Edmonds and Karp), so that the number of rounds is bounded by the nodes and arcs of
+/// the net, and it stops as soon as it passes the bound. Out of memory is the only error.
+pub fn min_cut(
+    alloc: Global,
+    net: &Net,
+    source: u32,
+    sink: u32,
+    above: u64,
+) -> Result<CutAnswer, Memory>
+    requires source { Within net.now.nodes source }
+    requires sink { Within net.now.nodes sink }
+    requires differ { source ≢ sink }
+    ensures exactly { IfOk result (λ answer. IsCut answer ↔ HasCutWithin net.now source sink above) }
+    ensures cut { IfOk result (λ answer. IfCut answer (λ set value. IsLeastCut net.now source sink set value × (value ≤ above))) }
+    ensures exceeds { IfOk result (λ answer. IfExceeds answer (λ flow. IsFlow net.now source sink flow.on flow.value × (above < flow.value))) }
+{
+    let incidence = Incidence::new(alloc, net)?;
+    let mut flow = Flow::zero(alloc, net)?;
+    'growing: while flow.value <= above {
+        match search(alloc, net, &incidence, &flow.on, source, sink)? {
+            Outcome::Path(visits) => flow.augment(net, &visits),
+            Outcome::Closed(set) => {
+                return Ok(CutAnswer::Cut {
+                    set,
+                    value: flow.value,
+                });
+            }
+        }
+    }
+    Ok(CutAnswer::Exceeds { flow })
+}

@@ -1,0 +1,17 @@
+//! The law of flows and cuts, the contract of a function that does nothing.
+ghost use Rattle.std.specs.Prelude.{◌≡◌, ℕ, ◌≤◌, List, ℤ, true};
+ghost use Rattle.counting.specs.Counts.{Within};
+ghost use Rattle.counting.specs.Sets.{Set};
+ghost use Rattle.flow_core.specs.Nets.{Net, IsNet, Separates, IsLeastCut, value_of};
+ghost use Rattle.flow_core.specs.Flows.{IsFlow};
+ghost use Rattle.flow_core.specs.Residual.{IsReachedSet};
+
+/// Flows and cuts (Ford and Fulkerson, 1956): no flow is more than the value of a set with the source and without the sink; and
+/// where the sink is not reached from the source over arcs with room, the nodes that are reached are the least minimum cut,
+/// whose value is that of the flow.
+pub fn flow_law()
+    ensures bound { (net : Net) (source sink : ℕ) (amounts : List ℤ) (value : ℕ) → IsNet net → Within net.nodes source → IsFlow net source sink amounts value
+        → (x : Set) → Separates source sink x → value ≤ value_of net x }
+    ensures least { (net : Net) (source sink : ℕ) (amounts : List ℤ) (value : ℕ) → IsNet net → Within net.nodes source → IsFlow net source sink amounts value
+        → (set : List ℕ) → IsReachedSet net amounts source sink set → IsLeastCut net source sink set value }
+{}

@@ -1,0 +1,45 @@
+//! The line of a verdict.
+ghost use Rattle.std.specs.Prelude.{◌≡◌, ◌++◌, codes, OnOk, IfOk, string_bytes};
+ghost use Rattle.report_text.specs.Reports.{verdict_text, reason_text};
+
+use crate::numbers::push_set;
+use graph_core::{Reason, Verdict};
+use std::alloc::{AllocError as Memory, Global};
+
+fn push_reason(text: &mut String, reason: &Reason) -> Result<(), Memory>
+    ensures { OnOk result (string_bytes text.new ≡ string_bytes text.old ++ reason_text reason.now) }
+{
+    match reason {
+        Reason::Small => write!(text, " order"),
+        Reason::Parted { a, b } => write!(text, " parts {a} {b}"),
+        Reason::Unmatched { berge } => {
+            write!(text, " berge")?;
+            push_set(text, *berge)
+        }
+        Reason::Unallowed { edge } => write!(text, " edge {edge}"),
+    }
+}
+
+/// Appends the line of the verdict.
+#[tactic(auto, unfolding(crate::specs::Reports::verdict_text))]
+pub fn push_verdict(text: &mut String, verdict: &Verdict) -> Result<(), Memory>
+    ensures { OnOk result (string_bytes text.new ≡ string_bytes text.old ++ verdict_text verdict.now) }
+{
+    match verdict {
+        Verdict::Covered => write!(text, "covered yes\n"),
+        Verdict::NotCovered(reason) => {
+            write!(text, "covered no")?;
+            push_reason(text, reason)?;
+            write!(text, "\n")
+        }
+    }
+}
+
+/// Writes the line of the verdict alone.
+pub fn verdict_line(alloc: Global, verdict: &Verdict) -> Result<Vec<u8>, Memory>
+    ensures { IfOk result (λ text. text.items ≡ verdict_text verdict.now) }
+{
+    let mut text = String::new(alloc);
+    push_verdict(&mut text, verdict)?;
+    Ok(text.into_bytes())
+}
