@@ -22,8 +22,8 @@ returns-in_err-check_body-clause-fault c =
     rw (p.1, p.2) (outcome-fault c.args.bytes.now e (subst (λ (xs : List ℕ). IsFirstFault (faults_of xs) e) c.body-body.ensures
     (is_first-front (take 9 (faults_of body)) (drop 9 (faults_of body)) e c.in_err-check_body.ensures)))
 
-pub returns-clause-graph : goal.returns-clause-graph
-returns-clause-graph c =
+pub returns-clause-value : goal.returns-clause-value
+returns-clause-value c =
     let body = c.body-body.result.now in
     both c.to_graph.result (λ g. g ≡ graph_of body) (first_fault (drop 9 (faults_of body)) ≡ None) (λ g. outcome_of c.args.bytes.now ≡ Ok g) c.to_graph.ensures.graph c.to_graph.ensures.passed
     (λ g is none. outcome-graph c.args.bytes.now (subst (λ (xs : List ℕ). first_fault (faults_of xs) ≡ None) c.body-body.ensures
