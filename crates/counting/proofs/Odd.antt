@@ -1,19 +1,19 @@
 -- The parity of sums and doubles, and of the two sides of a set of numbers 1 to n.
 -- By induction on the number, with the truth table of "one of the two is odd".
-use Rattle.std.proofs.Common.{◌≡◌, ℕ, suc, zero, ◌+◌, ◌≤◌, ◌<◌, ◌/◌, ◌%◌, ◌==◌, Bool, true, false, refl, sym, ap, ◌∙◌, arith, not, cond, zero-add, suc-add}
+use Rattle.std.proofs.Common.{◌≡◌, ℕ, suc, zero, ◌+◌, ◌≤◌, ◌<◌, ◌/◌, ◌%◌, ◌==◌, Bool, true, false, refl, sym, ap, ap₂, ◌∙◌, arith, not, cond, zero-add, suc-add, eq-eqb, ne_eqb}
 use Rattle.std.proofs.lemmas.Bool.{true≢false}
 use Rattle.counting.proofs.Counts.{count_complement}
-use Rattle.counting.specs.Counts.{count, is_odd}
+use Rattle.counting.specs.Counts.{Within, total, count, is_odd}
 use Rattle.counting.specs.Sets.{Set, complement}
+
+pub not_not : (b : Bool) → not (not b) ≡ b
+not_not true = refl
+not_not false = refl
 
 -- the parity of a number
 pub odd-double : (k : ℕ) → is_odd (k + k) ≡ false
 odd-double zero = refl
 odd-double (suc k) = let e : suc k + suc k ≡ suc (suc (k + k)) = omega arith in ap is_odd e ∙ not_not (is_odd (k + k)) ∙ odd-double k
-  where
-    not_not : (b : Bool) → not (not b) ≡ b
-    not_not true = refl
-    not_not false = refl
 
 pub odd-add : (a b : ℕ) → is_odd (a + b) ≡ cond (is_odd a) (not (is_odd b)) (is_odd b)
 odd-add zero b = ap is_odd (zero-add b)
@@ -24,6 +24,11 @@ odd-add (suc a) b = ap is_odd (suc-add a b) ∙ ap not (odd-add a b) ∙ turn (i
     turn true false = refl
     turn false true = refl
     turn false false = refl
+
+-- sums whose terms are odd together are odd together
+pub odd_total : (n : ℕ) (f h : ℕ → ℕ) → ((v : ℕ) → Within n v → is_odd (f v) ≡ is_odd (h v)) → is_odd (total n f) ≡ is_odd (total n h)
+odd_total zero f h e = refl
+odd_total (suc n) f h e = odd-add (total n f) (f (suc n)) ∙ ap₂ (λ a b. cond a (not b) b) (odd_total n f h (λ v w. e v (omega arith))) (e (suc n) (omega arith)) ∙ sym (odd-add (total n h) (h (suc n)))
 
 pub odd_pos : (n : ℕ) → is_odd n ≡ true → 1 ≤ n
 odd_pos zero h = absurd (true≢false (sym h))
@@ -47,3 +52,13 @@ is_odd_remainder n =
     small : (r : ℕ) → r < 2 → is_odd r ≡ (r == 1)
     small zero l = refl
     small (suc r) l = let z : r ≡ zero = omega arith in rw z refl
+
+-- half of an even number
+pub half : (j : ℕ) → is_odd j ≡ false → (t : ℕ) × (j ≡ t + t)
+half zero o = (0, omega arith)
+half (suc zero) o = absurd (true≢false o)
+half (suc (suc j)) o = let h = half j (sym (not_not (is_odd j)) ∙ o) in (suc h.0, let a = h.1 in omega arith)
+
+-- the same, read from right to left
+pub odd_remainder : (i : ℕ) → (i % 2 == 1) ≡ is_odd i
+odd_remainder i = sym (is_odd_remainder i)

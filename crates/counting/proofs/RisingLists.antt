@@ -203,6 +203,12 @@ set-wider n m xs l r = set-from_rises m xs (rises-wider 1 n m xs l (rises-from_s
 pub mem-all : (n v : ℕ) → (mem (rising_list n everything) v ≡ true) ↔ Within n v
 mem-all n v = (mem-within n (rising_list n everything) (rising_list-rises n everything) v, λ w. mem-rising_list n everything v w)
 
+-- each item of a list is a number of it
+pub mem-item : (xs : List ℕ) (k d : ℕ) → k < length xs → mem xs (slice_index_or xs k d) ≡ true
+mem-item [] k d h = absurd (omega arith)
+mem-item (x ∷ xs) zero d h = or_left (x == x) (mem xs x) (eq-eqb x x refl)
+mem-item (x ∷ xs) (suc k) d h = or_right (x == slice_index_or xs k d) (mem xs (slice_index_or xs k d)) (mem-item xs k d (omega arith))
+
 -- a set is the list of each test that it answers
 pub list-from_test : (n : ℕ) (xs : List ℕ) (x : Set) → IsRisingIn n xs → ((v : ℕ) → Within n v → mem xs v ≡ x v) → xs ≡ rising_list n x
 list-from_test n xs x r h = same_rising_list n xs (rising_list n x) r (rising_list-rises n x) (λ v w. h v w ∙ sym (mem-rising_list n x v w))

@@ -8,11 +8,10 @@ use Rattle.counting.specs.Counts.{Within}
 use Rattle.counting.specs.Sets.{Set, none}
 use Rattle.counting.specs.Tests.{some}
 use Rattle.graph_core.proofs.Carrying.{carried_set, cut_carried, image, perfect_carried}
-use Rattle.graph_core.proofs.Edits.{HasEnds}
 use Rattle.counting.proofs.Tests.{least_of, least_of_is}
 use Rattle.graph_core.proofs.Walks.{adjacent-edge, adjacent_from, adjacent_within, has_ends-cases, has_ends-own}
 use Rattle.graph_core.specs.Covered.{IsCovered}
-use Rattle.graph_core.specs.Graph.{Graph, IsGraph, first_end, has_ends, second_end, size}
+use Rattle.graph_core.specs.Graph.{Graph, IsGraph, first_end, has_ends, second_end, size, HasEnds}
 use Rattle.graph_core.specs.Matchings.{Allowed}
 use Rattle.graph_core.specs.Tight.{CutIsTight}
 use Rattle.graph_core.specs.Walks.{Joined, Walk, adjacent}

@@ -8,8 +8,8 @@ use Rattle.counting.proofs.Totals.{total_at, total_congr, total_mul, total_none,
 use Rattle.counting.specs.Counts.{Within, bit, count, total}
 use Rattle.counting.specs.Sets.{Set, none}
 use Rattle.counting.specs.Tests.{some}
-use Rattle.graph_core.proofs.Edits.{HasEnds, degree_sum, ends_le_degree, ends_of, ends_of_is, two_ends_le_degree}
-use Rattle.graph_core.specs.Graph.{Graph, IsGraph, degree, first_end, in_cut, inside, second_end, size}
+use Rattle.graph_core.proofs.Edits.{degree_sum, ends_le_degree, ends_of, ends_of_is, two_ends_le_degree}
+use Rattle.graph_core.specs.Graph.{Graph, IsGraph, degree, first_end, in_cut, inside, second_end, size, HasEnds}
 use Rattle.graph_core.specs.Matchings.{IsPerfect}
 
 -- the numbers that pick makes of those in m

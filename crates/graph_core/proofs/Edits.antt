@@ -8,6 +8,7 @@ use Rattle.counting.specs.Counts.{Within, bit, count, total}
 use Rattle.counting.specs.Sets.{Set, put}
 use Rattle.graph_core.proofs.Parity.{degrees}
 use Rattle.graph_core.proofs.Walks.{adjacent-edge, has_ends-cases}
+pub use Rattle.graph_core.specs.Graph.{HasEnds}
 use Rattle.graph_core.specs.Graph.{Graph, IsGraph, degree, first_end, in_cut, inside, second_end, size}
 use Rattle.graph_core.specs.Matchings.{IsMatching, missed_count}
 use Rattle.graph_core.specs.Walks.{adjacent}
@@ -121,9 +122,6 @@ two_ends_le_degree g m e f v we wf d me mf =
         | inr l ↦ let a = two_le_total (size g) (λ e. bit (m e) * ends_of g e v) f e wf we l in omega arith
       ]
     ]
-
-abbrev pub HasEnds : Graph → ℕ → ℕ → ℕ → Type 0
-HasEnds g e x y = ((first_end g e ≡ x) × (second_end g e ≡ y)) ⊎ ((first_end g e ≡ y) × (second_end g e ≡ x))
 
 -- how many ends an edge of x and y has at v
 pub ends_of_is : (g : Graph) (e x y : ℕ) → HasEnds g e x y → (v : ℕ) → ends_of g e v ≡ bit (x == v) + bit (y == v)

@@ -19,6 +19,18 @@ use Rattle.graph_core.proofs.Components.{joined_walk, walk_joined}
 use Rattle.graph_core.proofs.Trees.{StandsAt, above_joined, above_root, adjacent_more, hangs_more, joined_more, least_same}
 use Rattle.graph_core.proofs.Walks.{IsClosed, Walk-stays, adjacent-edge, adjacent_from, adjacent_within, adjacent_back, joined_back, joined_self, joined_on}
 
+and_false : (b : Bool) → (b && false) ≡ false
+and_false true = refl
+and_false false = refl
+
+and_true : (b : Bool) → (b && true) ≡ b
+and_true true = refl
+and_true false = refl
+
+or_false : (b : Bool) → (b || false) ≡ b
+or_false true = refl
+or_false false = refl
+
 -- two tests that imply each other are the same
 same_tests : (a b : Bool) → (a ≡ true → b ≡ true) → (b ≡ true → a ≡ true) → a ≡ b
 same_tests true b f h = sym (f refl)
@@ -30,18 +42,10 @@ abbrev Loses : Set → ℕ → Set → Type 0
 Loses left w left' = (v : ℕ) → left' v ≡ (left v && not (w == v))
 
 lost : (left left' : Set) (w : ℕ) → Loses left w left' → left' w ≡ false
-lost left left' w h = h w ∙ rw (eq-eqb w w refl) (no (left w))
-  where
-    no : (b : Bool) → (b && false) ≡ false
-    no true = refl
-    no false = refl
+lost left left' w h = h w ∙ rw (eq-eqb w w refl) (and_false (left w))
 
 others : (left left' : Set) (w : ℕ) → Loses left w left' → (v : ℕ) → (w ≡ v → ⊥) → left' v ≡ left v
-others left left' w h v d = h v ∙ rw (ne_eqb w v d) (yes (left v))
-  where
-    yes : (b : Bool) → (b && true) ≡ b
-    yes true = refl
-    yes false = refl
+others left left' w h v d = h v ∙ rw (ne_eqb w v d) (and_true (left v))
 
 still : (left left' : Set) (w : ℕ) → Loses left w left' → (v : ℕ) → left' v ≡ true → left v ≡ true
 still left left' w h v t = (and_parts (left v) (not (w == v)) (sym (h v) ∙ t)).0
@@ -138,11 +142,7 @@ module _ (g : Graph) (x : Set) (r : ℕ) (is : IsGraph g) where
       less = count_lost g.order left left' w within_w lw loses
 
       gains_not : (u : ℕ) → (w ≡ u → ⊥) → open' u ≡ open_set u
-      gains_not u n = gains u ∙ rw (ne_eqb w u n) (or_no (open_set u))
-        where
-          or_no : (b : Bool) → (b || false) ≡ b
-          or_no true = refl
-          or_no false = refl
+      gains_not u n = gains u ∙ rw (ne_eqb w u n) (or_false (open_set u))
 
       was_found : (u : ℕ) → (w ≡ u → ⊥) → Found left' u → Found left u
       was_found u n f = (f.0, sym (others left left' w loses u n) ∙ f.1)
@@ -224,22 +224,14 @@ rising_list-first zero x y u w t low h = absurd (omega arith)
 rising_list-first (suc n) x y u w t low h = elim (cases_eq u (suc n)) [
   | inl e ↦
       let xn : x (suc n) ≡ true = ap x (sym e) ∙ t in
-      let yn : y (suc n) ≡ false = h (suc n) (omega arith) ∙ rw (eq-eqb u (suc n) e) (no (x (suc n))) in
+      let yn : y (suc n) ≡ false = h (suc n) (omega arith) ∙ rw (eq-eqb u (suc n) e) (and_false (x (suc n))) in
       ap₂ ◌++◌ (rising_list-nothing n x (λ v wv. low v (omega arith))) (ap (λ b. cond b (suc n ∷ []) []) xn)
       ∙ ap (λ k. k ∷ []) (sym e)
       ∙ ap (λ ks. u ∷ ks) (sym (ap₂ ◌++◌ (rising_list-nothing n y (λ v wv. h v (omega arith) ∙ ap (λ b. b && not (u == v)) (low v (omega arith)))) (ap (λ b. cond b (suc n ∷ []) []) yn)))
   | inr d ↦
-      let yn : y (suc n) ≡ x (suc n) = h (suc n) (omega arith) ∙ rw (ne_eqb u (suc n) d) (yes (x (suc n))) in
+      let yn : y (suc n) ≡ x (suc n) = h (suc n) (omega arith) ∙ rw (ne_eqb u (suc n) d) (and_true (x (suc n))) in
       ap₂ ◌++◌ (rising_list-first n x y u (omega arith) t low (λ v wv. h v (omega arith))) (ap (λ b. cond b (suc n ∷ []) []) (sym yn))
 ]
-  where
-    no : (b : Bool) → (b && false) ≡ false
-    no true = refl
-    no false = refl
-
-    yes : (b : Bool) → (b && true) ≡ b
-    yes true = refl
-    yes false = refl
 
 module _ (g : Graph) (s : Set) (is : IsGraph g) where
   -- all vertices outside s are left
@@ -378,14 +370,10 @@ module _ (g : Graph) (s : Set) (is : IsGraph g) where
       -- the least vertices that are left: u, and those that are left after it
       first : rising_list g.order (meet left (is_least g s)) ≡ u ∷ rising_list g.order (meet left' (is_least g s))
       first = rising_list-first g.order (meet left (is_least g s)) (meet left' (is_least g s)) u wu (and_from (left u) (is_least g s u) lu u_least) (λ v l. ap (λ b. b && is_least g s v) (low v l)) (λ v w. elim (cases_eq u v) [
-        | inl e ↦ ap (λ b. b && is_least g s v) (ap left' (sym e) ∙ u_gone) ∙ sym (rw (eq-eqb u v e) (no (left v && is_least g s v)))
+        | inl e ↦ ap (λ b. b && is_least g s v) (ap left' (sym e) ∙ u_gone) ∙ sym (rw (eq-eqb u v e) (and_false (left v && is_least g s v)))
         | inr d ↦ rw (ne_eqb u v d) (keep (left v) (left' v) (is_least g s v) (smaller v) (λ l. false_from_ne_true (left v && not (left' v)) (λ t. d (least_same g s is u v wu w u_least l (joined_walk g s u v (sym (taken v w) ∙ t))))))
       ])
         where
-          no : (b : Bool) → (b && false) ≡ false
-          no true = refl
-          no false = refl
-
           keep : (a b l : Bool) → (b ≡ true → a ≡ true) → (l ≡ true → (a && not b) ≡ false) → (b && l) ≡ ((a && l) && true)
           keep true true true f h = refl
           keep true true false f h = refl
@@ -413,21 +401,9 @@ module _ (g : Graph) (s : Set) (is : IsGraph g) where
 -- a vertex that is left is not open, so that it makes the open set greater by one
 pub count_gained : (n : ℕ) (x x' : Set) (w : ℕ) → Within n w → x w ≡ false → ((v : ℕ) → x' v ≡ (x v || (w == v))) → count n x + 1 ≡ count n x'
 count_gained n x x' w i f gains = count_lost n x' x w i (gains w ∙ or_right (x w) (w == w) (eq-eqb w w refl)) (λ v. elim (cases_eq w v) [
-  | inl e ↦ ap x (sym e) ∙ f ∙ sym (rw (eq-eqb w v e) (no (x' v)))
-  | inr d ↦ sym (rw (ne_eqb w v d) (yes (x' v) ∙ gains v ∙ rw (ne_eqb w v d) (or_no (x v))))
+  | inl e ↦ ap x (sym e) ∙ f ∙ sym (rw (eq-eqb w v e) (and_false (x' v)))
+  | inr d ↦ sym (rw (ne_eqb w v d) (and_true (x' v) ∙ gains v ∙ rw (ne_eqb w v d) (or_false (x v))))
 ])
-  where
-    no : (b : Bool) → (b && false) ≡ false
-    no true = refl
-    no false = refl
-
-    yes : (b : Bool) → (b && true) ≡ b
-    yes true = refl
-    yes false = refl
-
-    or_no : (b : Bool) → (b || false) ≡ b
-    or_no true = refl
-    or_no false = refl
 
 -- the root goes with its component, so that less is left
 pub grown_less : (g : Graph) (x : Set) (r : ℕ) (left : Set) (parent depth : ℕ → ℕ) → IsGraph g → IsGrown g x r left parent depth → Within g.order r → x r ≡ true → count g.order left + 1 ≤ count g.order x

@@ -22,4 +22,7 @@ pub mod QuotientTight
 pub mod BlockSets
 pub mod MergedShores
 pub mod Adjacency
+pub mod Simplicity
+pub mod EndLists
 pub mod Rows
+pub mod Perfect

@@ -10,10 +10,9 @@ use Rattle.counting.specs.Tests.{some}
 use Rattle.graph_core.proofs.Walks.{has_ends-own}
 use Rattle.graph_core.proofs.Blocks.{contracted-graph}
 use Rattle.graph_core.proofs.Carrying.{carried_set, cut_carried, perfect_carried}
-use Rattle.graph_core.proofs.Edits.{HasEnds}
 use Rattle.graph_core.proofs.Quotients.{edge_of_pair, quotient_edge}
 use Rattle.graph_core.proofs.Walks.{has_ends-back}
-use Rattle.graph_core.specs.Graph.{Graph, IsGraph, first_end, has_ends, second_end, size}
+use Rattle.graph_core.specs.Graph.{Graph, IsGraph, first_end, has_ends, second_end, size, HasEnds}
 use Rattle.graph_core.specs.Partitions.{AreBlocks, contracted, place}
 use Rattle.graph_core.specs.Quotients.{quotient}
 use Rattle.graph_core.specs.Tight.{CutIsTight, IsTight}

@@ -1,6 +1,6 @@
 -- Graphs, their edges and cuts. Any textbook; differs in that a graph is a list of pairs and that loops are allowed,
 -- so that a contracted graph is a graph again. Edges keep their numbers, and parallel edges are different edges.
-use Rattle.std.specs.Prelude.{◌≡◌, ◌≢◌, ℕ, ◌+◌, ◌-◌, Bool, true, List, [], ◌∷◌, ◌++◌, length, ◌==◌, ◌&&◌, ◌||◌, not, slice_index_or}
+use Rattle.std.specs.Prelude.{◌≡◌, ◌≢◌, ℕ, ◌+◌, ◌-◌, Bool, true, List, [], ◌∷◌, ◌++◌, length, ◌==◌, ◌&&◌, ◌||◌, ◌⊎◌, not, slice_index_or}
 use Rattle.counting.specs.Counts.{count, Within}
 use Rattle.counting.specs.Sets.{Set}
 
@@ -38,7 +38,11 @@ pub record IsMultigraph (g : Graph) : Type 0 where
 abbrev pub with_edge : Graph → ℕ → ℕ → Graph
 with_edge g a b = record g { ends = g.ends ++ (a, b) ∷ [] }
 
--- edge e has the ends u and v
+-- edge e has the ends u and v, in one order or the other
+abbrev pub HasEnds : Graph → ℕ → ℕ → ℕ → Type 0
+HasEnds g e u v = ((first_end g e ≡ u) × (second_end g e ≡ v)) ⊎ ((first_end g e ≡ v) × (second_end g e ≡ u))
+
+-- the same as a test
 abbrev pub has_ends : Graph → ℕ → ℕ → ℕ → Bool
 has_ends g u v e = (first_end g e == u && second_end g e == v) || (first_end g e == v && second_end g e == u)
 

@@ -16,6 +16,8 @@ pub mod Tight
 pub mod Partitions
 pub mod Quotients
 pub mod Shores
+pub mod Simple
 pub mod Structure
 pub mod View
 pub mod Kinds
+pub mod Faults

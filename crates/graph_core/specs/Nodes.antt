@@ -2,6 +2,9 @@
 use Rattle.std.specs.Prelude.{◌≡◌, ℕ, ◌+◌, ◌-◌, ◌<◌, List, length, not, slice_index_or}
 use Rattle.counting.specs.Counts.{Within, is_odd}
 use Rattle.counting.specs.Sets.{Set}
+use Rattle.graph_core.specs.Components.{is_least}
+use Rattle.graph_core.specs.Graph.{Graph}
+use Rattle.graph_core.specs.Trees.{IsForest}
 use Rattle.graph_core.specs.declared.tree.TreeNode.{TreeNode}
 
 -- what is kept of v
@@ -23,4 +26,9 @@ is_even_at nodes v = not (is_odd (depth_at nodes v))
 -- each vertex below a root has a parent, which is one step less deep
 pub record IsRooted (nodes : List TreeNode) : Type 0 where
   pub within : (v : ℕ) → Within (length nodes) v → 0 < depth_at nodes v → Within (length nodes) (parent_at nodes v)
-  pub deeper : (v : ℕ) → Within (length nodes) v → 0 < depth_at nodes v → depth_at nodes v ≡ depth_at nodes (parent_at nodes v) + 1
+  pub deeper : (v : ℕ) → Within (length nodes) v → 0 < depth_at nodes v →
+      depth_at nodes v ≡ depth_at nodes (parent_at nodes v) + 1
+
+-- a search tree for each component of g without s, with its least vertex as the root
+abbrev pub AreTrees : Graph → Set → List TreeNode → Type 0
+AreTrees g s nodes = IsForest g s (is_least g s) (parent_at nodes) (depth_at nodes)

@@ -2,6 +2,7 @@
 ghost use Rattle.std.specs.Prelude.{◌≡◌};
 ghost use Rattle.graph_core.specs.Kinds.{kind_number};
 
+use std::alloc::AllocError;
 use thiserror::Error;
 
 /// Why an edge was not added. The graph is then unchanged.
@@ -73,4 +74,15 @@ pub enum TextFault {
     At { line: u32, kind: FaultKind },
     #[error("out of memory")]
     Memory,
+}
+
+/// Want of memory, for `?` in a reader.
+impl From<AllocError> for TextFault {
+    ghost use Rattle.graph_core.specs.declared.faults.TextFault.TheVariants.{Memory};
+
+    ghost from_gives = { λ _ fault. fault ≡ Memory };
+
+    fn from(_want: AllocError) -> TextFault {
+        TextFault::Memory
+    }
 }

@@ -7,6 +7,7 @@ ghost use Rattle.graph_core.specs.Components.{component_count, components};
 ghost use Rattle.graph_core.specs.Graph.{IsBipartite, size, first_end, second_end, with_edge};
 ghost use Rattle.graph_core.specs.Sides.{AreSides, IsEven};
 ghost use Rattle.graph_core.specs.Walks.{adjacent};
+ghost use Rattle.graph_core.specs.View.{graph_of, IsWithinLimits};
 
 use crate::search::grow_forest;
 use crate::sides::sides_by_depth;
@@ -38,6 +39,8 @@ impl Model for MultiGraph {
 }
 
 impl MultiGraph {
+    ghost use Rattle.graph_core.specs.View.{IsWithinLimits};
+
     /// The graph of `n` vertices without edges.
     pub fn new(alloc: Global, n: u32) -> Result<MultiGraph, Memory>
         requires { n ≤ MOST_VERTICES }
@@ -49,16 +52,26 @@ impl MultiGraph {
         })
     }
 
+    /// The law that the graph is a multigraph within the limits of size. It does nothing: a caller states it where it needs it.
+    pub fn keeps_limits(&self)
+        ensures { IsWithinLimits self.now }
+    {
+        let _ = &self.order;
+    }
+
     /// The number of vertices. Takes no memory.
     pub fn order(&self) -> u32
-        ensures { result ≡ self.now.order }
+        ensures is { result ≡ self.now.order }
+        ensures few { result ≤ MOST_VERTICES }
+        ensures limits { IsWithinLimits self.now }
     {
         self.order
     }
 
     /// The number of edges. Takes no memory.
     pub fn size(&self) -> u32
-        ensures { result ≡ size self.now }
+        ensures is { result ≡ size self.now }
+        ensures few { result ≤ MOST_EDGES }
     {
         self.edges.len() as u32
     }
@@ -68,6 +81,8 @@ impl MultiGraph {
         requires { Within (size self.now) e }
         ensures first { result.a ≡ first_end self.now e }
         ensures second { result.b ≡ second_end self.now e }
+        ensures vertices { Within self.now.order result.a × Within self.now.order result.b }
+        ensures different { result.a ≢ result.b }
     {
         self.edges[e as usize - 1]
     }
@@ -97,14 +112,22 @@ impl MultiGraph {
         Ok(forest.parts)
     }
 
-    /// Whether the graph is bipartite, with a witness: `Even` comes exactly where it is, with the left side, which holds the least
-    /// vertex of each component, and `Odd` exactly where it is not, with a closed walk of odd length (König 1916).
+    /// Whether the graph is bipartite, with what shows it: `Even` comes exactly where it is, with the left side, which holds the
+    /// least vertex of each component, and `Odd` exactly where it is not, with a closed walk of odd length (König 1916).
     pub fn two_sides(&self, alloc: Global) -> Result<Sides, Memory>
         ensures even { IfOk result (λ sides. IsEven sides ↔ IsBipartite self.now) }
         ensures sides { IfOk result (AreSides self.now) }
     {
         let forest = grow_forest(alloc, self.order, &self.edges, VSet::empty())?;
         sides_by_depth(alloc, &self.edges, &forest.nodes)
+    }
+
+    /// The ends of all edges, in the order of their numbers. Takes no memory.
+    pub fn edges(&self) -> &[Ends]
+        ensures edges { graph_of self.now.order result.now ≡ self.now }
+        ensures limits { IsWithinLimits self.now }
+    {
+        &self.edges
     }
 
     /// Appends an edge and answers its number. `Range` comes exactly where an end is no vertex, `Loop` exactly where both

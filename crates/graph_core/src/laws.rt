@@ -6,6 +6,7 @@ ghost use Rattle.counting.specs.Lists.{mem, IsRisingIn};
 ghost use Rattle.graph_core.specs.Graph.{Graph, size, IsGraph, IsMultigraph, in_cut, inside, connects, edges_in_cut};
 ghost use Rattle.graph_core.specs.Matchings.{IsPerfect, IsMatching, ShareNoEnd, HasPerfect, has_perfect, missed_count};
 ghost use Rattle.graph_core.specs.Walks.{Joined, joined};
+ghost use Rattle.graph_core.specs.Sides.{IsLeftSide};
 ghost use Rattle.graph_core.specs.Components.{odd_component_count};
 ghost use Rattle.graph_core.specs.Covered.{IsCovered};
 ghost use Rattle.graph_core.specs.Partitions.{AreBlocks, IsPartition, contracted, merged, singles};
@@ -28,6 +29,11 @@ pub fn parity_law()
 /// The test `joined` says that a walk leads from one vertex to the other.
 pub fn walk_law()
     ensures { (g : Graph) (s : Set) (u v : ℕ) → IsGraph g → Within g.order u → ((joined g s u v ≡ true) ↔ Joined g s u v) }
+{}
+
+/// A graph has at most one left side: the least vertex of each component fixes the side of each vertex.
+pub fn left_side_law()
+    ensures { (g : Graph) (xs ys : List ℕ) → IsGraph g → IsLeftSide g xs → IsLeftSide g ys → xs ≡ ys }
 {}
 
 /// The test `has_perfect` says that there is a perfect matching.

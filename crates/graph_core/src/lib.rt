@@ -9,6 +9,7 @@ mod numbers;
 mod search;
 mod set_list;
 mod sides;
+mod simple;
 mod tree;
 mod verdict;
 
@@ -16,8 +17,8 @@ pub use ends::Ends;
 pub use faults::{AddFault, FaultKind, TextFault};
 pub use graph::{MOST_EDGES, MultiGraph};
 pub use laws::{
-    complement_law, contraction_law, matching_law, merge_law, parity_law, perfect_matching_law,
-    quotient_law, uncrossing_law, walk_law, weak_duality_law,
+    complement_law, contraction_law, left_side_law, matching_law, merge_law, parity_law,
+    perfect_matching_law, quotient_law, uncrossing_law, walk_law, weak_duality_law,
 };
 pub use numbers::Numbers;
 pub use set_list::SetList;

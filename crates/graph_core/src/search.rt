@@ -2,12 +2,11 @@
 ghost use Rattle.std.specs.Prelude.{◌≡◌, ◌≢◌, ◌≤◌, ◌<◌, ◌+◌, ◌^◌, ◌==◌, ◌&&◌, ◌||◌, ℕ, true, false, [], All, IfOk, OnOk, length};
 ghost use Rattle.counting.specs.Counts.{Within};
 ghost use Rattle.counting.specs.Lists.{mem, item};
-ghost use Rattle.graph_core.specs.Components.{components, is_least};
+ghost use Rattle.graph_core.specs.Components.{components};
 ghost use Rattle.graph_core.specs.Graph.{Graph, IsGraph};
 ghost use Rattle.graph_core.specs.Growth.{IsGrown};
-ghost use Rattle.graph_core.specs.Nodes.{node_at, parent_at, depth_at};
+ghost use Rattle.graph_core.specs.Nodes.{node_at, parent_at, depth_at, AreTrees};
 ghost use Rattle.graph_core.specs.Rows.{AreRows};
-ghost use Rattle.graph_core.specs.Trees.{IsForest};
 ghost use Rattle.graph_core.specs.View.{graph_of};
 
 use crate::tree::TreeNode;
@@ -19,7 +18,8 @@ use vset_core::{MOST_VERTICES, VSet};
 fn add_neighbour(rows: &mut [VSet], v: u32, w: u32)
     requires first { Within (length rows.old) v }
     requires second { Within MOST_VERTICES w }
-    ensures { (u x : ℕ) → Within (length rows.old) u → mem (item rows.new u) x ≡ (mem (item rows.old u) x || (v == u && w == x)) }
+    ensures { (u x : ℕ) → Within (length rows.old) u →
+        mem (item rows.new u) x ≡ (mem (item rows.old u) x || (v == u && w == x)) }
 {
     let i = v as usize - 1;
     rows[i] = rows[i].with(w);
@@ -81,8 +81,10 @@ fn grow(rows: &[VSet], nodes: &mut [TreeNode], within: VSet, root: u32) -> VSet
     requires nodes { length nodes.old ≡ length rows.now }
     requires vertices { (v : ℕ) → mem within v ≡ true → Within (length rows.now) v }
     requires root { mem within root ≡ true }
-    ensures grown { (g : Graph) → IsGraph g → AreRows g rows.now → IsGrown g (mem within) root (mem result) (parent_at nodes.new) (depth_at nodes.new) }
-    ensures kept { (v : ℕ) → Within (length rows.now) v → mem within v ≡ false → node_at nodes.new v ≡ node_at nodes.old v }
+    ensures grown { (g : Graph) → IsGraph g → AreRows g rows.now →
+        IsGrown g (mem within) root (mem result) (parent_at nodes.new) (depth_at nodes.new) }
+    ensures kept { (v : ℕ) → Within (length rows.now) v → mem within v ≡ false →
+        node_at nodes.new v ≡ node_at nodes.old v }
 {
     plant(nodes, root);
     let mut left = within.without(root);
@@ -100,8 +102,8 @@ fn grow(rows: &[VSet], nodes: &mut [TreeNode], within: VSet, root: u32) -> VSet
     left
 }
 
-/// The components of the graph without `removed`, by least vertex. Writes for each vertex outside `removed` its place in the search tree
-/// of its component.
+/// The components of the graph without `removed`, by least vertex. Writes for each vertex outside `removed` its place in the
+/// search tree of its component.
 fn search(
     alloc: Global,
     rows: &[VSet],
@@ -112,7 +114,7 @@ fn search(
     requires graph { (g : Graph) × IsGraph g × AreRows g rows.now }
     requires nodes { length nodes.old ≡ length rows.now }
     ensures parts { IfOk result (λ parts. (g : Graph) → IsGraph g → AreRows g rows.now → parts ≡ components g (mem removed)) }
-    ensures trees { OnOk result ((g : Graph) → IsGraph g → AreRows g rows.now → IsForest g (mem removed) (is_least g (mem removed)) (parent_at nodes.new) (depth_at nodes.new)) }
+    ensures trees { OnOk result ((g : Graph) → IsGraph g → AreRows g rows.now → AreTrees g (mem removed) nodes.new) }
 {
     let mut parts = SetList::new(alloc);
     let mut left = VSet::full(rows.len() as u32).minus(removed);
@@ -144,7 +146,7 @@ pub(crate) fn grow_forest(
     requires graph { IsGraph (graph_of n edges.now) }
     ensures parts { IfOk result (λ forest. forest.parts ≡ components (graph_of n edges.now) (mem removed)) }
     ensures each { IfOk result (λ forest. length forest.nodes.items ≡ n) }
-    ensures trees { IfOk result (λ forest. IsForest (graph_of n edges.now) (mem removed) (is_least (graph_of n edges.now) (mem removed)) (parent_at forest.nodes.items) (depth_at forest.nodes.items)) }
+    ensures trees { IfOk result (λ forest. AreTrees (graph_of n edges.now) (mem removed) forest.nodes.items) }
 {
     let rows = neighbours(alloc, n, edges)?;
     let unplaced = TreeNode {

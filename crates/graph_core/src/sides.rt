@@ -2,11 +2,10 @@
 ghost use Rattle.std.specs.Prelude.{◌≡◌, ◌≤◌, ◌++◌, ◌∷◌, ◌↔◌, not, All, Contains, IfOk, IfSome, IfNone, length};
 ghost use Rattle.counting.specs.Counts.{Within, is_odd};
 ghost use Rattle.counting.specs.Sets.{none};
-ghost use Rattle.graph_core.specs.Components.{is_least};
 ghost use Rattle.graph_core.specs.Graph.{IsBipartite, IsGraph};
-ghost use Rattle.graph_core.specs.Nodes.{parent_at, depth_at, IsRooted};
+ghost use Rattle.graph_core.specs.Nodes.{parent_at, depth_at, AreTrees, IsRooted};
 ghost use Rattle.graph_core.specs.Sides.{AreSides, IsEven};
-ghost use Rattle.graph_core.specs.Trees.{IsForest, way_up, way_down};
+ghost use Rattle.graph_core.specs.Trees.{way_up, way_down};
 ghost use Rattle.graph_core.specs.View.{graph_of};
 
 use crate::tree::{TreeNode, climb, descend, even_vertices};
@@ -26,8 +25,10 @@ pub enum Sides {
 /// The first edge whose ends lie at depths of one parity.
 fn level_edge(edges: &[Ends], nodes: &[TreeNode]) -> Option<Ends>
     requires { IsGraph (graph_of (length nodes.now) edges.now) }
-    ensures found { IfSome result (λ edge. Contains edges.now edge × (is_odd (depth_at nodes.now edge.a) ≡ is_odd (depth_at nodes.now edge.b))) }
-    ensures none { IfNone result (All (λ edge. is_odd (depth_at nodes.now edge.a) ≡ not (is_odd (depth_at nodes.now edge.b))) edges.now) }
+    ensures found { IfSome result (λ edge. Contains edges.now edge ×
+        (is_odd (depth_at nodes.now edge.a) ≡ is_odd (depth_at nodes.now edge.b))) }
+    ensures none { IfNone result (All (λ edge.
+        is_odd (depth_at nodes.now edge.a) ≡ not (is_odd (depth_at nodes.now edge.b))) edges.now) }
 {
     for edge in edges {
         let first = nodes[edge.a as usize - 1];
@@ -44,7 +45,8 @@ fn walk_over_root(alloc: Global, nodes: &[TreeNode], a: u32, b: u32) -> Result<N
     requires rooted { IsRooted nodes.now }
     requires first { Within (length nodes.now) a }
     requires second { Within (length nodes.now) b }
-    ensures { IfOk result (λ walk. walk ≡ a ∷ (way_up (parent_at nodes.now) (depth_at nodes.now a) a ++ way_down (parent_at nodes.now) (depth_at nodes.now b) b)) }
+    ensures { IfOk result (λ walk.
+        walk ≡ a ∷ (way_up (parent_at nodes.now) (depth_at nodes.now a) a ++ way_down (parent_at nodes.now) (depth_at nodes.now b) b)) }
 {
     let mut walk = Numbers::new(alloc);
     walk.push(a)?;
@@ -61,7 +63,7 @@ pub(crate) fn sides_by_depth(
 ) -> Result<Sides, Memory>
     requires few { length nodes.now ≤ MOST_VERTICES }
     requires graph { IsGraph (graph_of (length nodes.now) edges.now) }
-    requires trees { IsForest (graph_of (length nodes.now) edges.now) none (is_least (graph_of (length nodes.now) edges.now) none) (parent_at nodes.now) (depth_at nodes.now) }
+    requires trees { AreTrees (graph_of (length nodes.now) edges.now) none nodes.now }
     ensures even { IfOk result (λ sides. IsEven sides ↔ IsBipartite (graph_of (length nodes.now) edges.now)) }
     ensures sides { IfOk result (AreSides (graph_of (length nodes.now) edges.now)) }
 {

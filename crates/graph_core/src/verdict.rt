@@ -2,7 +2,7 @@
 use vset_core::VSet;
 
 /// Why a graph is not matching covered: the first reason that applies, in this order.
-#[derive(Clone, Copy)]
+#[derive(Clone, Copy, PartialEq, Eq)]
 pub enum Reason {
     /// There are fewer than two vertices.
     Small,
@@ -15,7 +15,7 @@ pub enum Reason {
 }
 
 /// Whether a graph is matching covered (Lovász and Plummer, "Matching Theory", chapter 5).
-#[derive(Clone, Copy)]
+#[derive(Clone, Copy, PartialEq, Eq)]
 pub enum Verdict {
     /// It is: it has at least two vertices and is connected, and each edge is in a perfect matching.
     Covered,
@@ -24,7 +24,7 @@ pub enum Verdict {
 }
 
 /// The kind of a matching covered graph (Lovász 1987).
-#[derive(Clone, Copy)]
+#[derive(Clone, Copy, PartialEq, Eq)]
 pub enum Kind {
     /// Bipartite, without a nontrivial tight cut.
     Brace,

@@ -8,9 +8,9 @@ use Rattle.counting.proofs.Counts.{bit_true, count_congr, count_le_one}
 use Rattle.counting.proofs.Totals.{some_term, total_add, total_congr, total_le, two_le_total}
 use Rattle.counting.specs.Counts.{Within, bit, count, total}
 use Rattle.counting.specs.Sets.{Set, put}
-use Rattle.graph_core.proofs.Edits.{HasEnds, add_edge, bit_other, bit_same, degree_put, edge_at, edge_of, ends_le_degree, ends_of, ends_of_is, missed_edges, shared, shared_le, shared_put, two_ends_le_degree}
+use Rattle.graph_core.proofs.Edits.{add_edge, bit_other, bit_same, degree_put, edge_at, edge_of, ends_le_degree, ends_of, ends_of_is, missed_edges, shared, shared_le, shared_put, two_ends_le_degree}
 use Rattle.graph_core.proofs.Walks.{adjacent-edge, adjacent_within}
-use Rattle.graph_core.specs.Graph.{Graph, IsGraph, degree, size}
+use Rattle.graph_core.specs.Graph.{Graph, IsGraph, degree, size, HasEnds}
 use Rattle.graph_core.specs.Matchings.{IsMaximum, missed_count}
 use Rattle.graph_core.specs.Walks.{Walk, adjacent}
 

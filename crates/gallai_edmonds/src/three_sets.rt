@@ -1,0 +1,37 @@
+//! The three sets.
+ghost use Rattle.std.specs.Prelude.{◌≡◌, ◌≤◌, IfOk};
+ghost use Rattle.counting.specs.Lists.{Lists};
+ghost use Rattle.graph_core.specs.GallaiEdmonds.{InD, InA, InC};
+
+use graph_core::MultiGraph;
+use match_core::frame;
+use std::alloc::{AllocError as Memory, Global};
+use vset_core::VSet;
+
+/// The Gallai-Edmonds sets: no vertex is in two of them, and each is in one.
+#[derive(Clone, Copy)]
+pub struct ThreeSets {
+    /// The vertices that some maximum matching misses.
+    pub d: VSet,
+    /// The vertices outside `d` that are adjacent to one of it.
+    pub a: VSet,
+    /// The rest.
+    pub c: VSet,
+}
+
+/// The Gallai-Edmonds sets of `g`.
+pub fn sets(alloc: Global, g: &MultiGraph) -> Result<ThreeSets, Memory>
+    ensures d { IfOk result (λ s. Lists g.now.order s.d (InD g.now)) }
+    ensures a { IfOk result (λ s. Lists g.now.order s.a (InA g.now)) }
+    ensures c { IfOk result (λ s. Lists g.now.order s.c (InC g.now)) }
+{
+    let frame = frame(alloc, g)?;
+    let met = frame.outer.union(frame.inner);
+    let rest = VSet::full(g.order()).minus(met);
+    rest.rises();
+    Ok(ThreeSets {
+        d: frame.outer,
+        a: frame.inner,
+        c: rest,
+    })
+}

@@ -1,0 +1,30 @@
+-- The pairs whose bit is set, in order. Idea: induction on the pairs and their bits together.
+use Rattle.std.proofs.Common.{◌≡◌, ℕ, Bool, true, false, List, [], ◌∷◌, ◌++◌, length, map, refl, sym, ap, ap₂, ◌∙◌, arith, ◌⊎◌, inl, inr}
+use Rattle.std.proofs.lemmas.List.{append-nil, nil_from_length, length-map}
+use Rattle.graph_core.specs.Graph.{Graph}
+use Rattle.graph_core.specs.View.{pair_of}
+use Rattle.graph_core.specs.declared.ends.Ends.{Ends}
+use Rattle.graph6_text.specs.Pairs.{chosen}
+
+chosen-no_bits : (pairs : List (ℕ × ℕ)) → chosen pairs [] ≡ []
+chosen-no_bits [] = refl
+chosen-no_bits (pair ∷ pairs) = refl
+
+-- the loop over pairs and bits: where one of them has come to its end, all edges are there
+pub edges_all : (g : Graph) (n : ℕ) (rest : List Ends) (bits : List Bool) (edges : List (ℕ × ℕ)) → g.order ≡ n → g.ends ++ chosen (map pair_of rest) bits ≡ edges →
+    (length rest ≡ 0) ⊎ (length bits ≡ 0) → g ≡ record { order = n; ends = edges }
+edges_all g n rest bits edges order ends stop =
+    let none : chosen (map pair_of rest) bits ≡ [] = elim stop [
+      | inl h ↦ ap (λ (xs : List (ℕ × ℕ)). chosen xs bits) (nil_from_length (map pair_of rest) (length-map rest pair_of ∙ h))
+      | inr h ↦ ap (chosen (map pair_of rest)) (nil_from_length bits h) ∙ chosen-no_bits (map pair_of rest)
+    ] in
+    let same : g.ends ≡ edges = sym (append-nil g.ends) ∙ ap (λ (xs : List (ℕ × ℕ)). g.ends ++ xs) (sym none) ∙ ends in
+    let make : ℕ → List (ℕ × ℕ) → Graph = λ k es. record { order = k; ends = es } in
+    ap₂ make order same
+
+-- bits behind those of the pairs choose nothing
+pub chosen-filled : (pairs : List (ℕ × ℕ)) (bits filling : List Bool) → length bits ≡ length pairs → chosen pairs (bits ++ filling) ≡ chosen pairs bits
+chosen-filled [] bits filling h = refl
+chosen-filled (pair ∷ pairs) [] filling h = absurd (omega arith)
+chosen-filled (pair ∷ pairs) (true ∷ bits) filling h = ap (λ (xs : List (ℕ × ℕ)). pair ∷ xs) (chosen-filled pairs bits filling (omega arith))
+chosen-filled (pair ∷ pairs) (false ∷ bits) filling h = chosen-filled pairs bits filling (omega arith)

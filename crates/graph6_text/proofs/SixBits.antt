@@ -1,0 +1,102 @@
+-- Six bits and a digit below 64 determine each other, and so do bits and the bytes that write them, six bits in each. Idea:
+-- the weights halve, so that a digit's quotients by them are known one after the other; then by induction in steps of six.
+use Rattle.std.proofs.Common.{◌≡◌, ℕ, ◌+◌, ◌*◌, ◌<◌, ◌≤◌, Bool, true, false, cond, List, [], ◌∷◌, ◌++◌, length, take, drop, get_or, refl, sym, ap, ap₂, ◌∙◌, arith, inl, inr, min}
+use Rattle.std.proofs.lemmas.List.{drop_more, append_assoc, append-nil, length-append, take_at, drop_at, take_all, drop_all, nil_from_length}
+use Rattle.std.proofs.lemmas.Bool.{cases_lt}
+use Rattle.graph6_text.specs.Digits.{byte_of, digit_of, weights, bits_of_digit, weight_of, digit_of_bits, bits_of, bytes_of}
+
+weight_of-nil : (ws : List ℕ) → weight_of ws [] ≡ 0
+weight_of-nil [] = refl
+weight_of-nil (w ∷ ws) = refl
+
+-- the weight of the bits from place i on, with the bit at place i first
+weight_of-drop : (ws : List ℕ) (bits : List Bool) (i : ℕ) → i < length ws → i < length bits → weight_of (drop i ws) (drop i bits) ≡ cond (get_or bits i false) (get_or ws i 0) 0 + weight_of (drop (i + 1) ws) (drop (i + 1) bits)
+weight_of-drop ws bits i h k = rw (drop_more ws i 0 h, drop_more bits i false k) refl
+
+-- all weights together
+abbrev whole : List ℕ → ℕ
+whole [] = 0
+whole (w ∷ ws) = w + whole ws
+
+weight_of-le : (ws : List ℕ) (bits : List Bool) → weight_of ws bits ≤ whole ws
+weight_of-le [] bits = omega arith
+weight_of-le (w ∷ ws) [] = omega arith
+weight_of-le (w ∷ ws) (true ∷ bits) = let h = weight_of-le ws bits in omega arith
+weight_of-le (w ∷ ws) (false ∷ bits) = let h = weight_of-le ws bits in omega arith
+
+pub digit_of_bits-lt : (bits : List Bool) → digit_of_bits bits < 64
+digit_of_bits-lt bits = let h = weight_of-le weights bits in omega arith
+
+-- the loop over the bits of a digit: one bit more, and the end
+pub weighed_more : (bits : List Bool) (i digit more : ℕ) → i < length bits → length bits ≤ 6 → digit + weight_of (drop i weights) (drop i bits) ≡ digit_of_bits bits →
+    more ≡ digit + cond (get_or bits i false) (get_or weights i 0) 0 → more + weight_of (drop (i + 1) weights) (drop (i + 1) bits) ≡ digit_of_bits bits
+weighed_more bits i digit more h k inv e = let s = weight_of-drop weights bits i (omega arith) h in omega arith
+
+pub weighed_all : (bits : List Bool) (i digit : ℕ) → length bits ≤ i → digit + weight_of (drop i weights) (drop i bits) ≡ digit_of_bits bits → digit ≡ digit_of_bits bits
+weighed_all bits i digit h inv =
+    let e : weight_of (drop i weights) (drop i bits) ≡ 0 = rw (drop_all i bits h) (weight_of-nil (drop i weights)) in omega arith
+
+-- the loop over bytes that are turned into bits
+pub bits_of-nil : bits_of [] ≡ []
+unfolding bits_of
+bits_of-nil = refl
+
+pub bits_of-cons : (byte : ℕ) (bytes : List ℕ) → bits_of (byte ∷ bytes) ≡ bits_of_digit (digit_of byte) ++ bits_of bytes
+unfolding bits_of
+bits_of-cons byte bytes = refl
+
+pub turned_more : (bytes : List ℕ) (i : ℕ) (front more : List Bool) → i < length bytes → front ++ bits_of (drop i bytes) ≡ bits_of bytes →
+    more ≡ front ++ bits_of_digit (digit_of (get_or bytes i 0)) → more ++ bits_of (drop (i + 1) bytes) ≡ bits_of bytes
+turned_more bytes i front more h inv e =
+    ap (λ (xs : List Bool). xs ++ bits_of (drop (i + 1) bytes)) e
+    ∙ append_assoc front (bits_of_digit (digit_of (get_or bytes i 0))) (bits_of (drop (i + 1) bytes))
+    ∙ ap (λ (xs : List Bool). front ++ xs) (sym (ap bits_of (drop_more bytes i 0 h) ∙ bits_of-cons (get_or bytes i 0) (drop (i + 1) bytes)))
+    ∙ inv
+
+pub turned_all : (bytes : List ℕ) (i : ℕ) (front : List Bool) → length bytes ≤ i → front ++ bits_of (drop i bytes) ≡ bits_of bytes → front ≡ bits_of bytes
+turned_all bytes i front h inv = sym (append-nil front) ∙ ap (λ (xs : List Bool). front ++ xs) (sym (ap bits_of (drop_all i bytes h) ∙ bits_of-nil)) ∙ inv
+
+-- the first byte of bits, and the others
+bytes_of-step : (bits : List Bool) → 0 < length bits → bytes_of bits ≡ byte_of (digit_of_bits (take 6 bits)) ∷ bytes_of (drop 6 bits)
+unfolding bytes_of
+bytes_of-step [] h = absurd (omega arith)
+bytes_of-step (a ∷ []) h = refl
+bytes_of-step (a ∷ b ∷ []) h = refl
+bytes_of-step (a ∷ b ∷ c ∷ []) h = refl
+bytes_of-step (a ∷ b ∷ c ∷ d ∷ []) h = refl
+bytes_of-step (a ∷ b ∷ c ∷ d ∷ e ∷ []) h = refl
+bytes_of-step (a ∷ b ∷ c ∷ d ∷ e ∷ f ∷ bits) h = refl
+
+pub bytes_of-nil : bytes_of [] ≡ []
+unfolding bytes_of
+bytes_of-nil = refl
+
+-- the loop over bits that are turned into bytes, six by six
+pub packed_more : (bits rest six others : List Bool) (front more : List ℕ) (size digit : ℕ) → rest ≡ six ++ others → size ≡ 6 → length six ≡ min size (length rest) → 0 < length rest →
+    front ++ bytes_of rest ≡ bytes_of bits → digit ≡ digit_of_bits six → more ≡ front ++ byte_of digit ∷ [] → more ++ bytes_of others ≡ bytes_of bits
+packed_more bits rest six others front more size digit cut is_six least some inv d e =
+    let long : length rest ≡ length six + length others = ap length cut ∙ length-append six others in
+    let first : take 6 rest ≡ six = elim (cases_lt (length rest) 6) [
+      | inl l ↦ take_all 6 rest (omega arith) ∙ cut ∙ ap (λ (xs : List Bool). six ++ xs) (nil_from_length others (omega arith)) ∙ append-nil six
+      | inr l ↦ ap (take 6) cut ∙ take_at six others 6 (omega arith)
+    ] in
+    let behind : drop 6 rest ≡ others = elim (cases_lt (length rest) 6) [
+      | inl l ↦ drop_all 6 rest (omega arith) ∙ sym (nil_from_length others (omega arith))
+      | inr l ↦ ap (drop 6) cut ∙ drop_at six others 6 (omega arith)
+    ] in
+    let split : bytes_of rest ≡ byte_of digit ∷ bytes_of others =
+    bytes_of-step rest some ∙ ap₂ (λ (x : List Bool) (y : List Bool). byte_of (digit_of_bits x) ∷ bytes_of y) first behind
+    ∙ ap (λ (x : ℕ). byte_of x ∷ bytes_of others) (sym d) in
+    ap (λ (xs : List ℕ). xs ++ bytes_of others) e ∙ append_assoc front (byte_of digit ∷ []) (bytes_of others)
+    ∙ ap (λ (xs : List ℕ). front ++ xs) (sym split) ∙ inv
+
+pub packed_all : (bits rest : List Bool) (front : List ℕ) → length rest ≡ 0 → front ++ bytes_of rest ≡ bytes_of bits → front ≡ bytes_of bits
+packed_all bits rest front h inv = sym (append-nil front) ∙ ap (λ (xs : List ℕ). front ++ xs) (sym (ap bytes_of (nil_from_length rest h) ∙ bytes_of-nil)) ∙ inv
+
+-- six bits for each byte
+pub length-bits_of : (bytes : List ℕ) → length (bits_of bytes) ≡ 6 * length bytes
+length-bits_of [] = ap length bits_of-nil
+length-bits_of (byte ∷ bytes) = let h = length-bits_of bytes in
+    let e : length (bits_of (byte ∷ bytes)) ≡ length (bits_of_digit (digit_of byte)) + length (bits_of bytes) =
+    ap length (bits_of-cons byte bytes) ∙ length-append (bits_of_digit (digit_of byte)) (bits_of bytes) in
+    let six : length (bits_of_digit (digit_of byte)) ≡ 6 = refl in omega arith

@@ -1,0 +1,7 @@
+use Rattle.std.proofs.Common.{◌≡◌, ◌-◌, ◌++◌, map}
+use Rattle.graph_core.specs.View.{pair_of}
+use Rattle.graph6_text.specs.Pairs.{column}
+use Rattle.graph6_text.proofs.pairs.push_column.Given as goal
+
+abbrev pub invariant-loop-a : goal.invariant-loop-a
+invariant-loop-a l = map pair_of l.pairs.items ≡ map pair_of l.initial.pairs.items ++ column (l.a - 1) l.b

@@ -1,0 +1,66 @@
+use Rattle.std.proofs.Common.{◌≡◌, ◌∙◌, length, map, ap, arith, subst, None}
+use Rattle.std.proofs.lemmas.List.{length-map}
+use Rattle.std.proofs.lemmas.Result.{err_from_is_err_and, IfOk-weaker, IfErr-weaker, on_ok_weaker}
+use Rattle.graph_core.specs.View.{pair_of}
+use Rattle.graph6_text.specs.Digits.{bits_of}
+use Rattle.graph6_text.specs.Pairs.{chosen, column_pairs}
+use Rattle.graph6_text.specs.Checks.{IsFirstFault, limit_row}
+use Rattle.graph6_text.specs.Reading.{first_fault}
+use Rattle.graph6_text.proofs.Passing.{formed, digits-data, enough_bits, padding_row, last_rows, graph-from_bits, is_first-front, is_first-behind, first_fault-append}
+use Rattle.graph6_text.proofs.read.to_graph.Goals as goal
+
+pub to_bits-requires : goal.to_bits-requires
+to_bits-requires c = let d = digits-data c.args.body.now (formed c.args.body.now c.requires) in rw (c.data.ensures) d
+
+pub check_filling-requires : goal.check_filling-requires
+check_filling-requires c =
+    let enough = enough_bits c.args.body.now (formed c.args.body.now c.requires) in
+    let pairs = ap length (c.in_ok-pairs.ensures ∙ ap column_pairs c.order-n.ensures) in
+    let many = length-map c.in_ok-pairs.pairs.items pair_of in
+    let bits = ap length (c.deref.ensures.value ∙ c.in_ok-bits.ensures ∙ ap bits_of c.data.ensures) in
+    omega arith
+
+pub returns-in_err-check_filling-clause-fault : goal.returns-in_err-check_filling-clause-fault
+returns-in_err-check_filling-clause-fault c =
+    let p = err_from_is_err_and c.from_residual-in_err-check_filling.result c.from_residual-in_err-check_filling.ensures.1 in
+    let bits = c.in_ok-bits.ensures ∙ ap bits_of c.data.ensures in
+    let many = length-map c.in_ok-pairs.pairs.items pair_of in
+    let edges = chosen (map pair_of c.in_ok-pairs.pairs.items) c.in_ok-bits.bits.items in
+    rw (p.1, p.2) (subst (λ rows. IsFirstFault rows c.in_err-check_filling.field-0.0)
+    (last_rows c.args.body.now c.order-n.result c.len.result (map pair_of c.in_ok-pairs.pairs.items) c.deref.result.now c.in_ok-bits.bits.items
+    c.order-n.ensures c.in_ok-pairs.ensures (omega arith) (c.deref.ensures.value ∙ bits) bits)
+    (is_first-front (padding_row c.len.result c.deref.result.now) (limit_row edges) c.in_err-check_filling.field-0.0 c.in_err-check_filling.ensures))
+
+pub returns-clause-graph : goal.returns-clause-graph
+returns-clause-graph c =
+    let pairs = ap (map pair_of) c.deref-2.ensures.value ∙ c.in_ok-pairs.ensures in
+    let bits = c.deref-3.ensures.value ∙ c.in_ok-bits.ensures ∙ ap bits_of c.data.ensures in
+    IfOk-weaker c.with_edges.result _ _
+    (λ g e. e ∙ graph-from_bits c.args.body.now c.order-n.result (map pair_of c.deref-2.result.now) c.deref-3.result.now c.order-n.ensures pairs bits)
+    c.with_edges.ensures.graph
+
+pub returns-clause-passed : goal.returns-clause-passed
+returns-clause-passed c =
+    let pairs = ap (map pair_of) c.deref-2.ensures.value ∙ c.in_ok-pairs.ensures in
+    let turned = c.in_ok-bits.ensures ∙ ap bits_of c.data.ensures in
+    let same = ap length c.deref-2.ensures.value in
+    let many = length-map c.deref-2.result.now pair_of in
+    let edges = chosen (map pair_of c.deref-2.result.now) c.deref-3.result.now in
+    on_ok_weaker c.with_edges.result (λ none. subst (λ rows. first_fault rows ≡ None)
+    (last_rows c.args.body.now c.order-n.result c.len.result (map pair_of c.deref-2.result.now) c.deref.result.now c.deref-3.result.now
+    c.order-n.ensures pairs (omega arith) (c.deref.ensures.value ∙ turned) (c.deref-3.ensures.value ∙ turned))
+    (first_fault-append (padding_row c.len.result c.deref.result.now) (limit_row edges) c.in_ok-check_filling.ensures ∙ none))
+    c.with_edges.ensures.within
+
+pub returns-clause-fault : goal.returns-clause-fault
+returns-clause-fault c =
+    let pairs = ap (map pair_of) c.deref-2.ensures.value ∙ c.in_ok-pairs.ensures in
+    let turned = c.in_ok-bits.ensures ∙ ap bits_of c.data.ensures in
+    let same = ap length c.deref-2.ensures.value in
+    let many = length-map c.deref-2.result.now pair_of in
+    let edges = chosen (map pair_of c.deref-2.result.now) c.deref-3.result.now in
+    IfErr-weaker c.with_edges.result _ _ (λ e h. subst (λ rows. IsFirstFault rows e)
+    (last_rows c.args.body.now c.order-n.result c.len.result (map pair_of c.deref-2.result.now) c.deref.result.now c.deref-3.result.now
+    c.order-n.ensures pairs (omega arith) (c.deref.ensures.value ∙ turned) (c.deref-3.ensures.value ∙ turned))
+    (is_first-behind (padding_row c.len.result c.deref.result.now) (limit_row edges) e c.in_ok-check_filling.ensures h))
+    c.with_edges.ensures.limit

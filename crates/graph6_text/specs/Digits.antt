@@ -1,0 +1,43 @@
+-- Digits of six bits, and the bytes that write them (B. D. McKay, "Description of graph6, sparse6 and digraph6 encodings").
+use Rattle.std.specs.Prelude.{ℕ, ◌+◌, ◌-◌, ◌/◌, ◌%◌, ◌==◌, ◌&&◌, nat_le, Bool, if◌then◌else◌, List, [], ◌∷◌, map}
+use Rattle.std.specs.List.{flat_map}
+
+-- the byte that writes a digit below 64
+abbrev pub byte_of : ℕ → ℕ
+byte_of digit = digit + 63
+
+-- the digit that a byte writes
+abbrev pub digit_of : ℕ → ℕ
+digit_of byte = byte - 63
+
+-- the bytes 63 to 126 write digits
+abbrev pub is_digit : ℕ → Bool
+is_digit byte = nat_le 63 byte && nat_le byte 126
+
+-- what the six bits of a digit weigh, the most significant first
+abbrev pub weights : List ℕ
+weights = 32 ∷ 16 ∷ 8 ∷ 4 ∷ 2 ∷ 1 ∷ []
+
+-- the six bits of a digit, the most significant first
+abbrev pub bits_of_digit : ℕ → List Bool
+bits_of_digit digit = map (λ weight. (digit / weight) % 2 == 1) weights
+
+-- what the set bits weigh together
+abbrev pub weight_of : List ℕ → List Bool → ℕ
+weight_of [] bits = 0
+weight_of (weight ∷ ws) [] = 0
+weight_of (weight ∷ ws) (bit ∷ bits) = (if bit then weight else 0) + weight_of ws bits
+
+-- the digit that begins with these bits and goes on with zeros
+abbrev pub digit_of_bits : List Bool → ℕ
+digit_of_bits bits = weight_of weights bits
+
+-- the bits that bytes write
+unfoldable pub bits_of : List ℕ → List Bool
+bits_of bytes = flat_map (λ byte. bits_of_digit (digit_of byte)) bytes
+
+-- the bytes that write these bits, six in each, the last filled up with zeros
+unfoldable pub bytes_of : List Bool → List ℕ
+bytes_of [] = []
+bytes_of (a ∷ b ∷ c ∷ d ∷ e ∷ f ∷ bits) = byte_of (digit_of_bits (a ∷ b ∷ c ∷ d ∷ e ∷ f ∷ [])) ∷ bytes_of bits
+bytes_of bits = byte_of (digit_of_bits bits) ∷ []

@@ -1,0 +1,5 @@
+pub mod Checks
+pub mod Digits
+pub mod Pairs
+pub mod Reading
+pub mod Writing

@@ -1,0 +1,125 @@
+//! The checks of a body, in the order of its faults.
+ghost use Rattle.std.specs.Prelude.{◌≡◌, ◌≤◌, ◌<◌, IsTrue, length, take, drop};
+ghost use Rattle.std.specs.List.{list_all};
+ghost use Rattle.graph6_text.specs.Digits.{is_digit};
+ghost use Rattle.graph6_text.specs.Checks.{Checks};
+ghost use Rattle.graph6_text.specs.Reading.{is_long, order_of, data_len, pair_count, faults_of};
+
+use crate::body::{LONG, data, is_long, order};
+use crate::digits::is_digit;
+use graph_core::{FaultKind, TextFault};
+use vset_core::MOST_VERTICES;
+
+/// The most vertices whose number one digit writes.
+pub const MOST_SHORT: u32 = 62;
+
+/// A fault of this kind in the one line that a text has.
+pub fn fault(kind: FaultKind) -> TextFault
+    ensures { result ≡ TextFault.At 1 kind }
+{
+    TextFault::At { line: 1, kind }
+}
+
+/// The size and the length of the data are those of a graph.
+pub fn check_body(body: &[u8]) -> Result<(), TextFault>
+    ensures { Checks result (take 9 (faults_of body.now)) }
+{
+    check_bytes(body)?;
+    check_size(body)?;
+    check_length(body)
+}
+
+/// Something remains, no line feed is in it, and each of its bytes writes a digit.
+fn check_bytes(body: &[u8]) -> Result<(), TextFault>
+    ensures { Checks result (take 3 (faults_of body.now)) }
+{
+    if body.is_empty() {
+        return Err(fault(FaultKind::Missing));
+    }
+    if body.contains(&b'\n') {
+        let kind = FaultKind::Extra;
+        return Err(TextFault::At { line: 2, kind });
+    }
+    if !are_digits(body) {
+        return Err(fault(FaultKind::Range));
+    }
+    Ok(())
+}
+
+/// Whether each byte writes a digit.
+fn are_digits(body: &[u8]) -> bool
+    ensures { result ≡ list_all is_digit body.now }
+{
+    body.iter().all(|byte| is_digit(*byte))
+}
+
+/// The size is whole, in the form that is due, and within the limit.
+fn check_size(body: &[u8]) -> Result<(), TextFault>
+    requires digits { IsTrue (list_all is_digit body.now) }
+    requires some { 0 < length body.now }
+    ensures { Checks result (take 4 (drop 3 (faults_of body.now))) }
+{
+    if is_long(body) {
+        check_long(body)?;
+    }
+    if order(body) > MOST_VERTICES {
+        return Err(fault(FaultKind::Limit));
+    }
+    Ok(())
+}
+
+/// A size in the long form has its three digits and is not one for which the short form is due.
+fn check_long(body: &[u8]) -> Result<(), TextFault>
+    requires digits { IsTrue (list_all is_digit body.now) }
+    requires some { 0 < length body.now }
+    requires long { IsTrue (is_long body.now) }
+    ensures { Checks result (take 3 (drop 3 (faults_of body.now))) }
+{
+    if body.len() < 4 {
+        return Err(fault(FaultKind::Missing));
+    }
+    if body[1] == LONG {
+        return Err(fault(FaultKind::Limit));
+    }
+    if order(body) <= MOST_SHORT {
+        return Err(fault(FaultKind::LongForm));
+    }
+    Ok(())
+}
+
+/// The data are as long as the order asks for.
+fn check_length(body: &[u8]) -> Result<(), TextFault>
+    requires digits { IsTrue (list_all is_digit body.now) }
+    requires some { 0 < length body.now }
+    requires whole { IsTrue (is_long body.now) → 4 ≤ length body.now }
+    requires limit { order_of body.now ≤ 128 }
+    ensures { Checks result (take 2 (drop 7 (faults_of body.now))) }
+{
+    let given = data(body).len();
+    let due = data_len(order(body));
+    if given < due {
+        return Err(fault(FaultKind::Missing));
+    }
+    if given > due {
+        return Err(fault(FaultKind::Extra));
+    }
+    Ok(())
+}
+
+/// The number of bytes that hold one bit for each pair of `n` vertices.
+fn data_len(n: u32) -> usize
+    requires { n ≤ 128 }
+    ensures { result ≡ data_len n }
+{
+    (pair_count(n) + 5) / 6
+}
+
+/// The number of pairs of `n` vertices.
+fn pair_count(n: u32) -> usize
+    requires { n ≤ 128 }
+    ensures value { result ≡ pair_count n }
+    ensures bound { result ≤ 8128 }
+{
+    let n = n as usize;
+    n * n.saturating_sub(1) / 2
+}

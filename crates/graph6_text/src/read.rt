@@ -1,0 +1,85 @@
+//! Reading graph6 texts.
+ghost use Rattle.std.specs.Prelude.{◌≡◌, ◌≤◌, [], ◌∷◌, IfOk, IfErr, OnOk, None, length, drop, map, take};
+ghost use Rattle.std.specs.List.{list_any};
+ghost use Rattle.graph_core.specs.Faults.{IsFault};
+ghost use Rattle.graph_core.specs.Simple.{IsSimple};
+ghost use Rattle.graph_core.specs.View.{pair_of};
+ghost use Rattle.graph6_text.specs.Pairs.{chosen};
+ghost use Rattle.graph6_text.specs.Checks.{limit_row, Checks, IsFirstFault};
+ghost use Rattle.graph6_text.specs.Reading.{outcome_of, graph_of, faults_of, first_fault};
+
+use crate::body::{body, data, order};
+use crate::checks::{check_body, fault};
+use crate::digits::to_bits;
+use crate::pairs::to_pairs;
+use graph_core::{Ends, FaultKind, MOST_EDGES, MultiGraph, TextFault};
+use std::alloc::Global;
+
+/// The graph that a graph6 text stands for. The text may begin with the header `>>graph6<<` and may end with one line end;
+/// it holds one graph. The edges come column by column of the adjacency matrix. `At` comes exactly where the text stands for
+/// no graph, with line and kind of its first fault, in this order: nothing remains (Missing); a line feed remains (Extra, at
+/// line 2, where every other fault is at line 1); a byte is outside 63 to 126 (Range); a long size is cut short (Missing) or
+/// is of 36 bits (Limit) or of at most 62 vertices (LongForm); more than `MOST_VERTICES` vertices (Limit); the data are too
+/// short (Missing) or too long (Extra); a filling bit is set (Padding); more than `MOST_EDGES` edges (Limit).
+pub fn read_graph6(alloc: Global, bytes: &[u8]) -> Result<MultiGraph, TextFault>
+    ensures value { IfOk result (λ g. outcome_of bytes.now ≡ Ok g) }
+    ensures simple { IfOk result IsSimple }
+    ensures fault { IfErr result (λ fault. IsFault fault (outcome_of bytes.now)) }
+{
+    let body = body(bytes);
+    check_body(body)?;
+    to_graph(alloc, body)
+}
+
+/// The graph of a body whose size and length are checked.
+fn to_graph(alloc: Global, body: &[u8]) -> Result<MultiGraph, TextFault>
+    requires { first_fault (take 9 (faults_of body.now)) ≡ None }
+    ensures graph { IfOk result (λ g. g ≡ graph_of body.now) }
+    ensures passed { OnOk result (first_fault (drop 9 (faults_of body.now)) ≡ None) }
+    ensures fault { IfErr result (IsFirstFault (drop 9 (faults_of body.now))) }
+{
+    let n = order(body);
+    let pairs = to_pairs(alloc, n)?;
+    let bits = to_bits(alloc, data(body))?;
+    check_filling(&bits, pairs.len())?;
+    with_edges(alloc, n, &pairs, &bits)
+}
+
+/// No bit from place `from` on is set.
+fn check_filling(bits: &[bool], from: usize) -> Result<(), TextFault>
+    requires { from ≤ length bits.now }
+    ensures { Checks result ((list_any (λ bit. bit) (drop from bits.now), (1, FaultKind.Padding)) ∷ []) }
+{
+    if is_any_set(&bits[from..]) {
+        return Err(fault(FaultKind::Padding));
+    }
+    Ok(())
+}
+
+/// Whether a bit is set.
+fn is_any_set(bits: &[bool]) -> bool
+    ensures { result ≡ list_any (λ bit. bit) bits.now }
+{
+    bits.iter().any(|bit| *bit)
+}
+
+/// The graph of `n` vertices whose edges are the pairs with a set bit.
+fn with_edges(alloc: Global, n: u32, pairs: &[Ends], bits: &[bool]) -> Result<MultiGraph, TextFault>
+    requires { n ≤ 128 }
+    ensures graph { IfOk result (λ g. g ≡ record { order = n; ends = chosen (map pair_of pairs.now) bits.now }) }
+    ensures within { OnOk result (first_fault (limit_row (chosen (map pair_of pairs.now) bits.now)) ≡ None) }
+    ensures limit { IfErr result (IsFirstFault (limit_row (chosen (map pair_of pairs.now) bits.now))) }
+{
+    let mut graph = MultiGraph::new(alloc, n)?;
+    for (pair, bit) in pairs.iter().zip(bits) {
+        if *bit {
+            if graph.size() == MOST_EDGES {
+                return Err(fault(FaultKind::Limit));
+            }
+            graph
+                .add_edge(pair.a, pair.b)
+                .map_err(|_| TextFault::Memory)?;
+        }
+    }
+    Ok(graph)
+}

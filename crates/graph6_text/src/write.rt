@@ -1,0 +1,61 @@
+//! Writing graph6 texts.
+ghost use Rattle.std.specs.Prelude.{◌≡◌, ◌<◌, ◌^◌, IfOk};
+ghost use Rattle.graph_core.specs.Simple.{IsSimple};
+ghost use Rattle.graph6_text.specs.Digits.{byte_of};
+ghost use Rattle.graph6_text.specs.Writing.{size_of, adjacency_bits, graph6_of, ReadsBack};
+
+use crate::body::LONG;
+use crate::checks::MOST_SHORT;
+use crate::digits::{ZERO, to_bytes};
+use crate::pairs::to_pairs;
+use graph_core::MultiGraph;
+use std::alloc::{AllocError as Memory, Global};
+
+/// The graph6 text of a simple graph, without header and line end. Reading it gives a simple graph of the same order with the
+/// same adjacent pairs. Takes memory for the text and for one bit a pair of vertices.
+pub fn write_graph6(alloc: Global, g: &MultiGraph) -> Result<Vec<u8>, Memory>
+    requires { IsSimple g.now }
+    ensures text { IfOk result (λ text. text.items ≡ graph6_of g.now) }
+    ensures reads_back { IfOk result (λ text. ReadsBack text.items g.now) }
+{
+    let bits = to_adjacency_bits(alloc, g)?;
+    let data = to_bytes(alloc, &bits)?;
+    let mut text = to_size(alloc, g.order())?;
+    text.extend_from_slice(&data)?;
+    Ok(text)
+}
+
+/// One bit for each pair of vertices: whether an edge joins them.
+fn to_adjacency_bits(alloc: Global, g: &MultiGraph) -> Result<Vec<bool>, Memory>
+    ensures { IfOk result (λ bits. bits.items ≡ adjacency_bits g.now) }
+{
+    let pairs = to_pairs(alloc, g.order())?;
+    let mut bits = Vec::new(alloc);
+    for pair in &pairs {
+        bits.push(g.adjacent(pair.a, pair.b))?;
+    }
+    Ok(bits)
+}
+
+/// The bytes that write the number of vertices.
+#[tactic(auto, unfolding(crate::specs::Writing::size_of))]
+fn to_size(alloc: Global, n: u32) -> Result<Vec<u8>, Memory>
+    requires { n < 2 ^ 18 }
+    ensures { IfOk result (λ size. size.items ≡ size_of n) }
+{
+    if n <= MOST_SHORT {
+        return Vec::from_slice(alloc, &[to_byte(n)]);
+    }
+    let high = to_byte(n / 4096);
+    let middle = to_byte(n / 64 % 64);
+    let low = to_byte(n % 64);
+    Vec::from_slice(alloc, &[LONG, high, middle, low])
+}
+
+/// The byte that writes a digit.
+fn to_byte(digit: u32) -> u8
+    requires { digit < 64 }
+    ensures { result ≡ byte_of digit }
+{
+    digit as u8 + ZERO
+}

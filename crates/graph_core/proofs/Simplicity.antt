@@ -1,0 +1,43 @@
+use Rattle.std.proofs.Common.{◌≡◌, ℕ, ◌+◌, ◌-◌, ◌≤◌, Bool, true, false, sym, ap, ◌∙◌, arith, inl, inr}
+use Rattle.std.proofs.lemmas.Bool.{both_ways, cases_lt, cases_eq, false_from_ne_true}
+use Rattle.counting.specs.Counts.{Within}
+use Rattle.counting.specs.Tests.{some}
+use Rattle.counting.proofs.Tests.{some_true, some_none}
+use Rattle.graph_core.specs.Graph.{Graph, size, first_end, second_end, has_ends}
+use Rattle.graph_core.specs.Simple.{IsSimple}
+use Rattle.graph_core.proofs.Walks.{has_ends-cases}
+use Rattle.graph_core.proofs.Adjacency.{has_ends-from}
+
+-- A graph is simple where no edge has the ends of an earlier one. Idea: of two edges with the same ends one is earlier, and
+-- "has the ends of" holds both ways.
+
+-- edge f has the ends of edge e
+abbrev pub repeats : Graph → ℕ → ℕ → Bool
+repeats g e f = has_ends g (first_end g e) (second_end g e) f
+
+pub repeats-back : (g : Graph) (e f : ℕ) → repeats g e f ≡ true → repeats g f e ≡ true
+repeats-back g e f h = elim (has_ends-cases g (first_end g e) (second_end g e) f h) [
+  | inl p ↦ has_ends-from g (first_end g f) (second_end g f) e (inl (sym p.0, sym p.1))
+  | inr p ↦ has_ends-from g (first_end g f) (second_end g f) e (inr (sym p.1, sym p.0))
+]
+
+-- one more number without the property
+pub some_more : (p : ℕ → Bool) (f : ℕ) → 1 ≤ f → some (f - 1) p ≡ false → p f ≡ false → some (f + 1 - 1) p ≡ false
+some_more p f w h n = false_from_ne_true (some (f + 1 - 1) p) (λ t. let r = some_true (f + 1 - 1) p t in
+    elim (cases_eq r.0 f) [
+      | inl e ↦ both_ways (p f) n (ap p (sym e) ∙ r.2)
+      | inr d ↦ let a = r.1 in both_ways (p r.0) (some_none (f - 1) p h r.0 (omega arith)) r.2
+    ])
+
+pub simple_from_no_repeat : (g : Graph) → ((e : ℕ) → Within (size g) e → some (e - 1) (repeats g e) ≡ false) → IsSimple g
+simple_from_no_repeat g h e f we wf r = elim (cases_eq e f) [
+  | inl q ↦ q
+  | inr d ↦ elim (cases_lt e f) [
+    | inl l ↦ absurd (both_ways (repeats g f e) (some_none (f - 1) (repeats g f) (h f wf) e (omega arith)) (repeats-back g e f r))
+    | inr l ↦ absurd (both_ways (repeats g e f) (some_none (e - 1) (repeats g e) (h e we) f (omega arith)) r)
+  ]
+]
+
+pub no_repeat_from_simple : (g : Graph) (e : ℕ) → IsSimple g → Within (size g) e → some (e - 1) (repeats g e) ≡ true → ⊥
+no_repeat_from_simple g e s we h = let r = some_true (e - 1) (repeats g e) h in let a = r.1 in
+    let q = s e r.0 we (omega arith) r.2 in omega arith

@@ -1,0 +1,7 @@
+use Rattle.std.proofs.Common.{◌≡◌, ◌-◌, false}
+use Rattle.counting.specs.Tests.{some}
+use Rattle.graph_core.proofs.Simplicity.{repeats}
+use Rattle.graph_core.proofs.graph.MultiGraph.repeats.Given as goal
+
+abbrev pub invariant-loop-f : goal.invariant-loop-f
+invariant-loop-f l = some (l.f - 1) (repeats l.self l.e) ≡ false

@@ -1,0 +1,9 @@
+use Rattle.std.proofs.Common.{◌≡◌, ◌-◌, ◌<◌, false, ℕ}
+use Rattle.counting.specs.Counts.{Within}
+use Rattle.counting.specs.Tests.{some}
+use Rattle.graph_core.specs.Graph.{size}
+use Rattle.graph_core.proofs.Simplicity.{repeats}
+use Rattle.graph_core.proofs.graph.MultiGraph.simple.Given as goal
+
+abbrev pub invariant-loop-e : goal.invariant-loop-e
+invariant-loop-e l = (e : ℕ) → Within (size l.self) e → e < l.e → some (e - 1) (repeats l.self e) ≡ false

@@ -1,0 +1,45 @@
+//! Simple graphs.
+ghost use Rattle.std.specs.Prelude.{◌≡◌, ◌-◌, ◌↔◌, IsTrue};
+ghost use Rattle.counting.specs.Counts.{Within};
+ghost use Rattle.counting.specs.Tests.{some};
+ghost use Rattle.graph_core.specs.Graph.{size, first_end, second_end, has_ends};
+ghost use Rattle.graph_core.specs.Simple.{IsSimple};
+
+use crate::MultiGraph;
+
+impl MultiGraph {
+    /// Whether the graph is simple: no two edges join the same two vertices. Takes no memory.
+    pub fn simple(&self) -> bool
+        ensures { IsTrue result ↔ IsSimple self.now }
+    {
+        for e in 1..=self.size() {
+            if self.repeats(e) {
+                return false;
+            }
+        }
+        true
+    }
+
+    /// Whether an edge before edge `e` joins the same two vertices.
+    fn repeats(&self, e: u32) -> bool
+        requires { Within (size self.now) e }
+        ensures { result ≡ some (e - 1) (has_ends self.now (first_end self.now e) (second_end self.now e)) }
+    {
+        for f in 1..e {
+            if self.joins_same(e, f) {
+                return true;
+            }
+        }
+        false
+    }
+
+    /// Whether edge `f` joins the same two vertices as edge `e`.
+    fn joins_same(&self, e: u32, f: u32) -> bool
+        requires first { Within (size self.now) e }
+        requires second { Within (size self.now) f }
+        ensures { result ≡ has_ends self.now (first_end self.now e) (second_end self.now e) f }
+    {
+        let edge = self.ends(e);
+        self.ends(f).are(edge.a, edge.b)
+    }
+}

@@ -1,0 +1,40 @@
+-- The marks that the engine begins with, and the bound on its augmentations.
+-- An edge between two free vertices is added: it meets these two alone, so all other free vertices stay free.
+use Rattle.std.proofs.Common.{◌≡◌, ℕ, suc, zero, ◌+◌, ◌*◌, ◌≤◌, ◌<◌, ◌≢◌, Bool, true, false, ◌==◌, ◌||◌, ◌&&◌, refl, sym, ap, ap₂, ◌∙◌, arith, eq-eqb, ne_eqb, inl, inr, eqb-true}
+use Rattle.std.proofs.lemmas.Bool.{both_ways, cases_Bool, or_left, or_right, true≢false, false_from_ne_true}
+use Rattle.counting.proofs.Counts.{count_le}
+use Rattle.counting.proofs.Totals.{total_none}
+use Rattle.counting.specs.Counts.{Within, bit, count}
+use Rattle.counting.specs.Sets.{Set, put, complement}
+use Rattle.graph_core.proofs.Edits.{add_edge, degree_put, ends_of, ends_of_is, missed_edges}
+use Rattle.graph_core.specs.Graph.{Graph, HasEnds, IsGraph, degree, first_end, second_end, size}
+use Rattle.graph_core.specs.Matchings.{IsMatching, missed_count}
+
+-- no edge at all
+pub empty_degree : (g : Graph) (m : Set) → ((e : ℕ) → m e ≡ false) → (v : ℕ) → degree g m v ≡ 0
+empty_degree g m h v = ap₂ ◌+◌ (total_none (size g) _ (λ e w. ap (λ b. bit (b && (first_end g e == v))) (h e))) (total_none (size g) _ (λ e w. ap (λ b. bit (b && (second_end g e == v))) (h e)))
+
+pub empty_matching : (g : Graph) (r m : Set) → ((e : ℕ) → m e ≡ false) → IsMatching g r m
+empty_matching g r m h = record { once = λ v w. let a = empty_degree g m h v in omega arith; away = λ v w q. empty_degree g m h v }
+
+-- an edge between two free vertices is added
+pub added_edge : (g : Graph) (r m met met' : Set) (e x y : ℕ) → IsMatching g r m → ((v : ℕ) → Within g.order v → met v ≡ false → (r v ≡ false) × (degree g m v ≡ 0)) →
+    Within (size g) e → Within g.order x → Within g.order y → HasEnds g e x y → x ≢ y → met x ≡ false → met y ≡ false → ((v : ℕ) → met' v ≡ ((met v || (x == v)) || (y == v))) →
+    IsMatching g r (put m e true) × ((v : ℕ) → Within g.order v → met' v ≡ false → (r v ≡ false) × (degree g (put m e true) v ≡ 0))
+added_edge g r m met met' e x y mm free we wx wy ends xy mx my met'_is = (
+  (add_edge g r m e x y mm we xy (free x wx mx).0 (free y wy my).0 ends (free x wx mx).1 (free y wy my).1).0,
+  λ v w q. still v w (sym (met'_is v) ∙ q),
+)
+  where
+    still : (v : ℕ) → Within g.order v → ((met v || (x == v)) || (y == v)) ≡ false → (r v ≡ false) × (degree g (put m e true) v ≡ 0)
+    still v w q =
+        let a = false_from_ne_true (met v) (λ t. both_ways ((met v || (x == v)) || (y == v)) q (or_left (met v || (x == v)) (y == v) (or_left (met v) (x == v) t))) in
+        let b = ap bit (false_from_ne_true (x == v) (λ t. both_ways ((met v || (x == v)) || (y == v)) q (or_left (met v || (x == v)) (y == v) (or_right (met v) (x == v) t)))) in
+        let d = ap bit (false_from_ne_true (y == v) (λ t. both_ways ((met v || (x == v)) || (y == v)) q (or_right (met v || (x == v)) (y == v) t))) in
+        let f = free v w a in
+        let s = ends_of_is g e x y ends v in
+        let p = degree_put g m e true v we in (f.0, omega arith)
+
+-- a matching has at most as many edges as there are vertices
+pub few_edges : (g : Graph) (r m : Set) → IsGraph g → IsMatching g r m → count (size g) m ≤ g.order
+few_edges g r m is mm = let a = missed_edges g r m is mm in let b = count_le g.order (complement r) in omega arith

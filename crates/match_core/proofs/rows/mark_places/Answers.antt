@@ -1,0 +1,20 @@
+use Rattle.std.proofs.Common.{◌≡◌, ℕ, Bool, true, false, ◌||◌, ◌==◌, sym, ap, ◌∙◌, refl, get_or, take}
+use Rattle.counting.specs.Lists.{mem}
+use Rattle.match_core.specs.Rows.{marks}
+use Rattle.match_core.proofs.GrownRows.{with_put}
+use Rattle.match_core.proofs.Gluing.{mem-more}
+use Rattle.match_core.proofs.rows.mark_places.Goals as goal
+
+or_assoc : (a b d : Bool) → ((a || b) || d) ≡ (a || (b || d))
+or_assoc true b d = refl
+or_assoc false b d = refl
+
+pub loop-place-preserved : goal.loop-place-preserved
+loop-place-preserved c = record {
+  same = c.mark_place.ensures.length ∙ c.loop-place.invariant.same;
+  each = λ i.
+      let v = get_or c.args.places.now c.loop-place.place-index 0 in
+      c.mark_place.ensures.each i ∙ sym (with_put (marks c.loop-place.mark.items) v i) ∙ ap (λ b. b || (v == i)) (c.loop-place.invariant.each i)
+      ∙ or_assoc (marks c.args.mark.now.items i) (mem (take c.loop-place.place-index c.args.places.now) i) (v == i)
+      ∙ ap (λ b. marks c.args.mark.now.items i || b) (sym (mem-more c.args.places.now c.loop-place.place-index i c.loop-place-test.true));
+}

@@ -1,0 +1,12 @@
+pub mod Frames
+pub mod OddCycles
+pub mod Forests
+pub mod RepairPaths
+pub mod Rows
+pub mod Meetings
+pub mod ForestRows
+pub mod Searches
+pub mod Steps
+pub mod MatchingRows
+pub mod Optimal
+pub mod Questions

@@ -1,0 +1,48 @@
+-- Matchings as lists of rows, each an edge with its two ends.
+use Rattle.std.specs.Prelude.{◌≡◌, ℕ, ◌+◌, ◌≤◌, Bool, ◌==◌, ◌&&◌, not, List, [], ◌∷◌, map, All}
+use Rattle.counting.specs.Counts.{Within, bit}
+use Rattle.counting.specs.Sets.{Set}
+use Rattle.counting.specs.Lists.{IsRisingIn}
+use Rattle.graph_core.specs.Graph.{Graph, size, first_end, second_end}
+use Rattle.match_core.specs.declared.matching.MatchRow.{MatchRow}
+
+-- an order and rows
+pub record MatchingValue : Type 0 where
+  pub order : ℕ
+  pub rows : List MatchRow
+
+-- how often v stands in the rows
+abbrev pub ends_at : List MatchRow → ℕ → ℕ
+ends_at [] v = 0
+ends_at (row ∷ rows) v = bit (row.a == v) + bit (row.b == v) + ends_at rows v
+
+-- the edges of the rows
+abbrev pub edges_of : MatchingValue → List ℕ
+edges_of m = map (λ row. row.edge) m.rows
+
+-- the edge numbers rise, the ends are 1 to the order, and no vertex stands twice; edges and vertices are within the limits
+-- of a multigraph
+pub record KeepsMatching (m : MatchingValue) : Type 0 where
+  pub few : m.order ≤ 128
+  pub edges : IsRisingIn 2048 (edges_of m)
+  pub within : All (λ row. Within m.order row.a × Within m.order row.b) m.rows
+  pub once : (v : ℕ) → Within m.order v → ends_at m.rows v ≤ 1
+
+-- the row is an edge of g with its ends
+pub record IsRowOf (g : Graph) (row : MatchRow) : Type 0 where
+  pub edge : Within (size g) row.edge
+  pub first : row.a ≡ first_end g row.edge
+  pub second : row.b ≡ second_end g row.edge
+
+-- the matching is of g: its order is that of g, and each row is an edge of g with its ends
+pub record IsOf (g : Graph) (m : MatchingValue) : Type 0 where
+  pub order : m.order ≡ g.order
+  pub rows : All (IsRowOf g) m.rows
+
+-- the row meets no vertex of x
+abbrev pub is_clear : Set → MatchRow → Bool
+is_clear x row = not (x row.a) && not (x row.b)
+
+-- edge e of g as a row
+abbrev pub row_at : Graph → ℕ → MatchRow
+row_at g e = record { edge = e; a = first_end g e; b = second_end g e }

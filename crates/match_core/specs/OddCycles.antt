@@ -1,0 +1,36 @@
+-- Odd cycles, by the places of their vertices and edges from 1 on.
+use Rattle.std.specs.Prelude.{◌≡◌, ℕ, suc, ◌≤◌, Bool, true, false, ◌==◌, nat_lt, ◌&&◌, ◌||◌, not, cond}
+use Rattle.counting.specs.Counts.{Within, is_odd}
+use Rattle.counting.specs.Sets.{Set}
+use Rattle.counting.specs.Tests.{some}
+use Rattle.graph_core.specs.Graph.{Graph, HasEnds, size}
+
+-- the numbers that pick makes of those of 1 to k in m
+abbrev pub picked : ℕ → Set → (ℕ → ℕ) → Set
+picked k m pick i = some k (λ e. m e && (pick e == i))
+
+-- the numbers that c makes of 1 to n
+abbrev pub listed : ℕ → (ℕ → ℕ) → Set
+listed n c v = some n (λ i. c i == v)
+
+-- the place after i, round 1 to n
+abbrev pub next : ℕ → ℕ → ℕ
+next n i = cond (i == n) 1 (suc i)
+
+-- both or neither
+abbrev pub same_answer : Bool → Bool → Bool
+same_answer a b = cond a b (not b)
+
+-- every other place, on the way round from t to t
+abbrev pub every_other : ℕ → ℕ → Bool
+every_other t i = (nat_lt i t && same_answer (is_odd i) (is_odd t)) || (nat_lt t i && not (same_answer (is_odd i) (is_odd t)))
+
+-- the vertices c 1 to c n, an odd number, and the edges e 1 to e n: e i leads from c i to the next
+pub record IsOddCycle (g : Graph) (r : Set) (n : ℕ) (c e : ℕ → ℕ) : Type 0 where
+  pub odd : is_odd n ≡ true
+  pub three : 3 ≤ n
+  pub apart : (i j : ℕ) → Within n i → Within n j → c i ≡ c j → i ≡ j
+  pub within : (i : ℕ) → Within n i → Within g.order (c i)
+  pub outside : (i : ℕ) → Within n i → r (c i) ≡ false
+  pub real : (i : ℕ) → Within n i → Within (size g) (e i)
+  pub ends : (i : ℕ) → Within n i → HasEnds g (e i) (c i) (c (next n i))

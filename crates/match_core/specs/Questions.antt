@@ -1,0 +1,19 @@
+-- Perfect matchings that hold given edges.
+use Rattle.std.specs.Prelude.{◌≡◌, ℕ, true, List}
+use Rattle.counting.specs.Counts.{Within, bit}
+use Rattle.counting.specs.Sets.{Set, none}
+use Rattle.counting.specs.Lists.{mem}
+use Rattle.graph_core.specs.Graph.{Graph, degree}
+use Rattle.graph_core.specs.Matchings.{IsPerfect}
+
+-- each edge of the list is in m
+abbrev pub HoldsAll : List ℕ → Set → Type 0
+HoldsAll es m = (e : ℕ) → mem es e ≡ true → m e ≡ true
+
+-- some perfect matching of g holds each edge of the list
+abbrev pub HasPerfectWith : Graph → List ℕ → Type 0
+HasPerfectWith g es = (m : Set) × IsPerfect g none m × HoldsAll es m
+
+-- the edges c share no vertex, and met is the set of their ends
+abbrev pub MeetOnce : Graph → Set → Set → Type 0
+MeetOnce g c met = (v : ℕ) → Within g.order v → degree g c v ≡ bit (met v)

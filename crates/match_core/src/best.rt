@@ -1,0 +1,62 @@
+//! A maximum matching of G - removed, with the frame that shows it to be one.
+ghost use Rattle.std.specs.Prelude.{◌≡◌, ℕ, ◌+◌, ◌≤◌, ◌==◌, ◌&&◌, not, length, IfOk};
+ghost use Rattle.counting.specs.Counts.{Within};
+ghost use Rattle.counting.specs.Lists.{mem};
+ghost use Rattle.graph_core.specs.View.{graph_of};
+ghost use Rattle.graph_core.specs.Matchings.{IsMatching};
+ghost use Rattle.match_core.specs.Rows.{marks};
+ghost use Rattle.match_core.specs.Searches.{AreEnds, IsGraphRow};
+ghost use Rattle.match_core.specs.Optimal.{IsBest};
+
+use crate::rows::{falses, mark_place};
+use crate::step::{Answer, FinalSets, step};
+use graph_core::Ends;
+use std::alloc::{AllocError as Memory, Global};
+use vset_core::{MOST_VERTICES, VSet};
+
+/// The marks of a maximum matching, and its frame.
+#[derive(Drop)]
+pub struct Best {
+    pub mark: Vec<bool>,
+    pub sets: FinalSets,
+}
+
+/// Makes a maximum matching of G - removed: one edge after the other at first, then by augmentations.
+pub fn find_best(alloc: Global, n: u32, ends: &[Ends], removed: VSet) -> Result<Best, Memory>
+    requires { IsGraphRow n ends.now }
+    ensures { IfOk result (λ b. IsBest (graph_of n ends.now) (mem removed) b) }
+{
+    let mut mark = first_marks(alloc, n, ends, removed)?;
+    'augmenting: loop {
+        match step(alloc, n, ends, removed, &mut mark)? {
+            Answer::Grown => {}
+            Answer::Final(sets) => return Ok(Best { mark, sets }),
+        }
+    }
+}
+
+// The marks of a matching that no single edge enlarges: each edge in turn, if both its ends are free.
+fn first_marks(alloc: Global, n: u32, ends: &[Ends], removed: VSet) -> Result<Vec<bool>, Memory>
+    requires { IsGraphRow n ends.now }
+    ensures long { IfOk result (λ mark. length mark.items ≡ length ends.now + 1) }
+    ensures matching { IfOk result (λ mark. IsMatching (graph_of n ends.now) (mem removed) (marks mark.items)) }
+{
+    let mut mark = falses(alloc, ends.len() + 1)?;
+    let mut met = removed;
+    for (k, e) in ends.iter().enumerate() {
+        if is_addable(*e, met) {
+            mark_place(&mut mark, k + 1);
+            met = met.with(e.a).with(e.b);
+        }
+    }
+    Ok(mark)
+}
+
+/// Whether an edge joins two different vertices outside the set.
+pub fn is_addable(e: Ends, met: VSet) -> bool
+    requires a { Within MOST_VERTICES e.a }
+    requires b { Within MOST_VERTICES e.b }
+    ensures { result ≡ (not (e.a == e.b) && (not (mem met e.a) && not (mem met e.b))) }
+{
+    e.a != e.b && (!met.contains(e.a) && !met.contains(e.b))
+}

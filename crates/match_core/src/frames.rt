@@ -1,0 +1,76 @@
+//! Maximum matchings with their Berge set, and the frame that gives the Gallai-Edmonds sets.
+ghost use Rattle.std.specs.Prelude.{◌≡◌, ◌≢◌, ℕ, ◌+◌, true, false, length, ◌↔◌, IfOk};
+ghost use Rattle.counting.specs.Counts.{Within, count, is_odd};
+ghost use Rattle.counting.specs.Sets.{none};
+ghost use Rattle.counting.specs.Lists.{mem, IsRisingIn};
+ghost use Rattle.graph_core.specs.Matchings.{IsMaximum};
+ghost use Rattle.graph_core.specs.BergeSets.{Attains};
+ghost use Rattle.graph_core.specs.GallaiEdmonds.{InD, InA};
+ghost use Rattle.graph_core.specs.Walks.{joined};
+ghost use Rattle.match_core.specs.MatchingRows.{IsOf, edges_of};
+
+use crate::best::{Best, find_best};
+use crate::matching::{Matching, matching_of};
+use crate::step::FinalSets;
+use graph_core::MultiGraph;
+use std::alloc::{AllocError as Memory, Global};
+use vset_core::VSet;
+
+/// A maximum matching and a Berge set, which shows it to be maximum: the matching misses exactly o(S) - |S| vertices, where
+/// o(S) counts the components with an odd number of vertices that are left without S.
+#[derive(Drop)]
+pub struct Found {
+    pub matching: Matching,
+    pub berge: VSet,
+}
+
+/// A maximum matching with the Gallai-Edmonds sets: `outer` is D, the vertices that some maximum matching misses, and
+/// `inner` is A, the other vertices adjacent to these, which is the Berge set of `found`.
+#[derive(Drop)]
+pub struct FrameSets {
+    pub found: Found,
+    pub outer: VSet,
+    pub inner: VSet,
+}
+
+/// A maximum matching of `g` and a Berge set: the matching misses exactly o(berge) - |berge| vertices (Tutte 1947, Berge
+/// 1958; found as by Edmonds 1965).
+pub fn maximum(alloc: Global, g: &MultiGraph) -> Result<Found, Memory>
+    ensures of { IfOk result (λ f. IsOf g.now f.matching) }
+    ensures maximum { IfOk result (λ f. IsMaximum g.now none (mem (edges_of f.matching))) }
+    ensures berge { IfOk result (λ f. IsRisingIn g.now.order f.berge) }
+    ensures attains { IfOk result (λ f. Attains g.now none (mem f.berge) (mem (edges_of f.matching))) }
+{
+    Ok(frame(alloc, g)?.found)
+}
+
+/// A maximum matching of `g` with the Gallai-Edmonds sets, read off the last forest of the search (Lovász and Plummer,
+/// "Matching Theory", chapter 3): `outer` is the union of the odd components of g - inner and holds the vertices that some
+/// maximum matching misses; `inner` holds the other vertices adjacent to an outer one and is the Berge set.
+pub fn frame(alloc: Global, g: &MultiGraph) -> Result<FrameSets, Memory>
+    ensures of { IfOk result (λ f. IsOf g.now f.found.matching) }
+    ensures maximum { IfOk result (λ f. IsMaximum g.now none (mem (edges_of f.found.matching))) }
+    ensures berge { IfOk result (λ f. f.found.berge ≡ f.inner) }
+    ensures attains { IfOk result (λ f. Attains g.now none (mem f.inner) (mem (edges_of f.found.matching))) }
+    ensures outer_in { IfOk result (λ f. IsRisingIn g.now.order f.outer) }
+    ensures inner_in { IfOk result (λ f. IsRisingIn g.now.order f.inner) }
+    ensures odd { IfOk result (λ f. (v : ℕ) → Within g.now.order v → (mem f.outer v ≡ true) ↔ ((mem f.inner v ≡ false) × (is_odd (count g.now.order (joined g.now (mem f.inner) v)) ≡ true))) }
+    ensures missed { IfOk result (λ f. (v : ℕ) → Within g.now.order v → (mem f.outer v ≡ true) ↔ InD g.now v) }
+    ensures next { IfOk result (λ f. (v : ℕ) → Within g.now.order v → (mem f.inner v ≡ true) ↔ InA g.now v) }
+{
+    let n = g.order();
+    let ends = g.edges();
+    let Best { mark, sets } = find_best(alloc, n, ends, VSet::empty())?;
+    let FinalSets { outer, inner } = sets;
+    outer.rises();
+    inner.rises();
+    let matching = matching_of(alloc, n, ends, &mark)?;
+    Ok(FrameSets {
+        found: Found {
+            matching,
+            berge: inner,
+        },
+        outer,
+        inner,
+    })
+}

@@ -1,0 +1,165 @@
+//! Matchings as lists of rows.
+ghost use Rattle.std.specs.Prelude.{◌≡◌, ℕ, ◌+◌, ◌<◌, ◌≤◌, ◌==◌, ◌||◌, length, map, filter, slice_get, Some, IfOk, All};
+ghost use Rattle.counting.specs.Counts.{Within};
+ghost use Rattle.counting.specs.Sets.{none};
+ghost use Rattle.counting.specs.Lists.{mem, rising_list};
+ghost use Rattle.graph_core.specs.Graph.{size, degree, first_end, second_end};
+ghost use Rattle.graph_core.specs.View.{graph_of};
+ghost use Rattle.graph_core.specs.Matchings.{IsMatching};
+ghost use Rattle.match_core.specs.Rows.{marks};
+ghost use Rattle.match_core.specs.Searches.{IsGraphRow};
+ghost use Rattle.match_core.specs.MatchingRows.{KeepsMatching, IsOf, edges_of, is_clear, row_at};
+
+use crate::rows::{falses, mark_place};
+use graph_core::{Ends, MOST_EDGES, MultiGraph};
+use std::alloc::{AllocError as Memory, Global};
+use std::marker::Model;
+use vset_core::{MOST_VERTICES, VSet};
+
+/// An edge of a matching with its two ends.
+#[derive(Clone, Copy, Debug, PartialEq, Eq, Drop)]
+pub struct MatchRow {
+    pub edge: u32,
+    pub a: u32,
+    pub b: u32,
+}
+
+/// A matching: an order and rows with rising edge numbers, whose ends are 1 to the order; no vertex stands twice. It is "of
+/// g" if its order is that of g and each row is an edge of g with its ends. Contracts see the order and the list of rows.
+#[derive(Drop)]
+pub struct Matching {
+    order: u32,
+    rows: Vec<MatchRow>,
+}
+
+impl Model for Matching {
+    ghost use Rattle.match_core.specs.MatchingRows.{MatchingValue, KeepsMatching};
+
+    ghost Value = { MatchingValue };
+
+    ghost view = { λ m. record { order = m.order; rows = m.rows.items } };
+
+    ghost invariant = { λ m. KeepsMatching (record { order = m.order; rows = m.rows.items }) };
+}
+
+impl Matching {
+    /// The number of rows. Takes no memory.
+    pub fn len(&self) -> usize
+        ensures { result ≡ length self.now.rows }
+    {
+        self.rows.len()
+    }
+
+    /// The row at place `i`, counted from 0. Takes no memory.
+    pub fn row(&self, i: usize) -> MatchRow
+        requires { i < length self.now.rows }
+        ensures { slice_get self.now.rows i ≡ Some result }
+    {
+        self.rows[i]
+    }
+
+    /// The law that the edge numbers rise, that the ends are 1 to the order, and that no vertex stands twice. It does
+    /// nothing: a caller states it where it needs it.
+    pub fn keeps_matching(&self)
+        ensures { KeepsMatching self.now }
+    {
+        let _ = &self.rows;
+    }
+
+    /// The matching with the same order and those rows that meet no vertex of `removed`.
+    pub fn cleared(&self, alloc: Global, removed: VSet) -> Result<Matching, Memory>
+        ensures order { IfOk result (λ m. m.order ≡ self.now.order) }
+        ensures rows { IfOk result (λ m. m.rows ≡ filter (is_clear (mem removed)) self.now.rows) }
+    {
+        Ok(Matching {
+            order: self.order,
+            rows: clear_rows(alloc, &self.rows, removed)?,
+        })
+    }
+
+    /// The matching of `g` with the same edges and edge `e`, whose ends it does not meet.
+    pub fn joined(&self, alloc: Global, g: &MultiGraph, e: u32) -> Result<Matching, Memory>
+        requires of { IsOf g.now self.now }
+        requires edge { Within (size g.now) e }
+        requires first { degree g.now (mem (edges_of self.now)) (first_end g.now e) ≡ 0 }
+        requires second { degree g.now (mem (edges_of self.now)) (second_end g.now e) ≡ 0 }
+        ensures of { IfOk result (λ m. IsOf g.now m) }
+        ensures edges { IfOk result (λ m. (i : ℕ) → mem (edges_of m) i ≡ (mem (edges_of self.now) i || (e == i))) }
+    {
+        let ends = g.edges();
+        self.keeps_matching();
+        let mut mark = self.marks(alloc, ends.len())?;
+        mark_place(&mut mark, e as usize);
+        matching_of(alloc, g.order(), ends, &mark)
+    }
+
+    /// The edges as marks on 1 to `size`.
+    pub(crate) fn marks(&self, alloc: Global, size: usize) -> Result<Vec<bool>, Memory>
+        requires few { size ≤ MOST_EDGES }
+        requires within { All (λ row. Within size row.edge) self.now.rows }
+        ensures long { IfOk result (λ mark. length mark.items ≡ size + 1) }
+        ensures each { IfOk result (λ mark. (i : ℕ) → marks mark.items i ≡ mem (edges_of self.now) i) }
+    {
+        let mut mark = falses(alloc, size + 1)?;
+        mark_rows(&mut mark, &self.rows);
+        Ok(mark)
+    }
+}
+
+// Marks the edges of the rows.
+fn mark_rows(mark: &mut Vec<bool>, rows: &[MatchRow])
+    requires { All (λ row. row.edge < length mark.old.items) rows.now }
+    ensures length { length mark.new.items ≡ length mark.old.items }
+    ensures each { (i : ℕ) → marks mark.new.items i ≡ (marks mark.old.items i || mem (map (λ row. row.edge) rows.now) i) }
+{
+    for row in rows {
+        mark_place(mark, row.edge as usize);
+    }
+}
+
+// The rows that meet no vertex of the set.
+fn clear_rows(alloc: Global, rows: &[MatchRow], removed: VSet) -> Result<Vec<MatchRow>, Memory>
+    requires { All (λ row. Within MOST_VERTICES row.a × Within MOST_VERTICES row.b) rows.now }
+    ensures { IfOk result (λ kept. kept.items ≡ filter (is_clear (mem removed)) rows.now) }
+{
+    let mut kept = Vec::new(alloc);
+    for row in rows {
+        if !removed.contains(row.a) && !removed.contains(row.b) {
+            kept.push(*row)?;
+        }
+    }
+    Ok(kept)
+}
+
+/// The matching whose edges are the marked ones.
+pub fn matching_of(alloc: Global, n: u32, ends: &[Ends], mark: &[bool]) -> Result<Matching, Memory>
+    requires row { IsGraphRow n ends.now }
+    requires mark_long { length mark.now ≡ length ends.now + 1 }
+    requires matching { IsMatching (graph_of n ends.now) none (marks mark.now) }
+    ensures of { IfOk result (λ m. IsOf (graph_of n ends.now) m) }
+    ensures edges { IfOk result (λ m. edges_of m ≡ rising_list (length ends.now) (marks mark.now)) }
+{
+    Ok(Matching {
+        order: n,
+        rows: marked_rows(alloc, n, ends, mark)?,
+    })
+}
+
+// The marked edges as rows.
+fn marked_rows(alloc: Global, n: u32, ends: &[Ends], mark: &[bool]) -> Result<Vec<MatchRow>, Memory>
+    requires row { IsGraphRow n ends.now }
+    requires mark_long { length mark.now ≡ length ends.now + 1 }
+    ensures { IfOk result (λ rows. rows.items ≡ map (row_at (graph_of n ends.now)) (rising_list (length ends.now) (marks mark.now))) }
+{
+    let mut rows = Vec::new(alloc);
+    for (k, e) in ends.iter().enumerate() {
+        if mark[k + 1] {
+            rows.push(MatchRow {
+                edge: k as u32 + 1,
+                a: e.a,
+                b: e.b,
+            })?;
+        }
+    }
+    Ok(rows)
+}

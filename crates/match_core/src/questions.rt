@@ -1,0 +1,124 @@
+//! Perfect matchings on request.
+ghost use Rattle.std.specs.Prelude.{◌≡◌, ℕ, ◌+◌, true, length, ◌↔◌, IfOk, Some, None, All};
+ghost use Rattle.counting.specs.Counts.{Within};
+ghost use Rattle.counting.specs.Sets.{none};
+ghost use Rattle.counting.specs.Lists.{mem};
+ghost use Rattle.graph_core.specs.Graph.{size};
+ghost use Rattle.graph_core.specs.View.{graph_of};
+ghost use Rattle.graph_core.specs.Matchings.{IsPerfect, HasPerfect};
+ghost use Rattle.match_core.specs.Rows.{marks};
+ghost use Rattle.match_core.specs.Searches.{IsGraphRow};
+ghost use Rattle.match_core.specs.MatchingRows.{IsOf, edges_of};
+ghost use Rattle.match_core.specs.Questions.{HoldsAll, HasPerfectWith, MeetOnce};
+
+use crate::best::{Best, find_best, is_addable};
+use crate::matching::{Matching, matching_of};
+use crate::rows::{falses, is_marked, mark_place, mark_places};
+use graph_core::{Ends, MultiGraph, Numbers};
+use std::alloc::{AllocError as Memory, Global};
+use vset_core::VSet;
+
+/// A perfect matching of G - removed, as a matching of `g`; `None` exactly where G - removed has none.
+pub fn perfect_without(
+    alloc: Global,
+    g: &MultiGraph,
+    removed: VSet,
+) -> Result<Option<Matching>, Memory>
+    ensures of { IfOk result (λ o. (m : _) → o ≡ Some m → IsOf g.now m) }
+    ensures perfect { IfOk result (λ o. (m : _) → o ≡ Some m → IsPerfect g.now (mem removed) (mem (edges_of m))) }
+    ensures none { IfOk result (λ o. (o ≡ None) ↔ (HasPerfect g.now (mem removed) → ⊥)) }
+{
+    let n = g.order();
+    let ends = g.edges();
+    match perfect_marks(alloc, n, ends, removed)? {
+        Some(mark) => Ok(Some(matching_of(alloc, n, ends, &mark)?)),
+        None => Ok(None),
+    }
+}
+
+/// A perfect matching of `g` that holds all the edges; `None` exactly where there is none.
+pub fn perfect_with(
+    alloc: Global,
+    g: &MultiGraph,
+    edges: &Numbers,
+) -> Result<Option<Matching>, Memory>
+    requires { All (Within (size g.now)) edges.now }
+    ensures of { IfOk result (λ o. (m : _) → o ≡ Some m → IsOf g.now m) }
+    ensures perfect { IfOk result (λ o. (m : _) → o ≡ Some m → IsPerfect g.now none (mem (edges_of m))) }
+    ensures holds { IfOk result (λ o. (m : _) → o ≡ Some m → HoldsAll edges.now (mem (edges_of m))) }
+    ensures none { IfOk result (λ o. (o ≡ None) ↔ (HasPerfectWith g.now edges.now → ⊥)) }
+{
+    let n = g.order();
+    let ends = g.edges();
+    match marks_with(alloc, n, ends, edges.as_slice())? {
+        Some(mark) => Ok(Some(matching_of(alloc, n, ends, &mark)?)),
+        None => Ok(None),
+    }
+}
+
+// The marks of a perfect matching that holds the edges, if there is one.
+fn marks_with(
+    alloc: Global,
+    n: u32,
+    ends: &[Ends],
+    edges: &[u32],
+) -> Result<Option<Vec<bool>>, Memory>
+    requires row { IsGraphRow n ends.now }
+    requires edges { All (Within (length ends.now)) edges.now }
+    ensures long { IfOk result (λ o. (mark : _) → o ≡ Some mark → length mark.items ≡ length ends.now + 1) }
+    ensures perfect { IfOk result (λ o. (mark : _) → o ≡ Some mark → IsPerfect (graph_of n ends.now) none (marks mark.items)) }
+    ensures holds { IfOk result (λ o. (mark : _) → o ≡ Some mark → HoldsAll edges.now (marks mark.items)) }
+    ensures none { IfOk result (λ o. (o ≡ None) ↔ (HasPerfectWith (graph_of n ends.now) edges.now → ⊥)) }
+{
+    match ends_met(alloc, n, ends, edges)? {
+        None => Ok(None),
+        Some(met) => match perfect_marks(alloc, n, ends, met)? {
+            None => Ok(None),
+            Some(mut mark) => {
+                mark_places(&mut mark, edges);
+                Ok(Some(mark))
+            }
+        },
+    }
+}
+
+// The ends of the edges, if no two of them share one.
+fn ends_met(alloc: Global, n: u32, ends: &[Ends], edges: &[u32]) -> Result<Option<VSet>, Memory>
+    requires row { IsGraphRow n ends.now }
+    requires edges { All (Within (length ends.now)) edges.now }
+    ensures once { IfOk result (λ o. (met : _) → o ≡ Some met → MeetOnce (graph_of n ends.now) (mem edges.now) (mem met)) }
+    ensures none { IfOk result (λ o. o ≡ None → HasPerfectWith (graph_of n ends.now) edges.now → ⊥) }
+{
+    let mut mark = falses(alloc, ends.len() + 1)?;
+    let mut met = VSet::empty();
+    for edge in edges {
+        if !is_marked(&mark, *edge) {
+            let e = ends[*edge as usize - 1];
+            if !is_addable(e, met) {
+                return Ok(None);
+            }
+            mark_place(&mut mark, *edge as usize);
+            met = met.with(e.a).with(e.b);
+        }
+    }
+    Ok(Some(met))
+}
+
+// The marks of a perfect matching of G - removed, if there is one.
+fn perfect_marks(
+    alloc: Global,
+    n: u32,
+    ends: &[Ends],
+    removed: VSet,
+) -> Result<Option<Vec<bool>>, Memory>
+    requires { IsGraphRow n ends.now }
+    ensures long { IfOk result (λ o. (mark : _) → o ≡ Some mark → length mark.items ≡ length ends.now + 1) }
+    ensures perfect { IfOk result (λ o. (mark : _) → o ≡ Some mark → IsPerfect (graph_of n ends.now) (mem removed) (marks mark.items)) }
+    ensures none { IfOk result (λ o. (o ≡ None) ↔ (HasPerfect (graph_of n ends.now) (mem removed) → ⊥)) }
+{
+    let Best { mark, sets } = find_best(alloc, n, ends, removed)?;
+    if sets.outer.len() == 0 {
+        return Ok(Some(mark));
+    }
+    Ok(None)
+}
