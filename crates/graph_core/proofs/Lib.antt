@@ -26,4 +26,3 @@ pub mod Simplicity
 pub mod EndLists
 pub mod Rows
 pub mod Perfect
-pub mod Rows

@@ -12,10 +12,10 @@ use Rattle.match_core.proofs.FrameFacts.{limits_row, whole_matching, listed_perf
 use Rattle.match_core.proofs.questions.perfect_without.Goals as goal
 
 pub perfect_marks-requires : goal.perfect_marks-requires
-perfect_marks-requires c = limits_row c.args.g.now c.order-n.result c.edges-ends.result.now c.order-n.ensures c.edges-ends.ensures.edges c.edges-ends.ensures.limits
+perfect_marks-requires c = limits_row c.args.g.now c.order-n.result c.edges-ends.result.now c.order-n.ensures.is c.edges-ends.ensures.edges c.edges-ends.ensures.limits
 
 pub matching_of-requires-clause-row : goal.matching_of-requires-clause-row
-matching_of-requires-clause-row c = limits_row c.args.g.now c.order-n.result c.edges-ends.result.now c.order-n.ensures c.edges-ends.ensures.edges c.edges-ends.ensures.limits
+matching_of-requires-clause-row c = limits_row c.args.g.now c.order-n.result c.edges-ends.result.now c.order-n.ensures.is c.edges-ends.ensures.edges c.edges-ends.ensures.limits
 
 pub matching_of-requires-clause-matching : goal.matching_of-requires-clause-matching
 matching_of-requires-clause-matching c =
@@ -25,7 +25,7 @@ matching_of-requires-clause-matching c =
 
 pub returns-in_ok-matching_of-in-Some-clause-perfect : goal.returns-in_ok-matching_of-in-Some-clause-perfect
 returns-in_ok-matching_of-in-Some-clause-perfect c = λ m q.
-    let there : graph_of c.order-n.result c.edges-ends.result.now ≡ c.args.g.now = ap (λ n. graph_of n c.edges-ends.result.now) c.order-n.ensures ∙ c.edges-ends.ensures.edges in
+    let there : graph_of c.order-n.result c.edges-ends.result.now ≡ c.args.g.now = ap (λ n. graph_of n c.edges-ends.result.now) c.order-n.ensures.is ∙ c.edges-ends.ensures.edges in
     let same : c.in_ok-matching_of-in-Some.field-0 ≡ m = cc in
     let perfect = subst (λ (g : Graph). IsPerfect g (mem c.args.removed) (marks c.in-Some.mark.items)) there (c.in_ok-mark.ensures.perfect c.in-Some.mark c.in-Some.is) in
     let edges : edges_of c.in_ok-matching_of-in-Some.field-0 ≡ rising_list (size c.args.g.now) (marks c.in-Some.mark.items) = c.in_ok-matching_of-in-Some.ensures.edges ∙ ap₂ (λ k row. rising_list k (marks row)) (sym (size_is c.order-n.result c.edges-ends.result.now) ∙ ap size there) c.deref.ensures.value in

@@ -16,11 +16,11 @@ use Rattle.match_core.proofs.MatchingEdges.{rows-matching, rows-rise, joined_edg
 use Rattle.match_core.proofs.matching.Matching.joined.Goals as goal
 
 pub matching_of-requires-clause-row : goal.matching_of-requires-clause-row
-matching_of-requires-clause-row c = limits_row c.args.g.now c.order.result c.edges-ends.result.now c.order.ensures c.edges-ends.ensures.edges c.edges-ends.ensures.limits
+matching_of-requires-clause-row c = limits_row c.args.g.now c.order.result c.edges-ends.result.now c.order.ensures.is c.edges-ends.ensures.edges c.edges-ends.ensures.limits
 
 pub matching_of-requires-clause-matching : goal.matching_of-requires-clause-matching
 matching_of-requires-clause-matching c =
-    let there : graph_of c.order.result c.edges-ends.result.now ≡ c.args.g.now = ap (λ n. graph_of n c.edges-ends.result.now) c.order.ensures ∙ c.edges-ends.ensures.edges in
+    let there : graph_of c.order.result c.edges-ends.result.now ≡ c.args.g.now = ap (λ n. graph_of n c.edges-ends.result.now) c.order.ensures.is ∙ c.edges-ends.ensures.edges in
     let g = c.args.g.now in
     let e = c.args.e in
     let before = mem (edges_of c.args.self.now) in
@@ -33,7 +33,7 @@ matching_of-requires-clause-matching c =
 
 pub returns-clause-edges : goal.returns-clause-edges
 returns-clause-edges c =
-    let there : graph_of c.order.result c.edges-ends.result.now ≡ c.args.g.now = ap (λ n. graph_of n c.edges-ends.result.now) c.order.ensures ∙ c.edges-ends.ensures.edges in
+    let there : graph_of c.order.result c.edges-ends.result.now ≡ c.args.g.now = ap (λ n. graph_of n c.edges-ends.result.now) c.order.ensures.is ∙ c.edges-ends.ensures.edges in
     let size_of_ends : length c.edges-ends.result.now ≡ size c.args.g.now = sym (size_is c.order.result c.edges-ends.result.now) ∙ ap size there in
     IfOk-weaker c.matching_of.result (λ (m : MatchingValue). edges_of m ≡ rising_list (length c.edges-ends.result.now) (marks c.deref.result.now)) (λ (m : MatchingValue). (i : ℕ) → mem (edges_of m) i ≡ (mem (edges_of c.args.self.now) i || (c.args.e == i)))
         (λ m q i. ap (λ xs. mem xs i) (q ∙ ap (λ k. rising_list k (marks c.deref.result.now)) size_of_ends)
