@@ -1,2 +1,3 @@
 pub mod FileReads
 pub mod Appends
+pub mod Sizes

@@ -3,14 +3,16 @@ ghost use Rattle.std.specs.Prelude.{◌≡◌, ◌↔◌, IfOk, IsTrue, Some};
 ghost use Rattle.graph_core.specs.Graph.{IsBipartite};
 ghost use Rattle.bench_top.specs.Asked.{asked};
 ghost use Rattle.bench_top.specs.Loads.{inputs_of};
-ghost use Rattle.bench_top.specs.Facts.{IsAnalysis};
+ghost use Rattle.bench_top.specs.Facts.{HasMaximum, IsAnalysis};
 ghost use Rattle.bench_top.specs.Outcome.{ResultOf, IsReported, MayRefuse};
 
 use crate::inputs::Inputs;
 use crate::order::Command;
 use crate::report::Report;
 use crate::status::Status;
+use gallai_edmonds::sets;
 use graph_core::{MultiGraph, Sides};
+use match_core::maximum;
 use report_text::{AnalysisLines, analysis};
 use std::alloc::{AllocError as Memory, Global};
 
@@ -24,17 +26,35 @@ fn is_bipartite(alloc: Global, g: &MultiGraph) -> Result<bool, Memory>
     }
 }
 
+// How many edges a maximum matching has, and how many vertices it misses.
+fn maximum_sizes(alloc: Global, g: &MultiGraph) -> Result<(u32, u32), Memory>
+    ensures { IfOk result (λ sizes. HasMaximum g.now sizes.0 sizes.1) }
+{
+    let found = maximum(alloc, g)?;
+    found.matching.keeps_matching();
+    g.keeps_limits();
+    let edges = found.matching.len() as u32;
+    Ok((edges, g.order() - 2 * edges))
+}
+
 // What `analyse` tells of the graph.
 fn analysis_lines(alloc: Global, g: &MultiGraph) -> Result<AnalysisLines, Memory>
     ensures { IfOk result (λ lines. IsAnalysis g.now lines) }
 {
     let components = g.components(alloc)?;
     let bipartite = is_bipartite(alloc, g)?;
+    let (matching, deficiency) = maximum_sizes(alloc, g)?;
+    let sets = sets(alloc, g)?;
     Ok(AnalysisLines {
         order: g.order(),
         size: g.size(),
         components,
         bipartite,
+        matching,
+        deficiency,
+        d: sets.d,
+        a: sets.a,
+        c: sets.c,
     })
 }
 

@@ -6,7 +6,8 @@ use std::test::Fail;
 
 const K4: &str = "p mcg 4 6\ne 1 2\ne 1 3\ne 1 4\ne 2 3\ne 2 4\ne 3 4\n";
 
-const K4_REPORT: &str = "graph 4 6\ncomponents 1\nbipartite no\n";
+const K4_REPORT: &str =
+    "graph 4 6\ncomponents 1\nbipartite no\nmatching 2\ndeficiency 0\nD\nA\nC 1 2 3 4\n";
 
 // The words of a command.
 fn words_of(alloc: Global, words: &[&str]) -> Result<Vec<String>, Fail> {
@@ -33,15 +34,28 @@ fn analysed(alloc: Global, bytes: &[u8]) -> Result<(Status, Vec<u8>), Fail> {
 fn reports(rt: HostRuntime) -> Result<(), Fail> {
     let table = [
         (K4, K4_REPORT),
-        ("p mcg 0 0\n", "graph 0 0\ncomponents 0\nbipartite yes\n"),
+        (
+            "p mcg 0 0\n",
+            "graph 0 0\ncomponents 0\nbipartite yes\nmatching 0\ndeficiency 0\nD\nA\nC\n",
+        ),
         (
             "p mcg 4 2\ne 1 2\ne 3 4\n",
-            "graph 4 2\ncomponents 2\nbipartite yes\n",
+            "graph 4 2\ncomponents 2\nbipartite yes\nmatching 2\ndeficiency 0\nD\nA\nC 1 2 3 4\n",
+        ),
+        // the star
+        (
+            "p mcg 4 3\ne 1 2\ne 1 3\ne 1 4\n",
+            "graph 4 3\ncomponents 1\nbipartite yes\nmatching 1\ndeficiency 2\nD 2 3 4\nA 1\nC\n",
+        ),
+        // the triangle
+        (
+            "p mcg 3 3\ne 1 2\ne 1 3\ne 2 3\n",
+            "graph 3 3\ncomponents 1\nbipartite no\nmatching 1\ndeficiency 1\nD 1 2 3\nA\nC\n",
         ),
         // parallel edges are kept
         (
             "p mcg 2 2\ne 1 2\ne 1 2\n",
-            "graph 2 2\ncomponents 1\nbipartite yes\n",
+            "graph 2 2\ncomponents 1\nbipartite yes\nmatching 1\ndeficiency 0\nD\nA\nC 1 2\n",
         ),
         // comments, blanks, leading zeros, line ends of carriage return and line feed, no last line feed
         (

@@ -1,5 +1,5 @@
--- What the code reads of a net, and how a list grows: a place of a mapped list, of a longer list and of a list with one item set.
--- Idea: each is a reading law of lists at the one default that the definitions use.
+-- What the code reads of a net: its arcs, the rows of its nodes and the amounts on its arcs.
+-- Idea: each is a reading law of lists, at the one default that the definitions use.
 use Rattle.std.proofs.Common.{◌≡◌, ℕ, zero, suc, ◌<◌, ◌≤◌, ◌^◌, List, [], ◌∷◌, ◌++◌, length, get_or, set, map, refl, sym, ◌∙◌, ap, ap₂, arith, w64, to_z, of_z}
 use Rattle.std.specs.Prelude.{All, ℤ, pos, slice_get, Some}
 use mir.Val.{SFits}

@@ -1,5 +1,5 @@
 //! The least minimum cut up to a bound, or a flow above it.
-ghost use Rattle.std.specs.Prelude.{◌≡◌, ◌≢◌, ◌≤◌, ◌<◌, ◌↔◌, IfOk};
+ghost use Rattle.std.specs.Prelude.{◌≢◌, ◌≤◌, ◌<◌, ◌↔◌, IfOk};
 ghost use Rattle.counting.specs.Counts.{Within};
 ghost use Rattle.flow_core.specs.Nets.{IsLeastCut, HasCutWithin};
 ghost use Rattle.flow_core.specs.Flows.{IsFlow};

@@ -1,5 +1,5 @@
 //! The law of flows and cuts, the contract of a function that does nothing.
-ghost use Rattle.std.specs.Prelude.{◌≡◌, ℕ, ◌≤◌, List, ℤ, true};
+ghost use Rattle.std.specs.Prelude.{ℕ, ◌≤◌, List, ℤ};
 ghost use Rattle.counting.specs.Counts.{Within};
 ghost use Rattle.counting.specs.Sets.{Set};
 ghost use Rattle.flow_core.specs.Nets.{Net, IsNet, Separates, IsLeastCut, value_of};

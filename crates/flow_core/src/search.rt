@@ -1,5 +1,5 @@
 //! The search for a shortest path over arcs with room, breadth first.
-ghost use Rattle.std.specs.Prelude.{◌≡◌, ℕ, ◌+◌, ◌-◌, ◌≤◌, ◌<◌, ◌≢◌, ◌||◌, ◌==◌, [], ◌∷◌, ◌++◌, true, false, length, IfOk, OnOk, MatchBool, ℤ, List};
+ghost use Rattle.std.specs.Prelude.{◌≡◌, ℕ, ◌+◌, ◌<◌, ◌≢◌, ◌||◌, ◌==◌, [], ◌∷◌, ◌++◌, length, IfOk, OnOk, MatchBool, ℤ, List};
 ghost use Rattle.counting.specs.Counts.{Within};
 ghost use Rattle.counting.specs.Lists.{mem};
 ghost use Rattle.flow_core.specs.Nets.{IsBounded};
@@ -12,7 +12,7 @@ use crate::incidence::Incidence;
 use crate::net::Net;
 use crate::signed_list::SignedList;
 use std::alloc::{AllocError as Memory, Global};
-use vset_core::VSet;
+use vset_core::{MOST_VERTICES, VSet};
 
 /// A node that the search has reached: from which earlier visit, over which arc, and how much can go there from the root.
 #[derive(Clone, Copy)]
@@ -62,7 +62,7 @@ impl Reached {
 
     /// Adds the visit.
     fn push(&mut self, visit: Visit) -> Result<(), Memory>
-        requires { Within 128 visit.node }
+        requires { Within MOST_VERTICES visit.node }
         ensures visits { OnOk result (self.new.visits.items ≡ self.old.visits.items ++ visit ∷ []) }
         ensures seen { OnOk result ((v : ℕ) → mem self.new.seen v ≡ (mem self.old.seen v || visit.node == v)) }
     {

@@ -1,7 +1,7 @@
 -- A set whose test says a property on 1 to n is the list of the numbers with it, and what two such sets leave is the list of the
 -- numbers with neither property. Each number of a set of numbers 1 to n is one of them, and the tests decide the properties.
-use Rattle.std.proofs.Common.{◌≡◌, ℕ, List, Bool, true, false, not, ◌&&◌, ◌||◌, ◌∙◌, sym, ap, ◌↔◌, ◌⊎◌, inl, inr, arith}
-use Rattle.std.proofs.lemmas.Bool.{cases_Bool, both_ways, and_parts, or_cases}
+use Rattle.std.proofs.Common.{◌≡◌, ℕ, List, Bool, true, false, not, ◌&&◌, ◌||◌, ◌∙◌, sym, ap, ◌↔◌, arith}
+use Rattle.std.proofs.lemmas.Bool.{both_ways, true≢false}
 use Rattle.counting.specs.Counts.{Within}
 use Rattle.counting.specs.Lists.{mem, IsRisingIn, Lists}
 use Rattle.counting.proofs.Lists.{mem-within}
@@ -21,9 +21,9 @@ rest_listed n m all xs ys zs P Q r ra z full p q = record { rising = rising; sou
   where
     parts : (a b c : Bool) → (a && not (b || c)) ≡ true → (a ≡ true) × (b ≡ false) × (c ≡ false)
     parts true false false h = (h, ap not h, ap not h)
-    parts true true c h = absurd (both_ways true (sym h) h)
-    parts true false true h = absurd (both_ways true (sym h) h)
-    parts false b c h = absurd (both_ways true (sym h) h)
+    parts true true c h = absurd (true≢false (sym h))
+    parts true false true h = absurd (true≢false (sym h))
+    parts false b c h = absurd (true≢false (sym h))
 
     of : (v : ℕ) → mem zs v ≡ true → (mem all v ≡ true) × (mem xs v ≡ false) × (mem ys v ≡ false)
     of v h = parts (mem all v) (mem xs v) (mem ys v) (sym (z v) ∙ h)

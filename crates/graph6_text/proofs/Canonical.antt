@@ -1,21 +1,21 @@
 -- A text without header and line end that is accepted is the text of its graph. Idea: its bits can be read off the edges that
 -- they choose, and are written again as its bytes; and the size has one form.
-use Rattle.std.proofs.Common.{◌≡◌, ℕ, suc, zero, ◌+◌, ◌-◌, ◌*◌, ◌/◌, ◌%◌, ◌<◌, ◌≤◌, ◌≢◌, ◌==◌, ◌&&◌, Bool, true, false, cond, List, [], ◌∷◌, ◌++◌, length, map, take, drop, Option, Some, None, Result, Ok, Err, refl, sym, ap, ap₂, ◌∙◌, arith, leb, ltb, subst}
+use Rattle.std.proofs.Common.{◌≡◌, ℕ, ◌+◌, ◌*◌, ◌/◌, ◌%◌, ◌<◌, ◌≤◌, ◌==◌, Bool, true, false, cond, List, [], ◌∷◌, ◌++◌, length, map, take, drop, Option, Some, None, Ok, refl, sym, ap, ap₂, ◌∙◌, arith, leb, subst}
 use Rattle.std.proofs.lemmas.Bool.{and_parts, eqb-true, eqb-false, le-leb, lt-leb, leb-true, cond-true, cond-false}
-use Rattle.std.proofs.lemmas.List.{take-append-drop, length-append}
+use Rattle.std.proofs.lemmas.List.{take-append-drop}
 use Rattle.std.specs.List.{list_all, list_any}
 use Rattle.counting.specs.Sets.{none}
 use Rattle.graph_core.specs.Graph.{Graph}
 use Rattle.graph_core.specs.Simple.{IsSimple}
 use Rattle.graph_core.specs.Walks.{adjacent}
-use Rattle.graph_core.proofs.EndLists.{joins, adjacent-ends}
+use Rattle.graph_core.proofs.EndLists.{adjacent-ends}
 use Rattle.graph6_text.specs.Digits.{byte_of, digit_of, is_digit, bits_of, bytes_of}
-use Rattle.graph6_text.specs.Pairs.{column_pairs, chosen}
+use Rattle.graph6_text.specs.Pairs.{column_pairs}
 use Rattle.graph6_text.specs.Reading.{Fault, first_fault, faults_of, is_long, digit_at, order_of, data_of, filling_of, graph_of, graph_unless, body_of, outcome_of}
-use Rattle.graph6_text.specs.Writing.{size_of, adjacency_bits, text_of}
+use Rattle.graph6_text.specs.Writing.{size_of, adjacency_bits, graph6_of}
 use Rattle.graph6_text.proofs.Columns.{length-column_pairs, distinct_column_pairs}
 use Rattle.graph6_text.proofs.DistinctPairs.{present, present_chosen, distinct_chosen, simple_from_distinct}
-use Rattle.graph6_text.proofs.Passing.{IsFormed, formed, digits-data, enough_bits, AllFail, all_fail, first_fault-append}
+use Rattle.graph6_text.proofs.Passing.{IsFormed, formed, digits-data, enough_bits, all_fail, first_fault-append}
 use Rattle.graph6_text.proofs.RoundTrip.{AreZeros, bytes-bits_of}
 
 -- the adjacency bits say which pairs are among the edges
@@ -114,8 +114,8 @@ pub simple-graph_of : (body : List ℕ) → IsSimple (graph_of body)
 unfolding graph_of
 simple-graph_of body = simple_from_distinct (graph_of body) (distinct_chosen (column_pairs (order_of body)) (bits_of (data_of body)) (distinct_column_pairs (order_of body)))
 
-pub canonical : (text : List ℕ) (g : Graph) → body_of text ≡ text → outcome_of text ≡ Ok g → IsSimple g × (text_of g ≡ text)
-unfolding text_of data_of graph_of
+pub canonical : (text : List ℕ) (g : Graph) → body_of text ≡ text → outcome_of text ≡ Ok g → IsSimple g × (graph6_of g ≡ text)
+unfolding graph6_of data_of graph_of
 canonical text g bare h =
     let a = accepted text g h in
     let none : first_fault (faults_of text) ≡ None = ap (λ (body : List ℕ). first_fault (faults_of body)) (sym bare) ∙ a.0 in
@@ -123,6 +123,6 @@ canonical text g bare h =
     let front = none-front (take 9 (faults_of text)) (drop 9 (faults_of text)) none in
     let f = formed text front in
     let last = all_fail (drop 9 (faults_of text)) (sym (first_fault-append (take 9 (faults_of text)) (drop 9 (faults_of text)) front) ∙ none) in
-    let written : text_of (graph_of text) ≡ text =
+    let written : graph6_of (graph_of text) ≡ text =
     ap₂ ◌++◌ (size_taken text f) (data_taken text f last.0) ∙ take-append-drop (cond (is_long text) 4 1) text in
-    (subst IsSimple is (simple-graph_of text), ap text_of (sym is) ∙ written)
+    (subst IsSimple is (simple-graph_of text), ap graph6_of (sym is) ∙ written)

@@ -1,10 +1,11 @@
 -- What the checks of a body tell of it. Idea: where no fault of a list of tests is first, each test fails; and the first
 -- fault of two lists of tests is that of the one, or else that of the other.
-use Rattle.std.proofs.Common.{◌≡◌, ℕ, ◌+◌, ◌*◌, ◌/◌, ◌<◌, ◌≤◌, ◌==◌, ◌&&◌, Bool, true, false, not, cond, List, [], ◌∷◌, ◌++◌, length, take, drop, Option, Some, None, Ok, Err, refl, sym, ap, ap₂, ◌∙◌, arith, ltb, leb, nat_lt}
+use Rattle.std.proofs.Common.{◌≡◌, ℕ, ◌+◌, ◌*◌, ◌/◌, ◌<◌, ◌≤◌, ◌==◌, ◌&&◌, Bool, true, false, cond, List, [], ◌∷◌, ◌++◌, length, take, drop, Option, Some, None, Ok, Err, refl, sym, ap, ap₂, ◌∙◌, arith, ltb, leb, nat_lt}
 use Rattle.std.proofs.lemmas.Bool.{and_parts, not-false, eqb-false, ltb-false, leb-false}
 use Rattle.std.proofs.lemmas.List.{take-append-drop}
 use Rattle.std.proofs.lemmas.List.Folds.{list_all-append}
 use Rattle.std.specs.List.{list_all, list_any}
+use Rattle.graph_core.specs.Faults.{IsFault}
 use Rattle.graph_core.specs.Graph.{Graph, size}
 use Rattle.graph_core.specs.declared.faults.FaultKind.TheVariants.{Padding, Limit}
 use Rattle.graph_core.specs.declared.faults.TextFault.{TextFault}
@@ -12,7 +13,7 @@ use Rattle.graph_core.specs.declared.faults.TextFault.TheVariants as fault
 use Rattle.graph6_text.specs.Digits.{is_digit, bits_of}
 use Rattle.graph6_text.specs.Pairs.{column_pairs, chosen}
 use Rattle.graph6_text.specs.Checks.{limit_row, Checks, IsFirstFault}
-use Rattle.graph6_text.specs.Reading.{Fault, first_fault, faults_of, is_long, order_of, data_of, data_len, pair_count, filling_of, graph_of, graph_unless, body_of, outcome_of, IsFaultOf}
+use Rattle.graph6_text.specs.Reading.{Fault, first_fault, faults_of, is_long, order_of, data_of, data_len, pair_count, filling_of, graph_of, graph_unless, body_of, outcome_of}
 use Rattle.graph6_text.proofs.SixBits.{length-bits_of}
 use Rattle.graph6_text.proofs.Columns.{length-column_pairs}
 
@@ -127,7 +128,7 @@ last_rows body n from pairs bits again order columns place turned same =
     ap₂ (λ (x : Bool) (y : Bool). (x, (1, Padding)) ∷ (y, (1, Limit)) ∷ []) filling edges
 
 -- a text whose body has this first fault, or none
-pub outcome-fault : (text : List ℕ) (e : TextFault) → IsFirstFault (faults_of (body_of text)) e → IsFaultOf (outcome_of text) e
+pub outcome-fault : (text : List ℕ) (e : TextFault) → IsFirstFault (faults_of (body_of text)) e → IsFault e (outcome_of text)
 unfolding outcome_of
 outcome-fault text (fault.At line kind) h = ap (λ (f : Option Fault). graph_unless f (graph_of (body_of text))) h
 outcome-fault text fault.Memory h = tt

@@ -1,28 +1,27 @@
 -- The text of a graph is accepted, with a graph of the same order and the same adjacent pairs. Idea: each of its bytes writes a
 -- digit, so that nothing is set aside; the bits that are read are those that were written, with zeros behind them.
-use Rattle.std.proofs.Common.{◌≡◌, ℕ, suc, zero, ◌+◌, ◌-◌, ◌*◌, ◌/◌, ◌%◌, ◌<◌, ◌≤◌, ◌≢◌, ◌==◌, ◌&&◌, ◌||◌, not, Bool, true, false, cond, List, [], ◌∷◌, ◌++◌, length, map, take, drop, Option, Some, None, Ok, refl, sym, ap, ap₂, ◌∙◌, arith, leb, ltb, inl, inr, subst, codes, nat_eq, get_or}
-use Rattle.std.proofs.lemmas.Bool.{and_parts, and_from, and_left, and_right, or_from, both_ways, cases_lt, cases_order, cases_Bool, false_from_ne_true, not_from_true, ne_eqb, le-leb, lt-leb, le-ltb, true≢false, cond-false}
-use Rattle.std.proofs.lemmas.Bool.Decides.{Decides-eqb, nat_tests}
-use Rattle.std.proofs.lemmas.List.{drop_at, length-append, length-map}
+use Rattle.std.proofs.Common.{◌≡◌, ℕ, ◌+◌, ◌-◌, ◌/◌, ◌%◌, ◌<◌, ◌≤◌, ◌≢◌, ◌==◌, ◌&&◌, Bool, true, false, cond, List, [], ◌∷◌, ◌++◌, length, map, take, drop, None, Ok, refl, sym, ap, ap₂, ◌∙◌, arith, leb, ltb, inl, inr, subst, codes, nat_eq, get_or}
+use Rattle.std.proofs.lemmas.Bool.{and_parts, and_from, and_left, and_right, or_from, both_ways, cases_lt, cases_order, cases_Bool, false_from_ne_true, not_from_true, ne_eqb, lt-leb, le-ltb, cond-false}
+use Rattle.std.proofs.lemmas.Bool.Decides.{Decides-eqb}
+use Rattle.std.proofs.lemmas.List.{drop_at, length-map}
 use Rattle.std.proofs.lemmas.List.Folds.{list_all-append}
 use Rattle.std.proofs.lemmas.Slice.Eq.{starts_is, ends_is}
 use Rattle.std.specs.List.{list_all, list_any, starts_with, ends_with}
-use Rattle.counting.specs.Counts.{Within}
 use Rattle.counting.specs.Sets.{none}
 use Rattle.graph_core.specs.Graph.{Graph, size, first_end, second_end, has_ends}
 use Rattle.graph_core.specs.View.{IsWithinLimits}
 use Rattle.graph_core.specs.Walks.{adjacent}
 use Rattle.graph_core.proofs.EndLists.{joins, adjacent-ends}
 use Rattle.graph_core.proofs.Walks.{adjacent-edge, adjacent_back, adjacent_within, has_ends-cases}
-use Rattle.graph6_text.specs.Digits.{byte_of, digit_of, is_digit, bits_of, bytes_of}
+use Rattle.graph6_text.specs.Digits.{byte_of, is_digit, bits_of, bytes_of}
 use Rattle.graph6_text.specs.Pairs.{column_pairs, chosen}
-use Rattle.graph6_text.specs.Reading.{without_header, without_line_end, Fault, first_fault, faults_of, is_long, digit_at, order_of, data_of, data_len, pair_count, filling_of, graph_of, body_of, outcome_of}
-use Rattle.graph6_text.specs.Writing.{size_of, adjacency_bits, text_of, ReadsBack}
+use Rattle.graph6_text.specs.Reading.{without_header, without_line_end, first_fault, faults_of, is_long, order_of, data_of, data_len, pair_count, filling_of, graph_of, body_of}
+use Rattle.graph6_text.specs.Writing.{size_of, adjacency_bits, graph6_of, ReadsBack}
 use Rattle.graph6_text.proofs.Canonical.{digit_bounds, size-short, size-long, order-short, order-long, present-adjacent, simple-graph_of}
 use Rattle.graph6_text.proofs.Choosing.{chosen-filled}
 use Rattle.graph6_text.proofs.Columns.{length-column_pairs, distinct_column_pairs, any_column_pair}
 use Rattle.graph6_text.proofs.DistinctPairs.{present, present_at_most, any_chosen, any_none, joins-own, joins-turned, joins-cases}
-use Rattle.graph6_text.proofs.Passing.{AllFail, none_from_all_fail, outcome-graph}
+use Rattle.graph6_text.proofs.Passing.{none_from_all_fail, outcome-graph}
 use Rattle.graph6_text.proofs.RoundTrip.{AreZeros, Filled, bits-bytes_of, length-bytes_of, is_digit-byte_of, digits-bytes_of}
 
 -- a list of digits holds no byte that is none
@@ -126,17 +125,17 @@ module _ (g : Graph) (limits : IsWithinLimits g) where
   length-bits : length bits ≡ length pairs
   length-bits = ap length bits-tested ∙ length-map pairs (λ p. adjacent g none p.0 p.1)
 
-  size-text : Sized g.order (bytes_of bits) (text_of g)
-  unfolding text_of
+  size-text : Sized g.order (bytes_of bits) (graph6_of g)
+  unfolding graph6_of
   size-text = sized g.order (bytes_of bits) limits.vertices
 
-  digits-text : list_all is_digit (text_of g) ≡ true
+  digits-text : list_all is_digit (graph6_of g) ≡ true
   digits-text = size-text.digits ∙ digits-bytes_of bits
 
-  read_bits : Filled bits (bits_of (data_of (text_of g)))
+  read_bits : Filled bits (bits_of (data_of (graph6_of g)))
   read_bits = subst (λ (xs : List ℕ). Filled bits (bits_of xs)) (sym size-text.behind) (bits-bytes_of bits)
 
-  graph-text : graph_of (text_of g) ≡ record { order = g.order; ends = chosen pairs bits }
+  graph-text : graph_of (graph6_of g) ≡ record { order = g.order; ends = chosen pairs bits }
   unfolding graph_of
   graph-text =
       let make : ℕ → List (ℕ × ℕ) → Graph = λ k es. record { order = k; ends = es } in
@@ -146,34 +145,34 @@ module _ (g : Graph) (limits : IsWithinLimits g) where
   many_pairs : length pairs ≡ pair_count g.order
   many_pairs = length-column_pairs g.order
 
-  due-text : length (data_of (text_of g)) ≡ data_len (order_of (text_of g))
+  due-text : length (data_of (graph6_of g)) ≡ data_len (order_of (graph6_of g))
   due-text = ap length size-text.behind ∙ length-bytes_of bits ∙ ap (λ (t : ℕ). (t + 5) / 6) (length-bits ∙ many_pairs) ∙ ap data_len (sym size-text.order)
 
-  zeros-text : AreZeros (filling_of (text_of g))
+  zeros-text : AreZeros (filling_of (graph6_of g))
   zeros-text =
-      let place : pair_count (order_of (text_of g)) ≡ length bits = ap pair_count size-text.order ∙ sym (length-bits ∙ many_pairs) in
+      let place : pair_count (order_of (graph6_of g)) ≡ length bits = ap pair_count size-text.order ∙ sym (length-bits ∙ many_pairs) in
       ap₂ (λ (t : ℕ) (xs : List Bool). list_any (λ bit. bit) (drop t xs)) place read_bits.behind
       ∙ ap (list_any (λ bit. bit)) (drop_at bits read_bits.filling (length bits) refl) ∙ read_bits.zeros
 
-  few-text : size (graph_of (text_of g)) ≤ 2048
+  few-text : size (graph_of (graph6_of g)) ≤ 2048
   few-text =
-      let e : size (graph_of (text_of g)) ≡ length (chosen pairs (present g.ends pairs)) =
+      let e : size (graph_of (graph6_of g)) ≡ length (chosen pairs (present g.ends pairs)) =
       ap size graph-text ∙ ap (λ (bs : List Bool). length (chosen pairs bs)) (bits-tested ∙ present-adjacent g pairs) in
       let most = present_at_most g.ends pairs (distinct_column_pairs g.order) in
       let limit = limits.edges in
       omega arith
 
-  no_fault-text : first_fault (faults_of (text_of g)) ≡ None
+  no_fault-text : first_fault (faults_of (graph6_of g)) ≡ None
   no_fault-text =
-      let order = limit (order_of (text_of g)) g.order size-text.order limits.vertices in
-      let due = same_length (length (data_of (text_of g))) (data_len (order_of (text_of g))) due-text in
-      none_from_all_fail (faults_of (text_of g)) (
+      let order = limit (order_of (graph6_of g)) g.order size-text.order limits.vertices in
+      let due = same_length (length (data_of (graph6_of g))) (data_len (order_of (graph6_of g))) due-text in
+      none_from_all_fail (faults_of (graph6_of g)) (
         size-text.some,
         (
-          no_line_feed (text_of g) digits-text,
+          no_line_feed (graph6_of g) digits-text,
           (
-            not_from_true (list_all is_digit (text_of g)) digits-text,
-            (size-text.whole, (size-text.not_longer, (size-text.due_form, (order, (due.0, (due.1, (zeros-text, (le-ltb 2048 (size (graph_of (text_of g))) few-text, tt)))))))),
+            not_from_true (list_all is_digit (graph6_of g)) digits-text,
+            (size-text.whole, (size-text.not_longer, (size-text.due_form, (order, (due.0, (due.1, (zeros-text, (le-ltb 2048 (size (graph_of (graph6_of g))) few-text, tt)))))))),
           ),
         ),
       )
@@ -217,9 +216,9 @@ module _ (g : Graph) (limits : IsWithinLimits g) where
         | inr p ↦ p.0 ∙ sym same ∙ sym p.1
       ]
 
-  adjacent-text : (u v : ℕ) → adjacent (graph_of (text_of g)) none u v ≡ adjacent g none u v
+  adjacent-text : (u v : ℕ) → adjacent (graph_of (graph6_of g)) none u v ≡ adjacent g none u v
   adjacent-text u v =
-      adjacent-ends (graph_of (text_of g)) u v
+      adjacent-ends (graph_of (graph6_of g)) u v
       ∙ ap (λ (h : Graph). list_any (joins u v) h.ends) graph-text
       ∙ ap (λ (bs : List Bool). list_any (joins u v) (chosen pairs bs)) bits-tested
       ∙ any_chosen (λ p. adjacent g none p.0 p.1) (joins u v) pairs
@@ -229,13 +228,13 @@ module _ (g : Graph) (limits : IsWithinLimits g) where
       go true h = some_edge u v h ∙ sym h
       go false h = any_none (is_edge u v) pairs (not_edge u v h) ∙ sym h
 
-  pub reads_back : ReadsBack (text_of g) g
+  pub reads_back : ReadsBack (graph6_of g) g
   reads_back =
-      let is : body_of (text_of g) ≡ text_of g = bare (text_of g) digits-text in
+      let is : body_of (graph6_of g) ≡ graph6_of g = bare (graph6_of g) digits-text in
       record {
-        graph = graph_of (text_of g);
-        stands = outcome-graph (text_of g) (ap (λ (body : List ℕ). first_fault (faults_of body)) is ∙ no_fault-text) ∙ ap (λ (body : List ℕ). Ok (graph_of body)) is;
+        graph = graph_of (graph6_of g);
+        stands = outcome-graph (graph6_of g) (ap (λ (body : List ℕ). first_fault (faults_of body)) is ∙ no_fault-text) ∙ ap (λ (body : List ℕ). Ok (graph_of body)) is;
         order = ap (λ (h : Graph). h.order) graph-text;
-        simple = simple-graph_of (text_of g);
+        simple = simple-graph_of (graph6_of g);
         adjacent_pairs = adjacent-text;
       }

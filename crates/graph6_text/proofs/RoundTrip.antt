@@ -1,12 +1,12 @@
 -- Bits that are written as bytes are read again, with zeros behind them; and bytes that are read as bits are written again,
 -- where only zeros stand behind the bits. Idea: six bits and a digit determine each other, by division; then six by six.
-use Rattle.std.proofs.Common.{◌≡◌, ℕ, suc, zero, ◌+◌, ◌-◌, ◌*◌, ◌/◌, ◌%◌, ◌<◌, ◌≤◌, ◌==◌, ◌&&◌, ◌||◌, Bool, true, false, cond, List, [], ◌∷◌, ◌++◌, length, map, take, drop, refl, sym, ap, ap₂, ◌∙◌, arith, leb}
+use Rattle.std.proofs.Common.{◌≡◌, ℕ, suc, zero, ◌+◌, ◌*◌, ◌/◌, ◌%◌, ◌<◌, ◌==◌, Bool, true, false, cond, List, [], ◌∷◌, ◌++◌, length, take, drop, refl, sym, ap, ap₂, ◌∙◌, arith, leb}
 use Rattle.std.proofs.lemmas.Bool.{and_parts, and_from, or_parts, or_from, leb-true, le-leb}
-use Rattle.std.proofs.lemmas.List.{append_assoc, append-nil, length-append, nil_from_length}
+use Rattle.std.proofs.lemmas.List.{append-nil, nil_from_length}
 use Rattle.std.specs.List.{list_all, list_any}
 use Rattle.counting.specs.Counts.{bit}
 use Rattle.graph6_text.specs.Digits.{byte_of, digit_of, is_digit, weights, bits_of_digit, weight_of, digit_of_bits, bits_of, bytes_of}
-use Rattle.graph6_text.proofs.SixBits.{digit_of_bits-lt, bits_of-nil, bits_of-cons, bytes_of-nil}
+use Rattle.graph6_text.proofs.SixBits.{digit_of_bits-lt, bits_of-nil, bits_of-cons}
 
 bit_lt : (b : Bool) → bit b < 2
 bit_lt true = omega arith

@@ -4,8 +4,6 @@ use Rattle.std.specs.List.{list_all, list_any, starts_with, ends_with}
 use Rattle.graph_core.specs.Graph.{Graph, size}
 use Rattle.graph_core.specs.declared.faults.FaultKind.{FaultKind}
 use Rattle.graph_core.specs.declared.faults.FaultKind.TheVariants.{Missing, Extra, Range, Limit, Padding, LongForm}
-use Rattle.graph_core.specs.declared.faults.TextFault.{TextFault}
-use Rattle.graph_core.specs.declared.faults.TextFault.TheVariants as fault
 use Rattle.graph6_text.specs.Digits.{digit_of, is_digit, bits_of}
 use Rattle.graph6_text.specs.Pairs.{column_pairs, chosen}
 
@@ -92,8 +90,3 @@ graph_unless (Some fault) g = Err fault
 -- what a text stands for: a graph, or else its first fault
 unfoldable pub outcome_of : List ℕ → Result Graph Fault
 outcome_of text = graph_unless (first_fault (faults_of (body_of text))) (graph_of (body_of text))
-
--- a reader that answers this fault names the first fault of the text, unless it wants memory
-abbrev pub IsFaultOf : Result Graph Fault → TextFault → Type 0
-IsFaultOf outcome (fault.At line kind) = outcome ≡ Err (line, kind)
-IsFaultOf outcome fault.Memory = Unit {0}

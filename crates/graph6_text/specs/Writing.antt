@@ -18,8 +18,8 @@ unfoldable pub adjacency_bits : Graph → List Bool
 adjacency_bits g = map (λ pair. adjacent g none pair.0 pair.1) (column_pairs g.order)
 
 -- the text of a graph: the size and then the data, without header and line end
-unfoldable pub text_of : Graph → List ℕ
-text_of g = size_of g.order ++ bytes_of (adjacency_bits g)
+unfoldable pub graph6_of : Graph → List ℕ
+graph6_of g = size_of g.order ++ bytes_of (adjacency_bits g)
 
 -- the text stands for a simple graph of the same order with the same adjacent pairs
 pub record ReadsBack (text : List ℕ) (g : Graph) : Type 0 where

@@ -4,7 +4,7 @@
 //! the text of a simple graph.
 //!
 //! Main definitions: `outcome_of`, which is a table of eleven faults in their order and else a graph (specs/Reading);
-//! `text_of`, the size and then one bit for each pair of vertices, column by column (specs/Writing); `bits_of` and `bytes_of`
+//! `graph6_of`, the size and then one bit for each pair of vertices, column by column (specs/Writing); `bits_of` and `bytes_of`
 //! (specs/Digits).
 //! Main promises: the reader answers exactly what `outcome_of` says; what the writer writes is accepted, with a simple graph
 //! of the same order and the same adjacent pairs (`read_back_law`); a text without header and line end that is accepted is

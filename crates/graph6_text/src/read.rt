@@ -1,11 +1,12 @@
 //! Reading graph6 texts.
 ghost use Rattle.std.specs.Prelude.{◌≡◌, ◌≤◌, [], ◌∷◌, IfOk, IfErr, OnOk, None, length, drop, map, take};
 ghost use Rattle.std.specs.List.{list_any};
+ghost use Rattle.graph_core.specs.Faults.{IsFault};
 ghost use Rattle.graph_core.specs.Simple.{IsSimple};
 ghost use Rattle.graph_core.specs.View.{pair_of};
 ghost use Rattle.graph6_text.specs.Pairs.{chosen};
 ghost use Rattle.graph6_text.specs.Checks.{limit_row, Checks, IsFirstFault};
-ghost use Rattle.graph6_text.specs.Reading.{outcome_of, graph_of, faults_of, first_fault, IsFaultOf};
+ghost use Rattle.graph6_text.specs.Reading.{outcome_of, graph_of, faults_of, first_fault};
 
 use crate::body::{body, data, order};
 use crate::checks::{check_body, fault};
@@ -21,9 +22,9 @@ use std::alloc::Global;
 /// is of 36 bits (Limit) or of at most 62 vertices (LongForm); more than `MOST_VERTICES` vertices (Limit); the data are too
 /// short (Missing) or too long (Extra); a filling bit is set (Padding); more than `MOST_EDGES` edges (Limit).
 pub fn read_graph6(alloc: Global, bytes: &[u8]) -> Result<MultiGraph, TextFault>
-    ensures graph { IfOk result (λ g. outcome_of bytes.now ≡ Ok g) }
+    ensures value { IfOk result (λ g. outcome_of bytes.now ≡ Ok g) }
     ensures simple { IfOk result IsSimple }
-    ensures fault { IfErr result (IsFaultOf (outcome_of bytes.now)) }
+    ensures fault { IfErr result (λ fault. IsFault fault (outcome_of bytes.now)) }
 {
     let body = body(bytes);
     check_body(body)?;

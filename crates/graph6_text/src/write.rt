@@ -2,7 +2,7 @@
 ghost use Rattle.std.specs.Prelude.{◌≡◌, ◌<◌, ◌^◌, IfOk};
 ghost use Rattle.graph_core.specs.Simple.{IsSimple};
 ghost use Rattle.graph6_text.specs.Digits.{byte_of};
-ghost use Rattle.graph6_text.specs.Writing.{size_of, adjacency_bits, text_of, ReadsBack};
+ghost use Rattle.graph6_text.specs.Writing.{size_of, adjacency_bits, graph6_of, ReadsBack};
 
 use crate::body::LONG;
 use crate::checks::MOST_SHORT;
@@ -15,7 +15,7 @@ use std::alloc::{AllocError as Memory, Global};
 /// same adjacent pairs. Takes memory for the text and for one bit a pair of vertices.
 pub fn write_graph6(alloc: Global, g: &MultiGraph) -> Result<Vec<u8>, Memory>
     requires { IsSimple g.now }
-    ensures text { IfOk result (λ text. text.items ≡ text_of g.now) }
+    ensures text { IfOk result (λ text. text.items ≡ graph6_of g.now) }
     ensures reads_back { IfOk result (λ text. ReadsBack text.items g.now) }
 {
     let bits = to_adjacency_bits(alloc, g)?;

@@ -157,7 +157,7 @@ module _ (g : Graph) (is : IsGraph g) (p : List (List ℕ)) (pp : AreBlocks g.or
       turn true false true = refl
       turn true false false = refl
 
-  -- L3 at p
+  -- uncrossing at the partition p
   module _ (cov : IsCovered (contracted g p)) (x y : Set) (tx : IsTightAt g p x) (ty : IsTightAt g p y) (odd : is_odd (block_count p (meet x y)) ≡ true) where
     met : (i : ℕ) → Within (length p) i → meet (blocks_in p x) (blocks_in p y) i ≡ blocks_in p (meet x y) i
     met i w = ap₂ ◌&&◌ (at_rep g.order p pp x tx.union i w) (at_rep g.order p pp y ty.union i w) ∙ sym (at_rep g.order p pp (meet x y) (union_meet g.order p pp x y tx.union ty.union) i w)

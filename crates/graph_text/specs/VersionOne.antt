@@ -1,9 +1,9 @@
 -- Version 1 of the graph format: a header `p mcg N M` and M lines `e A B`.
-use Rattle.std.specs.Prelude.{ℕ, ◌&&◌, ◌||◌, not, nat_lt, List, [], ◌∷◌, codes, Result}
+use Rattle.std.specs.Prelude.{ℕ, ◌≤◌, ◌&&◌, ◌||◌, not, nat_lt, List, [], ◌∷◌, codes, Result}
 use Rattle.line_text.specs.Format.{Rules, checked}
 use Rattle.line_text.specs.Words.{has_form, word_at}
 use Rattle.line_text.specs.Numerals.{is_number, value_of}
-use Rattle.graph_core.specs.Graph.{Graph}
+use Rattle.graph_core.specs.Graph.{Graph, IsMultigraph, size}
 use Rattle.graph_core.specs.declared.faults.FaultKind.{FaultKind}
 use Rattle.graph_core.specs.declared.faults.FaultKind.TheVariants as kind
 use Rattle.graph_text.specs.GraphLines.{GraphSoFar, graph_line, graph_end}
@@ -29,3 +29,9 @@ header words =
 -- the format
 abbrev pub version_one : Rules GraphSoFar Graph FaultKind
 version_one = record { header = header; line = graph_line; close = graph_end; headless = kind.Header }
+
+-- a multigraph within the limits of version 1
+pub record FitsVersionOne (g : Graph) : Type 0 where
+  pub multigraph : IsMultigraph g
+  pub vertices : g.order ≤ most_vertices
+  pub edges : size g ≤ most_edges

@@ -113,17 +113,16 @@ module _ (g : Graph) (is : IsGraph g) (b : Best) (best : IsBest g none b) (es : 
   pub best_next : (v : ℕ) → Within g.order v → (inner v ≡ true) ↔ InA g v
   best_next v w = (
     (λ t.
-    let n = inner_next g is none k outer inner frame (mem es) mm refl v w t in
-    let o = n.2.1 in
-    let wo : Within g.order o = elim n.2.3 [ inl q ↦ subst (Within g.order) q.1 (is n.2.0 n.2.2).1 | inr q ↦ subst (Within g.order) q.0 (is n.2.0 n.2.2).0 ] in
-    (
-      (λ d. both_ways (outer v) n.0 ((best_missed v w).1 d)),
-      (o, wo, (best_missed o wo).0 n.2.4, adjacent_from g none v o n.2.0 refl refl n.2.2 (has_ends-from g v o n.2.0 n.2.3)),
-    )),
+        let n = inner_next g is none k outer inner frame (mem es) mm refl v w t in
+        let o = n.2.1 in
+        let wo : Within g.order o = elim n.2.3 [ inl q ↦ subst (Within g.order) q.1 (is n.2.0 n.2.2).1 | inr q ↦ subst (Within g.order) q.0 (is n.2.0 n.2.2).0 ] in (
+          (λ d. both_ways (outer v) n.0 ((best_missed v w).1 d)),
+          (o, wo, (best_missed o wo).0 n.2.4, adjacent_from g none v o n.2.0 refl refl n.2.2 (has_ends-from g v o n.2.0 n.2.3)),
+        )),
     (λ a.
-    let u = a.1.0 in
-    let e = edge_of g none v u a.1.3 in
-    next_inner g is none k outer inner frame (mem es) mm refl v w (false_from_ne_true (outer v) (λ t. a.0 ((best_missed v w).0 t))) refl e.0 u e.1 e.4 ((best_missed u a.1.1).1 a.1.2)),
+        let u = a.1.0 in
+        let e = edge_of g none v u a.1.3 in
+        next_inner g is none k outer inner frame (mem es) mm refl v w (false_from_ne_true (outer v) (λ t. a.0 ((best_missed v w).0 t))) refl e.0 u e.1 e.4 ((best_missed u a.1.1).1 a.1.2)),
   )
 
   pub outer_rises : IsRisingIn 128 b.sets.outer → IsRisingIn g.order b.sets.outer

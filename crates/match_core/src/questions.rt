@@ -83,12 +83,7 @@ fn marks_with(
 }
 
 // The ends of the edges, if no two of them share one.
-fn ends_met(
-    alloc: Global,
-    n: u32,
-    ends: &[Ends],
-    edges: &[u32],
-) -> Result<Option<VSet>, Memory>
+fn ends_met(alloc: Global, n: u32, ends: &[Ends], edges: &[u32]) -> Result<Option<VSet>, Memory>
     requires row { IsGraphRow n ends.now }
     requires edges { All (Within (length ends.now)) edges.now }
     ensures once { IfOk result (λ o. (met : _) → o ≡ Some met → MeetOnce (graph_of n ends.now) (mem edges.now) (mem met)) }

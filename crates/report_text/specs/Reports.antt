@@ -30,7 +30,7 @@ numbers_text (n ∷ ns) = codes " " ++ (decimal n ++ numbers_text ns)
 
 -- a line of a word and a list of numbers
 abbrev pub list_line : List ℕ → List ℕ → List ℕ
-list_line word ns = word ++ numbers_text ns ++ codes "\n"
+list_line word ns = word ++ (numbers_text ns ++ codes "\n")
 
 -- what a reason adds to the line of a graph that is not covered
 abbrev pub reason_text : Reason → List ℕ
@@ -44,9 +44,25 @@ unfoldable pub verdict_text : Verdict → List ℕ
 verdict_text Covered = codes "covered yes\n"
 verdict_text (NotCovered reason) = codes "covered no" ++ reason_text reason ++ codes "\n"
 
+-- the line with the number of edges of a maximum matching
+abbrev pub matching_line : ℕ → List ℕ
+matching_line edges = codes "matching " ++ decimal edges ++ codes "\n"
+
+-- the line with the number of vertices that a maximum matching misses
+abbrev pub deficiency_line : ℕ → List ℕ
+deficiency_line missed = codes "deficiency " ++ decimal missed ++ codes "\n"
+
+-- the lines on the graph and its sides
+abbrev pub graph_lines : AnalysisLines → List ℕ
+graph_lines lines = (graph_line lines.order lines.size ++ components_line lines.components) ++ bipartite_line lines.bipartite
+
+-- the lines of the Gallai-Edmonds sets behind others
+abbrev pub with_three_sets : List ℕ → AnalysisLines → List ℕ
+with_three_sets before lines = ((before ++ list_line (codes "D") lines.d) ++ list_line (codes "A") lines.a) ++ list_line (codes "C") lines.c
+
 -- the report of `analyse`
 unfoldable pub analysis_text : AnalysisLines → List ℕ
-analysis_text lines = (graph_line lines.order lines.size ++ components_line lines.components) ++ bipartite_line lines.bipartite
+analysis_text lines = with_three_sets ((graph_lines lines ++ matching_line lines.matching) ++ deficiency_line lines.deficiency) lines
 
 -- the report of a file that is outside its format: its place among the named files, the line and the kind of the fault
 unfoldable pub bad_input_text : (file line kind : ℕ) → List ℕ

@@ -1,6 +1,7 @@
 -- What a reader of a text answers, with the faults that all texts share.
 use Rattle.std.specs.Prelude.{◌≡◌, ℕ, List, Result, Ok, Err}
 use Rattle.line_text.specs.Format.{Rules, FirstFault}
+use Rattle.graph_core.specs.Faults.{IsFault}
 use Rattle.graph_core.specs.declared.faults.FaultKind.{FaultKind}
 use Rattle.graph_core.specs.declared.faults.TextFault.{TextFault}
 use Rattle.graph_core.specs.declared.faults.TextFault.TheVariants.{At, Memory}
@@ -9,11 +10,6 @@ use Rattle.graph_core.specs.declared.faults.TextFault.TheVariants.{At, Memory}
 abbrev pub IsFirstFault : {Body Value : Type 0} → Rules Body Value FaultKind → List ℕ → TextFault → Type 0
 IsFirstFault rules text (At line kind) = FirstFault rules text line kind
 IsFirstFault rules text Memory = Unit {0}
-
--- a fault is this one, unless memory ran out
-abbrev pub IsFault : {Value : Type 0} → TextFault → Result Value (ℕ × FaultKind) → Type 0
-IsFault (At line kind) outcome = outcome ≡ Err (line, kind)
-IsFault Memory outcome = Unit {0}
 
 -- what a reader answered, seen by view, is this value or this fault, unless memory ran out
 abbrev pub ReadsText : {X Value : Type 0} → (X → Value) → Result X TextFault → Result Value (ℕ × FaultKind) → Type 0

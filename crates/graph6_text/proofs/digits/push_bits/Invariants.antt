@@ -1,5 +1,4 @@
 use Rattle.std.proofs.Common.{◌≡◌, ◌/◌, ◌%◌, ◌==◌, ◌++◌, map, take}
-use Rattle.graph6_text.specs.Digits.{weights}
 use Rattle.graph6_text.proofs.digits.push_bits.Given as goal
 
 abbrev pub invariant-loop-weight : goal.invariant-loop-weight

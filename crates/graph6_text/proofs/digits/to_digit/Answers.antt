@@ -1,5 +1,4 @@
-use Rattle.std.proofs.Common.{arith, get_or, true, false, ◌+◌, cond, ◌≡◌, refl}
-use Rattle.graph6_text.specs.Digits.{weights}
+use Rattle.std.proofs.Common.{arith}
 use Rattle.graph6_text.proofs.SixBits.{weighed_more, weighed_all}
 use Rattle.graph6_text.proofs.digits.to_digit.Goals as goal
 use Rattle.graph6_text.proofs.digits.to_digit.Goals.{then-bit, else-bit}

@@ -1,4 +1,4 @@
-use Rattle.std.proofs.Common.{◌≡◌, ◌++◌, ◌∷◌, ◌∙◌, ◌+◌, ◌-◌, ap, arith, map, [], subst, ℕ, List, sym}
+use Rattle.std.proofs.Common.{◌≡◌, ◌++◌, ◌∷◌, ◌∙◌, ◌+◌, ◌-◌, ap, arith, map, [], ℕ, sym}
 use Rattle.std.proofs.lemmas.List.{map-append}
 use Rattle.graph_core.specs.View.{pair_of}
 use Rattle.graph6_text.specs.Pairs.{column}

@@ -1,11 +1,11 @@
-use Rattle.std.proofs.Common.{◌≡◌, ◌∙◌, ◌++◌, ap, sym, subst, take, drop, List, ℕ, Result, Ok, Err, None}
+use Rattle.std.proofs.Common.{◌≡◌, ◌∙◌, ap, sym, subst, take, drop, List, ℕ, Result, Ok, Err, None}
 use Rattle.std.proofs.lemmas.Result.{err_from_is_err_and, IfOk-weaker, IfErr-weaker}
 use Rattle.std.specs.Result.{IfOk, OnOk}
 use Rattle.graph_core.specs.Graph.{Graph}
 use Rattle.graph_core.specs.Simple.{IsSimple}
 use Rattle.graph6_text.proofs.Canonical.{simple-graph_of}
 use Rattle.graph6_text.specs.Checks.{IsFirstFault}
-use Rattle.graph6_text.specs.Reading.{body_of, faults_of, first_fault, graph_of, outcome_of, IsFaultOf}
+use Rattle.graph6_text.specs.Reading.{faults_of, first_fault, graph_of, outcome_of}
 use Rattle.graph6_text.proofs.Passing.{outcome-fault, outcome-graph, is_first-front, is_first-behind, first_fault-append}
 use Rattle.graph6_text.proofs.read.read_graph6.Goals as goal
 
@@ -22,8 +22,8 @@ returns-in_err-check_body-clause-fault c =
     rw (p.1, p.2) (outcome-fault c.args.bytes.now e (subst (λ (xs : List ℕ). IsFirstFault (faults_of xs) e) c.body-body.ensures
     (is_first-front (take 9 (faults_of body)) (drop 9 (faults_of body)) e c.in_err-check_body.ensures)))
 
-pub returns-clause-graph : goal.returns-clause-graph
-returns-clause-graph c =
+pub returns-clause-value : goal.returns-clause-value
+returns-clause-value c =
     let body = c.body-body.result.now in
     both c.to_graph.result (λ g. g ≡ graph_of body) (first_fault (drop 9 (faults_of body)) ≡ None) (λ g. outcome_of c.args.bytes.now ≡ Ok g) c.to_graph.ensures.graph c.to_graph.ensures.passed
     (λ g is none. outcome-graph c.args.bytes.now (subst (λ (xs : List ℕ). first_fault (faults_of xs) ≡ None) c.body-body.ensures

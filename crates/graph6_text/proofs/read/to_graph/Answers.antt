@@ -1,11 +1,11 @@
-use Rattle.std.proofs.Common.{◌≡◌, ◌≤◌, ◌∙◌, ◌++◌, length, map, ap, sym, arith, subst, refl, List, Bool, None, ℕ, drop}
+use Rattle.std.proofs.Common.{◌≡◌, ◌∙◌, length, map, ap, arith, subst, None}
 use Rattle.std.proofs.lemmas.List.{length-map}
 use Rattle.std.proofs.lemmas.Result.{err_from_is_err_and, IfOk-weaker, IfErr-weaker, on_ok_weaker}
 use Rattle.graph_core.specs.View.{pair_of}
 use Rattle.graph6_text.specs.Digits.{bits_of}
 use Rattle.graph6_text.specs.Pairs.{chosen, column_pairs}
 use Rattle.graph6_text.specs.Checks.{IsFirstFault, limit_row}
-use Rattle.graph6_text.specs.Reading.{Fault, data_of, faults_of, first_fault}
+use Rattle.graph6_text.specs.Reading.{first_fault}
 use Rattle.graph6_text.proofs.Passing.{formed, digits-data, enough_bits, padding_row, last_rows, graph-from_bits, is_first-front, is_first-behind, first_fault-append}
 use Rattle.graph6_text.proofs.read.to_graph.Goals as goal
 

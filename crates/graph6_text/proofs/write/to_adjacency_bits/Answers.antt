@@ -1,4 +1,4 @@
-use Rattle.std.proofs.Common.{◌≡◌, ◌∙◌, ℕ, List, map, take, take_all, ap, arith}
+use Rattle.std.proofs.Common.{◌∙◌, ℕ, List, map, take_all, ap, arith}
 use Rattle.counting.specs.Sets.{none}
 use Rattle.graph_core.specs.View.{pair_of}
 use Rattle.graph_core.specs.Walks.{adjacent}

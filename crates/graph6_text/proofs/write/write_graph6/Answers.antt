@@ -1,11 +1,11 @@
 use Rattle.std.proofs.Common.{◌∙◌, ◌++◌, ap, ap₂, sym, subst, List, ℕ}
 use Rattle.graph6_text.specs.Digits.{bytes_of}
-use Rattle.graph6_text.specs.Writing.{size_of, text_of, ReadsBack}
+use Rattle.graph6_text.specs.Writing.{size_of, graph6_of, ReadsBack}
 use Rattle.graph6_text.proofs.ReadBack.{reads_back}
 use Rattle.graph6_text.proofs.write.write_graph6.Goals as goal
 
 pub returns-clause-text : goal.returns-clause-text
-unfolding text_of
+unfolding graph6_of
 returns-clause-text c =
     c.in_ok-extend_from_slice.ensures.items
     ∙ ap₂ ◌++◌ (c.in_ok-text.ensures ∙ ap size_of c.order.ensures.is)

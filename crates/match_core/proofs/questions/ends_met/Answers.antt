@@ -29,18 +29,18 @@ loop-edge-init c = record {
 
 pub returns-then-not-is_addable-clause-none : goal.returns-then-not-is_addable-clause-none
 returns-then-not-is_addable-clause-none c = λ q p.
-      let k = c.loop-edge.edge-index in
-      let e = get_or c.args.edges.now c.loop-edge.edge-index 0 in
-      let we = c.requires.edges c.loop-edge.edge-index 0 c.loop-edge-test.true in
-      let g = graph_of c.args.n c.args.ends.now in
-      let size = size_is c.args.n c.args.ends.now in
-      let a = end_a c.args.ends.now (get_or c.args.edges.now c.loop-edge.edge-index 0 - 1) in
-      let b = end_b c.args.ends.now (get_or c.args.edges.now c.loop-edge.edge-index 0 - 1) in
-      let ends : HasEnds (graph_of c.args.n c.args.ends.now) e a b = inl (near_is c.args.n c.args.ends.now e we, far_is c.args.n c.args.ends.now e we) in
-      let unmarked : marks c.loop-edge.mark.items e ≡ false = sym (c.is_marked.ensures ∙ ap (λ row. marks row e) c.deref.ensures.value) ∙ c.if-not-is_marked.true in
-      meet_none (graph_of c.args.n c.args.ends.now) (marks c.loop-edge.mark.items) (mem c.loop-edge.met) e a b (row_graph c.args.n c.args.ends.now c.requires.row.within) (omega arith) ends
-          (c.requires.row.within.a (e - 1) (omega arith)) (c.requires.row.within.b (e - 1) (omega arith)) unmarked c.loop-edge.invariant.once (sym c.is_addable.ensures ∙ c.if-not-is_addable.true)
-          p.0 (perfect_matching (graph_of c.args.n c.args.ends.now) none p.0 p.1) (λ i ci. p.2 i (mem-take c.args.edges.now k i (sym (c.loop-edge.invariant.edges i) ∙ ci))) (p.2 e (mem-item c.args.edges.now k c.loop-edge-test.true))
+    let k = c.loop-edge.edge-index in
+    let e = get_or c.args.edges.now c.loop-edge.edge-index 0 in
+    let we = c.requires.edges c.loop-edge.edge-index 0 c.loop-edge-test.true in
+    let g = graph_of c.args.n c.args.ends.now in
+    let size = size_is c.args.n c.args.ends.now in
+    let a = end_a c.args.ends.now (get_or c.args.edges.now c.loop-edge.edge-index 0 - 1) in
+    let b = end_b c.args.ends.now (get_or c.args.edges.now c.loop-edge.edge-index 0 - 1) in
+    let ends : HasEnds (graph_of c.args.n c.args.ends.now) e a b = inl (near_is c.args.n c.args.ends.now e we, far_is c.args.n c.args.ends.now e we) in
+    let unmarked : marks c.loop-edge.mark.items e ≡ false = sym (c.is_marked.ensures ∙ ap (λ row. marks row e) c.deref.ensures.value) ∙ c.if-not-is_marked.true in
+    meet_none (graph_of c.args.n c.args.ends.now) (marks c.loop-edge.mark.items) (mem c.loop-edge.met) e a b (row_graph c.args.n c.args.ends.now c.requires.row.within) (omega arith) ends
+    (c.requires.row.within.a (e - 1) (omega arith)) (c.requires.row.within.b (e - 1) (omega arith)) unmarked c.loop-edge.invariant.once (sym c.is_addable.ensures ∙ c.if-not-is_addable.true)
+    p.0 (perfect_matching (graph_of c.args.n c.args.ends.now) none p.0 p.1) (λ i ci. p.2 i (mem-take c.args.edges.now k i (sym (c.loop-edge.invariant.edges i) ∙ ci))) (p.2 e (mem-item c.args.edges.now k c.loop-edge-test.true))
 
 pub loop-edge-preserved : goal.loop-edge-preserved
 loop-edge-preserved c = elim c.if-not-is_marked.branch [
@@ -56,8 +56,8 @@ loop-edge-preserved c = elim c.if-not-is_marked.branch [
       let unmarked : marks c.loop-edge.mark.items e ≡ false = sym (c.is_marked.ensures ∙ ap (λ row. marks row e) c.deref.ensures.value) ∙ w.if-not-is_marked.true in
       let t = addable (a == b) (mem c.loop-edge.met a) (mem c.loop-edge.met b) (sym w.is_addable.ensures ∙ w.if-not-is_addable.false) in
       let once = meet_more (graph_of c.args.n c.args.ends.now) (marks c.loop-edge.mark.items) (mem c.loop-edge.met) (mem c.if-not-is_marked.met) e a b (omega arith) ends
-          (λ q. both_ways (a == b) t.0 (eq-eqb a b q)) unmarked c.loop-edge.invariant.once t.1 t.2
-          (λ v. ap (λ m. mem m v) w.met-is ∙ w.with-met.ensures v ∙ ap (λ s. s || (b == v)) (w.with.ensures v)) in
+      (λ q. both_ways (a == b) t.0 (eq-eqb a b q)) unmarked c.loop-edge.invariant.once t.1 t.2
+      (λ v. ap (λ m. mem m v) w.met-is ∙ w.with-met.ensures v ∙ ap (λ s. s || (b == v)) (w.with.ensures v)) in
       let now : marks c.if-not-is_marked.mark.items ≡ put (marks c.loop-edge.mark.items) e true = fun_ext (λ i. ap (λ m. marks m.items i) w.mark-is ∙ w.mark_place.ensures.each i) in
       record {
         long = ap (λ m. length m.items) w.mark-is ∙ w.mark_place.ensures.length ∙ c.loop-edge.invariant.long;

@@ -21,13 +21,12 @@ returns-in-Some-2-clause-perfect c = λ m q.
     let same : c.mark_places.new.mark ≡ m = cc in
     let all : marks c.mark_places.new.mark.items ≡ union (marks c.in-Some-2.mark.items) (mem c.args.edges.now) = fun_ext c.mark_places.ensures.each in
     subst (λ (m : Vec Bool Global). IsPerfect (graph_of c.args.n c.args.ends.now) none (marks m.items)) same
-        (subst (λ (s : Set). IsPerfect (graph_of c.args.n c.args.ends.now) none s) (sym all)
-        (glued (graph_of c.args.n c.args.ends.now) (mem c.args.edges.now) (mem c.in-Some.met) (marks c.in-Some-2.mark.items) (row_graph c.args.n c.args.ends.now c.requires.row.within) (c.in_ok-ends_met.ensures.once c.in-Some.met c.in-Some.is) (c.in_ok-perfect_marks-in-Some.ensures.perfect c.in-Some-2.mark c.in-Some-2.is)))
+    (subst (λ (s : Set). IsPerfect (graph_of c.args.n c.args.ends.now) none s) (sym all)
+    (glued (graph_of c.args.n c.args.ends.now) (mem c.args.edges.now) (mem c.in-Some.met) (marks c.in-Some-2.mark.items) (row_graph c.args.n c.args.ends.now c.requires.row.within) (c.in_ok-ends_met.ensures.once c.in-Some.met c.in-Some.is) (c.in_ok-perfect_marks-in-Some.ensures.perfect c.in-Some-2.mark c.in-Some-2.is)))
 
 pub returns-in-Some-2-clause-none : goal.returns-in-Some-2-clause-none
 returns-in-Some-2-clause-none c =
-    let all : marks c.mark_places.new.mark.items ≡ union (marks c.in-Some-2.mark.items) (mem c.args.edges.now) = fun_ext c.mark_places.ensures.each in
-    (
+    let all : marks c.mark_places.new.mark.items ≡ union (marks c.in-Some-2.mark.items) (mem c.args.edges.now) = fun_ext c.mark_places.ensures.each in (
       (λ q. cc),
       (λ h. absurd (h (
         marks c.mark_places.new.mark.items,

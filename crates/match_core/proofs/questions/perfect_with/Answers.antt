@@ -33,7 +33,7 @@ returns-in_ok-matching_of-in-Some-clause-perfect c = λ m q.
     let perfect = subst (λ (g : Graph). IsPerfect g none (marks c.in-Some.mark.items)) there (c.in_ok-mark.ensures.perfect c.in-Some.mark c.in-Some.is) in
     let edges : edges_of c.in_ok-matching_of-in-Some.field-0 ≡ rising_list (size c.args.g.now) (marks c.in-Some.mark.items) = c.in_ok-matching_of-in-Some.ensures.edges ∙ ap₂ (λ k row. rising_list k (marks row)) (sym (size_is c.order-n.result c.edges-ends.result.now) ∙ ap size there) c.deref.ensures.value in
     subst (λ (m : MatchingValue). IsPerfect c.args.g.now none (mem (edges_of m))) same
-        (listed_perfect c.args.g.now none (marks c.in-Some.mark.items) (edges_of c.in_ok-matching_of-in-Some.field-0) edges perfect)
+    (listed_perfect c.args.g.now none (marks c.in-Some.mark.items) (edges_of c.in_ok-matching_of-in-Some.field-0) edges perfect)
 
 pub returns-in_ok-matching_of-in-Some-clause-holds : goal.returns-in_ok-matching_of-in-Some-clause-holds
 returns-in_ok-matching_of-in-Some-clause-holds c = λ m q e t.

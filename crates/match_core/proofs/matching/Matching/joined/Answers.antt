@@ -36,7 +36,7 @@ returns-clause-edges c =
     let there : graph_of c.order.result c.edges-ends.result.now ≡ c.args.g.now = ap (λ n. graph_of n c.edges-ends.result.now) c.order.ensures.is ∙ c.edges-ends.ensures.edges in
     let size_of_ends : length c.edges-ends.result.now ≡ size c.args.g.now = sym (size_is c.order.result c.edges-ends.result.now) ∙ ap size there in
     IfOk-weaker c.matching_of.result (λ (m : MatchingValue). edges_of m ≡ rising_list (length c.edges-ends.result.now) (marks c.deref.result.now)) (λ (m : MatchingValue). (i : ℕ) → mem (edges_of m) i ≡ (mem (edges_of c.args.self.now) i || (c.args.e == i)))
-        (λ m q i. ap (λ xs. mem xs i) (q ∙ ap (λ k. rising_list k (marks c.deref.result.now)) size_of_ends)
-        ∙ joined_edges (size c.args.g.now) (edges_of c.args.self.now) (marks c.deref.result.now) c.args.e c.requires.edge (rows-rise c.args.g.now c.args.self.now c.requires.of c.keeps_matching.ensures)
-        (λ j. ap (λ row. marks row j) c.deref.ensures.value ∙ c.mark_place.ensures.each j ∙ sym (with_put (marks c.in_ok-mark.mark.items) c.args.e j) ∙ ap (λ b. b || (c.args.e == j)) (c.in_ok-mark.ensures.each j))
-        i) c.matching_of.ensures.edges
+    (λ m q i. ap (λ xs. mem xs i) (q ∙ ap (λ k. rising_list k (marks c.deref.result.now)) size_of_ends)
+    ∙ joined_edges (size c.args.g.now) (edges_of c.args.self.now) (marks c.deref.result.now) c.args.e c.requires.edge (rows-rise c.args.g.now c.args.self.now c.requires.of c.keeps_matching.ensures)
+    (λ j. ap (λ row. marks row j) c.deref.ensures.value ∙ c.mark_place.ensures.each j ∙ sym (with_put (marks c.in_ok-mark.mark.items) c.args.e j) ∙ ap (λ b. b || (c.args.e == j)) (c.in_ok-mark.ensures.each j))
+    i) c.matching_of.ensures.edges

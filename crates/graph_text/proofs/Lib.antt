@@ -1,0 +1,5 @@
+pub mod NameLists
+pub mod TextSoFar
+pub mod Edges
+pub mod VersionOneReadBack
+pub mod NamedReadBack

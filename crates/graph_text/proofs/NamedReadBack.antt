@@ -1,0 +1,152 @@
+-- What is written of a graph with names is read as this graph with these names: the header leads to no names and no edges, the
+-- lines of the names put them one behind the other, and the line of each edge adds it, since different names have different places.
+use Rattle.std.proofs.Common.{inl, inr, nat_le, ◌≡◌, ◌≢◌, ◌+◌, ◌-◌, ◌≤◌, ◌<◌, ◌==◌, ◌||◌, ◌&&◌, not, ℕ, List, [], ◌∷◌, ◌++◌, length, map, get_or, codes, true, false, Some, Ok, refl, sym, ◌∙◌, ap, subst, arith, append_assoc}
+use Rattle.std.specs.List.{AllByRecursion, list_all}
+use Rattle.std.specs.Str.{bytes_eq}
+use Rattle.std.proofs.lemmas.Bool.{cases_Bool, and_parts, and_from}
+use Rattle.std.proofs.lemmas.Bool.Decides.{nat_tests}
+use Rattle.std.proofs.lemmas.List.{append-nil, length-append}
+use Rattle.std.proofs.lemmas.Slice.Eq.{bytes_eq-Decides}
+use Rattle.std.proofs.Math.ListN.{get_or-append}
+use Rattle.std.proofs.Math.Seq.{get_or-append_seam}
+use Rattle.counting.specs.Counts.{Within}
+use Rattle.line_text.specs.Format.{Begins, Stands}
+use Rattle.line_text.specs.Lines.{is_line_feed}
+use Rattle.line_text.specs.Words.{has_form, is_word, is_blank, IsSignificant}
+use Rattle.line_text.proofs.Decimals.{number_of-decimal, is_word-decimal}
+use Rattle.line_text.proofs.ReadBack.{Stands-written, Begins-append}
+use Rattle.graph_core.specs.Graph.{Graph, size}
+use Rattle.graph_text.specs.EitherVersion.{EitherSoFar, either_version}
+use Rattle.graph_text.specs.Names.{is_name, is_name_byte, is_among, vertex_of, AreNames}
+use Rattle.graph_text.specs.Writing.{named_header_words, name_words, named_edge_words, named_words, named_text, FitsNames}
+use Rattle.graph_text.proofs.Edges.{IsEdgeIn, edges-multigraph}
+use Rattle.graph_text.proofs.NameLists.{among-none, none-among, place-first, each-name}
+
+-- the names and edges read so far
+abbrev either : ℕ → ℕ → List (List ℕ) → List (ℕ × ℕ) → EitherSoFar
+either order edges names done = record { so_far = record { graph = record { order = order; ends = done }; edges = edges }; names = Some names }
+
+-- the header line
+header-taken : (order edges : ℕ) → order ≤ 128 → edges ≤ 2048 → either_version.header (named_header_words order edges) ≡ Ok (either order edges [] [])
+unfolding has_form
+header-taken order edges few_vertices few_edges =
+    rw (number_of-decimal order (omega arith), number_of-decimal edges (omega arith)) (grind (arith, nat_tests))
+
+-- the line of a name
+name-taken : (order edges : ℕ) (names : List (List ℕ)) (name : List ℕ) → length names < order → is_name name ≡ true → is_among names name ≡ false → either_version.line (either order edges names []) (name_words name) ≡ Ok (either order edges (names ++ name ∷ []) [])
+unfolding has_form
+name-taken order edges names name wanted is none = rw (is, none) (grind (arith, nat_tests))
+
+-- a name of the list is not among those before it
+fresh : (done : List (List ℕ)) (name : List ℕ) (more : List (List ℕ)) → AreNames (done ++ name ∷ more) → is_among done name ≡ false
+fresh done name more are = among-none done name (λ i less same.
+    are.differ i (length done) less (omega (arith, length-append done (name ∷ more)))
+    (get_or-append done (name ∷ more) [] i less ∙ same ∙ sym (get_or-append_seam done name more [])))
+
+form : (done : List (List ℕ)) (name : List ℕ) (more : List (List ℕ)) → AreNames (done ++ name ∷ more) → is_name name ≡ true
+form done name more are =
+    ap is_name (sym (get_or-append_seam done name more [])) ∙ each-name (done ++ name ∷ more) (length done) are.each (omega (arith, length-append done (name ∷ more)))
+
+-- the lines of all names
+names-taken : (order edges : ℕ) (done more : List (List ℕ)) → length done + length more ≡ order → AreNames (done ++ more) → Begins either_version (Some (either order edges done [])) (map name_words more) (Some (either order edges (done ++ more) []))
+names-taken order edges done [] all are = ap (λ names. Some (either order edges names [])) (append-nil done)
+names-taken order edges done (name ∷ more) all are =
+    let together = append_assoc done (name ∷ []) more in
+    let rest = names-taken order edges (done ++ name ∷ []) more (omega (arith, length-append done (name ∷ []))) (subst AreNames (sym together) are) in
+    (either order edges (done ++ name ∷ []) [], name-taken order edges done name (omega arith) (form done name more are) (fresh done name more are), subst (λ names. Begins either_version (Some (either order edges (done ++ name ∷ []) [])) (map name_words more) (Some (either order edges names []))) together rest)
+
+-- the name of a vertex is among the names, at its place
+place-name : (names : List (List ℕ)) (v : ℕ) → AreNames names → Within (length names) v → vertex_of names (get_or names (v - 1) []) ≡ v
+place-name names v are within =
+    let at = place-first names (get_or names (v - 1) []) (v - 1) (omega arith) refl (λ j before. are.differ j (v - 1) before (omega arith)) in omega arith
+
+among-name : (names : List (List ℕ)) (v : ℕ) → Within (length names) v → is_among names (get_or names (v - 1) []) ≡ true
+among-name names v within = elim (cases_Bool (is_among names (get_or names (v - 1) []))) [
+  | inl is ↦ is
+  | inr none ↦ absurd (none-among names (get_or names (v - 1) []) none (v - 1) (omega arith) refl)
+]
+
+different-names : (names : List (List ℕ)) (a b : ℕ) → AreNames names → Within (length names) a → Within (length names) b → a ≢ b → bytes_eq (get_or names (a - 1) []) (get_or names (b - 1) []) ≡ false
+different-names names a b are first second other = elim (cases_Bool (bytes_eq (get_or names (a - 1) []) (get_or names (b - 1) []))) [
+  | inl same ↦ absurd (other (sym (place-name names a are first) ∙ ap (vertex_of names) ((bytes_eq-Decides (get_or names (a - 1) []) (get_or names (b - 1) [])).0 same) ∙ place-name names b are second))
+  | inr is ↦ is
+]
+
+-- the line of an edge, where one is wanted
+edge-taken : (order edges : ℕ) (names : List (List ℕ)) (a b : ℕ) (done : List (ℕ × ℕ)) → length names ≡ order → AreNames names → length done < edges → IsEdgeIn order (a, b) → either_version.line (either order edges names done) (named_edge_words names (a, b)) ≡ Ok (either order edges names (done ++ (a, b) ∷ []))
+unfolding has_form
+edge-taken order edges names a b done all are wanted is =
+    let first = subst (λ n. Within n a) (sym all) is.0 in
+    let second = subst (λ n. Within n b) (sym all) is.1 in
+    taken (get_or names (a - 1) []) (get_or names (b - 1) []) (among-name names a first) (among-name names b second) (different-names names a b are first second is.2) (place-name names a are first) (place-name names b are second)
+  where
+    taken : (x y : List ℕ) → is_among names x ≡ true → is_among names y ≡ true → bytes_eq x y ≡ false → vertex_of names x ≡ a → vertex_of names y ≡ b → either_version.line (either order edges names done) (codes "e" ∷ x ∷ y ∷ []) ≡ Ok (either order edges names (done ++ (a, b) ∷ []))
+    taken x y first second other x_is y_is = rw (first, second, other, x_is, y_is) (grind (arith, nat_tests))
+
+-- the lines of all edges
+edges-taken : (order edges : ℕ) (names : List (List ℕ)) (done more : List (ℕ × ℕ)) → length names ≡ order → AreNames names → length done + length more ≡ edges → AllByRecursion (IsEdgeIn order) more → Begins either_version (Some (either order edges names done)) (map (named_edge_words names) more) (Some (either order edges names (done ++ more)))
+edges-taken order edges names done [] few are all is = ap (λ (ends : List (ℕ × ℕ)). Some (either order edges names ends)) (append-nil done)
+edges-taken order edges names done (edge ∷ more) few are all is =
+    let rest = edges-taken order edges names (done ++ edge ∷ []) more few are (omega (arith, length-append done (edge ∷ []))) is.1 in
+    (either order edges names (done ++ edge ∷ []), edge-taken order edges names edge.0 edge.1 done few are (omega arith) is.0, subst (λ (ends : List (ℕ × ℕ)). Begins either_version (Some (either order edges names (done ++ edge ∷ []))) (map (named_edge_words names) more) (Some (either order edges names ends))) (append_assoc done (edge ∷ []) more) rest)
+
+-- a name is a word
+name_byte-plain : (byte : ℕ) → is_name_byte byte ≡ true → not (is_blank byte || is_line_feed byte) ≡ true
+unfolding is_name_byte
+name_byte-plain byte is = grind (arith, nat_tests)
+
+bytes-plain : (word : List ℕ) → list_all is_name_byte word ≡ true → list_all (λ byte. not (is_blank byte || is_line_feed byte)) word ≡ true
+bytes-plain [] all = refl
+bytes-plain (byte ∷ word) all =
+    let parts = and_parts (is_name_byte byte) _ all in
+    and_from _ _ (name_byte-plain byte parts.0) (bytes-plain word parts.1)
+
+some-bytes : (n : ℕ) → nat_le 1 n ≡ true → not (n == 0) ≡ true
+some-bytes n some = grind (arith, nat_tests)
+
+is_word-name : (word : List ℕ) → is_name word ≡ true → is_word word ≡ true
+unfolding is_name
+is_word-name word is =
+    let parts = and_parts (nat_le 1 (length word)) _ is in
+    and_from _ _ (some-bytes (length word) parts.0) (bytes-plain word (and_parts _ _ parts.1).1)
+
+-- each line is significant
+names-significant : (names : List (List ℕ)) → AllByRecursion (λ name. is_name name ≡ true) names → AllByRecursion IsSignificant (map name_words names)
+names-significant [] each = tt
+names-significant (name ∷ names) each =
+    (record { kept = refl; each = (refl, (is_word-name name each.0, tt)) }, names-significant names each.1)
+
+edges-significant : (names : List (List ℕ)) (ends : List (ℕ × ℕ)) → AreNames names → AllByRecursion (IsEdgeIn (length names)) ends → AllByRecursion IsSignificant (map (named_edge_words names) ends)
+edges-significant names [] are is = tt
+edges-significant names (edge ∷ ends) are is =
+    let low = is.0.0 in let high = is.0.1 in
+    let first = is_word-name (get_or names (edge.0 - 1) []) (each-name names (edge.0 - 1) are.each (omega arith)) in
+    let second = is_word-name (get_or names (edge.1 - 1) []) (each-name names (edge.1 - 1) are.each (omega arith)) in
+    (record { kept = refl; each = (refl, (first, (second, tt))) }, edges-significant names ends are is.1)
+
+AllByRecursion-append : (lines more : List (List (List ℕ))) → AllByRecursion IsSignificant lines → AllByRecursion IsSignificant more → AllByRecursion IsSignificant (lines ++ more)
+AllByRecursion-append [] more first second = second
+AllByRecursion-append (words ∷ lines) more first second = (first.0, AllByRecursion-append lines more first.1 second)
+
+-- the text of a graph with names stands for them
+pub Stands-named_text : (g : Graph) (names : List (List ℕ)) → FitsNames g names → Stands either_version (named_text g names) (record { graph = g; names = Some names })
+unfolding named_text
+Stands-named_text g names fits =
+    let few = fits.named.few in
+    let all = fits.one_each in
+    let each = edges-multigraph g fits.multigraph in
+    let each_by_name = subst (λ n. AllByRecursion (IsEdgeIn n) g.ends) (sym all) each in
+    Stands-written either_version (named_words g names) (Some (either g.order (size g) names g.ends)) (record { graph = g; names = Some names }) (
+      record { kept = refl; each = (refl, (refl, (is_word-decimal g.order (omega arith), (is_word-decimal (size g) (let edges = fits.edges in omega arith), tt)))) },
+      AllByRecursion-append (map name_words names) (map (named_edge_words names) g.ends) (names-significant names fits.named.each) (edges-significant names g.ends fits.named each_by_name),
+    ) (
+      either g.order (size g) [] [],
+      header-taken g.order (size g) (omega arith) fits.edges,
+      Begins-append either_version (Some (either g.order (size g) [] [])) (map name_words names) (Some (either g.order (size g) names [])) (map (named_edge_words names) g.ends) (Some (either g.order (size g) names g.ends))
+          (names-taken g.order (size g) [] names (omega arith) fits.named)
+          (edges-taken g.order (size g) names [] g.ends all fits.named (omega arith) each),
+    )
+    (rw (closes (length names) g.order (size g) all) refl)
+  where
+    closes : (k n m : ℕ) → k ≡ n → (k == n) && (m == m) ≡ true
+    closes k n m same = grind (arith, nat_tests)

@@ -1,0 +1,10 @@
+use Rattle.graph_text.specs.VersionOne.{version_one}
+use Rattle.graph_text.specs.Writing.{graph_text}
+use Rattle.graph_text.proofs.VersionOneReadBack.{Stands-graph_text, StandsAlone-stands}
+use Rattle.graph_text.proofs.laws.written_graph_stands.Goals as goal
+
+pub returns : goal.returns
+returns c = record {
+  stands = Stands-graph_text;
+  alone = λ g fits. StandsAlone-stands version_one (graph_text g) g (Stands-graph_text g fits);
+}

@@ -1,0 +1,211 @@
+//! Both versions of the graph format.
+ghost use Rattle.std.specs.Prelude.{◌≡◌, ◌<◌, ◌≤◌, ◌-◌, ◌^◌, ℕ, length, false, Some, IfOk, IfErr, Ok, Err};
+ghost use Rattle.line_text.specs.Reading.{Gives};
+ghost use Rattle.line_text.specs.Format.{Stands, FirstFault};
+ghost use Rattle.line_text.specs.Words.{texts_of};
+ghost use Rattle.text_faults.specs.Readings.{IsFirstFault, ReadsText};
+ghost use Rattle.graph_core.specs.declared.faults.FaultKind.{FaultKind};
+ghost use Rattle.graph_core.specs.Graph.{size};
+ghost use Rattle.graph_text.specs.EitherVersion.{EitherSoFar, NamedGraph, is_over, either_header, vertex_line, named_edge_line, named_line, line_behind, end_behind, either_version};
+ghost use Rattle.graph_text.specs.SoFar.{so_far, either_so_far, named_graph};
+
+use crate::body::{Body, EitherBody};
+use crate::graph_lines::{close_graph, read_edge};
+use crate::named::Named;
+use crate::names::{Names, name_of};
+use graph_core::{FaultKind, MultiGraph, TextFault};
+use line_text::{LineFormat, Refusal, has_form, number, word};
+use std::alloc::Global;
+use text_faults::read_text;
+
+// The format.
+#[derive(Drop)]
+struct EitherVersion {
+    alloc: Global,
+}
+
+// Whether so many vertices and edges are over the limits of the version.
+fn is_over_limits(named: bool, n: u32, m: u32) -> bool
+    ensures is { result ≡ is_over named n m }
+    ensures vertices { result ≡ false → n ≤ 128 }
+    ensures edges { result ≡ false → m ≤ 2048 }
+{
+    if named {
+        n > 128 || m > 2048
+    } else {
+        n > 64 || m > 512
+    }
+}
+
+fn read_header(alloc: Global, words: &[&[u8]]) -> Result<EitherBody, Refusal<FaultKind>>
+    ensures { Gives either_so_far result (either_header (texts_of words.now)) }
+{
+    let named = has_form(words, 4, &["p", "mcg2"]);
+    if !named && !has_form(words, 4, &["p", "mcg"]) {
+        return Err(Refusal::Fault(FaultKind::Header));
+    }
+    let (Some(n), Some(m)) = (number(word(words, 2)), number(word(words, 3))) else {
+        return Err(Refusal::Fault(FaultKind::Number));
+    };
+    if is_over_limits(named, n, m) {
+        return Err(Refusal::Fault(FaultKind::Limit));
+    }
+    let Ok(graph) = MultiGraph::new(alloc, n) else {
+        return Err(Refusal::Memory);
+    };
+    let body = Body { graph, edges: m };
+    if named {
+        let names = Some(Names::new(alloc));
+        Ok(EitherBody { body, names })
+    } else {
+        Ok(EitherBody { body, names: None })
+    }
+}
+
+// A line that names the next vertex.
+fn read_name(
+    alloc: Global,
+    body: Body,
+    names: Names,
+    words: &[&[u8]],
+) -> Result<EitherBody, Refusal<FaultKind>>
+    requires { length names < body.graph.order }
+    ensures { Gives either_so_far result (vertex_line (so_far body) names (texts_of words.now)) }
+{
+    if !has_form(words, 2, &["v"]) {
+        return Err(Refusal::Fault(FaultKind::Word));
+    }
+    let Some(name) = name_of(word(words, 1)) else {
+        return Err(Refusal::Fault(FaultKind::BadName));
+    };
+    if names.is_among(name.as_bytes()) {
+        return Err(Refusal::Fault(FaultKind::SameName));
+    }
+    body.graph.keeps_limits();
+    let mut names = names;
+    names.push(alloc, name)?;
+    Ok(EitherBody {
+        body,
+        names: Some(names),
+    })
+}
+
+// A line of an edge between named vertices.
+fn read_named_edge(
+    body: Body,
+    names: Names,
+    words: &[&[u8]],
+) -> Result<EitherBody, Refusal<FaultKind>>
+    ensures { Gives either_so_far result (named_edge_line (so_far body) names (texts_of words.now)) }
+{
+    if !has_form(words, 3, &["e"]) {
+        return Err(Refusal::Fault(FaultKind::Word));
+    }
+    let (Some(a), Some(b)) = (names.vertex(word(words, 1)), names.vertex(word(words, 2))) else {
+        return Err(Refusal::Fault(FaultKind::Unnamed));
+    };
+    if word(words, 1) == word(words, 2) {
+        return Err(Refusal::Fault(FaultKind::Loop));
+    }
+    let mut body = body;
+    match body.graph.add_edge(a, b) {
+        Ok(_) => Ok(EitherBody {
+            body,
+            names: Some(names),
+        }),
+        Err(_) => Err(Refusal::Memory),
+    }
+}
+
+// A line behind the header in version 2.
+fn read_named_line(
+    alloc: Global,
+    body: Body,
+    names: Names,
+    words: &[&[u8]],
+) -> Result<EitherBody, Refusal<FaultKind>>
+    ensures { Gives either_so_far result (named_line (so_far body) names (texts_of words.now)) }
+{
+    if names.len() < body.graph.order() as usize {
+        return read_name(alloc, body, names, words);
+    }
+    if body.graph.size() == body.edges {
+        return Err(Refusal::Fault(FaultKind::Extra));
+    }
+    read_named_edge(body, names, words)
+}
+
+// The end of a text of version 2.
+fn close_named(body: Body, names: Names) -> Result<Named, Refusal<FaultKind>>
+    ensures { Gives named_graph result (end_behind (so_far body) (Some names)) }
+{
+    let all = names.len() == body.graph.order() as usize;
+    if all && body.graph.size() == body.edges {
+        Ok(Named {
+            graph: body.graph,
+            names: Some(names),
+        })
+    } else {
+        Err(Refusal::Fault(FaultKind::Missing))
+    }
+}
+
+impl LineFormat for EitherVersion {
+    type Body = EitherBody;
+
+    type Value = Named;
+
+    type Kind = FaultKind;
+
+    ghost State = { EitherSoFar };
+
+    ghost Meaning = { NamedGraph };
+
+    ghost state = { either_so_far };
+
+    ghost meaning = { named_graph };
+
+    ghost rules = { λ _. either_version };
+
+    fn header(&self, words: &[&[u8]]) -> Result<EitherBody, Refusal<FaultKind>> {
+        read_header(self.alloc, words)
+    }
+
+    fn line(&self, either: EitherBody, words: &[&[u8]]) -> Result<EitherBody, Refusal<FaultKind>> {
+        let EitherBody { body, names } = either;
+        match names {
+            Some(names) => read_named_line(self.alloc, body, names, words),
+            None => match read_edge(body, words) {
+                Ok(body) => Ok(EitherBody { body, names: None }),
+                Err(refusal) => Err(refusal),
+            },
+        }
+    }
+
+    fn close(&self, either: EitherBody) -> Result<Named, Refusal<FaultKind>> {
+        let EitherBody { body, names } = either;
+        match names {
+            Some(names) => close_named(body, names),
+            None => match close_graph(body) {
+                Ok(graph) => Ok(Named { graph, names: None }),
+                Err(refusal) => Err(refusal),
+            },
+        }
+    }
+
+    fn headless(&self) -> FaultKind {
+        FaultKind::Header
+    }
+}
+
+/// Reads a graph in either version of the format: the graph that the bytes stand for, with the names of its vertices in version
+/// 2 and none in version 1, or the first line outside the format with the kind of its fault. Want of memory may come at any time.
+pub fn read_any(alloc: Global, bytes: &[u8]) -> Result<Named, TextFault>
+    requires { length bytes.now < 2 ^ 32 - 1 }
+    ensures value { IfOk result (λ named. Stands either_version bytes.now (named_graph named)) }
+    ensures fault { IfErr result (IsFirstFault either_version bytes.now) }
+    ensures stands { (g : NamedGraph) → Stands either_version bytes.now g → ReadsText named_graph result (Ok g) }
+    ensures breaks { (line : ℕ) (kind : FaultKind) → FirstFault either_version bytes.now line kind → ReadsText named_graph result (Err (line, kind)) }
+{
+    read_text(alloc, &EitherVersion { alloc }, bytes)
+}

@@ -1,0 +1,147 @@
+//! The names of vertices.
+ghost use Rattle.std.specs.Prelude.{◌≡◌, ◌<◌, ◌++◌, ◌∷◌, [], List, ℕ, true, false, is_some, length, position, slice_index_or, IfSome, OnOk, OnErr};
+ghost use Rattle.std.specs.List.{list_all};
+ghost use Rattle.std.specs.Str.{bytes_eq};
+ghost use Rattle.graph_text.specs.Names.{is_name, is_name_byte, is_among, vertex_of};
+ghost use Rattle.counting.specs.Counts.{Within};
+
+use indexmap::IndexSet;
+use std::alloc::{AllocError as Memory, Global};
+use std::marker::Model;
+use std::str;
+use std::string::String;
+use vset_core::MOST_VERTICES;
+
+// The most bytes that a name has.
+const MOST_BYTES: usize = 16;
+
+// Whether all bytes may stand in a name.
+fn are_name_bytes(word: &[u8]) -> bool
+    ensures { result ≡ list_all is_name_byte word.now }
+{
+    word.iter().all(|byte| is_name_byte(*byte))
+}
+
+// Whether the byte may stand in a name.
+#[tactic(auto, unfolding(crate::specs::Names::is_name_byte))]
+fn is_name_byte(byte: u8) -> bool
+    ensures { result ≡ is_name_byte byte }
+{
+    byte.is_ascii_alphanumeric() || matches!(byte, b'_' | b'-' | b'.')
+}
+
+// Whether the word has the form of a name.
+#[tactic(auto, unfolding(crate::specs::Names::is_name))]
+fn has_form_of_name(word: &[u8]) -> bool
+    ensures { result ≡ is_name word.now }
+{
+    !word.is_empty() && word.len() <= MOST_BYTES && are_name_bytes(word)
+}
+
+/// The word as a name, or `None` exactly where it does not have the form of one: 1 to 16 bytes, each an ASCII letter, a digit,
+/// `_`, `-` or `.`.
+pub fn name_of(word: &[u8]) -> Option<&str>
+    ensures is { is_some result ≡ is_name word.now }
+    ensures same { IfSome result (λ name. name.now ≡ word.now) }
+{
+    if !has_form_of_name(word) {
+        return None;
+    }
+    str::from_utf8(word).ok()
+}
+
+/// The names of the vertices of a graph, at most 128: the k-th is that of vertex k. Contracts see a list of different names, each of
+/// 1 to 16 ASCII letters, digits, `_`, `-` or `.`.
+#[derive(Drop)]
+pub struct Names {
+    names: IndexSet<String>,
+}
+
+impl Model for Names {
+    ghost use Rattle.std.specs.Prelude.{List, ℕ, map};
+    ghost use Rattle.std.specs.String.{string_bytes};
+    ghost use Rattle.graph_text.specs.Names.{AreNames};
+
+    ghost Value = { List (List ℕ) };
+
+    ghost view = { λ n. map string_bytes n.names.keys };
+
+    ghost invariant = { λ n. AreNames (map string_bytes n.names.keys) };
+}
+
+impl Names {
+    ghost use Rattle.graph_text.specs.Names.{AreNames};
+
+    /// No names.
+    pub fn new(alloc: Global) -> Names
+        ensures { result ≡ [] }
+    {
+        Names {
+            names: IndexSet::new(alloc),
+        }
+    }
+
+    /// The law that these are different names. It does nothing: a caller states it where it needs it.
+    pub fn are_names(&self)
+        ensures { AreNames self.now }
+    {
+        let _ = &self.names;
+    }
+
+    /// The number of names. Takes no memory.
+    pub fn len(&self) -> usize
+        ensures { result ≡ length self.now }
+    {
+        self.names.len()
+    }
+
+    /// The name at a place, counted from 0. Takes no memory.
+    pub fn get(&self, i: usize) -> &str
+        requires { i < length self.now }
+        ensures { result.now ≡ slice_index_or self.now i [] }
+    {
+        self.names.as_slice()[i].as_str()
+    }
+
+    /// The place of the name that the word is, counted from 0, or `None` exactly where it is none of the names. Takes no memory.
+    pub fn place(&self, word: &[u8]) -> Option<usize>
+        ensures { result ≡ position (bytes_eq word.now) self.now }
+    {
+        self.are_names();
+        let name = name_of(word)?;
+        self.names.get_index_of(name)
+    }
+
+    /// Whether the word is one of the names. Takes no memory.
+    pub fn is_among(&self, word: &[u8]) -> bool
+        ensures { result ≡ is_among self.now word.now }
+    {
+        self.place(word).is_some()
+    }
+
+    /// The number of the vertex whose name the word is, or `None` exactly where it is none of the names. Takes no memory.
+    pub fn vertex(&self, word: &[u8]) -> Option<u32>
+        ensures none { is_some result ≡ is_among self.now word.now }
+        ensures some { IfSome result (λ v. v ≡ vertex_of self.now word.now) }
+        ensures within { IfSome result (λ v. Within (length self.now) v) }
+    {
+        self.are_names();
+        let place = self.place(word)?;
+        Some(place as u32 + 1)
+    }
+
+    /// Puts a further name behind the others.
+    pub fn push(&mut self, alloc: Global, name: &str) -> Result<(), Memory>
+        requires is { is_name name.now ≡ true }
+        requires new { is_among self.old name.now ≡ false }
+        requires few { length self.old < MOST_VERTICES }
+        ensures ok { OnOk result (self.new ≡ self.old ++ name.now ∷ []) }
+        ensures err { OnErr result (self.new ≡ self.old) }
+    {
+        let text = String::from_str(alloc, name)?;
+        match self.names.insert(text) {
+            Ok(_) => Ok(()),
+            Err(_) => Err(Memory),
+        }
+    }
+}

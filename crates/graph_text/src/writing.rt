@@ -1,0 +1,86 @@
+//! Writing a graph.
+ghost use Rattle.std.specs.Prelude.{◌≡◌, ◌≤◌, ◌++◌, [], ◌∷◌, length, Some, OnOk, IfOk, string_bytes};
+ghost use Rattle.counting.specs.Counts.{Within};
+ghost use Rattle.graph_text.specs.EitherVersion.{either_version};
+ghost use Rattle.line_text.specs.Format.{Stands, StandsAlone};
+ghost use Rattle.line_text.specs.Words.{written};
+ghost use Rattle.graph_core.specs.Graph.{size};
+ghost use Rattle.graph_core.specs.View.{pair_of};
+ghost use Rattle.graph_text.specs.VersionOne.{version_one, most_vertices, most_edges};
+ghost use Rattle.graph_text.specs.Writing.{edge_words, graph_text, name_words, named_edge_words, named_text};
+
+use crate::names::Names;
+use graph_core::{Ends, MultiGraph};
+use std::alloc::{AllocError as Memory, Global};
+
+// The line of an edge.
+fn push_edge(text: &mut String, ends: Ends) -> Result<(), Memory>
+    ensures { OnOk result (string_bytes text.new ≡ string_bytes text.old ++ written (edge_words (pair_of ends) ∷ [])) }
+{
+    let Ends { a, b } = ends;
+    write!(text, "e {a} {b}\n")
+}
+
+/// Writes a graph of at most 64 vertices and 512 edges in version 1 of the format: a header `p mcg N M` with the numbers of
+/// vertices and edges, and a line `e A B` for each edge, in the order of their numbers, with its ends in their order.
+///
+/// Reading the text gives the graph again, and nothing else.
+pub fn write_graph(alloc: Global, g: &MultiGraph) -> Result<Vec<u8>, Memory>
+    requires vertices { g.now.order ≤ most_vertices }
+    requires edges { size g.now ≤ most_edges }
+    ensures text { IfOk result (λ text. text.items ≡ graph_text g.now) }
+    ensures stands { IfOk result (λ text. Stands version_one text.items g.now) }
+    ensures alone { IfOk result (λ text. StandsAlone version_one text.items) }
+{
+    g.keeps_limits();
+    let order = g.order();
+    let size = g.size();
+    let mut text = format!(in alloc; "p mcg {order} {size}\n")?;
+    for i in 0..size {
+        push_edge(&mut text, g.ends(i + 1))?;
+    }
+    Ok(text.into_bytes())
+}
+
+// The line of a name.
+fn push_name(text: &mut String, name: &str) -> Result<(), Memory>
+    ensures { OnOk result (string_bytes text.new ≡ string_bytes text.old ++ written (name_words name.now ∷ [])) }
+{
+    write!(text, "v {name}\n")
+}
+
+// The line of an edge between named vertices.
+fn push_named_edge(text: &mut String, names: &Names, ends: Ends) -> Result<(), Memory>
+    requires first { Within (length names.now) ends.a }
+    requires second { Within (length names.now) ends.b }
+    ensures { OnOk result (string_bytes text.new ≡ string_bytes text.old ++ written (named_edge_words names.now (pair_of ends) ∷ [])) }
+{
+    let a = names.get(ends.a as usize - 1);
+    let b = names.get(ends.b as usize - 1);
+    write!(text, "e {a} {b}\n")
+}
+
+/// Writes a graph with the names of its vertices, one for each, in version 2 of the format: a header `p mcg2 N M`, a line `v NAME`
+/// for each vertex, and a line `e X Y` for each edge, in the order of their numbers, with the names of its ends in their order.
+///
+/// Reading the text gives the graph and the names again, and nothing else.
+pub fn write_named(alloc: Global, g: &MultiGraph, names: &Names) -> Result<Vec<u8>, Memory>
+    requires { length names.now ≡ g.now.order }
+    ensures text { IfOk result (λ text. text.items ≡ named_text g.now names.now) }
+    ensures stands { IfOk result (λ text. Stands either_version text.items (record { graph = g.now; names = Some names.now })) }
+    ensures alone { IfOk result (λ text. StandsAlone either_version text.items) }
+{
+    g.keeps_limits();
+    names.are_names();
+    let order = g.order();
+    let size = g.size();
+    let count = names.len();
+    let mut text = format!(in alloc; "p mcg2 {order} {size}\n")?;
+    for k in 0..count {
+        push_name(&mut text, names.get(k))?;
+    }
+    for i in 0..size {
+        push_named_edge(&mut text, names, g.ends(i + 1))?;
+    }
+    Ok(text.into_bytes())
+}

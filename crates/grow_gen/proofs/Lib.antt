@@ -1,0 +1,13 @@
+pub mod EdgeSums
+pub mod Rehanging
+pub mod Renumbering
+pub mod ThreeEdges
+pub mod Splicing
+pub mod Connecting
+pub mod CoveredSplices
+pub mod PieceFacts
+pub mod SoundGrowth
+pub mod RehangSteps
+pub mod Skeleton
+pub mod OnePiece
+pub mod Parallel

@@ -1,0 +1,123 @@
+-- The edges that a spliced graph brings in: those not at its vertex 1, with new numbers for their ends. Idea: a vertex has
+-- all its edges, once those to vertex 1 are counted among the edges that got new ends.
+use Rattle.std.proofs.Common.{◌≡◌, ℕ, ◌+◌, ◌-◌, ◌≤◌, ◌<◌, ◌≢◌, Bool, true, cond, ◌==◌, ◌&&◌, not, ◌⊎◌, inl, inr, List, [], ◌∷◌, length, map, filter, refl, sym, ap, ap₂, ◌∙◌, arith, subst, eq-eqb, ne_eqb}
+use Rattle.std.proofs.lemmas.Bool.{cases_eq, cases_lt}
+use Rattle.counting.specs.Counts.{Within, bit}
+use Rattle.grow_gen.specs.Splices.{is_at, other_end, new_number, renumbered_edge}
+use Rattle.grow_gen.proofs.EdgeSums.{Each, sum_edges, ends_at, by_test, marks_where}
+use Rattle.grow_gen.proofs.Rehanging.{IsEdge, flags_at, caught, at-cases, not_at-ends, no_end}
+
+-- the edges that are not at vertex 1
+abbrev pub kept_edges : List (ℕ × ℕ) → List (ℕ × ℕ)
+kept_edges es = filter (λ e. not (is_at 1 e)) es
+
+-- their marks
+abbrev pub kept_marks : List Bool → List (ℕ × ℕ) → List Bool
+kept_marks bs es = marks_where (λ e. not (is_at 1 e)) bs es
+
+-- the other ends of the edges at v
+abbrev pub ends_beside : ℕ → List (ℕ × ℕ) → List ℕ
+ends_beside v es = map (other_end v) (filter (is_at v) es)
+
+module _ (n w : ℕ) (ww : Within n w) where
+  -- the new numbers of different vertices differ
+  pub new_number-apart : (x y : ℕ) → 2 ≤ x → 2 ≤ y → x ≢ y → new_number n w x ≢ new_number n w y
+  new_number-apart x y a b d q = elim (cases_eq x 2) [
+    | inl p ↦ let z : y ≢ 2 = λ r. d (p ∙ sym r) in let f = first p in let s = later y z in absurd (omega arith)
+    | inr p ↦ elim (cases_eq y 2) [
+      | inl r ↦ let f = first r in let s = later x p in absurd (omega arith)
+      | inr r ↦ let s = later x p in let t = later y r in absurd (d (omega arith))
+    ]
+  ]
+    where
+      first : {z : ℕ} → z ≡ 2 → new_number n w z ≡ w
+      first {z} p = ap (λ b. cond b w (n + z - 2)) (eq-eqb z 2 p)
+
+      later : (z : ℕ) → z ≢ 2 → new_number n w z ≡ n + z - 2
+      later z p = ap (λ b. cond b w (n + z - 2)) (ne_eqb z 2 p)
+
+  pub new_number-same : (x y : ℕ) → 2 ≤ x → 2 ≤ y → (new_number n w x == new_number n w y) ≡ (x == y)
+  new_number-same x y a b = elim (cases_eq x y) [
+    | inl q ↦ eq-eqb _ _ (ap (new_number n w) q) ∙ sym (eq-eqb x y q)
+    | inr q ↦ ne_eqb _ _ (new_number-apart x y a b q) ∙ sym (ne_eqb x y q)
+  ]
+
+  -- a new number is w or past n
+  pub new_number-where : (k x : ℕ) → 2 ≤ k → 2 ≤ x → x ≤ k → Within (n + k - 2) (new_number n w x) × ((new_number n w x ≡ w) ⊎ (n < new_number n w x))
+  new_number-where k x l a b = elim (cases_eq x 2) [
+    | inl q ↦ let f : new_number n w x ≡ w = ap (λ b. cond b w (n + x - 2)) (eq-eqb x 2 q) in ((omega arith, omega arith), inl f)
+    | inr q ↦ let f : new_number n w x ≡ n + x - 2 = ap (λ b. cond b w (n + x - 2)) (ne_eqb x 2 q) in ((omega arith, omega arith), inr (omega arith))
+  ]
+
+  -- each vertex is an old one, or a new one with its number in the spliced graph
+  pub old_or_new : (k v : ℕ) → 2 ≤ k → Within (n + k - 2) v → (Within n v × (v ≢ w)) ⊎ ((x : ℕ) × (2 ≤ x) × (x ≤ k) × (new_number n w x ≡ v))
+  old_or_new k v l u = elim (cases_eq v w) [
+    | inl q ↦ inr (2, omega arith, l, sym q)
+    | inr q ↦ go q (cases_lt n v)
+  ]
+    where
+      go : v ≢ w → (n < v) ⊎ (v ≤ n) → (Within n v × (v ≢ w)) ⊎ ((x : ℕ) × (2 ≤ x) × (x ≤ k) × (new_number n w x ≡ v))
+      go q (inl p) = let z : v + 2 - n ≢ 2 = λ r. absurd (omega arith) in
+          inr (v + 2 - n, omega arith, omega arith, ap (λ b. cond b w (n + (v + 2 - n) - 2)) (ne_eqb (v + 2 - n) 2 z) ∙ (let e : n + (v + 2 - n) - 2 ≡ v = omega arith in e))
+      go q (inr p) = inl ((u.0, p), q)
+
+  -- an edge between new vertices has its new ends as it had its ends
+  moved_ends : (x : ℕ) (b : Bool) (e : ℕ × ℕ) → 2 ≤ x → 2 ≤ e.0 → 2 ≤ e.1 → ends_at (new_number n w x) b (renumbered_edge n w e) ≡ ends_at x b e
+  moved_ends x b e a p q = ap₂ (λ s t. bit (b && s) + bit (b && t)) (new_number-same e.0 x p a) (new_number-same e.1 x q a)
+
+  -- an end that is not 1
+  above_one : (k : ℕ) (v : ℕ) → Within k v → v ≢ 1 → 2 ≤ v
+  above_one k v u d = omega arith
+
+  -- a new vertex has its edges in the graph, those to vertex 1 by the new ends
+  pub sum_edges-kept_new : (k x : ℕ) (bs : List Bool) (es : List (ℕ × ℕ)) → 2 ≤ x → Each (IsEdge k) es → length bs ≡ length es →
+      sum_edges (ends_at (new_number n w x)) (kept_marks bs es) (map (renumbered_edge n w) (kept_edges es)) + caught (λ t. t == x) (flags_at 1 bs es) (ends_beside 1 es) ≡ sum_edges (ends_at x) bs es
+  sum_edges-kept_new k x bs [] a c l = refl
+  sum_edges-kept_new k x [] (e ∷ es) a c l = absurd (omega arith)
+  sum_edges-kept_new k x (b ∷ bs) (e ∷ es) a c l = by_test (is_at 1 e)
+      (λ s. sum_edges (ends_at (new_number n w x)) (cond (not s) (b ∷ kept_marks bs es) (kept_marks bs es)) (map (renumbered_edge n w) (cond (not s) (e ∷ kept_edges es) (kept_edges es)))
+      + caught (λ t. t == x) (cond s (b ∷ flags_at 1 bs es) (flags_at 1 bs es)) (map (other_end 1) (cond s (e ∷ filter (is_at 1) es) (filter (is_at 1) es))) ≡ ends_at x b e + sum_edges (ends_at x) bs es)
+      (λ s. let h = sum_edges-kept_new k x bs es a c.1 (omega arith) in let q = beside s in omega (arith, h, q))
+      (λ s. let h = sum_edges-kept_new k x bs es a c.1 (omega arith) in let d = not_at-ends 1 e s in
+      let q = moved_ends x b e a (above_one k e.0 c.0.0 d.0) (above_one k e.1 c.0.1 d.1) in omega (arith, h, q))
+    where
+      beside : is_at 1 e ≡ true → ends_at x b e ≡ bit (b && (other_end 1 e == x))
+      beside s = elim (at-cases 1 0 e s) [
+        | inl p ↦ ap (λ z. z + bit (b && (e.1 == x))) (no_end b e.0 x (λ q. absurd (omega (arith, p.0)))) ∙ (let z : 0 + bit (b && (e.1 == x)) ≡ bit (b && (e.1 == x)) = omega arith in z) ∙ ap (λ z. bit (b && (z == x))) (sym p.2)
+        | inr p ↦ ap (λ z. bit (b && (e.0 == x)) + z) (no_end b e.1 x (λ q. absurd (omega (arith, p.0)))) ∙ (let z : bit (b && (e.0 == x)) + 0 ≡ bit (b && (e.0 == x)) = omega arith in z) ∙ ap (λ z. bit (b && (z == x))) (sym p.3)
+      ]
+
+  -- an old vertex has none of them
+  pub sum_edges-kept_old : (k v : ℕ) (bs : List Bool) (es : List (ℕ × ℕ)) → 2 ≤ k → v ≤ n → v ≢ w → Each (IsEdge k) es → length bs ≡ length es →
+      sum_edges (ends_at v) (kept_marks bs es) (map (renumbered_edge n w) (kept_edges es)) ≡ 0
+  sum_edges-kept_old k v bs [] t l d c m = refl
+  sum_edges-kept_old k v [] (e ∷ es) t l d c m = absurd (omega arith)
+  sum_edges-kept_old k v (b ∷ bs) (e ∷ es) t l d c m = by_test (is_at 1 e)
+      (λ s. sum_edges (ends_at v) (cond (not s) (b ∷ kept_marks bs es) (kept_marks bs es)) (map (renumbered_edge n w) (cond (not s) (e ∷ kept_edges es) (kept_edges es))) ≡ 0)
+      (λ s. sum_edges-kept_old k v bs es t l d c.1 (omega arith))
+      (λ s. let q = not_at-ends 1 e s in let h = sum_edges-kept_old k v bs es t l d c.1 (omega arith) in
+      let x = no_end b (new_number n w e.0) v (far e.0 c.0.0 q.0) in let y = no_end b (new_number n w e.1) v (far e.1 c.0.1 q.1) in omega (arith, h, x, y))
+    where
+      far : (x : ℕ) → Within k x → x ≢ 1 → new_number n w x ≢ v
+      far x u r z = elim (new_number-where k x t (above_one k x u r) u.1).1 [ inl a ↦ d (sym z ∙ a) | inr a ↦ absurd (omega arith) ]
+
+  -- the edges stay edges
+  pub each-kept : (k : ℕ) (es : List (ℕ × ℕ)) → 2 ≤ k → Each (IsEdge k) es → Each (IsEdge (n + k - 2)) (map (renumbered_edge n w) (kept_edges es))
+  each-kept k [] t c = tt
+  each-kept k (e ∷ es) t c = by_test (is_at 1 e) (λ s. Each (IsEdge (n + k - 2)) (map (renumbered_edge n w) (cond (not s) (e ∷ kept_edges es) (kept_edges es))))
+      (λ s. each-kept k es t c.1)
+      (λ s. let q = not_at-ends 1 e s in let a = above_one k e.0 c.0.0 q.0 in let b = above_one k e.1 c.0.1 q.1 in
+      (((new_number-where k e.0 t a c.0.0.1).0, (new_number-where k e.1 t b c.0.1.1).0, new_number-apart e.0 e.1 a b c.0.2), each-kept k es t c.1))
+
+-- the neighbours of vertex 1 are 2 and on
+pub each-beside : (k : ℕ) (es : List (ℕ × ℕ)) → Each (IsEdge k) es → Each (λ v. (2 ≤ v) × (v ≤ k)) (ends_beside 1 es)
+each-beside k [] c = tt
+each-beside k (e ∷ es) c = by_test (is_at 1 e) (λ s. Each (λ v. (2 ≤ v) × (v ≤ k)) (map (other_end 1) (cond s (e ∷ filter (is_at 1) es) (filter (is_at 1) es))))
+    (λ s. (in_range s, each-beside k es c.1))
+    (λ s. each-beside k es c.1)
+  where
+    in_range : is_at 1 e ≡ true → (2 ≤ other_end 1 e) × (other_end 1 e ≤ k)
+    in_range s = let a = c.0.0 in let b = c.0.1 in elim (at-cases 1 0 e s) [
+      | inl p ↦ let d : e.1 ≢ 1 = λ q. c.0.2 (p.0 ∙ sym q) in subst (λ v. (2 ≤ v) × (v ≤ k)) (sym p.2) (omega arith, b.1)
+      | inr p ↦ let d = p.1 in subst (λ v. (2 ≤ v) × (v ≤ k)) (sym p.3) (omega arith, a.1)
+    ]

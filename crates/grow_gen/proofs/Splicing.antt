@@ -1,0 +1,306 @@
+-- A splice of two covered cubic graphs is a covered cubic graph. Idea: a perfect matching of each that agree on the edges
+-- that are joined give one of the splice, and each edge is in such a pair since each of the joined edges is allowed.
+use Rattle.std.proofs.Common.{◌≡◌, ℕ, suc, zero, ◌+◌, ◌-◌, ◌≤◌, ◌<◌, ◌≢◌, Bool, true, false, ◌==◌, ◌&&◌, ◌||◌, not, ◌⊎◌, inl, inr, List, [], ◌∷◌, ◌++◌, length, map, filter, refl, sym, ap, ap₂, ◌∙◌, arith, subst, eqb-true}
+use Rattle.std.specs.Prelude.{slice_index, slice_index_or}
+use Rattle.std.proofs.lemmas.List.{length-append, length-map}
+use Rattle.std.proofs.lemmas.Bool.{cases_lt, or_cases, true≢false}
+use Rattle.counting.specs.Counts.{Within, bit}
+use Rattle.counting.specs.Sets.{Set, everything, none}
+use Rattle.counting.specs.Lists.{mem}
+use Rattle.graph_core.specs.Graph.{Graph, size, degree, IsMultigraph}
+use Rattle.graph_core.specs.Matchings.{IsPerfect, Allowed}
+use Rattle.graph_core.specs.Covered.{IsCovered}
+use Rattle.graph_core.proofs.Decide.{degree_congr}
+use Rattle.grow_gen.specs.Cubic.{IsCubic}
+use Rattle.grow_gen.specs.Splices.{is_at, neighbours, new_number, permutation, renumbered_edge, rehung_edges, targets_of, splice}
+use Rattle.grow_gen.proofs.EdgeSums.{Each, sum_edges, sum_edges-append, ends_at, marks_from, marked, marked-front, marked-back, each-append, edge-at, edge-at_place, each-weaker, degree-marked, length-marks_from, length-marks_where, marked-marks_from}
+use Rattle.grow_gen.proofs.Rehanging.{IsEdge, IsClear, flags_at, caught, each-rehung, length-rehung_edges, member-first, member-later, sum_edges-rehung_elsewhere, sum_edges-rehung_there}
+use Rattle.grow_gen.proofs.Renumbering.{kept_edges, kept_marks, ends_beside, each-beside, each-kept, new_number-same, new_number-where, old_or_new, sum_edges-kept_new, sum_edges-kept_old}
+use Rattle.grow_gen.proofs.ThreeEdges.{true_count, unit-of_one, three-items, three-true, each-edge_of, edges-at, flags-three, PerfectMarks, marks-with, marks-through}
+
+-- three marks in the order of a permutation
+abbrev pub permuted : ℕ → List Bool → List Bool
+permuted i bs = map (λ j. slice_index_or bs (j - 1) false) (permutation i)
+
+-- f of three numbers in the order of a permutation
+abbrev pub permuted_values : ℕ → (ℕ → ℕ) → List ℕ → List ℕ
+permuted_values i f xs = map (λ j. f (slice_index xs (j - 1))) (permutation i)
+
+-- six cases
+pub by_permutation : (P : ℕ → Type 0) → P 0 → P 1 → P 2 → P 3 → P 4 → P 5 → (i : ℕ) → i < 6 → P i
+by_permutation P a b c d e f zero l = a
+by_permutation P a b c d e f (suc zero) l = b
+by_permutation P a b c d e f (suc (suc zero)) l = c
+by_permutation P a b c d e f (suc (suc (suc zero))) l = d
+by_permutation P a b c d e f (suc (suc (suc (suc zero)))) l = e
+by_permutation P a b c d e f (suc (suc (suc (suc (suc zero))))) l = f
+by_permutation P a b c d e f (suc (suc (suc (suc (suc (suc i)))))) l = absurd (omega arith)
+
+-- both in the same order give the same sum
+pub caught-permuted : (x : Set) (f : ℕ → ℕ) (a b c : Bool) (p q r : ℕ) (i : ℕ) → i < 6 →
+    caught x (permuted i (a ∷ b ∷ c ∷ [])) (permuted_values i f (p ∷ q ∷ r ∷ [])) ≡ caught (λ v. x (f v)) (a ∷ b ∷ c ∷ []) (p ∷ q ∷ r ∷ [])
+caught-permuted x f a b c p q r = by_permutation (λ i. caught x (permuted i (a ∷ b ∷ c ∷ [])) (permuted_values i f (p ∷ q ∷ r ∷ [])) ≡ caught (λ v. x (f v)) (a ∷ b ∷ c ∷ []) (p ∷ q ∷ r ∷ []))
+    (omega arith) (omega arith) (omega arith) (omega arith) (omega arith) (omega arith)
+
+-- a member of a list of three is one of them
+pub mem-three : (t x y z : ℕ) → mem (x ∷ y ∷ z ∷ []) t ≡ true → (t ≡ x) ⊎ ((t ≡ y) ⊎ (t ≡ z))
+mem-three t x y z h = elim (or_cases (x == t) ((y == t) || ((z == t) || false)) h) [
+  | inl k ↦ inl (sym (eqb-true x t k))
+  | inr k ↦ elim (or_cases (y == t) ((z == t) || false) k) [
+    | inl m ↦ inr (inl (sym (eqb-true y t m)))
+    | inr m ↦ elim (or_cases (z == t) false m) [
+      | inl n ↦ inr (inr (sym (eqb-true z t n)))
+      | inr n ↦ absurd (true≢false (sym n))
+    ]
+  ]
+]
+
+-- a permuted list holds what the list holds
+pub mem-permuted : (f : ℕ → ℕ) (p q r t : ℕ) (i : ℕ) → i < 6 → mem (permuted_values i f (p ∷ q ∷ r ∷ [])) t ≡ true → (t ≡ f p) ⊎ ((t ≡ f q) ⊎ (t ≡ f r))
+mem-permuted f p q r t = by_permutation (λ i. mem (permuted_values i f (p ∷ q ∷ r ∷ [])) t ≡ true → (t ≡ f p) ⊎ ((t ≡ f q) ⊎ (t ≡ f r)))
+    (λ h. elim (mem-three t (f p) (f q) (f r) h) [ inl z ↦ inl z | inr z ↦ elim z [ inl y ↦ inr (inl y) | inr y ↦ inr (inr y) ] ])
+    (λ h. elim (mem-three t (f p) (f r) (f q) h) [ inl z ↦ inl z | inr z ↦ elim z [ inl y ↦ inr (inr y) | inr y ↦ inr (inl y) ] ])
+    (λ h. elim (mem-three t (f q) (f p) (f r) h) [ inl z ↦ inr (inl z) | inr z ↦ elim z [ inl y ↦ inl y | inr y ↦ inr (inr y) ] ])
+    (λ h. elim (mem-three t (f q) (f r) (f p) h) [ inl z ↦ inr (inl z) | inr z ↦ elim z [ inl y ↦ inr (inr y) | inr y ↦ inl y ] ])
+    (λ h. elim (mem-three t (f r) (f p) (f q) h) [ inl z ↦ inr (inr z) | inr z ↦ elim z [ inl y ↦ inl y | inr y ↦ inr (inl y) ] ])
+    (λ h. elim (mem-three t (f r) (f q) (f p) h) [ inl z ↦ inr (inr z) | inr z ↦ elim z [ inl y ↦ inr (inl y) | inr y ↦ inl y ] ])
+
+pub permuted-mem : (f : ℕ → ℕ) (p q r : ℕ) (i : ℕ) → i < 6 →
+    (mem (permuted_values i f (p ∷ q ∷ r ∷ [])) (f p) ≡ true) × (mem (permuted_values i f (p ∷ q ∷ r ∷ [])) (f q) ≡ true) × (mem (permuted_values i f (p ∷ q ∷ r ∷ [])) (f r) ≡ true)
+permuted-mem f p q r = by_permutation (λ i. (mem (permuted_values i f (p ∷ q ∷ r ∷ [])) (f p) ≡ true) × (mem (permuted_values i f (p ∷ q ∷ r ∷ [])) (f q) ≡ true) × (mem (permuted_values i f (p ∷ q ∷ r ∷ [])) (f r) ≡ true))
+    (first (f p) (f q) (f r), second (f p) (f q) (f r), third (f p) (f q) (f r))
+    (first (f p) (f r) (f q), third (f p) (f r) (f q), second (f p) (f r) (f q))
+    (second (f q) (f p) (f r), first (f q) (f p) (f r), third (f q) (f p) (f r))
+    (third (f q) (f r) (f p), first (f q) (f r) (f p), second (f q) (f r) (f p))
+    (second (f r) (f p) (f q), third (f r) (f p) (f q), first (f r) (f p) (f q))
+    (third (f r) (f q) (f p), second (f r) (f q) (f p), first (f r) (f q) (f p))
+  where
+    first : (x y z : ℕ) → mem (x ∷ y ∷ z ∷ []) x ≡ true
+    first x y z = member-first x (y ∷ z ∷ [])
+
+    second : (x y z : ℕ) → mem (x ∷ y ∷ z ∷ []) y ≡ true
+    second x y z = member-later y x (y ∷ z ∷ []) (member-first y (z ∷ []))
+
+    third : (x y z : ℕ) → mem (x ∷ y ∷ z ∷ []) z ≡ true
+    third x y z = member-later z x (y ∷ z ∷ []) (member-later z y (z ∷ []) (member-first z []))
+
+-- a permutation keeps how many are true, and each three come from three
+pub true_count-permuted : (a b c : Bool) (i : ℕ) → i < 6 → (x : Bool) × (y : Bool) × (z : Bool) × (permuted i (a ∷ b ∷ c ∷ []) ≡ x ∷ y ∷ z ∷ []) × (true_count (x ∷ y ∷ z ∷ []) ≡ true_count (a ∷ b ∷ c ∷ []))
+true_count-permuted a b c = by_permutation (λ i. (x : Bool) × (y : Bool) × (z : Bool) × (permuted i (a ∷ b ∷ c ∷ []) ≡ x ∷ y ∷ z ∷ []) × (true_count (x ∷ y ∷ z ∷ []) ≡ true_count (a ∷ b ∷ c ∷ [])))
+    (a, b, c, refl, refl) (a, c, b, refl, omega arith) (b, a, c, refl, omega arith) (b, c, a, refl, omega arith) (c, a, b, refl, omega arith) (c, b, a, refl, omega arith)
+
+pub permuted-back : (a b c : Bool) (i : ℕ) → i < 6 → (x : Bool) × (y : Bool) × (z : Bool) × ((a ∷ b ∷ c ∷ []) ≡ permuted i (x ∷ y ∷ z ∷ [])) × (true_count (x ∷ y ∷ z ∷ []) ≡ true_count (a ∷ b ∷ c ∷ []))
+permuted-back a b c = by_permutation (λ i. (x : Bool) × (y : Bool) × (z : Bool) × ((a ∷ b ∷ c ∷ []) ≡ permuted i (x ∷ y ∷ z ∷ [])) × (true_count (x ∷ y ∷ z ∷ []) ≡ true_count (a ∷ b ∷ c ∷ [])))
+    (a, b, c, refl, refl) (a, c, b, refl, omega arith) (b, a, c, refl, omega arith) (c, a, b, refl, omega arith) (b, c, a, refl, omega arith) (c, b, a, refl, omega arith)
+
+-- the length of a permuted list
+pub length-permuted : (f : ℕ → ℕ) (p q r : ℕ) (i : ℕ) → i < 6 → length (permuted_values i f (p ∷ q ∷ r ∷ [])) ≡ 3
+length-permuted f p q r = by_permutation (λ i. length (permuted_values i f (p ∷ q ∷ r ∷ [])) ≡ 3) refl refl refl refl refl refl
+
+module _ (g h : Graph) (w i : ℕ) (mg : IsMultigraph g) (mh : IsMultigraph h) (cg : IsCubic g) (ch : IsCubic h) (two : 2 ≤ h.order) (ww : Within g.order w) (li : i < 6) where
+  pub one : Within h.order 1
+  one = (omega arith, omega arith)
+
+  -- the new number of a vertex of h
+  abbrev pub new : ℕ → ℕ
+  new x = new_number g.order w x
+
+  -- the three neighbours of vertex 1
+  pub beside : (p : ℕ) × (q : ℕ) × (r : ℕ) × (neighbours h 1 ≡ p ∷ q ∷ r ∷ [])
+  beside = three-items (neighbours h 1) (length-map (filter (is_at 1) h.ends) _ ∙ edges-at h mh ch 1 one)
+
+  -- a vertex of h but 1
+  abbrev pub InRange : ℕ → Type 0
+  InRange v = (2 ≤ v) × (v ≤ h.order)
+
+  pub beside-in_range : InRange beside.0 × InRange beside.1 × InRange beside.2
+  beside-in_range = let e = subst (Each InRange) beside.3 (each-beside h.order h.ends (each-edge_of h mh)) in (e.0, e.1.0, e.1.1.0)
+
+  -- the new ends of the three edges at w
+  abbrev pub targets : List ℕ
+  targets = targets_of g.order w h (permutation i)
+
+  pub targets-permuted : targets ≡ permuted_values i new (beside.0 ∷ beside.1 ∷ beside.2 ∷ [])
+  targets-permuted = ap (permuted_values i new) beside.3
+
+  -- each is the new number of a neighbour
+  target-new : (t : ℕ) → mem targets t ≡ true → (x : ℕ) × InRange x × (t ≡ new x)
+  target-new t m = elim (mem-permuted new beside.0 beside.1 beside.2 t i li (ap (λ ts. mem ts t) (sym targets-permuted) ∙ m)) [
+    | inl e ↦ (beside.0, beside-in_range.0, e)
+    | inr e ↦ elim e [ inl d ↦ (beside.1, beside-in_range.1, d) | inr d ↦ (beside.2, beside-in_range.2, d) ]
+  ]
+
+  new-where : (x : ℕ) → InRange x → Within (g.order + h.order - 2) (new x) × ((new x ≡ w) ⊎ (g.order < new x))
+  new-where x r = new_number-where g.order w ww h.order x two r.0 r.1
+
+  pub targets-three : length targets ≡ 3
+  targets-three = ap length targets-permuted ∙ length-permuted new beside.0 beside.1 beside.2 i li
+
+  pub target-place : (t : ℕ) → mem targets t ≡ true → Within (g.order + h.order - 2) t × ((t ≡ w) ⊎ (g.order < t))
+  target-place t m = let x = target-new t m in subst (λ v. Within (g.order + h.order - 2) v × ((v ≡ w) ⊎ (g.order < v))) (sym x.2) (new-where x.0 x.1)
+
+  -- the marks of both parts
+  abbrev pub both_marks : List Bool → List Bool → List Bool
+  both_marks bs cs = bs ++ kept_marks cs h.ends
+
+  pub length-both_marks : (bs cs : List Bool) → length bs ≡ size g → length cs ≡ size h → length (both_marks bs cs) ≡ size (splice g w h (permutation i))
+  unfolding splice
+  length-both_marks bs cs lb lc =
+      length-append bs (kept_marks cs h.ends)
+      ∙ ap₂ ◌+◌ (lb ∙ sym (length-rehung_edges w targets g.ends)) (length-marks_where (λ e. not (is_at 1 e)) cs h.ends lc ∙ sym (length-map (kept_edges h.ends) (renumbered_edge g.order w)))
+      ∙ sym (length-append (rehung_edges w targets g.ends) (map (renumbered_edge g.order w) (kept_edges h.ends)))
+
+  -- a vertex of g but w keeps its ends
+  pub degree-old : (bs cs : List Bool) → length bs ≡ size g → length cs ≡ size h → (v : ℕ) → Within g.order v → v ≢ w →
+      degree (splice g w h (permutation i)) (marked (both_marks bs cs)) v ≡ degree g (marked bs) v
+  unfolding splice
+  degree-old bs cs lb lc v u d =
+      let a = sum_edges-kept_old g.order w ww h.order v cs h.ends two u.1 d (each-edge_of h mh) lc in
+      degree-marked (splice g w h (permutation i)) (both_marks bs cs) v (length-both_marks bs cs lb lc)
+      ∙ sum_edges-append (ends_at v) bs (kept_marks cs h.ends) (rehung_edges w targets g.ends) _ (lb ∙ sym (length-rehung_edges w targets g.ends))
+      ∙ ap₂ ◌+◌ (sum_edges-rehung_elsewhere w v targets bs g.ends d away lb) a
+      ∙ (let z : sum_edges (ends_at v) bs g.ends + 0 ≡ sum_edges (ends_at v) bs g.ends = omega arith in z)
+      ∙ sym (degree-marked g bs v lb)
+    where
+      away : (t : ℕ) → mem targets t ≡ true → t ≢ v
+      away t m q = elim (target-place t m).1 [ inl z ↦ d (sym q ∙ z) | inr z ↦ absurd (omega arith) ]
+
+  -- the marks at w and at 1 agree on the edges that are joined
+  abbrev pub Agree : List Bool → List Bool → Type 0
+  Agree bs cs = flags_at w bs g.ends ≡ permuted i (flags_at 1 cs h.ends)
+
+  -- where they agree, a new vertex has the ends that it has in h
+  pub degree-new : (bs cs : List Bool) → length bs ≡ size g → length cs ≡ size h → Agree bs cs → (x : ℕ) → 2 ≤ x → x ≤ h.order →
+      degree (splice g w h (permutation i)) (marked (both_marks bs cs)) (new x) ≡ degree h (marked cs) x
+  unfolding splice
+  degree-new bs cs lb lc agree x a b =
+      let f = flags-three h mh ch 1 one cs lc in
+      let k = sum_edges-kept_new g.order w ww h.order x cs h.ends a (each-edge_of h mh) lc in
+      degree-marked (splice g w h (permutation i)) (both_marks bs cs) (new x) (length-both_marks bs cs lb lc)
+      ∙ sum_edges-append (ends_at (new x)) bs (kept_marks cs h.ends) (rehung_edges w targets g.ends) _ (lb ∙ sym (length-rehung_edges w targets g.ends))
+      ∙ ap (λ z. z + sum_edges (ends_at (new x)) (kept_marks cs h.ends) (map (renumbered_edge g.order w) (kept_edges h.ends))) (
+      sum_edges-rehung_there w (new x) targets bs g.ends (each-weaker (IsEdge g.order) (IsClear w (new x)) g.ends clear (each-edge_of g mg)) lb few
+      ∙ ap₂ (caught (λ t. t == new x)) (agree ∙ ap (permuted i) f.3) targets-permuted
+      ∙ caught-permuted (λ t. t == new x) new f.0 f.1 f.2 beside.0 beside.1 beside.2 i li
+      ∙ same f.0 f.1 f.2
+      ∙ ap₂ (caught (λ t. t == x)) (sym f.3) (sym beside.3)
+      )
+      ∙ (let z : caught (λ t. t == x) (flags_at 1 cs h.ends) (ends_beside 1 h.ends) + sum_edges (ends_at (new x)) (kept_marks cs h.ends) (map (renumbered_edge g.order w) (kept_edges h.ends)) ≡ sum_edges (ends_at x) cs h.ends = omega (arith, k) in z)
+      ∙ sym (degree-marked h cs x lc)
+    where
+      clear : (e : ℕ × ℕ) → IsEdge g.order e → IsClear w (new x) e
+      clear e k = (at_w e.0 k.0, at_w e.1 k.1, k.2)
+        where
+          at_w : (v : ℕ) → Within g.order v → v ≡ new x → v ≡ w
+          at_w v u q = elim (new_number-where g.order w ww h.order x two a b).1 [ inl z ↦ q ∙ z | inr z ↦ absurd (omega arith) ]
+
+      few : length (flags_at w bs g.ends) ≤ length targets
+      few = let p = length-marks_where (is_at w) bs g.ends lb in let q = edges-at g mg cg w ww in let r = targets-three in omega arith
+
+      same : (s t u : Bool) → caught (λ v. new v == new x) (s ∷ t ∷ u ∷ []) (beside.0 ∷ beside.1 ∷ beside.2 ∷ []) ≡ caught (λ v. v == x) (s ∷ t ∷ u ∷ []) (beside.0 ∷ beside.1 ∷ beside.2 ∷ [])
+      same s t u = ap₂ ◌+◌ (ap (λ z. bit (s && z)) (new_number-same g.order w ww beside.0 x beside-in_range.0.0 a))
+          (ap₂ ◌+◌ (ap (λ z. bit (t && z)) (new_number-same g.order w ww beside.1 x beside-in_range.1.0 a)) (ap₂ ◌+◌ (ap (λ z. bit (u && z)) (new_number-same g.order w ww beside.2 x beside-in_range.2.0 a)) refl))
+
+  -- each vertex of the splice has as many ends as it has in its graph, if all in their graphs have k
+  degree-both : (k : ℕ) (bs cs : List Bool) → length bs ≡ size g → length cs ≡ size h → Agree bs cs → ((v : ℕ) → Within g.order v → degree g (marked bs) v ≡ k) → ((v : ℕ) → Within h.order v → degree h (marked cs) v ≡ k) →
+      (v : ℕ) → Within (g.order + h.order - 2) v → degree (splice g w h (permutation i)) (marked (both_marks bs cs)) v ≡ k
+  degree-both k bs cs lb lc agree dg dh v u = elim (old_or_new g.order w ww h.order v two u) [
+    | inl o ↦ degree-old bs cs lb lc v o.0 o.1 ∙ dg v o.0
+    | inr x ↦ let a = x.1 in ap (degree (splice g w h (permutation i)) (marked (both_marks bs cs))) (sym x.3) ∙ degree-new bs cs lb lc agree x.0 x.1 x.2 ∙ dh x.0 (omega arith, x.2)
+  ]
+
+  -- each edge of the splice is one of g with its number, or one of h
+  pub edge-cases : (e : ℕ) → Within (size (splice g w h (permutation i))) e →
+      (Within (size g) e × ((bs cs : List Bool) → length bs ≡ size g → length cs ≡ size h → marked (both_marks bs cs) e ≡ marked bs e))
+      ⊎ ((j : ℕ) × Within (size h) j × ((bs cs : List Bool) → length bs ≡ size g → length cs ≡ size h → marked (both_marks bs cs) e ≡ marked cs j))
+  unfolding splice
+  edge-cases e u =
+      let a = length-append (rehung_edges w targets g.ends) (map (renumbered_edge g.order w) (kept_edges h.ends)) in
+      let b = length-rehung_edges w targets g.ends in
+      let c = length-map (kept_edges h.ends) (renumbered_edge g.order w) in
+      elim (cases_lt (size g) e) [
+        | inr l ↦ inl ((u.0, l), λ bs cs lb lc. marked-front bs (kept_marks cs h.ends) e (u.0, let z = l in omega arith))
+        | inl l ↦ let j = edge-at_place (λ f. not (is_at 1 f)) h.ends (e - size g - 1) (let z = u in omega arith) in
+            inr (
+              j.0,
+              j.1.0,
+              λ bs cs lb lc.
+                  ap (marked (both_marks bs cs)) (let q : e ≡ length bs + (e - size g) = omega arith in q)
+                  ∙ marked-back bs (kept_marks cs h.ends) (e - size g) (omega arith)
+                  ∙ j.1.1 cs lc,
+            )
+      ]
+
+  -- the splice is a multigraph
+  pub splice-multigraph : IsMultigraph (splice g w h (permutation i))
+  unfolding splice
+  splice-multigraph = record { ends = λ e u. let p = each e u in (p.0, p.1); no_loop = λ e u. (each e u).2 }
+    where
+      each : (e : ℕ) → Within (size (splice g w h (permutation i))) e → IsEdge (g.order + h.order - 2) (slice_index_or (splice g w h (permutation i)).ends (e - 1) (0, 0))
+      each e u = edge-at (IsEdge (g.order + h.order - 2)) (rehung_edges w targets g.ends ++ map (renumbered_edge g.order w) (kept_edges h.ends))
+          (each-append (IsEdge (g.order + h.order - 2)) (rehung_edges w targets g.ends) (map (renumbered_edge g.order w) (kept_edges h.ends))
+          (each-rehung g.order (g.order + h.order - 2) w targets g.ends (omega arith) target-place (each-edge_of g mg))
+          (each-kept g.order w ww h.order h.ends two (each-edge_of h mh))) e u
+
+  -- all edges
+  abbrev all_of : Graph → List Bool
+  all_of x = marks_from 0 (size x) everything
+
+  all_at : (x : Graph) (v : ℕ) → degree x (marked (all_of x)) v ≡ degree x everything v
+  all_at x v = degree_congr x (marked (all_of x)) everything v (λ e u. marked-marks_from 0 (size x) everything e u)
+
+  -- all three edges at w and at 1 are joined
+  all_agree : Agree (all_of g) (all_of h)
+  all_agree =
+      let f = flags-three g mg cg w ww (all_of g) (length-marks_from 0 (size g) everything) in
+      let k = flags-three h mh ch 1 one (all_of h) (length-marks_from 0 (size h) everything) in
+      f.3 ∙ three-true f.0 f.1 f.2 (f.4 ∙ all_at g w ∙ cg w ww)
+      ∙ by_permutation (λ j. (true ∷ true ∷ true ∷ []) ≡ permuted j (true ∷ true ∷ true ∷ [])) refl refl refl refl refl refl i li
+      ∙ ap (permuted i) (sym (k.3 ∙ three-true k.0 k.1 k.2 (k.4 ∙ all_at h 1 ∙ ch 1 one)))
+
+  all_both : (e : ℕ) → Within (size (splice g w h (permutation i))) e → marked (both_marks (all_of g) (all_of h)) e ≡ true
+  all_both e u = elim (edge-cases e u) [
+    | inl a ↦ a.1 (all_of g) (all_of h) (length-marks_from 0 (size g) everything) (length-marks_from 0 (size h) everything) ∙ marked-marks_from 0 (size g) everything e a.0
+    | inr a ↦ a.2 (all_of g) (all_of h) (length-marks_from 0 (size g) everything) (length-marks_from 0 (size h) everything) ∙ marked-marks_from 0 (size h) everything a.0 a.1
+  ]
+
+  -- the splice is cubic
+  pub splice-cubic : IsCubic (splice g w h (permutation i))
+  unfolding splice
+  splice-cubic v u =
+      sym (degree_congr (splice g w h (permutation i)) (marked (both_marks (all_of g) (all_of h))) everything v all_both)
+      ∙ degree-both 3 (all_of g) (all_of h) (length-marks_from 0 (size g) everything) (length-marks_from 0 (size h) everything) all_agree (λ v u. all_at g v ∙ cg v u) (λ v u. all_at h v ∙ ch v u) v u
+
+  -- two perfect matchings that agree give one of the splice
+  pub splice-perfect : (b : PerfectMarks g) (c : PerfectMarks h) → Agree b.marks c.marks → IsPerfect (splice g w h (permutation i)) none (marked (both_marks b.marks c.marks))
+  unfolding splice
+  splice-perfect b c agree = record {
+    once = λ v u o. degree-both 1 b.marks c.marks b.whole c.whole agree (λ v u. b.perfect.once v u refl) (λ v u. c.perfect.once v u refl) v u;
+    away = λ v u o. absurd (true≢false (sym o));
+  }
+
+  -- to each perfect matching of g there is one of h that agrees, and the other way round
+  partner_in_h : IsCovered h → (b : PerfectMarks g) → (c : PerfectMarks h) × Agree b.marks c.marks
+  partner_in_h cov b =
+      let f = flags-three g mg cg w ww b.marks b.whole in
+      let p = permuted-back f.0 f.1 f.2 i li in
+      let u = unit-of_one p.0 p.1 p.2 (p.4 ∙ f.4 ∙ b.perfect.once w ww refl) in
+      let c = marks-through h mh ch 1 one cov u.0 u.1 in
+      (c.0, f.3 ∙ p.3 ∙ ap (permuted i) (u.2 ∙ sym c.1))
+
+  partner_in_g : IsCovered g → (c : PerfectMarks h) → (b : PerfectMarks g) × Agree b.marks c.marks
+  partner_in_g cov c =
+      let f = flags-three h mh ch 1 one c.marks c.whole in
+      let p = true_count-permuted f.0 f.1 f.2 i li in
+      let u = unit-of_one p.0 p.1 p.2 (p.4 ∙ f.4 ∙ c.perfect.once 1 one refl) in
+      let b = marks-through g mg cg w ww cov u.0 u.1 in
+      (b.0, b.1 ∙ sym u.2 ∙ sym p.3 ∙ ap (permuted i) (sym f.3))
+
+  -- each edge of the splice is in a perfect matching
+  pub splice-allowed : IsCovered g → IsCovered h → (e : ℕ) → Within (size (splice g w h (permutation i))) e → Allowed (splice g w h (permutation i)) e
+  splice-allowed vg vh e u = elim (edge-cases e u) [
+    | inl a ↦ let b = marks-with g mg cg w ww vg e a.0 in let c = partner_in_h vh b.0 in
+        (marked (both_marks b.0.marks c.0.marks), splice-perfect b.0 c.0 c.1, a.1 b.0.marks c.0.marks b.0.whole c.0.whole ∙ b.1)
+    | inr a ↦ let c = marks-with h mh ch 1 one vh a.0 a.1 in let b = partner_in_g vg c.0 in
+        (marked (both_marks b.0.marks c.0.marks), splice-perfect b.0 c.0 b.1, a.2 b.0.marks c.0.marks b.0.whole c.0.whole ∙ c.1)
+  ]

@@ -1,0 +1,5 @@
+pub mod Pieces
+pub mod Splices
+pub mod Cubic
+pub mod Growth
+pub mod Growing

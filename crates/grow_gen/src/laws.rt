@@ -1,0 +1,20 @@
+//! The laws on splices and on grown graphs. Each is the contract of a function that does nothing.
+ghost use Rattle.std.specs.Prelude.{◌≡◌, ℕ, ◌<◌, ◌≤◌};
+ghost use Rattle.counting.specs.Counts.{Within};
+ghost use Rattle.graph_core.specs.Graph.{Graph, IsMultigraph};
+ghost use Rattle.graph_core.specs.Covered.{IsCovered};
+ghost use Rattle.grow_gen.specs.Cubic.{IsCubic, HasNoParallel};
+ghost use Rattle.grow_gen.specs.Splices.{splice, permutation};
+
+/// Splicing: two cubic multigraphs give a cubic multigraph, without parallel edges where they have none, and covered where
+/// they are.
+pub fn splice_law()
+    ensures multigraph { (g h : Graph) (w i : ℕ) → IsMultigraph g → IsMultigraph h → IsCubic g → IsCubic h → 2 ≤ h.order →
+        Within g.order w → i < 6 → IsMultigraph (splice g w h (permutation i)) }
+    ensures cubic { (g h : Graph) (w i : ℕ) → IsMultigraph g → IsMultigraph h → IsCubic g → IsCubic h → 2 ≤ h.order →
+        Within g.order w → i < 6 → IsCubic (splice g w h (permutation i)) }
+    ensures simple { (g h : Graph) (w i : ℕ) → IsMultigraph g → IsMultigraph h → IsCubic g → IsCubic h → 2 ≤ h.order →
+        Within g.order w → i < 6 → HasNoParallel g → HasNoParallel h → HasNoParallel (splice g w h (permutation i)) }
+    ensures covered { (g h : Graph) (w i : ℕ) → IsMultigraph g → IsMultigraph h → IsCubic g → IsCubic h → IsCovered g → IsCovered h →
+        Within g.order w → i < 6 → IsCovered (splice g w h (permutation i)) }
+{}

@@ -1,0 +1,155 @@
+//! Worked graphs: the sizes of their maximum matchings, their Gallai-Edmonds sets, and perfect matchings on request.
+ghost use Rattle.std.specs.Prelude.{◌≤◌};
+
+use crate::{Matching, frame, maximum, perfect_with, perfect_without};
+use graph_core::{MultiGraph, Numbers};
+use std::alloc::Global;
+use std::test::Fail;
+use vset_core::{MOST_VERTICES, VSet};
+
+const STAR: [(u32, u32); 3] = [(1, 2), (1, 3), (1, 4)];
+
+const TRIANGLE: [(u32, u32); 3] = [(1, 2), (1, 3), (2, 3)];
+
+const PATH: [(u32, u32); 3] = [(1, 2), (2, 3), (3, 4)];
+
+const K4: [(u32, u32); 6] = [(1, 2), (1, 3), (1, 4), (2, 3), (2, 4), (3, 4)];
+
+const TWO_EDGES: [(u32, u32); 2] = [(1, 2), (3, 4)];
+
+const PETERSEN: [(u32, u32); 15] = [
+    (1, 2),
+    (2, 3),
+    (3, 4),
+    (4, 5),
+    (5, 1),
+    (1, 6),
+    (2, 7),
+    (3, 8),
+    (4, 9),
+    (5, 10),
+    (6, 8),
+    (8, 10),
+    (10, 7),
+    (7, 9),
+    (9, 6),
+];
+
+// Two triangles that share no vertex, joined by two edges through a third one: 1 2 3, 4 5 6, 7 8 9, with stems at both ends.
+const FLOWER: [(u32, u32); 12] = [
+    (2, 3),
+    (1, 2),
+    (1, 3),
+    (5, 6),
+    (3, 4),
+    (4, 5),
+    (4, 6),
+    (8, 9),
+    (6, 7),
+    (7, 8),
+    (7, 9),
+    (9, 10),
+];
+
+fn made(alloc: Global, order: u32, edges: &[(u32, u32)]) -> Result<MultiGraph, Fail>
+    requires { order ≤ MOST_VERTICES }
+{
+    let mut graph = MultiGraph::new(alloc, order)?;
+    for (a, b) in edges {
+        graph.add_edge(*a, *b)?;
+    }
+    Ok(graph)
+}
+
+fn has_edges(matching: &Matching, want: &[u32]) -> bool {
+    if matching.len() != want.len() {
+        return false;
+    }
+    for (i, edge) in want.iter().enumerate() {
+        if i < matching.len() && matching.row(i).edge != *edge {
+            return false;
+        }
+    }
+    true
+}
+
+#[test]
+fn finds_maximum_matchings(rt: HostRuntime) -> Result<(), Fail> {
+    let cases = [
+        (4, STAR.as_slice(), 1),
+        (3, TRIANGLE.as_slice(), 1),
+        (4, PATH.as_slice(), 2),
+        (4, K4.as_slice(), 2),
+        (4, TWO_EDGES.as_slice(), 2),
+        (10, PETERSEN.as_slice(), 5),
+        (10, FLOWER.as_slice(), 5),
+        (0, [].as_slice(), 0),
+        (3, [].as_slice(), 0),
+    ];
+    for (order, edges, size) in cases {
+        assert!(rt; order <= MOST_VERTICES);
+        let graph = made(rt.alloc(), order, edges)?;
+        let found = maximum(rt.alloc(), &graph)?;
+        assert_eq!(rt; found.matching.len(), size);
+    }
+    Ok(())
+}
+
+#[test]
+fn finds_the_sets_of_gallai_and_edmonds(rt: HostRuntime) -> Result<(), Fail> {
+    let star = made(rt.alloc(), 4, &STAR)?;
+    let sets = frame(rt.alloc(), &star)?;
+    assert!(rt; sets.outer == VSet::full(4).without(1));
+    assert!(rt; sets.inner == VSet::one(1));
+    assert!(rt; sets.found.berge == VSet::one(1));
+    let triangle = made(rt.alloc(), 3, &TRIANGLE)?;
+    let sets = frame(rt.alloc(), &triangle)?;
+    assert!(rt; sets.outer == VSet::full(3));
+    assert!(rt; sets.inner == VSet::empty());
+    let path = made(rt.alloc(), 4, &PATH)?;
+    let sets = frame(rt.alloc(), &path)?;
+    assert!(rt; sets.outer == VSet::empty());
+    assert!(rt; sets.inner == VSet::empty());
+    Ok(())
+}
+
+#[test]
+fn answers_perfect_matchings_on_request(rt: HostRuntime) -> Result<(), Fail> {
+    let path = made(rt.alloc(), 4, &PATH)?;
+    let whole = perfect_without(rt.alloc(), &path, VSet::empty())?;
+    assert!(rt; whole.is_some_and(|m| has_edges(&m, &[1, 3])));
+    let inner = perfect_without(rt.alloc(), &path, VSet::one(1).with(4))?;
+    assert!(rt; inner.is_some_and(|m| has_edges(&m, &[2])));
+    assert!(rt; perfect_without(rt.alloc(), &path, VSet::one(2).with(3))?.is_none());
+    let mut middle = Numbers::new(rt.alloc());
+    middle.push(2)?;
+    assert!(rt; middle.len() == 1);
+    Ok(())
+}
+
+#[test]
+fn holds_given_edges(rt: HostRuntime) -> Result<(), Fail> {
+    let k4 = made(rt.alloc(), 4, &K4)?;
+    let mut edges = Numbers::new(rt.alloc());
+    edges.push(2)?;
+    edges.push(2)?;
+    let held = perfect_with_edges(rt.alloc(), &k4, &edges)?;
+    assert!(rt; held.is_some_and(|m| has_edges(&m, &[2, 5])));
+    edges.push(1)?;
+    assert!(rt; perfect_with_edges(rt.alloc(), &k4, &edges)?.is_none());
+    Ok(())
+}
+
+// Asks only where all edges are of the graph.
+fn perfect_with_edges(
+    alloc: Global,
+    graph: &MultiGraph,
+    edges: &Numbers,
+) -> Result<Option<Matching>, Fail> {
+    for edge in edges.as_slice() {
+        if *edge == 0 || *edge > graph.size() {
+            return Ok(None);
+        }
+    }
+    Ok(perfect_with(alloc, graph, edges)?)
+}

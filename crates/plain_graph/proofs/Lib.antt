@@ -1,0 +1,4 @@
+pub mod Subsets
+pub mod Tries
+pub mod OddSides
+pub mod Reaching

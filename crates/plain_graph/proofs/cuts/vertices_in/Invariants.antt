@@ -1,0 +1,7 @@
+use Rattle.std.proofs.Common.{◌≡◌, ◌≤◌}
+use Rattle.counting.specs.Counts.{count}
+use Rattle.counting.specs.Lists.{mem}
+use Rattle.plain_graph.proofs.cuts.vertices_in.Given as goal
+
+abbrev pub invariant-loop-i : goal.invariant-loop-i
+invariant-loop-i l = record { found : l.found ≡ count l.i (mem l.shore); few : l.found ≤ l.i }

@@ -1,0 +1,11 @@
+use Rattle.std.proofs.Common.{◌≡◌, ◌≤◌, ◌+◌, ◌*◌, ◌==◌, ◌&&◌}
+use Rattle.counting.specs.Counts.{count}
+use Rattle.counting.specs.Lists.{mem}
+use Rattle.graph_core.specs.Graph.{first_end, second_end}
+use Rattle.plain_graph.proofs.degrees.degree.Given as goal
+
+abbrev pub invariant-loop-i : goal.invariant-loop-i
+invariant-loop-i l = record {
+  found : l.found ≡ count l.i (λ e. mem l.edges e && (first_end l.graph e == l.v)) + count l.i (λ e. mem l.edges e && (second_end l.graph e == l.v));
+  few : l.found ≤ 2 * l.i;
+}

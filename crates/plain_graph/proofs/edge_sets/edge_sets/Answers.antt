@@ -1,0 +1,8 @@
+use Rattle.std.proofs.Common.{sym, subst}
+use Rattle.std.specs.Prelude.{All}
+use Rattle.counting.specs.Lists.{IsRisingIn}
+use Rattle.plain_graph.proofs.Subsets.{subsets-rising}
+use Rattle.plain_graph.proofs.edge_sets.edge_sets.Goals as goal
+
+pub add_with_next-requires-clause-below : goal.add_with_next-requires-clause-below
+add_with_next-requires-clause-below c = subst (All (IsRisingIn c.loop-i.i)) (sym c.loop-i.invariant) (subsets-rising c.loop-i.i)

@@ -1,0 +1,7 @@
+use Rattle.std.proofs.Common.{◌≡◌, filter, take, List, ℕ}
+use Rattle.counting.specs.Lists.{mem}
+use Rattle.graph_core.specs.Matchings.{is_perfect}
+use Rattle.plain_graph.proofs.matchings.perfect_among.Given as goal
+
+abbrev pub invariant-loop-edges : goal.invariant-loop-edges
+invariant-loop-edges l = l.found ≡ filter (λ (m : List ℕ). is_perfect l.graph (mem l.removed) (mem m)) (take l.edges-index l.sets)

@@ -1,0 +1,8 @@
+use Rattle.std.proofs.Common.{◌≡◌, ◌&&◌, false}
+use Rattle.counting.specs.Lists.{mem}
+use Rattle.counting.specs.Tests.{some}
+use Rattle.graph_core.specs.Walks.{adjacent}
+use Rattle.plain_graph.proofs.parts.is_next.Given as goal
+
+abbrev pub invariant-loop-i : goal.invariant-loop-i
+invariant-loop-i l = some l.i (λ u. mem l.reached u && adjacent l.graph (mem l.removed) u l.v) ≡ false

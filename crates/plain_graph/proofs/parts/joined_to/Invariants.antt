@@ -1,0 +1,11 @@
+use Rattle.std.proofs.Common.{◌≡◌, ℕ, true}
+use Rattle.counting.specs.Counts.{Within}
+use Rattle.counting.specs.Lists.{mem}
+use Rattle.graph_core.specs.Walks.{adjacent, reaches}
+use Rattle.plain_graph.proofs.parts.joined_to.Given as goal
+
+abbrev pub invariant-loop-step : goal.invariant-loop-step
+invariant-loop-step l = record {
+  joined : (v : ℕ) → Within l.graph.order v → mem l.reached v ≡ reaches l.graph.order (adjacent l.graph (mem l.removed)) l.u l.step v;
+  vertices : (v : ℕ) → mem l.reached v ≡ true → Within l.graph.order v;
+}

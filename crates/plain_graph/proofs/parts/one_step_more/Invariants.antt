@@ -1,0 +1,13 @@
+use Rattle.std.proofs.Common.{◌≡◌, ◌<◌, ◌&&◌, ◌||◌, ℕ, true}
+use Rattle.counting.specs.Counts.{Within}
+use Rattle.counting.specs.Lists.{mem}
+use Rattle.counting.specs.Tests.{some}
+use Rattle.graph_core.specs.Walks.{adjacent}
+use Rattle.plain_graph.proofs.parts.one_step_more.Given as goal
+
+abbrev pub invariant-loop-i : goal.invariant-loop-i
+invariant-loop-i l = record {
+  done : (v : ℕ) → Within l.i v → mem l.more v ≡ (mem l.reached v || some l.graph.order (λ u. mem l.reached u && adjacent l.graph (mem l.removed) u v));
+  rest : (v : ℕ) → l.i < v → mem l.more v ≡ mem l.reached v;
+  vertices : (v : ℕ) → mem l.more v ≡ true → Within l.graph.order v;
+}

@@ -1,0 +1,4 @@
+pub mod Small
+pub mod Subsets
+pub mod Cuts
+pub mod Parts

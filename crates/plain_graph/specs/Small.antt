@@ -1,0 +1,8 @@
+-- The graphs that the plain program takes.
+use Rattle.std.specs.Prelude.{ℕ, ◌≤◌}
+use Rattle.graph_core.specs.Graph.{Graph, size}
+
+-- at most 10 vertices and 16 edges
+pub record IsSmall (g : Graph) : Type 0 where
+  pub vertices : g.order ≤ 10
+  pub edges : size g ≤ 16

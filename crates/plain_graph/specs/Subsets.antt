@@ -1,0 +1,15 @@
+-- All sets of numbers 1 to n, and those of edges that are perfect matchings.
+use Rattle.std.specs.Prelude.{ℕ, zero, suc, List, [], ◌∷◌, ◌++◌, filter, map}
+use Rattle.counting.specs.Lists.{mem}
+use Rattle.counting.specs.Sets.{Set}
+use Rattle.graph_core.specs.Graph.{Graph, size}
+use Rattle.graph_core.specs.Matchings.{is_perfect}
+
+-- all sets of numbers 1 to n as rising lists: those without n, then those with n
+abbrev pub subsets : ℕ → List (List ℕ)
+subsets zero = [] ∷ []
+subsets (suc n) = subsets n ++ map (λ xs. xs ++ suc n ∷ []) (subsets n)
+
+-- the perfect matchings of g without r, as rising lists of edges
+abbrev pub perfect_matchings_of : Graph → Set → List (List ℕ)
+perfect_matchings_of g r = filter (λ m. is_perfect g r (mem m)) (subsets (size g))

@@ -1,0 +1,27 @@
+//! A plain, slow program on small graphs, with which other crates' tests compare their answers.
+//!
+//! It goes through all sets of edges of a graph of at most `MOST_PLAIN_VERTICES` vertices and `MOST_PLAIN_EDGES` edges
+//! (`is_small`), and tries each by the definitions' own tests: `degree`, `is_matching`, `is_perfect` and `edges_in_cut` of
+//! one edge set; `perfect_matchings`, `has_perfect`, `is_allowed` and `greatest_matching` over all of them; `is_tight` for a
+//! shore. `odd_component_count` follows walks of at most as many steps as there are vertices, step by step.
+//! A set of edges is a `VSet` of edge numbers. Each function's contract is the definition, so nothing here is clever: the
+//! crate shows on worked examples that the definitions say what is meant.
+//!
+//! Stands on `graph_core` for the graph and the definitions. The examples are those of Lovász and Plummer, "Matching Theory"
+//! (1986), and of Lucchesi and Murty, "Perfect Matchings".
+#![tactic(auto)]
+
+mod cuts;
+mod degrees;
+mod edge_sets;
+mod matchings;
+mod parts;
+mod small;
+#[cfg(test)]
+mod tests;
+
+pub use cuts::{edges_in_cut, is_tight};
+pub use degrees::{degree, is_matching, is_perfect};
+pub use matchings::{greatest_matching, has_perfect, is_allowed, perfect_matchings};
+pub use parts::odd_component_count;
+pub use small::{MOST_PLAIN_EDGES, MOST_PLAIN_VERTICES, is_small};
