@@ -14,3 +14,6 @@ mod verdict;
 
 pub use edges::allowed;
 pub use verdict::covered;
+
+#[cfg(test)]
+mod tests;
