@@ -15,10 +15,10 @@ use Rattle.match_core.proofs.FrameFacts.{limits_row, listed_marks, whole_matchin
 use Rattle.match_core.proofs.repairs.repair.Goals as goal
 
 pub repaired_marks-requires-clause-row : goal.repaired_marks-requires-clause-row
-repaired_marks-requires-clause-row c = limits_row c.args.g.now c.order-n.result c.edges-ends.result.now c.order-n.ensures c.edges-ends.ensures.edges c.edges-ends.ensures.limits
+repaired_marks-requires-clause-row c = limits_row c.args.g.now c.order-n.result c.edges-ends.result.now c.order-n.ensures.is c.edges-ends.ensures.edges c.edges-ends.ensures.limits
 
 pub matching_of-requires-clause-row : goal.matching_of-requires-clause-row
-matching_of-requires-clause-row c = limits_row c.args.g.now c.order-n.result c.edges-ends.result.now c.order-n.ensures c.edges-ends.ensures.edges c.edges-ends.ensures.limits
+matching_of-requires-clause-row c = limits_row c.args.g.now c.order-n.result c.edges-ends.result.now c.order-n.ensures.is c.edges-ends.ensures.edges c.edges-ends.ensures.limits
 
 pub matching_of-requires-clause-matching : goal.matching_of-requires-clause-matching
 matching_of-requires-clause-matching c =
@@ -28,7 +28,7 @@ matching_of-requires-clause-matching c =
 
 pub returns-in_ok-matching_of-in-Some-clause-perfect : goal.returns-in_ok-matching_of-in-Some-clause-perfect
 returns-in_ok-matching_of-in-Some-clause-perfect c = λ m q.
-    let there : graph_of c.order-n.result c.edges-ends.result.now ≡ c.args.g.now = ap (λ n. graph_of n c.edges-ends.result.now) c.order-n.ensures ∙ c.edges-ends.ensures.edges in
+    let there : graph_of c.order-n.result c.edges-ends.result.now ≡ c.args.g.now = ap (λ n. graph_of n c.edges-ends.result.now) c.order-n.ensures.is ∙ c.edges-ends.ensures.edges in
     let same : c.in_ok-matching_of-in-Some.field-0 ≡ m = cc in
     let perfect = subst (λ (g : Graph). IsPerfect g (mem c.args.removed) (marks c.in-Some.mark.items)) there (c.in_ok-mark.ensures.perfect c.in-Some.mark c.in-Some.is) in
     let edges : edges_of c.in_ok-matching_of-in-Some.field-0 ≡ rising_list (size c.args.g.now) (marks c.in-Some.mark.items) = c.in_ok-matching_of-in-Some.ensures.edges ∙ ap₂ (λ k row. rising_list k (marks row)) (sym (size_is c.order-n.result c.edges-ends.result.now) ∙ ap size there) c.deref.ensures.value in
@@ -37,13 +37,13 @@ returns-in_ok-matching_of-in-Some-clause-perfect c = λ m q.
 
 pub repaired_marks-requires-clause-matching : goal.repaired_marks-requires-clause-matching
 repaired_marks-requires-clause-matching c =
-    let there : graph_of c.order-n.result c.edges-ends.result.now ≡ c.args.g.now = ap (λ n. graph_of n c.edges-ends.result.now) c.order-n.ensures ∙ c.edges-ends.ensures.edges in
+    let there : graph_of c.order-n.result c.edges-ends.result.now ≡ c.args.g.now = ap (λ n. graph_of n c.edges-ends.result.now) c.order-n.ensures.is ∙ c.edges-ends.ensures.edges in
     let given : marks c.in_ok-given.given.items ≡ mem (edges_of c.args.m.now) = fun_ext c.in_ok-given.ensures.each in
     subst₂ (λ (g : Graph) (s : Set). IsMatching g (mem c.args.removed) s) (sym there) (sym given) c.requires.matching
 
 pub returns-in_ok-matching_of-in-Some-clause-path : goal.returns-in_ok-matching_of-in-Some-clause-path
 returns-in_ok-matching_of-in-Some-clause-path c = λ answer q.
-    let there : graph_of c.order-n.result c.edges-ends.result.now ≡ c.args.g.now = ap (λ n. graph_of n c.edges-ends.result.now) c.order-n.ensures ∙ c.edges-ends.ensures.edges in
+    let there : graph_of c.order-n.result c.edges-ends.result.now ≡ c.args.g.now = ap (λ n. graph_of n c.edges-ends.result.now) c.order-n.ensures.is ∙ c.edges-ends.ensures.edges in
     let given : marks c.in_ok-given.given.items ≡ mem (edges_of c.args.m.now) = fun_ext c.in_ok-given.ensures.each in
     let same : c.in_ok-matching_of-in-Some.field-0 ≡ answer = cc in
     let differs = subst₂ (λ (g : Graph) (s : Set). DiffersByPath g (mem c.args.removed) s (marks c.in-Some.mark.items)) there given (c.in_ok-mark.ensures.path c.in-Some.mark c.in-Some.is) in
