@@ -7,7 +7,7 @@ use Rattle.graph_core.specs.Graph.{Graph, size, IsBipartite}
 use Rattle.graph_core.specs.Components.{component_count}
 use Rattle.graph_core.specs.Matchings.{Allowed, IsMaximum, missed_count}
 use Rattle.graph_core.specs.GallaiEdmonds.{InD, InA, InC}
-use Rattle.graph_core.specs.Verdict.{IsVerdict}
+use Rattle.graph_core.specs.Verdicts.{IsVerdict}
 use Rattle.report_text.specs.declared.analyses.AnalysisLines.{AnalysisLines}
 
 -- some maximum matching has so many edges and misses so many vertices
@@ -20,7 +20,7 @@ pub record HasMaximum (g : Graph) (edges missed : ℕ) : Type 0 where
 -- each line of `analyse` is right
 pub record IsAnalysis (g : Graph) (lines : AnalysisLines) : Type 0 where
   pub order : lines.order ≡ g.order
-  pub size : lines.size ≡ size g
+  pub edges : lines.size ≡ size g
   pub components : lines.components ≡ component_count g none
   pub bipartite : IsTrue lines.bipartite ↔ IsBipartite g
   pub maximum : HasMaximum g lines.matching lines.deficiency
