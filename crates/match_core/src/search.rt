@@ -64,7 +64,12 @@ pub fn search_forest(
 }
 
 /// For each vertex the marked edge that meets it, 0 if there is none.
-pub fn matched_edges(alloc: Global, n: u32, ends: &[Ends], mark: &[bool]) -> Result<Vec<u32>, Memory>
+pub fn matched_edges(
+    alloc: Global,
+    n: u32,
+    ends: &[Ends],
+    mark: &[bool],
+) -> Result<Vec<u32>, Memory>
     requires row { IsGraphRow n ends.now }
     requires long { length mark.now ≡ length ends.now + 1 }
     ensures length { IfOk result (λ at. length at.items ≡ n + 1) }

@@ -141,10 +141,13 @@ fn perfect_with_edges(
     graph: &MultiGraph,
     edges: &Numbers,
 ) -> Result<Option<Matching>, Fail> {
-    for edge in edges.as_slice() {
-        if *edge == 0 || *edge > graph.size() {
-            return Ok(None);
-        }
+    let size = graph.size();
+    if !edges
+        .as_slice()
+        .iter()
+        .all(|edge| 1 <= *edge && *edge <= size)
+    {
+        return Ok(None);
     }
     Ok(perfect_with(alloc, graph, edges)?)
 }

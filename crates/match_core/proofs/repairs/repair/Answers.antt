@@ -49,4 +49,4 @@ returns-in_ok-matching_of-in-Some-clause-path c = λ answer q.
     let differs = subst₂ (λ (g : Graph) (s : Set). DiffersByPath g (mem c.args.removed) s (marks c.in-Some.mark.items)) there given (c.in_ok-mark.ensures.path c.in-Some.mark c.in-Some.is) in
     let edges : edges_of c.in_ok-matching_of-in-Some.field-0 ≡ rising_list (size c.args.g.now) (marks c.in-Some.mark.items) = c.in_ok-matching_of-in-Some.ensures.edges ∙ ap₂ (λ k row. rising_list k (marks row)) (sym (size_is c.order-n.result c.edges-ends.result.now) ∙ ap size there) c.deref.ensures.value in
     subst (λ (m : MatchingValue). DiffersByPath c.args.g.now (mem c.args.removed) (mem (edges_of c.args.m.now)) (mem (edges_of m))) same
-        (differs_alike c.args.g.now (mem c.args.removed) (mem (edges_of c.args.m.now)) (marks c.in-Some.mark.items) (mem (edges_of c.in_ok-matching_of-in-Some.field-0)) (λ e w. ap (λ xs. mem xs e) edges ∙ listed_marks c.args.g.now (marks c.in-Some.mark.items) e w) differs)
+    (differs_alike c.args.g.now (mem c.args.removed) (mem (edges_of c.args.m.now)) (marks c.in-Some.mark.items) (mem (edges_of c.in_ok-matching_of-in-Some.field-0)) (λ e w. ap (λ xs. mem xs e) edges ∙ listed_marks c.args.g.now (marks c.in-Some.mark.items) e w) differs)

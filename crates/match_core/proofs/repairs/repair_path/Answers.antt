@@ -39,8 +39,7 @@ returns-in-None-mate_at-2 c =
       within = next_within (graph_of c.args.n c.args.ends.now) (row_graph c.args.n c.args.ends.now c.requires.row.within) (mem c.args.removed) (marks c.args.mark.now) (marks c.args.found.now) c.requires.matching c.requires.perfect c.in-Some.x c.walking.edges.items c.walking.v c.walking.invariant.walk next.edge next.vertex pair.0 pair.1 pair.2;
       outside = next_outside (graph_of c.args.n c.args.ends.now) (row_graph c.args.n c.args.ends.now c.requires.row.within) (mem c.args.removed) (marks c.args.mark.now) (marks c.args.found.now) c.requires.matching c.requires.perfect c.in-Some.x c.walking.edges.items c.walking.v c.walking.invariant.walk next.edge next.vertex pair.0 pair.1 pair.2;
       missed = missed_degree c.args.n c.args.ends.now (marks c.args.mark.now) c.in_ok-at.at.items c.walking.invariant.named next.vertex (sym (ap (λ row. numbers row c.in-Some-mate_at.next.vertex) c.deref-in-walking-2.ensures.value) ∙ c.mate_at-in-walking.ensures.none c.in-None-mate_at-2.is);
-    } in
-    (
+    } in (
       c.in-Some.x,
       c.walking.invariant.missed,
       subst (λ (es : List ℕ). IsRepairRow (graph_of c.args.n c.args.ends.now) (mem c.args.removed) (marks c.args.mark.now) c.in-Some.x es) (sym c.in_ok-push.ensures.items)

@@ -27,7 +27,7 @@ repair_path-requires-clause-perfect c =
     let s = subst (IsStep (graph_of c.args.n c.args.ends.now) (mem c.args.removed) (marks c.deref_mut.result.now) (marks c.step.new.mark)) c.in-Grown.is c.in_ok-step.ensures in
     let wrote : (with_items c.args.same c.step.new.mark).items ≡ c.step.new.mark = first_of (search rules, grind (arith, common_steps)) in
     subst (λ (xs : List Bool). IsPerfect (graph_of c.args.n c.args.ends.now) (mem c.args.removed) (marks xs)) (sym (c.deref-in-Grown.ensures.value ∙ wrote))
-        (grown_perfect (graph_of c.args.n c.args.ends.now) (mem c.args.removed) (marks c.args.mark.items) (marks c.step.new.mark) (row_graph c.args.n c.args.ends.now c.requires.row.within) c.requires.matching c.requires.two s.matching (s.answer ∙ ap (λ (f : Set). count (size (graph_of c.args.n c.args.ends.now)) f + 1) same))
+    (grown_perfect (graph_of c.args.n c.args.ends.now) (mem c.args.removed) (marks c.args.mark.items) (marks c.step.new.mark) (row_graph c.args.n c.args.ends.now c.requires.row.within) c.requires.matching c.requires.two s.matching (s.answer ∙ ap (λ (f : Set). count (size (graph_of c.args.n c.args.ends.now)) f + 1) same))
 
 pub flipped_along-requires-clause-in_mark : goal.flipped_along-requires-clause-in_mark
 flipped_along-requires-clause-in_mark c =
@@ -35,13 +35,12 @@ flipped_along-requires-clause-in_mark c =
     let long = c.requires.long in
     let size = size_is c.args.n c.args.ends.now in
     subst (λ (row : List ℕ). (k : ℕ) → k < length row → numbers row k < length c.args.mark.items) (sym c.deref-in-Grown-2.ensures.value)
-        (λ k l. let w = row_real (graph_of c.args.n c.args.ends.now) (mem c.args.removed) (marks c.args.mark.items) p.0 c.in_ok-edges-in-Grown.edges.items p.2 k l in omega arith)
+    (λ k l. let w = row_real (graph_of c.args.n c.args.ends.now) (mem c.args.removed) (marks c.args.mark.items) p.0 c.in_ok-edges-in-Grown.edges.items p.2 k l in omega arith)
 
 pub returns-in-Final-clause-none : goal.returns-in-Final-clause-none
 returns-in-Final-clause-none c =
     let same : marks c.deref_mut.result.now ≡ marks c.args.mark.items = ap marks c.deref_mut.ensures.value ∙ fun_ext c.requires.same in
-    let s = subst (IsStep (graph_of c.args.n c.args.ends.now) (mem c.args.removed) (marks c.deref_mut.result.now) (marks c.step.new.mark)) c.in-Final.is c.in_ok-step.ensures in
-    (
+    let s = subst (IsStep (graph_of c.args.n c.args.ends.now) (mem c.args.removed) (marks c.deref_mut.result.now) (marks c.step.new.mark)) c.in-Final.is c.in_ok-step.ensures in (
       (λ q p. framed_imperfect (graph_of c.args.n c.args.ends.now) (mem c.args.removed) (marks c.args.mark.items) (mem c.in-Final.field-0.outer) (mem c.in-Final.field-0.inner) (count (size (graph_of c.args.n c.args.ends.now)) (marks c.deref_mut.result.now)) (row_graph c.args.n c.args.ends.now c.requires.row.within) c.requires.matching c.requires.two (ap (λ (f : Set). count (size (graph_of c.args.n c.args.ends.now)) f) same) s.answer.1 p),
       (λ h. refl),
     )
