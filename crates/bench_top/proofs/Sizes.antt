@@ -1,9 +1,9 @@
 -- A matching that is maximum has as many edges as rows, and misses the vertices that are no ends of its rows.
 -- Each edge has two ends at different vertices, so the missed vertices and twice the edges make all vertices.
-use Rattle.std.proofs.Common.{◌≡◌, ℕ, ◌+◌, ◌-◌, ◌*◌, ◌≤◌, length, refl, sym, ap, ◌∙◌, arith, List, map}
+use Rattle.std.proofs.Common.{◌≡◌, ℕ, ◌+◌, ◌-◌, ◌*◌, length, ◌∙◌, arith}
 use Rattle.std.proofs.lemmas.List.{length-map}
 use Rattle.counting.specs.Counts.{count}
-use Rattle.counting.specs.Sets.{none, complement}
+use Rattle.counting.specs.Sets.{none}
 use Rattle.counting.specs.Lists.{mem}
 use Rattle.counting.proofs.Totals.{total_zero}
 use Rattle.counting.proofs.Counts.{count_complement}

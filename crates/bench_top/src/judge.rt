@@ -10,6 +10,7 @@ use crate::inputs::Inputs;
 use crate::order::Command;
 use crate::report::Report;
 use crate::status::Status;
+use allowed_edges::{allowed, covered};
 use gallai_edmonds::sets;
 use graph_core::{MultiGraph, Sides};
 use match_core::maximum;
@@ -45,6 +46,8 @@ fn analysis_lines(alloc: Global, g: &MultiGraph) -> Result<AnalysisLines, Memory
     let bipartite = is_bipartite(alloc, g)?;
     let (matching, deficiency) = maximum_sizes(alloc, g)?;
     let sets = sets(alloc, g)?;
+    let allowed = allowed(alloc, g)?;
+    let verdict = covered(alloc, g)?;
     Ok(AnalysisLines {
         order: g.order(),
         size: g.size(),
@@ -55,6 +58,8 @@ fn analysis_lines(alloc: Global, g: &MultiGraph) -> Result<AnalysisLines, Memory
         d: sets.d,
         a: sets.a,
         c: sets.c,
+        allowed,
+        verdict,
     })
 }
 

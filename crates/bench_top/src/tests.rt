@@ -7,7 +7,7 @@ use std::test::Fail;
 const K4: &str = "p mcg 4 6\ne 1 2\ne 1 3\ne 1 4\ne 2 3\ne 2 4\ne 3 4\n";
 
 const K4_REPORT: &str =
-    "graph 4 6\ncomponents 1\nbipartite no\nmatching 2\ndeficiency 0\nD\nA\nC 1 2 3 4\n";
+    "graph 4 6\ncomponents 1\nbipartite no\nmatching 2\ndeficiency 0\nD\nA\nC 1 2 3 4\nallowed 1 2 3 4 5 6\ncovered yes\n";
 
 // The words of a command.
 fn words_of(alloc: Global, words: &[&str]) -> Result<Vec<String>, Fail> {
@@ -36,26 +36,31 @@ fn reports(rt: HostRuntime) -> Result<(), Fail> {
         (K4, K4_REPORT),
         (
             "p mcg 0 0\n",
-            "graph 0 0\ncomponents 0\nbipartite yes\nmatching 0\ndeficiency 0\nD\nA\nC\n",
+            "graph 0 0\ncomponents 0\nbipartite yes\nmatching 0\ndeficiency 0\nD\nA\nC\nallowed\ncovered no order\n",
         ),
         (
             "p mcg 4 2\ne 1 2\ne 3 4\n",
-            "graph 4 2\ncomponents 2\nbipartite yes\nmatching 2\ndeficiency 0\nD\nA\nC 1 2 3 4\n",
+            "graph 4 2\ncomponents 2\nbipartite yes\nmatching 2\ndeficiency 0\nD\nA\nC 1 2 3 4\nallowed 1 2\ncovered no parts 1 3\n",
         ),
         // the star
         (
             "p mcg 4 3\ne 1 2\ne 1 3\ne 1 4\n",
-            "graph 4 3\ncomponents 1\nbipartite yes\nmatching 1\ndeficiency 2\nD 2 3 4\nA 1\nC\n",
+            "graph 4 3\ncomponents 1\nbipartite yes\nmatching 1\ndeficiency 2\nD 2 3 4\nA 1\nC\nallowed\ncovered no berge 1\n",
         ),
         // the triangle
         (
             "p mcg 3 3\ne 1 2\ne 1 3\ne 2 3\n",
-            "graph 3 3\ncomponents 1\nbipartite no\nmatching 1\ndeficiency 1\nD 1 2 3\nA\nC\n",
+            "graph 3 3\ncomponents 1\nbipartite no\nmatching 1\ndeficiency 1\nD 1 2 3\nA\nC\nallowed\ncovered no berge\n",
         ),
         // parallel edges are kept
         (
             "p mcg 2 2\ne 1 2\ne 1 2\n",
-            "graph 2 2\ncomponents 1\nbipartite yes\nmatching 1\ndeficiency 0\nD\nA\nC 1 2\n",
+            "graph 2 2\ncomponents 1\nbipartite yes\nmatching 1\ndeficiency 0\nD\nA\nC 1 2\nallowed 1 2\ncovered yes\n",
+        ),
+        // the path: its middle edge is in no perfect matching
+        (
+            "p mcg 4 3\ne 1 2\ne 2 3\ne 3 4\n",
+            "graph 4 3\ncomponents 1\nbipartite yes\nmatching 2\ndeficiency 0\nD\nA\nC 1 2 3 4\nallowed 1 3\ncovered no edge 2\n",
         ),
         // comments, blanks, leading zeros, line ends of carriage return and line feed, no last line feed
         (

@@ -23,3 +23,4 @@ pub mod MatchingEdges
 pub mod FirstMarks
 pub mod FrameFacts
 pub mod Gluing
+pub mod RepairWalks

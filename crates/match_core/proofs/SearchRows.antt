@@ -147,6 +147,14 @@ ends_here n ends k l = (
     back : (k : ℕ) → suc k - 1 ≡ k
     back k = omega arith
 
+-- a vertex has no edge in the row exactly where the matching misses it
+pub free_degree : (n : ℕ) (ends : List Ends) (m : Set) (at : List ℕ) → NamesEdges ends m at (length ends) → (u : ℕ) → (numbers at u == 0) ≡ (degree (graph_of n ends) m u == 0)
+free_degree n ends m at mates u = elim (cases_eq (numbers at u) 0) [
+  | inl q ↦ eq-eqb (numbers at u) 0 q ∙ sym (eq-eqb (degree (graph_of n ends) m u) 0 (missed_degree n ends m at mates u q))
+  | inr q ↦ let p = pair_is n ends m at mates u q in let d = (met (graph_of n ends) m (numbers at u) u (partner n ends m at mates u) p.0 p.1 p.2).0 in
+      ne_eqb (numbers at u) 0 q ∙ sym (ne_eqb (degree (graph_of n ends) m u) 0 (λ z. absurd (omega arith)))
+]
+
 -- the first forest
 pub fresh_holds : (n : ℕ) (ends : List Ends) (m : Set) (at : List ℕ) → NamesEdges ends m at (length ends) → IsGraph (graph_of n ends) → (removed : List ℕ) → IsMatching (graph_of n ends) (mem removed) m → (f : Forest) → IsFirstForest n removed at f → HoldsForest (graph_of n ends) (mem removed) m f
 fresh_holds n ends m at mates is removed mm f fresh = record {
@@ -168,15 +176,8 @@ fresh_holds n ends m at mates is removed mm f fresh = record {
     spot : (u j : ℕ) → numbers f.start.items u ≡ u → j ≡ 0 → numbers f.start.items u + j ≡ u
     spot u j p q = omega arith
 
-    free_is : (u : ℕ) → (numbers at u == 0) ≡ (degree (graph_of n ends) m u == 0)
-    free_is u = elim (cases_eq (numbers at u) 0) [
-      | inl q ↦ eq-eqb (numbers at u) 0 q ∙ sym (eq-eqb (degree (graph_of n ends) m u) 0 (missed_degree n ends m at mates u q))
-      | inr q ↦ let p = pair_is n ends m at mates u q in let d = (met (graph_of n ends) m (numbers at u) u (partner n ends m at mates u) p.0 p.1 p.2).0 in
-          ne_eqb (numbers at u) 0 q ∙ sym (ne_eqb (degree (graph_of n ends) m u) 0 (λ z. absurd (omega arith)))
-    ]
-
     outer_is : (u : ℕ) → mem f.outer u ≡ ((nat_lt 0 u && nat_le u n) && (not (mem removed u) && (degree (graph_of n ends) m u == 0)))
-    outer_is u = fresh.outer u ∙ ap (λ t. (nat_lt 0 u && nat_le u n) && (not (mem removed u) && t)) (free_is u)
+    outer_is u = fresh.outer u ∙ ap (λ t. (nat_lt 0 u && nat_le u n) && (not (mem removed u) && t)) (free_degree n ends m at mates u)
 
 -- where no edge is open, the forest is a frame
 pub searched_frame : (n : ℕ) (ends : List Ends) (m r : Set) → IsGraph (graph_of n ends) → IsMatching (graph_of n ends) r m → (f : Forest) → HoldsForest (graph_of n ends) r m f →

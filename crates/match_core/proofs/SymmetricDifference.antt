@@ -49,7 +49,7 @@ module _ (g : Graph) (is : IsGraph g) (r m n : Set) (mm : IsMatching g r m) (per
     before : (t : ℕ) → suc t ≤ k + k → HasEnds g (e t) (v (suc t)) (v t)
     before t l = turned g (e t) (v t) (v (suc t)) (p.path.ends t l)
 
-    m_a : m a ≡ false
+    pub m_a : m a ≡ false
     m_a = false_from_ne_true (m a) (λ t. go k p.path.within before p.turns other p.path.real ends (met g m a (v (k + k)) w wa t ends).0 p.free t)
       where
         go : (k : ℕ) → ((i : ℕ) → i ≤ k + k → Within g.order (v i)) → ((t : ℕ) → suc t ≤ k + k → HasEnds g (e t) (v (suc t)) (v t)) → ((i : ℕ) → i < k + k → m (e i) ≡ is_odd i) → ((i : ℕ) → i < k + k → n (e i) ≡ not (is_odd i)) → ((i : ℕ) → i < k + k → Within (size g) (e i))
@@ -65,7 +65,7 @@ module _ (g : Graph) (is : IsGraph g) (r m n : Set) (mm : IsMatching g r m) (per
             both_ways (n a) (ap n q ∙ other (suc (k + k)) (omega arith) ∙ ap (λ b. not (not b)) (odd-double k)) na
 
     -- w is not on the path
-    w_off : (t : ℕ) → t ≤ k + k → v t ≢ w
+    pub w_off : (t : ℕ) → t ≤ k + k → v t ≢ w
     w_off t l q = elim (cases_eq t (k + k)) [
       | inl s ↦ no_loop n nn a (v (k + k)) w wa na ends (ap v (sym s) ∙ q)
       | inr s ↦ elim (cases_Bool (is_odd t)) [
@@ -191,6 +191,7 @@ module _ (g : Graph) (is : IsGraph g) (r m n : Set) (mm : IsMatching g r m) (per
               real = d.1;
               ends = subst (λ s. HasEnds g d.0 (v (k + k)) s) h d.3.1;
               apart = λ i li q. w_off k v e p other d.0 d.3.0 d.1 d.2 d.3.1 i li (q ∙ sym h);
+              off = m_a k v e p other d.0 d.3.0 d.1 d.2 d.3.1;
               perfect = mended k v e p other d.0 d.3.0 d.1 d.2 d.3.1 z (λ u wu ru du. elim (singleton u wu ru du) [ inl s ↦ inl (s ∙ sym start) | inr s ↦ inr (s ∙ sym h) ]);
             }
           ]

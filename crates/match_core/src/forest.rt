@@ -78,8 +78,8 @@ pub fn first_forest(alloc: Global, n: u32, removed: VSet, at: &[u32]) -> Result<
     })
 }
 
-// The vertices of 1 to n that are not removed and have no edge in the row.
-fn free(n: u32, removed: VSet, at: &[u32]) -> VSet
+/// The vertices of 1 to `n` that are not removed and have no edge in the row.
+pub fn free(n: u32, removed: VSet, at: &[u32]) -> VSet
     requires most { n ≤ MOST_VERTICES }
     requires long { length at.now ≡ n + 1 }
     ensures { (v : ℕ) → mem result v ≡ ((nat_lt 0 v && nat_le v n) && (not (mem removed v) && (numbers at.now v == 0))) }

@@ -22,6 +22,7 @@ mod frames;
 mod laws;
 mod matching;
 mod questions;
+mod repairs;
 mod ring;
 mod rows;
 mod search;
@@ -31,6 +32,7 @@ pub use frames::{Found, FrameSets, frame, maximum};
 pub use laws::tutte_berge_law;
 pub use matching::{MatchRow, Matching};
 pub use questions::{perfect_with, perfect_without};
+pub use repairs::repair;
 
 #[cfg(test)]
 mod tests;

@@ -63,8 +63,13 @@ pub fn search_forest(
     }
 }
 
-// For each vertex the marked edge that meets it, 0 if there is none.
-fn matched_edges(alloc: Global, n: u32, ends: &[Ends], mark: &[bool]) -> Result<Vec<u32>, Memory>
+/// For each vertex the marked edge that meets it, 0 if there is none.
+pub fn matched_edges(
+    alloc: Global,
+    n: u32,
+    ends: &[Ends],
+    mark: &[bool],
+) -> Result<Vec<u32>, Memory>
     requires row { IsGraphRow n ends.now }
     requires long { length mark.now ≡ length ends.now + 1 }
     ensures length { IfOk result (λ at. length at.items ≡ n + 1) }
@@ -120,7 +125,8 @@ fn find_open(ends: &[Ends], from: usize, removed: VSet, outer: VSet, inner: VSet
     None
 }
 
-fn other_end(e: Ends, v: u32) -> u32
+/// The end of an edge that is not `v`.
+pub fn other_end(e: Ends, v: u32) -> u32
     ensures { result ≡ cond (e.a == v) e.b e.a }
 {
     if e.a == v { e.b } else { e.a }

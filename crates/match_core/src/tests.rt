@@ -35,20 +35,18 @@ const PETERSEN: [(u32, u32); 15] = [
     (9, 6),
 ];
 
-// Two triangles that share no vertex, joined by two edges through a third one: 1 2 3, 4 5 6, 7 8 9, with stems at both ends.
-const FLOWER: [(u32, u32); 12] = [
-    (2, 3),
+// Three odd cycles, each around the one before: 1 2 3, then 4 5 with it, then 6 7 with these; and a stem at 7.
+const FLOWER: [(u32, u32); 10] = [
     (1, 2),
-    (1, 3),
-    (5, 6),
-    (3, 4),
     (4, 5),
-    (4, 6),
-    (8, 9),
     (6, 7),
-    (7, 8),
-    (7, 9),
-    (9, 10),
+    (1, 3),
+    (2, 3),
+    (1, 4),
+    (5, 2),
+    (4, 6),
+    (7, 3),
+    (8, 7),
 ];
 
 fn made(alloc: Global, order: u32, edges: &[(u32, u32)]) -> Result<MultiGraph, Fail>
@@ -82,7 +80,7 @@ fn finds_maximum_matchings(rt: HostRuntime) -> Result<(), Fail> {
         (4, K4.as_slice(), 2),
         (4, TWO_EDGES.as_slice(), 2),
         (10, PETERSEN.as_slice(), 5),
-        (10, FLOWER.as_slice(), 5),
+        (8, FLOWER.as_slice(), 4),
         (0, [].as_slice(), 0),
         (3, [].as_slice(), 0),
     ];
@@ -121,9 +119,6 @@ fn answers_perfect_matchings_on_request(rt: HostRuntime) -> Result<(), Fail> {
     let inner = perfect_without(rt.alloc(), &path, VSet::one(1).with(4))?;
     assert!(rt; inner.is_some_and(|m| has_edges(&m, &[2])));
     assert!(rt; perfect_without(rt.alloc(), &path, VSet::one(2).with(3))?.is_none());
-    let mut middle = Numbers::new(rt.alloc());
-    middle.push(2)?;
-    assert!(rt; middle.len() == 1);
     Ok(())
 }
 
@@ -146,10 +141,13 @@ fn perfect_with_edges(
     graph: &MultiGraph,
     edges: &Numbers,
 ) -> Result<Option<Matching>, Fail> {
-    for edge in edges.as_slice() {
-        if *edge == 0 || *edge > graph.size() {
-            return Ok(None);
-        }
+    let size = graph.size();
+    if !edges
+        .as_slice()
+        .iter()
+        .all(|edge| 1 <= *edge && *edge <= size)
+    {
+        return Ok(None);
     }
     Ok(perfect_with(alloc, graph, edges)?)
 }

@@ -60,9 +60,13 @@ graph_lines lines = (graph_line lines.order lines.size ++ components_line lines.
 abbrev pub with_three_sets : List ℕ → AnalysisLines → List ℕ
 with_three_sets before lines = ((before ++ list_line (codes "D") lines.d) ++ list_line (codes "A") lines.a) ++ list_line (codes "C") lines.c
 
+-- the lines of the allowed edges and of the verdict behind others
+abbrev pub with_verdict : List ℕ → AnalysisLines → List ℕ
+with_verdict before lines = (before ++ list_line (codes "allowed") lines.allowed) ++ verdict_text lines.verdict
+
 -- the report of `analyse`
 unfoldable pub analysis_text : AnalysisLines → List ℕ
-analysis_text lines = with_three_sets ((graph_lines lines ++ matching_line lines.matching) ++ deficiency_line lines.deficiency) lines
+analysis_text lines = with_verdict (with_three_sets ((graph_lines lines ++ matching_line lines.matching) ++ deficiency_line lines.deficiency) lines) lines
 
 -- the report of a file that is outside its format: its place among the named files, the line and the kind of the fault
 unfoldable pub bad_input_text : (file line kind : ℕ) → List ℕ

@@ -2,7 +2,9 @@
 ghost use Rattle.std.specs.Prelude.{◌≡◌, ◌++◌, codes, OnOk, IfOk, string_bytes};
 ghost use Rattle.report_text.specs.Reports.{analysis_text, graph_line, components_line, bipartite_line, matching_line, deficiency_line, list_line, yes_or_no};
 
-use crate::numbers::push_set;
+use crate::numbers::{push_numbers, push_set};
+use crate::verdicts::push_verdict;
+use graph_core::{Numbers, Verdict};
 use std::alloc::{AllocError as Memory, Global};
 use vset_core::VSet;
 
@@ -27,6 +29,10 @@ pub struct AnalysisLines {
     pub a: VSet,
     /// The rest.
     pub c: VSet,
+    /// The edges that lie in a perfect matching.
+    pub allowed: Numbers,
+    /// Whether the graph is matching covered, and if not, why.
+    pub verdict: Verdict,
 }
 
 // `yes` or `no`
@@ -75,6 +81,14 @@ fn push_set_line(text: &mut String, word: &str, set: VSet) -> Result<(), Memory>
     write!(text, "\n")
 }
 
+fn push_numbers_line(text: &mut String, word: &str, numbers: &Numbers) -> Result<(), Memory>
+    ensures { OnOk result (string_bytes text.new ≡ string_bytes text.old ++ list_line word.now numbers.now) }
+{
+    write!(text, "{word}")?;
+    push_numbers(text, numbers.as_slice())?;
+    write!(text, "\n")
+}
+
 /// Writes the lines of `analyse`.
 #[tactic(auto, unfolding(crate::specs::Reports::analysis_text))]
 pub fn analysis(alloc: Global, lines: &AnalysisLines) -> Result<Vec<u8>, Memory>
@@ -89,5 +103,7 @@ pub fn analysis(alloc: Global, lines: &AnalysisLines) -> Result<Vec<u8>, Memory>
     push_set_line(&mut text, "D", lines.d)?;
     push_set_line(&mut text, "A", lines.a)?;
     push_set_line(&mut text, "C", lines.c)?;
+    push_numbers_line(&mut text, "allowed", &lines.allowed)?;
+    push_verdict(&mut text, &lines.verdict)?;
     Ok(text.into_bytes())
 }

@@ -1,4 +1,4 @@
-use Rattle.std.proofs.Common.{◌≡◌, ℕ, ◌-◌, ◌*◌, ◌≤◌, arith, sym, ap₂, subst, subst₂, length}
+use Rattle.std.proofs.Common.{ℕ, ◌-◌, ◌*◌, arith, sym, subst₂}
 use Rattle.bench_top.specs.Facts.{HasMaximum}
 use Rattle.bench_top.proofs.Sizes.{missed_and_ends, has_maximum}
 use Rattle.bench_top.proofs.judge.maximum_sizes.Goals as goal

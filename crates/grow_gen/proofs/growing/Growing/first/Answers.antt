@@ -12,7 +12,7 @@ returns c =
     let in_b : c.with-in_b.result ≡ 4 ∷ 5 ∷ 6 ∷ [] =
     same_rising_list 128 c.with-in_b.result (4 ∷ 5 ∷ 6 ∷ []) c.rises.ensures (set-wider 6 128 (4 ∷ 5 ∷ 6 ∷ []) (omega arith) (rising_list-rises 6 (mem (4 ∷ 5 ∷ 6 ∷ []))))
     (λ v w. c.with-in_b.ensures v ∙ ap (λ b. b || (6 == v)) (c.with.ensures v ∙ ap (λ xs. mem xs v || (5 == v)) c.one.ensures) ∙ parted (4 == v) (5 == v) (6 == v)) in
-    ap₂ (λ n es. growth n es c.full.result c.with-in_b.result) c.order.ensures.is (ends ∙ c.ends-a-items.ensures) ∙ ap₂ (growth 6 _) c.full.ensures.list in_b
+    ap₂ (λ n es. growth n es c.full.result c.with-in_b.result) c.order.ensures (ends ∙ c.ends-a-items.ensures) ∙ ap₂ (growth 6 _) c.full.ensures.list in_b
   where
     growth : ℕ → List (ℕ × ℕ) → List ℕ → List ℕ → Growth
     growth n es a b = record { graph = record { order = n; ends = es }; in_a = a; in_b = b }

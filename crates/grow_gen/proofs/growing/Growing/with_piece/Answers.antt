@@ -12,7 +12,7 @@ returns c =
     let w = c.pick-w.result in
     with_piece-parts s c.args.piece c.args.x c.args.y w (s.graph.order + c.order.result - 2) (map pair_of c.append_kept.new.edges.items) c.next_class.result c.next_class-2.result
     c.pick-w.ensures.value
-    (ap (λ k. s.graph.order + k - 2) c.order.ensures.is)
+    (ap (λ k. s.graph.order + k - 2) c.order.ensures)
     (c.in_ok-append_kept.ensures
     ∙ ap (λ es. es ++ map (renumbered_edge s.graph.order w) (filter (λ e. not (is_at 1 e)) (piece_ends c.args.piece)))
     (c.rehang.ensures ∙ ap (λ ts. rehung_edges w ts s.graph.ends) c.targets-targets.ensures))

@@ -1,0 +1,89 @@
+-- The first of the components is that of vertex 1, since no vertex is less; a graph is connected where it holds all vertices.
+-- A walk from one vertex to another leads over 1.
+use Rattle.std.proofs.Common.{◌≡◌, ℕ, suc, zero, ◌≤◌, ◌<◌, Bool, true, false, not, ◌&&◌, ◌↔◌, List, [], ◌∷◌, ◌++◌, map, length, cond, sym, ap, ◌∙◌, arith, nat_lt, ltb-true}
+use Rattle.std.specs.Prelude.{IfNone, IfSome, None, Option, Some, slice_get}
+use Rattle.std.proofs.lemmas.Bool.{both_ways, and_parts, false_from_ne_true}
+use Rattle.counting.specs.Counts.{Within}
+use Rattle.counting.specs.Lists.{IsLeastOf, mem, rising_list}
+use Rattle.counting.specs.Sets.{Set, none}
+use Rattle.counting.specs.Tests.{IsLeastWithout, some}
+use Rattle.counting.proofs.RisingLists.{mem-rising_list}
+use Rattle.counting.proofs.Tests.{some_true}
+use Rattle.graph_core.specs.Components.{IsConnected, components, is_least}
+use Rattle.graph_core.specs.Graph.{Graph, IsGraph}
+use Rattle.graph_core.specs.Walks.{Joined, joined}
+use Rattle.graph_core.proofs.Components.{joined_walk, walk_joined}
+use Rattle.graph_core.proofs.Walks.{joined_back, joined_on}
+
+-- a rising list that may begin with 1 does
+begins_with_one : (n : ℕ) (x : Set) → 1 ≤ n → x 1 ≡ true → (ys : List ℕ) × (rising_list n x ≡ 1 ∷ ys)
+begins_with_one zero x l h = absurd (omega arith)
+begins_with_one (suc zero) x l h = ([], ap (λ b. cond b (1 ∷ []) []) h)
+begins_with_one (suc (suc n)) x l h =
+    let r = begins_with_one (suc n) x (omega arith) h in
+    let last = cond (x (suc (suc n))) (suc (suc n) ∷ []) [] in
+    (r.0 ++ last, ap (λ zs. zs ++ last) r.1)
+
+-- 1 is the least vertex of its component
+one_is_least : (g : Graph) → is_least g none 1 ≡ true
+one_is_least g = ap not (false_from_ne_true (some g.order (λ v. joined g none 1 v && nat_lt v 1)) (λ t.
+    let r = some_true g.order (λ v. joined g none 1 v && nat_lt v 1) t in
+    let b = and_parts (joined g none 1 r.0) (nat_lt r.0 1) r.2 in
+    let l = ltb-true r.0 1 b.1 in let w = r.1 in absurd (omega arith)))
+
+-- the first component is that of 1
+pub first_component : (g : Graph) (part : List ℕ) → 1 ≤ g.order → slice_get (components g none) 0 ≡ Some part → part ≡ rising_list g.order (joined g none 1)
+unfolding components
+first_component g part l h =
+    let r = begins_with_one g.order (is_least g none) l (one_is_least g) in
+    let first : slice_get (map (λ u. rising_list g.order (joined g none u)) (rising_list g.order (is_least g none))) 0 ≡ Some (rising_list g.order (joined g none 1)) = ap (λ us. slice_get (map (λ u. rising_list g.order (joined g none u)) us) 0) r.1 in
+    cc
+
+-- there is a component where there is a vertex
+pub some_component : (g : Graph) → 1 ≤ g.order → 0 < length (components g none)
+unfolding components
+some_component g l =
+    let r = begins_with_one g.order (is_least g none) l (one_is_least g) in
+    let long : length (map (λ u. rising_list g.order (joined g none u)) (rising_list g.order (is_least g none))) ≡ length (map (λ u. rising_list g.order (joined g none u)) (1 ∷ r.0)) = ap (λ us. length (map (λ u. rising_list g.order (joined g none u)) us)) r.1 in
+    omega arith
+
+-- a vertex is in this list exactly where a walk joins it to 1
+pub in_first : (g : Graph) → IsGraph g → 1 ≤ g.order → (v : ℕ) → Within g.order v → mem (rising_list g.order (joined g none 1)) v ≡ true → Joined g none 1 v
+in_first g is l v w m = joined_walk g none 1 v (sym (mem-rising_list g.order (joined g none 1) v w) ∙ m)
+
+-- the least vertex outside the list is the least that no walk joins to 1
+pub first_apart : (g : Graph) (all others : List ℕ) (b : ℕ) → IsGraph g → 1 ≤ g.order →
+    ((v : ℕ) → (mem all v ≡ true) ↔ Within g.order v) →
+    ((v : ℕ) → mem others v ≡ (mem all v && not (mem (rising_list g.order (joined g none 1)) v))) → IsLeastOf others b → IsLeastWithout g.order (Joined g none 1) b
+first_apart g all others b is l full o least =
+    let out = and_parts (mem all b) (not (mem (rising_list g.order (joined g none 1)) b)) (sym (o b) ∙ least.member) in
+    let wb = (full b).0 out.0 in
+    record {
+      within = wb;
+      without = λ j. both_ways (not (mem (rising_list g.order (joined g none 1)) b)) (ap not (mem-rising_list g.order (joined g none 1) b wb ∙ walk_joined g none is 1 b (omega arith) j)) out.1;
+      before = λ w ww lt. in_first g is l w ww (inside (mem all w) (mem (rising_list g.order (joined g none 1)) w) ((full w).1 ww) (sym (o w) ∙ least.before w lt));
+    }
+  where
+    inside : (a c : Bool) → a ≡ true → (a && not c) ≡ false → c ≡ true
+    inside a c p q = grind arith
+
+-- where nothing is outside, the graph is connected
+pub all_joined : (g : Graph) (all others : List ℕ) → IsGraph g → 1 ≤ g.order →
+    ((v : ℕ) → (mem all v ≡ true) ↔ Within g.order v) →
+    ((v : ℕ) → mem others v ≡ (mem all v && not (mem (rising_list g.order (joined g none 1)) v))) → others ≡ [] → IsConnected g
+all_joined g all others is l full o empty u v wu wv = joined_on g none u 1 v (joined_back g none 1 u (reached u wu)) (reached v wv)
+  where
+    inside : (a c : Bool) → a ≡ true → (a && not c) ≡ false → c ≡ true
+    inside a c p q = grind arith
+
+    reached : (w : ℕ) → Within g.order w → Joined g none 1 w
+    reached w ww = in_first g is l w ww (inside (mem all w) (mem (rising_list g.order (joined g none 1)) w) ((full w).1 ww) (sym (o w) ∙ ap (λ xs. mem xs w) empty))
+
+-- what is said of the value in an option, and of there being none
+pub some_weaker : (o : Option ℕ) (P Q : ℕ → Type 0) → ((v : ℕ) → P v → Q v) → IfSome o P → IfSome o Q
+some_weaker None P Q f h = tt
+some_weaker (Some v) P Q f h = f v h
+
+pub none_weaker : (o : Option ℕ) (P Q : Type 0) → (P → Q) → IfNone o P → IfNone o Q
+none_weaker None P Q f h = f h
+none_weaker (Some v) P Q f h = tt

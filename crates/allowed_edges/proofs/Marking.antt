@@ -1,0 +1,56 @@
+-- Marks set at the places of the edges of a matching, row by row.
+-- By induction on the rows, and by cases on the place that is asked for.
+use Rattle.std.proofs.Common.{◌≡◌, ℕ, suc, zero, ◌+◌, ◌<◌, Bool, true, false, ◌||◌, ◌==◌, List, [], ◌∷◌, length, map, take, refl, sym, ap, ◌∙◌, arith, inl, inr, eq-eqb, ne_eqb, rules, get_or-set_same, get_or-set_other, subst}
+use Rattle.std.specs.Prelude.{All, Some, slice_get, slice_set}
+use Rattle.std.proofs.lemmas.List.Elements.{All-get_or}
+use Rattle.std.proofs.lemmas.Option.{get_or_from_slice_get, slice_get_within}
+use Rattle.std.proofs.lemmas.Bool.{cases_eq, or_right}
+use Rattle.counting.specs.Lists.{mem}
+use Rattle.match_core.proofs.MatchingEdges.{edge_of}
+use Rattle.match_core.specs.Rows.{marks}
+use Rattle.match_core.specs.declared.matching.MatchRow.{MatchRow}
+
+-- one place more is marked
+pub marks-set : (xs : List Bool) (e j : ℕ) → e < length xs → marks (slice_set xs e true) j ≡ (marks xs j || (e == j))
+marks-set xs e j l = elim (cases_eq e j) [
+  | inl q ↦ ap (marks (slice_set xs e true)) (sym q) ∙ get_or-set_same xs e true false l ∙ sym (or_right (marks xs j) (e == j) (eq-eqb e j q))
+  | inr d ↦ get_or-set_other xs e j true false (λ q. d (sym q)) ∙ sym (ap (λ b. marks xs j || b) (ne_eqb e j d) ∙ or_no (marks xs j))
+]
+  where
+    or_no : (b : Bool) → (b || false) ≡ b
+    or_no true = refl
+    or_no false = refl
+
+-- a row of the list has an edge below the bound of all
+pub edge-below : (n : ℕ) (rows : List MatchRow) (i : ℕ) (row : MatchRow) → All (λ (r : MatchRow). r.edge < n) rows → slice_get rows i ≡ Some row → row.edge < n
+edge-below n rows i row all q = subst (λ (r : MatchRow). r.edge < n) (get_or_from_slice_get rows i row row q) (All-get_or (λ (r : MatchRow). r.edge < n) rows i row (slice_get_within rows i row q) all)
+
+-- as many marks as before
+pub length-marked : (xs : List Bool) (e : ℕ) → length (slice_set xs e true) ≡ length xs
+length-marked xs e = search rules
+
+-- one row more is taken
+pub edges-more : (rows : List MatchRow) (i : ℕ) (row : MatchRow) (j : ℕ) → slice_get rows i ≡ Some row → mem (map edge_of (take (suc i) rows)) j ≡ (mem (map edge_of (take i rows)) j || (row.edge == j))
+edges-more [] i row j q = cc
+edges-more (r ∷ rows) zero row j q = let e : r ≡ row = cc in ap (λ (r : MatchRow). (r.edge == j) || false) e ∙ or_no (row.edge == j)
+  where
+    or_no : (b : Bool) → (b || false) ≡ b
+    or_no true = refl
+    or_no false = refl
+edges-more (r ∷ rows) (suc i) row j q = ap (λ b. (r.edge == j) || b) (edges-more rows i row j q) ∙ assoc (r.edge == j) (mem (map edge_of (take i rows)) j) (row.edge == j)
+  where
+    assoc : (a b d : Bool) → (a || (b || d)) ≡ ((a || b) || d)
+    assoc true b d = refl
+    assoc false b d = refl
+
+-- the marks of one row more
+pub marks-more : (old now : List Bool) (rows : List MatchRow) (i : ℕ) (row : MatchRow) → slice_get rows i ≡ Some row → row.edge < length now →
+    ((j : ℕ) → marks now j ≡ (marks old j || mem (map edge_of (take i rows)) j)) → (j : ℕ) → marks (slice_set now row.edge true) j ≡ (marks old j || mem (map edge_of (take (i + 1) rows)) j)
+marks-more old now rows i row q l h j =
+    let next : suc i ≡ i + 1 = omega arith in
+    marks-set now row.edge j l ∙ ap (λ b. b || (row.edge == j)) (h j) ∙ assoc (marks old j) (mem (map edge_of (take i rows)) j) (row.edge == j)
+    ∙ ap (λ b. marks old j || b) (sym (edges-more rows i row j q)) ∙ ap (λ k. marks old j || mem (map edge_of (take k rows)) j) next
+  where
+    assoc : (a b d : Bool) → ((a || b) || d) ≡ (a || (b || d))
+    assoc true b d = refl
+    assoc false b d = refl

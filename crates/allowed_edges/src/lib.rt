@@ -1,0 +1,19 @@
+//! Allowed edges, the verdict on a graph, and the table of the pairs of edges that lie together.
+//!
+//! An edge is allowed if some perfect matching contains it (`Allowed` of `graph_core`), and a graph is matching covered if
+//! it has at least two vertices, is connected, and all its edges are allowed (`IsCovered`). `allowed` lists exactly the
+//! allowed edges. `covered` answers whether the graph is matching covered and, where it is not, the first reason that
+//! applies (`IsVerdict`): fewer than two vertices, no connection, no perfect matching, or the least edge that is not allowed.
+//!
+//! Stands on `match_core`, which answers a perfect matching that holds a given edge. Source: Lovász and Plummer, "Matching
+//! Theory", chapter 5; Lucchesi and Murty, "Perfect Matchings".
+#![tactic(auto)]
+
+mod edges;
+mod verdict;
+
+pub use edges::allowed;
+pub use verdict::covered;
+
+#[cfg(test)]
+mod tests;

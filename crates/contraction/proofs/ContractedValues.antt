@@ -1,0 +1,48 @@
+-- What the value of a quotient says: as many lists of remembered edges as edges, each that of its edge, and the union of the
+-- blocks at the places of a set.
+use Rattle.std.proofs.Common.{◌≡◌, ℕ, ◌-◌, ◌≤◌, true, ◌&&◌, List, [], length, sym, ap, ◌∙◌, arith}
+use Rattle.std.proofs.lemmas.Bool.{and_parts}
+use Rattle.std.proofs.lemmas.List.{get_or-map, length-map}
+use Rattle.counting.proofs.RisingLists.{list-from_test, set-narrower}
+use Rattle.counting.proofs.Tests.{some_true}
+use Rattle.counting.specs.Counts.{Within}
+use Rattle.counting.specs.Lists.{IsRisingIn, item, mem}
+use Rattle.counting.specs.Tests.{some}
+use Rattle.graph_core.specs.Graph.{Graph, size}
+use Rattle.graph_core.specs.Partitions.{block}
+use Rattle.graph_core.specs.Quotients.{edges_between, quotient, remembered, union_of_blocks}
+use Rattle.contraction.proofs.BlockLists.{length-partition}
+use Rattle.contraction.specs.Contracted.{ContractedValue, KeepsContraction, contraction}
+
+-- one list of remembered edges for each edge of the quotient
+pub one-each : (q : ContractedValue) → KeepsContraction q → length q.edges ≡ size q.graph
+one-each q keeps =
+    ap (λ (r : ContractedValue). length r.edges) keeps.is
+    ∙ length-map (quotient keeps.base q.blocks).ends (λ (k : ℕ × ℕ). edges_between keeps.base q.blocks k.0 k.1)
+    ∙ sym (ap (λ (r : ContractedValue). size r.graph) keeps.is)
+
+-- which is that of the edge
+pub item-remembered : (g : Graph) (p : List (List ℕ)) (q : ContractedValue) (e : ℕ) → q ≡ contraction g p → Within (size q.graph) e → item q.edges e ≡ remembered g p e
+item-remembered g p q e is w =
+    ap (λ (r : ContractedValue). item r.edges e) is
+    ∙ get_or-map (λ (k : ℕ × ℕ). edges_between g p k.0 k.1) (quotient g p).ends (e - 1) (0, 0) [] (let s = ap (λ (r : ContractedValue). size r.graph) is in omega arith)
+
+-- at most 128 blocks
+pub few-blocks : (q : ContractedValue) → KeepsContraction q → length q.blocks ≤ 128
+few-blocks q keeps = let l = length-partition keeps.base.order q.blocks keeps.partition in let f = keeps.limits.vertices in omega arith
+
+-- the set with the vertices of the blocks at the places in s is their union
+pub union-blocks : (g : Graph) (p : List (List ℕ)) (q : ContractedValue) (u s : List ℕ) → KeepsContraction q → q ≡ contraction g p → IsRisingIn 128 u → ((v : ℕ) → mem u v ≡ some (length q.blocks) (λ i. mem s i && mem (block q.blocks i) v)) → u ≡ union_of_blocks g p (mem s)
+union-blocks g p q u s keeps is rises members = list-from_test g.order u _ (set-narrower 128 g.order u rises top) (λ v w. members v ∙ ap (λ (b : List (List ℕ)). some (length b) (λ i. mem s i && mem (block b i) v)) blocks)
+  where
+    blocks : q.blocks ≡ p
+    blocks = ap (λ (r : ContractedValue). r.blocks) is
+
+    orders : keeps.base.order ≡ g.order
+    orders = sym (ap (λ (r : ContractedValue). r.order) keeps.is) ∙ ap (λ (r : ContractedValue). r.order) is
+
+    top : (v : ℕ) → mem u v ≡ true → v ≤ g.order
+    top v m =
+        let r = some_true (length q.blocks) (λ i. mem s i && mem (block q.blocks i) v) (sym (members v) ∙ m) in
+        let w = keeps.partition.partition.within r.0 v r.1 (and_parts (mem s r.0) (mem (block q.blocks r.0) v) r.2).1 in
+        let o = orders in omega arith

@@ -1,0 +1,10 @@
+pub mod BlockLists
+pub mod BlockUnions
+pub mod PairLists
+pub mod JoinedPairs
+pub mod QuotientValues
+pub mod Lifting
+pub mod QuotientLaws
+pub mod ContractedValues
+pub mod QuotientPairs
+pub mod SinglePartitions

@@ -1,0 +1,15 @@
+use Rattle.std.proofs.Common.{ap, ◌∙◌, arith, ℕ, List, length, ◌&&◌}
+use Rattle.counting.specs.Lists.{mem}
+use Rattle.counting.specs.Tests.{some}
+use Rattle.graph_core.specs.Partitions.{block}
+use Rattle.contraction.specs.Contracted.{ContractedValue}
+use Rattle.contraction.proofs.ContractedValues.{few-blocks, union-blocks}
+use Rattle.contraction.proofs.contracted.Contracted.lift_set.Goals as goal
+
+pub union_at-union-requires : goal.union_at-union-requires
+union_at-union-requires c = let f = few-blocks c.args.self.now c.keeps_contraction.ensures in
+    let e = ap length (c.deref.ensures.value ∙ ap (λ (q : ContractedValue). q.blocks) c.self.view_is) in omega arith
+
+pub returns : goal.returns
+returns c = λ g p is. union-blocks g p c.args.self.now c.union_at-union.result c.args.s c.keeps_contraction.ensures is c.rises.ensures
+    (λ v. c.union_at-union.ensures v ∙ ap (λ (b : List (List ℕ)). some (length b) (λ i. mem c.args.s i && mem (block b i) v)) (c.deref.ensures.value ∙ ap (λ (q : ContractedValue). q.blocks) c.self.view_is))

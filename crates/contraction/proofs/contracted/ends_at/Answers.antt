@@ -1,0 +1,17 @@
+use Rattle.std.proofs.Common.{◌≡◌, arith, ap, ◌∙◌, take, map, take_all}
+use Rattle.graph_core.specs.Partitions.{place}
+use Rattle.graph_core.specs.declared.ends.Ends.{Ends}
+use Rattle.graph_core.proofs.View.{ends_within}
+use Rattle.contraction.proofs.QuotientPairs.{ends-contracted}
+use Rattle.contraction.proofs.contracted.ends_at.Goals as goal
+
+pub place-requires : goal.place-requires
+place-requires c = let w = ends_within c.args.p.now.order c.args.edges.now c.loop-edge.edge-index (record { a = 0; b = 0 }) c.requires c.loop-edge-test.true in omega arith
+
+pub place-requires-in-loop-edge : goal.place-requires-in-loop-edge
+place-requires-in-loop-edge c = let w = ends_within c.args.p.now.order c.args.edges.now c.loop-edge.edge-index (record { a = 0; b = 0 }) c.requires c.loop-edge-test.true in omega arith
+
+pub returns : goal.returns
+returns c =
+    let all : take c.loop-edge.edge-index c.args.edges.now ≡ c.args.edges.now = take_all c.loop-edge.edge-index c.args.edges.now c.loop-edge-test.false in
+    ends-contracted c.args.p.now.order c.args.p.now.blocks c.args.edges.now c.loop-edge.ends.items (c.loop-edge.invariant ∙ ap (map (λ (e : Ends). (place c.args.p.now.blocks e.a, place c.args.p.now.blocks e.b))) all)

@@ -1,0 +1,32 @@
+use Rattle.std.proofs.Common.{◌≡◌, ◌+◌, ◌-◌, ◌++◌, ◌∷◌, [], ℕ, List, ap, ap₂, sym, ◌∙◌, map, flat_map, arith, suc, get_or, inl, inr, subst, append-nil}
+use Rattle.std.proofs.lemmas.Bool.{cases_eq}
+use Rattle.std.proofs.lemmas.Grind.{flat_map-append}
+use Rattle.std.proofs.lemmas.List.{get_or_read}
+use Rattle.counting.specs.Lists.{IsRisingIn, item, pair_with, rising_list}
+use Rattle.counting.specs.Sets.{everything}
+use Rattle.contraction.proofs.contracted.row_pairs.Goals as goal
+
+more : (rows : List (List ℕ)) (row : List ℕ) (i : ℕ) (before after : List (ℕ × ℕ)) → item rows (i + 1) ≡ row → before ≡ flat_map (λ a. map (pair_with a) (item rows a)) (rising_list i everything) → after ≡ before ++ map (pair_with (i + 1)) row →
+    after ≡ flat_map (λ a. map (pair_with a) (item rows a)) (rising_list (i + 1) everything)
+more rows row i before after read old new =
+    let e : suc i ≡ i + 1 = omega arith in
+    new ∙ ap₂ (λ xs r. xs ++ map (pair_with (i + 1)) r) old (sym read)
+    ∙ ap (λ zs. flat_map (λ a. map (pair_with a) (item rows a)) (rising_list i everything) ++ zs) (sym (append-nil (map (pair_with (i + 1)) (item rows (i + 1)))))
+    ∙ ap (λ k. flat_map (λ a. map (pair_with a) (item rows a)) (rising_list i everything) ++ flat_map (λ a. map (pair_with a) (item rows a)) (k ∷ [])) (sym e)
+    ∙ sym (flat_map-append (λ a. map (pair_with a) (item rows a)) (rising_list i everything) (suc i ∷ []))
+    ∙ ap (λ k. flat_map (λ a. map (pair_with a) (item rows a)) (rising_list k everything)) e
+
+pub loop-i-preserved : goal.loop-i-preserved
+loop-i-preserved c =
+    let e : c.loop-i.i + 1 - 1 ≡ c.loop-i.i = omega arith in
+    let read : item c.args.rows.now (c.loop-i.i + 1) ≡ c.index-rows-i.result = ap (λ k. get_or c.args.rows.now k []) e ∙ sym (get_or_read c.args.rows.now c.loop-i.i c.index-rows-i.result c.loop-i-test.true c.index-rows-i.is []) in
+    record {
+      pairs = more c.args.rows.now c.index-rows-i.result c.loop-i.i _ _ read c.loop-i.invariant.pairs c.in_ok-push_row.ensures;
+      rising = λ k w. elim (cases_eq k (c.loop-i.i + 1)) [
+        | inl q ↦ subst (IsRisingIn 128) (sym read ∙ ap (item c.args.rows.now) (sym q)) c.rises.ensures
+        | inr d ↦ c.loop-i.invariant.rising k (omega arith)
+      ];
+    }
+
+pub returns-clause-rising : goal.returns-clause-rising
+returns-clause-rising c = λ i w. c.loop-i.invariant.rising i (let h = c.loop-i-test.false in omega arith)

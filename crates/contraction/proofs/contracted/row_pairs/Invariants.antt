@@ -1,0 +1,12 @@
+use Rattle.std.proofs.Common.{◌≡◌, ℕ, map, flat_map}
+use Rattle.counting.specs.Counts.{Within}
+use Rattle.counting.specs.Lists.{IsRisingIn, item, pair_with, rising_list}
+use Rattle.counting.specs.Sets.{everything}
+use Rattle.graph_core.specs.View.{pair_of}
+use Rattle.contraction.proofs.contracted.row_pairs.Given as goal
+
+abbrev pub invariant-loop-i : goal.invariant-loop-i
+invariant-loop-i l = record {
+  pairs : map pair_of l.pairs.items ≡ flat_map (λ a. map (pair_with a) (item l.rows a)) (rising_list l.i everything);
+  rising : (k : ℕ) → Within l.i k → IsRisingIn 128 (item l.rows k);
+}

@@ -1,0 +1,13 @@
+-- Lists of pairs of vertices, and the pairs that edges join.
+use Rattle.std.specs.Prelude.{◌≡◌, ◌<◌, ℕ, List, length, filter, slice_index_or}
+use Rattle.counting.specs.Tests.{some}
+use Rattle.counting.specs.Lists.{rising_pairs}
+use Rattle.graph_core.specs.Graph.{Graph, has_ends, size}
+
+-- no pair stands twice
+abbrev pub EachOnce : List (ℕ × ℕ) → Type 0
+EachOnce ks = (i j : ℕ) → i < j → j < length ks → slice_index_or ks i (0, 0) ≡ slice_index_or ks j (0, 0) → ⊥
+
+-- the pairs a < b of vertices that some edge joins, in lexicographic order
+unfoldable pub joined_pairs : Graph → List (ℕ × ℕ)
+joined_pairs g = filter (λ k. some (size g) (has_ends g k.0 k.1)) (rising_pairs g.order)

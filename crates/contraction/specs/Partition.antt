@@ -1,0 +1,20 @@
+-- Partitions as contracts see them: the number of vertices and the blocks; and the unions of blocks among the sets.
+use Rattle.std.specs.Prelude.{ℕ, ◌≤◌, List}
+use Rattle.counting.specs.Lists.{mem, IsRisingIn}
+use Rattle.graph_core.specs.Partitions.{IsPartition}
+use Rattle.graph_core.specs.Shores.{IsUnion}
+
+-- the number of vertices, and the blocks by rising name
+pub record PartitionValue : Type 0 where
+  pub order : ℕ
+  pub blocks : List (List ℕ)
+
+-- a partition of at most 128 vertices
+pub record KeepsPartition (p : PartitionValue) : Type 0 where
+  pub few : p.order ≤ 128
+  pub partition : IsPartition p.order p.blocks
+
+-- a set of vertices that is a union of blocks
+pub record IsUnionAt (p : PartitionValue) (x : List ℕ) : Type 0 where
+  pub set : IsRisingIn p.order x
+  pub union : IsUnion p.order p.blocks (mem x)

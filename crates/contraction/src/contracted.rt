@@ -1,0 +1,279 @@
+//! The quotient of a graph at a partition, with remembered edges.
+ghost use Rattle.std.specs.Prelude.{◌≡◌, ◌≢◌, slice_index_or, ◌<◌, ◌≤◌, ◌+◌, ◌&&◌, ◌||◌, ◌++◌, ℕ, List, [], All, length, map, nat_lt, flat_map, IfOk, OnOk};
+ghost use Rattle.std.specs.List.{list_any};
+ghost use Rattle.counting.specs.Counts.{Within};
+ghost use Rattle.counting.specs.Lists.{mem, item, pair_with, rising_list, IsRisingIn};
+ghost use Rattle.counting.specs.Sets.{everything};
+ghost use Rattle.graph_core.specs.Graph.{Graph, IsGraph, has_ends, size, with_edge};
+ghost use Rattle.graph_core.specs.Partitions.{block, contracted};
+ghost use Rattle.indexmap.specs.IndexMap.{keys};
+ghost use Rattle.contraction.specs.Contracted.{KeepsContraction, contraction};
+ghost use Rattle.contraction.specs.Pairs.{EachOnce, joined_pairs};
+ghost use Rattle.graph_core.specs.Quotients.{remembered, union_of_blocks};
+ghost use Rattle.counting.specs.Tests.{some};
+ghost use Rattle.graph_core.specs.View.{graph_of, pair_of, are_ends, IsWithinLimits};
+
+use crate::Partition;
+use graph_core::{AddFault, Ends, MOST_EDGES, MultiGraph};
+use indexmap::IndexMap;
+use std::alloc::{AllocError as Memory, Global};
+use std::marker::Model;
+use vset_core::{MOST_VERTICES, VSet};
+
+/// The quotient of a graph at a partition: the graph with one vertex for each block, by place, and one edge for each two
+/// adjacent blocks, in lexicographic order of their places. Each edge of it remembers the edges of the graph between its two
+/// blocks. Contracts see the quotient graph, the blocks and the remembered edges.
+#[derive(Drop)]
+pub struct Contracted {
+    order: u32,
+    size: u32,
+    blocks: Vec<VSet>,
+    graph: MultiGraph,
+    remembered: IndexMap<(u32, u32), Vec<u32>>,
+}
+
+impl Model for Contracted {
+    ghost use Rattle.std.specs.Prelude.{map};
+    ghost use Rattle.contraction.specs.Contracted.{ContractedValue, KeepsContraction};
+
+    ghost Value = { ContractedValue };
+
+    ghost view = { λ q. record { order = q.order; size = q.size; blocks = q.blocks.items; graph = q.graph; edges = map (λ entry. entry.1.items) q.remembered.entries } };
+
+    ghost invariant = { λ q. KeepsContraction (record { order = q.order; size = q.size; blocks = q.blocks.items; graph = q.graph; edges = map (λ entry. entry.1.items) q.remembered.entries }) };
+}
+
+impl Contracted {
+    /// The law that this is the quotient of some multigraph at some partition. It does nothing: a caller states it where it
+    /// needs it.
+    pub fn keeps_contraction(&self)
+        ensures { KeepsContraction self.now }
+    {
+        let _ = &self.blocks;
+    }
+
+    /// The quotient graph. Takes no memory.
+    pub fn graph(&self) -> &MultiGraph
+        ensures { result.now ≡ self.now.graph }
+    {
+        &self.graph
+    }
+
+    /// The edges of g between the two blocks that edge `e` of the quotient joins, in rising order. Takes no memory.
+    pub fn remembered(&self, e: u32) -> &[u32]
+        requires { Within (size self.now.graph) e }
+        ensures value { result.now ≡ item self.now.edges e }
+        ensures edges { (g : Graph) (p : List (List ℕ)) → self.now ≡ contraction g p → result.now ≡ remembered g p e }
+    {
+        edges_at(&self.remembered, e as usize - 1)
+    }
+
+    /// The union of the blocks at the places in `s`. Takes no memory.
+    pub fn lift_set(&self, s: VSet) -> VSet
+        ensures { (g : Graph) (p : List (List ℕ)) → self.now ≡ contraction g p → result ≡ union_of_blocks g p (mem s) }
+    {
+        self.keeps_contraction();
+        let union = union_at(&self.blocks, s);
+        union.rises();
+        union
+    }
+}
+
+// The remembered edges at place i.
+fn edges_at(kept: &IndexMap<(u32, u32), Vec<u32>>, i: usize) -> &[u32]
+    requires { i < length kept.now.entries }
+    ensures { result.now ≡ slice_index_or (map (λ entry. entry.1.items) kept.now.entries) i [] }
+{
+    match kept.get_index(i) {
+        Some((_, edges)) => edges,
+        None => unreachable!(),
+    }
+}
+
+// The union of the blocks at the places in the set.
+fn union_at(blocks: &[VSet], s: VSet) -> VSet
+    requires { length blocks.now ≤ MOST_VERTICES }
+    ensures { (v : ℕ) → mem result v ≡ some (length blocks.now) (λ i. mem s i && mem (block blocks.now i) v) }
+{
+    let mut union = VSet::empty();
+    for (i, block) in blocks.iter().enumerate() {
+        if s.contains(i as u32 + 1) {
+            union = union.union(*block);
+        }
+    }
+    union
+}
+
+/// The quotient of `g` at `p`, a partition of its vertices, with one edge for each two adjacent blocks, in lexicographic order of
+/// their places, and its remembered edges.
+pub fn quotient(alloc: Global, g: &MultiGraph, p: &Partition) -> Result<Contracted, Memory>
+    requires { p.now.order ≡ g.now.order }
+    ensures { IfOk result (λ q. q ≡ contraction g.now p.now.blocks) }
+{
+    p.keeps_partition();
+    let n = p.len() as u32;
+    let ends = ends_at(alloc, g.edges(), p)?;
+    let pairs = pairs_joined(alloc, n, &ends)?;
+    let graph = graph_with(alloc, n, &pairs)?;
+    let remembered = remember(alloc, &ends, &pairs)?;
+    let blocks = p.copy_blocks(alloc)?;
+    Ok(Contracted {
+        order: g.order(),
+        size: g.size(),
+        blocks,
+        graph,
+        remembered,
+    })
+}
+
+// The ends of the edges as places of blocks.
+fn ends_at(alloc: Global, edges: &[Ends], p: &Partition) -> Result<Vec<Ends>, Memory>
+    requires { IsGraph (graph_of p.now.order edges.now) }
+    ensures { IfOk result (λ ends. graph_of (length p.now.blocks) ends.items ≡ contracted (graph_of p.now.order edges.now) p.now.blocks) }
+{
+    p.keeps_partition();
+    let mut ends = Vec::new(alloc);
+    for edge in edges {
+        ends.push(Ends {
+            a: p.place(edge.a),
+            b: p.place(edge.b),
+        })?;
+    }
+    Ok(ends)
+}
+
+// Writes the later end of an edge into the row of the earlier one.
+fn note_edge(rows: &mut [VSet], edge: Ends)
+    requires few { length rows.old ≤ MOST_VERTICES }
+    requires first { Within (length rows.old) edge.a }
+    requires second { Within (length rows.old) edge.b }
+    ensures { (i j : ℕ) → Within (length rows.old) i → mem (item rows.new i) j ≡ (mem (item rows.old i) j || (nat_lt i j && are_ends i j edge)) }
+{
+    if edge.a < edge.b {
+        let i = edge.a as usize - 1;
+        rows[i] = rows[i].with(edge.b);
+    } else if edge.b < edge.a {
+        let i = edge.b as usize - 1;
+        rows[i] = rows[i].with(edge.a);
+    }
+}
+
+// Writes into the empty rows the later neighbours of each vertex.
+fn note_edges(rows: &mut [VSet], ends: &[Ends])
+    requires few { length rows.old ≤ MOST_VERTICES }
+    requires graph { IsGraph (graph_of (length rows.old) ends.now) }
+    requires empty { All (λ row. row ≡ []) rows.old }
+    ensures { (i j : ℕ) → Within (length rows.old) i → mem (item rows.new i) j ≡ (nat_lt i j && list_any (are_ends i j) ends.now) }
+{
+    for edge in ends {
+        note_edge(rows, *edge);
+    }
+}
+
+// For each vertex, in order, the set of its later neighbours.
+fn later_neighbours(alloc: Global, n: u32, ends: &[Ends]) -> Result<Vec<VSet>, Memory>
+    requires few { n ≤ MOST_VERTICES }
+    requires graph { IsGraph (graph_of n ends.now) }
+    ensures each { IfOk result (λ rows. length rows.items ≡ n) }
+    ensures later { IfOk result (λ rows. (i j : ℕ) → Within n i → mem (item rows.items i) j ≡ (nat_lt i j && list_any (are_ends i j) ends.now)) }
+{
+    let mut rows = vec![in alloc; VSet::empty(); n as usize]?;
+    note_edges(&mut rows, ends);
+    Ok(rows)
+}
+
+// Appends the pairs of a with the members of its row.
+fn push_row(pairs: &mut Vec<Ends>, a: u32, row: VSet) -> Result<(), Memory>
+    ensures { OnOk result (map pair_of pairs.new.items ≡ map pair_of pairs.old.items ++ map (pair_with a) row) }
+{
+    for b in row.iter() {
+        pairs.push(Ends { a, b })?;
+    }
+    Ok(())
+}
+
+// The pairs of each number with the members of its row, in lexicographic order.
+fn row_pairs(alloc: Global, rows: &[VSet]) -> Result<Vec<Ends>, Memory>
+    requires { length rows.now ≤ MOST_VERTICES }
+    ensures pairs { IfOk result (λ pairs. map pair_of pairs.items ≡ flat_map (λ a. map (pair_with a) (item rows.now a)) (rising_list (length rows.now) everything)) }
+    ensures rising { OnOk result ((i : ℕ) → Within (length rows.now) i → IsRisingIn MOST_VERTICES (item rows.now i)) }
+{
+    let mut pairs = Vec::new(alloc);
+    for (i, row) in rows.iter().enumerate() {
+        row.rises();
+        push_row(&mut pairs, i as u32 + 1, *row)?;
+    }
+    Ok(pairs)
+}
+
+// The pairs a < b of places that some edge joins, in lexicographic order.
+fn pairs_joined(alloc: Global, n: u32, ends: &[Ends]) -> Result<Vec<Ends>, Memory>
+    requires few { n ≤ MOST_VERTICES }
+    requires graph { IsGraph (graph_of n ends.now) }
+    ensures { IfOk result (λ pairs. map pair_of pairs.items ≡ joined_pairs (graph_of n ends.now)) }
+{
+    let rows = later_neighbours(alloc, n, ends)?;
+    row_pairs(alloc, &rows)
+}
+
+// Appends an edge that the graph has room for.
+fn add_pair(graph: &mut MultiGraph, a: u32, b: u32) -> Result<(), Memory>
+    requires first { Within graph.old.order a }
+    requires second { Within graph.old.order b }
+    requires differ { a ≢ b }
+    requires room { size graph.old < MOST_EDGES }
+    ensures { OnOk result (graph.new ≡ with_edge graph.old a b) }
+{
+    match graph.add_edge(a, b) {
+        Ok(_) => Ok(()),
+        Err(AddFault::Memory) => Err(Memory),
+        Err(AddFault::Range) => unreachable!(),
+        Err(AddFault::Loop) => unreachable!(),
+        Err(AddFault::TooMany) => unreachable!(),
+    }
+}
+
+// The graph with these edges.
+fn graph_with(alloc: Global, n: u32, pairs: &[Ends]) -> Result<MultiGraph, Memory>
+    requires { IsWithinLimits (graph_of n pairs.now) }
+    ensures { IfOk result (λ g. g ≡ graph_of n pairs.now) }
+{
+    let mut graph = MultiGraph::new(alloc, n)?;
+    for pair in pairs {
+        add_pair(&mut graph, pair.a, pair.b)?;
+    }
+    Ok(graph)
+}
+
+// The edges with the ends a and b, in rising order.
+fn edges_with(alloc: Global, ends: &[Ends], a: u32, b: u32) -> Result<Vec<u32>, Memory>
+    requires { length ends.now ≤ MOST_EDGES }
+    ensures { IfOk result (λ edges. edges.items ≡ rising_list (length ends.now) (has_ends (graph_of 0 ends.now) a b)) }
+{
+    let mut edges = Vec::new(alloc);
+    for (k, edge) in ends.iter().enumerate() {
+        if edge.are(a, b) {
+            edges.push(k as u32 + 1)?;
+        }
+    }
+    Ok(edges)
+}
+
+// The remembered edges of each pair.
+fn remember(
+    alloc: Global,
+    ends: &[Ends],
+    pairs: &[Ends],
+) -> Result<IndexMap<(u32, u32), Vec<u32>>, Memory>
+    requires few { length ends.now ≤ MOST_EDGES }
+    requires once { EachOnce (map pair_of pairs.now) }
+    ensures keys { IfOk result (λ kept. keys kept ≡ map pair_of pairs.now) }
+    ensures edges { IfOk result (λ kept. map (λ entry. entry.1.items) kept.entries ≡ map (λ pair. rising_list (length ends.now) (has_ends (graph_of 0 ends.now) pair.0 pair.1)) (map pair_of pairs.now)) }
+{
+    let mut kept = IndexMap::new(alloc);
+    for pair in pairs {
+        let edges = edges_with(alloc, ends, pair.a, pair.b)?;
+        kept.insert((pair.a, pair.b), edges)?;
+    }
+    Ok(kept)
+}

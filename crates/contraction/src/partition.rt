@@ -1,0 +1,227 @@
+//! Partitions of the vertices into blocks.
+ghost use Rattle.std.specs.Prelude.{◌≡◌, ◌<◌, ◌≤◌, ◌+◌, ◌↔◌, ◌==◌, ◌||◌, not, length, slice_get, Some, IfOk, IsTrue, filter, insert, count_by, nat_lt, position};
+ghost use Rattle.std.specs.Option.{option_map};
+ghost use Rattle.itertools.specs.Consumer.{find_at};
+ghost use Rattle.std.specs.List.{list_all, position_or_len};
+ghost use Rattle.counting.specs.Counts.{Within};
+ghost use Rattle.counting.specs.Lists.{mem, last_of, is_subset, is_apart};
+ghost use Rattle.graph_core.specs.Partitions.{insert_block, merged, place, singles};
+ghost use Rattle.graph_core.specs.Shores.{block_count};
+ghost use Rattle.contraction.specs.Partition.{IsUnionAt, KeepsPartition};
+
+use itertools::Itertools;
+use std::alloc::{AllocError as Memory, Global};
+use std::marker::Model;
+use vset_core::{MOST_VERTICES, VSet};
+
+/// A partition of the vertices 1 to n into blocks. The name of a block is its greatest vertex, and blocks stand by rising
+/// name. Contracts see it as n and the list of the blocks.
+#[derive(Drop)]
+pub struct Partition {
+    order: u32,
+    blocks: Vec<VSet>,
+}
+
+impl Model for Partition {
+    ghost use Rattle.contraction.specs.Partition.{PartitionValue, KeepsPartition};
+
+    ghost Value = { PartitionValue };
+
+    ghost view = { λ p. record { order = p.order; blocks = p.blocks.items } };
+
+    ghost invariant = { λ p. KeepsPartition (record { order = p.order; blocks = p.blocks.items }) };
+}
+
+impl Partition {
+    /// The partition of 1 to `n` into single vertices.
+    pub fn singles(alloc: Global, n: u32) -> Result<Partition, Memory>
+        requires { n ≤ MOST_VERTICES }
+        ensures order { IfOk result (λ p. p.order ≡ n) }
+        ensures blocks { IfOk result (λ p. p.blocks ≡ singles n) }
+    {
+        Ok(Partition {
+            order: n,
+            blocks: single_vertices(alloc, n)?,
+        })
+    }
+
+    /// The law that the blocks are a partition: each of 1 to n is in exactly one, none is empty, and the names rise. It does
+    /// nothing: a caller states it where it needs it.
+    pub fn keeps_partition(&self)
+        ensures { KeepsPartition self.now }
+    {
+        let _ = &self.blocks;
+    }
+
+    /// The number of vertices. Takes no memory.
+    pub fn order(&self) -> u32
+        ensures { result ≡ self.now.order }
+    {
+        self.order
+    }
+
+    /// The number of blocks. Takes no memory.
+    pub fn len(&self) -> usize
+        ensures { result ≡ length self.now.blocks }
+    {
+        self.blocks.len()
+    }
+
+    /// Whether there is no block. Takes no memory.
+    pub fn is_empty(&self) -> bool
+        ensures { result ≡ (length self.now.blocks == 0) }
+    {
+        self.blocks.is_empty()
+    }
+
+    /// The block at place `i`, counted from 0. Takes no memory.
+    pub fn block(&self, i: usize) -> VSet
+        requires { i < length self.now.blocks }
+        ensures { slice_get self.now.blocks i ≡ Some result }
+    {
+        self.blocks[i]
+    }
+
+    /// Whether `set` is a union of blocks; a set with a vertex beyond n is none. Takes no memory.
+    pub fn is_union(&self, set: VSet) -> bool
+        ensures { IsTrue result ↔ IsUnionAt self.now set }
+    {
+        set.rises();
+        set.is_subset(VSet::full(self.order)) && each_in_or_apart(&self.blocks, set)
+    }
+
+    /// How many blocks are in `set`, which is a union of blocks. Takes no memory.
+    pub fn blocks_in(&self, set: VSet) -> u32
+        ensures { result ≡ block_count self.now.blocks (mem set) }
+    {
+        count_inside(&self.blocks, set) as u32
+    }
+
+    /// The partition with the blocks in `shore`, a nonempty union of blocks, made one block.
+    pub fn merge(&self, alloc: Global, shore: VSet) -> Result<Partition, Memory>
+        requires union { IsUnionAt self.now shore }
+        requires nonempty { 0 < length shore }
+        ensures order { IfOk result (λ p. p.order ≡ self.now.order) }
+        ensures blocks { IfOk result (λ p. p.blocks ≡ merged self.now.blocks shore) }
+    {
+        let mut blocks = blocks_outside(alloc, &self.blocks, shore)?;
+        insert_by_name(&mut blocks, shore)?;
+        Ok(Partition {
+            order: self.order,
+            blocks,
+        })
+    }
+
+    /// The blocks, copied.
+    pub(crate) fn copy_blocks(&self, alloc: Global) -> Result<Vec<VSet>, Memory>
+        ensures { IfOk result (λ blocks. blocks.items ≡ self.now.blocks) }
+    {
+        Vec::from_slice(alloc, &self.blocks)
+    }
+
+    /// The place of the block that holds `v`, counted from 1. Takes no memory.
+    pub(crate) fn place(&self, v: u32) -> u32
+        requires { Within MOST_VERTICES v }
+        ensures { result ≡ place self.now.blocks v }
+    {
+        place_of(&self.blocks, v) as u32
+    }
+}
+
+// The place of the block that holds v, counted from 1, and one past the end if none does.
+fn place_of(blocks: &[VSet], v: u32) -> usize
+    requires { Within MOST_VERTICES v }
+    ensures { result ≡ place blocks.now v }
+{
+    match first_holding(blocks, v) {
+        Some(i) => i + 1,
+        None => blocks.len() + 1,
+    }
+}
+
+// The place of the first block that holds v, counted from 0.
+fn first_holding(blocks: &[VSet], v: u32) -> Option<usize>
+    requires { Within MOST_VERTICES v }
+    ensures { result ≡ option_map (λ found. found.0) (find_at (λ block. mem block v) 0 blocks.now) }
+{
+    let mut items = blocks.iter().copied();
+    match items.find_position(|block| block.contains(v)) {
+        Some((i, _)) => Some(i),
+        None => None,
+    }
+}
+
+// The single vertices 1 to n.
+fn single_vertices(alloc: Global, n: u32) -> Result<Vec<VSet>, Memory>
+    requires { n ≤ MOST_VERTICES }
+    ensures { IfOk result (λ blocks. blocks.items ≡ singles n) }
+{
+    let mut blocks = Vec::new(alloc);
+    for v in 0..n {
+        blocks.push(VSet::one(v + 1))?;
+    }
+    Ok(blocks)
+}
+
+// Whether the block has all of its vertices in the set, or none.
+fn in_or_apart(block: VSet, set: VSet) -> bool
+    ensures { result ≡ (is_subset block set || is_apart block set) }
+{
+    block.is_subset(set) || block.meet(set).len() == 0
+}
+
+// Whether each block has all of its vertices in the set, or none.
+fn each_in_or_apart(blocks: &[VSet], set: VSet) -> bool
+    ensures { result ≡ list_all (λ block. is_subset block set || is_apart block set) blocks.now }
+{
+    blocks.iter().all(|block| in_or_apart(*block, set))
+}
+
+// How many of the blocks are in the set.
+fn count_inside(blocks: &[VSet], set: VSet) -> usize
+    ensures { result ≡ count_by (λ block. is_subset block set) blocks.now }
+{
+    blocks.iter().filter(|block| block.is_subset(set)).count()
+}
+
+// The name of a block: its greatest vertex, and 0 where it is empty.
+fn name_of(block: VSet) -> u32
+    ensures { result ≡ last_of block }
+{
+    block.rises();
+    block.last().unwrap_or(0)
+}
+
+// The blocks that are not in the set.
+fn blocks_outside(alloc: Global, blocks: &[VSet], set: VSet) -> Result<Vec<VSet>, Memory>
+    ensures { IfOk result (λ kept. kept.items ≡ filter (λ block. not (is_subset block set)) blocks.now) }
+{
+    blocks
+        .iter()
+        .copied()
+        .filter(|block| !block.is_subset(set))
+        .collect(alloc)
+}
+
+// The place of the first block with a greater name, counted from 0.
+fn first_above(blocks: &[VSet], name: u32) -> Option<usize>
+    ensures { result ≡ position (λ block. nat_lt name (last_of block)) blocks.now }
+{
+    blocks.iter().position(|block| name < name_of(*block))
+}
+
+// How many blocks stand before the first with a greater name.
+fn place_by_name(blocks: &[VSet], name: u32) -> usize
+    ensures { result ≡ position_or_len (λ block. nat_lt name (last_of block)) blocks.now }
+{
+    first_above(blocks, name).unwrap_or(blocks.len())
+}
+
+// Puts the block among the blocks by its name.
+fn insert_by_name(blocks: &mut Vec<VSet>, block: VSet) -> Result<(), Memory>
+    ensures { IfOk result (λ _. blocks.new.items ≡ insert_block block blocks.old.items) }
+{
+    let place = place_by_name(blocks, name_of(block));
+    blocks.insert(place, block)?;
+    Ok(())
+}
