@@ -1,0 +1,2 @@
+pub mod PairsOfEdges
+mod CrossingMatchings

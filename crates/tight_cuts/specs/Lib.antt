@@ -1,0 +1,2 @@
+pub mod PairSums
+pub mod Tightness
