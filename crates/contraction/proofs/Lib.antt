@@ -3,8 +3,9 @@ pub mod BlockUnions
 pub mod PairLists
 pub mod JoinedPairs
 pub mod QuotientValues
-pub mod Lifting
+pub mod LiftedMatchings
 pub mod QuotientLaws
 pub mod ContractedValues
 pub mod QuotientPairs
 pub mod SinglePartitions
+pub mod LeastEdges

@@ -1,3 +1,4 @@
 pub mod Partition
 pub mod Contracted
 pub mod Pairs
+pub mod LeastEdges

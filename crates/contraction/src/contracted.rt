@@ -8,6 +8,7 @@ ghost use Rattle.graph_core.specs.Graph.{Graph, IsGraph, has_ends, size, with_ed
 ghost use Rattle.graph_core.specs.Partitions.{block, contracted};
 ghost use Rattle.indexmap.specs.IndexMap.{keys};
 ghost use Rattle.contraction.specs.Contracted.{KeepsContraction, contraction};
+ghost use Rattle.contraction.specs.LeastEdges.{least_at};
 ghost use Rattle.contraction.specs.Pairs.{EachOnce, joined_pairs};
 ghost use Rattle.graph_core.specs.Quotients.{remembered, union_of_blocks};
 ghost use Rattle.counting.specs.Tests.{some};
@@ -76,6 +77,25 @@ impl Contracted {
         let union = union_at(&self.blocks, s);
         union.rises();
         union
+    }
+
+    /// The least of the edges of the graph between the two blocks that edge `e` of the quotient joins.
+    pub(crate) fn least(&self, e: u32) -> u32
+        requires { Within (size self.now.graph) e }
+        ensures value { result ≡ least_at self.now e }
+        ensures within { Within self.now.size result }
+    {
+        self.keeps_contraction();
+        self.remembered(e)[0]
+    }
+
+    /// The number of edges of the graph.
+    pub(crate) fn base_size(&self) -> u32
+        ensures value { result ≡ self.now.size }
+        ensures few { result ≤ MOST_EDGES }
+    {
+        self.keeps_contraction();
+        self.size
     }
 }
 

@@ -14,8 +14,10 @@
 
 mod contracted;
 mod laws;
+mod lifting;
 mod partition;
 
 pub use contracted::{Contracted, quotient};
 pub use laws::{covered_quotient_law, lift_law, tight_quotient_law};
+pub use lifting::lift;
 pub use partition::Partition;

@@ -1,4 +1,4 @@
-use Rattle.contraction.proofs.Lifting.{lifted-perfect}
+use Rattle.contraction.proofs.LiftedMatchings.{lifted-perfect}
 use Rattle.contraction.proofs.laws.lift_law.Goals as goal
 
 pub returns : goal.returns

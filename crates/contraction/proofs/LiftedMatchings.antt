@@ -1,6 +1,6 @@
 -- A perfect matching of the quotient is lifted to a perfect matching at the partition, each edge to its least remembered edge.
 -- That edge joins the two blocks, so the matching is carried over along the identity of places.
-use Rattle.std.proofs.Common.{◌≡◌, ℕ, true, false, not, ◌&&◌, ◌==◌, List, [], ◌∷◌, refl, sym, ◌∙◌, arith, subst, eq-eqb}
+use Rattle.std.proofs.Common.{◌≡◌, ℕ, ◌<◌, length, true, false, not, ◌&&◌, ◌==◌, List, [], ◌∷◌, refl, sym, ◌∙◌, arith, subst, eq-eqb}
 use Rattle.std.specs.Prelude.{slice_index}
 use Rattle.std.proofs.lemmas.Bool.{both_ways, and_parts, or_left}
 use Rattle.std.proofs.lemmas.List.{length-map}
@@ -33,6 +33,10 @@ first-member : (xs : List ℕ) (v : ℕ) → mem xs v ≡ true → mem xs (slice
 first-member [] v h = absurd (both_ways false refl h)
 first-member (x ∷ xs) v h = or_left (x == x) (mem xs x) (eq-eqb x x refl)
 
+some-items : (xs : List ℕ) (v : ℕ) → mem xs v ≡ true → 0 < length xs
+some-items [] v h = absurd (both_ways false refl h)
+some-items (x ∷ xs) v h = omega arith
+
 module _ (g : Graph) (p : List (List ℕ)) (is : IsGraph g) (pp : AreBlocks g.order p) where
   sizes : size (contracted g p) ≡ size g
   unfolding contracted
@@ -50,6 +54,13 @@ module _ (g : Graph) (p : List (List ℕ)) (is : IsGraph g) (pp : AreBlocks g.or
       let m = first-member (remembered g p k) e.0 (rising_holds (size g) (has_ends (contracted g p) (first_end (quotient g p) k) (second_end (quotient g p) k)) e.0 e.1 e.2) in
       let r = rising_only (size g) (has_ends (contracted g p) (first_end (quotient g p) k) (second_end (quotient g p) k)) (slice_index (remembered g p k) 0) m in
       (r.0, has_ends-cases (contracted g p) (first_end (quotient g p) k) (second_end (quotient g p) k) (slice_index (remembered g p k) 0) r.1)
+
+  -- each edge of the quotient has a remembered edge
+  pub remembered-some : (k : ℕ) → Within (size (quotient g p)) k → 0 < length (remembered g p k)
+  remembered-some k w =
+      let q = quotient_edge g p k w in
+      let e = some_true (size g) (has_ends (contracted g p) (first_end (quotient g p) k) (second_end (quotient g p) k)) (and_parts (not (first_end (quotient g p) k == second_end (quotient g p) k)) (some (size g) (has_ends (contracted g p) (first_end (quotient g p) k) (second_end (quotient g p) k))) q.3).1 in
+      some-items (remembered g p k) e.0 (rising_holds (size g) (has_ends (contracted g p) (first_end (quotient g p) k) (second_end (quotient g p) k)) e.0 e.1 e.2)
 
   pub lifted-perfect : (m : Set) → IsPerfect (quotient g p) none m → IsPerfectAt g p (mem (lifted g p m))
   unfolding carried_set image

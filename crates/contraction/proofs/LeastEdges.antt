@@ -1,0 +1,104 @@
+-- Each edge of the quotient has a least remembered edge, and the places that are marked row by row are the lifted matching.
+-- A list of rows is gone through one row at a time; a row is found by its edge.
+use Rattle.std.proofs.Common.{◌≡◌, ℕ, ◌+◌, ◌<◌, Bool, true, false, ◌&&◌, ◌||◌, ◌==◌, List, [], ◌∷◌, length, map, take, get_or, refl, sym, ap, ◌∙◌, arith, inl, inr, subst, eq-eqb, eqb-true}
+use Rattle.std.specs.Prelude.{All, Some, slice_get, slice_index}
+use Rattle.std.specs.List.{list_any}
+use Rattle.std.proofs.Math.ListN.{replicate}
+use Rattle.std.proofs.lemmas.Bool.{and_from, and_parts, both_ways, cases_lt, or_cases}
+use Rattle.std.proofs.lemmas.List.{get_or-replicate, get_or_past, length-replicate, take_more}
+use Rattle.std.proofs.lemmas.List.Elements.{All-head, All-tail}
+use Rattle.std.proofs.lemmas.List.Folds.{list_any-append}
+use Rattle.std.proofs.lemmas.Option.{get_or_from_slice_get, slice_get_within}
+use Rattle.counting.proofs.Lists.{or_back, or_front}
+use Rattle.counting.proofs.RisingLists.{rising_list-congr, same_answers}
+use Rattle.counting.proofs.Tests.{some_congr, some_true, true_some}
+use Rattle.counting.specs.Counts.{Within}
+use Rattle.counting.specs.Lists.{item, mem, rising_list}
+use Rattle.counting.specs.Sets.{Set}
+use Rattle.counting.specs.Tests.{some}
+use Rattle.graph_core.specs.Graph.{Graph, size}
+use Rattle.graph_core.specs.Quotients.{lifted, quotient, remembered}
+use Rattle.match_core.proofs.MatchingEdges.{edge_of}
+use Rattle.graph_core.specs.Partitions.{AreBlocks}
+use Rattle.match_core.specs.Rows.{marks}
+use Rattle.match_core.specs.declared.matching.MatchRow.{MatchRow}
+use Rattle.contraction.proofs.ContractedValues.{item-remembered}
+use Rattle.contraction.proofs.LiftedMatchings.{least-remembered, remembered-some}
+use Rattle.contraction.specs.Contracted.{ContractedValue, KeepsContraction, contraction}
+use Rattle.contraction.specs.LeastEdges.{least_at}
+
+-- the list of remembered edges is not empty
+pub some-least : (q : ContractedValue) (k : ℕ) → KeepsContraction q → Within (size q.graph) k → 0 < length (item q.edges k)
+some-least q k keeps w =
+    let is = ap (λ (r : ContractedValue). size r.graph) keeps.is in
+    subst (λ (es : List ℕ). 0 < length es) (sym (item-remembered keeps.base q.blocks q k keeps.is w)) (remembered-some keeps.base q.blocks keeps.limits.multigraph.ends keeps.partition.partition k (subst (λ n. Within n k) is w))
+
+pub least-is : (g : Graph) (p : List (List ℕ)) (q : ContractedValue) (k : ℕ) → q ≡ contraction g p → Within (size q.graph) k → least_at q k ≡ slice_index (remembered g p k) 0
+least-is g p q k is w = ap (λ (es : List ℕ). slice_index es 0) (item-remembered g p q k is w)
+
+-- the least remembered edge is an edge of the graph
+pub least-within : (q : ContractedValue) (k : ℕ) → KeepsContraction q → Within (size q.graph) k → Within q.size (least_at q k)
+least-within q k keeps w =
+    let is = ap (λ (r : ContractedValue). size r.graph) keeps.is in
+    let l = least-remembered keeps.base q.blocks keeps.limits.multigraph.ends keeps.partition.partition k (subst (λ n. Within n k) is w) in
+    subst (λ n. Within n (least_at q k)) (sym (ap (λ (r : ContractedValue). r.size) keeps.is)) (subst (Within (size keeps.base)) (sym (least-is keeps.base q.blocks q k keeps.is w)) l.0)
+
+-- one row more
+pub any-more : (t : MatchRow → Bool) (rows : List MatchRow) (i : ℕ) (row : MatchRow) → slice_get rows i ≡ Some row → list_any t (take (i + 1) rows) ≡ (list_any t (take i rows) || t row)
+any-more t rows i row q =
+    ap (list_any t) (take_more rows i row (slice_get_within rows i row q))
+    ∙ list_any-append t (take i rows) (get_or rows i row ∷ [])
+    ∙ ap (λ (b : Bool). list_any t (take i rows) || b) (or_no (t (get_or rows i row)) ∙ ap t (get_or_from_slice_get rows i row row q))
+  where
+    or_no : (b : Bool) → (b || false) ≡ b
+    or_no true = refl
+    or_no false = refl
+
+-- some row passes exactly where some edge of the rows does
+pub any-edge : (n : ℕ) (t : ℕ → Bool) (rows : List MatchRow) → All (λ (row : MatchRow). Within n row.edge) rows → list_any (λ (row : MatchRow). t row.edge) rows ≡ some n (λ k. mem (map edge_of rows) k && t k)
+any-edge n t rows all = same_answers _ _ (there rows all) (λ h. let r = some_true n (λ k. mem (map edge_of rows) k && t k) h in let b = and_parts (mem (map edge_of rows) r.0) (t r.0) r.2 in back rows r.0 b.0 b.1)
+  where
+    wider : (row : MatchRow) (rows : List MatchRow) → some n (λ k. mem (map edge_of rows) k && t k) ≡ true → some n (λ k. mem (map edge_of (row ∷ rows)) k && t k) ≡ true
+    wider row rows h = let r = some_true n (λ k. mem (map edge_of rows) k && t k) h in let b = and_parts (mem (map edge_of rows) r.0) (t r.0) r.2 in
+        true_some n (λ k. mem (map edge_of (row ∷ rows)) k && t k) r.0 r.1 (and_from (mem (map edge_of (row ∷ rows)) r.0) (t r.0) (or_back (row.edge == r.0) (mem (map edge_of rows) r.0) b.0) b.1)
+
+    there : (rows : List MatchRow) → All (λ (row : MatchRow). Within n row.edge) rows → list_any (λ (row : MatchRow). t row.edge) rows ≡ true → some n (λ k. mem (map edge_of rows) k && t k) ≡ true
+    there [] all h = absurd (both_ways false refl h)
+    there (row ∷ rows) all h = elim (or_cases (t row.edge) (list_any (λ (row : MatchRow). t row.edge) rows) h) [
+      | inl a ↦ true_some n (λ k. mem (map edge_of (row ∷ rows)) k && t k) row.edge (All-head (λ (row : MatchRow). Within n row.edge) row rows all)
+          (and_from (mem (map edge_of (row ∷ rows)) row.edge) (t row.edge) (or_front (row.edge == row.edge) (mem (map edge_of rows) row.edge) (eq-eqb row.edge row.edge refl)) a)
+      | inr b ↦ wider row rows (there rows (All-tail (λ (row : MatchRow). Within n row.edge) row rows all) b)
+    ]
+
+    back : (rows : List MatchRow) (k : ℕ) → mem (map edge_of rows) k ≡ true → t k ≡ true → list_any (λ (row : MatchRow). t row.edge) rows ≡ true
+    back [] k m h = absurd (both_ways false refl m)
+    back (row ∷ rows) k m h = elim (or_cases (row.edge == k) (mem (map edge_of rows) k) m) [
+      | inl a ↦ or_front (t row.edge) (list_any (λ (row : MatchRow). t row.edge) rows) (ap t (eqb-true row.edge k a) ∙ h)
+      | inr b ↦ or_back (t row.edge) (list_any (λ (row : MatchRow). t row.edge) rows) (back rows k b h)
+    ]
+
+-- the marked edges are the lifted matching
+pub marked-lifted : (g : Graph) (p : List (List ℕ)) (q : ContractedValue) (rows : List MatchRow) (marked : Set) → q ≡ contraction g p → All (λ (row : MatchRow). Within (size q.graph) row.edge) rows →
+    ((e : ℕ) → marked e ≡ list_any (λ (row : MatchRow). least_at q row.edge == e) rows) → rising_list q.size marked ≡ lifted g p (mem (map edge_of rows))
+marked-lifted g p q rows marked is all each =
+    ap (λ n. rising_list n marked) (ap (λ (r : ContractedValue). r.size) is)
+    ∙ rising_list-congr (size g) marked _ (λ e w. each e ∙ any-edge (size q.graph) (λ k. least_at q k == e) rows all ∙ same e)
+  where
+    sizes : size q.graph ≡ size (quotient g p)
+    sizes = ap (λ (r : ContractedValue). size r.graph) is
+
+    same : (e : ℕ) → some (size q.graph) (λ k. mem (map edge_of rows) k && (least_at q k == e)) ≡ some (size (quotient g p)) (λ k. mem (map edge_of rows) k && (slice_index (remembered g p k) 0 == e))
+    same e = some_congr (size q.graph) _ _ (λ k w. ap (λ f. mem (map edge_of rows) k && (f == e)) (least-is g p q k is w)) ∙ ap (λ n. some n (λ k. mem (map edge_of rows) k && (slice_index (remembered g p k) 0 == e))) sizes
+
+-- no place of a new row is marked
+pub no-marks : (n e : ℕ) → marks (replicate n false) e ≡ false
+no-marks n e = elim (cases_lt e n) [
+  | inl l ↦ get_or-replicate n e false false l
+  | inr l ↦ get_or_past (replicate n false) e false (let k = length-replicate n false in omega arith)
+]
+
+-- the blocks of a quotient's value are a partition of the graph that it is of
+pub blocks-of : (g : Graph) (p : List (List ℕ)) (q : ContractedValue) → KeepsContraction q → q ≡ contraction g p → AreBlocks g.order p
+blocks-of g p q keeps is =
+    let orders = sym (ap (λ (r : ContractedValue). r.order) keeps.is) ∙ ap (λ (r : ContractedValue). r.order) is in
+    subst (AreBlocks g.order) (ap (λ (r : ContractedValue). r.blocks) is) (subst (λ n. AreBlocks n q.blocks) orders keeps.partition.partition)

@@ -1,0 +1,8 @@
+-- The least remembered edges, by which matchings of the quotient are lifted.
+use Rattle.std.specs.Prelude.{ℕ, slice_index}
+use Rattle.counting.specs.Lists.{item}
+use Rattle.contraction.specs.Contracted.{ContractedValue}
+
+-- the least remembered edge of edge k of the quotient
+abbrev pub least_at : ContractedValue → ℕ → ℕ
+least_at q k = slice_index (item q.edges k) 0
