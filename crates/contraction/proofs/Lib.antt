@@ -7,5 +7,4 @@ pub mod LiftedMatchings
 pub mod QuotientLaws
 pub mod ContractedValues
 pub mod QuotientPairs
-pub mod SinglePartitions
 pub mod LeastEdges

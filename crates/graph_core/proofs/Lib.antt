@@ -26,3 +26,4 @@ pub mod Simplicity
 pub mod EndLists
 pub mod Rows
 pub mod Perfect
+pub mod SingleBlocks

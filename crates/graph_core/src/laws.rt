@@ -9,8 +9,8 @@ ghost use Rattle.graph_core.specs.Walks.{Joined, joined};
 ghost use Rattle.graph_core.specs.Sides.{IsLeftSide};
 ghost use Rattle.graph_core.specs.Components.{odd_component_count};
 ghost use Rattle.graph_core.specs.Covered.{IsCovered};
-ghost use Rattle.graph_core.specs.Partitions.{AreBlocks, IsPartition, contracted, merged, singles};
-ghost use Rattle.graph_core.specs.Shores.{IsUnion, IsTightAt, block_count};
+ghost use Rattle.graph_core.specs.Partitions.{AreBlocks, IsMerge, IsPartition, IsPerfectAt, contracted, merged, singles};
+ghost use Rattle.graph_core.specs.Shores.{IsUnion, IsTightAt, block_count, blocks_in};
 ghost use Rattle.graph_core.specs.Quotients.{quotient};
 ghost use Rattle.graph_core.specs.Tight.{IsTight};
 
@@ -63,10 +63,27 @@ pub fn complement_law()
     ensures { (g : Graph) (p : List (List ℕ)) (x : Set) → IsGraph g → AreBlocks g.order p → IsTightAt g p x → IsTightAt g p (complement x) }
 {}
 
-/// Merging a nonempty union of blocks gives a partition.
+/// Merging a nonempty union of blocks gives a partition, in which the union is one block and all other blocks are as before.
 pub fn merge_law()
-    ensures { (n : ℕ) (p : List (List ℕ)) (x : List ℕ) → IsPartition n p → IsRisingIn n x → 0 < length x → IsUnion n p (mem x) →
+    ensures partition { (n : ℕ) (p : List (List ℕ)) (x : List ℕ) → IsPartition n p → IsRisingIn n x → 0 < length x → IsUnion n p (mem x) →
         IsPartition n (merged p x) }
+    ensures merge { (n : ℕ) (p : List (List ℕ)) (x : List ℕ) → IsPartition n p → IsRisingIn n x → 0 < length x → IsUnion n p (mem x) →
+        IsMerge n p (mem x) (merged p x) }
+{}
+
+/// The single vertices of a graph are a partition, at which the graph is contracted to itself: a matching is perfect at it, and a
+/// shore tight at it, exactly where it is in the graph.
+pub fn singles_law()
+    ensures partition { (n : ℕ) → IsPartition n (singles n) }
+    ensures same { (g : Graph) → IsGraph g → contracted g (singles g.order) ≡ g }
+    ensures perfect { (g : Graph) (m : Set) → IsGraph g → (IsPerfectAt g (singles g.order) m ↔ IsPerfect g none m) }
+    ensures tight { (g : Graph) (x : Set) → IsGraph g → (IsTightAt g (singles g.order) x ↔ IsTight g x) }
+{}
+
+/// The edges that leave a union of blocks are the same in the graph and in the contracted graph.
+pub fn cut_at_law()
+    ensures { (g : Graph) (p : List (List ℕ)) (x m : Set) → IsGraph g → AreBlocks g.order p → IsUnion g.order p x →
+        edges_in_cut (contracted g p) m (blocks_in p x) ≡ edges_in_cut g m x }
 {}
 
 /// Contraction: where a tight shore X of a partition with a covered quotient is merged, the quotient stays covered, a shore

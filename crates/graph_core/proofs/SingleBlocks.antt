@@ -1,0 +1,76 @@
+-- At the partition into single vertices the contracted graph is the graph itself, so what is said at that partition is what is
+-- said of the graph; at any partition the edges in the cut of a union of blocks are those of the graph.
+use Rattle.std.proofs.Common.{◌≡◌, ℕ, suc, zero, ◌+◌, ◌-◌, ◌<◌, ◌≤◌, Bool, true, false, ◌&&◌, ◌||◌, not, List, [], ◌∷◌, length, map, cond, get_or, refl, sym, ap, ap₂, ◌∙◌, arith, subst, nat_le, le-leb}
+use Rattle.std.proofs.lemmas.List.{get_or-map, length-map}
+use Rattle.counting.proofs.Counts.{count_congr}
+use Rattle.counting.specs.Counts.{Within, bit, count, is_odd}
+use Rattle.counting.specs.Lists.{all_in}
+use Rattle.counting.specs.Sets.{Set, complement}
+use Rattle.graph_core.proofs.BlockSets.{at_place}
+use Rattle.graph_core.proofs.Shores.{cut_congr}
+use Rattle.graph_core.proofs.Singles.{block-singles, length-singles, place_singles}
+use Rattle.graph_core.specs.Graph.{Graph, IsGraph, edges_in_cut, first_end, in_cut, second_end, size}
+use Rattle.graph_core.specs.Partitions.{AreBlocks, block, contracted, place, singles}
+use Rattle.graph_core.specs.Shores.{IsTightAt, IsUnion, blocks_in}
+use Rattle.graph_core.specs.Tight.{IsTight}
+
+own-place : (n v : ℕ) → Within n v → place (singles n) v ≡ v
+own-place n v w = place_singles n v w.0 ∙ ap (λ b. cond b v (n + 1)) (le-leb v n w.1)
+
+-- pairs of vertices are led to themselves
+same-pairs : (n : ℕ) (ends : List (ℕ × ℕ)) → ((e : ℕ) → Within (length ends) e → Within n (get_or ends (e - 1) (0, 0)).0 × Within n (get_or ends (e - 1) (0, 0)).1) → map (λ (d : ℕ × ℕ). (place (singles n) d.0, place (singles n) d.1)) ends ≡ ends
+same-pairs n [] h = refl
+same-pairs n (d ∷ ends) h =
+    let w = h 1 (omega arith) in
+    ap₂ (λ (k : ℕ × ℕ) (ks : List (ℕ × ℕ)). k ∷ ks) (ap₂ (λ (a b : ℕ). (a, b)) (own-place n d.0 w.0) (own-place n d.1 w.1)) (same-pairs n ends (λ e we. let i : suc e - 1 ≡ suc (e - 1) = omega arith in
+        subst (λ j. Within n (get_or (d ∷ ends) j (0, 0)).0 × Within n (get_or (d ∷ ends) j (0, 0)).1) i (h (suc e) (omega arith))))
+
+-- the graph contracted at its single vertices
+pub contracted-singles : (g : Graph) → IsGraph g → contracted g (singles g.order) ≡ g
+unfolding contracted
+contracted-singles g is = ap₂ (λ (n : ℕ) (ends : List (ℕ × ℕ)). record { order = n; ends = ends }) (length-singles g.order) (same-pairs g.order g.ends is)
+
+-- every set is a union of single vertices, and holds those that it has
+pub union-singles : (n : ℕ) (x : Set) → IsUnion n (singles n) x
+union-singles n x u v wu wv e = ap x (sym (own-place n u wu) ∙ e ∙ own-place n v wv)
+
+pub blocks-singles : (n : ℕ) (x : Set) (v : ℕ) → Within n v → blocks_in (singles n) x v ≡ x v
+blocks-singles n x v w = ap (λ (b : List ℕ). all_in b x) (block-singles n v w) ∙ and_yes (x v)
+  where
+    and_yes : (b : Bool) → (b && true) ≡ b
+    and_yes true = refl
+    and_yes false = refl
+
+tight-same : (g : Graph) (x y : Set) → IsGraph g → ((v : ℕ) → Within g.order v → x v ≡ y v) → IsTight g x → IsTight g y
+tight-same g x y is h t = record {
+  odd = ap is_odd (sym (count_congr g.order x y h)) ∙ t.odd;
+  odd_complement = ap is_odd (sym (count_congr g.order (complement x) (complement y) (λ v w. ap not (h v w)))) ∙ t.odd_complement;
+  cut = cut_congr g x y is h t.cut;
+}
+
+pub tight-singles : (g : Graph) (x : Set) → IsGraph g → IsTightAt g (singles g.order) x → IsTight g x
+tight-singles g x is t = tight-same g (blocks_in (singles g.order) x) x is (blocks-singles g.order x) (subst (λ h. IsTight h (blocks_in (singles g.order) x)) (contracted-singles g is) t.tight)
+
+pub singles-tight : (g : Graph) (x : Set) → IsGraph g → IsTight g x → IsTightAt g (singles g.order) x
+singles-tight g x is t = record {
+  union = union-singles g.order x;
+  tight = subst (λ h. IsTight h (blocks_in (singles g.order) x)) (sym (contracted-singles g is)) (tight-same g x (blocks_in (singles g.order) x) is (λ v w. sym (blocks-singles g.order x v w)) t);
+}
+
+-- the cut of a union of blocks, edge by edge
+module _ (g : Graph) (p : List (List ℕ)) (x : Set) (is : IsGraph g) (pp : AreBlocks g.order p) (union : IsUnion g.order p x) where
+  sizes : size (contracted g p) ≡ size g
+  unfolding contracted
+  sizes = length-map g.ends (λ (d : ℕ × ℕ). (place p d.0, place p d.1))
+
+  ends : (e : ℕ) → Within (size g) e → get_or (contracted g p).ends (e - 1) (0, 0) ≡ (place p (first_end g e), place p (second_end g e))
+  unfolding contracted
+  ends e w = get_or-map (λ (d : ℕ × ℕ). (place p d.0, place p d.1)) g.ends (e - 1) (0, 0) (0, 0) (omega arith)
+
+  pub in-cut-at : (e : ℕ) → Within (size g) e → in_cut (contracted g p) (blocks_in p x) e ≡ in_cut g x e
+  in-cut-at e w = ap₂ (λ a b. (a && not b) || (not a && b))
+      (ap (λ (d : ℕ × ℕ). blocks_in p x d.0) (ends e w) ∙ at_place g.order p pp x union (first_end g e) (is e w).0)
+      (ap (λ (d : ℕ × ℕ). blocks_in p x d.1) (ends e w) ∙ at_place g.order p pp x union (second_end g e) (is e w).1)
+
+  pub edges-in-cut-at : (m : Set) → edges_in_cut (contracted g p) m (blocks_in p x) ≡ edges_in_cut g m x
+  edges-in-cut-at m = ap (λ n. count n (λ e. m e && in_cut (contracted g p) (blocks_in p x) e)) sizes ∙ count_congr (size g) _ _ (λ e w. ap (λ b. m e && b) (in-cut-at e w))
