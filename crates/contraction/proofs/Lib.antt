@@ -8,3 +8,4 @@ pub mod QuotientLaws
 pub mod ContractedValues
 pub mod QuotientPairs
 pub mod LeastEdges
+pub mod ProjectedMatchings

@@ -53,7 +53,7 @@ module _ (g : Graph) (p : List (List ℕ)) (is : IsGraph g) (pp : AreBlocks g.or
   turned : (h : Graph) (a b : ℕ) → some (size h) (has_ends h a b) ≡ true → some (size h) (has_ends h b a) ≡ true
   turned h a b t = let r = some_true (size h) (has_ends h a b) t in true_some (size h) (has_ends h b a) r.0 r.1 (has_ends-back h a b r.0 r.2)
 
-  same_pairs : (a b : ℕ) → Within (length p) a → Within (length p) b → a ≢ b → some (size (contracted g p)) (has_ends (contracted g p) a b) ≡ some (size (quotient g p)) (has_ends (quotient g p) a b)
+  pub same_pairs : (a b : ℕ) → Within (length p) a → Within (length p) b → a ≢ b → some (size (contracted g p)) (has_ends (contracted g p) a b) ≡ some (size (quotient g p)) (has_ends (quotient g p) a b)
   same_pairs a b wa wb d = both (some (size (contracted g p)) (has_ends (contracted g p) a b)) (some (size (quotient g p)) (has_ends (quotient g p) a b)) there (down a b)
     where
       there : some (size (contracted g p)) (has_ends (contracted g p) a b) ≡ true → some (size (quotient g p)) (has_ends (quotient g p) a b) ≡ true

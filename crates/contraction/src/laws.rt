@@ -2,11 +2,11 @@
 ghost use Rattle.std.specs.Prelude.{◌≡◌, ℕ, List, true, ◌↔◌};
 ghost use Rattle.counting.specs.Sets.{Set, none};
 ghost use Rattle.counting.specs.Lists.{mem};
-ghost use Rattle.graph_core.specs.Graph.{Graph, IsGraph};
+ghost use Rattle.graph_core.specs.Graph.{Graph, IsGraph, edges_in_cut};
 ghost use Rattle.graph_core.specs.Matchings.{IsPerfect};
 ghost use Rattle.graph_core.specs.Covered.{IsCovered};
 ghost use Rattle.graph_core.specs.Partitions.{AreBlocks, IsPerfectAt, contracted};
-ghost use Rattle.graph_core.specs.Quotients.{lifted, quotient};
+ghost use Rattle.graph_core.specs.Quotients.{lifted, projected, quotient};
 ghost use Rattle.graph_core.specs.Shores.{IsTightAt, IsUnion, blocks_in};
 ghost use Rattle.graph_core.specs.Tight.{IsTight};
 
@@ -21,7 +21,17 @@ pub fn tight_quotient_law()
 {}
 
 /// The lift of a perfect matching of the quotient, by the least remembered edge of each of its edges, is a perfect matching at
-/// the partition.
+/// the partition, with as many edges in the cut of each set of blocks.
 pub fn lift_law()
-    ensures { (g : Graph) (p : List (List ℕ)) (m : Set) → IsGraph g → AreBlocks g.order p → IsPerfect (quotient g p) none m → IsPerfectAt g p (mem (lifted g p m)) }
+    ensures perfect { (g : Graph) (p : List (List ℕ)) (m : Set) → IsGraph g → AreBlocks g.order p → IsPerfect (quotient g p) none m → IsPerfectAt g p (mem (lifted g p m)) }
+    ensures cut { (g : Graph) (p : List (List ℕ)) (m y : Set) → IsGraph g → AreBlocks g.order p → IsPerfect (quotient g p) none m →
+        edges_in_cut (contracted g p) (mem (lifted g p m)) y ≡ edges_in_cut (quotient g p) m y }
+{}
+
+/// The projection of a perfect matching at the partition, to the edges of the quotient between the two blocks of each of its
+/// edges, is a perfect matching of the quotient, with as many edges in the cut of each set of blocks.
+pub fn projection_law()
+    ensures perfect { (g : Graph) (p : List (List ℕ)) (m : Set) → IsGraph g → AreBlocks g.order p → IsPerfectAt g p m → IsPerfect (quotient g p) none (projected g p m) }
+    ensures cut { (g : Graph) (p : List (List ℕ)) (m y : Set) → IsGraph g → AreBlocks g.order p → IsPerfectAt g p m →
+        edges_in_cut (quotient g p) (projected g p m) y ≡ edges_in_cut (contracted g p) m y }
 {}

@@ -50,7 +50,7 @@ module _ (g h : Graph) (is_g : IsGraph g) (move pick : ℕ → ℕ)
     (onto : (w : ℕ) → Within h.order w → (v : ℕ) × Within g.order v × (move v ≡ w))
     (in_h : (e : ℕ) → Within (size g) e → first_end g e ≢ second_end g e → Within (size h) (pick e) × HasEnds h (pick e) (move (first_end g e)) (move (second_end g e)))
     (m : Set) (perfect : IsPerfect g none m) where
-  no_loop : (e : ℕ) → Within (size g) e → m e ≡ true → first_end g e ≢ second_end g e
+  pub no_loop : (e : ℕ) → Within (size g) e → m e ≡ true → first_end g e ≢ second_end g e
   no_loop e w t l = let a = ends_le_degree g m e (first_end g e) w t in let b = ends_of_is g e (first_end g e) (second_end g e) (inl (refl, refl)) (first_end g e) in
       let c = ap bit (eq-eqb (first_end g e) (first_end g e) refl) in let d = ap bit (eq-eqb (second_end g e) (first_end g e) (sym l)) in let o = perfect.once (first_end g e) (is_g e w).0 refl in absurd (omega arith)
 

@@ -30,3 +30,7 @@ union_of_blocks g p x = rising_list g.order (λ v. some (length p) (λ i. x i &&
 -- a set of edges of the quotient lifted: for each the least remembered edge, in rising order
 abbrev pub lifted : Graph → List (List ℕ) → Set → List ℕ
 lifted g p m = rising_list (size g) (λ e. some (size (quotient g p)) (λ k. m k && (slice_index (remembered g p k) 0 == e)))
+
+-- a set of edges of the graph projected: the edges of the quotient of which it holds a remembered edge
+abbrev pub projected : Graph → List (List ℕ) → Set → Set
+projected g p m k = some (size g) (λ e. m e && mem (remembered g p k) e)
