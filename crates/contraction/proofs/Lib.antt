@@ -9,3 +9,4 @@ pub mod ContractedValues
 pub mod QuotientPairs
 pub mod LeastEdges
 pub mod ProjectedMatchings
+pub mod MergedQuotients

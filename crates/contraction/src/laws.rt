@@ -1,11 +1,11 @@
 //! The laws that lead from a quotient to the partition and back. Each is the contract of a function that does nothing.
 ghost use Rattle.std.specs.Prelude.{◌≡◌, ℕ, List, true, ◌↔◌};
 ghost use Rattle.counting.specs.Sets.{Set, none};
-ghost use Rattle.counting.specs.Lists.{mem};
+ghost use Rattle.counting.specs.Lists.{IsRisingIn, mem};
 ghost use Rattle.graph_core.specs.Graph.{Graph, IsGraph, edges_in_cut};
 ghost use Rattle.graph_core.specs.Matchings.{IsPerfect};
 ghost use Rattle.graph_core.specs.Covered.{IsCovered};
-ghost use Rattle.graph_core.specs.Partitions.{AreBlocks, IsPerfectAt, contracted};
+ghost use Rattle.graph_core.specs.Partitions.{AreBlocks, IsPerfectAt, complement_of, contracted, merged};
 ghost use Rattle.graph_core.specs.Quotients.{lifted, projected, quotient};
 ghost use Rattle.graph_core.specs.Shores.{IsTightAt, IsUnion, blocks_in};
 ghost use Rattle.graph_core.specs.Tight.{IsTight};
@@ -34,4 +34,18 @@ pub fn projection_law()
     ensures perfect { (g : Graph) (p : List (List ℕ)) (m : Set) → IsGraph g → AreBlocks g.order p → IsPerfectAt g p m → IsPerfect (quotient g p) none (projected g p m) }
     ensures cut { (g : Graph) (p : List (List ℕ)) (m y : Set) → IsGraph g → AreBlocks g.order p → IsPerfectAt g p m →
         edges_in_cut (quotient g p) (projected g p m) y ≡ edges_in_cut (contracted g p) m y }
+{}
+
+/// The law of contraction, said of quotients (Lovász 1987). Let the quotient at a partition be matching covered, and a shore tight
+/// at it. Merging either shore of the cut gives a partition whose quotient is matching covered; a shore that is tight at it was
+/// tight before, and a shore that was tight and is a union of its blocks is tight at it.
+pub fn merged_quotients_law()
+    ensures blocks { (g : Graph) (p : List (List ℕ)) (x : List ℕ) → IsGraph g → AreBlocks g.order p → IsRisingIn g.order x → IsTightAt g p (mem x) →
+        AreBlocks g.order (merged p x) × AreBlocks g.order (merged p (complement_of g.order x)) }
+    ensures covered { (g : Graph) (p : List (List ℕ)) (x : List ℕ) → IsGraph g → AreBlocks g.order p → IsRisingIn g.order x → IsTightAt g p (mem x) → IsCovered (quotient g p) →
+        IsCovered (quotient g (merged p x)) × IsCovered (quotient g (merged p (complement_of g.order x))) }
+    ensures before { (g : Graph) (p : List (List ℕ)) (x : List ℕ) (y : Set) → IsGraph g → AreBlocks g.order p → IsRisingIn g.order x → IsTightAt g p (mem x) → IsCovered (quotient g p) →
+        (IsTightAt g (merged p x) y → IsTightAt g p y) × (IsTightAt g (merged p (complement_of g.order x)) y → IsTightAt g p y) }
+    ensures after { (g : Graph) (p : List (List ℕ)) (x : List ℕ) (y : Set) → IsGraph g → AreBlocks g.order p → IsRisingIn g.order x → IsTightAt g p (mem x) → IsCovered (quotient g p) → IsTightAt g p y →
+        (IsUnion g.order (merged p x) y → IsTightAt g (merged p x) y) × (IsUnion g.order (merged p (complement_of g.order x)) y → IsTightAt g (merged p (complement_of g.order x)) y) }
 {}

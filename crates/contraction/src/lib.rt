@@ -18,6 +18,8 @@ mod lifting;
 mod partition;
 
 pub use contracted::{Contracted, quotient};
-pub use laws::{covered_quotient_law, lift_law, projection_law, tight_quotient_law};
+pub use laws::{
+    covered_quotient_law, lift_law, merged_quotients_law, projection_law, tight_quotient_law,
+};
 pub use lifting::lift;
 pub use partition::Partition;

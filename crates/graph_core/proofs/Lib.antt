@@ -27,3 +27,4 @@ pub mod EndLists
 pub mod Rows
 pub mod Perfect
 pub mod SingleBlocks
+pub mod ShoreLists

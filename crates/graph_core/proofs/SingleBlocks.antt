@@ -23,7 +23,7 @@ same-pairs n [] h = refl
 same-pairs n (d ∷ ends) h =
     let w = h 1 (omega arith) in
     ap₂ (λ (k : ℕ × ℕ) (ks : List (ℕ × ℕ)). k ∷ ks) (ap₂ (λ (a b : ℕ). (a, b)) (own-place n d.0 w.0) (own-place n d.1 w.1)) (same-pairs n ends (λ e we. let i : suc e - 1 ≡ suc (e - 1) = omega arith in
-        subst (λ j. Within n (get_or (d ∷ ends) j (0, 0)).0 × Within n (get_or (d ∷ ends) j (0, 0)).1) i (h (suc e) (omega arith))))
+    subst (λ j. Within n (get_or (d ∷ ends) j (0, 0)).0 × Within n (get_or (d ∷ ends) j (0, 0)).1) i (h (suc e) (omega arith))))
 
 -- the graph contracted at its single vertices
 pub contracted-singles : (g : Graph) → IsGraph g → contracted g (singles g.order) ≡ g

@@ -9,7 +9,7 @@ ghost use Rattle.graph_core.specs.Walks.{Joined, joined};
 ghost use Rattle.graph_core.specs.Sides.{IsLeftSide};
 ghost use Rattle.graph_core.specs.Components.{odd_component_count};
 ghost use Rattle.graph_core.specs.Covered.{IsCovered};
-ghost use Rattle.graph_core.specs.Partitions.{AreBlocks, IsMerge, IsPartition, IsPerfectAt, contracted, merged, singles};
+ghost use Rattle.graph_core.specs.Partitions.{AreBlocks, IsMerge, IsPartition, IsPerfectAt, complement_of, contracted, merged, singles};
 ghost use Rattle.graph_core.specs.Shores.{IsUnion, IsTightAt, block_count, blocks_in};
 ghost use Rattle.graph_core.specs.Quotients.{quotient};
 ghost use Rattle.graph_core.specs.Tight.{IsTight};
@@ -61,6 +61,16 @@ pub fn uncrossing_law()
 /// The complement of a tight shore is a tight shore.
 pub fn complement_law()
     ensures { (g : Graph) (p : List (List ℕ)) (x : Set) → IsGraph g → AreBlocks g.order p → IsTightAt g p x → IsTightAt g p (complement x) }
+{}
+
+/// A tight shore as a list is not empty, and the list of the other vertices is the other shore, which is tight as well: so what
+/// is said of merging a tight shore is said of merging the other one too.
+pub fn other_shore_law()
+    ensures nonempty { (g : Graph) (p : List (List ℕ)) (x : List ℕ) → IsGraph g → AreBlocks g.order p → IsTightAt g p (mem x) → 0 < length x }
+    ensures rising { (n : ℕ) (x : List ℕ) → IsRisingIn n (complement_of n x) }
+    ensures members { (n : ℕ) (x : List ℕ) (v : ℕ) → Within n v → mem (complement_of n x) v ≡ complement (mem x) v }
+    ensures tight { (g : Graph) (p : List (List ℕ)) (x : List ℕ) → IsGraph g → AreBlocks g.order p → IsTightAt g p (mem x) →
+        IsTightAt g p (mem (complement_of g.order x)) }
 {}
 
 /// Merging a nonempty union of blocks gives a partition, in which the union is one block and all other blocks are as before.

@@ -1,0 +1,29 @@
+-- The law of contraction said of quotients, for both shores of a tight cut.
+-- The quotient is matching covered where the contracted graph is, and the complement of a tight shore is a tight shore.
+use Rattle.std.proofs.Common.{◌≡◌, ℕ, ◌<◌, List, length}
+use Rattle.counting.proofs.Lists.{mem-within, member-of_set}
+use Rattle.counting.specs.Lists.{IsRisingIn, mem}
+use Rattle.counting.specs.Sets.{Set}
+use Rattle.graph_core.proofs.MergedShores.{covered_merged, merge_of, tight_down_merged, tight_up_merged}
+use Rattle.graph_core.proofs.ShoreLists.{shore-some}
+use Rattle.graph_core.specs.Covered.{IsCovered}
+use Rattle.graph_core.specs.Graph.{Graph, IsGraph}
+use Rattle.graph_core.specs.Partitions.{AreBlocks, merged}
+use Rattle.graph_core.specs.Quotients.{quotient}
+use Rattle.graph_core.specs.Shores.{IsTightAt, IsUnion}
+use Rattle.contraction.proofs.QuotientLaws.{covered_down, covered_up}
+
+module _ (g : Graph) (p : List (List ℕ)) (x : List ℕ) (is : IsGraph g) (pp : AreBlocks g.order p) (rises : IsRisingIn g.order x) (tight : IsTightAt g p (mem x)) where
+  pub merged-blocks : AreBlocks g.order (merged p x)
+  merged-blocks = (merge_of g is p x pp tight (member-of_set g.order x rises (shore-some g is p pp x tight)) (mem-within g.order x rises)).partition
+
+  module _ (covered : IsCovered (quotient g p)) where
+    pub merged-covered : IsCovered (quotient g (merged p x))
+    merged-covered = covered_up g (merged p x) is merged-blocks
+        (covered_merged g is p x pp tight (member-of_set g.order x rises (shore-some g is p pp x tight)) (mem-within g.order x rises) (covered_down g p is pp covered))
+
+    pub tight-before : (y : Set) → IsTightAt g (merged p x) y → IsTightAt g p y
+    tight-before = tight_up_merged g is p x pp tight (member-of_set g.order x rises (shore-some g is p pp x tight)) (mem-within g.order x rises) (covered_down g p is pp covered)
+
+    pub tight-after : (y : Set) → IsTightAt g p y → IsUnion g.order (merged p x) y → IsTightAt g (merged p x) y
+    tight-after = tight_down_merged g is p x pp tight (member-of_set g.order x rises (shore-some g is p pp x tight)) (mem-within g.order x rises) (covered_down g p is pp covered)
