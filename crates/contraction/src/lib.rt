@@ -23,3 +23,6 @@ pub use laws::{
 };
 pub use lifting::lift;
 pub use partition::Partition;
+
+#[cfg(test)]
+mod tests;
