@@ -1,0 +1,2 @@
+//! Tight cuts of a matching covered graph.
+#![tactic(auto)]
