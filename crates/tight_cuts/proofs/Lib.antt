@@ -1,1 +1,9 @@
 pub mod PairsOfEdges
+pub mod Shores
+pub mod LeastShores
+pub mod PiecesOfEdges
+pub mod Networks
+pub mod FirstPairs
+pub mod EdgeLoop
+pub mod Completeness
+pub mod LeanLists

@@ -1,1 +1,3 @@
 pub mod PairSums
+pub mod Candidates
+pub mod Pieces
