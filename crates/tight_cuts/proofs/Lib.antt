@@ -7,3 +7,4 @@ pub mod FirstPairs
 pub mod EdgeLoop
 pub mod Completeness
 pub mod LeanLists
+mod CrossingMatchings
