@@ -111,8 +111,8 @@ odd_sides g x e is w a ce h =
     (o, complement_odd g.order x (even_order g a.0 is a.1) o)
 
 -- an edge from a to b is in the cut of a set with a and without b
-pub cross_between : (g : Graph) (x : Set) (a b e : ℕ) → has_ends g a b e ≡ true → x a ≡ true → x b ≡ false → in_cut g x e ≡ true
-cross_between g x a b e h xa xb = elim (has_ends-cases g a b e h) [
+pub cut_between : (g : Graph) (x : Set) (a b e : ℕ) → has_ends g a b e ≡ true → x a ≡ true → x b ≡ false → in_cut g x e ≡ true
+cut_between g x a b e h xa xb = elim (has_ends-cases g a b e h) [
   | inl k ↦ one (x (first_end g e)) (x (second_end g e)) (ap x k.0 ∙ xa) (ap x k.1 ∙ xb)
   | inr k ↦ other (x (first_end g e)) (x (second_end g e)) (ap x k.0 ∙ xb) (ap x k.1 ∙ xa)
 ]
