@@ -19,7 +19,9 @@ use Rattle.graph_core.proofs.Perfect.{perfect_matching, perfect_misses}
 use Rattle.match_core.specs.MatchingRows.{IsOf, IsRowOf, KeepsMatching, MatchingValue, edges_of, has_end_in, is_clear, left_over}
 use Rattle.match_core.specs.Questions.{MeetOnce}
 use Rattle.match_core.specs.declared.matching.MatchRow.{MatchRow}
-use Rattle.match_core.proofs.MatchingEdges.{edge_of, keeps-filter, rows-matching}
+use Rattle.match_core.proofs.Alike.{matching_alike}
+use Rattle.match_core.proofs.MatchingEdges.{edge_of, rows-matching}
+use Rattle.match_core.proofs.Shrinking.{degree_split}
 
 -- the rows that meet no vertex of x
 abbrev pub cleared : Set → MatchingValue → MatchingValue
@@ -74,13 +76,13 @@ rows_left g x (row ∷ rows) all i =
 pub cleared_edges : (g : Graph) (x : Set) (m : MatchingValue) → IsOf g m → (i : ℕ) → mem (edges_of (cleared x m)) i ≡ left_over g x (mem (edges_of m)) i
 cleared_edges g x m of i = rows_left g x m.rows of.rows i
 
--- they are a matching of the graph without x
-pub cleared_matching : (g : Graph) (x : Set) (m : MatchingValue) → IsOf g m → KeepsMatching m → IsMatching g x (mem (edges_of (cleared x m)))
-cleared_matching g x m of keeps = record {
-  once = (rows-matching g (cleared x m) (cleared_of g x m of) (keeps-filter (is_clear x) m keeps)).once;
-  away = λ v w t. none_there (degree g (mem (edges_of (cleared x m))) v) (λ p.
-      let d = edge_at g (mem (edges_of (cleared x m))) v p in
-      let l = and_parts (mem (edges_of m) d.0) (not (has_end_in g x d.0)) (sym (cleared_edges g x m of d.0) ∙ d.2) in
+-- the edges of a matching with no end in x are a matching of the graph without x
+pub left_matching : (g : Graph) (x m : Set) → IsMatching g none m → IsMatching g x (left_over g x m)
+left_matching g x m mm = record {
+  once = λ v w. let o = mm.once v w in let s = degree_split g m (left_over g x m) (meet m (has_end_in g x)) v (λ i wi. parts (m i) (has_end_in g x i)) in omega arith;
+  away = λ v w t. none_there (degree g (left_over g x m) v) (λ p.
+      let d = edge_at g (left_over g x m) v p in
+      let l = and_parts (m d.0) (not (has_end_in g x d.0)) d.2 in
       let out : has_end_in g x d.0 ≡ false = not_true (has_end_in g x d.0) l.1 in
       elim d.3.1 [
         | inl q ↦ both_ways (has_end_in g x d.0) out (or_left (x (first_end g d.0)) (x (second_end g d.0)) (ap x q.0 ∙ t))
@@ -88,6 +90,11 @@ cleared_matching g x m of keeps = record {
       ]);
 }
   where
+    parts : (a b : Bool) → bit a ≡ bit (a && not b) + bit (a && b)
+    parts true true = refl
+    parts true false = refl
+    parts false b = refl
+
     none_there : (d : ℕ) → (0 < d → ⊥) → d ≡ 0
     none_there zero h = refl
     none_there (suc d) h = absurd (h (omega arith))
@@ -96,8 +103,11 @@ cleared_matching g x m of keeps = record {
     not_true true h = absurd (true≢false (sym h))
     not_true false h = refl
 
+pub cleared_matching : (g : Graph) (x : Set) (m : MatchingValue) → IsOf g m → KeepsMatching m → IsMatching g x (mem (edges_of (cleared x m)))
+cleared_matching g x m of keeps = matching_alike g x (left_over g x (mem (edges_of m))) (mem (edges_of (cleared x m))) (λ e w. cleared_edges g x m of e) (left_matching g x (mem (edges_of m)) (rows-matching g m of keeps))
+
 -- an edge with an end at v
-end_at : (g : Graph) (k v : ℕ) → (first_end g k ≡ v) ⊎ (second_end g k ≡ v) → 1 ≤ ends_of g k v
+pub end_at : (g : Graph) (k v : ℕ) → (first_end g k ≡ v) ⊎ (second_end g k ≡ v) → 1 ≤ ends_of g k v
 unfolding ends_of
 end_at g k v h = elim h [
   | inl q ↦ let z = ap bit (eq-eqb (first_end g k) v q) in omega arith
@@ -182,9 +192,9 @@ module _ (g : Graph) (is : IsGraph g) (p c met : Set) (e : ℕ) (perfect : IsPer
       omega arith
 
   -- what is left misses no vertex outside met, or two
-  pub left_misses : IsMatching g met (left_over g met p) → (missed_count g met (left_over g met p) ≡ 0) ⊎ (missed_count g met (left_over g met p) ≡ 2)
-  left_misses mm =
-      let a = missed_edges g met (left_over g met p) is mm in
+  pub left_misses : (missed_count g met (left_over g met p) ≡ 0) ⊎ (missed_count g met (left_over g met p) ≡ 2)
+  left_misses =
+      let a = missed_edges g met (left_over g met p) is (left_matching g met p (perfect_matching g none p perfect)) in
       let b = missed_edges g none p is (perfect_matching g none p perfect) in
       let d = perfect_misses g none p perfect in
       let k = count_complement g.order none in
