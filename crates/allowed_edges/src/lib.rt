@@ -21,7 +21,8 @@ mod table;
 mod verdict;
 
 pub use edges::allowed;
-pub use pairs::{PairTable, together};
+pub use pairs::{PairTable, share_end, together};
+pub use questions::{perfect_with_edge, perfect_with_pair};
 pub use verdict::covered;
 
 #[cfg(test)]

@@ -221,8 +221,8 @@ fn list_unless_held(
     Ok(())
 }
 
-// Whether two edges share an end.
-fn share_end(g: &MultiGraph, e: u32, f: u32) -> bool
+/// Whether two edges share an end; two that do, and differ, lie in no matching together. Takes no memory.
+pub fn share_end(g: &MultiGraph, e: u32, f: u32) -> bool
     requires first { Within (size g.now) e }
     requires second { Within (size g.now) f }
     ensures { result ≡ share_end g.now e f }

@@ -9,8 +9,9 @@ ghost use Rattle.graph_core.specs.Matchings.{IsPerfect, Together};
 ghost use Rattle.match_core.specs.MatchingRows.{IsOf, edges_of};
 ghost use Rattle.tight_cuts.specs.Tightness.{CrossesTwice, IsTightness, NoLaterWith};
 
-use graph_core::{MultiGraph, Numbers};
-use match_core::{Matching, perfect_with};
+use allowed_edges::{perfect_with_edge, perfect_with_pair, share_end};
+use graph_core::MultiGraph;
+use match_core::{Matching, perfect_without};
 use std::alloc::{AllocError as Memory, Global};
 use vset_core::VSet;
 
@@ -26,7 +27,8 @@ pub enum Tightness {
 /// Whether the cut of `shore`, an odd number of the vertices of the matching covered graph `g`, is tight. `Tight` comes exactly
 /// where it is; `Crossed` comes with a perfect matching of `g` that has at least two edges in the cut.
 ///
-/// Two edges of the cut that lie together in a perfect matching are sought: an odd cut is tight exactly where there are none.
+/// An odd cut is tight exactly where no two of its edges lie together in a perfect matching. So each two edges of the cut are
+/// asked for, by one augmentation from a perfect matching that holds the first of them.
 pub fn is_tight(alloc: Global, g: &MultiGraph, shore: VSet) -> Result<Tightness, Memory>
     requires covered { IsCovered g.now }
     requires shore { IsRisingIn g.now.order shore }
@@ -34,15 +36,37 @@ pub fn is_tight(alloc: Global, g: &MultiGraph, shore: VSet) -> Result<Tightness,
     ensures { IfOk result (IsTightness g.now (mem shore)) }
 {
     g.keeps_limits();
+    match perfect_without(alloc, g, VSet::empty())? {
+        Some(kept) => match crossing(alloc, g, shore, &kept)? {
+            Some(matching) => Ok(Tightness::Crossed { matching }),
+            None => Ok(Tightness::Tight),
+        },
+        None => unreachable!(),
+    }
+}
+
+// A perfect matching with two edges of the cut, from a perfect matching; none exactly where no edge of the cut lies together
+// with a later one.
+fn crossing(
+    alloc: Global,
+    g: &MultiGraph,
+    shore: VSet,
+    kept: &Matching,
+) -> Result<Option<Matching>, Memory>
+    requires of { IsOf g.now kept.now }
+    requires perfect { IsPerfect g.now none (mem (edges_of kept.now)) }
+    ensures some { IfOk result (λ o. (m : _) → o ≡ Some m → CrossesTwice g.now (mem shore) m) }
+    ensures none { IfOk result (λ o. o ≡ None → (e : ℕ) → Within (size g.now) e → in_cut g.now (mem shore) e ≡ true → NoLaterWith g.now (mem shore) e) }
+{
     for k in 0..g.size() {
         let e = k + 1;
         if is_in_cut(g, shore, e) {
-            if let Some(matching) = crossing_with(alloc, g, shore, e)? {
-                return Ok(Tightness::Crossed { matching });
+            if let Some(matching) = crossing_with(alloc, g, shore, kept, e)? {
+                return Ok(Some(matching));
             }
         }
     }
-    Ok(Tightness::Tight)
+    Ok(None)
 }
 
 // Whether edge e is in the cut of the shore.
@@ -57,23 +81,48 @@ fn is_in_cut(g: &MultiGraph, shore: VSet, e: u32) -> bool
     (first && !second) || (!first && second)
 }
 
-// A perfect matching with edge e of the cut and a later edge of it; none exactly where no later edge of the cut lies in a
-// perfect matching with e.
+// A perfect matching with edge e of the cut and a later edge of it, from a perfect matching; none exactly where no later edge
+// of the cut lies together with e.
 fn crossing_with(
     alloc: Global,
     g: &MultiGraph,
     shore: VSet,
+    kept: &Matching,
     e: u32,
 ) -> Result<Option<Matching>, Memory>
     requires edge { Within (size g.now) e }
     requires in_cut { in_cut g.now (mem shore) e ≡ true }
+    requires of { IsOf g.now kept.now }
+    requires perfect { IsPerfect g.now none (mem (edges_of kept.now)) }
+    ensures some { IfOk result (λ o. (m : _) → o ≡ Some m → CrossesTwice g.now (mem shore) m) }
+    ensures none { IfOk result (λ o. o ≡ None → NoLaterWith g.now (mem shore) e) }
+{
+    match perfect_with_edge(alloc, g, kept, e)? {
+        Some(held) => crossing_from(alloc, g, shore, &held, e),
+        None => Ok(None),
+    }
+}
+
+// The same from a perfect matching that holds e.
+fn crossing_from(
+    alloc: Global,
+    g: &MultiGraph,
+    shore: VSet,
+    held: &Matching,
+    e: u32,
+) -> Result<Option<Matching>, Memory>
+    requires edge { Within (size g.now) e }
+    requires in_cut { in_cut g.now (mem shore) e ≡ true }
+    requires of { IsOf g.now held.now }
+    requires perfect { IsPerfect g.now none (mem (edges_of held.now)) }
+    requires holds { mem (edges_of held.now) e ≡ true }
     ensures some { IfOk result (λ o. (m : _) → o ≡ Some m → CrossesTwice g.now (mem shore) m) }
     ensures none { IfOk result (λ o. o ≡ None → NoLaterWith g.now (mem shore) e) }
 {
     for k in e..g.size() {
         let f = k + 1;
         if is_in_cut(g, shore, f) {
-            if let Some(matching) = perfect_with_both(alloc, g, e, f)? {
+            if let Some(matching) = perfect_with_both(alloc, g, held, e, f)? {
                 return Ok(Some(matching));
             }
         }
@@ -81,23 +130,28 @@ fn crossing_with(
     Ok(None)
 }
 
-// A perfect matching that holds both edges; none exactly where they do not lie together.
+// A perfect matching that holds the different edges e and f, from one that holds e; none exactly where they do not lie together.
 fn perfect_with_both(
     alloc: Global,
     g: &MultiGraph,
+    held: &Matching,
     e: u32,
     f: u32,
 ) -> Result<Option<Matching>, Memory>
     requires first { Within (size g.now) e }
     requires second { Within (size g.now) f }
+    requires differ { e ≢ f }
+    requires of { IsOf g.now held.now }
+    requires perfect { IsPerfect g.now none (mem (edges_of held.now)) }
+    requires holds { mem (edges_of held.now) e ≡ true }
     ensures of { IfOk result (λ o. (m : _) → o ≡ Some m → IsOf g.now m) }
     ensures perfect { IfOk result (λ o. (m : _) → o ≡ Some m → IsPerfect g.now none (mem (edges_of m))) }
-    ensures first { IfOk result (λ o. (m : _) → o ≡ Some m → mem (edges_of m) e ≡ true) }
-    ensures second { IfOk result (λ o. (m : _) → o ≡ Some m → mem (edges_of m) f ≡ true) }
+    ensures holds { IfOk result (λ o. (m : _) → o ≡ Some m → (mem (edges_of m) e ≡ true) × (mem (edges_of m) f ≡ true)) }
     ensures none { IfOk result (λ o. (o ≡ None) ↔ (Together g.now e f → ⊥)) }
 {
-    let mut edges = Numbers::new(alloc);
-    edges.push(e)?;
-    edges.push(f)?;
-    perfect_with(alloc, g, &edges)
+    g.keeps_limits();
+    if share_end(g, e, f) {
+        return Ok(None);
+    }
+    perfect_with_pair(alloc, g, held, e, f)
 }

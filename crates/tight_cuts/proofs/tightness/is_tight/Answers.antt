@@ -1,12 +1,21 @@
-use Rattle.std.proofs.Common.{◌≤◌, arith}
+use Rattle.std.proofs.Common.{◌≡◌, ℕ, List, subst, sym}
 use Rattle.counting.specs.Lists.{mem}
+use Rattle.graph_core.proofs.Decide.{covered_perfect}
+use Rattle.graph_core.specs.Matchings.{HasPerfect, IsPerfect}
+use Rattle.match_core.specs.MatchingRows.{edges_of}
 use Rattle.tight_cuts.proofs.CrossingMatchings.{crossed_not_tight, uncrossed_tight}
 use Rattle.tight_cuts.proofs.tightness.is_tight.Goals as goal
 
-pub returns-in-Some : goal.returns-in-Some
-returns-in-Some c = let crosses = c.in_ok-matching.ensures.some c.in-Some.matching c.in-Some.is in (crossed_not_tight c.args.g.now (mem c.args.shore) c.in-Some.matching crosses, crosses)
+pub crossing-requires-clause-perfect : goal.crossing-requires-clause-perfect
+crossing-requires-clause-perfect c = subst (λ (xs : List ℕ). IsPerfect c.args.g.now (mem xs) (mem (edges_of c.in-Some.kept))) c.empty.ensures (c.in_ok-kept.ensures.perfect c.in-Some.kept c.in-Some.is)
 
-pub returns : goal.returns
-returns c =
-    let end : c.size-k-end.result ≤ c.loop-k.k = omega arith in
-    uncrossed_tight c.args.g.now c.args.shore c.keeps_limits.ensures.multigraph.ends c.requires.covered c.requires.shore c.requires.odd (λ e w ce. c.loop-k.invariant e (let s = c.size-k-end.ensures.is in omega arith) ce)
+pub returns-in-Some-2 : goal.returns-in-Some-2
+returns-in-Some-2 c =
+    let crosses = c.in_ok-matching-in-Some.ensures.some c.in-Some-2.matching c.in-Some-2.is in
+    (crossed_not_tight c.args.g.now (mem c.args.shore) c.in-Some-2.matching crosses, crosses)
+
+pub returns-in-Some : goal.returns-in-Some
+returns-in-Some c = uncrossed_tight c.args.g.now c.args.shore c.keeps_limits.ensures.multigraph.ends c.requires.covered c.requires.shore c.requires.odd (c.in_ok-matching-in-Some.ensures.none c.in-None-2.is)
+
+pub unreachable-requires : goal.unreachable-requires
+unreachable-requires c = c.in_ok-kept.ensures.none.0 c.in-None.is (subst (λ (xs : List ℕ). HasPerfect c.args.g.now (mem xs)) (sym c.empty.ensures) (covered_perfect c.args.g.now c.keeps_limits.ensures.multigraph.ends c.requires.covered))
