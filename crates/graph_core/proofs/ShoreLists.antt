@@ -8,7 +8,7 @@ use Rattle.counting.proofs.RisingLists.{all_in_true, mem-rising_list, rising_lis
 use Rattle.counting.proofs.Totals.{some_term}
 use Rattle.counting.specs.Counts.{Within, bit, count}
 use Rattle.counting.specs.Lists.{IsRisingIn, mem, rising_list}
-use Rattle.counting.specs.Sets.{Set, complement}
+use Rattle.counting.specs.Sets.{complement}
 use Rattle.graph_core.proofs.BlockSets.{tight_congr, tight_rest}
 use Rattle.graph_core.specs.Graph.{Graph, IsGraph}
 use Rattle.graph_core.specs.Partitions.{AreBlocks, block, complement_of, contracted}

@@ -1,16 +1,16 @@
 -- At the partition into single vertices the contracted graph is the graph itself, so what is said at that partition is what is
 -- said of the graph; at any partition the edges in the cut of a union of blocks are those of the graph.
-use Rattle.std.proofs.Common.{◌≡◌, ℕ, suc, zero, ◌+◌, ◌-◌, ◌<◌, ◌≤◌, Bool, true, false, ◌&&◌, ◌||◌, not, List, [], ◌∷◌, length, map, cond, get_or, refl, sym, ap, ap₂, ◌∙◌, arith, subst, nat_le, le-leb}
+use Rattle.std.proofs.Common.{◌≡◌, ℕ, suc, ◌+◌, ◌-◌, Bool, true, false, ◌&&◌, ◌||◌, not, List, [], ◌∷◌, length, map, cond, get_or, refl, sym, ap, ap₂, ◌∙◌, arith, subst, le-leb}
 use Rattle.std.proofs.lemmas.List.{get_or-map, length-map}
 use Rattle.counting.proofs.Counts.{count_congr}
-use Rattle.counting.specs.Counts.{Within, bit, count, is_odd}
+use Rattle.counting.specs.Counts.{Within, count, is_odd}
 use Rattle.counting.specs.Lists.{all_in}
 use Rattle.counting.specs.Sets.{Set, complement}
 use Rattle.graph_core.proofs.BlockSets.{at_place}
 use Rattle.graph_core.proofs.Shores.{cut_congr}
 use Rattle.graph_core.proofs.Singles.{block-singles, length-singles, place_singles}
 use Rattle.graph_core.specs.Graph.{Graph, IsGraph, edges_in_cut, first_end, in_cut, second_end, size}
-use Rattle.graph_core.specs.Partitions.{AreBlocks, block, contracted, place, singles}
+use Rattle.graph_core.specs.Partitions.{AreBlocks, contracted, place, singles}
 use Rattle.graph_core.specs.Shores.{IsTightAt, IsUnion, blocks_in}
 use Rattle.graph_core.specs.Tight.{IsTight}
 

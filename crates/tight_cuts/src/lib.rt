@@ -5,8 +5,8 @@
 //! and `Tightness::Crossed` shows a perfect matching with at least two edges in the cut (`CrossesTwice`). An odd cut is tight
 //! exactly where no two of its edges lie together in a perfect matching (`NoTwoTogether`), so only pairs of edges are asked.
 //!
-//! Stands on `allowed_edges`, which answers a perfect matching that holds two given edges from one at hand. Source: Lovász, "Matching structure
-//! and the matching lattice" (1987); Lucchesi and Murty, "Perfect Matchings".
+//! Stands on `allowed_edges`, which answers a perfect matching that holds two given edges from one at hand. Source: Lovász,
+//! "Matching structure and the matching lattice" (1987); Lucchesi and Murty, "Perfect Matchings".
 #![tactic(auto)]
 
 mod tightness;

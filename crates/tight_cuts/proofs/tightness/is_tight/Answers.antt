@@ -1,4 +1,4 @@
-use Rattle.std.proofs.Common.{◌≡◌, ℕ, List, subst, sym}
+use Rattle.std.proofs.Common.{ℕ, List, subst, sym}
 use Rattle.counting.specs.Lists.{mem}
 use Rattle.graph_core.proofs.Decide.{covered_perfect}
 use Rattle.graph_core.specs.Matchings.{HasPerfect, IsPerfect}

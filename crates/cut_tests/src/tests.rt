@@ -1,0 +1,206 @@
+//! Worked cuts, and all odd sets of small graphs against the plain program.
+ghost use Rattle.std.specs.Prelude.{◌≡◌, ◌≤◌, length, true};
+ghost use Rattle.counting.specs.Counts.{is_odd};
+ghost use Rattle.counting.specs.Lists.{IsRisingIn};
+
+use allowed_edges::covered;
+use graph_core::{MultiGraph, Reason, Verdict};
+use plain_graph::{edges_in_cut, is_perfect, is_small};
+use std::alloc::Global;
+use std::test::Fail;
+use tight_cuts::{Tightness, is_tight};
+use vset_core::{MOST_VERTICES, VSet};
+
+const TRIANGLE_IN_K33: [(u32, u32); 12] = [
+    (1, 2),
+    (1, 3),
+    (2, 3),
+    (1, 4),
+    (2, 5),
+    (3, 6),
+    (7, 4),
+    (7, 5),
+    (7, 6),
+    (8, 4),
+    (8, 5),
+    (8, 6),
+];
+
+const PRISM: [(u32, u32); 9] = [
+    (1, 2),
+    (1, 3),
+    (2, 3),
+    (4, 5),
+    (4, 6),
+    (5, 6),
+    (1, 4),
+    (2, 5),
+    (3, 6),
+];
+
+const PETERSEN: [(u32, u32); 15] = [
+    (1, 2),
+    (2, 3),
+    (3, 4),
+    (4, 5),
+    (1, 5),
+    (1, 6),
+    (2, 7),
+    (3, 8),
+    (4, 9),
+    (5, 10),
+    (6, 8),
+    (8, 10),
+    (7, 10),
+    (7, 9),
+    (6, 9),
+];
+
+const K4: [(u32, u32); 6] = [(1, 2), (1, 3), (1, 4), (2, 3), (2, 4), (3, 4)];
+
+const TWO_PARALLEL: [(u32, u32); 2] = [(1, 2), (1, 2)];
+
+const HEXAGON: [(u32, u32); 6] = [(1, 2), (2, 3), (3, 4), (4, 5), (5, 6), (6, 1)];
+
+// A square with one edge doubled.
+const DOUBLED_SQUARE: [(u32, u32); 5] = [(1, 2), (1, 2), (2, 3), (3, 4), (4, 1)];
+
+const CYCLE_OF_8: [(u32, u32); 8] = [
+    (1, 2),
+    (2, 3),
+    (3, 4),
+    (4, 5),
+    (5, 6),
+    (6, 7),
+    (7, 8),
+    (8, 1),
+];
+
+// Two K4 that share the edge 1-2.
+const TWO_K4: [(u32, u32); 11] = [
+    (1, 2),
+    (1, 3),
+    (1, 4),
+    (2, 3),
+    (2, 4),
+    (3, 4),
+    (1, 5),
+    (1, 6),
+    (2, 5),
+    (2, 6),
+    (5, 6),
+];
+
+fn made(alloc: Global, order: u32, edges: &[(u32, u32)]) -> Result<MultiGraph, Fail>
+    requires { order ≤ MOST_VERTICES }
+{
+    let mut graph = MultiGraph::new(alloc, order)?;
+    for (a, b) in edges {
+        graph.add_edge(*a, *b)?;
+    }
+    Ok(graph)
+}
+
+// The set of the numbers whose bit is set, where the bit of 1 is the lowest.
+fn set_of_bits(bits: u32) -> VSet {
+    let mut set = VSet::empty();
+    for v in 0..10 {
+        if bits >> v & 1 == 1 {
+            set = set.with(v + 1);
+        }
+    }
+    set
+}
+
+// Whether the set has an odd number of vertices of the graph, and nothing else.
+fn is_odd_shore(graph: &MultiGraph, set: VSet) -> bool
+    ensures rising { result ≡ true → IsRisingIn graph.now.order set }
+    ensures odd { result ≡ true → is_odd (length set) ≡ true }
+{
+    graph.keeps_limits();
+    set.rises();
+    set.is_subset(VSet::full(graph.order())) && set.len() % 2 == 1
+}
+
+// What is answered on the cut of a set; nothing where the set is no odd shore, or the graph not matching covered.
+fn answer(alloc: Global, graph: &MultiGraph, set: VSet) -> Result<Option<Tightness>, Fail> {
+    if !is_odd_shore(graph, set) {
+        return Ok(None);
+    }
+    match covered(alloc, graph)? {
+        Verdict::Covered => Ok(Some(is_tight(alloc, graph, set)?)),
+        Verdict::NotCovered(Reason::Small) => Ok(None),
+        Verdict::NotCovered(_) => Ok(None),
+    }
+}
+
+// The edges of the matching that crosses the cut of a set; none where the cut is tight.
+fn crossing(alloc: Global, graph: &MultiGraph, set: VSet) -> Result<VSet, Fail> {
+    let mut edges = VSet::empty();
+    if let Some(Tightness::Crossed { matching }) = answer(alloc, graph, set)? {
+        for i in 0..matching.len() {
+            let edge = matching.row(i).edge;
+            if edge >= 1 && edge <= MOST_VERTICES {
+                edges = edges.with(edge);
+            }
+        }
+    }
+    Ok(edges)
+}
+
+#[test]
+fn worked_cuts(rt: HostRuntime) -> Result<(), Fail> {
+    let graph = made(rt.alloc(), 8, &TRIANGLE_IN_K33)?;
+    let triangle = set_of_bits(0b111);
+    assert!(rt;
+        matches!(
+            answer(rt.alloc(), &graph, triangle)?,
+            Some(Tightness::Tight)
+        )
+    );
+    let prism = made(rt.alloc(), 6, &PRISM)?;
+    assert!(rt; crossing(rt.alloc(), &prism, triangle)? == set_of_bits(0b111 << 6));
+    let petersen = made(rt.alloc(), 10, &PETERSEN)?;
+    assert!(rt;
+        crossing(rt.alloc(), &petersen, set_of_bits(0b11111))? == set_of_bits(0b11111 << 5)
+    );
+    Ok(())
+}
+
+#[test]
+fn all_odd_sets_of_small_graphs(rt: HostRuntime) -> Result<(), Fail> {
+    let cases = [
+        (2, TWO_PARALLEL.as_slice()),
+        (4, K4.as_slice()),
+        (4, DOUBLED_SQUARE.as_slice()),
+        (6, HEXAGON.as_slice()),
+        (6, PRISM.as_slice()),
+        (6, TWO_K4.as_slice()),
+        (8, CYCLE_OF_8.as_slice()),
+    ];
+    for (order, edges) in cases {
+        assert!(rt; order <= MOST_VERTICES);
+        let graph = made(rt.alloc(), order, edges)?;
+        assert!(rt; is_small(&graph));
+        let mut odd_sets = 0u32;
+        for bits in 0..256 {
+            let set = set_of_bits(bits);
+            match answer(rt.alloc(), &graph, set)? {
+                None => {}
+                Some(Tightness::Tight) => {
+                    odd_sets = odd_sets.saturating_add(1);
+                    assert!(rt; plain_graph::is_tight(rt.alloc(), &graph, set)?);
+                }
+                Some(Tightness::Crossed { matching: _ }) => {
+                    odd_sets = odd_sets.saturating_add(1);
+                    assert!(rt; !plain_graph::is_tight(rt.alloc(), &graph, set)?);
+                    let crossing = crossing(rt.alloc(), &graph, set)?;
+                    assert!(rt; is_perfect(&graph, VSet::empty(), crossing));
+                    assert!(rt; edges_in_cut(&graph, crossing, set) > 1);
+                }
+            }
+        }
+        assert_eq!(rt; odd_sets, 1u32 << (order - 1));
+    }
+    Ok(())
+}
