@@ -10,8 +10,8 @@
 //! `tight_quotient_law`, that the quotient is covered, and a shore tight in it, where it is so at the partition. The law of
 //! contraction is graph_core's; `merged_quotients_law` says it of quotients, for both shores of a tight cut.
 //!
-//! Stands on `graph_core` and `match_core`; remembered edges are kept in an `indexmap` by the pair of places, and `itertools` finds the block
-//! that holds a vertex. Contraction of tight cuts: Lovász, "Matching structure and the matching lattice" (1987).
+//! Stands on `graph_core` and `match_core`; remembered edges are kept in an `indexmap` by the pair of places, and `itertools`
+//! finds the block that holds a vertex. Contraction of tight cuts: Lovász, "Matching structure and the matching lattice" (1987).
 #![tactic(auto)]
 
 mod contracted;
