@@ -27,17 +27,6 @@ perfect_alike g r m n h p = record {
   away = λ v w rv. degree_congr g n m v (λ e we. h e) ∙ p.away v w rv;
 }
 
--- the vertices of a matching's rows, those outside and those it misses are all
-pub left_size : (g : Graph) (x : List ℕ) (m : MatchingValue) → IsGraph g → IsRisingIn g.order x → IsOf g m → KeepsMatching m → IsMatching g (mem x) (mem (edges_of m)) →
-    missed_count g (mem x) (mem (edges_of m)) + 2 * length m.rows + length x ≡ g.order
-left_size g x m is rises of keeps mm =
-    let a = missed_edges g (mem x) (mem (edges_of m)) is mm in
-    let b = count_mem_length (size g) (edges_of m) (rows-rise g m of keeps) in
-    let l = length-map m.rows edge_of in
-    let c = count_mem_length g.order x rises in
-    let d = count_complement g.order (mem x) in
-    omega arith
-
 -- the sets with the ends of an edge, and of another
 abbrev pub AddsEnds : Graph → ℕ → Set → Set → Type 0
 AddsEnds g e x y = (v : ℕ) → y v ≡ ((x v || (first_end g e == v)) || (second_end g e == v))
