@@ -3,20 +3,20 @@
 -- one more edge, then at most one edge more is taken out than there are such edges, since that one has two ends.
 use Rattle.std.proofs.Common.{◌≡◌, ℕ, suc, zero, ◌+◌, ◌*◌, ◌≤◌, ◌<◌, ◌≢◌, Bool, true, false, ◌==◌, ◌&&◌, ◌||◌, ◌⊎◌, not, refl, sym, ap, ap₂, ◌∙◌, arith, List, [], ◌∷◌, length, map, filter, cond, inl, inr, eqb-true, eq-eqb, subst}
 use Rattle.std.specs.Prelude.{All}
-use Rattle.std.proofs.lemmas.Bool.{both_ways, cases_Bool, cases_eq, false_from_ne_true, true≢false, and_parts, or_cases, or_left, or_right}
+use Rattle.std.proofs.lemmas.Bool.{both_ways, cases_Bool, cases_eq, true≢false, and_parts, or_cases, or_left, or_right}
 use Rattle.std.proofs.lemmas.List.{length-map}
 use Rattle.std.proofs.lemmas.List.Elements.{All-filter}
 use Rattle.counting.specs.Counts.{Within, bit, count, total}
 use Rattle.counting.specs.Lists.{IsRisingIn, mem}
-use Rattle.counting.specs.Sets.{Set, none, put, meet, minus, complement}
+use Rattle.counting.specs.Sets.{Set, none, put, meet}
 use Rattle.counting.proofs.Choice.{count_put}
-use Rattle.counting.proofs.Counts.{count_complement, count_congr}
+use Rattle.counting.proofs.Counts.{count_complement}
 use Rattle.counting.proofs.Lists.{count_mem_length}
 use Rattle.counting.proofs.SetSizes.{count_split}
 use Rattle.counting.proofs.Totals.{total_add, total_congr, total_le, total_none}
-use Rattle.graph_core.specs.Graph.{Graph, HasEnds, IsGraph, degree, first_end, second_end, size}
+use Rattle.graph_core.specs.Graph.{Graph, IsGraph, degree, first_end, second_end, size}
 use Rattle.graph_core.specs.Matchings.{IsMatching, IsPerfect, missed_count}
-use Rattle.graph_core.proofs.Edits.{bit_same, edge_at, ends_of, ends_of_is, missed_edges, sum_degrees, two_ends_le_degree}
+use Rattle.graph_core.proofs.Edits.{edge_at, ends_of, missed_edges, sum_degrees, two_ends_le_degree}
 use Rattle.graph_core.proofs.Perfect.{perfect_matching, perfect_misses}
 use Rattle.match_core.specs.MatchingRows.{IsOf, IsRowOf, KeepsMatching, MatchingValue, edges_of, has_end_in, is_clear, left_over}
 use Rattle.match_core.specs.Questions.{MeetOnce}
@@ -44,11 +44,6 @@ rows_left g x (row ∷ rows) all i =
     both_out : (a b : Bool) → (not a && not b) ≡ not (a || b)
     both_out true b = refl
     both_out false b = refl
-
-    one_more : (q s u c : Bool) → (q ≡ true → u ≡ c) → (q || (s && u)) ≡ ((q || s) && u) ⊎ (c ≡ false)
-    one_more true s true c h = inl refl
-    one_more true s false c h = inr (sym (h refl))
-    one_more false s u c h = inl refl
 
     go : (b : Bool) → b ≡ not (has_end_in g x row.edge) → mem (map edge_of (filter (is_clear x) rows)) i ≡ (mem (map edge_of rows) i && not (has_end_in g x i)) →
         mem (map edge_of (cond b (row ∷ filter (is_clear x) rows) (filter (is_clear x) rows))) i ≡ (((row.edge == i) || mem (map edge_of rows) i) && not (has_end_in g x i))

@@ -1,4 +1,4 @@
-use Rattle.std.proofs.Common.{◌≡◌, ℕ, ◌==◌, ◌+◌, ◌*◌, length, ap, sym, ◌∙◌, arith, inl, inr, eq-eqb, ne_eqb}
+use Rattle.std.proofs.Common.{◌==◌, ◌+◌, ◌*◌, ap, sym, ◌∙◌, arith, inl, inr, eq-eqb, ne_eqb}
 use Rattle.counting.proofs.RisingLists.{set-narrower}
 use Rattle.match_core.proofs.ClearedMatchings.{left_size}
 use Rattle.allowed_edges.proofs.questions.misses_none.Goals as goal
