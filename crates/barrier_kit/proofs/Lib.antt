@@ -6,3 +6,4 @@ pub mod Enlarging
 pub mod Families
 pub mod Joining
 pub mod ClassLaw
+pub mod CriticalPairs

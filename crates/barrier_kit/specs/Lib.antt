@@ -1,2 +1,4 @@
 pub mod Choices
 pub mod BarrierCuts
+pub mod CanonicalCuts
+pub mod BarrierShores

@@ -1,0 +1,176 @@
+-- A covered graph that is not bicritical has a class with a nontrivial tight cut, and a bicritical one has none.
+-- Without a barrier of two vertices some component has three: else each edge would have one end in the barrier.
+use Rattle.std.proofs.Common.{◌≡◌, ℕ, suc, zero, ◌≤◌, ◌≢◌, Bool, true, false, ◌==◌, refl, sym, ap, ◌∙◌, arith, not, eq-eqb, ne_eqb, ◌⊎◌, ◌↔◌, inl, inr}
+use Rattle.std.proofs.lemmas.Bool.{cases_eq, cases_lt, cases_Bool, true≢false, false_from_ne_true, both_ways}
+use Rattle.barrier_kit.proofs.BarrierCuts.{leader_of, leads_out, part_out, part_step, part_same, none_inside, part_tight, many_parts}
+use Rattle.barrier_kit.proofs.Barriers.{equivalent_barrier}
+use Rattle.barrier_kit.proofs.ClassLaw.{perfect_or_not, class_exists, class_barrier}
+use Rattle.barrier_kit.proofs.Matched.{count_only, count_sub, member_count, two_members, two_of, odd_three, even_order}
+use Rattle.barrier_kit.specs.BarrierCuts.{BarrierCut, IsSide}
+use Rattle.counting.proofs.Counts.{only_one}
+use Rattle.counting.proofs.Tests.{scan}
+use Rattle.counting.specs.Counts.{count, Within, is_odd}
+use Rattle.counting.specs.Sets.{Set, pair_set, complement, singleton}
+use Rattle.graph_core.proofs.Components.{walk_joined}
+use Rattle.graph_core.proofs.Decide.{covered_perfect}
+use Rattle.graph_core.proofs.Walks.{joined_self}
+use Rattle.graph_core.specs.Components.{is_least}
+use Rattle.graph_core.specs.Covered.{IsCovered}
+use Rattle.graph_core.specs.Graph.{Graph, size, first_end, second_end, IsGraph, HasNoLoop, in_cut, inside, IsBipartite}
+use Rattle.graph_core.specs.Matchings.{IsPerfect}
+use Rattle.graph_core.specs.Structure.{IsBarrier, IsBicritical, IsClass}
+use Rattle.graph_core.specs.Tight.{IsTight, IsNontrivial}
+use Rattle.graph_core.specs.Walks.{joined}
+
+-- a component of a covered graph without a barrier has a nontrivial cut exactly where the barrier has two vertices
+-- and the component more than one
+pub part_nontrivial : (g : Graph) (s : Set) (a u : ℕ) → IsGraph g → IsCovered g → IsBarrier g s → Within g.order a → s a ≡ true → Within g.order u → s u ≡ false →
+    IsNontrivial g.order (joined g s u) ↔ ((2 ≤ count g.order s) × (count g.order (joined g s u) ≢ 1))
+part_nontrivial g s a u is cov bar wa sa wu su = (there, back)
+  where
+    at_two : (k : ℕ) → 1 ≤ k → k ≢ 1 → 2 ≤ k
+    at_two k h n = omega (arith, n)
+
+    there : IsNontrivial g.order (joined g s u) → (2 ≤ count g.order s) × (count g.order (joined g s u) ≢ 1)
+    there t = (
+      elim (cases_lt 1 (count g.order s)) [
+        | inl l ↦ omega arith
+        | inr l ↦
+            let k = many_parts g is cov s bar a wa sa in
+            let r = leader_of g s is u wu su in
+            let one = member_count g.order (is_least g s) r.0 r.1 r.2 in
+            let q = count_sub g.order (complement (joined g s u)) s (λ v w h. elim (cases_Bool (s v)) [
+              | inl y ↦ y
+              | inr y ↦
+                  let i = leader_of g s is v w y in
+                  let e = only_one g.order (is_least g s) (omega arith) r.0 i.0 r.1 i.1 r.2 i.2 in
+                  let j : joined g s u v ≡ true = sym (part_same g s is r.0 u r.1 wu r.3 v) ∙ ap (λ k. joined g s k v) e ∙ i.3 in absurd (both_ways (complement (joined g s u) v) (ap not j) h)
+            ]) in
+            let o = t.outside in absurd (omega arith)
+      ],
+      λ e. let i = t.inside in omega arith,
+    )
+
+    back : (2 ≤ count g.order s) × (count g.order (joined g s u) ≢ 1) → IsNontrivial g.order (joined g s u)
+    back h =
+        let t = part_tight g s a u is cov bar wa sa wu su in
+        let p = two_of g.order s h.0 in
+        let two = two_members g.order (complement (joined g s u)) p.0 p.1 p.2 p.3 p.4 (ap not (part_out g s u p.0 is su p.5)) (ap not (part_out g s u p.1 is su p.6)) in
+        let one = member_count g.order (joined g s u) u wu (walk_joined g s is u u wu (joined_self g s u)) in
+        record { inside = odd_three _ t.odd (at_two (count g.order (joined g s u)) one h.1); outside = odd_three _ t.odd_complement two }
+
+module _ (g : Graph) (is : IsGraph g) (cov : IsCovered g) (odd_cycle : (x : Set) → IsSide g x → ⊥) where
+  -- a barrier with two vertices has a component with three
+  pub barrier_cut : (s : Set) → IsBarrier g s → (a b : ℕ) → Within g.order a → Within g.order b → a ≢ b → s a ≡ true → s b ≡ true → BarrierCut g s
+  barrier_cut s bar a b wa wb d sa sb = elim (scan g.order (λ u. (is_least g s u ≡ true) × (count g.order (joined g s u) ≢ 1)) (λ u. is_least g s u ≡ true → count g.order (joined g s u) ≡ 1) (λ u w. choose u)) [
+    | inl r ↦
+        let o = leads_out g s r.0 r.2.0 in
+        record {
+          vertex = r.0;
+          within = r.1;
+          outside = o;
+          tight = part_tight g s a r.0 is cov bar wa sa r.1 o;
+          nontrivial = (part_nontrivial g s a r.0 is cov bar wa sa r.1 o).1 (two_members g.order s a b wa wb d sa sb, r.2.1);
+        }
+    | inr f ↦ absurd (odd_cycle s (λ e w d. go e w d f (s (first_end g e)) (s (second_end g e)) refl refl))
+  ]
+    where
+      choose : (u : ℕ) → ((is_least g s u ≡ true) × (count g.order (joined g s u) ≢ 1)) ⊎ (is_least g s u ≡ true → count g.order (joined g s u) ≡ 1)
+      choose u = elim (cases_Bool (is_least g s u)) [
+        | inr f ↦ inr (λ t. absurd (both_ways (is_least g s u) f t))
+        | inl t ↦ elim (cases_eq (count g.order (joined g s u)) 1) [
+          | inl e ↦ inr (λ h. e)
+          | inr n ↦ inl (t, n)
+        ]
+      ]
+
+      go : (e : ℕ) → Within (size g) e → first_end g e ≢ second_end g e → ((u : ℕ) → Within g.order u → is_least g s u ≡ true → count g.order (joined g s u) ≡ 1) → (x y : Bool) → s (first_end g e) ≡ x → s (second_end g e) ≡ y → in_cut g s e ≡ true
+      go e w d f true false p q = rw (p, q) refl
+      go e w d f false true p q = rw (p, q) refl
+      go e w d f true true p q = absurd (both_ways (inside g s e) (none_inside g is cov s bar e w d) (rw (p, q) refl))
+      go e w d f false false p q =
+          let r = leader_of g s is (first_end g e) (is e w).0 p in
+          absurd (d (only_one g.order (joined g s r.0) (f r.0 r.1 r.2) (first_end g e) (second_end g e) (is e w).0 (is e w).1 r.3 (sym (part_step g s r.0 e is r.1 w p q) ∙ r.3)))
+
+  -- two vertices without which there is no perfect matching
+  pub critical_pair : (IsBicritical g → ⊥) → (a b : ℕ) × Within g.order a × Within g.order b × (a ≢ b) × ((m : Set) → IsPerfect g (pair_set a b) m → ⊥)
+  critical_pair n = elim (scan g.order (λ a. (b : ℕ) × Within g.order b × ((a ≢ b) × ((m : Set) → IsPerfect g (pair_set a b) m → ⊥))) (λ a. (b : ℕ) → Within g.order b → a ≢ b → (m : Set) × IsPerfect g (pair_set a b) m) (λ a w. row a)) [
+    | inl r ↦ (r.0, r.2.0, r.1, r.2.1, r.2.2.0, r.2.2.1)
+    | inr f ↦ absurd (n (λ a b wa wb d. f a wa b wb d))
+  ]
+    where
+      row : (a : ℕ) → ((b : ℕ) × Within g.order b × ((a ≢ b) × ((m : Set) → IsPerfect g (pair_set a b) m → ⊥))) ⊎ ((b : ℕ) → Within g.order b → a ≢ b → (m : Set) × IsPerfect g (pair_set a b) m)
+      row a = scan g.order (λ b. (a ≢ b) × ((m : Set) → IsPerfect g (pair_set a b) m → ⊥)) (λ b. a ≢ b → (m : Set) × IsPerfect g (pair_set a b) m) (λ b w. cell b)
+        where
+          cell : (b : ℕ) → ((a ≢ b) × ((m : Set) → IsPerfect g (pair_set a b) m → ⊥)) ⊎ (a ≢ b → (m : Set) × IsPerfect g (pair_set a b) m)
+          cell b = elim (cases_eq a b) [
+            | inl e ↦ inr (λ d. absurd (d e))
+            | inr d ↦ elim (perfect_or_not g (pair_set a b)) [
+              | inl m ↦ inr (λ h. m)
+              | inr f ↦ inl (d, f)
+            ]
+          ]
+
+  -- first law of the quick test: not bicritical, a class has a nontrivial tight cut
+  pub class_cut : (IsBicritical g → ⊥) → (b : ℕ) × Within g.order b × ((s : Set) × IsClass g b s × BarrierCut g s)
+  class_cut n =
+      let p = critical_pair n in
+      let s = class_exists g is cov p.0 p.2 in
+      (p.0, p.2, (s.0, s.2, barrier_cut s.0 s.1 p.0 p.1 p.2 p.3 p.4 (s.2.all p.0 p.2 (inl refl)) (s.2.all p.1 p.3 (inr (λ h. p.5 h.0 h.1)))))
+
+  module _ (brick : (x : Set) → IsTight g x → IsNontrivial g.order x → ⊥) where
+    pub four : 4 ≤ g.order
+    four = let m = covered_perfect g is cov in go g.order refl cov.two (even_order g m.0 is m.1)
+      where
+        two_sides : g.order ≡ 2 → IsSide g (singleton 1)
+        two_sides q e w l = elim (cases_eq (first_end g e) 1) [
+          | inl a ↦ rw (a, ne_eqb 1 (second_end g e) (λ b. l (a ∙ b))) refl
+          | inr a ↦ let i = is e w in let d : 1 ≡ second_end g e = omega (arith, l, a, i) in rw (ne_eqb 1 (first_end g e) (λ b. a (sym b)), eq-eqb 1 (second_end g e) d) refl
+        ]
+
+        go : (n : ℕ) → g.order ≡ n → 2 ≤ g.order → is_odd g.order ≡ false → 4 ≤ g.order
+        go zero e h o = absurd (omega arith)
+        go (suc zero) e h o = absurd (omega arith)
+        go (suc (suc zero)) e h o = absurd (odd_cycle (singleton 1) (two_sides e))
+        go (suc (suc (suc zero))) e h o = absurd (true≢false (sym (ap is_odd e) ∙ o))
+        go (suc (suc (suc (suc n)))) e h o = omega arith
+
+    pub bicritical : IsBicritical g
+    bicritical a b wa wb d = elim (perfect_or_not g (pair_set a b)) [
+      | inl m ↦ m
+      | inr f ↦
+          let m = covered_perfect g is cov in
+          let s = equivalent_barrier g m.0 a b is m.1 wa wb d f in
+          let c = barrier_cut s.0 s.1 a b wa wb d s.2 s.3 in absurd (brick (joined g s.0 c.vertex) c.tight c.nontrivial)
+    ]
+
+-- a graph without loops has sides where it is bipartite
+pub no_sides : (g : Graph) → HasNoLoop g → (IsBipartite g → ⊥) → (x : Set) → IsSide g x → ⊥
+no_sides g loopless h x two = h (x, λ e w. two e w (loopless e w))
+
+-- bicritical: each class is a vertex
+pub class_single : (g : Graph) (b : ℕ) (s : Set) → IsBicritical g → Within g.order b → IsClass g b s → (v : ℕ) → Within g.order v → s v ≡ (b == v)
+class_single g b s bi wb c v w = elim (cases_eq b v) [
+  | inl e ↦ c.all v w (inl e) ∙ sym (eq-eqb b v e)
+  | inr d ↦ false_from_ne_true (s v) (λ t. elim (c.holds v w t) [
+    | inl e ↦ d e
+    | inr f ↦ f (bi b v wb w d)
+  ]) ∙ sym (ne_eqb b v d)
+]
+
+-- and no component of a class has a nontrivial cut
+pub class_trivial : (g : Graph) (b u : ℕ) (s : Set) → IsGraph g → IsCovered g → IsBicritical g → Within g.order b → IsClass g b s → Within g.order u → s u ≡ false → IsNontrivial g.order (joined g s u) → ⊥
+class_trivial g b u s is cov bi wb c wu su t =
+    let one = count_only g.order b wb in
+    let z = count_sub g.order s (singleton b) (λ v w h. sym (class_single g b s bi wb c v w) ∙ h) in
+    let r = ((part_nontrivial g s b u is cov (class_barrier g b s is cov wb c) wb (c.all b wb (inl refl)) wu su).0 t).0 in omega arith
+
+-- a graph is bicritical exactly where no class has a nontrivial tight cut
+pub bicritical_by_classes : (g : Graph) → IsGraph g → IsCovered g → ((x : Set) → IsSide g x → ⊥) → IsBicritical g ↔ ((b : ℕ) (s : Set) → Within g.order b → IsClass g b s → BarrierCut g s → ⊥)
+bicritical_by_classes g is cov odd_cycle = (
+  (λ bi b s wb c k. class_trivial g b k.vertex s is cov bi wb c k.within k.outside k.nontrivial),
+  λ h a b wa wb d. elim (perfect_or_not g (pair_set a b)) [
+    | inl m ↦ m
+    | inr f ↦ let k = class_cut g is cov odd_cycle (λ bi. let m = bi a b wa wb d in f m.0 m.1) in absurd (h k.0 k.2.0 k.1 k.2.1 k.2.2)
+  ],
+)

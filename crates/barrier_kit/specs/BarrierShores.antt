@@ -1,0 +1,15 @@
+-- The cuts that the classes of a covered graph give (Edmonds, Lovász and Pulleyblank 1982).
+use Rattle.std.specs.Prelude.{ℕ, List, flat_map}
+use Rattle.counting.specs.Lists.{mem}
+use Rattle.graph_core.specs.Graph.{Graph}
+use Rattle.graph_core.specs.Components.{components}
+use Rattle.graph_core.specs.Structure.{classes}
+use Rattle.barrier_kit.specs.CanonicalCuts.{cuts_of}
+
+-- for each class by least vertex, each component of the graph without it by least vertex
+unfoldable pub barrier_shores : Graph → List (List ℕ)
+barrier_shores g = flat_map (λ s. components g (mem s)) (classes g)
+
+-- the nontrivial cuts of these shores, by canonical shores, each once
+unfoldable pub barrier_cuts : Graph → List (List ℕ)
+barrier_cuts g = cuts_of g.order (barrier_shores g)

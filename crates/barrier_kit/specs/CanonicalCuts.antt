@@ -1,0 +1,22 @@
+-- Lists of cuts, each given by its canonical shore: the shore without the greatest vertex.
+use Rattle.std.specs.Prelude.{ℕ, Bool, List, [], ◌∷◌, ◌++◌, ◌&&◌, not, fold, if◌then◌else◌}
+use Rattle.std.specs.List.{list_any}
+use Rattle.counting.specs.Sets.{Set}
+use Rattle.counting.specs.Lists.{mem, is_subset, rising_list}
+use Rattle.graph_core.specs.Tight.{is_nontrivial, canonical_shore}
+
+-- some shore of the list has the same vertices as s
+abbrev pub is_listed : List (List ℕ) → List ℕ → Bool
+is_listed cuts s = list_any (λ c. is_subset s c && is_subset c s) cuts
+
+-- the canonical shore of the cut of s, as a rising list
+abbrev pub canonical_list : ℕ → List ℕ → List ℕ
+canonical_list n s = rising_list n (canonical_shore n (mem s))
+
+-- the list with the cut of s, which is left out where a side has fewer than three vertices or the cut is in the list
+abbrev pub with_cut : ℕ → List (List ℕ) → List ℕ → List (List ℕ)
+with_cut n cuts s = if is_nontrivial n (canonical_shore n (mem s)) && not (is_listed cuts (canonical_list n s)) then cuts ++ canonical_list n s ∷ [] else cuts
+
+-- the nontrivial cuts that shores give, in order, each once
+abbrev pub cuts_of : ℕ → List (List ℕ) → List (List ℕ)
+cuts_of n shores = fold (with_cut n) [] shores

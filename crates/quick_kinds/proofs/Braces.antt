@@ -1,0 +1,497 @@
+use Rattle.std.proofs.Common.{◌≡◌, ℕ, suc, zero, ◌+◌, ◌*◌, ◌≤◌, ◌<◌, ◌≢◌, Bool, true, false, ◌==◌, refl, sym, ap, ap₂, ◌∙◌, arith, ◌&&◌, ◌||◌, not, eq-eqb, ne_eqb, eqb-true, nat_lt, ltb-true, ltb-false, ◌⊎◌, inl, inr, ◌↔◌}
+use Rattle.std.proofs.lemmas.Bool.{cases_eq, cases_Bool, true≢false, both_ways, and_parts, and_from, or_cases}
+use Rattle.barrier_kit.proofs.Families.{glue_family}
+use Rattle.barrier_kit.proofs.Hall.{hall, hits}
+use Rattle.barrier_kit.proofs.Joining.{cut_split}
+use Rattle.barrier_kit.proofs.Matched.{inner, count_only, count_minus, count_member, count_zero, two_members, two_of, odd_three, cut_matching, loop_free, perfect_congr}
+use Rattle.barrier_kit.specs.BarrierCuts.{IsSide}
+use Rattle.barrier_kit.specs.Choices.{neighbours, Picks}
+use Rattle.counting.proofs.Choice.{Respects, choose_set}
+use Rattle.counting.proofs.Counts.{count_congr}
+use Rattle.counting.proofs.RisingLists.{same_answers}
+use Rattle.counting.proofs.Tests.{some_true, true_some, some_congr}
+use Rattle.counting.proofs.Totals.{total_congr, total_add, total_le, total_none, total_at}
+use Rattle.counting.specs.Counts.{bit, count, Within}
+use Rattle.counting.specs.Sets.{Set, none, union, minus, meet, complement, singleton}
+use Rattle.counting.specs.Tests.{some}
+use Rattle.graph_core.proofs.Contraction.{tight_from_cut}
+use Rattle.graph_core.proofs.Decide.{covered_perfect}
+use Rattle.graph_core.proofs.Edits.{ends_of, degree_sum, ends_of_is}
+use Rattle.graph_core.proofs.Parity.{degrees, parity}
+use Rattle.graph_core.proofs.Perfect.{perfect_matching}
+use Rattle.graph_core.proofs.Walks.{has_ends-cases, has_ends-own, has_ends-back}
+use Rattle.graph_core.specs.Covered.{IsCovered}
+use Rattle.graph_core.specs.Graph.{Graph, size, first_end, second_end, IsGraph, connects, in_cut, degree, has_ends, edges_in_cut}
+use Rattle.graph_core.specs.Matchings.{IsPerfect}
+use Rattle.graph_core.specs.Tight.{IsTight, IsNontrivial}
+
+abbrev four : ℕ → ℕ → ℕ → ℕ → Set
+four a c b d = union (union (singleton a) (singleton c)) (union (singleton b) (singleton d))
+
+-- a perfect matching of two vertices that an edge joins
+pub one_edge : (g : Graph) (e x y : ℕ) → Within (size g) e → has_ends g x y e ≡ true → x ≢ y → IsPerfect g (complement (union (singleton x) (singleton y))) (singleton e)
+one_edge g e x y w h d = record {
+  once = λ v wv o. at v ∙ one (x == v) (y == v) o (λ t s. d (eqb-true x v t ∙ sym (eqb-true y v s)));
+  away = λ v wv o. at v ∙ zero_ends (x == v) (y == v) o;
+}
+  where
+    one : (a b : Bool) → not (a || b) ≡ false → (a ≡ true → b ≡ true → ⊥) → bit a + bit b ≡ 1
+    one true true h f = absurd (f refl refl)
+    one true false h f = refl
+    one false true h f = refl
+    one false false h f = absurd (true≢false h)
+
+    zero_ends : (a b : Bool) → not (a || b) ≡ true → bit a + bit b ≡ 0
+    zero_ends true b h = absurd (true≢false (sym h))
+    zero_ends false true h = absurd (true≢false (sym h))
+    zero_ends false false h = refl
+
+    at : (v : ℕ) → degree g (singleton e) v ≡ bit (x == v) + bit (y == v)
+    at v = degree_sum g (singleton e) v
+        ∙ total_at (size g) (λ i. bit (singleton e i) * ends_of g i v) e w (λ i u q. let a = ap bit (ne_eqb e i (λ t. q (sym t))) in let b : bit (singleton e i) * ends_of g i v ≡ 0 * ends_of g i v = ap (λ k. k * ends_of g i v) a in omega arith)
+        ∙ (let a : bit (singleton e e) * ends_of g e v ≡ 1 * ends_of g e v = ap (λ k. bit k * ends_of g e v) (eq-eqb e e refl) in let b = ends_of_is g e x y (has_ends-cases g x y e h) v in omega arith)
+
+module _ (g : Graph) (is : IsGraph g) (cov : IsCovered g) where
+  -- a perfect matching has no loop, so its edges cross
+  crossing : (x r m : Set) → IsSide g x → IsPerfect g r m → (e : ℕ) → Within (size g) e → m e ≡ true → in_cut g x e ≡ true
+  crossing x r m two p e w t = two e w (loop_free g r m is p e w t)
+
+  -- one side of a set: no edge is inside
+  no_inner : (x y r m : Set) → IsSide g x → ((v : ℕ) → y v ≡ true → x v ≡ true) → IsPerfect g r m → inner g m y ≡ 0
+  no_inner x y r m two h p = total_none (size g) _ (λ e w. ap bit (out (m e) (x (first_end g e)) (x (second_end g e)) (y (first_end g e)) (y (second_end g e)) (crossing x r m two p e w) (h (first_end g e)) (h (second_end g e))))
+    where
+      out : (k a b c d : Bool) → (k ≡ true → ((a && not b) || (not a && b)) ≡ true) → (c ≡ true → a ≡ true) → (d ≡ true → b ≡ true) → (k && (c && d)) ≡ false
+      out false a b c d h i j = refl
+      out true a b c d h i j = one a b c d (h refl) i j
+        where
+          one : (a b c d : Bool) → ((a && not b) || (not a && b)) ≡ true → (c ≡ true → a ≡ true) → (d ≡ true → b ≡ true) → (c && d) ≡ false
+          one a b c d h i j = grind arith
+
+  other_side : (x : Set) → IsSide g x → IsSide g (complement x)
+  other_side x two e w d = turn (x (first_end g e)) (x (second_end g e)) (two e w d)
+    where
+      turn : (a b : Bool) → ((a && not b) || (not a && b)) ≡ true → ((not a && not (not b)) || (not (not a) && not b)) ≡ true
+      turn a b h = grind arith
+
+  -- a set on one side has as many vertices as edges in its cut
+  side_count : (x y m : Set) → IsSide g x → ((v : ℕ) → y v ≡ true → x v ≡ true) → IsPerfect g none m → count g.order y ≡ edges_in_cut g m y
+  side_count x y m two h p = let a = parity g is m y p in let b = no_inner x y none m two h p in omega arith
+
+  same_cut : (x m : Set) → edges_in_cut g m x ≡ edges_in_cut g m (complement x)
+  same_cut x m = total_congr (size g) _ _ (λ e w. ap bit (turn (m e) (x (first_end g e)) (x (second_end g e))))
+    where
+      turn : (k a b : Bool) → (k && ((a && not b) || (not a && b))) ≡ (k && ((not a && not (not b)) || (not (not a) && not b)))
+      turn k a b = grind arith
+
+  module _ (x : Set) (two : IsSide g x) where
+    left_of : (y : Set) (v : ℕ) → meet y x v ≡ true → x v ≡ true
+    left_of y v h = (and_parts (y v) (x v) h).1
+
+    right_of : (y : Set) (v : ℕ) → minus y x v ≡ true → complement x v ≡ true
+    right_of y v h = (and_parts (y v) (not (x v)) h).1
+
+    equal_sides : count g.order x ≡ count g.order (complement x)
+    equal_sides = let m = covered_perfect g is cov in
+        let a = side_count x x m.0 two (λ v h. h) m.1 in let b = side_count (complement x) (complement x) m.0 (other_side x two) (λ v h. h) m.1 in let c = same_cut x m.0 in omega arith
+
+    split_count : (y z : Set) → count g.order y ≡ count g.order (meet y z) + count g.order (minus y z)
+    split_count y z = total_congr g.order _ _ (λ v w. bits (y v) (z v)) ∙ total_add g.order (λ v. bit (meet y z v)) (λ v. bit (minus y z v))
+      where
+        bits : (a b : Bool) → bit a ≡ bit (a && b) + bit (a && not b)
+        bits true true = refl
+        bits true false = refl
+        bits false b = refl
+
+    -- edges that leave y from the left, from the right
+    abbrev leaves_left : Set → Set
+    leaves_left y = connects g (meet y x) (minus (complement y) x)
+
+    abbrev leaves_right : Set → Set
+    leaves_right y = connects g (minus y x) (meet (complement y) x)
+
+    balance : (y m : Set) → IsPerfect g none m → (count g.order (meet y x) + count (size g) (λ e. m e && leaves_right y e) ≡ count g.order (minus y x) + count (size g) (λ e. m e && leaves_left y e)) × (count (size g) (λ e. m e && leaves_left y e) + count (size g) (λ e. m e && leaves_right y e) ≡ edges_in_cut g m y)
+    balance y m p =
+        let a = side_count x (meet y x) m two (left_of y) p in
+        let b = side_count (complement x) (minus y x) m (other_side x two) (right_of y) p in
+        let c = total_add (size g) (λ e. bit (m e && in_cut g (meet y x) e)) (λ e. bit (m e && leaves_right y e)) in
+        let d = total_add (size g) (λ e. bit (m e && in_cut g (minus y x) e)) (λ e. bit (m e && leaves_left y e)) in
+        let e = total_congr (size g) (λ e. bit (m e && in_cut g (meet y x) e) + bit (m e && leaves_right y e)) (λ e. bit (m e && in_cut g (minus y x) e) + bit (m e && leaves_left y e)) (λ e w. first (m e) (x (first_end g e)) (x (second_end g e)) (y (first_end g e)) (y (second_end g e)) (crossing x none m two p e w)) in
+        let f = total_add (size g) (λ e. bit (m e && leaves_left y e)) (λ e. bit (m e && leaves_right y e)) in
+        let h = total_congr (size g) (λ e. bit (m e && leaves_left y e) + bit (m e && leaves_right y e)) (λ e. bit (m e && in_cut g y e)) (λ e w. second (m e) (x (first_end g e)) (x (second_end g e)) (y (first_end g e)) (y (second_end g e)) (crossing x none m two p e w)) in
+        (omega arith, omega arith)
+      where
+        first : (k a b c d : Bool) → (k ≡ true → ((a && not b) || (not a && b)) ≡ true) →
+            bit (k && (((c && a) && not (d && b)) || (not (c && a) && (d && b)))) + bit (k && (((c && not a) && (not d && b)) || ((not c && a) && (d && not b))))
+            ≡ bit (k && (((c && not a) && not (d && not b)) || (not (c && not a) && (d && not b)))) + bit (k && (((c && a) && (not d && not b)) || ((not c && not a) && (d && b))))
+        first false a b c d h = refl
+        first true true true c d h = absurd (true≢false (sym (h refl)))
+        first true false false c d h = absurd (true≢false (sym (h refl)))
+        first true true false true true h = refl
+        first true true false true false h = refl
+        first true true false false true h = refl
+        first true true false false false h = refl
+        first true false true true true h = refl
+        first true false true true false h = refl
+        first true false true false true h = refl
+        first true false true false false h = refl
+
+        second : (k a b c d : Bool) → (k ≡ true → ((a && not b) || (not a && b)) ≡ true) →
+            bit (k && (((c && a) && (not d && not b)) || ((not c && not a) && (d && b)))) + bit (k && (((c && not a) && (not d && b)) || ((not c && a) && (d && not b))))
+            ≡ bit (k && ((c && not d) || (not c && d)))
+        second false a b c d h = refl
+        second true true true c d h = absurd (true≢false (sym (h refl)))
+        second true false false c d h = absurd (true≢false (sym (h refl)))
+        second true true false true true h = refl
+        second true true false true false h = refl
+        second true true false false true h = refl
+        second true true false false false h = refl
+        second true false true true true h = refl
+        second true false true true false h = refl
+        second true false true false true h = refl
+        second true false true false false h = refl
+
+    -- a nontrivial tight set with more on the left: four vertices that leave no perfect matching
+    more_left : (y : Set) → IsTight g y → IsNontrivial g.order y → count g.order (meet y x) ≡ count g.order (minus y x) + 1 →
+        ((a c b d : ℕ) → Within g.order a → Within g.order c → Within g.order b → Within g.order d → a ≢ c → b ≢ d → x a ≡ true → x c ≡ true → x b ≡ false → x d ≡ false → (m : Set) × IsPerfect g (four a c b d) m) → ⊥
+    more_left y t n more match =
+        let a = split_count y x in
+        let b = split_count (complement y) x in
+        let c = split_count x y in
+        let d = split_count (complement x) y in
+        let e = equal_sides in
+        let f : count g.order (meet x y) ≡ count g.order (meet y x) = count_congr g.order _ _ (λ v w. turn (x v) (y v)) in
+        let h : count g.order (minus x y) ≡ count g.order (meet (complement y) x) = count_congr g.order _ _ (λ v w. turn (x v) (not (y v))) in
+        let i : count g.order (meet (complement x) y) ≡ count g.order (minus y x) = count_congr g.order _ _ (λ v w. turn (not (x v)) (y v)) in
+        let j : count g.order (minus (complement x) y) ≡ count g.order (minus (complement y) x) = count_congr g.order _ _ (λ v w. turn (not (x v)) (not (y v))) in
+        let inside = n.inside in
+        let outside = n.outside in
+        let p = two_of g.order (meet y x) (omega arith) in
+        let q = two_of g.order (minus (complement y) x) (omega arith) in
+        let pa = and_parts (y p.0) (x p.0) p.5 in
+        let pc = and_parts (y p.1) (x p.1) p.6 in
+        let qb = and_parts (not (y q.0)) (not (x q.0)) q.5 in
+        let qd = and_parts (not (y q.1)) (not (x q.1)) q.6 in
+        let m = match p.0 p.1 q.0 q.1 p.2 p.3 q.2 q.3 p.4 q.4 pa.1 pc.1 (flip (x q.0) qb.1) (flip (x q.1) qd.1) in
+        few p.0 p.1 q.0 q.1 p.2 p.3 p.4 p.5 p.6 (flip (y q.0) qb.0) (flip (y q.1) qd.0) (flip (x q.0) qb.1) (flip (x q.1) qd.1) m.0 m.1
+      where
+        turn : (a b : Bool) → (a && b) ≡ (b && a)
+        turn a b = grind arith
+
+        flip : (a : Bool) → not a ≡ true → a ≡ false
+        flip a h = grind arith
+
+        -- no edge leaves y from the right
+        none_right : (e : ℕ) → Within (size g) e → leaves_right y e ≡ false
+        none_right e w = elim (cases_eq (first_end g e) (second_end g e)) [
+          | inl l ↦ loop (x (first_end g e)) (x (second_end g e)) (y (first_end g e)) (y (second_end g e)) (ap x l) (ap y l)
+          | inr d ↦
+              let a = cov.allowed e w d in
+              let b = balance y a.0 a.1 in
+              let c = t.cut a.0 a.1 in
+              let z = count_zero (size g) (λ e. a.0 e && leaves_right y e) (let k = b.0 in let l = b.1 in omega arith) e w in right (a.0 e) (leaves_right y e) a.2 z
+        ]
+          where
+            loop : (a b c d : Bool) → a ≡ b → c ≡ d → (((c && not a) && (not d && b)) || ((not c && a) && (d && not b))) ≡ false
+            loop a b c d h k = grind arith
+
+            right : (a b : Bool) → a ≡ true → (a && b) ≡ false → b ≡ false
+            right a b p q = grind arith
+
+        few : (a c b d : ℕ) → Within g.order a → Within g.order c → a ≢ c → meet y x a ≡ true → meet y x c ≡ true → y b ≡ false → y d ≡ false → x b ≡ false → x d ≡ false → (m : Set) → IsPerfect g (four a c b d) m → ⊥
+        few a c b d wa wc ac ha hc yb yd xb xd m p =
+            let e = degrees g is m (minus y x) in
+            let f = degrees g is m (meet y x) in
+            let i = no_inner (complement x) (minus y x) (four a c b d) m (other_side x two) (right_of y) p in
+            let j = no_inner x (meet y x) (four a c b d) m two (left_of y) p in
+            let k = total_congr g.order (λ v. bit (minus y x v)) (λ v. bit (minus y x v) * degree g m v) (λ v w. ones v w (minus y x v) refl) in
+            let l = total_le g.order (λ v. bit (meet y x v) * degree g m v) (λ v. bit (minus (minus (meet y x) (singleton a)) (singleton c) v)) (λ v w. less v w (meet y x v) (a == v) (c == v) refl refl refl) in
+            let s = count_minus g.order (meet y x) a wa ha in
+            let u = count_minus g.order (minus (meet y x) (singleton a)) c wc (rw (hc, ne_eqb a c ac) refl) in
+            let cut = total_le (size g) (λ e. bit (m e && in_cut g (minus y x) e)) (λ e. bit (m e && in_cut g (meet y x) e)) (λ e w. over (m e) (x (first_end g e)) (x (second_end g e)) (y (first_end g e)) (y (second_end g e)) (crossing x (four a c b d) m two p e w) (none_right e w)) in
+            omega arith
+          where
+            ones : (v : ℕ) → Within g.order v → (k : Bool) → minus y x v ≡ k → bit (minus y x v) ≡ bit (minus y x v) * degree g m v
+            ones v w false t = rw t (omega arith)
+            ones v w true t =
+                let q = and_parts (y v) (not (x v)) t in
+                let o : four a c b d v ≡ false = outer (a == v) (c == v) (b == v) (d == v) (y v) (not (x v)) q.0 q.1
+                (λ h. ap (λ i. not (x i)) (sym (eqb-true a v h)) ∙ ap not (and_parts (y a) (x a) ha).1) (λ h. ap (λ i. not (x i)) (sym (eqb-true c v h)) ∙ ap not (and_parts (y c) (x c) hc).1)
+                (λ h. ap y (sym (eqb-true b v h)) ∙ yb) (λ h. ap y (sym (eqb-true d v h)) ∙ yd) in
+                rw t (let z = p.once v w o in omega arith)
+              where
+                outer : (i j k l s u : Bool) → s ≡ true → u ≡ true → (i ≡ true → u ≡ false) → (j ≡ true → u ≡ false) → (k ≡ true → s ≡ false) → (l ≡ true → s ≡ false) → ((i || j) || (k || l)) ≡ false
+                outer i j k l s u p q h1 h2 h3 h4 = grind arith
+
+            less : (v : ℕ) → Within g.order v → (k i j : Bool) → meet y x v ≡ k → (a == v) ≡ i → (c == v) ≡ j → bit (meet y x v) * degree g m v ≤ bit ((meet y x v && not (a == v)) && not (c == v))
+            less v w false i j q r s = rw q (omega arith)
+            less v w true true j q r s = rw (q, r) (let z = p.away v w (rw r refl) in omega arith)
+            less v w true false true q r s = rw (q, r, s) (let z = p.away v w (rw (r, s) refl) in omega arith)
+            less v w true false false q r s = rw (q, r, s) (let z = (perfect_matching g (four a c b d) m p).once v w in omega arith)
+
+            over : (k a b c d : Bool) → (k ≡ true → ((a && not b) || (not a && b)) ≡ true) → (((c && not a) && (not d && b)) || ((not c && a) && (d && not b))) ≡ false →
+                bit (k && (((c && not a) && not (d && not b)) || (not (c && not a) && (d && not b)))) ≤ bit (k && (((c && a) && not (d && b)) || (not (c && a) && (d && b))))
+            over false a b c d h i = omega arith
+            over true true true c d h i = absurd (true≢false (sym (h refl)))
+            over true false false c d h i = absurd (true≢false (sym (h refl)))
+            over true true false true true h i = omega arith
+            over true true false true false h i = omega arith
+            over true true false false true h i = absurd (true≢false i)
+            over true true false false false h i = omega arith
+            over true false true true true h i = omega arith
+            over true false true true false h i = absurd (true≢false i)
+            over true false true false true h i = omega arith
+            over true false true false false h i = omega arith
+
+  abbrev Fours : Set → Type 0
+  Fours x = (a c b d : ℕ) → Within g.order a → Within g.order c → Within g.order b → Within g.order d → a ≢ c → b ≢ d → x a ≡ true → x c ≡ true → x b ≡ false → x d ≡ false → (m : Set) × IsPerfect g (four a c b d) m
+
+  pub no_tight : (x : Set) → IsSide g x → Fours x → (y : Set) → IsTight g y → IsNontrivial g.order y → ⊥
+  no_tight x two match y t n =
+      let m = covered_perfect g is cov in
+      let b = balance x two y m.0 m.1 in
+      let c = t.cut m.0 m.1 in
+      go (count (size g) (λ e. m.0 e && leaves_left x two y e)) (count (size g) (λ e. m.0 e && leaves_right x two y e)) b.0 (b.1 ∙ c)
+    where
+      flip : (a : Bool) → not a ≡ true → a ≡ false
+      flip a h = grind arith
+
+      unflip : (a : Bool) → not a ≡ false → a ≡ true
+      unflip a h = grind arith
+
+      swap : (i j k l : Bool) → ((i || j) || (k || l)) ≡ ((k || l) || (i || j))
+      swap i j k l = grind arith
+
+      go : (l r : ℕ) → count g.order (meet y x) + r ≡ count g.order (minus y x) + l → l + r ≡ 1 → ⊥
+      go (suc l) r e f = more_left x two y t n (omega arith) match
+      go zero r e f =
+          more_left (complement x) (other_side x two) y t n
+          (let s : count g.order (minus y (complement x)) ≡ count g.order (meet y x) = count_congr g.order _ _ (λ v w. double (y v) (x v)) in omega arith)
+          (λ a c b d wa wc wb wd ac bd xa xc xb xd. let k = match b d a c wb wd wa wc bd ac (unflip (x b) xb) (unflip (x d) xd) (flip (x a) xa) (flip (x c) xc) in
+          (k.0, perfect_congr g (four b d a c) (four a c b d) k.0 (λ v w. swap (b == v) (d == v) (a == v) (c == v)) k.1))
+        where
+          double : (a b : Bool) → (a && not (not b)) ≡ (a && b)
+          double a b = grind arith
+
+  -- four vertices that leave no perfect matching give a nontrivial tight set
+  module _ (x : Set) (two : IsSide g x) (a c b d : ℕ) (wa : Within g.order a) (wc : Within g.order c) (wb : Within g.order b) (wd : Within g.order d) (ac : a ≢ c) (bd : b ≢ d)
+      (xa : x a ≡ true) (xc : x c ≡ true) (xb : x b ≡ false) (xd : x d ≡ false) where
+    abbrev lefts : Set
+    lefts = minus (minus x (singleton a)) (singleton c)
+
+    abbrev rights : Set
+    rights = minus (minus (complement x) (singleton b)) (singleton d)
+
+    abbrev beside : ℕ → ℕ → Bool
+    beside u v = some (size g) (has_ends g u v)
+
+    left_parts : (v : ℕ) → lefts v ≡ true → (x v ≡ true) × ((a == v) ≡ false) × ((c == v) ≡ false)
+    left_parts v h = split (x v) (a == v) (c == v) h
+      where
+        split : (i j k : Bool) → ((i && not j) && not k) ≡ true → (i ≡ true) × (j ≡ false) × (k ≡ false)
+        split i j k h = grind arith
+
+    right_parts : (v : ℕ) → rights v ≡ true → (x v ≡ false) × ((b == v) ≡ false) × ((d == v) ≡ false)
+    right_parts v h = split (x v) (b == v) (d == v) h
+      where
+        split : (i j k : Bool) → ((not i && not j) && not k) ≡ true → (i ≡ false) × (j ≡ false) × (k ≡ false)
+        split i j k h = grind arith
+
+    -- Hall's condition holds: a perfect matching
+    matched : ((z : Set) → count g.order (meet z lefts) ≤ count g.order (neighbours g.order beside rights (meet z lefts))) → (m : Set) × IsPerfect g (four a c b d) m
+    matched enough = let m = glue_family g is lefts star each apart in (m.0, perfect_congr g _ (four a c b d) m.0 (λ v w. all v w) m.1)
+      where
+        picks : Picks g.order beside lefts rights
+        picks = hall g.order beside (count g.order lefts) lefts rights (omega arith) enough
+
+        star : ℕ → Set
+        star z = union (singleton z) (singleton (picks.to z))
+
+        each : (z : ℕ) → Within g.order z → lefts z ≡ true → (m : Set) × IsPerfect g (complement (star z)) m
+        each z w h =
+            let r = picks.lands z w h in
+            let e = some_true (size g) (has_ends g z (picks.to z)) r.2 in
+            (singleton e.0, one_edge g e.0 z (picks.to z) e.1 e.2 (λ q. both_ways (x z) (ap x q ∙ (right_parts (picks.to z) r.1).0) (left_parts z h).0))
+
+        apart : (y z v : ℕ) → Within g.order y → Within g.order z → Within g.order v → lefts y ≡ true → star y v ≡ true → lefts z ≡ true → star z v ≡ true → y ≡ z
+        apart y z v wy wz wv ly sy lz sz =
+            let ry = right_parts (picks.to y) (picks.lands y wy ly).1 in let rz = right_parts (picks.to z) (picks.lands z wz lz).1 in
+            elim (or_cases (y == v) (picks.to y == v) sy) [
+              | inl i ↦ elim (or_cases (z == v) (picks.to z == v) sz) [
+                | inl j ↦ eqb-true y v i ∙ sym (eqb-true z v j)
+                | inr j ↦ absurd (both_ways (x y) (ap x (eqb-true y v i ∙ sym (eqb-true (picks.to z) v j)) ∙ rz.0) (left_parts y ly).0)
+              ]
+              | inr i ↦ elim (or_cases (z == v) (picks.to z == v) sz) [
+                | inl j ↦ absurd (both_ways (x z) (ap x (eqb-true z v j ∙ sym (eqb-true (picks.to y) v i)) ∙ ry.0) (left_parts z lz).0)
+                | inr j ↦ picks.apart y z wy wz ly lz (eqb-true (picks.to y) v i ∙ sym (eqb-true (picks.to z) v j))
+              ]
+            ]
+
+        as_many : count g.order lefts ≡ count g.order rights
+        as_many =
+            let e = equal_sides x two in
+            let p = count_minus g.order x a wa xa in
+            let q = count_minus g.order (minus x (singleton a)) c wc (rw (xc, ne_eqb a c ac) refl) in
+            let r = count_minus g.order (complement x) b wb (ap not xb) in
+            let s = count_minus g.order (minus (complement x) (singleton b)) d wd (rw (xd, ne_eqb b d bd) refl) in omega arith
+
+        cover : (v : ℕ) → Within g.order v → some g.order (λ z. lefts z && star z v) ≡ not (four a c b d v)
+        cover v w = same_answers _ _ there back
+          where
+            out : (i j k l s : Bool) → i ≡ false → j ≡ false → (k ≡ true → s ≡ false) → (l ≡ true → s ≡ false) → s ≡ true → not ((i || j) || (k || l)) ≡ true
+            out i j k l s h1 h2 h3 h4 h5 = grind arith
+
+            out' : (i j k l s : Bool) → k ≡ false → l ≡ false → (i ≡ true → s ≡ true) → (j ≡ true → s ≡ true) → s ≡ false → not ((i || j) || (k || l)) ≡ true
+            out' i j k l s h1 h2 h3 h4 h5 = grind arith
+
+            there : some g.order (λ z. lefts z && star z v) ≡ true → not (four a c b d v) ≡ true
+            there h =
+                let z = some_true g.order (λ z. lefts z && star z v) h in
+                let p = and_parts (lefts z.0) (star z.0 v) z.2 in
+                elim (or_cases (z.0 == v) (picks.to z.0 == v) p.1) [
+                  | inl i ↦ let e = eqb-true z.0 v i in let q = left_parts v (ap lefts (sym e) ∙ p.0) in
+                      out (a == v) (c == v) (b == v) (d == v) (x v) q.1 q.2 (λ t. ap x (sym (eqb-true b v t)) ∙ xb) (λ t. ap x (sym (eqb-true d v t)) ∙ xd) q.0
+                  | inr i ↦ let e = eqb-true (picks.to z.0) v i in let q = right_parts v (ap rights (sym e) ∙ (picks.lands z.0 z.1 p.0).1) in
+                      out' (a == v) (c == v) (b == v) (d == v) (x v) q.1 q.2 (λ t. ap x (sym (eqb-true a v t)) ∙ xa) (λ t. ap x (sym (eqb-true c v t)) ∙ xc) q.0
+                ]
+
+            component_count : (i j k l : Bool) → not ((i || j) || (k || l)) ≡ true → (i ≡ false) × (j ≡ false) × (k ≡ false) × (l ≡ false)
+            component_count i j k l h = grind arith
+
+            first : (i j k : Bool) → i ≡ true → j ≡ true → (i && (j || k)) ≡ true
+            first i j k h l = grind arith
+
+            last : (i j k : Bool) → i ≡ true → k ≡ true → (i && (j || k)) ≡ true
+            last i j k h l = grind arith
+
+            back : not (four a c b d v) ≡ true → some g.order (λ z. lefts z && star z v) ≡ true
+            back h =
+                let q = component_count (a == v) (c == v) (b == v) (d == v) h in
+                elim (cases_Bool (x v)) [
+                  | inl t ↦ true_some g.order (λ z. lefts z && star z v) v w (first (lefts v) (v == v) _ (rw (t, q.0, q.1) refl) (eq-eqb v v refl))
+                  | inr f ↦
+                      let k = hits g.order beside lefts rights picks as_many v w (rw (f, q.2, q.3) refl) in
+                      true_some g.order (λ z. lefts z && star z v) k.0 k.1 (last (lefts k.0) (k.0 == v) (picks.to k.0 == v) k.2 (eq-eqb _ _ k.3))
+                ]
+
+        all : (v : ℕ) → Within g.order v → complement (λ v. some g.order (λ z. lefts z && star z v)) v ≡ four a c b d v
+        all v w = ap not (cover v w) ∙ not_not (four a c b d v)
+          where
+            not_not : (i : Bool) → not (not i) ≡ i
+            not_not true = refl
+            not_not false = refl
+
+    -- and where it does not, a tight set
+    module _ (z : Set) (few : count g.order (neighbours g.order beside rights (meet z lefts)) < count g.order (meet z lefts)) where
+      abbrev some_left : Set
+      some_left = meet z lefts
+
+      abbrev near_set : Set
+      near_set = neighbours g.order beside (complement x) some_left
+
+      in_left : (v : ℕ) → some_left v ≡ true → x v ≡ true
+      in_left v h = (left_parts v (and_parts (z v) (lefts v) h).1).0
+
+      in_right : (v : ℕ) → near_set v ≡ true → complement x v ≡ true
+      in_right v h = (and_parts (complement x v) (some g.order (λ u. some_left u && beside u v)) h).0
+
+      into : (e : ℕ) → Within (size g) e → first_end g e ≢ second_end g e → (some_left (first_end g e) ≡ true → near_set (second_end g e) ≡ true) × (some_left (second_end g e) ≡ true → near_set (first_end g e) ≡ true)
+      into e w l = (
+        (λ h. and_from (complement x (second_end g e)) (some g.order (λ u. some_left u && beside u (second_end g e))) (over (x (first_end g e)) (x (second_end g e)) (two e w l) (in_left (first_end g e) h))
+            (true_some g.order (λ u. some_left u && beside u (second_end g e)) (first_end g e) (is e w).0 (and_from (some_left (first_end g e)) _ h (true_some (size g) (has_ends g (first_end g e) (second_end g e)) e w (has_ends-own g e))))),
+        λ h. and_from (complement x (first_end g e)) (some g.order (λ u. some_left u && beside u (first_end g e))) (back (x (first_end g e)) (x (second_end g e)) (two e w l) (in_left (second_end g e) h))
+            (true_some g.order (λ u. some_left u && beside u (first_end g e)) (second_end g e) (is e w).1 (and_from (some_left (second_end g e)) _ h (true_some (size g) (has_ends g (second_end g e) (first_end g e)) e w (has_ends-back g (first_end g e) (second_end g e) e (has_ends-own g e))))),
+      )
+        where
+          over : (i j : Bool) → ((i && not j) || (not i && j)) ≡ true → i ≡ true → not j ≡ true
+          over i j h k = grind arith
+
+          back : (i j : Bool) → ((i && not j) || (not i && j)) ≡ true → j ≡ true → not i ≡ true
+          back i j h k = grind arith
+
+      left_out : (v : ℕ) → some_left v ≡ true → near_set v ≡ false
+      left_out v h = gone (x v) (some g.order (λ u. some_left u && beside u v)) (in_left v h)
+        where
+          gone : (i j : Bool) → i ≡ true → (not i && j) ≡ false
+          gone i j h = grind arith
+
+      cut_is : (m : Set) → IsPerfect g none m → count g.order near_set ≡ count g.order some_left + edges_in_cut g m (union some_left near_set)
+      cut_is m p =
+          let s = cut_split g m some_left near_set (λ e w t. into e w (loop_free g none m is p e w t)) (λ e w. (left_out (first_end g e), left_out (second_end g e))) in
+          let i = side_count x some_left m two in_left p in
+          let j = side_count (complement x) near_set m (other_side x two) in_right p in omega arith
+
+      near_few : count g.order near_set ≤ count g.order (neighbours g.order beside rights some_left) + 2
+      near_few =
+          let l = total_le g.order (λ v. bit (near_set v)) (λ v. bit (neighbours g.order beside rights some_left v) + (bit (singleton b v) + bit (singleton d v))) (λ v w. bits (not (x v)) (b == v) (d == v) (some g.order (λ u. some_left u && beside u v))) in
+          let s = total_add g.order (λ v. bit (neighbours g.order beside rights some_left v)) (λ v. bit (singleton b v) + bit (singleton d v)) in
+          let t = total_add g.order (λ v. bit (singleton b v)) (λ v. bit (singleton d v)) in
+          let i = count_only g.order b wb in let j = count_only g.order d wd in omega arith
+        where
+          bits : (i j k l : Bool) → bit (i && l) ≤ bit (((i && not j) && not k) && l) + (bit j + bit k)
+          bits false j k l = omega arith
+          bits true true k l = omega (arith, le_one l)
+            where
+              le_one : (l : Bool) → bit l ≤ 1
+              le_one true = omega arith
+              le_one false = omega arith
+          bits true false true l = omega (arith, le_one l)
+            where
+              le_one : (l : Bool) → bit l ≤ 1
+              le_one true = omega arith
+              le_one false = omega arith
+          bits true false false l = omega arith
+
+      a_out : union some_left near_set a ≡ false
+      a_out = gone (z a) (x a) (a == a) (c == a) (some g.order (λ u. some_left u && beside u a)) xa (eq-eqb a a refl)
+        where
+          gone : (i j k l s : Bool) → j ≡ true → k ≡ true → ((i && ((j && not k) && not l)) || (not j && s)) ≡ false
+          gone i j k l s h q = grind arith
+
+      c_out : union some_left near_set c ≡ false
+      c_out = gone (z c) (x c) (a == c) (c == c) (some g.order (λ u. some_left u && beside u c)) xc (eq-eqb c c refl)
+        where
+          gone : (i j k l s : Bool) → j ≡ true → l ≡ true → ((i && ((j && not k) && not l)) || (not j && s)) ≡ false
+          gone i j k l s h q = grind arith
+
+      one_more : count g.order near_set ≡ count g.order some_left + 1
+      one_more =
+          let u = count_member g.order some_left (omega arith) in
+          let m = cut_matching g (union some_left near_set) u.0 a is cov u.1 wa (ap (λ k. k || near_set u.0) u.2) a_out in
+          let e = cut_is m.0 m.1 in let f = near_few in let k = m.2 in omega arith
+
+      tight : IsTight g (union some_left near_set)
+      tight = let m = covered_perfect g is cov in tight_from_cut g (union some_left near_set) m.0 is m.1 (λ k p. let e = cut_is k p in let f = one_more in omega arith)
+
+      size_is : count g.order (union some_left near_set) ≡ count g.order some_left + count g.order near_set
+      size_is = total_congr g.order _ _ (λ v w. bits (some_left v) (near_set v) (left_out v)) ∙ total_add g.order (λ v. bit (some_left v)) (λ v. bit (near_set v))
+        where
+          bits : (i j : Bool) → (i ≡ true → j ≡ false) → bit (i || j) ≡ bit i + bit j
+          bits true true h = absurd (true≢false (h refl))
+          bits true false h = refl
+          bits false j h = omega arith
+
+      nontrivial : IsNontrivial g.order (union some_left near_set)
+      nontrivial = let s = size_is in let o = one_more in record { inside = omega arith; outside = odd_three _ tight.odd_rest (two_members g.order (complement (union some_left near_set)) a c wa wc ac (ap not a_out) (ap not c_out)) }
+
+    test_respects : Respects g.order (λ z. nat_lt (count g.order (neighbours g.order beside rights (meet z lefts))) (count g.order (meet z lefts)))
+    test_respects = record {
+      same = λ y z h. ap₂ nat_lt
+          (count_congr g.order _ _ (λ v w. ap (λ k. rights v && k) (some_congr g.order _ _ (λ u t. ap (λ k. (k && lefts u) && beside u v) (h u t)))))
+          (count_congr g.order _ _ (λ v w. ap (λ k. k && lefts v) (h v w)));
+    }
+
+    pub matched_or_tight : ((m : Set) × IsPerfect g (four a c b d) m) ⊎ ((y : Set) × IsTight g y × IsNontrivial g.order y)
+    matched_or_tight = elim (choose_set g.order (λ z. nat_lt (count g.order (neighbours g.order beside rights (meet z lefts))) (count g.order (meet z lefts))) test_respects) [
+      | inl r ↦ let l = ltb-true _ _ r.1 in inr (union (some_left r.0 l) (near_set r.0 l), tight r.0 l, nontrivial r.0 l)
+      | inr f ↦ inl (matched (λ z. ltb-false _ _ (f z)))
+    ]
+
+  -- the theorem on braces
+  pub braces : (x : Set) → IsSide g x → ((y : Set) → IsTight g y → IsNontrivial g.order y → ⊥) ↔ Fours x
+  braces x two = (
+    (λ h a c b d wa wc wb wd ac bd xa xc xb xd. elim (matched_or_tight x two a c b d wa wc wb wd ac bd xa xc xb xd) [
+      | inl m ↦ m
+      | inr t ↦ absurd (h t.0 t.1 t.2)
+    ]),
+    no_tight x two,
+  )

@@ -1,0 +1,2 @@
+//! Quick tests for braces and bricks.
+#![tactic(auto)]

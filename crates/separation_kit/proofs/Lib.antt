@@ -1,0 +1,2 @@
+pub mod Separations
+pub mod CutPairs

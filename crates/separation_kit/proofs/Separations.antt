@@ -1,0 +1,161 @@
+-- Two vertices u and v without which there is a perfect matching: each component without them is even, and the cut of each
+-- together with u is tight. A perfect matching has an edge or two at u and v, and an odd shore has an odd number in its cut.
+use Rattle.std.proofs.Common.{◌≡◌, ℕ, suc, zero, ◌+◌, ◌*◌, ◌≤◌, ◌≢◌, Bool, true, false, ◌==◌, refl, sym, ap, ap₂, ◌∙◌, arith, ◌&&◌, ◌||◌, not, eq-eqb, ne_eqb, eqb-true, inl, inr}
+use Rattle.std.proofs.lemmas.Bool.{true≢false, false_from_ne_true, both_ways, or_cases}
+use Rattle.barrier_kit.proofs.BarrierCuts.{leads_out, leader_of, leader_same, part_step, part_out, part_same}
+use Rattle.barrier_kit.proofs.Matched.{inner, count_only, count_plus, count_minus, count_member, count_sub, member_count, near_end, far_end, ends_out, nontrivial_congr, tight_congr}
+use Rattle.counting.proofs.Counts.{count_congr, count_complement}
+use Rattle.counting.proofs.Odd.{odd-double, complement_odd}
+use Rattle.counting.proofs.Totals.{total_congr, total_add, total_le, total_none}
+use Rattle.counting.specs.Counts.{bit, count, Within, is_odd}
+use Rattle.counting.specs.Sets.{Set, pair_set, none, union, minus, complement, singleton}
+
+use Rattle.graph_core.proofs.Components.{joined_outside, walk_joined}
+use Rattle.graph_core.proofs.Edits.{ends_of, degree_sum, missed_edges}
+use Rattle.graph_core.proofs.Parity.{degrees, parity}
+use Rattle.graph_core.proofs.Perfect.{perfect_matching, perfect_misses}
+use Rattle.graph_core.proofs.Walks.{joined_self}
+use Rattle.graph_core.specs.Components.{is_least, component_count}
+use Rattle.graph_core.specs.Graph.{Graph, size, first_end, second_end, IsGraph, in_cut, degree, edges_in_cut}
+use Rattle.graph_core.specs.Matchings.{IsPerfect}
+use Rattle.graph_core.specs.Structure.{IsCutPair}
+use Rattle.graph_core.specs.Tight.{IsTight, IsNontrivial}
+use Rattle.graph_core.specs.Walks.{joined}
+
+module _ (g : Graph) (is : IsGraph g) (u v : ℕ) (wu : Within g.order u) (wv : Within g.order v) (d : u ≢ v) (n : Set) (pn : IsPerfect g (pair_set u v) n) where
+  abbrev pair : Set
+  pair = pair_set u v
+
+  pair_u : pair u ≡ true
+  pair_u = rw (eq-eqb u u refl) refl
+
+  pair_v : pair v ≡ true
+  pair_v = right (u == v) (v == v) (eq-eqb v v refl)
+    where
+      right : (a b : Bool) → b ≡ true → (a || b) ≡ true
+      right a b h = grind arith
+
+  alike : (k a b : Bool) → (k ≡ true → a ≡ b) → (k && ((a && not b) || (not a && b))) ≡ false
+  alike k a b h = grind arith
+
+  even_order : is_odd g.order ≡ false
+  even_order =
+      let a = missed_edges g pair n is (perfect_matching g pair n pn) in
+      let b = perfect_misses g pair n pn in
+      let c = count_complement g.order pair in
+      let e = count_plus g.order (singleton u) v wv (ne_eqb u v d) in
+      let f = count_only g.order u wu in
+      let k = count (size g) n in
+      let q : g.order ≡ (k + 1) + (k + 1) = omega arith in ap is_odd q ∙ odd-double (k + 1)
+
+  module _ (l : ℕ) (wl : Within g.order l) (ll : is_least g pair l ≡ true) where
+    abbrev part : Set
+    part = joined g pair l
+
+    -- each component is even
+    pub even_part : is_odd (count g.order part) ≡ false
+    even_part =
+        let k = inner g n part in
+        let a = total_congr g.order (λ x. bit (part x)) (λ x. bit (part x) * degree g n x) (λ x w. ones x w (part x) refl) in
+        let b = degrees g is n part in
+        let z = total_none (size g) (λ e. bit (n e && in_cut g part e)) (λ e w. ap bit (alike (n e) (part (first_end g e)) (part (second_end g e)) (λ t. let o = ends_out g pair n is pn e w t in part_step g pair l e is wl w o.0 o.1))) in
+        let q : count g.order part ≡ k + k = omega arith in ap is_odd q ∙ odd-double k
+      where
+        ones : (x : ℕ) → Within g.order x → (c : Bool) → part x ≡ c → bit (part x) ≡ bit (part x) * degree g n x
+        ones x w true t = rw t (let a = pn.once x w (joined_outside g pair is l x (leads_out g pair l ll) t) in omega arith)
+        ones x w false t = rw t (omega arith)
+
+    abbrev shore : Set
+    shore = union part (singleton u)
+
+    shore_count : count g.order shore ≡ count g.order part + 1
+    shore_count = count_plus g.order part u wu (part_out g pair l u is (leads_out g pair l ll) pair_u)
+
+    shore_odd : is_odd (count g.order shore) ≡ true
+    shore_odd = let q : count g.order shore ≡ suc (count g.order part) = let a = shore_count in omega arith in ap is_odd q ∙ ap not even_part
+
+    -- an edge in the cut has an end u or an end v
+    at_pair : (e : ℕ) → Within (size g) e → in_cut g shore e ≡ true → 1 ≤ ends_of g e u + ends_of g e v
+    at_pair e w h = go (pair (first_end g e)) (pair (second_end g e)) refl refl
+      where
+        hit : (x : ℕ) → 1 ≤ ends_of g e x → pair x ≡ true → 1 ≤ ends_of g e u + ends_of g e v
+        hit x o t = elim (or_cases (u == x) (v == x) t) [
+          | inl q ↦ let a = ap (ends_of g e) (eqb-true u x q) in omega arith
+          | inr q ↦ let a = ap (ends_of g e) (eqb-true v x q) in omega arith
+        ]
+
+        left : (a b : Bool) → (a || b) ≡ false → a ≡ false
+        left a b h = grind arith
+
+        go : (a b : Bool) → pair (first_end g e) ≡ a → pair (second_end g e) ≡ b → 1 ≤ ends_of g e u + ends_of g e v
+        go true b p q = hit (first_end g e) (near_end g e) p
+        go false true p q = hit (second_end g e) (far_end g e) q
+        go false false p q =
+            let s = part_step g pair l e is wl w p q in
+            let x = left (u == first_end g e) _ p in let y = left (u == second_end g e) _ q in
+            absurd (both_ways (in_cut g shore e) (alike true (shore (first_end g e)) (shore (second_end g e)) (λ t. ap₂ (λ a b. a || b) s (x ∙ sym y))) h)
+
+    shore_cut : (m : Set) → IsPerfect g none m → edges_in_cut g m shore ≡ 1
+    shore_cut m p =
+        let a = total_le (size g) (λ e. bit (m e && in_cut g shore e)) (λ e. bit (m e) * ends_of g e u + bit (m e) * ends_of g e v) (λ e w. each e w (m e) (in_cut g shore e) refl) in
+        let b = total_add (size g) (λ e. bit (m e) * ends_of g e u) (λ e. bit (m e) * ends_of g e v) in
+        let c = degree_sum g m u in let f = degree_sum g m v in
+        let i = p.once u wu refl in let j = p.once v wv refl in
+        settle (edges_in_cut g m shore) (inner g m shore) (count g.order shore) (parity g is m shore p) shore_odd (omega arith)
+      where
+        each : (e : ℕ) → Within (size g) e → (x y : Bool) → in_cut g shore e ≡ y → bit (x && y) ≤ bit x * ends_of g e u + bit x * ends_of g e v
+        each e w false y t = omega arith
+        each e w true false t = omega arith
+        each e w true true t = let a = at_pair e w t in omega arith
+
+        settle : (c k x : ℕ) → x ≡ c + 2 * k → is_odd x ≡ true → c ≤ 2 → c ≡ 1
+        settle zero k x e o h = let q : x ≡ k + k = omega arith in absurd (both_ways (is_odd x) (ap is_odd q ∙ odd-double k) o)
+        settle (suc zero) k x e o h = refl
+        settle (suc (suc zero)) k x e o h = let q : x ≡ (k + 1) + (k + 1) = omega arith in absurd (both_ways (is_odd x) (ap is_odd q ∙ odd-double (k + 1)) o)
+        settle (suc (suc (suc c))) k x e o h = absurd (omega arith)
+
+    pub shore_tight : IsTight g shore
+    shore_tight = record { odd = shore_odd; odd_complement = complement_odd g.order shore even_order shore_odd; cut = shore_cut }
+
+    pub two_in : 2 ≤ count g.order part
+    two_in = go (count g.order part) (member_count g.order part l wl (walk_joined g pair is l l wl (joined_self g pair l))) even_part
+      where
+        go : (k : ℕ) → 1 ≤ k → is_odd k ≡ false → 2 ≤ k
+        go zero h e = absurd (omega arith)
+        go (suc zero) h e = absurd (true≢false e)
+        go (suc (suc k)) h e = omega arith
+
+  -- with two components, each and u make a nontrivial set
+  pub shore_nontrivial : (l : ℕ) → Within g.order l → is_least g pair l ≡ true → 2 ≤ component_count g pair → IsNontrivial g.order (union (joined g pair l) (singleton u))
+  unfolding component_count
+  shore_nontrivial l wl ll two =
+      let a = count_minus g.order (is_least g pair) l wl ll in
+      let k = count_member g.order (minus (is_least g pair) (singleton l)) (omega arith) in
+      let p = split (is_least g pair k.0) (l == k.0) k.2 in
+      let b = two_in k.0 k.1 p.0 in
+      let c = count_plus g.order (joined g pair k.0) v wv (part_out g pair k.0 v is (leads_out g pair k.0 p.0) pair_v) in
+      let e = count_sub g.order (union (joined g pair k.0) (singleton v)) (complement (union (joined g pair l) (singleton u))) (λ x w h. elim (or_cases (joined g pair k.0 x) (v == x) h) [
+        | inl j ↦ rw (
+          false_from_ne_true (joined g pair l x) (λ t. both_ways (l == k.0) p.1 (eq-eqb l k.0 (leader_same g pair is l x k.0 wl w k.1 ll t p.0 j))),
+          ne_eqb u x (λ q. both_ways (pair x) (joined_outside g pair is k.0 x (leads_out g pair k.0 p.0) j) (ap pair (sym q) ∙ pair_u)),
+        ) refl
+        | inr q ↦ let i = eqb-true v x q in rw (part_out g pair l x is (leads_out g pair l ll) (ap pair (sym i) ∙ pair_v), ne_eqb u x (λ t. d (t ∙ sym i))) refl
+      ]) in
+      let f = shore_count l wl ll in let i = two_in l wl ll in
+      record { inside = omega arith; outside = omega arith }
+    where
+      split : (a c : Bool) → (a && not c) ≡ true → (a ≡ true) × (c ≡ false)
+      split a c h = grind arith
+
+  -- the component of any vertex outside the pair, and u
+  pub separation_tight : (a : ℕ) → Within g.order a → pair a ≡ false → IsTight g (union (joined g pair a) (singleton u))
+  separation_tight a wa o = let l = leader_of g pair is a wa o in
+      tight_congr g _ _ is (λ x w. ap (λ k. k || (u == x)) (part_same g pair is l.0 a l.1 wa l.3 x)) (shore_tight l.0 l.1 l.2)
+
+  pub separation_nontrivial : (a : ℕ) → Within g.order a → pair a ≡ false → IsCutPair g u v → IsNontrivial g.order (union (joined g pair a) (singleton u))
+  separation_nontrivial a wa o c = let l = leader_of g pair is a wa o in
+      nontrivial_congr g.order (union (joined g pair l.0) (singleton u)) _ (λ x w. ap (λ k. k || (u == x)) (part_same g pair is l.0 a l.1 wa l.3 x)) (shore_nontrivial l.0 l.1 l.2 c.parts)
+
+  pub separation_even : (a : ℕ) → Within g.order a → pair a ≡ false → is_odd (count g.order (joined g pair a)) ≡ false
+  separation_even a wa o = let l = leader_of g pair is a wa o in
+      ap is_odd (count_congr g.order _ _ (λ x w. sym (part_same g pair is l.0 a l.1 wa l.3 x))) ∙ even_part l.0 l.1 l.2

@@ -1,0 +1,80 @@
+use Rattle.std.proofs.Common.{◌≡◌, ℕ, Bool, true, false, refl, sym, ap, not, ◌∙◌, arith, List, [], ◌∷◌, ◌↔◌}
+use Rattle.std.proofs.lemmas.Bool.{true≢false}
+use Rattle.std.proofs.lemmas.List.Elements.{All-nil, All-head, All-tail}
+use Rattle.std.specs.List.{AllPairs, list_any}
+use Rattle.std.specs.Prelude.{All, fold}
+use Rattle.tight_cuts.specs.Candidates.{Barrier, Separation, cuts, front_candidates}
+use Rattle.barrier_kit.proofs.Matched.{count_member, cut_edge}
+use Rattle.barrier_kit.specs.BarrierShores.{barrier_shores}
+use Rattle.counting.specs.Counts.{Within}
+use Rattle.counting.specs.Lists.{mem}
+use Rattle.counting.specs.Sets.{Set, complement}
+use Rattle.graph_core.specs.Covered.{IsCovered}
+use Rattle.graph_core.specs.Graph.{Graph, size, IsGraph, in_cut}
+use Rattle.graph_core.specs.Tight.{IsTight, IsNontrivial}
+use Rattle.separation_kit.specs.SeparationShores.{separation_shores}
+use Rattle.tight_cuts.proofs.EdgeLoop.{after_edges, after_apart, after_found, after_covers}
+use Rattle.tight_cuts.proofs.Shores.{ShoresDiffer, with_found, with_apart}
+use Rattle.tight_cuts.specs.Candidates.{Origin, Candidate, with_list, candidates, IsTightCandidate}
+
+-- The candidates: none twice, each tight where the shores of the first two parts are, and each edge of a nontrivial tight cut in a candidate's cut.
+-- shores one after another
+lists_apart : (n : ℕ) (o : Origin) (shores : List (List ℕ)) (list : List Candidate) → AllPairs ShoresDiffer list → AllPairs ShoresDiffer (fold (with_list n o) list shores)
+lists_apart n o [] list h = h
+lists_apart n o (s ∷ shores) list h = lists_apart n o shores (with_list n o list s) (with_apart n o list (mem s) h)
+
+lists_found : (g : Graph) (o : Origin) → IsGraph g → (shores : List (List ℕ)) (list : List Candidate) → All (λ s. IsTight g (mem s)) shores → All (IsTightCandidate g) list → All (IsTightCandidate g) (fold (with_list g.order o) list shores)
+lists_found g o is [] list t h = h
+lists_found g o is (s ∷ shores) list t h = lists_found g o is shores (with_list g.order o list s) (All-tail (λ s. IsTight g (mem s)) s shores t) (with_found g o list (mem s) is (All-head (λ s. IsTight g (mem s)) s shores t) h)
+
+none_apart : AllPairs ShoresDiffer []
+none_apart i j d l m = absurd (omega arith)
+
+-- no shore comes twice
+pub candidates_apart : (g : Graph) → AllPairs ShoresDiffer (candidates g)
+unfolding candidates front_candidates
+candidates_apart g = after_apart g (fold (with_list g.order Separation) (fold (with_list g.order Barrier) [] (barrier_shores g)) (separation_shores g)) (size g)
+    (lists_apart g.order Separation (separation_shores g) (fold (with_list g.order Barrier) [] (barrier_shores g)) (lists_apart g.order Barrier (barrier_shores g) [] none_apart))
+
+-- each shore is canonical, tight and nontrivial
+pub candidates_found : (g : Graph) → IsGraph g → IsCovered g → All (λ s. IsTight g (mem s)) (barrier_shores g) → All (λ s. IsTight g (mem s)) (separation_shores g) → All (IsTightCandidate g) (candidates g)
+unfolding candidates front_candidates
+candidates_found g is cov b s = after_found g is cov (fold (with_list g.order Separation) (fold (with_list g.order Barrier) [] (barrier_shores g)) (separation_shores g)) (size g) (omega arith)
+    (lists_found g Separation is (separation_shores g) (fold (with_list g.order Barrier) [] (barrier_shores g)) s (lists_found g Barrier is (barrier_shores g) [] b (All-nil (IsTightCandidate g))))
+
+-- each edge of each nontrivial tight cut is in the cut of a candidate
+pub candidates_cover : (g : Graph) → IsGraph g → IsCovered g → (x : Set) (e : ℕ) → Within (size g) e → IsTight g x → IsNontrivial g.order x → in_cut g x e ≡ true → list_any (cuts g e) (candidates g) ≡ true
+unfolding candidates front_candidates
+candidates_cover g is cov x e w t nt ce = after_covers g is cov (fold (with_list g.order Separation) (fold (with_list g.order Barrier) [] (barrier_shores g)) (separation_shores g)) (size g) (omega arith) x e w t nt ce
+
+-- a nontrivial set has an edge in its cut
+pub shore_edge : (g : Graph) (x : Set) → IsGraph g → IsCovered g → IsNontrivial g.order x → (e : ℕ) × Within (size g) e × (in_cut g x e ≡ true)
+shore_edge g x is cov nt =
+    let i = nt.inside in let j = nt.outside in
+    let u = count_member g.order x (omega arith) in
+    let v = count_member g.order (complement x) (omega arith) in
+    cut_edge g x u.0 v.0 is cov u.1 v.1 u.2 (flip (x v.0) v.2)
+  where
+    flip : (b : Bool) → not b ≡ true → b ≡ false
+    flip b h = grind arith
+
+-- there is no candidate exactly where no nontrivial shore is tight
+pub candidates_none : (g : Graph) → IsGraph g → IsCovered g → All (λ s. IsTight g (mem s)) (barrier_shores g) → All (λ s. IsTight g (mem s)) (separation_shores g) → (candidates g ≡ []) ↔ ((x : Set) → IsTight g x → IsNontrivial g.order x → ⊥)
+candidates_none g is cov b s = (
+  λ q x t nt. let e = shore_edge g x is cov nt in true≢false (sym (candidates_cover g is cov x e.0 e.1 t nt e.2) ∙ ap (list_any (cuts g e.0)) q),
+  λ f. go (candidates g) (candidates_found g is cov b s) f,
+)
+  where
+    go : (list : List Candidate) → All (IsTightCandidate g) list → ((x : Set) → IsTight g x → IsNontrivial g.order x → ⊥) → list ≡ []
+    go [] h f = refl
+    go (c ∷ list) h f = let p = All-head (IsTightCandidate g) c list h in absurd (f (mem c.shore) p.tight p.nontrivial)
+
+-- the same for the third part alone
+pub edges_found : (g : Graph) → IsGraph g → IsCovered g → All (IsTightCandidate g) (after_edges g [] (size g))
+edges_found g is cov = after_found g is cov [] (size g) (omega arith) (All-nil (IsTightCandidate g))
+
+pub edges_apart : (g : Graph) → AllPairs ShoresDiffer (after_edges g [] (size g))
+edges_apart g = after_apart g [] (size g) none_apart
+
+pub edges_cover : (g : Graph) → IsGraph g → IsCovered g → (x : Set) (e : ℕ) → Within (size g) e → IsTight g x → IsNontrivial g.order x → in_cut g x e ≡ true → list_any (cuts g e) (after_edges g [] (size g)) ≡ true
+edges_cover g is cov x e w t nt ce = after_covers g is cov [] (size g) (omega arith) x e w t nt ce

@@ -1,0 +1,10 @@
+pub mod PairsOfEdges
+pub mod Shores
+pub mod LeastShores
+pub mod PiecesOfEdges
+pub mod Networks
+pub mod FirstPairs
+pub mod EdgeLoop
+pub mod Completeness
+pub mod LeanLists
+mod CrossingMatchings

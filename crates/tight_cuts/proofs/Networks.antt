@@ -1,0 +1,172 @@
+use Rattle.std.proofs.Common.{◌≡◌, ℕ, suc, zero, ◌+◌, ◌*◌, ◌≤◌, Bool, true, false, cond, ◌==◌, refl, sym, ap, ap₂, ◌∙◌, arith, ◌&&◌, ◌||◌, not, inl, inr, eq-eqb, ne_eqb, eqb-true, List, [], ◌∷◌, length, sum_by, ◌↔◌}
+use Rattle.std.proofs.lemmas.Bool.{cases_eq, and_parts, and_from, or_cases, or_left, or_right, true≢false}
+use Rattle.std.proofs.lemmas.List.Sums.{sum_by-cons, sum_by-append}
+use Rattle.counting.proofs.RisingLists.{same_answers}
+use Rattle.counting.proofs.Tests.{some_true, true_some}
+use Rattle.counting.proofs.Totals.{total_congr, total_add, total_none}
+use Rattle.counting.specs.Counts.{bit, total, count, Within, is_odd}
+use Rattle.counting.specs.Lists.{mem}
+use Rattle.counting.specs.Sets.{Set, complement, pair_set}
+use Rattle.counting.specs.Tests.{some}
+use Rattle.flow_core.specs.Nets.{leaves_set, value_of, Separates, IsLeastCut}
+use Rattle.barrier_kit.proofs.Matched.{tight_congr}
+use Rattle.graph_core.proofs.Components.{walk_joined}
+use Rattle.graph_core.proofs.Walks.{joined_self}
+use Rattle.graph_core.specs.Graph.{Graph, size, first_end, second_end, IsGraph, in_cut, has_ends}
+use Rattle.graph_core.specs.Matchings.{Allowed}
+use Rattle.graph_core.specs.PairLists.{IsPairList}
+use Rattle.graph_core.specs.Tight.{IsTight}
+use Rattle.graph_core.specs.Walks.{joined}
+use Rattle.tight_cuts.proofs.LeastShores.{common_in, common_from, parted_says, parted_found}
+use Rattle.tight_cuts.proofs.PairsOfEdges.{pair_list_bound, pair_list_tight, tight_pair_list, cut_between}
+use Rattle.tight_cuts.proofs.PiecesOfEdges.{pieces_odd, tight_piece, beside_graph}
+use Rattle.tight_cuts.specs.Candidates.{is_parted, common_shore}
+use Rattle.tight_cuts.specs.PairSums.{weight, cut_sum}
+use Rattle.tight_cuts.specs.Pieces.{PartsTightly, IsBeside, arcs_of, contracted_net, with_piece, IsGrouping}
+
+-- The contracted network. Idea: the value of a set of nodes is the sum over the pair list of the cut of its vertices.
+-- the weights in a cut are its edges in all the matchings
+pub weights_cut : (g : Graph) (ms : List (List ℕ)) (x : Set) → total (size g) (λ e. weight ms e * bit (in_cut g x e)) ≡ cut_sum g ms x
+unfolding cut_sum
+weights_cut g [] x = total_none (size g) (λ e. weight [] e * bit (in_cut g x e)) (λ e w. omega arith)
+weights_cut g (m ∷ ms) x =
+    total_congr (size g) (λ e. weight (m ∷ ms) e * bit (in_cut g x e)) (λ e. bit (mem m e && in_cut g x e) + weight ms e * bit (in_cut g x e)) (λ e w. split (mem m e) (in_cut g x e) (weight (m ∷ ms) e) (weight ms e) (sum_by-cons (λ m. bit (mem m e)) m ms))
+    ∙ total_add (size g) (λ e. bit (mem m e && in_cut g x e)) (λ e. weight ms e * bit (in_cut g x e))
+    ∙ ap (λ k. count (size g) (λ e. mem m e && in_cut g x e) + k) (weights_cut g ms x)
+    ∙ sym (sum_by-cons (λ m. count (size g) (λ e. mem m e && in_cut g x e)) m ms)
+  where
+    split : (s t : Bool) (p q : ℕ) → p ≡ bit s + q → p * bit t ≡ bit (s && t) + q * bit t
+    split true true p q h = omega arith
+    split true false p q h = omega arith
+    split false true p q h = omega arith
+    split false false p q h = omega arith
+
+-- the value of a set of nodes, arc by arc
+arcs_value : (g : Graph) (ms : List (List ℕ)) (group : ℕ → ℕ) (u : Set) (e : ℕ) → sum_by (λ c. cond (leaves_set u c) c.capacity 0) (arcs_of g ms group e) ≡ total e (λ i. weight ms i * bit (in_cut g (λ v. u (group v)) i))
+arcs_value g ms group u zero = refl
+arcs_value g ms group u (suc e) =
+    sum_by-append (λ c. cond (leaves_set u c) c.capacity 0) (arcs_of g ms group e) (cond (group (first_end g (suc e)) == group (second_end g (suc e))) [] (record { a = group (first_end g (suc e)); b = group (second_end g (suc e)); capacity = weight ms (suc e) } ∷ []))
+    ∙ ap₂ ◌+◌ (arcs_value g ms group u e) (last (group (first_end g (suc e))) (group (second_end g (suc e))) (weight ms (suc e)))
+  where
+    none_left : (s t : Bool) (w : ℕ) → s ≡ t → 0 ≡ w * bit ((s && not t) || (not s && t))
+    none_left true true w h = omega arith
+    none_left false false w h = omega arith
+    none_left true false w h = absurd (true≢false h)
+    none_left false true w h = absurd (true≢false (sym h))
+
+    one_left : (s : Bool) (w : ℕ) → 0 + cond s w 0 ≡ w * bit s
+    one_left true w = omega arith
+    one_left false w = omega arith
+
+    last : (p q w : ℕ) → sum_by (λ c. cond (leaves_set u c) c.capacity 0) (cond (p == q) [] (record { a = p; b = q; capacity = w } ∷ [])) ≡ w * bit ((u p && not (u q)) || (not (u p) && u q))
+    last p q w = elim (cases_eq p q) [
+      | inl d ↦ ap (λ t. sum_by (λ c. cond (leaves_set u c) c.capacity 0) (cond t [] (record { a = p; b = q; capacity = w } ∷ []))) (eq-eqb p q d) ∙ none_left (u p) (u q) w (ap u d)
+      | inr d ↦ ap (λ t. sum_by (λ c. cond (leaves_set u c) c.capacity 0) (cond t [] (record { a = p; b = q; capacity = w } ∷ []))) (ne_eqb p q d) ∙ one_left ((u p && not (u q)) || (not (u p) && u q)) w
+    ]
+
+pub value_cut : (g : Graph) (ms : List (List ℕ)) (group : ℕ → ℕ) (r : ℕ) (u : Set) → value_of (contracted_net g ms group r) u ≡ cut_sum g ms (λ v. u (group v))
+value_cut g ms group r u = arcs_value g ms group u (size g) ∙ weights_cut g ms (λ v. u (group v))
+
+module _ (g h : Graph) (is : IsGraph g) (a b e : ℕ) (wa : Within g.order a) (wb : Within g.order b) (we : Within (size g) e) (ends : has_ends g a b e ≡ true) (beside : IsBeside g e h) (al : Allowed g e) (ms : List (List ℕ)) (list : IsPairList g ms)
+    (k : ℕ × ℕ) (wx : Within g.order k.0) (wy : Within g.order k.1) (r : ℕ) (group : ℕ → ℕ) (groups : IsGrouping g h a b k r group) where
+  -- the vertices of a set of nodes
+  abbrev pub back : Set → Set
+  back u v = u (group v)
+
+  at_a : group a ≡ 1
+  at_a = groups.source a wa (or_left (a == a) (joined h (pair_set a b) k.0 a) (eq-eqb a a refl))
+
+  at_b : group b ≡ 2
+  at_b = groups.sink b wb (or_left (b == b) (joined h (pair_set a b) k.1 b) (eq-eqb b b refl))
+
+  back_odd : (u : Set) → Separates 1 2 u → (is_odd (count g.order (back u)) ≡ true) × (is_odd (count g.order (complement (back u))) ≡ true)
+  back_odd u s = pieces_odd g h is a b e wa wb we ends beside al (back u) (ap u at_a ∙ s.holds) (ap u at_b ∙ s.lacks) (λ p q wp wq j. ap u (groups.kept p q wp wq j))
+
+  -- the value is at least the list's length
+  pub value_bound : (u : Set) → Separates 1 2 u → length ms ≤ value_of (contracted_net g ms group r) u
+  value_bound u s = let c = value_cut g ms group r u in let l = pair_list_bound g ms is list (back u) (back_odd u s).0 in omega arith
+
+  -- and is the length exactly where the vertices are tight
+  pub value_tight : (u : Set) → Separates 1 2 u → (value_of (contracted_net g ms group r) u ≡ length ms) ↔ IsTight g (back u)
+  value_tight u s = let o = back_odd u s in let c = value_cut g ms group r u in
+      (λ v. pair_list_tight g ms is list (back u) o.0 o.1 (sym c ∙ v), λ t. c ∙ tight_pair_list g ms is list (back u) o.0 t)
+
+  own_piece : (v : ℕ) → Within g.order v → joined h (pair_set a b) v v ≡ true
+  own_piece v w = let o = beside.order in walk_joined h (pair_set a b) (beside_graph g h is a b e wa wb we ends beside) v v (omega arith) (joined_self h (pair_set a b) v)
+
+  -- a set of that value parts the pairs
+  pub value_parts : (u : Set) → Separates 1 2 u → value_of (contracted_net g ms group r) u ≡ length ms → PartsTightly g a b k (back u)
+  value_parts u s v = record {
+    tight = (value_tight u s).0 v;
+    has_a = ap u at_a ∙ s.holds;
+    has_x = ap u (groups.source k.0 wx (or_right (a == k.0) (joined h (pair_set a b) k.0 k.0) (own_piece k.0 wx))) ∙ s.holds;
+    lacks_b = ap u at_b ∙ s.lacks;
+    lacks_y = ap u (groups.sink k.1 wy (or_right (b == k.1) (joined h (pair_set a b) k.1 k.1) (own_piece k.1 wy))) ∙ s.lacks;
+  }
+
+  piece_of : (x : Set) → PartsTightly g a b k x → (u v : ℕ) → joined h (pair_set a b) u v ≡ true → x u ≡ x v
+  piece_of x p u v j = tight_piece g h is a b e wa wb we ends beside x p.tight (cut_between g x a b e ends p.has_a p.lacks_b) u v j
+
+  source_all : (x : Set) → PartsTightly g a b k x → (v : ℕ) → with_piece h a b a k.0 v ≡ true → x v ≡ true
+  source_all x p v t = elim (or_cases (a == v) (joined h (pair_set a b) k.0 v) t) [
+    | inl q ↦ ap x (sym (eqb-true a v q)) ∙ p.has_a
+    | inr q ↦ sym (piece_of x p k.0 v q) ∙ p.has_x
+  ]
+
+  sink_none : (x : Set) → PartsTightly g a b k x → (v : ℕ) → with_piece h a b b k.1 v ≡ true → x v ≡ false
+  sink_none x p v t = elim (or_cases (b == v) (joined h (pair_set a b) k.1 v) t) [
+    | inl q ↦ ap x (sym (eqb-true b v q)) ∙ p.lacks_b
+    | inr q ↦ sym (piece_of x p k.1 v q) ∙ p.lacks_y
+  ]
+
+  -- a set that parts the pairs is a union of groups
+  pub parts_group : (x : Set) → PartsTightly g a b k x → (u v : ℕ) → Within g.order u → Within g.order v → group u ≡ group v → x u ≡ x v
+  parts_group x p u v wu wv q = elim (groups.apart u v wu wv q) [
+    | inl j ↦ piece_of x p u v j
+    | inr s ↦ elim s [
+      | inl t ↦ source_all x p u t.0 ∙ sym (source_all x p v t.1)
+      | inr t ↦ sink_none x p u t.0 ∙ sym (sink_none x p v t.1)
+    ]
+  ]
+
+  abbrev nodes_of : Set → Set
+  nodes_of x w = some g.order (λ v. (group v == w) && x v)
+
+  nodes_back : (x : Set) → PartsTightly g a b k x → (v : ℕ) → Within g.order v → nodes_of x (group v) ≡ x v
+  nodes_back x p v w = same_answers (nodes_of x (group v)) (x v)
+      (λ t. let q = some_true g.order (λ i. (group i == group v) && x i) t in
+      let s = and_parts (group q.0 == group v) (x q.0) q.2 in
+      sym (parts_group x p q.0 v q.1 w (eqb-true (group q.0) (group v) s.0)) ∙ s.1)
+      (λ t. true_some g.order (λ i. (group i == group v) && x i) v w (and_from (group v == group v) (x v) (eq-eqb (group v) (group v) refl) t))
+
+  -- so it comes from a set of nodes, whose value is the list's length
+  pub parts_nodes : (x : Set) → PartsTightly g a b k x → (u : Set) × Separates 1 2 u × ((v : ℕ) → Within g.order v → u (group v) ≡ x v) × (value_of (contracted_net g ms group r) u ≡ length ms)
+  parts_nodes x p =
+      let s : Separates 1 2 (nodes_of x) = record { holds = ap (nodes_of x) (sym at_a) ∙ nodes_back x p a wa ∙ p.has_a; lacks = ap (nodes_of x) (sym at_b) ∙ nodes_back x p b wb ∙ p.lacks_b } in
+      (nodes_of x, s, nodes_back x p, (value_tight (nodes_of x) s).1 (tight_congr g x (back (nodes_of x)) is (λ v w. sym (nodes_back x p v w)) p.tight))
+
+  module _ (set : List ℕ) (value : ℕ) (cut : IsLeastCut (contracted_net g ms group r) 1 2 set value) where
+    -- a least cut of at most the list's length has that length
+    pub least_value : value ≤ length ms → value ≡ length ms
+    least_value l = let v = value_bound (mem set) cut.separates in let e = cut.is in omega arith
+
+    -- its vertices are a set that parts the pairs
+    pub least_back : value ≤ length ms → PartsTightly g a b k (back (mem set))
+    least_back l = let v = least_value l in let e = cut.is in value_parts (mem set) cut.separates (omega arith)
+
+    -- and lie in each such set
+    pub least_inside : value ≤ length ms → (x : Set) → PartsTightly g a b k x → (v : ℕ) → Within g.order v → mem set (group v) ≡ true → x v ≡ true
+    least_inside l x p v w t = let q = parts_nodes x p in let c = least_value l in let d = q.3 in sym (q.2 v w) ∙ cut.inside q.0 q.1 (omega arith) (group v) t
+
+    -- so they are the common shore
+    pub least_common : value ≤ length ms → (v : ℕ) → Within g.order v → mem set (group v) ≡ common_shore g a b k v
+    least_common l v w = same_answers (mem set (group v)) (common_shore g a b k v)
+        (λ t. common_from g is a b k wa wb wx wy v (λ z p. least_inside l z p v w t))
+        (λ t. common_in g is a b k wa wb wx wy v w t (back (mem set)) (least_back l))
+
+    -- the least cut has at most the list's length exactly where the pair is parted
+    pub least_parted : pair_set a b k.0 ≡ false → pair_set a b k.1 ≡ false → (value ≤ length ms) ↔ (is_parted g a b k ≡ true)
+    least_parted ox oy = (
+      λ l. parted_found g a b k (back (mem set)) is wa wb wx wy ox oy (least_back l),
+      λ t. let q = parted_says g a b k t in let n = parts_nodes q.2.0 q.2.1 in let s = cut.least n.0 n.1 in let d = n.3 in omega arith,
+    )

@@ -1,0 +1,128 @@
+-- Two tests of tightness: no two edges of the cut lie together; a pair list meets the cut as often as it is long.
+-- Idea: an odd set is met by each perfect matching, so one with an odd cut that is not tight is met twice by some.
+use Rattle.std.proofs.Common.{◌≡◌, ℕ, suc, ◌+◌, ◌≤◌, ◌≢◌, Bool, true, false, refl, sym, ap, ◌∙◌, arith, ◌&&◌, ◌||◌, not, inl, inr, List, [], ◌∷◌, length, ◌↔◌, sum_by, get_or}
+use Rattle.std.proofs.lemmas.Bool.{cases_lt, and_parts, and_from, true≢false, false_from_ne_true}
+use Rattle.std.proofs.lemmas.List.Elements.{All-head, All-tail, All-cons, All-nil}
+use Rattle.std.proofs.lemmas.List.Sums.{sum_by-cons}
+use Rattle.std.specs.Prelude.{All}
+use Rattle.barrier_kit.proofs.Matched.{inner, two_members, two_of, even_order}
+use Rattle.counting.proofs.Odd.{odd-double, complement_odd}
+use Rattle.counting.proofs.Totals.{total_at}
+use Rattle.counting.specs.Counts.{bit, count, Within, is_odd}
+use Rattle.counting.specs.Lists.{mem}
+use Rattle.counting.specs.Sets.{Set, none, complement}
+use Rattle.graph_core.proofs.Parity.{parity}
+use Rattle.graph_core.proofs.Uncrossing.{odd_meets}
+use Rattle.graph_core.proofs.Walks.{has_ends-cases}
+use Rattle.graph_core.specs.Graph.{Graph, size, first_end, second_end, IsGraph, in_cut, has_ends, edges_in_cut}
+use Rattle.graph_core.specs.Matchings.{IsPerfect, Allowed, Together}
+use Rattle.graph_core.specs.PairLists.{IsPairList}
+use Rattle.graph_core.specs.Tight.{IsTight}
+use Rattle.tight_cuts.specs.PairSums.{cut_sum, NoTwoTogether}
+
+-- Tests of tightness: by pairs of edges, and by a pair list. Idea: an odd set meets each perfect matching, so a cut that is not tight is neighbours twice.
+-- two edges of one matching in one cut
+pub two_in_cut : (g : Graph) (m x : Set) (e f : ℕ) → Within (size g) e → Within (size g) f → e ≢ f → m e ≡ true → m f ≡ true → in_cut g x e ≡ true → in_cut g x f ≡ true → 2 ≤ edges_in_cut g m x
+two_in_cut g m x e f we wf d me mf ce cf = two_members (size g) (λ e. m e && in_cut g x e) e f we wf d (and_from (m e) (in_cut g x e) me ce) (and_from (m f) (in_cut g x f) mf cf)
+
+-- a tight cut has no two edges that lie together
+pub tight_alone : (g : Graph) (x : Set) → IsTight g x → NoTwoTogether g x
+tight_alone g x t e f we wf d ce cf q = let a = two_in_cut g q.0 x e f we wf d q.2 q.3 ce cf in let b = t.cut q.0 q.1 in omega arith
+
+-- an odd cut that has none is tight
+pub alone_tight : (g : Graph) (x : Set) → IsGraph g → is_odd (count g.order x) ≡ true → is_odd (count g.order (complement x)) ≡ true → NoTwoTogether g x → IsTight g x
+alone_tight g x is o r h = record {
+  odd = o;
+  odd_complement = r;
+  cut = λ m p. let a = odd_meets g m x is p o in elim (cases_lt (edges_in_cut g m x) 2) [
+    | inl l ↦ omega arith
+    | inr l ↦ let q = two_of (size g) (λ e. m e && in_cut g x e) l in
+        let s = and_parts (m q.0) (in_cut g x q.0) q.5 in
+        let t = and_parts (m q.1) (in_cut g x q.1) q.6 in
+        absurd (h q.0 q.1 q.2 q.3 q.4 s.1 t.1 (m, p, s.0, t.0))
+  ];
+}
+
+-- an odd cut is tight exactly where no two of its edges lie together
+pub tight_by_pairs : (g : Graph) (x : Set) → IsGraph g → is_odd (count g.order x) ≡ true → is_odd (count g.order (complement x)) ≡ true → IsTight g x ↔ NoTwoTogether g x
+tight_by_pairs g x is o r = (tight_alone g x, alone_tight g x is o r)
+
+-- sums of numbers that are at least 1
+pub sum_bound : (ms : List (List ℕ)) (f : List ℕ → ℕ) → All (λ m. 1 ≤ f m) ms → length ms ≤ sum_by f ms
+sum_bound [] f h = omega arith
+sum_bound (m ∷ ms) f h =
+    let a = sum_by-cons f m ms in
+    let b = sum_bound ms f (All-tail (λ m. 1 ≤ f m) m ms h) in
+    let c = All-head (λ m. 1 ≤ f m) m ms h in omega arith
+
+pub sum_tight : (ms : List (List ℕ)) (f : List ℕ → ℕ) → All (λ m. 1 ≤ f m) ms → sum_by f ms ≡ length ms → All (λ m. f m ≡ 1) ms
+sum_tight [] f h e = All-nil (λ m. f m ≡ 1)
+sum_tight (m ∷ ms) f h e =
+    let a = sum_by-cons f m ms in
+    let t = All-tail (λ m. 1 ≤ f m) m ms h in
+    let b = sum_bound ms f t in
+    let c = All-head (λ m. 1 ≤ f m) m ms h in
+    All-cons (λ m. f m ≡ 1) m ms (omega arith) (sum_tight ms f t (omega arith))
+
+pub sum_ones : (ms : List (List ℕ)) (f : List ℕ → ℕ) → All (λ m. f m ≡ 1) ms → sum_by f ms ≡ length ms
+sum_ones [] f h = omega arith
+sum_ones (m ∷ ms) f h =
+    let a = sum_by-cons f m ms in
+    let b = sum_ones ms f (All-tail (λ m. f m ≡ 1) m ms h) in
+    let c = All-head (λ m. f m ≡ 1) m ms h in omega arith
+
+module _ (g : Graph) (ms : List (List ℕ)) (is : IsGraph g) (p : IsPairList g ms) (x : Set) (o : is_odd (count g.order x) ≡ true) where
+  each_met : All (λ m. 1 ≤ edges_in_cut g (mem m) x) ms
+  each_met k d l = odd_meets g (mem (get_or ms k d)) x is (p.perfect k d l) o
+
+  -- each odd set is neighbours as often as the list is long
+  pub pair_list_bound : length ms ≤ cut_sum g ms x
+  unfolding cut_sum
+  pair_list_bound = sum_bound ms (λ m. edges_in_cut g (mem m) x) each_met
+
+  -- exactly so often where it is tight
+  pub pair_list_tight : is_odd (count g.order (complement x)) ≡ true → cut_sum g ms x ≡ length ms → IsTight g x
+  unfolding cut_sum
+  pair_list_tight r s = alone_tight g x is o r (λ e f we wf d ce cf t.
+      let q = p.both e f we wf t in
+      let ones = sum_tight ms (λ m. edges_in_cut g (mem m) x) each_met s q.0 q.1 q.2 in
+      let two = two_in_cut g (mem (get_or ms q.0 q.1)) x e f we wf d (ap (λ s. mem s e) q.3 ∙ q.4.0) (ap (λ s. mem s f) q.3 ∙ q.4.1) ce cf in omega arith)
+
+  pub tight_pair_list : IsTight g x → cut_sum g ms x ≡ length ms
+  unfolding cut_sum
+  tight_pair_list t = sum_ones ms (λ m. edges_in_cut g (mem m) x) (λ k d l. t.cut (mem (get_or ms k d)) (p.perfect k d l))
+
+-- one edge of m in the cut
+pub lone_cut : (g : Graph) (m x : Set) (e : ℕ) → Within (size g) e → m e ≡ true → in_cut g x e ≡ true → ((f : ℕ) → Within (size g) f → f ≢ e → m f ≡ true → in_cut g x f ≡ false) → edges_in_cut g m x ≡ 1
+lone_cut g m x e w me ce h = total_at (size g) (λ f. bit (m f && in_cut g x f)) e w (λ f u d. zero_bit (m f) (in_cut g x f) (h f u d)) ∙ ap bit (and_from (m e) (in_cut g x e) me ce)
+  where
+    zero_bit : (s t : Bool) → (s ≡ true → t ≡ false) → bit (s && t) ≡ 0
+    zero_bit true true f = absurd (true≢false (f refl))
+    zero_bit true false f = refl
+    zero_bit false t f = refl
+
+pub odd_from_one : (g : Graph) (m x : Set) → IsGraph g → IsPerfect g none m → edges_in_cut g m x ≡ 1 → is_odd (count g.order x) ≡ true
+odd_from_one g m x is p h = let k = inner g m x in let q : count g.order x ≡ suc (k + k) = omega (arith, parity g is m x p) in ap is_odd q ∙ ap not (odd-double k)
+
+-- a set that has e in its cut, and no edge that lies together with e, is odd on both sides
+pub odd_sides : (g : Graph) (x : Set) (e : ℕ) → IsGraph g → Within (size g) e → Allowed g e → in_cut g x e ≡ true → ((f : ℕ) → Within (size g) f → f ≢ e → Together g e f → in_cut g x f ≡ false) → (is_odd (count g.order x) ≡ true) × (is_odd (count g.order (complement x)) ≡ true)
+odd_sides g x e is w a ce h =
+    let o = odd_from_one g a.0 x is a.1 (lone_cut g a.0 x e w a.2 ce (λ f u d mf. h f u d (a.0, a.1, a.2, mf))) in
+    (o, complement_odd g.order x (even_order g a.0 is a.1) o)
+
+-- an edge from a to b is in the cut of a set with a and without b
+pub cut_between : (g : Graph) (x : Set) (a b e : ℕ) → has_ends g a b e ≡ true → x a ≡ true → x b ≡ false → in_cut g x e ≡ true
+cut_between g x a b e h xa xb = elim (has_ends-cases g a b e h) [
+  | inl k ↦ one (x (first_end g e)) (x (second_end g e)) (ap x k.0 ∙ xa) (ap x k.1 ∙ xb)
+  | inr k ↦ other (x (first_end g e)) (x (second_end g e)) (ap x k.0 ∙ xb) (ap x k.1 ∙ xa)
+]
+  where
+    one : (s t : Bool) → s ≡ true → t ≡ false → ((s && not t) || (not s && t)) ≡ true
+    one s t p q = grind arith
+
+    other : (s t : Bool) → s ≡ false → t ≡ true → ((s && not t) || (not s && t)) ≡ true
+    other s t p q = grind arith
+
+-- the other edges that lie together with an edge of a tight cut are not in it
+pub others_stay : (g : Graph) (x : Set) (e f : ℕ) → IsTight g x → Within (size g) e → Within (size g) f → f ≢ e → Together g e f → in_cut g x e ≡ true → in_cut g x f ≡ false
+others_stay g x e f t we wf d q ce = false_from_ne_true (in_cut g x f) (λ cf. tight_alone g x t e f we wf (λ s. d (sym s)) ce cf q)

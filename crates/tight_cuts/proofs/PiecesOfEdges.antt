@@ -1,0 +1,144 @@
+use Rattle.std.proofs.Common.{◌≡◌, ℕ, ◌+◌, ◌≤◌, ◌≢◌, Bool, true, false, ◌==◌, refl, sym, ap, ap₂, ◌∙◌, arith, ◌&&◌, ◌||◌, not, inl, inr, eq-eqb, ne_eqb}
+use Rattle.std.proofs.lemmas.Bool.{cases_eq, or_from, both_ways, false_from_ne_true}
+use Rattle.barrier_kit.proofs.BarrierCuts.{part_step}
+use Rattle.barrier_kit.proofs.Matched.{inner, near_end, far_end}
+use Rattle.counting.proofs.Odd.{odd-double}
+use Rattle.counting.proofs.RisingLists.{same_answers}
+use Rattle.counting.proofs.Totals.{total_none}
+use Rattle.counting.specs.Counts.{bit, count, Within, is_odd}
+use Rattle.counting.specs.Sets.{Set, none, complement, pair_set}
+use Rattle.graph_core.proofs.Components.{joined_walk, walk_joined, joined_outside}
+use Rattle.graph_core.proofs.Edits.{ends_of, two_ends_le_degree}
+use Rattle.graph_core.proofs.Parity.{parity}
+use Rattle.graph_core.proofs.Walks.{has_ends-cases, adjacent-edge, adjacent_within, Walk-stays, IsClosed, joined_self}
+use Rattle.graph_core.specs.Graph.{Graph, size, first_end, second_end, IsGraph, in_cut, has_ends, edges_in_cut}
+use Rattle.graph_core.specs.Matchings.{IsPerfect, Allowed, Together}
+use Rattle.graph_core.specs.Tight.{IsTight}
+use Rattle.graph_core.specs.Walks.{joined, Joined, adjacent}
+use Rattle.tight_cuts.proofs.PairsOfEdges.{odd_sides, others_stay, cut_between}
+use Rattle.tight_cuts.specs.Pieces.{IsBeside}
+
+-- The pieces of an edge. Idea: an edge that lies together with it meets neither of its ends, so it stays in one piece, and a tight set has it on one side.
+-- a set that no edge of h leaves holds all of a component or nothing
+pub uncrossed_joined : (h : Graph) (s z : Set) → IsGraph h → ((f : ℕ) → Within (size h) f → in_cut h z f ≡ false) → (u v : ℕ) → joined h s u v ≡ true → z u ≡ z v
+unfolding Joined IsClosed
+uncrossed_joined h s z is c u v j = same_answers (z u) (z v)
+    (λ t. let w = joined_walk h s u v j in Walk-stays h.order (adjacent h s) z (adjacent_within h s is) (λ p q wp wq zp a. step z c p q zp a) u v w.0 t w.1)
+    (λ t. true_back (z u) (λ f. let w = joined_walk h s u v j in both_ways (z v) (flip (z v) (Walk-stays h.order (adjacent h s) (λ p. not (z p)) (adjacent_within h s is) (λ p q wp wq zp a. step (λ p. not (z p)) (λ f wf. negated (z (first_end h f)) (z (second_end h f)) (c f wf)) p q zp a) u v w.0 (ap not f) w.1)) t))
+  where
+    flip : (b : Bool) → not b ≡ true → b ≡ false
+    flip b h = grind arith
+
+    true_back : (b : Bool) → (b ≡ false → ⊥) → b ≡ true
+    true_back true h = refl
+    true_back false h = absurd (h refl)
+
+    negated : (s t : Bool) → ((s && not t) || (not s && t)) ≡ false → ((not s && not (not t)) || (not (not s) && not t)) ≡ false
+    negated true true h = refl
+    negated true false h = h
+    negated false true h = h
+    negated false false h = refl
+
+    stay : (s t r : Bool) → ((s && not t) || (not s && t)) ≡ false → s ≡ true → t ≡ r → r ≡ true
+    stay s t r h p q = grind arith
+
+    stay' : (s t r : Bool) → ((s && not t) || (not s && t)) ≡ false → t ≡ true → s ≡ r → r ≡ true
+    stay' s t r h p q = grind arith
+
+    step : (z : Set) → ((f : ℕ) → Within (size h) f → in_cut h z f ≡ false) → (p q : ℕ) → z p ≡ true → adjacent h s p q ≡ true → z q ≡ true
+    step z c p q zp a =
+        let d = adjacent-edge h s p q a in
+        let n = c d.2.0 d.2.1 in
+        elim (has_ends-cases h p q d.2.0 d.2.2) [
+          | inl k ↦ stay (z (first_end h d.2.0)) (z (second_end h d.2.0)) (z q) n (ap z k.0 ∙ zp) (ap z k.1)
+          | inr k ↦ stay' (z (first_end h d.2.0)) (z (second_end h d.2.0)) (z q) n (ap z k.1 ∙ zp) (ap z k.0)
+        ]
+
+-- an edge between a and b has an end at each
+pub ends_at : (g : Graph) (a b e : ℕ) → has_ends g a b e ≡ true → (1 ≤ ends_of g e a) × (1 ≤ ends_of g e b)
+ends_at g a b e h = let n = near_end g e in let f = far_end g e in elim (has_ends-cases g a b e h) [
+  | inl k ↦ let p = ap (ends_of g e) k.0 in let q = ap (ends_of g e) k.1 in (omega arith, omega arith)
+  | inr k ↦ let p = ap (ends_of g e) k.0 in let q = ap (ends_of g e) k.1 in (omega arith, omega arith)
+]
+
+-- a second edge of a perfect matching has no end at an end of the first
+pub apart_ends : (g : Graph) (m : Set) (e f v : ℕ) → IsPerfect g none m → Within g.order v → Within (size g) e → Within (size g) f → e ≢ f → m e ≡ true → m f ≡ true → 1 ≤ ends_of g e v → (v ≢ first_end g f) × (v ≢ second_end g f)
+apart_ends g m e f v p wv we wf d me mf o =
+    let t = two_ends_le_degree g m e f v we wf d me mf in
+    let s = p.once v wv refl in
+    let n = near_end g f in let r = far_end g f in
+    (λ q. let k = ap (ends_of g f) q in omega arith, λ q. let k = ap (ends_of g f) q in omega arith)
+
+module _ (g h : Graph) (is : IsGraph g) (a b e : ℕ) (wa : Within g.order a) (wb : Within g.order b) (we : Within (size g) e) (ends : has_ends g a b e ≡ true) (beside : IsBeside g e h) where
+  pub beside_graph : IsGraph h
+  beside_graph f w = let d = beside.from f w in let q = is d.0 d.1 in let n = d.4 in let r = d.5 in let o = beside.order in ((omega arith, omega arith), (omega arith, omega arith))
+
+  -- an edge that lies together with e has no end a or b
+  pub outside_pair : (f : ℕ) → Within (size g) f → f ≢ e → Together g e f → (pair_set a b (first_end g f) ≡ false) × (pair_set a b (second_end g f) ≡ false)
+  outside_pair f wf d t =
+      let n = ends_at g a b e ends in
+      let p = apart_ends g t.0 e f a t.1 wa we wf (λ q. d (sym q)) t.2 t.3 n.0 in
+      let q = apart_ends g t.0 e f b t.1 wb we wf (λ q. d (sym q)) t.2 t.3 n.1 in
+      (or_from (a == first_end g f) (b == first_end g f) (ne_eqb a (first_end g f) p.0) (ne_eqb b (first_end g f) q.0), or_from (a == second_end g f) (b == second_end g f) (ne_eqb a (second_end g f) p.1) (ne_eqb b (second_end g f) q.1))
+
+  -- it stays in each piece
+  pub beside_stays : (f u : ℕ) → Within g.order u → Within (size g) f → f ≢ e → Together g e f → joined h (pair_set a b) u (first_end g f) ≡ joined h (pair_set a b) u (second_end g f)
+  beside_stays f u wu wf d t =
+      let q = beside.every f wf d t in
+      let o = outside_pair f wf d t in
+      let r = beside.order in
+      let s = part_step h (pair_set a b) u q.0 beside_graph (omega arith) q.1 (ap (pair_set a b) q.2 ∙ o.0) (ap (pair_set a b) q.3 ∙ o.1) in
+      ap (joined h (pair_set a b) u) (sym q.2) ∙ s ∙ ap (joined h (pair_set a b) u) q.3
+
+  -- so its ends are in one piece
+  pub beside_joined : (f : ℕ) → Within (size g) f → f ≢ e → Together g e f → joined h (pair_set a b) (first_end g f) (second_end g f) ≡ true
+  beside_joined f wf d t = let w = is f wf in let r = beside.order in
+      sym (beside_stays f (first_end g f) w.0 wf d t) ∙ walk_joined h (pair_set a b) beside_graph (first_end g f) (first_end g f) (omega arith) (joined_self h (pair_set a b) (first_end g f))
+
+  -- a tight set with e in its cut is a union of pieces, and of some of a, b
+  pub tight_piece : (x : Set) → IsTight g x → in_cut g x e ≡ true → (u v : ℕ) → joined h (pair_set a b) u v ≡ true → x u ≡ x v
+  tight_piece x t c u v j = uncrossed_joined h (pair_set a b) x beside_graph (λ f w. let d = beside.from f w in
+      ap₂ (λ p q. (x p && not (x q)) || (not (x p) && x q)) d.4 d.5 ∙ others_stay g x e d.0 t we d.1 d.2 d.3 c) u v j
+
+  -- a set with a, without b, that is a union of pieces otherwise is odd on both sides
+  pub pieces_odd : Allowed g e → (x : Set) → x a ≡ true → x b ≡ false → ((u v : ℕ) → Within g.order u → Within g.order v → joined h (pair_set a b) u v ≡ true → x u ≡ x v) → (is_odd (count g.order x) ≡ true) × (is_odd (count g.order (complement x)) ≡ true)
+  pieces_odd al x xa xb c = odd_sides g x e is we al (cut_between g x a b e ends xa xb) (λ f wf d t. alike (x (first_end g f)) (x (second_end g f)) (c (first_end g f) (second_end g f) (is f wf).0 (is f wf).1 (beside_joined f wf d t)))
+    where
+      alike : (s t : Bool) → s ≡ t → ((s && not t) || (not s && t)) ≡ false
+      alike s t h = grind arith
+
+  -- the pieces are even
+  pub piece_even : Allowed g e → (u : ℕ) → Within g.order u → pair_set a b u ≡ false → is_odd (count g.order (joined h (pair_set a b) u)) ≡ false
+  piece_even al u wu o =
+      let k = inner g al.0 (joined h (pair_set a b) u) in
+      let z : edges_in_cut g al.0 (joined h (pair_set a b) u) ≡ 0 = total_none (size g) _ (λ f wf. ap bit (no_cross f wf (al.0 f) refl)) in
+      let q : count g.order (joined h (pair_set a b) u) ≡ k + k = omega (arith, parity g is al.0 (joined h (pair_set a b) u) al.1) in
+      ap is_odd q ∙ odd-double k
+    where
+      alike : (s t : Bool) → s ≡ t → ((s && not t) || (not s && t)) ≡ false
+      alike s t h = grind arith
+
+      out : (v : ℕ) → pair_set a b v ≡ true → joined h (pair_set a b) u v ≡ false
+      out v t = false_from_ne_true (joined h (pair_set a b) u v) (λ j. both_ways (pair_set a b v) (joined_outside h (pair_set a b) beside_graph u v o j) t)
+
+      at_a : pair_set a b a ≡ true
+      at_a = ap (λ s. s || (b == a)) (eq-eqb a a refl)
+
+      at_b : pair_set a b b ≡ true
+      at_b = right (a == b) (b == b) (eq-eqb b b refl)
+        where
+          right : (s t : Bool) → t ≡ true → (s || t) ≡ true
+          right s t h = grind arith
+
+      own : joined h (pair_set a b) u (first_end g e) ≡ joined h (pair_set a b) u (second_end g e)
+      own = elim (has_ends-cases g a b e ends) [
+        | inl k ↦ out (first_end g e) (ap (pair_set a b) k.0 ∙ at_a) ∙ sym (out (second_end g e) (ap (pair_set a b) k.1 ∙ at_b))
+        | inr k ↦ out (first_end g e) (ap (pair_set a b) k.0 ∙ at_b) ∙ sym (out (second_end g e) (ap (pair_set a b) k.1 ∙ at_a))
+      ]
+
+      no_cross : (f : ℕ) → Within (size g) f → (s : Bool) → al.0 f ≡ s → (s && in_cut g (joined h (pair_set a b) u) f) ≡ false
+      no_cross f wf false p = refl
+      no_cross f wf true p = alike (joined h (pair_set a b) u (first_end g f)) (joined h (pair_set a b) u (second_end g f)) (elim (cases_eq f e) [
+        | inl d ↦ ap (λ i. joined h (pair_set a b) u (first_end g i)) d ∙ own ∙ ap (λ i. joined h (pair_set a b) u (second_end g i)) (sym d)
+        | inr d ↦ beside_stays f u wu wf d (al.0, al.1, al.2, p)
+      ])

@@ -1,0 +1,9 @@
+use Rattle.std.proofs.Common.{◌≡◌, ℕ, true}
+use Rattle.counting.specs.Counts.{Within}
+use Rattle.counting.specs.Lists.{mem}
+use Rattle.graph_core.specs.Graph.{in_cut}
+use Rattle.tight_cuts.specs.Tightness.{NoLaterWith}
+use Rattle.tight_cuts.proofs.tightness.is_tight.Given as goal
+
+abbrev pub invariant-loop-k : goal.invariant-loop-k
+invariant-loop-k l = (d : ℕ) → Within l.k d → in_cut l.g (mem l.shore) d ≡ true → NoLaterWith l.g (mem l.shore) d

@@ -1,0 +1,4 @@
+pub mod PairSums
+pub mod Candidates
+pub mod Pieces
+pub mod Tightness

@@ -1,0 +1,25 @@
+-- What the test of one cut answers: the cut is tight, or a perfect matching crosses it more than once.
+use Rattle.std.specs.Prelude.{◌≡◌, ℕ, ◌<◌, ◌≤◌, true}
+use Rattle.counting.specs.Sets.{Set, none}
+use Rattle.counting.specs.Lists.{mem}
+use Rattle.graph_core.specs.Graph.{Graph, edges_in_cut, in_cut, size}
+use Rattle.graph_core.specs.Matchings.{IsPerfect, Together}
+use Rattle.graph_core.specs.Tight.{IsTight}
+use Rattle.match_core.specs.MatchingRows.{IsOf, MatchingValue, edges_of}
+use Rattle.tight_cuts.specs.declared.tightness.Tightness.{Tightness}
+use Rattle.tight_cuts.specs.declared.tightness.Tightness.TheVariants.{Tight, Crossed}
+
+-- a perfect matching of g with at least two edges in the cut of x
+pub record CrossesTwice (g : Graph) (x : Set) (m : MatchingValue) : Type 0 where
+  pub of : IsOf g m
+  pub perfect : IsPerfect g none (mem (edges_of m))
+  pub twice : 2 ≤ edges_in_cut g (mem (edges_of m)) x
+
+-- the answer on the cut of x is right: it is tight, or it is not and a perfect matching shows it
+abbrev pub IsTightness : Graph → Set → Tightness → Type 0
+IsTightness g x Tight = IsTight g x
+IsTightness g x (Crossed m) = (IsTight g x → ⊥) × CrossesTwice g x m
+
+-- no later edge of the cut of x lies in a perfect matching together with edge e
+abbrev pub NoLaterWith : Graph → Set → ℕ → Type 0
+NoLaterWith g x e = (f : ℕ) → e < f → f ≤ size g → in_cut g x f ≡ true → Together g e f → ⊥

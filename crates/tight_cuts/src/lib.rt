@@ -1,0 +1,14 @@
+//! Tight cuts of a matching covered graph.
+//!
+//! Is a cut tight, that is, does each perfect matching have exactly one edge in it? `is_tight` answers this for the cut of a
+//! shore with an odd number of vertices (`IsTight` of `graph_core`): `Tightness::Tight` comes exactly where the cut is tight,
+//! and `Tightness::Crossed` shows a perfect matching with at least two edges in the cut (`CrossesTwice`). An odd cut is tight
+//! exactly where no two of its edges lie together in a perfect matching (`NoTwoTogether`), so only pairs of edges are asked.
+//!
+//! Stands on `match_core`, which answers a perfect matching that holds two given edges. Source: Lovász, "Matching structure
+//! and the matching lattice" (1987); Lucchesi and Murty, "Perfect Matchings".
+#![tactic(auto)]
+
+mod tightness;
+
+pub use tightness::{Tightness, is_tight};

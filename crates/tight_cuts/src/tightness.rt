@@ -1,0 +1,103 @@
+//! Whether an odd cut is tight.
+ghost use Rattle.std.specs.Prelude.{◌≡◌, ◌≢◌, ℕ, ◌+◌, ◌||◌, ◌&&◌, ◌==◌, not, true, length, ◌↔◌, Some, None, IfOk};
+ghost use Rattle.counting.specs.Counts.{Within, is_odd};
+ghost use Rattle.counting.specs.Sets.{none};
+ghost use Rattle.counting.specs.Lists.{mem, IsRisingIn};
+ghost use Rattle.graph_core.specs.Covered.{IsCovered};
+ghost use Rattle.graph_core.specs.Graph.{in_cut, size};
+ghost use Rattle.graph_core.specs.Matchings.{IsPerfect, Together};
+ghost use Rattle.match_core.specs.MatchingRows.{IsOf, edges_of};
+ghost use Rattle.tight_cuts.specs.Tightness.{CrossesTwice, IsTightness, NoLaterWith};
+
+use graph_core::{MultiGraph, Numbers};
+use match_core::{Matching, perfect_with};
+use std::alloc::{AllocError as Memory, Global};
+use vset_core::VSet;
+
+/// Whether a cut is tight (Lovász 1987).
+#[derive(Drop)]
+pub enum Tightness {
+    /// It is: each perfect matching has exactly one edge in the cut.
+    Tight,
+    /// It is not: `matching` is a perfect matching with at least two edges in the cut.
+    Crossed { matching: Matching },
+}
+
+/// Whether the cut of `shore`, an odd number of the vertices of the matching covered graph `g`, is tight. `Tight` comes exactly
+/// where it is; `Crossed` comes with a perfect matching of `g` that has at least two edges in the cut.
+///
+/// Two edges of the cut that lie together in a perfect matching are sought: an odd cut is tight exactly where there are none.
+pub fn is_tight(alloc: Global, g: &MultiGraph, shore: VSet) -> Result<Tightness, Memory>
+    requires covered { IsCovered g.now }
+    requires shore { IsRisingIn g.now.order shore }
+    requires odd { is_odd (length shore) ≡ true }
+    ensures { IfOk result (IsTightness g.now (mem shore)) }
+{
+    g.keeps_limits();
+    for k in 0..g.size() {
+        let e = k + 1;
+        if is_in_cut(g, shore, e) {
+            if let Some(matching) = crossing_with(alloc, g, shore, e)? {
+                return Ok(Tightness::Crossed { matching });
+            }
+        }
+    }
+    Ok(Tightness::Tight)
+}
+
+// Whether edge e is in the cut of the shore.
+fn is_in_cut(g: &MultiGraph, shore: VSet, e: u32) -> bool
+    requires { Within (size g.now) e }
+    ensures { result ≡ in_cut g.now (mem shore) e }
+{
+    g.keeps_limits();
+    let ends = g.ends(e);
+    let first = shore.contains(ends.a);
+    let second = shore.contains(ends.b);
+    (first && !second) || (!first && second)
+}
+
+// A perfect matching with edge e of the cut and a later edge of it; none exactly where no later edge of the cut lies in a
+// perfect matching with e.
+fn crossing_with(
+    alloc: Global,
+    g: &MultiGraph,
+    shore: VSet,
+    e: u32,
+) -> Result<Option<Matching>, Memory>
+    requires edge { Within (size g.now) e }
+    requires in_cut { in_cut g.now (mem shore) e ≡ true }
+    ensures some { IfOk result (λ o. (m : _) → o ≡ Some m → CrossesTwice g.now (mem shore) m) }
+    ensures none { IfOk result (λ o. o ≡ None → NoLaterWith g.now (mem shore) e) }
+{
+    for k in e..g.size() {
+        let f = k + 1;
+        if is_in_cut(g, shore, f) {
+            if let Some(matching) = perfect_with_both(alloc, g, e, f)? {
+                return Ok(Some(matching));
+            }
+        }
+    }
+    Ok(None)
+}
+
+// A perfect matching that holds both edges; none exactly where they do not lie together.
+fn perfect_with_both(
+    alloc: Global,
+    g: &MultiGraph,
+    e: u32,
+    f: u32,
+) -> Result<Option<Matching>, Memory>
+    requires first { Within (size g.now) e }
+    requires second { Within (size g.now) f }
+    ensures of { IfOk result (λ o. (m : _) → o ≡ Some m → IsOf g.now m) }
+    ensures perfect { IfOk result (λ o. (m : _) → o ≡ Some m → IsPerfect g.now none (mem (edges_of m))) }
+    ensures first { IfOk result (λ o. (m : _) → o ≡ Some m → mem (edges_of m) e ≡ true) }
+    ensures second { IfOk result (λ o. (m : _) → o ≡ Some m → mem (edges_of m) f ≡ true) }
+    ensures none { IfOk result (λ o. (o ≡ None) ↔ (Together g.now e f → ⊥)) }
+{
+    let mut edges = Numbers::new(alloc);
+    edges.push(e)?;
+    edges.push(f)?;
+    perfect_with(alloc, g, &edges)
+}
