@@ -1,21 +1,21 @@
 -- One perfect matching more in a list of them, each of which holds something new; and what such a list settles.
 -- What a list holds it still holds when it is longer; the new matching holds a pair that no listed one holds.
-use Rattle.std.proofs.Common.{◌≡◌, ◌≢◌, ℕ, suc, zero, ◌+◌, ◌-◌, ◌<◌, ◌≤◌, Bool, true, false, ◌&&◌, ◌||◌, ◌==◌, ◌⊎◌, ◌↔◌, List, [], ◌∷◌, ◌++◌, length, get_or, map, refl, sym, ap, ◌∙◌, arith, inl, inr, subst, eq-eqb, eqb-true, length-append}
+use Rattle.std.proofs.Common.{◌≡◌, ◌≢◌, ℕ, ◌+◌, ◌-◌, ◌<◌, Bool, true, false, ◌&&◌, ◌||◌, ◌==◌, ◌↔◌, List, [], ◌∷◌, ◌++◌, length, get_or, map, filter, refl, sym, ap, ap₂, ◌∙◌, arith, inl, inr, subst, eq-eqb, eqb-true, length-append}
 use Rattle.std.specs.Prelude.{All, Any}
-use Rattle.std.specs.List.{list_any}
-use Rattle.std.proofs.lemmas.Bool.{and_from, and_parts, both_ways, cases_Bool, cases_eq, cases_order, false_from_ne_true, or_cases, or_left, or_right, true≢false}
+use Rattle.std.proofs.lemmas.Bool.{and_from, and_parts, both_ways, cases_eq, cases_order, false_from_ne_true, or_cases, or_left, or_right}
 use Rattle.std.proofs.lemmas.List.{get_or_append_left, map-append}
 use Rattle.std.proofs.Math.Seq.{get_or-append_seam}
-use Rattle.std.proofs.lemmas.List.Elements.{All-nil, All-push}
+use Rattle.std.proofs.lemmas.List.Elements.{All-push}
 use Rattle.std.proofs.lemmas.List.Folds.{Any-from_list_any, list_any-append, list_any_at}
 use Rattle.counting.specs.Counts.{Within}
-use Rattle.counting.specs.Lists.{IsRisingIn, item, mem}
+use Rattle.counting.specs.Lists.{IsRisingIn, mem}
 use Rattle.counting.specs.Sets.{none}
 use Rattle.graph_core.specs.Graph.{Graph, IsGraph, first_end, second_end, size}
-use Rattle.graph_core.specs.Matchings.{Allowed, IsEnd, IsPerfect, Together}
-use Rattle.graph_core.specs.PairLists.{HoldsNew, IsLean, IsPairList}
+use Rattle.graph_core.specs.Matchings.{IsEnd, IsPerfect, Together}
+use Rattle.graph_core.specs.PairLists.{IsLean, IsPairList}
 use Rattle.graph_core.proofs.Edits.{two_ends_le_degree}
-use Rattle.match_core.specs.MatchingRows.{IsOf, KeepsMatching, MatchingValue, edges_of}
+use Rattle.match_core.specs.MatchingRows.{IsOf, KeepsMatching, MatchingValue, edges_of, is_clear}
+use Rattle.match_core.specs.declared.matching.MatchRow.{MatchRow}
 use Rattle.match_core.proofs.ClearedMatchings.{end_at}
 use Rattle.match_core.proofs.MatchingEdges.{rows-rise}
 use Rattle.allowed_edges.specs.Leaving.{ShareNone, share_end}
@@ -209,3 +209,11 @@ module _ (g : Graph) (p : PairsValue) (s : SettlesEdges g (size g + 1) p) where
     (λ h. let a = one_holds e f h in (mem a.1, subst (λ (m : List ℕ). IsPerfect g none (mem m)) a.3 (s.grown.perfect a.0 a.1 a.2), a.4.0, a.4.1)),
     together_held e f we wf,
   )
+
+-- with no vertex taken out the same rows are left
+clear_of_none : (rows : List MatchRow) → filter (is_clear none) rows ≡ rows
+clear_of_none [] = refl
+clear_of_none (row ∷ rows) = ap (λ (rs : List MatchRow). row ∷ rs) (clear_of_none rows)
+
+pub same_matching : (m n : MatchingValue) (x : List ℕ) → x ≡ [] → n.order ≡ m.order → n.rows ≡ filter (is_clear (mem x)) m.rows → n ≡ m
+same_matching m n x empty order rows = ap₂ (λ (k : ℕ) (rs : List MatchRow). let v : MatchingValue = record { order = k; rows = rs } in v) order (rows ∙ ap (λ (xs : List ℕ). filter (is_clear (mem xs)) m.rows) empty ∙ clear_of_none m.rows)

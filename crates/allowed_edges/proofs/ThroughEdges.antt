@@ -2,22 +2,16 @@
 -- The edges meet their ends once, so they are glued to the one and cut off the other; and a perfect matching leaves few
 -- vertices missed when the edges at these ends are taken out.
 use Rattle.std.proofs.Common.{◌≡◌, ℕ, suc, zero, ◌+◌, ◌*◌, ◌≤◌, ◌<◌, ◌≢◌, Bool, true, false, ◌==◌, ◌&&◌, ◌||◌, ◌⊎◌, not, refl, sym, ap, ap₂, ◌∙◌, arith, List, length, map, inl, inr, eqb-true, eq-eqb, ne_eqb, subst}
-use Rattle.std.proofs.lemmas.Bool.{both_ways, cases_Bool, cases_eq, false_from_ne_true, true≢false, or_cases}
-use Rattle.std.proofs.lemmas.List.{length-map}
-use Rattle.counting.specs.Counts.{Within, bit, count}
-use Rattle.counting.specs.Lists.{IsRisingIn, mem}
+use Rattle.std.proofs.lemmas.Bool.{both_ways, cases_eq, false_from_ne_true, true≢false, or_cases}
+use Rattle.counting.specs.Counts.{Within, bit}
 use Rattle.counting.specs.Sets.{Set, none, put, union, minus, everything}
-use Rattle.counting.proofs.Counts.{count_complement}
-use Rattle.counting.proofs.Lists.{count_mem_length}
-use Rattle.graph_core.specs.Graph.{Graph, HasEnds, IsGraph, IsMultigraph, degree, first_end, second_end, size}
-use Rattle.graph_core.specs.Matchings.{Allowed, HasPerfect, IsMatching, IsPerfect, Together, missed_count}
+use Rattle.graph_core.specs.Graph.{Graph, IsGraph, IsMultigraph, degree, first_end, second_end, size}
+use Rattle.graph_core.specs.Matchings.{Allowed, HasPerfect, IsPerfect, Together}
 use Rattle.graph_core.proofs.Decide.{degree_congr, none_matching}
-use Rattle.graph_core.proofs.Edits.{degree_put, ends_of, missed_edges}
-use Rattle.match_core.specs.MatchingRows.{IsOf, KeepsMatching, MatchingValue, edges_of, left_over}
+use Rattle.graph_core.proofs.Edits.{degree_put, ends_of}
 use Rattle.match_core.specs.Questions.{MeetOnce}
 use Rattle.match_core.proofs.ClearedMatchings.{left_misses}
 use Rattle.match_core.proofs.Gluing.{cut_off, glued, meet_more}
-use Rattle.match_core.proofs.MatchingEdges.{edge_of, rows-rise}
 use Rattle.allowed_edges.specs.Leaving.{LeavesFew, ShareNone}
 
 -- a perfect matching is what it answers at the edges
@@ -26,17 +20,6 @@ perfect_alike g r m n h p = record {
   once = λ v w rv. degree_congr g n m v (λ e we. h e) ∙ p.once v w rv;
   away = λ v w rv. degree_congr g n m v (λ e we. h e) ∙ p.away v w rv;
 }
-
--- the vertices of a matching's rows, those outside and those it misses are all
-pub left_size : (g : Graph) (x : List ℕ) (m : MatchingValue) → IsGraph g → IsRisingIn g.order x → IsOf g m → KeepsMatching m → IsMatching g (mem x) (mem (edges_of m)) →
-    missed_count g (mem x) (mem (edges_of m)) + 2 * length m.rows + length x ≡ g.order
-left_size g x m is rises of keeps mm =
-    let a = missed_edges g (mem x) (mem (edges_of m)) is mm in
-    let b = count_mem_length (size g) (edges_of m) (rows-rise g m of keeps) in
-    let l = length-map m.rows edge_of in
-    let c = count_mem_length g.order x rises in
-    let d = count_complement g.order (mem x) in
-    omega arith
 
 -- the sets with the ends of an edge, and of another
 abbrev pub AddsEnds : Graph → ℕ → Set → Set → Type 0

@@ -1,5 +1,5 @@
 -- Square tables of marks on pairs of edges: a row for each edge, at the place of its number.
-use Rattle.std.specs.Prelude.{◌≡◌, ℕ, ◌+◌, ◌≤◌, ◌<◌, Bool, List, [], map, length, slice_index_or}
+use Rattle.std.specs.Prelude.{◌≡◌, ℕ, ◌+◌, ◌<◌, Bool, List, [], map, length, slice_index_or}
 use Rattle.std.specs.Global.{Vec}
 use Rattle.counting.specs.Counts.{Within}
 use Rattle.match_core.specs.Rows.{marks}

@@ -28,6 +28,12 @@ pub record AreGrown (g : Graph) (ms : List (List ℕ)) : Type 0 where
   pub perfect : All (λ m. IsPerfect g none (mem m)) ms
   pub lean : IsLean ms
 
+-- a perfect matching of g that holds edge e
+pub record IsPerfectWith (g : Graph) (e : ℕ) (m : MatchingValue) : Type 0 where
+  pub of : IsOf g m
+  pub perfect : IsPerfect g none (mem (edges_of m))
+  pub held : mem (edges_of m) e ≡ true
+
 -- such matchings of g; of each edge below e and any other that lie together one holds both
 pub record SettlesEdges (g : Graph) (e : ℕ) (p : PairsValue) : Type 0 where
   pub edge_count : p.size ≡ size g

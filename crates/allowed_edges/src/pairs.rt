@@ -8,7 +8,7 @@ ghost use Rattle.graph_core.specs.Matchings.{IsPerfect, Together};
 ghost use Rattle.graph_core.specs.PairLists.{IsLean, IsPairList};
 ghost use Rattle.match_core.specs.MatchingRows.{IsOf, edges_of};
 ghost use Rattle.allowed_edges.specs.Leaving.{share_end};
-ghost use Rattle.allowed_edges.specs.PairTables.{SettlesEdges, SettlesPairs, edge_lists, holds_both};
+ghost use Rattle.allowed_edges.specs.PairTables.{IsPerfectWith, SettlesEdges, SettlesPairs, edge_lists, holds_both};
 
 use crate::questions::{perfect_with_edge, perfect_with_pair};
 use crate::table::{EdgeTable, mark_pairs};
@@ -140,63 +140,72 @@ fn settle_edge(
     match perfect_with_edge(alloc, g, kept, e)? {
         None => Ok(()),
         Some(base) => {
-            settle_pairs(alloc, g, &base, pairs, e)?;
-            list_unless_held(g, pairs, base, e)
+            let last = settle_pairs(alloc, g, base, pairs, e)?;
+            list_unless_held(g, pairs, last, e)
         }
     }
 }
 
-// Settles the pairs of `e` with the edges above it, from a perfect matching that holds it.
+// Settles the pairs of `e` with the edges above it, from a perfect matching that holds it; the answer is such a matching too.
+// Each matching that is found is the one from which the next is sought, so that the list comes to hold many pairs soon.
 fn settle_pairs(
     alloc: Global,
     g: &MultiGraph,
-    base: &Matching,
+    base: Matching,
     pairs: &mut PairTable,
     e: u32,
-) -> Result<(), Memory>
+) -> Result<Matching, Memory>
     requires edge { Within (size g.now) e }
-    requires of { IsOf g.now base.now }
-    requires perfect { IsPerfect g.now none (mem (edges_of base.now)) }
-    requires held { mem (edges_of base.now) e ≡ true }
+    requires base { IsPerfectWith g.now e base }
     requires before { SettlesEdges g.now e pairs.old }
-    ensures { IfOk result (λ _. SettlesPairs g.now e (size g.now + 1) pairs.new) }
+    ensures settled { IfOk result (λ _. SettlesPairs g.now e (size g.now + 1) pairs.new) }
+    ensures last { IfOk result (IsPerfectWith g.now e) }
 {
+    let mut kept = base;
     for k in e..g.size() {
-        settle_pair(alloc, g, base, pairs, e, k + 1)?;
+        kept = settle_pair(alloc, g, kept, pairs, e, k + 1)?;
     }
-    Ok(())
+    Ok(kept)
 }
 
 // Settles the pair of `e` and `f`, where those before it are settled.
 fn settle_pair(
     alloc: Global,
     g: &MultiGraph,
-    base: &Matching,
+    kept: Matching,
     pairs: &mut PairTable,
     e: u32,
     f: u32,
-) -> Result<(), Memory>
+) -> Result<Matching, Memory>
     requires edge { Within (size g.now) e }
     requires other { Within (size g.now) f }
     requires above { e < f }
-    requires of { IsOf g.now base.now }
-    requires perfect { IsPerfect g.now none (mem (edges_of base.now)) }
-    requires held { mem (edges_of base.now) e ≡ true }
+    requires kept { IsPerfectWith g.now e kept }
     requires before { SettlesPairs g.now e f pairs.old }
-    ensures { IfOk result (λ _. SettlesPairs g.now e (f + 1) pairs.new) }
+    ensures settled { IfOk result (λ _. SettlesPairs g.now e (f + 1) pairs.new) }
+    ensures next { IfOk result (IsPerfectWith g.now e) }
 {
     g.keeps_limits();
     if pairs.both(e, f) || share_end(g, e, f) {
-        return Ok(());
+        return Ok(kept);
     }
-    match perfect_with_pair(alloc, g, base, e, f)? {
-        None => Ok(()),
+    match perfect_with_pair(alloc, g, &kept, e, f)? {
+        None => Ok(kept),
         Some(found) => {
             found.keeps_matching();
+            let next = copied(alloc, &found)?;
             pairs.add(found)?;
-            Ok(())
+            Ok(next)
         }
     }
+}
+
+// The same matching once more.
+fn copied(alloc: Global, m: &Matching) -> Result<Matching, Memory>
+    ensures { IfOk result (λ copy. copy ≡ m.now) }
+{
+    let copy = m.cleared(alloc, VSet::empty())?;
+    Ok(copy)
 }
 
 // Lists a perfect matching that holds `e`, unless a listed one holds it; the pairs of `e` are settled.
@@ -207,9 +216,7 @@ fn list_unless_held(
     e: u32,
 ) -> Result<(), Memory>
     requires edge { Within (size g.now) e }
-    requires of { IsOf g.now base }
-    requires perfect { IsPerfect g.now none (mem (edges_of base)) }
-    requires held { mem (edges_of base) e ≡ true }
+    requires base { IsPerfectWith g.now e base }
     requires before { SettlesPairs g.now e (size g.now + 1) pairs.old }
     ensures { IfOk result (λ _. SettlesEdges g.now (e + 1) pairs.new) }
 {

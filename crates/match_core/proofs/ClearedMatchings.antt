@@ -1,26 +1,28 @@
 -- What is left of a matching when the edges with an end in a set are taken out, and how many vertices it then misses.
 -- A row is left exactly where its edge has no end in the set. If the set holds the ends of edges of a perfect matching and of
 -- one more edge, then at most one edge more is taken out than there are such edges, since that one has two ends.
-use Rattle.std.proofs.Common.{◌≡◌, ℕ, suc, zero, ◌+◌, ◌*◌, ◌≤◌, ◌<◌, ◌≢◌, Bool, true, false, ◌==◌, ◌&&◌, ◌||◌, ◌⊎◌, not, refl, sym, ap, ap₂, ◌∙◌, arith, List, [], ◌∷◌, map, filter, cond, inl, inr, eqb-true, eq-eqb, subst}
+use Rattle.std.proofs.Common.{◌≡◌, ℕ, suc, zero, ◌+◌, ◌*◌, ◌≤◌, ◌<◌, ◌≢◌, Bool, true, false, ◌==◌, ◌&&◌, ◌||◌, ◌⊎◌, not, refl, sym, ap, ap₂, ◌∙◌, arith, List, [], ◌∷◌, length, map, filter, cond, inl, inr, eqb-true, eq-eqb, subst}
 use Rattle.std.specs.Prelude.{All}
-use Rattle.std.proofs.lemmas.Bool.{both_ways, cases_Bool, cases_eq, false_from_ne_true, true≢false, and_parts, or_cases, or_left, or_right}
+use Rattle.std.proofs.lemmas.Bool.{both_ways, cases_Bool, cases_eq, true≢false, and_parts, or_cases, or_left, or_right}
+use Rattle.std.proofs.lemmas.List.{length-map}
 use Rattle.std.proofs.lemmas.List.Elements.{All-filter}
 use Rattle.counting.specs.Counts.{Within, bit, count, total}
-use Rattle.counting.specs.Lists.{mem}
-use Rattle.counting.specs.Sets.{Set, none, put, meet, minus, complement}
+use Rattle.counting.specs.Lists.{IsRisingIn, mem}
+use Rattle.counting.specs.Sets.{Set, none, put, meet}
 use Rattle.counting.proofs.Choice.{count_put}
-use Rattle.counting.proofs.Counts.{count_complement, count_congr}
+use Rattle.counting.proofs.Counts.{count_complement}
+use Rattle.counting.proofs.Lists.{count_mem_length}
 use Rattle.counting.proofs.SetSizes.{count_split}
 use Rattle.counting.proofs.Totals.{total_add, total_congr, total_le, total_none}
-use Rattle.graph_core.specs.Graph.{Graph, HasEnds, IsGraph, degree, first_end, second_end, size}
+use Rattle.graph_core.specs.Graph.{Graph, IsGraph, degree, first_end, second_end, size}
 use Rattle.graph_core.specs.Matchings.{IsMatching, IsPerfect, missed_count}
-use Rattle.graph_core.proofs.Edits.{bit_same, edge_at, ends_of, ends_of_is, missed_edges, sum_degrees, two_ends_le_degree}
+use Rattle.graph_core.proofs.Edits.{edge_at, ends_of, missed_edges, sum_degrees, two_ends_le_degree}
 use Rattle.graph_core.proofs.Perfect.{perfect_matching, perfect_misses}
 use Rattle.match_core.specs.MatchingRows.{IsOf, IsRowOf, KeepsMatching, MatchingValue, edges_of, has_end_in, is_clear, left_over}
 use Rattle.match_core.specs.Questions.{MeetOnce}
 use Rattle.match_core.specs.declared.matching.MatchRow.{MatchRow}
 use Rattle.match_core.proofs.Alike.{matching_alike}
-use Rattle.match_core.proofs.MatchingEdges.{edge_of, rows-matching}
+use Rattle.match_core.proofs.MatchingEdges.{edge_of, rows-matching, rows-rise}
 use Rattle.match_core.proofs.Shrinking.{degree_split}
 
 -- the rows that meet no vertex of x
@@ -42,11 +44,6 @@ rows_left g x (row ∷ rows) all i =
     both_out : (a b : Bool) → (not a && not b) ≡ not (a || b)
     both_out true b = refl
     both_out false b = refl
-
-    one_more : (q s u c : Bool) → (q ≡ true → u ≡ c) → (q || (s && u)) ≡ ((q || s) && u) ⊎ (c ≡ false)
-    one_more true s true c h = inl refl
-    one_more true s false c h = inr (sym (h refl))
-    one_more false s u c h = inl refl
 
     go : (b : Bool) → b ≡ not (has_end_in g x row.edge) → mem (map edge_of (filter (is_clear x) rows)) i ≡ (mem (map edge_of rows) i && not (has_end_in g x i)) →
         mem (map edge_of (cond b (row ∷ filter (is_clear x) rows) (filter (is_clear x) rows))) i ≡ (((row.edge == i) || mem (map edge_of rows) i) && not (has_end_in g x i))
@@ -105,6 +102,17 @@ left_matching g x m mm = record {
 
 pub cleared_matching : (g : Graph) (x : Set) (m : MatchingValue) → IsOf g m → KeepsMatching m → IsMatching g x (mem (edges_of (cleared x m)))
 cleared_matching g x m of keeps = matching_alike g x (left_over g x (mem (edges_of m))) (mem (edges_of (cleared x m))) (λ e w. cleared_edges g x m of e) (left_matching g x (mem (edges_of m)) (rows-matching g m of keeps))
+
+-- the vertices of a matching's rows, those outside and those it misses are all
+pub left_size : (g : Graph) (x : List ℕ) (m : MatchingValue) → IsGraph g → IsRisingIn g.order x → IsOf g m → KeepsMatching m → IsMatching g (mem x) (mem (edges_of m)) →
+    missed_count g (mem x) (mem (edges_of m)) + 2 * length m.rows + length x ≡ g.order
+left_size g x m is rises of keeps mm =
+    let a = missed_edges g (mem x) (mem (edges_of m)) is mm in
+    let b = count_mem_length (size g) (edges_of m) (rows-rise g m of keeps) in
+    let l = length-map m.rows edge_of in
+    let c = count_mem_length g.order x rises in
+    let d = count_complement g.order (mem x) in
+    omega arith
 
 -- an edge with an end at v
 pub end_at : (g : Graph) (k v : ℕ) → (first_end g k ≡ v) ⊎ (second_end g k ≡ v) → 1 ≤ ends_of g k v

@@ -7,4 +7,4 @@ returns-then-both c = settles_edge c.args.g.now c.args.e c.args.pairs.now c.requ
 
 pub returns : goal.returns
 returns c =
-    settles_last c.args.g.now c.args.e c.args.pairs.now c.add.new.self c.args.base c.requires.before c.in_ok-add.ensures.size c.in_ok-add.ensures.list c.requires.of c.keeps_matching.ensures c.requires.perfect c.requires.held (sym c.both.ensures ∙ c.if-both.false)
+    settles_last c.args.g.now c.args.e c.args.pairs.now c.add.new.self c.args.base c.requires.before c.in_ok-add.ensures.size c.in_ok-add.ensures.list c.requires.base.of c.keeps_matching.ensures c.requires.base.perfect c.requires.base.held (sym c.both.ensures ∙ c.if-both.false)

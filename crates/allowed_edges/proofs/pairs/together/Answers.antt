@@ -1,4 +1,4 @@
-use Rattle.std.proofs.Common.{◌≡◌, List, ℕ, subst}
+use Rattle.std.proofs.Common.{subst}
 use Rattle.counting.specs.Lists.{mem}
 use Rattle.graph_core.specs.Matchings.{IsPerfect}
 use Rattle.match_core.specs.MatchingRows.{edges_of}

@@ -1,6 +1,6 @@
-use Rattle.std.proofs.Common.{◌≡◌, ℕ, ◌==◌, ◌+◌, ◌*◌, length, ap, sym, ◌∙◌, arith, inl, inr, eq-eqb, ne_eqb}
+use Rattle.std.proofs.Common.{◌==◌, ◌+◌, ◌*◌, ap, sym, ◌∙◌, arith, inl, inr, eq-eqb, ne_eqb}
 use Rattle.counting.proofs.RisingLists.{set-narrower}
-use Rattle.allowed_edges.proofs.ThroughEdges.{left_size}
+use Rattle.match_core.proofs.ClearedMatchings.{left_size}
 use Rattle.allowed_edges.proofs.questions.misses_none.Goals as goal
 
 pub overflow_mul-result : goal.overflow_mul-result

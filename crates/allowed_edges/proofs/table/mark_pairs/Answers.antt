@@ -1,4 +1,4 @@
-use Rattle.std.proofs.Common.{◌≡◌, ◌∙◌}
+use Rattle.std.proofs.Common.{◌∙◌}
 use Rattle.counting.specs.Lists.{mem}
 use Rattle.match_core.specs.MatchingRows.{edges_of}
 use Rattle.allowed_edges.proofs.MarkedPairs.{pairs_more, square_more}

@@ -1,4 +1,4 @@
-use Rattle.std.proofs.Common.{◌≡◌, ℕ, ◌||◌, List, Bool, length, sym, ap, ◌∙◌}
+use Rattle.std.proofs.Common.{◌||◌, List, Bool, length, sym, ap, ◌∙◌}
 use Rattle.counting.specs.Lists.{mem}
 use Rattle.match_core.specs.MatchingRows.{edges_of}
 use Rattle.match_core.specs.Rows.{marks}

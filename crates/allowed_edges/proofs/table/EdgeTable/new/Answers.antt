@@ -1,5 +1,4 @@
-use Rattle.std.proofs.Common.{◌≡◌, ℕ, ◌+◌, length, arith}
-use Rattle.std.proofs.lemmas.List.{length-map}
+use Rattle.std.proofs.Common.{◌+◌, arith}
 use Rattle.allowed_edges.proofs.MarkedPairs.{blank_marks, blank_square}
 use Rattle.allowed_edges.proofs.table.EdgeTable.new.Goals as goal
 
