@@ -7,3 +7,5 @@ pub mod Families
 pub mod Joining
 pub mod ClassLaw
 pub mod CriticalPairs
+pub mod ListedClasses
+pub mod CutLists

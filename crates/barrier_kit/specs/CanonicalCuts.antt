@@ -1,7 +1,6 @@
 -- Lists of cuts, each given by its canonical shore: the shore without the greatest vertex.
 use Rattle.std.specs.Prelude.{ℕ, Bool, List, [], ◌∷◌, ◌++◌, ◌&&◌, not, fold, if◌then◌else◌}
 use Rattle.std.specs.List.{list_any}
-use Rattle.counting.specs.Sets.{Set}
 use Rattle.counting.specs.Lists.{mem, is_subset, rising_list}
 use Rattle.graph_core.specs.Tight.{is_nontrivial, canonical_shore}
 
