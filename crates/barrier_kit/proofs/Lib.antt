@@ -9,3 +9,6 @@ pub mod ClassLaw
 pub mod CriticalPairs
 pub mod ListedClasses
 pub mod CutLists
+pub mod CutFacts
+pub mod AllOf
+pub mod ShoreFacts
