@@ -1,2 +1,4 @@
 pub mod Separations
 pub mod CutPairs
+pub mod PairSearch
+pub mod PairShores
