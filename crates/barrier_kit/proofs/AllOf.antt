@@ -22,14 +22,13 @@ pub all_flat : {X A : Type 0} (P : A → Type 0) (f : X → List A) (xs : List X
 all_flat P f [] h = All-nil P
 all_flat P f (x ∷ xs) h = All-append P (f x) (flat_map f xs) (All-head (λ x. All P (f x)) x xs h) (all_flat P f xs (All-tail (λ x. All P (f x)) x xs h))
 
-pub all_filter : {X : Type 0} (p : X → Bool) (P : X → Type 0) (xs : List X) → All P xs → All P (filter p xs)
-all_filter p P [] h = All-nil P
-all_filter p P (x ∷ xs) h = go (p x)
-    (All-cons P x (filter p xs) (All-head P x xs h) (all_filter p P xs (All-tail P x xs h))) (all_filter p P xs (All-tail P x xs h))
+pub all_passing : {X : Type 0} (p : X → Bool) (P : X → Type 0) (xs : List X) → All (λ x. p x ≡ true → P x) xs → All P (filter p xs)
+all_passing p P [] h = All-nil P
+all_passing p P (x ∷ xs) h = go (p x) refl (all_passing p P xs (All-tail (λ x. p x ≡ true → P x) x xs h))
   where
-    go : (b : Bool) → All P (x ∷ filter p xs) → All P (filter p xs) → All P (cond b (x ∷ filter p xs) (filter p xs))
-    go true a c = a
-    go false a c = c
+    go : (b : Bool) → p x ≡ b → All P (filter p xs) → All P (cond b (x ∷ filter p xs) (filter p xs))
+    go true e r = All-cons P x (filter p xs) (All-head (λ x. p x ≡ true → P x) x xs h e) r
+    go false e r = r
 
 -- what is left by a search that found nothing
 pub all_unfound : {X : Type 0} (p : X → Bool) (xs : List X) → find p xs ≡ None → All (λ k. p k ≡ false) xs

@@ -36,4 +36,4 @@ pub brick_facts : (g : Graph) → IsGraph g → IsCovered g → ((x : Set) → I
     (4 ≤ g.order) × IsBicritical g × ((u v : ℕ) → Within g.order u → Within g.order v → IsCutPair g u v → ⊥)
 brick_facts g is cov odd_cycle brick =
     let b = bicritical g is cov odd_cycle brick in
-    (four g is cov odd_cycle brick, b, no_cut_pair g is b brick)
+    (four g is cov odd_cycle, b, no_cut_pair g is b brick)

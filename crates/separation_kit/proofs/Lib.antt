@@ -2,3 +2,4 @@ pub mod Separations
 pub mod CutPairs
 pub mod PairSearch
 pub mod PairShores
+pub mod SeparationFacts
