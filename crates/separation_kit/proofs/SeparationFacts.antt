@@ -35,7 +35,7 @@ turned a b v = swap (a == v) (b == v)
     swap x y = grind arith
 
 -- what holds of each pair a < b of the list
-pair_holds : (n : ℕ) (P : ℕ × ℕ → Type 0) → All P (rising_pairs n) → (a b : ℕ) → Within n a → Within n b → a < b → P (a, b)
+pub pair_holds : (n : ℕ) (P : ℕ × ℕ → Type 0) → All P (rising_pairs n) → (a b : ℕ) → Within n a → Within n b → a < b → P (a, b)
 pair_holds n P all a b wa wb l =
     rising_all n (nat_lt a) (λ b. P (a, b)) (map_all P (pair_with a) (rising_list n (nat_lt a))
     (rising_all n everything (λ a. All P (map (pair_with a) (rising_list n (nat_lt a)))) (flat_all P (λ a. map (pair_with a) (rising_list n (nat_lt a))) (rising_list n everything) all) a wa refl)) b wb (lt-ltb a b l)
