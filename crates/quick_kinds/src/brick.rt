@@ -28,9 +28,9 @@ pub fn quick_brick(alloc: Global, g: &MultiGraph) -> Result<Option<VSet>, Memory
     if !cuts.is_empty() {
         return Ok(Some(cuts.get(0)));
     }
-    let cuts = separation_cuts(alloc, g)?;
-    if !cuts.is_empty() {
-        return Ok(Some(cuts.get(0)));
+    let others = separation_cuts(alloc, g)?;
+    if !others.is_empty() {
+        return Ok(Some(others.get(0)));
     }
     Ok(None)
 }

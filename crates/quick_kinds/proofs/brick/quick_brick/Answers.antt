@@ -30,20 +30,20 @@ separation_cuts-requires-clause-four c = at_least_four c.args.g.now c.keeps_limi
 
 pub returns-then-not-is_empty-2-clause-none : goal.returns-then-not-is_empty-2-clause-none
 returns-then-not-is_empty-2-clause-none c =
-    let h = ap (λ cuts. slice_get cuts 0) (sym c.in_ok-cuts-2.ensures) ∙ c.get-then-not-is_empty-2.ensures in
+    let h = ap (λ cuts. slice_get cuts 0) (sym c.in_ok-others.ensures) ∙ c.get-then-not-is_empty-2.ensures in
     ((λ e. absurd cc), (λ both. absurd (pair-none c.args.g.now c.keeps_limits.ensures.multigraph c.requires.covered c.requires.odd c.get-then-not-is_empty-2.result h both.1)))
 
 pub returns-then-not-is_empty-2-clause-first : goal.returns-then-not-is_empty-2-clause-first
 returns-then-not-is_empty-2-clause-first c =
     first-right (barrier_cuts c.args.g.now) (separation_cuts c.args.g.now) (Some c.get-then-not-is_empty-2.result) (sym c.in_ok-cuts.ensures ∙ empty-list c.in_ok-cuts.cuts (sym c.is_empty.ensures ∙ c.if-not-is_empty.false))
-    (ap (λ cuts. slice_get cuts 0) (sym c.in_ok-cuts-2.ensures) ∙ c.get-then-not-is_empty-2.ensures)
+    (ap (λ cuts. slice_get cuts 0) (sym c.in_ok-others.ensures) ∙ c.get-then-not-is_empty-2.ensures)
 
 pub returns-then-not-is_empty-2-clause-cut : goal.returns-then-not-is_empty-2-clause-cut
 returns-then-not-is_empty-2-clause-cut c =
-    first-of (IsCanonicalCut c.args.g.now) (separation_cuts c.args.g.now) c.get-then-not-is_empty-2.result (separation_cuts-canonical c.args.g.now c.keeps_limits.ensures.multigraph.ends c.requires.covered) (ap (λ cuts. slice_get cuts 0) (sym c.in_ok-cuts-2.ensures) ∙ c.get-then-not-is_empty-2.ensures)
+    first-of (IsCanonicalCut c.args.g.now) (separation_cuts c.args.g.now) c.get-then-not-is_empty-2.result (separation_cuts-canonical c.args.g.now c.keeps_limits.ensures.multigraph.ends c.requires.covered) (ap (λ cuts. slice_get cuts 0) (sym c.in_ok-others.ensures) ∙ c.get-then-not-is_empty-2.ensures)
 
 pub returns-clause-none : goal.returns-clause-none
 returns-clause-none c =
     let e = sym c.in_ok-cuts.ensures ∙ empty-list c.in_ok-cuts.cuts (sym c.is_empty.ensures ∙ c.if-not-is_empty.false) in
-    let f = sym c.in_ok-cuts-2.ensures ∙ empty-list c.in_ok-cuts-2.cuts (sym c.is_empty-2.ensures ∙ c.if-not-is_empty-2.false) in
+    let f = sym c.in_ok-others.ensures ∙ empty-list c.in_ok-others.others (sym c.is_empty-2.ensures ∙ c.if-not-is_empty-2.false) in
     ((λ _. (no_cuts-bicritical c.args.g.now c.keeps_limits.ensures.multigraph c.requires.covered c.requires.odd e, no_cut-pair c.args.g.now c.keeps_limits.ensures.multigraph c.requires.covered c.requires.odd e f)), (λ _. refl))
