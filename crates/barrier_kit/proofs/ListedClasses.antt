@@ -1,7 +1,7 @@
 -- The classes found one after the other: a vertex is the least of its class exactly where no class before it holds it.
 -- A class is met by its least vertex, and by transitivity a vertex that was met adds no vertex to those met.
 use Rattle.std.proofs.Common.{◌≡◌, ℕ, suc, inl, inr, ◌+◌, ◌<◌, ◌≤◌, Bool, true, false, ◌==◌, refl, sym, ap, ap₂, ◌∙◌, arith, ◌&&◌, ◌||◌, not, cond, List, [], ◌∷◌, ◌++◌, map, nat_lt, ltb-true, lt-ltb, subst, append-nil}
-use Rattle.std.proofs.lemmas.Bool.{cases_Bool, and_parts, and_from}
+use Rattle.std.proofs.lemmas.Bool.{cases_Bool, and_parts, and_from, both_ways, false_from_ne_true}
 use Rattle.std.proofs.lemmas.List.{map-append}
 use Rattle.counting.specs.Counts.{Within}
 use Rattle.counting.specs.Lists.{IsRisingIn, mem, rising_list}
@@ -15,7 +15,7 @@ use Rattle.graph_core.specs.Covered.{IsCovered}
 use Rattle.graph_core.specs.Graph.{Graph, IsGraph}
 use Rattle.graph_core.specs.Matchings.{HasPerfect, has_perfect}
 use Rattle.graph_core.specs.Structure.{classes, is_equivalent, is_least_of_class}
-use Rattle.barrier_kit.proofs.ClassLaw.{equivalent_on}
+use Rattle.barrier_kit.proofs.ClassLaw.{equivalent_back, equivalent_on}
 use Rattle.barrier_kit.proofs.Matched.{perfect_congr}
 
 -- the test is true exactly where there is a perfect matching
@@ -94,6 +94,14 @@ module _ (g : Graph) (is : IsGraph g) (cov : IsCovered g) where
 
       grown : (v : ℕ) → (some k (λ a. is_equivalent g a v) || is_equivalent g (k + 1) v) ≡ some (k + 1) (λ a. is_equivalent g a v)
       grown v = let e : suc k ≡ k + 1 = omega arith in subst (λ j. (some k (λ a. is_equivalent g a v) || is_equivalent g j v) ≡ some j (λ a. is_equivalent g a v)) e refl
+
+  -- a vertex outside the classes before is equivalent to none of their vertices
+  pub classes-apart : (k : ℕ) (met : Set) → k < g.order → ((v : ℕ) → Within g.order v → met v ≡ some k (λ a. is_equivalent g a v)) → met (k + 1) ≡ false → (v : ℕ) → Within g.order v → met v ≡ true → is_equivalent g (k + 1) v ≡ false
+  classes-apart k met l old out v w m = false_from_ne_true (is_equivalent g (k + 1) v) (λ t.
+      let a = some_true k (λ a. is_equivalent g a v) (sym (old v w) ∙ m) in
+      let wa = a.1 in
+      both_ways (met (k + 1)) out (old (k + 1) (omega arith) ∙ true_some k (λ a. is_equivalent g a (k + 1)) a.0 a.1 (is_equivalent_found g a.0 (k + 1)
+      (equivalent_on g a.0 v (k + 1) is cov (omega arith) w (omega arith) (is_equivalent_says g a.0 v a.2) (equivalent_back g (k + 1) v (is_equivalent_says g (k + 1) v t))))))
 
   -- a vertex of a class before it begins none
   pub classes-passed : (k : ℕ) (list : List (List ℕ)) (met : Set) → k < g.order →

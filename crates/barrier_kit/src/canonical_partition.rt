@@ -1,8 +1,8 @@
 //! The canonical partition of a covered graph into its classes.
-ghost use Rattle.std.specs.Prelude.{◌≡◌, IfOk};
+ghost use Rattle.std.specs.Prelude.{◌≡◌, ℕ, true, false, IfOk};
 ghost use Rattle.counting.specs.Counts.{Within};
 ghost use Rattle.counting.specs.Sets.{pair_set};
-ghost use Rattle.counting.specs.Lists.{rising_list};
+ghost use Rattle.counting.specs.Lists.{mem, rising_list};
 ghost use Rattle.graph_core.specs.Covered.{IsCovered};
 ghost use Rattle.graph_core.specs.Matchings.{has_perfect};
 ghost use Rattle.graph_core.specs.Structure.{classes, is_equivalent};
@@ -35,15 +35,30 @@ fn are_equivalent(alloc: Global, g: &MultiGraph, a: u32, b: u32) -> Result<bool,
     Ok(!is_matched_without(alloc, g, a, b)?)
 }
 
-// The vertices that are equivalent to a.
-fn class_of(alloc: Global, g: &MultiGraph, a: u32) -> Result<VSet, Memory>
-    requires { Within g.now.order a }
+// Whether b is equivalent to a, where no vertex of the classes before is.
+fn joins_class(alloc: Global, g: &MultiGraph, met: VSet, a: u32, b: u32) -> Result<bool, Memory>
+    requires first { Within g.now.order a }
+    requires second { Within g.now.order b }
+    requires met { mem met b ≡ true → is_equivalent g.now a b ≡ false }
+    ensures { IfOk result (λ joins. joins ≡ is_equivalent g.now a b) }
+{
+    g.keeps_limits();
+    if met.contains(b) {
+        return Ok(false);
+    }
+    are_equivalent(alloc, g, a, b)
+}
+
+// The vertices that are equivalent to a, which is in none of the classes before.
+fn class_of(alloc: Global, g: &MultiGraph, met: VSet, a: u32) -> Result<VSet, Memory>
+    requires vertex { Within g.now.order a }
+    requires met { (v : ℕ) → Within g.now.order v → mem met v ≡ true → is_equivalent g.now a v ≡ false }
     ensures { IfOk result (λ class. class ≡ rising_list g.now.order (is_equivalent g.now a)) }
 {
     g.keeps_limits();
     let mut class = VSet::empty();
     for k in 0..g.order() {
-        if are_equivalent(alloc, g, a, k + 1)? {
+        if joins_class(alloc, g, met, a, k + 1)? {
             class = class.with(k + 1);
         }
     }
@@ -62,7 +77,7 @@ pub fn classes(alloc: Global, g: &MultiGraph) -> Result<SetList, Memory>
     let mut met = VSet::empty();
     for k in 0..g.order() {
         if !met.contains(k + 1) {
-            let class = class_of(alloc, g, k + 1)?;
+            let class = class_of(alloc, g, met, k + 1)?;
             list.push(class)?;
             met = met.union(class);
         }

@@ -7,8 +7,8 @@ use Rattle.barrier_kit.proofs.canonical_partition.class_of.Goals as goal
 
 pub loop-k-preserved : goal.loop-k-preserved
 loop-k-preserved c = elim c.if-branch.branch [
-  | then-branch w ↦ λ v. ap (λ s. mem s v) w.class-is ∙ members-taken c.loop-k.k (is_equivalent c.args.g.now c.args.a) c.loop-k.class w.with-class.result (sym c.in_ok-are_equivalent.ensures ∙ w.if-branch.true) c.loop-k.invariant w.with-class.ensures v
-  | else-branch w ↦ λ v. ap (λ s. mem s v) w.class-is ∙ members-passed c.loop-k.k (is_equivalent c.args.g.now c.args.a) c.loop-k.class (sym c.in_ok-are_equivalent.ensures ∙ w.if-branch.false) c.loop-k.invariant v
+  | then-branch w ↦ λ v. ap (λ s. mem s v) w.class-is ∙ members-taken c.loop-k.k (is_equivalent c.args.g.now c.args.a) c.loop-k.class w.with-class.result (sym c.in_ok-joins_class.ensures ∙ w.if-branch.true) c.loop-k.invariant w.with-class.ensures v
+  | else-branch w ↦ λ v. ap (λ s. mem s v) w.class-is ∙ members-passed c.loop-k.k (is_equivalent c.args.g.now c.args.a) c.loop-k.class (sym c.in_ok-joins_class.ensures ∙ w.if-branch.false) c.loop-k.invariant v
 ]
 
 pub returns : goal.returns

@@ -1,8 +1,14 @@
 use Rattle.std.proofs.Common.{ap, sym, ◌∙◌, arith}
 use Rattle.counting.specs.Lists.{mem}
-use Rattle.barrier_kit.proofs.ListedClasses.{classes-all, classes-passed, classes-taken}
+use Rattle.barrier_kit.proofs.ListedClasses.{classes-all, classes-apart, classes-passed, classes-taken}
 use Rattle.barrier_kit.proofs.canonical_partition.classes.Goals.{then-not-contains+in_ok-class+in_ok-push, else-not-contains}
 use Rattle.barrier_kit.proofs.canonical_partition.classes.Goals as goal
+
+pub class_of-requires-clause-met : goal.class_of-requires-clause-met
+class_of-requires-clause-met c =
+    let n = c.order-k-end.ensures.is in
+    let l = c.loop-k-test.true in
+    classes-apart c.args.g.now c.keeps_limits.ensures.multigraph.ends c.requires c.loop-k.k (mem c.loop-k.met) (omega arith) c.loop-k.invariant.met (sym c.contains.ensures ∙ c.if-not-contains.true)
 
 pub loop-k-preserved : goal.loop-k-preserved
 loop-k-preserved c =
