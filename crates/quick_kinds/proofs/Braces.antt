@@ -1,3 +1,6 @@
+-- The theorem on braces: a bipartite covered graph has no nontrivial tight cut exactly where it has a perfect matching without
+-- any two vertices of each side. A tight set has one vertex more of one side, and no edge leaves it from the other; where
+-- no perfect matching is left, Hall's condition fails for some vertices, and these with their neighbours are a tight set.
 use Rattle.std.proofs.Common.{◌≡◌, ℕ, suc, zero, ◌+◌, ◌*◌, ◌≤◌, ◌<◌, ◌≢◌, Bool, true, false, ◌==◌, refl, sym, ap, ap₂, ◌∙◌, arith, ◌&&◌, ◌||◌, not, eq-eqb, ne_eqb, eqb-true, nat_lt, ltb-true, ltb-false, ◌⊎◌, inl, inr, ◌↔◌}
 use Rattle.std.proofs.lemmas.Bool.{cases_eq, cases_Bool, true≢false, both_ways, and_parts, and_from, or_cases}
 use Rattle.barrier_kit.proofs.Families.{glue_family}
@@ -14,6 +17,7 @@ use Rattle.counting.proofs.Totals.{total_congr, total_add, total_le, total_none,
 use Rattle.counting.specs.Counts.{bit, count, Within}
 use Rattle.counting.specs.Sets.{Set, none, union, minus, meet, complement, singleton}
 use Rattle.counting.specs.Tests.{some}
+use Rattle.quick_kinds.specs.Braces.{AreFoursMatched, four_set}
 use Rattle.graph_core.proofs.Contraction.{tight_from_cut}
 use Rattle.graph_core.proofs.Decide.{covered_perfect}
 use Rattle.graph_core.proofs.Edits.{ends_of, degree_sum, ends_of_is}
@@ -24,9 +28,6 @@ use Rattle.graph_core.specs.Covered.{IsCovered}
 use Rattle.graph_core.specs.Graph.{Graph, size, first_end, second_end, IsGraph, connects, in_cut, degree, has_ends, edges_in_cut}
 use Rattle.graph_core.specs.Matchings.{IsPerfect}
 use Rattle.graph_core.specs.Tight.{IsTight, IsNontrivial}
-
-abbrev four : ℕ → ℕ → ℕ → ℕ → Set
-four a c b d = union (union (singleton a) (singleton c)) (union (singleton b) (singleton d))
 
 -- a perfect matching of two vertices that an edge joins
 pub one_edge : (g : Graph) (e x y : ℕ) → Within (size g) e → has_ends g x y e ≡ true → x ≢ y → IsPerfect g (complement (union (singleton x) (singleton y))) (singleton e)
@@ -150,9 +151,9 @@ module _ (g : Graph) (is : IsGraph g) (cov : IsCovered g) where
         second true false true false true h = refl
         second true false true false false h = refl
 
-    -- a nontrivial tight set with more on the left: four vertices that leave no perfect matching
+    -- a nontrivial tight set with more on the left: four_set vertices that leave no perfect matching
     more_left : (y : Set) → IsTight g y → IsNontrivial g.order y → count g.order (meet y x) ≡ count g.order (minus y x) + 1 →
-        ((a c b d : ℕ) → Within g.order a → Within g.order c → Within g.order b → Within g.order d → a ≢ c → b ≢ d → x a ≡ true → x c ≡ true → x b ≡ false → x d ≡ false → (m : Set) × IsPerfect g (four a c b d) m) → ⊥
+        ((a c b d : ℕ) → Within g.order a → Within g.order c → Within g.order b → Within g.order d → a ≢ c → b ≢ d → x a ≡ true → x c ≡ true → x b ≡ false → x d ≡ false → (m : Set) × IsPerfect g (four_set a c b d) m) → ⊥
     more_left y t n more match =
         let a = split_count y x in
         let b = split_count (complement y) x in
@@ -197,24 +198,24 @@ module _ (g : Graph) (is : IsGraph g) (cov : IsCovered g) where
             right : (a b : Bool) → a ≡ true → (a && b) ≡ false → b ≡ false
             right a b p q = grind arith
 
-        few : (a c b d : ℕ) → Within g.order a → Within g.order c → a ≢ c → meet y x a ≡ true → meet y x c ≡ true → y b ≡ false → y d ≡ false → x b ≡ false → x d ≡ false → (m : Set) → IsPerfect g (four a c b d) m → ⊥
+        few : (a c b d : ℕ) → Within g.order a → Within g.order c → a ≢ c → meet y x a ≡ true → meet y x c ≡ true → y b ≡ false → y d ≡ false → x b ≡ false → x d ≡ false → (m : Set) → IsPerfect g (four_set a c b d) m → ⊥
         few a c b d wa wc ac ha hc yb yd xb xd m p =
             let e = degrees g is m (minus y x) in
             let f = degrees g is m (meet y x) in
-            let i = no_inner (complement x) (minus y x) (four a c b d) m (other_side x two) (right_of y) p in
-            let j = no_inner x (meet y x) (four a c b d) m two (left_of y) p in
+            let i = no_inner (complement x) (minus y x) (four_set a c b d) m (other_side x two) (right_of y) p in
+            let j = no_inner x (meet y x) (four_set a c b d) m two (left_of y) p in
             let k = total_congr g.order (λ v. bit (minus y x v)) (λ v. bit (minus y x v) * degree g m v) (λ v w. ones v w (minus y x v) refl) in
             let l = total_le g.order (λ v. bit (meet y x v) * degree g m v) (λ v. bit (minus (minus (meet y x) (singleton a)) (singleton c) v)) (λ v w. less v w (meet y x v) (a == v) (c == v) refl refl refl) in
             let s = count_minus g.order (meet y x) a wa ha in
             let u = count_minus g.order (minus (meet y x) (singleton a)) c wc (rw (hc, ne_eqb a c ac) refl) in
-            let cut = total_le (size g) (λ e. bit (m e && in_cut g (minus y x) e)) (λ e. bit (m e && in_cut g (meet y x) e)) (λ e w. over (m e) (x (first_end g e)) (x (second_end g e)) (y (first_end g e)) (y (second_end g e)) (crossing x (four a c b d) m two p e w) (none_right e w)) in
+            let cut = total_le (size g) (λ e. bit (m e && in_cut g (minus y x) e)) (λ e. bit (m e && in_cut g (meet y x) e)) (λ e w. over (m e) (x (first_end g e)) (x (second_end g e)) (y (first_end g e)) (y (second_end g e)) (crossing x (four_set a c b d) m two p e w) (none_right e w)) in
             omega arith
           where
             ones : (v : ℕ) → Within g.order v → (k : Bool) → minus y x v ≡ k → bit (minus y x v) ≡ bit (minus y x v) * degree g m v
             ones v w false t = rw t (omega arith)
             ones v w true t =
                 let q = and_parts (y v) (not (x v)) t in
-                let o : four a c b d v ≡ false = outer (a == v) (c == v) (b == v) (d == v) (y v) (not (x v)) q.0 q.1
+                let o : four_set a c b d v ≡ false = outer (a == v) (c == v) (b == v) (d == v) (y v) (not (x v)) q.0 q.1
                 (λ h. ap (λ i. not (x i)) (sym (eqb-true a v h)) ∙ ap not (and_parts (y a) (x a) ha).1) (λ h. ap (λ i. not (x i)) (sym (eqb-true c v h)) ∙ ap not (and_parts (y c) (x c) hc).1)
                 (λ h. ap y (sym (eqb-true b v h)) ∙ yb) (λ h. ap y (sym (eqb-true d v h)) ∙ yd) in
                 rw t (let z = p.once v w o in omega arith)
@@ -226,7 +227,7 @@ module _ (g : Graph) (is : IsGraph g) (cov : IsCovered g) where
             less v w false i j q r s = rw q (omega arith)
             less v w true true j q r s = rw (q, r) (let z = p.away v w (rw r refl) in omega arith)
             less v w true false true q r s = rw (q, r, s) (let z = p.away v w (rw (r, s) refl) in omega arith)
-            less v w true false false q r s = rw (q, r, s) (let z = (perfect_matching g (four a c b d) m p).once v w in omega arith)
+            less v w true false false q r s = rw (q, r, s) (let z = (perfect_matching g (four_set a c b d) m p).once v w in omega arith)
 
             over : (k a b c d : Bool) → (k ≡ true → ((a && not b) || (not a && b)) ≡ true) → (((c && not a) && (not d && b)) || ((not c && a) && (d && not b))) ≡ false →
                 bit (k && (((c && not a) && not (d && not b)) || (not (c && not a) && (d && not b)))) ≤ bit (k && (((c && a) && not (d && b)) || (not (c && a) && (d && b))))
@@ -242,10 +243,7 @@ module _ (g : Graph) (is : IsGraph g) (cov : IsCovered g) where
             over true false true false true h i = omega arith
             over true false true false false h i = omega arith
 
-  abbrev Fours : Set → Type 0
-  Fours x = (a c b d : ℕ) → Within g.order a → Within g.order c → Within g.order b → Within g.order d → a ≢ c → b ≢ d → x a ≡ true → x c ≡ true → x b ≡ false → x d ≡ false → (m : Set) × IsPerfect g (four a c b d) m
-
-  pub no_tight : (x : Set) → IsSide g x → Fours x → (y : Set) → IsTight g y → IsNontrivial g.order y → ⊥
+  pub no_tight : (x : Set) → IsSide g x → AreFoursMatched g x → (y : Set) → IsTight g y → IsNontrivial g.order y → ⊥
   no_tight x two match y t n =
       let m = covered_perfect g is cov in
       let b = balance x two y m.0 m.1 in
@@ -267,12 +265,12 @@ module _ (g : Graph) (is : IsGraph g) (cov : IsCovered g) where
           more_left (complement x) (other_side x two) y t n
           (let s : count g.order (minus y (complement x)) ≡ count g.order (meet y x) = count_congr g.order _ _ (λ v w. double (y v) (x v)) in omega arith)
           (λ a c b d wa wc wb wd ac bd xa xc xb xd. let k = match b d a c wb wd wa wc bd ac (unflip (x b) xb) (unflip (x d) xd) (flip (x a) xa) (flip (x c) xc) in
-          (k.0, perfect_congr g (four b d a c) (four a c b d) k.0 (λ v w. swap (b == v) (d == v) (a == v) (c == v)) k.1))
+          (k.0, perfect_congr g (four_set b d a c) (four_set a c b d) k.0 (λ v w. swap (b == v) (d == v) (a == v) (c == v)) k.1))
         where
           double : (a b : Bool) → (a && not (not b)) ≡ (a && b)
           double a b = grind arith
 
-  -- four vertices that leave no perfect matching give a nontrivial tight set
+  -- four_set vertices that leave no perfect matching give a nontrivial tight set
   module _ (x : Set) (two : IsSide g x) (a c b d : ℕ) (wa : Within g.order a) (wc : Within g.order c) (wb : Within g.order b) (wd : Within g.order d) (ac : a ≢ c) (bd : b ≢ d)
       (xa : x a ≡ true) (xc : x c ≡ true) (xb : x b ≡ false) (xd : x d ≡ false) where
     abbrev lefts : Set
@@ -297,8 +295,8 @@ module _ (g : Graph) (is : IsGraph g) (cov : IsCovered g) where
         split i j k h = grind arith
 
     -- Hall's condition holds: a perfect matching
-    matched : ((z : Set) → count g.order (meet z lefts) ≤ count g.order (neighbours g.order beside rights (meet z lefts))) → (m : Set) × IsPerfect g (four a c b d) m
-    matched enough = let m = glue_family g is lefts star each apart in (m.0, perfect_congr g _ (four a c b d) m.0 (λ v w. all v w) m.1)
+    matched : ((z : Set) → count g.order (meet z lefts) ≤ count g.order (neighbours g.order beside rights (meet z lefts))) → (m : Set) × IsPerfect g (four_set a c b d) m
+    matched enough = let m = glue_family g is lefts star each apart in (m.0, perfect_congr g _ (four_set a c b d) m.0 (λ v w. all v w) m.1)
       where
         picks : Picks g.order beside lefts rights
         picks = hall g.order beside (count g.order lefts) lefts rights (omega arith) enough
@@ -334,7 +332,7 @@ module _ (g : Graph) (is : IsGraph g) (cov : IsCovered g) where
             let r = count_minus g.order (complement x) b wb (ap not xb) in
             let s = count_minus g.order (minus (complement x) (singleton b)) d wd (rw (xd, ne_eqb b d bd) refl) in omega arith
 
-        cover : (v : ℕ) → Within g.order v → some g.order (λ z. lefts z && star z v) ≡ not (four a c b d v)
+        cover : (v : ℕ) → Within g.order v → some g.order (λ z. lefts z && star z v) ≡ not (four_set a c b d v)
         cover v w = same_answers _ _ there back
           where
             out : (i j k l s : Bool) → i ≡ false → j ≡ false → (k ≡ true → s ≡ false) → (l ≡ true → s ≡ false) → s ≡ true → not ((i || j) || (k || l)) ≡ true
@@ -343,7 +341,7 @@ module _ (g : Graph) (is : IsGraph g) (cov : IsCovered g) where
             out' : (i j k l s : Bool) → k ≡ false → l ≡ false → (i ≡ true → s ≡ true) → (j ≡ true → s ≡ true) → s ≡ false → not ((i || j) || (k || l)) ≡ true
             out' i j k l s h1 h2 h3 h4 h5 = grind arith
 
-            there : some g.order (λ z. lefts z && star z v) ≡ true → not (four a c b d v) ≡ true
+            there : some g.order (λ z. lefts z && star z v) ≡ true → not (four_set a c b d v) ≡ true
             there h =
                 let z = some_true g.order (λ z. lefts z && star z v) h in
                 let p = and_parts (lefts z.0) (star z.0 v) z.2 in
@@ -354,8 +352,8 @@ module _ (g : Graph) (is : IsGraph g) (cov : IsCovered g) where
                       out' (a == v) (c == v) (b == v) (d == v) (x v) q.1 q.2 (λ t. ap x (sym (eqb-true a v t)) ∙ xa) (λ t. ap x (sym (eqb-true c v t)) ∙ xc) q.0
                 ]
 
-            component_count : (i j k l : Bool) → not ((i || j) || (k || l)) ≡ true → (i ≡ false) × (j ≡ false) × (k ≡ false) × (l ≡ false)
-            component_count i j k l h = grind arith
+            no_one : (i j k l : Bool) → not ((i || j) || (k || l)) ≡ true → (i ≡ false) × (j ≡ false) × (k ≡ false) × (l ≡ false)
+            no_one i j k l h = grind arith
 
             first : (i j k : Bool) → i ≡ true → j ≡ true → (i && (j || k)) ≡ true
             first i j k h l = grind arith
@@ -363,9 +361,9 @@ module _ (g : Graph) (is : IsGraph g) (cov : IsCovered g) where
             last : (i j k : Bool) → i ≡ true → k ≡ true → (i && (j || k)) ≡ true
             last i j k h l = grind arith
 
-            back : not (four a c b d v) ≡ true → some g.order (λ z. lefts z && star z v) ≡ true
+            back : not (four_set a c b d v) ≡ true → some g.order (λ z. lefts z && star z v) ≡ true
             back h =
-                let q = component_count (a == v) (c == v) (b == v) (d == v) h in
+                let q = no_one (a == v) (c == v) (b == v) (d == v) h in
                 elim (cases_Bool (x v)) [
                   | inl t ↦ true_some g.order (λ z. lefts z && star z v) v w (first (lefts v) (v == v) _ (rw (t, q.0, q.1) refl) (eq-eqb v v refl))
                   | inr f ↦
@@ -373,8 +371,8 @@ module _ (g : Graph) (is : IsGraph g) (cov : IsCovered g) where
                       true_some g.order (λ z. lefts z && star z v) k.0 k.1 (last (lefts k.0) (k.0 == v) (picks.to k.0 == v) k.2 (eq-eqb _ _ k.3))
                 ]
 
-        all : (v : ℕ) → Within g.order v → complement (λ v. some g.order (λ z. lefts z && star z v)) v ≡ four a c b d v
-        all v w = ap not (cover v w) ∙ not_not (four a c b d v)
+        all : (v : ℕ) → Within g.order v → complement (λ v. some g.order (λ z. lefts z && star z v)) v ≡ four_set a c b d v
+        all v w = ap not (cover v w) ∙ not_not (four_set a c b d v)
           where
             not_not : (i : Bool) → not (not i) ≡ i
             not_not true = refl
@@ -471,7 +469,7 @@ module _ (g : Graph) (is : IsGraph g) (cov : IsCovered g) where
           bits false j h = omega arith
 
       nontrivial : IsNontrivial g.order (union some_left near_set)
-      nontrivial = let s = size_is in let o = one_more in record { inside = omega arith; outside = odd_three _ tight.odd_rest (two_members g.order (complement (union some_left near_set)) a c wa wc ac (ap not a_out) (ap not c_out)) }
+      nontrivial = let s = size_is in let o = one_more in record { inside = omega arith; outside = odd_three _ tight.odd_complement (two_members g.order (complement (union some_left near_set)) a c wa wc ac (ap not a_out) (ap not c_out)) }
 
     test_respects : Respects g.order (λ z. nat_lt (count g.order (neighbours g.order beside rights (meet z lefts))) (count g.order (meet z lefts)))
     test_respects = record {
@@ -480,14 +478,14 @@ module _ (g : Graph) (is : IsGraph g) (cov : IsCovered g) where
           (count_congr g.order _ _ (λ v w. ap (λ k. k && lefts v) (h v w)));
     }
 
-    pub matched_or_tight : ((m : Set) × IsPerfect g (four a c b d) m) ⊎ ((y : Set) × IsTight g y × IsNontrivial g.order y)
+    pub matched_or_tight : ((m : Set) × IsPerfect g (four_set a c b d) m) ⊎ ((y : Set) × IsTight g y × IsNontrivial g.order y)
     matched_or_tight = elim (choose_set g.order (λ z. nat_lt (count g.order (neighbours g.order beside rights (meet z lefts))) (count g.order (meet z lefts))) test_respects) [
       | inl r ↦ let l = ltb-true _ _ r.1 in inr (union (some_left r.0 l) (near_set r.0 l), tight r.0 l, nontrivial r.0 l)
       | inr f ↦ inl (matched (λ z. ltb-false _ _ (f z)))
     ]
 
   -- the theorem on braces
-  pub braces : (x : Set) → IsSide g x → ((y : Set) → IsTight g y → IsNontrivial g.order y → ⊥) ↔ Fours x
+  pub braces : (x : Set) → IsSide g x → ((y : Set) → IsTight g y → IsNontrivial g.order y → ⊥) ↔ AreFoursMatched g x
   braces x two = (
     (λ h a c b d wa wc wb wd ac bd xa xc xb xd. elim (matched_or_tight x two a c b d wa wc wb wd ac bd xa xc xb xd) [
       | inl m ↦ m

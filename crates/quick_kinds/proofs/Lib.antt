@@ -1,0 +1,3 @@
+pub mod Braces
+pub mod FourSearch
+pub mod QuickBricks

@@ -1,0 +1,73 @@
+-- The first cut that classes or cut pairs give. A graph without a cut of a class is bicritical, since a class of two vertices
+-- gives a cut; a bicritical graph without a cut of a cut pair has no cut pair.
+use Rattle.std.proofs.Common.{◌≡◌, ℕ, ◌≤◌, true, ◌==◌, refl, sym, ap, ◌∙◌, ◌⊎◌, inl, inr, List, [], ◌∷◌, ◌++◌, length, Option, Some, None, arith, eqb-true, subst}
+use Rattle.std.specs.Prelude.{All, slice_get}
+use Rattle.std.proofs.lemmas.List.Elements.{All-head}
+use Rattle.graph_core.specs.Covered.{IsCovered}
+use Rattle.graph_core.specs.Graph.{Graph, IsBipartite, IsMultigraph}
+use Rattle.graph_core.specs.Structure.{IsBicritical, IsCutPair, unlike_pair}
+use Rattle.barrier_kit.specs.BarrierShores.{barrier_cuts}
+use Rattle.barrier_kit.proofs.CriticalPairs.{four, no_sides}
+use Rattle.barrier_kit.proofs.ShoreFacts.{bicritical_no_cuts, some_cut}
+use Rattle.separation_kit.specs.SeparationShores.{separation_cuts}
+use Rattle.separation_kit.proofs.SeparationFacts.{cut_pair-none, no_pair_no_cuts, pair_some_cut, unlike-none}
+
+-- the first of a list
+pub first-left : (xs ys : List (List ℕ)) (r : List ℕ) → slice_get xs 0 ≡ Some r → Some r ≡ slice_get (xs ++ ys) 0
+first-left [] ys r h = absurd (none_some h)
+  where
+    none_some : None ≡ Some r → ⊥
+    none_some e = cc
+first-left (x ∷ xs) ys r h = sym h
+
+pub first-right : (xs ys : List (List ℕ)) (o : Option (List ℕ)) → xs ≡ [] → slice_get ys 0 ≡ o → o ≡ slice_get (xs ++ ys) 0
+first-right xs ys o e h = sym h ∙ ap (λ zs. slice_get (zs ++ ys) 0) (sym e)
+
+pub first-of : (P : List ℕ → Type 0) (xs : List (List ℕ)) (r : List ℕ) → All P xs → slice_get xs 0 ≡ Some r → P r
+first-of P [] r all h = absurd (none_some h)
+  where
+    none_some : None ≡ Some r → ⊥
+    none_some e = cc
+first-of P (x ∷ xs) r all h = subst P (some_is h) (All-head P x xs all)
+  where
+    some_is : Some x ≡ Some r → x ≡ r
+    some_is e = cc
+
+pub first-some : (xs : List (List ℕ)) (r : List ℕ) → slice_get xs 0 ≡ Some r → xs ≡ [] → ⊥
+first-some xs r h e = none_some (ap (λ zs. slice_get zs 0) (sym e) ∙ h)
+  where
+    none_some : None ≡ Some r → ⊥
+    none_some e = cc
+
+pub empty-list : (xs : List (List ℕ)) → (length xs == 0) ≡ true → xs ≡ []
+empty-list [] h = refl
+empty-list (x ∷ xs) h = let e = eqb-true (length (x ∷ xs)) 0 h in absurd (omega arith)
+
+pub critical_or_not : (g : Graph) → (IsBicritical g) ⊎ (IsBicritical g → ⊥)
+critical_or_not g = go (unlike_pair g) refl
+  where
+    go : (o : Option (ℕ × ℕ)) → unlike_pair g ≡ o → (IsBicritical g) ⊎ (IsBicritical g → ⊥)
+    go None e = inl ((unlike-none g).0 e)
+    go (Some k) e = inr (λ bi. let z : None ≡ Some k = sym ((unlike-none g).1 bi) ∙ e in absurd cc)
+
+module _ (g : Graph) (is : IsMultigraph g) (cov : IsCovered g) (odd : IsBipartite g → ⊥) where
+  pub no_cuts-bicritical : barrier_cuts g ≡ [] → IsBicritical g
+  no_cuts-bicritical e = elim (critical_or_not g) [
+    | inl bi ↦ bi
+    | inr n ↦ absurd (some_cut g is.ends cov (no_sides g is.no_loop odd) n e)
+  ]
+
+  pub at_least_four : 4 ≤ g.order
+  at_least_four = four g is.ends cov (no_sides g is.no_loop odd)
+
+  -- a first cut of a class
+  pub class-none : (r : List ℕ) → slice_get (barrier_cuts g) 0 ≡ Some r → IsBicritical g → ⊥
+  class-none r h bi = first-some (barrier_cuts g) r h (bicritical_no_cuts g is.ends cov bi)
+
+  -- a first cut of a cut pair
+  pub pair-none : (r : List ℕ) → slice_get (separation_cuts g) 0 ≡ Some r → ((u v : ℕ) → IsCutPair g u v → ⊥) → ⊥
+  pair-none r h n = first-some (separation_cuts g) r h (no_pair_no_cuts g is.ends ((cut_pair-none g).1 n))
+
+  -- no cut at all
+  pub no_cut-pair : barrier_cuts g ≡ [] → separation_cuts g ≡ [] → (u v : ℕ) → IsCutPair g u v → ⊥
+  no_cut-pair e f u v c = pair_some_cut g is.ends (no_cuts-bicritical e) at_least_four u v c f

@@ -1,0 +1,15 @@
+-- Perfect matchings without two vertices of each side of a bipartite graph, the test for braces (Lovász and Plummer, "Matching
+-- Theory").
+use Rattle.std.specs.Prelude.{◌≡◌, ◌≢◌, ℕ, true, false}
+use Rattle.counting.specs.Counts.{Within}
+use Rattle.counting.specs.Sets.{Set, pair_set, union}
+use Rattle.graph_core.specs.Graph.{Graph}
+use Rattle.graph_core.specs.Matchings.{HasPerfect}
+
+-- the set of two vertices a and c and two vertices b and d
+abbrev pub four_set : (a c b d : ℕ) → Set
+four_set a c b d = union (pair_set a c) (pair_set b d)
+
+-- a perfect matching without any two vertices of x and any two vertices outside x
+abbrev pub AreFoursMatched : Graph → Set → Type 0
+AreFoursMatched g x = (a c b d : ℕ) → Within g.order a → Within g.order c → Within g.order b → Within g.order d → a ≢ c → b ≢ d → x a ≡ true → x c ≡ true → x b ≡ false → x d ≡ false → HasPerfect g (four_set a c b d)

@@ -1,0 +1,36 @@
+//! The quick test for bricks.
+ghost use Rattle.std.specs.Prelude.{◌≡◌, ◌↔◌, ◌++◌, ℕ, None, IfOk, IfSome, slice_get};
+ghost use Rattle.graph_core.specs.Covered.{IsCovered};
+ghost use Rattle.graph_core.specs.Graph.{IsBipartite};
+ghost use Rattle.graph_core.specs.Structure.{IsBicritical, IsCutPair};
+ghost use Rattle.barrier_kit.specs.BarrierShores.{barrier_cuts};
+ghost use Rattle.barrier_kit.specs.CanonicalCuts.{IsCanonicalCut};
+ghost use Rattle.separation_kit.specs.SeparationShores.{separation_cuts};
+
+use barrier_kit::barrier_cuts;
+use graph_core::MultiGraph;
+use separation_kit::separation_cuts;
+use std::alloc::{AllocError as Memory, Global};
+use vset_core::VSet;
+
+/// A nontrivial tight cut of a covered graph that is not bipartite, where classes or cut pairs give one, by its canonical
+/// shore: the first of `barrier_cuts`, or the first of `separation_cuts` where there is none. `None` comes exactly where the
+/// graph is bicritical and has no cut pair. Then it is a brick (Edmonds, Lovász and Pulleyblank 1982), which is not proved here.
+pub fn quick_brick(alloc: Global, g: &MultiGraph) -> Result<Option<VSet>, Memory>
+    requires covered { IsCovered g.now }
+    requires odd { ¬ (IsBipartite g.now) }
+    ensures none { IfOk result (λ found. (found ≡ None) ↔ (IsBicritical g.now × ((u v : ℕ) → ¬ (IsCutPair g.now u v)))) }
+    ensures first { IfOk result (λ found. found ≡ slice_get (barrier_cuts g.now ++ separation_cuts g.now) 0) }
+    ensures cut { IfOk result (λ found. IfSome found (IsCanonicalCut g.now)) }
+{
+    g.keeps_limits();
+    let cuts = barrier_cuts(alloc, g)?;
+    if !cuts.is_empty() {
+        return Ok(Some(cuts.get(0)));
+    }
+    let others = separation_cuts(alloc, g)?;
+    if !others.is_empty() {
+        return Ok(Some(others.get(0)));
+    }
+    Ok(None)
+}
