@@ -1,14 +1,12 @@
 -- The shores of a derivation stand where they should: at each node the blocks are a partition, so that a nontrivial shore is a
 -- nonempty union of blocks, and merging it or its complement leaves a partition again. By induction down the tree.
-use Rattle.std.proofs.Common.{◌≡◌, ℕ, ◌-◌, ◌<◌, List, [], ◌∷◌, length, true, All, get_or, arith, refl, ◌∙◌, ap}
-use Rattle.std.proofs.lemmas.Bool.{both_ways}
+use Rattle.std.proofs.Common.{◌≡◌, ℕ, ◌-◌, ◌<◌, List, [], ◌∷◌, length, All, arith, refl, ◌∙◌}
 use Rattle.counting.specs.Counts.{Within, bit, count}
 use Rattle.counting.specs.Sets.{none}
 use Rattle.counting.specs.Lists.{mem, IsRisingIn}
 use Rattle.counting.proofs.Lists.{mem-within, member-of_set}
 use Rattle.counting.proofs.Counts.{count_congr}
 use Rattle.counting.proofs.Totals.{total_none}
-use Rattle.counting.proofs.RisingLists.{mem-item}
 use Rattle.graph_core.specs.Graph.{Graph}
 use Rattle.graph_core.specs.Partitions.{IsPartition, complement_of, merged, singles}
 use Rattle.graph_core.specs.Shores.{IsUnion, blocks_in}
@@ -19,7 +17,7 @@ use Rattle.contraction.proofs.SinglePartitions.{singles-partition}
 use Rattle.tree_core.specs.Shapes.{Shape, leaf, cut, Fits}
 use Rattle.tree_core.specs.Derivations.{IsCutAt, IsDerivationAt, IsDerivation, kept_at, merged_at}
 use Rattle.tree_core.specs.Leaves.{StandsAt}
-use Rattle.tree_core.proofs.Shores.{complement-nonempty}
+use Rattle.tree_core.proofs.Shores.{below-without_greatest, complement-nonempty}
 
 -- no block is in the empty set
 nothing-in_empty : (n : ℕ) (p : List (List ℕ)) → IsPartition n p → IsUnion n p (mem []) → count (length p) (blocks_in p (mem [])) ≡ 0
@@ -34,14 +32,7 @@ cut-nonempty g p (v ∷ x) is cuts = omega arith
 
 -- a canonical shore lies below n
 pub cut-below : (g : Graph) (p : List (List ℕ)) (x : List ℕ) → IsCutAt g p x → All (Within (g.order - 1)) x
-cut-below g p x cuts k d less =
-    let within = cuts.set.within k d less in
-    below (get_or x k d) within (mem-item x k d less)
-  where
-    below : (v : ℕ) → Within g.order v → mem x v ≡ true → Within (g.order - 1) v
-    below v within held =
-        let other : v ≡ g.order → ⊥ = λ same. both_ways (mem x v) (ap (mem x) same ∙ cuts.canonical) held in
-        (omega arith, omega arith)
+cut-below g p x cuts = below-without_greatest g.order x cuts.set cuts.canonical
 
 -- merging a nonempty union of blocks leaves a partition
 pub partition-merged : (n : ℕ) (p : List (List ℕ)) (x : List ℕ) → IsPartition n p → IsRisingIn n x → 0 < length x → IsUnion n p (mem x) → IsPartition n (merged p x)

@@ -1,7 +1,7 @@
 -- Shores in a tree over 1 to n. A rising list lies below n exactly where its greatest number does; the complement of a shore
 -- below n holds n, so it is not empty.
 use Rattle.std.proofs.Common.{◌≡◌, ◌↔◌, ℕ, ◌-◌, ◌≤◌, ◌<◌, List, [], ◌∷◌, length, true, false, not, ◌&&◌, IsTrue, nat_lt, All, get_or, arith, sym, ◌∙◌, ap}
-use Rattle.std.proofs.lemmas.Bool.{and_parts}
+use Rattle.std.proofs.lemmas.Bool.{and_parts, both_ways}
 use Rattle.std.proofs.lemmas.Bool.Decides.{nat_tests}
 use Rattle.counting.specs.Counts.{Within}
 use Rattle.counting.specs.Sets.{everything}
@@ -48,3 +48,13 @@ complement-nonempty n (x ∷ xs) rises some all =
     some_member : (xs : List ℕ) (v : ℕ) → mem xs v ≡ true → 0 < length xs
     some_member [] v held = grind arith
     some_member (x ∷ xs) v held = omega arith
+
+-- a rising list within 1 to n that has not n lies below n
+pub below-without_greatest : (n : ℕ) (xs : List ℕ) → IsRisingIn n xs → mem xs n ≡ false → All (Within (n - 1)) xs
+below-without_greatest n xs rises without k d less =
+    below (get_or xs k d) (rises.within k d less) (mem-item xs k d less)
+  where
+    below : (v : ℕ) → Within n v → mem xs v ≡ true → Within (n - 1) v
+    below v within held =
+        let other : v ≡ n → ⊥ = λ same. both_ways (mem xs v) (ap (mem xs) same ∙ without) held in
+        (omega arith, omega arith)
