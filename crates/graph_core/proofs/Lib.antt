@@ -1,6 +1,7 @@
 pub mod Blocks
 pub mod Carrying
 pub mod Components
+pub mod Complements
 pub mod Contraction
 pub mod Decide
 pub mod Edits

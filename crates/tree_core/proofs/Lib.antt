@@ -1,0 +1,4 @@
+pub mod DerivationLeaves
+pub mod DerivationStands
+pub mod Shores
+pub mod Sizes

@@ -1,0 +1,4 @@
+pub mod Shapes
+pub mod Derivations
+pub mod Leaves
+pub mod View

@@ -1,0 +1,27 @@
+//! Laws of derivations and of plain trees. Each is the contract of a function that does nothing.
+ghost use Rattle.std.specs.Prelude.{◌≡◌, ◌+◌, ◌*◌, ℕ, length, List, All};
+ghost use Rattle.graph_core.specs.Graph.{Graph};
+ghost use Rattle.graph_core.specs.Partitions.{IsPartition, singles};
+ghost use Rattle.tree_core.specs.Shapes.{Shape, Fits, cut_count, leaf_count, node_count};
+ghost use Rattle.tree_core.specs.Derivations.{IsDerivation, IsLeafAt};
+ghost use Rattle.tree_core.specs.Leaves.{StandsAt, leaves};
+
+/// A derivation of a graph fits the graph's order, and each of its shores is a nonempty union of blocks where it stands. So its
+/// leaves may be asked for.
+pub fn derivation_stands()
+    ensures fits { (g : Graph) (t : Shape) → IsDerivation g t → Fits g.order t }
+    ensures stands { (g : Graph) (t : Shape) → IsDerivation g t → StandsAt g.order (singles g.order) t }
+{}
+
+/// Each leaf of a derivation is a partition at which no nontrivial shore is tight.
+pub fn derivation_leaves()
+    ensures partitions { (g : Graph) (t : Shape) → IsDerivation g t → All (IsPartition g.order) (leaves g.order t) }
+    ensures uncut { (g : Graph) (t : Shape) → IsDerivation g t → All (IsLeafAt g) (leaves g.order t) }
+{}
+
+/// A tree with c cuts has c + 1 leaves and 2 c + 1 nodes, and its list of leaves has that length.
+pub fn tree_sizes()
+    ensures leaves { (t : Shape) → leaf_count t ≡ cut_count t + 1 }
+    ensures nodes { (t : Shape) → node_count t ≡ 2 * cut_count t + 1 }
+    ensures list { (n : ℕ) (t : Shape) → length (leaves n t) ≡ leaf_count t }
+{}

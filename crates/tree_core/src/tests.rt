@@ -1,0 +1,78 @@
+//! Small trees: their sizes, their copies and their leaves.
+ghost use Rattle.std.specs.Prelude.{◌≡◌, IfOk};
+ghost use Rattle.tree_core.specs.Shapes.{leaf, cut};
+ghost use Rattle.tree_core.specs.View.{shape_of};
+
+use crate::{Partitions, Path, Side, Tree, copy, depth, fits, leaves, nodes};
+use contraction::Partition;
+use std::alloc::{AllocError as Memory, Global};
+use std::test::Fail;
+use vset_core::VSet;
+
+// A cut with two leaves.
+fn one_cut(alloc: Global, shore: VSet) -> Result<Tree, Memory>
+    ensures { IfOk result (λ tree. shape_of tree ≡ cut shore leaf leaf) }
+{
+    let kept = Box::new(alloc, Tree::Leaf)?;
+    let merged = Box::new(alloc, Tree::Leaf)?;
+    Ok(Tree::Cut {
+        shore,
+        kept,
+        merged,
+    })
+}
+
+#[test]
+fn leaves_of_the_hexagon_cut_once(rt: HostRuntime) -> Result<(), Fail> {
+    let tree = one_cut(rt.alloc(), VSet::full(3))?;
+    let found = leaves(rt.alloc(), &tree, 6)?;
+    assert_eq!(rt; found.len(), 2);
+    let rows: [[&[u32]; 4]; 2] = [
+        [&[1], &[2], &[3], &[4, 5, 6]],
+        [&[1, 2, 3], &[4], &[5], &[6]],
+    ];
+    for (i, row) in rows.iter().enumerate() {
+        assert!(rt; i < found.len());
+        let p = found.get(i);
+        assert_eq!(rt; p.len(), 4);
+        for (k, block) in row.iter().enumerate() {
+            assert!(rt; k < p.len());
+            let held = p.block(k);
+            assert_eq!(rt; held.len() as usize, block.len());
+            for v in block.iter() {
+                assert!(rt; 1 <= *v && *v <= 128);
+                assert!(rt; held.contains(*v));
+            }
+        }
+    }
+    Ok(())
+}
+
+#[test]
+fn sizes_and_copies(rt: HostRuntime) -> Result<(), Fail> {
+    let leaf = Tree::Leaf;
+    assert!(rt; fits(&leaf, 0) && nodes(&leaf) == 1 && depth(&leaf) == 1);
+    let tree = one_cut(rt.alloc(), VSet::full(3))?;
+    assert!(rt; fits(&tree, 6) && fits(&tree, 4) && !fits(&tree, 3));
+    let other = copy(rt.alloc(), &tree)?;
+    assert!(rt; fits(&other, 4) && !fits(&other, 3));
+    assert!(rt; nodes(&other) == 3 && depth(&other) == 2);
+    Ok(())
+}
+
+#[test]
+fn paths_and_lists_of_partitions(rt: HostRuntime) -> Result<(), Fail> {
+    let mut path = Path::new(rt.alloc());
+    assert!(rt; path.is_empty());
+    path.push(Side::Kept)?;
+    path.push(Side::Merged)?;
+    assert_eq!(rt; path.as_slice(), [Side::Kept, Side::Merged].as_slice());
+    assert!(rt; path.len() == 2);
+    assert_eq!(rt; path.get(1), Side::Merged);
+    let mut list = Partitions::new(rt.alloc());
+    assert!(rt; list.is_empty());
+    list.push(Partition::singles(rt.alloc(), 4)?)?;
+    assert!(rt; list.len() == 1);
+    assert_eq!(rt; list.get(0).len(), 4);
+    Ok(())
+}

@@ -1,0 +1,4 @@
+pub mod ShoreLists
+pub mod TextSoFar
+pub mod TreeReadBack
+pub mod TreeRead

@@ -1,0 +1,58 @@
+-- Lists of vertices as the reader walks over them: what goes into the set is taken off the list, and a set with the numbers of a
+-- rising list is this list. A list that passes the tests of the format rises and lies in range.
+use Rattle.std.proofs.Common.{◌≡◌, ◌||◌, ◌==◌, ◌+◌, ◌≤◌, ◌<◌, ℕ, suc, List, [], ◌∷◌, All, Bool, true, false, length, nat_lt, refl, sym, ◌∙◌, ap, subst, arith}
+use Rattle.std.specs.List.{list_any}
+use Rattle.std.proofs.lemmas.Bool.{and_parts, or_parts}
+use Rattle.std.proofs.lemmas.Bool.Decides.{nat_tests}
+use Rattle.counting.specs.Counts.{Within}
+use Rattle.counting.specs.Lists.{mem, IsRisingIn}
+use Rattle.counting.proofs.Lists.{Rises}
+use Rattle.counting.proofs.RisingLists.{same_rising_list, set-from_rises, set-wider}
+use Rattle.tree_text.specs.TreeFormat.{is_out_of_range, is_rising}
+
+or-moves : (a b c : Bool) → (a || (b || c)) ≡ ((a || b) || c)
+or-moves true b c = refl
+or-moves false b c = refl
+
+pub moved : (vertices shore next behind rest : List ℕ) (v : ℕ) → rest ≡ v ∷ behind → ((w : ℕ) → mem next w ≡ (mem shore w || v == w)) → ((w : ℕ) → mem vertices w ≡ (mem shore w || mem rest w)) → (w : ℕ) → mem vertices w ≡ (mem next w || mem behind w)
+moved vertices shore next behind rest v front gains same w =
+    same w ∙ ap (λ (xs : List ℕ). mem shore w || mem xs w) front ∙ or-moves (mem shore w) (v == w) (mem behind w) ∙ ap (λ b. b || mem behind w) (sym (gains w))
+
+-- what holds of a list holds of what is behind its first number
+pub all-behind : (n : ℕ) (rest behind : List ℕ) (v : ℕ) → rest ≡ v ∷ behind → All (Within n) rest → All (Within n) behind
+all-behind n rest behind v front all k d less = subst (All (Within n)) front all (suc k) d (omega arith)
+
+or-none : (a : Bool) → (a || false) ≡ a
+or-none true = refl
+or-none false = refl
+
+pub all_moved : (vertices shore rest : List ℕ) → length rest ≡ 0 → IsRisingIn 128 shore → IsRisingIn 128 vertices → ((w : ℕ) → mem vertices w ≡ (mem shore w || mem rest w)) → shore ≡ vertices
+all_moved vertices shore [] none rises in_order same =
+    same_rising_list 128 shore vertices rises in_order (λ w within. sym (same w ∙ or-none (mem shore w)))
+all_moved vertices shore (v ∷ rest) none rises in_order same = absurd (omega arith)
+
+in_range : (n v : ℕ) → is_out_of_range n v ≡ false → Within n v
+in_range n v is = (grind (arith, nat_tests), grind (arith, nat_tests))
+
+less-from_test : (v w : ℕ) → nat_lt v w ≡ true → v < w
+less-from_test v w is = grind (arith, nat_tests)
+
+rises-from_tests : (low n v : ℕ) (vs : List ℕ) → low ≤ v → list_any (is_out_of_range n) (v ∷ vs) ≡ false → is_rising (v ∷ vs) ≡ true → Rises low n (v ∷ vs)
+rises-from_tests low n v [] least within rising =
+    (least, (in_range n v (or_parts (is_out_of_range n v) (list_any (is_out_of_range n) []) within).0).1, tt)
+rises-from_tests low n v (w ∷ ws) least within rising =
+    let ranges = or_parts (is_out_of_range n v) (list_any (is_out_of_range n) (w ∷ ws)) within in
+    let order = and_parts (nat_lt v w) (is_rising (w ∷ ws)) rising in
+    let less = less-from_test v w order.0 in
+    (least, (in_range n v ranges.0).1, rises-from_tests (v + 1) n w ws (omega arith) ranges.1 order.1)
+
+-- the tests of the format say that the list rises within 1 to n
+pub rising_read : (n : ℕ) (vs : List ℕ) → list_any (is_out_of_range n) vs ≡ false → is_rising vs ≡ true → IsRisingIn n vs
+rising_read n [] within rising = set-from_rises n [] tt
+rising_read n (v ∷ vs) within rising =
+    let first = in_range n v (or_parts (is_out_of_range n v) (list_any (is_out_of_range n) vs) within).0 in
+    set-from_rises n (v ∷ vs) (rises-from_tests 1 n v vs first.0 within rising)
+
+-- and within 1 to the most vertices
+pub rising_shore : (n : ℕ) (vs : List ℕ) → n ≤ 128 → list_any (is_out_of_range n) vs ≡ false → is_rising vs ≡ true → IsRisingIn 128 vs
+rising_shore n vs few within rising = set-wider n 128 vs few (rising_read n vs within rising)

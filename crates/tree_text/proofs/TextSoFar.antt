@@ -1,0 +1,42 @@
+-- The text of a list of lines is that of the first and then that of the others, and a line is its first word and each further
+-- word behind a space.
+use Rattle.std.proofs.Common.{◌≡◌, ℕ, List, [], ◌∷◌, ◌++◌, codes, map, refl, sym, ◌∙◌, ap, append_assoc}
+use Rattle.std.proofs.lemmas.List.{append-nil}
+use Rattle.std.specs.Fmt.{decimal}
+use Rattle.line_text.specs.Words.{unwords, written}
+use Rattle.tree_core.specs.Shapes.{Shape, cut}
+use Rattle.tree_text.specs.Writing.{cut_words, header_words, node_words, tree_text}
+
+pub written-append : (lines more : List (List (List ℕ))) → written (lines ++ more) ≡ written lines ++ written more
+written-append [] more = refl
+written-append (words ∷ lines) more =
+    ap (λ text. unwords words ++ 10 ∷ text) (written-append lines more) ∙ sym (append_assoc (unwords words) (10 ∷ written lines) (written more))
+
+-- words, each behind a space
+abbrev pub spaced : List (List ℕ) → List ℕ
+spaced [] = []
+spaced (word ∷ words) = 32 ∷ (word ++ spaced words)
+
+pub unwords-spaced : (word : List ℕ) (words : List (List ℕ)) → unwords (word ∷ words) ≡ word ++ spaced words
+unwords-spaced word [] = sym (append-nil word)
+unwords-spaced word (next ∷ words) = ap (λ text. word ++ 32 ∷ text) (unwords-spaced next words)
+
+-- the line of a cut is whole when no vertex is left
+pub cut_line : (old text new : List ℕ) (shore rest : List ℕ) → rest ≡ [] → old ++ (codes "cut" ++ spaced (map decimal shore)) ≡ text ++ spaced (map decimal rest) → new ≡ text ++ 10 ∷ [] → new ≡ old ++ written (cut_words shore ∷ [])
+cut_line old text new shore rest none same is =
+    let whole : text ≡ old ++ unwords (cut_words shore) = sym (same ∙ ap (λ vs. text ++ spaced (map decimal vs)) none ∙ append-nil text) ∙ ap (λ t. old ++ t) (sym (unwords-spaced (codes "cut") (map decimal shore))) in
+    is ∙ ap (λ t. t ++ 10 ∷ []) whole ∙ append_assoc old (unwords (cut_words shore)) (10 ∷ [])
+
+-- the header, and the lines of the nodes
+pub tree_text-lines : (n : ℕ) (t : Shape) (head text : List ℕ) → head ≡ written (header_words n ∷ []) → text ≡ head ++ written (node_words t) → text ≡ tree_text n t
+unfolding tree_text
+tree_text-lines n t head text is_head is_text = is_text ∙ ap (λ h. h ++ written (node_words t)) is_head ∙ sym (written-append (header_words n ∷ []) (node_words t))
+
+-- the lines of a cut, of its `kept` tree and of its `merged` tree, one behind the other
+pub cut_lines : (old first second third : List ℕ) (x : List ℕ) (k m : Shape) → first ≡ old ++ written (cut_words x ∷ []) → second ≡ first ++ written (node_words k) → third ≡ second ++ written (node_words m) → third ≡ old ++ written (node_words (cut x k m))
+cut_lines old first second third x k m is_first is_second is_third =
+    is_third ∙ ap (λ t. t ++ written (node_words m)) is_second ∙ append_assoc first (written (node_words k)) (written (node_words m))
+    ∙ ap (λ t. first ++ t) (sym (written-append (node_words k) (node_words m)))
+    ∙ ap (λ t. t ++ written (node_words k ++ node_words m)) is_first
+    ∙ append_assoc old (written (cut_words x ∷ [])) (written (node_words k ++ node_words m))
+    ∙ ap (λ t. old ++ t) (sym (written-append (cut_words x ∷ []) (node_words k ++ node_words m)))

@@ -1,0 +1,155 @@
+-- What is written of a tree is read as this tree. The header leads to the root, and by induction the lines of a tree lead from any
+-- place to this tree put at the place: the line of a cut leads below it, its `kept` tree put there leads to the place of its
+-- `merged` tree, and this one put there makes the cut whole. No test of the table applies.
+use Rattle.std.proofs.Common.{◌≡◌, ◌+◌, ◌-◌, ◌≤◌, ◌<◌, ◌==◌, ◌&&◌, ◌||◌, ◌^◌, nat_lt, ℕ, suc, List, [], ◌∷◌, ◌++◌, All, Bool, length, map, get_or, codes, true, false, Some, Ok, refl, sym, ap₂, subst, arith, inl, inr}
+use Rattle.std.specs.Fmt.{decimal}
+use Rattle.std.specs.List.{AllByRecursion, list_all, list_any}
+use Rattle.std.specs.List.Sorted.{IsStrictlyIncreasing}
+use Rattle.std.proofs.lemmas.List.{length-map}
+use Rattle.std.proofs.lemmas.Bool.{and_from, false_from_ne_true}
+use Rattle.std.proofs.lemmas.Bool.Decides.{nat_tests}
+use Rattle.counting.specs.Counts.{Within}
+use Rattle.counting.specs.Lists.{mem}
+use Rattle.counting.proofs.Lists.{mem-within}
+use Rattle.line_text.specs.Format.{Begins, Stands, StandsAlone}
+use Rattle.line_text.specs.Words.{has_form, words_of, unwords, is_skipped, AreWords, IsSignificant}
+use Rattle.line_text.specs.Lines.{lines_of}
+use Rattle.line_text.specs.Numerals.{is_number, value_of}
+use Rattle.line_text.proofs.Decimals.{number_of-decimal, is_word-decimal}
+use Rattle.line_text.proofs.ExactlyOne.{exactly_one}
+use Rattle.line_text.proofs.ReadBack.{Stands-written, Stands-comments, is_closed-unlines, Begins-append}
+use Rattle.tree_core.specs.Shapes.{Shape, leaf, cut, Fits, node_count}
+use Rattle.tree_text.specs.Places.{Place, root, in_kept, in_merged, Reading, wanted, whole, put}
+use Rattle.tree_text.specs.TreeFormat.{TreeSoFar, tree_format, is_out_of_range, is_rising, is_leaf_line, is_cut_line, most_nodes}
+use Rattle.tree_text.specs.Writing.{header_words, cut_words, node_words, tree_text, HasVertices, ShoresRise, IsWritable}
+
+-- so many nodes read, and what they say
+abbrev at : ℕ → Reading → TreeSoFar
+at nodes reading = record { nodes = nodes; reading = reading }
+
+-- the header line
+header-taken : (n : ℕ) → n < 10 ^ 9 → (tree_format n).header (header_words n) ≡ Ok (at 0 (wanted root))
+unfolding has_form
+header-taken n few = rw (number_of-decimal n few) (grind (arith, nat_tests))
+
+-- the line of a leaf
+leaf-taken : (n nodes : ℕ) (place : Place) → nodes < most_nodes → (tree_format n).line (at nodes (wanted place)) (codes "leaf" ∷ []) ≡ Ok (at (nodes + 1) (put place leaf))
+unfolding has_form
+leaf-taken n nodes place few = grind (arith, nat_tests)
+
+-- the words of the vertices are numbers, and name them
+values-decimal : (x : List ℕ) → All (λ v. v < 10 ^ 9) x → map value_of (map decimal x) ≡ x
+values-decimal [] small = refl
+values-decimal (v ∷ x) small = ap₂ ◌∷◌ (first v (small 0 0 (omega arith))) (values-decimal x (λ k d less. small (suc k) d (omega arith)))
+  where
+    first : (v : ℕ) → v < 10 ^ 9 → value_of (decimal v) ≡ v
+    first v less = rw (number_of-decimal v less) refl
+
+numbers-decimal : (x : List ℕ) → All (λ v. v < 10 ^ 9) x → list_all is_number (map decimal x) ≡ true
+numbers-decimal [] small = refl
+numbers-decimal (v ∷ x) small = and_from (is_number (decimal v)) (list_all is_number (map decimal x)) (first v (small 0 0 (omega arith))) (numbers-decimal x (λ k d less. small (suc k) d (omega arith)))
+  where
+    first : (v : ℕ) → v < 10 ^ 9 → is_number (decimal v) ≡ true
+    first v less = rw (number_of-decimal v less) refl
+
+-- they lie in range, and rise
+in_range : (n : ℕ) (x : List ℕ) → All (Within (n - 1)) x → list_any (is_out_of_range n) x ≡ false
+in_range n [] within = refl
+in_range n (v ∷ x) within =
+    ap₂ (λ a b. a || b) (first v (within 0 0 (omega arith))) (in_range n x (λ k d less. within (suc k) d (omega arith)))
+  where
+    first : (v : ℕ) → Within (n - 1) v → is_out_of_range n v ≡ false
+    first v within = let low = within.0 in let high = within.1 in grind (arith, nat_tests)
+
+rising-tests : (x : List ℕ) → IsStrictlyIncreasing x → is_rising x ≡ true
+rising-tests [] rising = refl
+rising-tests (v ∷ []) rising = refl
+rising-tests (v ∷ w ∷ x) rising =
+    and_from (nat_lt v w) (is_rising (w ∷ x)) (first (rising 0 (omega arith))) (rising-tests (w ∷ x) (λ k less.
+    let next : suc k + 1 ≡ suc (k + 1) = omega arith in
+    subst (λ j. get_or (w ∷ x) k 0 < get_or (v ∷ w ∷ x) j 0) next (rising (suc k) (omega arith))))
+  where
+    first : v < w → nat_lt v w ≡ true
+    first less = grind (arith, nat_tests)
+
+without-greatest : (n : ℕ) (x : List ℕ) → IsStrictlyIncreasing x → All (Within (n - 1)) x → mem x n ≡ false
+without-greatest n x rising within =
+    false_from_ne_true (mem x n) (λ held. let high = mem-within (n - 1) x (record { rising = rising; within = within }) n held in omega arith)
+
+-- the words of a cut are no leaf's
+not-leaf : (words : List (List ℕ)) → is_leaf_line (codes "cut" ∷ words) ≡ false
+unfolding has_form
+not-leaf [] = refl
+not-leaf (word ∷ words) = with-false (length (codes "cut" ∷ word ∷ words) == 1)
+  where
+    with-false : (b : Bool) → (b && false) ≡ false
+    with-false true = refl
+    with-false false = refl
+
+is-cut : (words : List (List ℕ)) → 0 < length words → is_cut_line (codes "cut" ∷ words) ≡ true
+unfolding has_form
+is-cut [] some = absurd (omega arith)
+is-cut (word ∷ words) some = grind (arith, nat_tests)
+
+-- the line of a cut
+cut-taken : (n nodes : ℕ) (place : Place) (x : List ℕ) → nodes < most_nodes → n < 10 ^ 9 → 0 < length x → IsStrictlyIncreasing x → All (Within (n - 1)) x → (tree_format n).line (at nodes (wanted place)) (cut_words x) ≡ Ok (at (nodes + 1) (wanted (in_kept x place)))
+cut-taken n nodes place x few small some rising within =
+    taken (map decimal x) (not-leaf (map decimal x)) (is-cut (map decimal x) (subst (λ k. 0 < k) (sym (length-map x decimal)) some)) (values-decimal x below) (numbers-decimal x below)
+  where
+    below : All (λ v. v < 10 ^ 9) x
+    below k d less = let in_order = within k d less in omega arith
+
+    taken : (words : List (List ℕ)) → is_leaf_line (codes "cut" ∷ words) ≡ false → is_cut_line (codes "cut" ∷ words) ≡ true → map value_of words ≡ x → list_all is_number words ≡ true → (tree_format n).line (at nodes (wanted place)) (codes "cut" ∷ words) ≡ Ok (at (nodes + 1) (wanted (in_kept x place)))
+    taken words other is values numbers = rw (other, is, values, numbers, in_range n x within, rising-tests x rising, without-greatest n x rising within) (grind (arith, nat_tests))
+
+-- the lines of a tree
+nodes-taken : (n nodes : ℕ) (place : Place) (t : Shape) → nodes + node_count t ≤ most_nodes → n < 10 ^ 9 → Fits n t → HasVertices t → ShoresRise t → Begins (tree_format n) (Some (at nodes (wanted place))) (node_words t) (Some (at (nodes + node_count t) (put place t)))
+nodes-taken n nodes place leaf few small fits some rising = (at (nodes + 1) (put place leaf), leaf-taken n nodes place (omega arith), refl)
+nodes-taken n nodes place (cut x k m) few small fits some rising =
+    let kept = nodes-taken n (nodes + 1) (in_kept x place) k (omega arith) small fits.1 some.1 rising.1 in
+    let merged = nodes-taken n (nodes + 1 + node_count k) (in_merged x k place) m (omega arith) small fits.2 some.2 rising.2 in
+    let sum : nodes + 1 + node_count k + node_count m ≡ nodes + (1 + node_count k + node_count m) = omega arith in (
+      at (nodes + 1) (wanted (in_kept x place)),
+      cut-taken n nodes place x (omega arith) small some.0 rising.0 fits.0,
+      Begins-append (tree_format n) (Some (at (nodes + 1) (wanted (in_kept x place)))) (node_words k) (Some (at (nodes + 1 + node_count k) (wanted (in_merged x k place)))) (node_words m) (Some (at (nodes + (1 + node_count k + node_count m)) (put place (cut x k m)))) kept
+          (subst (λ c. Begins (tree_format n) (Some (at (nodes + 1 + node_count k) (wanted (in_merged x k place)))) (node_words m) (Some (at c (put place (cut x k m))))) sum merged),
+    )
+
+-- each line is significant
+words-decimal : (x : List ℕ) → All (λ v. v < 10 ^ 9) x → AreWords (map decimal x)
+words-decimal [] small = tt
+words-decimal (v ∷ x) small = (is_word-decimal v (small 0 0 (omega arith)), words-decimal x (λ k d less. small (suc k) d (omega arith)))
+
+significant-append : (lines more : List (List (List ℕ))) → AllByRecursion IsSignificant lines → AllByRecursion IsSignificant more → AllByRecursion IsSignificant (lines ++ more)
+significant-append [] more first second = second
+significant-append (words ∷ lines) more first second = (first.0, significant-append lines more first.1 second)
+
+nodes-significant : (n : ℕ) (t : Shape) → n < 10 ^ 9 → Fits n t → AllByRecursion IsSignificant (node_words t)
+nodes-significant n leaf small fits = (record { kept = refl; each = (refl, tt) }, tt)
+nodes-significant n (cut x k m) small fits = (
+  record { kept = refl; each = (refl, words-decimal x (λ j d less. let within = fits.0 j d less in omega arith)) },
+  significant-append (node_words k) (node_words m) (nodes-significant n k small fits.1) (nodes-significant n m small fits.2),
+)
+
+-- the text of a tree stands for it
+pub Stands-tree_text : (n : ℕ) (t : Shape) → IsWritable n t → Stands (tree_format n) (tree_text n t) t
+unfolding tree_text
+Stands-tree_text n t is =
+    let few = is.few in
+    Stands-written (tree_format n) (header_words n ∷ node_words t) (Some (at (0 + node_count t) (whole t))) t
+    (record { kept = refl; each = (refl, (refl, (is_word-decimal n is.order, tt))) }, nodes-significant n t is.order is.fits)
+    (at 0 (wanted root), header-taken n is.order, nodes-taken n 0 root t (omega arith) is.order is.fits is.vertices is.rising)
+    refl
+
+-- and for no other
+pub StandsAlone-tree_text : (n : ℕ) (t : Shape) → IsWritable n t → StandsAlone (tree_format n) (tree_text n t)
+StandsAlone-tree_text n t is = elim (exactly_one (tree_format n) (tree_text n t)) [
+  | inl alone ↦ alone
+  | inr broken ↦ absurd (broken.valueless t (Stands-tree_text n t is))
+]
+
+-- comments behind it change nothing
+pub Stands-commented : (n : ℕ) (t : Shape) (comments : List ℕ) → IsWritable n t → AllByRecursion (λ line. is_skipped (words_of line) ≡ true) (lines_of comments) → Stands (tree_format n) (tree_text n t ++ comments) t
+unfolding tree_text
+Stands-commented n t comments is skipped =
+    Stands-comments (tree_format n) (tree_text n t) comments t (is_closed-unlines (map unwords (header_words n ∷ node_words t))) skipped (Stands-tree_text n t is)

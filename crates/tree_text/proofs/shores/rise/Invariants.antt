@@ -1,0 +1,10 @@
+use Rattle.std.proofs.Common.{◌≡◌, ◌∷◌, length}
+use Rattle.tree_text.specs.TreeFormat.{is_rising}
+use Rattle.tree_text.proofs.shores.rise.Given as goal
+
+-- all numbers rise exactly where the last one seen and those left do
+abbrev pub invariant-numbers : goal.invariant-numbers
+invariant-numbers l = is_rising l.vertices ≡ is_rising (l.last ∷ l.rest)
+
+abbrev pub decreases-numbers : goal.decreases-numbers
+decreases-numbers l = length l.rest

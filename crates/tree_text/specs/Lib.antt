@@ -1,0 +1,5 @@
+pub mod Places
+pub mod TreeFormat
+pub mod PickFormat
+pub mod Writing
+pub mod SoFar

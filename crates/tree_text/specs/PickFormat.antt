@@ -1,0 +1,43 @@
+-- The pick format: a header `s mcg K`, and K lines `pick P`. The text stands for the list of the K numbers.
+use Rattle.std.specs.Prelude.{ℕ, ◌==◌, not, nat_lt, List, [], ◌∷◌, ◌++◌, length, codes, Result, Ok, Err, if◌then◌else◌}
+use Rattle.line_text.specs.Format.{Rules, checked}
+use Rattle.line_text.specs.Words.{has_form, word_at}
+use Rattle.line_text.specs.Numerals.{is_number, value_of}
+use Rattle.graph_core.specs.declared.faults.FaultKind.{FaultKind}
+use Rattle.graph_core.specs.declared.faults.FaultKind.TheVariants as kind
+
+-- the most picks
+abbrev pub most_picks : ℕ
+most_picks = 127
+
+-- how many picks there are to be, and those read so far
+pub record PicksSoFar : Type 0 where
+  pub count : ℕ
+  pub picks : List ℕ
+
+-- the header, by its words
+abbrev pub pick_header : List (List ℕ) → Result PicksSoFar FaultKind
+pick_header words =
+    let count = value_of (word_at words 2) in
+    checked ((not (has_form words 3 (codes "s" ∷ codes "mcg" ∷ [])), kind.Header)
+    ∷ (not (is_number (word_at words 2)), kind.Number)
+    ∷ (nat_lt most_picks count, kind.Limit)
+    ∷ [])
+    (record { count = count; picks = [] })
+
+-- a significant line behind the header is a pick, or too much where all have been read
+abbrev pub pick_line : PicksSoFar → List (List ℕ) → Result PicksSoFar FaultKind
+pick_line body words =
+    checked ((length body.picks == body.count, kind.Extra)
+    ∷ (not (has_form words 2 (codes "pick" ∷ [])), kind.Word)
+    ∷ (not (is_number (word_at words 1)), kind.Number)
+    ∷ [])
+    (record body { picks = body.picks ++ value_of (word_at words 1) ∷ [] })
+
+-- the end of the text comes when all picks have been read
+abbrev pub pick_end : PicksSoFar → Result (List ℕ) FaultKind
+pick_end body = if length body.picks == body.count then Ok body.picks else Err kind.Missing
+
+-- the format
+abbrev pub pick_format : Rules PicksSoFar (List ℕ) FaultKind
+pick_format = record { header = pick_header; line = pick_line; close = pick_end; headless = kind.Header }

@@ -1,0 +1,29 @@
+-- How the code's state of reading a tree, and of reading picks, is seen.
+use Rattle.tree_core.specs.View.{shape_of}
+use Rattle.tree_text.specs.Places.{Place, root, in_kept, in_merged, Reading, wanted, whole}
+use Rattle.tree_text.specs.TreeFormat.{TreeSoFar}
+use Rattle.tree_text.specs.PickFormat.{PicksSoFar}
+use Rattle.tree_text.specs.declared.place.Above.{Above, Root, InKept', InMerged'}
+use Rattle.tree_text.specs.declared.place.Progress.{Progress}
+use Rattle.tree_text.specs.declared.place.Progress.TheVariants.{Wanted, Whole}
+use Rattle.tree_text.specs.declared.nodes_read.NodesRead.{NodesRead}
+use Rattle.tree_text.specs.declared.pick_format.PicksRead.{PicksRead}
+
+-- the place of the next node
+abbrev pub place_of : Above → Place
+place_of Root = root
+place_of (InKept' x at above) = in_kept x (place_of above)
+place_of (InMerged' x kept at above) = in_merged x (shape_of kept.value) (place_of above)
+
+-- what the nodes read so far say
+abbrev pub progress_of : Progress → Reading
+progress_of (Wanted above) = wanted (place_of above)
+progress_of (Whole tree) = whole (shape_of tree)
+
+-- the same with their number
+abbrev pub tree_so_far : NodesRead → TreeSoFar
+tree_so_far body = record { nodes = body.nodes; reading = progress_of body.progress }
+
+-- the picks read so far, and how many there are to be
+abbrev pub picks_so_far : PicksRead → PicksSoFar
+picks_so_far body = record { count = body.count; picks = body.picks }

@@ -1,0 +1,42 @@
+-- The text that is written of a tree.
+use Rattle.std.specs.Prelude.{ℕ, ◌≤◌, ◌<◌, ◌^◌, List, [], ◌∷◌, ◌++◌, codes, length, map}
+use Rattle.std.specs.Fmt.{decimal}
+use Rattle.std.specs.List.Sorted.{IsStrictlyIncreasing}
+use Rattle.line_text.specs.Words.{written}
+use Rattle.tree_core.specs.Shapes.{Shape, leaf, cut, Fits, node_count}
+use Rattle.tree_text.specs.TreeFormat.{most_nodes}
+
+-- the words of the header
+abbrev pub header_words : ℕ → List (List ℕ)
+header_words n = codes "t" ∷ codes "mcg" ∷ decimal n ∷ []
+
+-- the words of a cut
+abbrev pub cut_words : List ℕ → List (List ℕ)
+cut_words shore = codes "cut" ∷ map decimal shore
+
+-- the words of the lines of the nodes, in preorder, `kept` before `merged`
+abbrev pub node_words : Shape → List (List (List ℕ))
+node_words leaf = (codes "leaf" ∷ []) ∷ []
+node_words (cut x k m) = cut_words x ∷ node_words k ++ node_words m
+
+-- the text of a tree over 1 to n: one space between words, a line feed behind each line, numbers in decimal
+unfoldable pub tree_text : ℕ → Shape → List ℕ
+tree_text n t = written (header_words n ∷ node_words t)
+
+-- no shore is empty
+abbrev pub HasVertices : Shape → Type 0
+HasVertices leaf = Unit {0}
+HasVertices (cut x k m) = (0 < length x) × HasVertices k × HasVertices m
+
+-- each shore rises
+abbrev pub ShoresRise : Shape → Type 0
+ShoresRise leaf = Unit {0}
+ShoresRise (cut x k m) = IsStrictlyIncreasing x × ShoresRise k × ShoresRise m
+
+-- a tree that can be written: it fits n, each shore is a nonempty rising list, and there are not too many nodes
+pub record IsWritable (n : ℕ) (t : Shape) : Type 0 where
+  pub order : n < 10 ^ 9
+  pub fits : Fits n t
+  pub vertices : HasVertices t
+  pub rising : ShoresRise t
+  pub few : node_count t ≤ most_nodes

@@ -1,0 +1,21 @@
+//! The state of reading a tree.
+ghost use Rattle.std.specs.Prelude.{◌≤◌};
+
+use crate::place::Progress;
+use std::alloc::Global;
+
+/// The nodes read so far: their number, and what they say.
+#[derive(Drop)]
+pub struct NodesRead {
+    pub nodes: u32,
+    pub progress: Progress,
+    ghost few: { nodes ≤ 127 },
+}
+
+/// The format, for graphs of this order.
+#[derive(Drop)]
+pub struct TreeFormat {
+    pub alloc: Global,
+    pub order: u32,
+    ghost few: { order ≤ 128 },
+}

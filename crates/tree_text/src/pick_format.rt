@@ -1,0 +1,118 @@
+//! The pick format.
+ghost use Rattle.std.specs.Prelude.{◌≡◌, ◌<◌, ◌≤◌, ◌-◌, ◌^◌, ℕ, List, length, IfOk, IfErr, Ok, Err};
+ghost use Rattle.line_text.specs.Reading.{Gives};
+ghost use Rattle.line_text.specs.Format.{Stands, FirstFault};
+ghost use Rattle.line_text.specs.Words.{texts_of};
+ghost use Rattle.text_faults.specs.Readings.{IsFirstFault, ReadsText};
+ghost use Rattle.graph_core.specs.declared.faults.FaultKind.{FaultKind};
+ghost use Rattle.tree_text.specs.PickFormat.{PicksSoFar, pick_header, pick_line, pick_end, pick_format};
+ghost use Rattle.tree_text.specs.SoFar.{picks_so_far};
+
+use graph_core::{FaultKind, Numbers, TextFault};
+use line_text::{LineFormat, Refusal, has_form, number, word};
+use std::alloc::Global;
+use text_faults::read_text;
+
+const MOST_PICKS: u32 = 127;
+
+// The picks read so far, and how many there are to be.
+#[derive(Drop)]
+struct PicksRead {
+    count: u32,
+    picks: Numbers,
+}
+
+// The format.
+#[derive(Drop)]
+struct PickFormat {
+    alloc: Global,
+}
+
+fn read_header(alloc: Global, words: &[&[u8]]) -> Result<PicksRead, Refusal<FaultKind>>
+    ensures { Gives picks_so_far result (pick_header (texts_of words.now)) }
+{
+    if !has_form(words, 3, &["s", "mcg"]) {
+        return Err(Refusal::Fault(FaultKind::Header));
+    }
+    let Some(count) = number(word(words, 2)) else {
+        return Err(Refusal::Fault(FaultKind::Number));
+    };
+    if count > MOST_PICKS {
+        return Err(Refusal::Fault(FaultKind::Limit));
+    }
+    let picks = Numbers::new(alloc);
+    Ok(PicksRead { count, picks })
+}
+
+fn read_pick(body: PicksRead, words: &[&[u8]]) -> Result<PicksRead, Refusal<FaultKind>>
+    ensures { Gives picks_so_far result (pick_line (picks_so_far body) (texts_of words.now)) }
+{
+    let PicksRead { count, mut picks } = body;
+    if picks.len() == count as usize {
+        return Err(Refusal::Fault(FaultKind::Extra));
+    }
+    if !has_form(words, 2, &["pick"]) {
+        return Err(Refusal::Fault(FaultKind::Word));
+    }
+    let Some(place) = number(word(words, 1)) else {
+        return Err(Refusal::Fault(FaultKind::Number));
+    };
+    picks.push(place)?;
+    Ok(PicksRead { count, picks })
+}
+
+fn close_picks(body: PicksRead) -> Result<Numbers, Refusal<FaultKind>>
+    ensures { Gives (λ (picks : List ℕ). picks) result (pick_end (picks_so_far body)) }
+{
+    if body.picks.len() == body.count as usize {
+        Ok(body.picks)
+    } else {
+        Err(Refusal::Fault(FaultKind::Missing))
+    }
+}
+
+impl LineFormat for PickFormat {
+    type Body = PicksRead;
+
+    type Value = Numbers;
+
+    type Kind = FaultKind;
+
+    ghost State = { PicksSoFar };
+
+    ghost Meaning = { List ℕ };
+
+    ghost state = { picks_so_far };
+
+    ghost meaning = { λ picks. picks };
+
+    ghost rules = { λ _. pick_format };
+
+    fn header(&self, words: &[&[u8]]) -> Result<PicksRead, Refusal<FaultKind>> {
+        read_header(self.alloc, words)
+    }
+
+    fn line(&self, body: PicksRead, words: &[&[u8]]) -> Result<PicksRead, Refusal<FaultKind>> {
+        read_pick(body, words)
+    }
+
+    fn close(&self, body: PicksRead) -> Result<Numbers, Refusal<FaultKind>> {
+        close_picks(body)
+    }
+
+    fn headless(&self) -> FaultKind {
+        FaultKind::Header
+    }
+}
+
+/// Reads a list of picks: the numbers that the bytes stand for, or the first line outside the format with the kind of its fault.
+/// Want of memory may come at any time.
+pub fn read_picks(alloc: Global, bytes: &[u8]) -> Result<Numbers, TextFault>
+    requires { length bytes.now < 2 ^ 32 - 1 }
+    ensures value { IfOk result (λ picks. Stands pick_format bytes.now picks) }
+    ensures fault { IfErr result (IsFirstFault pick_format bytes.now) }
+    ensures stands { (picks : List ℕ) → Stands pick_format bytes.now picks → ReadsText (λ (xs : List ℕ). xs) result (Ok picks) }
+    ensures breaks { (line : ℕ) (kind : FaultKind) → FirstFault pick_format bytes.now line kind → ReadsText (λ (xs : List ℕ). xs) result (Err (line, kind)) }
+{
+    read_text(alloc, &PickFormat { alloc }, bytes)
+}

@@ -1,0 +1,55 @@
+//! Where the next node of a text stands.
+ghost use Rattle.std.specs.Prelude.{◌≡◌, IfOk};
+ghost use Rattle.tree_core.specs.View.{shape_of};
+ghost use Rattle.tree_text.specs.Places.{put};
+ghost use Rattle.tree_text.specs.SoFar.{place_of, progress_of};
+
+use std::alloc::{AllocError as Memory, Global};
+use tree_core::Tree;
+use vset_core::VSet;
+
+/// The cuts above a node that is still to be read, from the lowest on, with the trees that hang on them already.
+#[derive(Drop)]
+pub enum Above {
+    Root,
+    InKept {
+        shore: VSet,
+        above: Box<Above>,
+    },
+    InMerged {
+        shore: VSet,
+        kept: Box<Tree>,
+        above: Box<Above>,
+    },
+}
+
+/// How far a tree has been read.
+#[derive(Drop)]
+pub enum Progress {
+    /// The next node stands below these cuts.
+    Wanted(Above),
+    /// All nodes have been read.
+    Whole(Tree),
+}
+
+/// The tree put where the next node stands.
+pub fn put(alloc: Global, above: Above, tree: Tree) -> Result<Progress, Memory>
+    ensures { IfOk result (λ progress. progress_of progress ≡ put (place_of above) (shape_of tree)) }
+{
+    match above {
+        Above::Root => Ok(Progress::Whole(tree)),
+        Above::InKept { shore, above } => {
+            let kept = Box::new(alloc, tree)?;
+            Ok(Progress::Wanted(Above::InMerged { shore, kept, above }))
+        }
+        Above::InMerged { shore, kept, above } => {
+            let merged = Box::new(alloc, tree)?;
+            let cut = Tree::Cut {
+                shore,
+                kept,
+                merged,
+            };
+            put(alloc, Box::into_inner(above), cut)
+        }
+    }
+}

@@ -1,0 +1,62 @@
+//! Shores as lists of numbers.
+ghost use Rattle.std.specs.Prelude.{◌≡◌, ◌≤◌};
+ghost use Rattle.std.specs.List.{list_any};
+ghost use Rattle.counting.specs.Lists.{mem, IsRisingIn};
+ghost use Rattle.tree_text.specs.TreeFormat.{is_out_of_range, is_rising};
+
+use vset_core::{MOST_VERTICES, VSet};
+
+/// Whether one of the numbers is 0 or over `n`.
+pub fn has_out_of_range(n: u32, vertices: &[u32]) -> bool
+    ensures { result ≡ list_any (is_out_of_range n) vertices.now }
+{
+    vertices.iter().any(|v| *v == 0 || *v > n)
+}
+
+/// Whether each number is below the next.
+pub fn rise(vertices: &[u32]) -> bool
+    ensures { result ≡ is_rising vertices.now }
+{
+    let Some((first, others)) = vertices.split_first() else {
+        return true;
+    };
+    let mut last = *first;
+    let mut rest = others;
+    'numbers: while let Some((v, behind)) = rest.split_first() {
+        if last >= *v {
+            return false;
+        }
+        last = *v;
+        rest = behind;
+    }
+    true
+}
+
+/// Whether `n` is among the numbers.
+pub fn holds(vertices: &[u32], n: u32) -> bool
+    ensures { result ≡ mem vertices.now n }
+{
+    let mut rest = vertices;
+    'numbers: while let Some((v, behind)) = rest.split_first() {
+        if *v == n {
+            return true;
+        }
+        rest = behind;
+    }
+    false
+}
+
+/// The set of rising numbers.
+pub fn shore_of(vertices: &[u32]) -> VSet
+    requires { IsRisingIn MOST_VERTICES vertices.now }
+    ensures { result ≡ vertices.now }
+{
+    let mut shore = VSet::empty();
+    let mut rest = vertices;
+    'numbers: while let Some((v, behind)) = rest.split_first() {
+        shore = shore.with(*v);
+        rest = behind;
+    }
+    shore.rises();
+    shore
+}

@@ -1,0 +1,158 @@
+//! The derivation format.
+ghost use Rattle.std.specs.Prelude.{◌≡◌, ◌<◌, ◌≤◌, ◌-◌, ◌^◌, ℕ, length, map, IfOk, IfErr, Ok, Err};
+ghost use Rattle.line_text.specs.Reading.{Gives};
+ghost use Rattle.line_text.specs.Format.{Stands, FirstFault};
+ghost use Rattle.line_text.specs.Words.{texts_of};
+ghost use Rattle.text_faults.specs.Readings.{IsFirstFault, ReadsText};
+ghost use Rattle.graph_core.specs.declared.faults.FaultKind.{FaultKind};
+ghost use Rattle.tree_core.specs.Shapes.{Shape};
+ghost use Rattle.tree_core.specs.View.{shape_of};
+ghost use Rattle.tree_text.specs.TreeFormat.{TreeSoFar, tree_header, node_line, line_behind, tree_end, tree_format, behind_first, is_cut_line};
+ghost use Rattle.tree_text.specs.Writing.{IsWritable};
+ghost use Rattle.tree_text.specs.SoFar.{place_of, progress_of, tree_so_far};
+
+use crate::nodes_read::{NodesRead, TreeFormat};
+use crate::place::{Above, Progress, put};
+use crate::shores::{has_out_of_range, holds, rise, shore_of};
+use graph_core::{FaultKind, TextFault};
+use line_text::{LineFormat, Refusal, has_form, number, numbers, word};
+use std::alloc::Global;
+use text_faults::read_text;
+use tree_core::Tree;
+use vset_core::MOST_VERTICES;
+
+const MOST_NODES: u32 = 127;
+
+fn read_header(n: u32, words: &[&[u8]]) -> Result<NodesRead, Refusal<FaultKind>>
+    ensures { Gives tree_so_far result (tree_header n (texts_of words.now)) }
+{
+    if !has_form(words, 3, &["t", "mcg"]) {
+        return Err(Refusal::Fault(FaultKind::Header));
+    }
+    let Some(order) = number(word(words, 2)) else {
+        return Err(Refusal::Fault(FaultKind::Number));
+    };
+    if order != n {
+        return Err(Refusal::Fault(FaultKind::Header));
+    }
+    Ok(NodesRead {
+        nodes: 0,
+        progress: Progress::Wanted(Above::Root),
+    })
+}
+
+// Whether these are the words of a cut.
+fn is_cut(words: &[&[u8]]) -> bool
+    ensures { result ≡ is_cut_line (texts_of words.now) }
+{
+    words.len() >= 2 && has_form(words, words.len(), &["cut"])
+}
+
+// The words behind the first.
+fn behind_first<'a, 'b>(words: &'a [&'b [u8]]) -> &'a [&'b [u8]]
+    ensures { texts_of result.now ≡ behind_first (texts_of words.now) }
+{
+    &words[words.len().min(1)..]
+}
+
+// The line of a node that stands below these cuts, behind so many nodes.
+#[tactic(auto, using(crate::proofs::ShoreLists::rising_shore))]
+fn read_node(
+    alloc: Global,
+    n: u32,
+    nodes: u32,
+    above: Above,
+    words: &[&[u8]],
+) -> Result<NodesRead, Refusal<FaultKind>>
+    requires order { n ≤ MOST_VERTICES }
+    requires few { nodes ≤ 127 }
+    ensures { Gives tree_so_far result (node_line n nodes (place_of above) (texts_of words.now)) }
+{
+    if nodes >= MOST_NODES {
+        return Err(Refusal::Fault(FaultKind::Limit));
+    }
+    let is_leaf = has_form(words, 1, &["leaf"]);
+    if !is_leaf && !is_cut(words) {
+        return Err(Refusal::Fault(FaultKind::Word));
+    }
+    let Some(read) = numbers(alloc, behind_first(words))? else {
+        return Err(Refusal::Fault(FaultKind::Number));
+    };
+    let vertices = read.as_slice();
+    if has_out_of_range(n, vertices) {
+        return Err(Refusal::Fault(FaultKind::Range));
+    }
+    if !rise(vertices) {
+        return Err(Refusal::Fault(FaultKind::NotRising));
+    }
+    if holds(vertices, n) {
+        return Err(Refusal::Fault(FaultKind::HasGreatest));
+    }
+    let progress = if is_leaf {
+        put(alloc, above, Tree::Leaf)?
+    } else {
+        let shore = shore_of(vertices);
+        let above = Box::new(alloc, above)?;
+        Progress::Wanted(Above::InKept { shore, above })
+    };
+    Ok(NodesRead {
+        nodes: nodes + 1,
+        progress,
+    })
+}
+
+impl LineFormat for TreeFormat {
+    type Body = NodesRead;
+
+    type Value = Tree;
+
+    type Kind = FaultKind;
+
+    ghost State = { TreeSoFar };
+
+    ghost Meaning = { Shape };
+
+    ghost state = { tree_so_far };
+
+    ghost meaning = { shape_of };
+
+    ghost rules = { λ format. tree_format format.order };
+
+    fn header(&self, words: &[&[u8]]) -> Result<NodesRead, Refusal<FaultKind>> {
+        read_header(self.order, words)
+    }
+
+    fn line(&self, body: NodesRead, words: &[&[u8]]) -> Result<NodesRead, Refusal<FaultKind>> {
+        let NodesRead { nodes, progress } = body;
+        match progress {
+            Progress::Wanted(above) => read_node(self.alloc, self.order, nodes, above, words),
+            Progress::Whole(_) => Err(Refusal::Fault(FaultKind::Extra)),
+        }
+    }
+
+    fn close(&self, body: NodesRead) -> Result<Tree, Refusal<FaultKind>> {
+        let NodesRead { progress, .. } = body;
+        match progress {
+            Progress::Whole(tree) => Ok(tree),
+            Progress::Wanted(_) => Err(Refusal::Fault(FaultKind::Missing)),
+        }
+    }
+
+    fn headless(&self) -> FaultKind {
+        FaultKind::Header
+    }
+}
+
+/// Reads a tree of cuts over 1 to `n`: the tree that the bytes stand for, or the first line outside the format with the kind of
+/// its fault. The tree fits `n`, its shores are not empty, and it has at most 127 nodes. Want of memory may come at any time.
+pub fn read_tree(alloc: Global, bytes: &[u8], n: u32) -> Result<Tree, TextFault>
+    requires order { n ≤ MOST_VERTICES }
+    requires length { length bytes.now < 2 ^ 32 - 1 }
+    ensures writable { IfOk result (λ tree. IsWritable n (shape_of tree)) }
+    ensures value { IfOk result (λ tree. Stands (tree_format n) bytes.now (shape_of tree)) }
+    ensures fault { IfErr result (IsFirstFault (tree_format n) bytes.now) }
+    ensures stands { (t : Shape) → Stands (tree_format n) bytes.now t → ReadsText shape_of result (Ok t) }
+    ensures breaks { (line : ℕ) (kind : FaultKind) → FirstFault (tree_format n) bytes.now line kind → ReadsText shape_of result (Err (line, kind)) }
+{
+    read_text(alloc, &TreeFormat { alloc, order: n }, bytes)
+}
