@@ -1,5 +1,4 @@
 -- How the code's command is seen.
-use Rattle.std.specs.Prelude.{◌≡◌, ℕ, List}
 use Rattle.bench_top.specs.Commands.{Command, Analyse, Convert, Analyse6}
 use Rattle.bench_top.specs.declared.order.Command.TheVariants as code
 

@@ -6,9 +6,9 @@ use Rattle.std.specs.Result.{result_map_both}
 use Rattle.std.specs.Str.{bytes_eq}
 use Rattle.std.proofs.lemmas.Bool.{cases_Bool, and_parts}
 use Rattle.std.proofs.lemmas.Slice.Eq.{bytes_eq-Decides}
-use Rattle.line_text.specs.Format.{checked, step, Stands, FirstFault}
+use Rattle.line_text.specs.Format.{checked, Stands, FirstFault}
 use Rattle.line_text.specs.Lines.{lines_of}
-use Rattle.line_text.specs.Reading.{go_on, reading_from, reading_of}
+use Rattle.line_text.specs.Reading.{go_on, reading_from}
 use Rattle.line_text.specs.Numerals.{is_number, value_of}
 use Rattle.line_text.specs.Words.{SignificantLine, significant_lines_of, has_form, word_at, begin_with}
 use Rattle.line_text.proofs.ExactlyOne.{Stands-reading_of, Stands-from_reading, FirstFault-reading_of, FirstFault-from_reading}
@@ -72,7 +72,7 @@ second-word : (word : List ℕ) → bytes_eq word (codes "mcg2") ≡ true → by
 second-word word is = ap (λ w. bytes_eq w (codes "mcg")) ((bytes_eq-Decides word (codes "mcg2")).0 is)
 
 named-plain : (words : List (List ℕ)) → begin_with words (codes "p" ∷ codes "mcg2" ∷ []) ≡ true → begin_with words (codes "p" ∷ codes "mcg" ∷ []) ≡ false
-named-plain [] is = cc is
+named-plain [] is = refl
 named-plain (first ∷ []) is = let none : false ≡ true = (and_parts (bytes_eq first (codes "p")) false is).1 in cc none
 named-plain (first ∷ second ∷ words) is =
     let parts = and_parts (bytes_eq first (codes "p")) _ is in
@@ -167,7 +167,7 @@ reading-keeps either (line ∷ lines) count is =
     names-step line.number (line_behind either.so_far either.names line.words) (λ next. reading_from either_version (Some next) lines count) (line-keeps either.so_far either.names line.words is) (λ next keeps. reading-keeps next lines count keeps)
 
 reading-named : (lines : List SignificantLine) (count : ℕ) → begin_named lines ≡ true → GivesNames (reading_from either_version None lines count)
-reading-named [] count is = cc is
+reading-named [] count is = tt
 reading-named (line ∷ lines) count is =
     names-step line.number (either_header line.words) (λ next. reading_from either_version (Some next) lines count) (header-keeps line.words is) (λ next keeps. reading-keeps next lines count keeps)
 
