@@ -10,8 +10,11 @@ use Rattle.line_text.specs.Reading.{reading_of}
 use Rattle.graph_core.specs.Graph.{Graph}
 use Rattle.graph_core.specs.Kinds.{kind_number}
 use Rattle.graph_core.specs.declared.faults.FaultKind.{FaultKind}
-use Rattle.graph_text.specs.VersionOne.{version_one}
-use Rattle.bench_top.specs.Commands.{Command, Analyse}
+use Rattle.graph_text.specs.EitherVersion.{NamedGraph, either_version}
+use Rattle.graph6_text.specs.Reading.{outcome_of}
+use Rattle.bench_top.specs.Commands.{Command, Analyse, Convert, Analyse6}
+use Rattle.bench_top.specs.Tasks.{Task}
+use Rattle.bench_top.specs.Tasks as task
 
 -- the most bytes that a file may have
 abbrev pub most_bytes : ℕ
@@ -34,16 +37,21 @@ abbrev pub file_read : {A : Type 0} → ℕ → (List ℕ → Result A (ℕ × F
 file_read place reading None = Absent
 file_read place reading (Some bytes) = if nat_lt most_bytes (length bytes) then Bad place 0 6 else from_reading place (reading bytes)
 
--- what a command works on
-pub data Inputs : Type 0 where
-  OneGraph : (graph : Graph) → Inputs
+-- the task of what a file holds
+abbrev pub loaded_as : {A : Type 0} → (A → Task) → Loaded A → Loaded Task
+loaded_as make (All value) = All (make value)
+loaded_as make (Bad file line kind) = Bad file line kind
+loaded_as make Absent = Absent
 
--- the graph of the file of that name, as the only input
-abbrev pub one_graph : Loaded Graph → Loaded Inputs
-one_graph (All g) = All (OneGraph g)
-one_graph (Bad file line kind) = Bad file line kind
-one_graph Absent = Absent
+-- the graph of the file of that name, in either version of the graph format; or in graph6
+abbrev pub graph_file : List Named → List ℕ → Loaded NamedGraph
+graph_file files name = file_read 1 (reading_of either_version) (file_named name files)
+
+abbrev pub graph6_file : List Named → List ℕ → Loaded Graph
+graph6_file files name = file_read 1 outcome_of (file_named name files)
 
 -- what the files of a command hold
-abbrev pub loaded : List Named → Command → Loaded Inputs
-loaded files (Analyse graph) = one_graph (file_read 1 (reading_of version_one) (file_named graph files))
+abbrev pub loaded : List Named → Command → Loaded Task
+loaded files (Analyse graph) = loaded_as task.Analyse (graph_file files graph)
+loaded files (Convert graph) = loaded_as task.Convert (graph_file files graph)
+loaded files (Analyse6 graph) = loaded_as task.Analyse6 (graph6_file files graph)

@@ -2,18 +2,29 @@
 use Rattle.std.specs.Prelude.{◌≡◌}
 use Rattle.std.specs.declared.result.Result.{Result}
 use Rattle.std.specs.declared.result.Result.TheVariants.{Ok, Err}
-use Rattle.bench_top.specs.Loading.{Loaded, All, Bad, Inputs, OneGraph}
+use Rattle.graph_core.specs.Graph.{Graph}
+use Rattle.graph_text.specs.SoFar.{named_graph}
+use Rattle.bench_top.specs.Loading.{Loaded, All, Bad}
+use Rattle.bench_top.specs.Tasks.{Task}
+use Rattle.bench_top.specs.Tasks as task
 use Rattle.bench_top.specs.declared.stop.Stop.{Stop}
 use Rattle.bench_top.specs.declared.stop.Stop.TheVariants as stop
-use Rattle.bench_top.specs.declared.inputs.Inputs.TheVariants as code
+use Rattle.bench_top.specs.declared.tasks.SimpleGraph.{SimpleGraph}
+use Rattle.bench_top.specs.declared.tasks.Task.TheVariants as code
 
 -- what the files of a command hold
 abbrev pub Held : Type 0
-Held = Loaded Inputs
+Held = Loaded Task
 
--- the inputs as they are seen
-abbrev pub inputs_of : code.the_data → Inputs
-inputs_of (code.Graph graph) = OneGraph graph
+-- the graph of a value that is kept simple
+abbrev pub graph_in : SimpleGraph → Graph
+graph_in simple = simple.graph
+
+-- the task as it is seen
+abbrev pub task_of : code.the_data → Task
+task_of (code.Analyse named) = task.Analyse (named_graph named)
+task_of (code.Convert named) = task.Convert (named_graph named)
+task_of (code.Analyse6 simple) = task.Analyse6 (graph_in simple)
 
 -- a stop names the first bad file; nothing is said of a failed read or of want of memory
 abbrev pub StopsAs : {A : Type 0} → Stop → Loaded A → Type 0

@@ -1,39 +1,76 @@
 -- Which status and which output the words and the files stand for. A named file that is not held fits no case.
-use Rattle.std.specs.Prelude.{◌≡◌, ℕ, ◌<◌, ◌⊎◌, List, length, take}
+use Rattle.std.specs.Prelude.{◌≡◌, ℕ, ◌<◌, ◌⊎◌, List, length, take, false}
 use Rattle.std.specs.declared.option.Option.{Option}
 use Rattle.std.specs.declared.option.Option.TheVariants.{Some, None}
+use Rattle.std.specs.declared.result.Result.{Result}
+use Rattle.std.specs.declared.result.Result.TheVariants.{Ok, Err}
 use Rattle.outside.specs.Shelf.{Named}
 use Rattle.outside.specs.Sink.{appended}
 use Rattle.graph_core.specs.Graph.{Graph}
-use Rattle.report_text.specs.Reports.{analysis_text, bad_input_text}
+use Rattle.line_text.specs.Format.{Stands}
+use Rattle.graph_text.specs.EitherVersion.{NamedGraph, either_version}
+use Rattle.graph_text.specs.Names.{plain_names}
+use Rattle.graph_text.specs.Writing.{named_text}
+use Rattle.graph6_text.specs.Writing.{graph6_of}
+use Rattle.report_text.specs.Reports.{analysis_text, bad_input_text, with_names_text, graph6_line}
 use Rattle.report_text.specs.declared.analyses.AnalysisLines.{AnalysisLines}
-use Rattle.bench_top.specs.Commands.{Command, Analyse, command_of}
-use Rattle.bench_top.specs.Loading.{Loaded, All, Bad, Absent, Inputs, OneGraph, loaded}
+use Rattle.bench_top.specs.Commands.{Command, Analyse, Convert, Analyse6, command_of}
+use Rattle.bench_top.specs.Tasks.{Task}
+use Rattle.bench_top.specs.Tasks as task
+use Rattle.bench_top.specs.Loading.{Loaded, All, Bad, Absent, loaded}
+use Rattle.bench_top.specs.Loads.{task_of}
+use Rattle.bench_top.specs.declared.stop.Stop.{Stop}
+use Rattle.bench_top.specs.declared.tasks.Task.TheVariants as code
 use Rattle.bench_top.specs.Facts.{IsAnalysis}
 use Rattle.bench_top.specs.declared.status.Status.{Status}
 use Rattle.bench_top.specs.declared.status.Status.TheVariants.{Done, Negative, BadInput}
 
--- the structure of a graph: the output is the text of lines that are right
-pub record Analysed (g : Graph) (status : Status) (output : List ℕ) : Type 0 where
+-- a report, and then the names of the vertices where the graph has names
+abbrev pub with_given_names : List ℕ → Option (List (List ℕ)) → List ℕ
+with_given_names report None = report
+with_given_names report (Some names) = with_names_text report names false
+
+-- the names of the vertices of a graph of that order, or the plain ones where it has none
+abbrev pub given_or_plain : ℕ → Option (List (List ℕ)) → List (List ℕ)
+given_or_plain order None = plain_names order
+given_or_plain order (Some names) = names
+
+-- the structure of a graph: the output is the text of lines that are right, and then the names
+pub record Analysed (named : NamedGraph) (status : Status) (output : List ℕ) : Type 0 where
+  pub lines : AnalysisLines
+  pub right : IsAnalysis named.graph lines
+  pub done : status ≡ Done
+  pub text : output ≡ with_given_names (analysis_text lines) named.names
+
+-- the canonical text of a graph with its names or the plain ones; it stands for the graph with these names
+pub record Converted (named : NamedGraph) (status : Status) (output : List ℕ) : Type 0 where
+  pub done : status ≡ Done
+  pub text : output ≡ named_text named.graph (given_or_plain named.graph.order named.names)
+  pub stands : Stands either_version output (record { graph = named.graph; names = Some (given_or_plain named.graph.order named.names) })
+
+-- the structure of a simple graph, and then its graph6 text
+pub record Analysed6 (g : Graph) (status : Status) (output : List ℕ) : Type 0 where
   pub lines : AnalysisLines
   pub right : IsAnalysis g lines
   pub done : status ≡ Done
-  pub text : output ≡ analysis_text lines
+  pub text : output ≡ graph6_line (analysis_text lines) (graph6_of g)
 
--- what a command gives for its inputs: one case for each row of the table of words
-abbrev pub ResultOf : Command → Inputs → Status → List ℕ → Type 0
-ResultOf (Analyse name) (OneGraph g) status output = Analysed g status output
+-- what a command gives for what it works on: one case for each row of the table of words
+abbrev pub ResultOf : Task → Status → List ℕ → Type 0
+ResultOf (task.Analyse named) status output = Analysed named status output
+ResultOf (task.Convert named) status output = Converted named status output
+ResultOf (task.Analyse6 g) status output = Analysed6 g status output
 
 -- what a command gives for what its files hold
-abbrev pub LoadedGives : Command → Loaded Inputs → Status → List ℕ → Type 0
-LoadedGives command (All inputs) status output = ResultOf command inputs status output
-LoadedGives command (Bad file line kind) status output = (status ≡ BadInput) × (output ≡ bad_input_text file line kind)
-LoadedGives command Absent status output = ⊥
+abbrev pub LoadedGives : Loaded Task → Status → List ℕ → Type 0
+LoadedGives (All given) status output = ResultOf given status output
+LoadedGives (Bad file line kind) status output = (status ≡ BadInput) × (output ≡ bad_input_text file line kind)
+LoadedGives Absent status output = ⊥
 
 -- the same for the words, which may match no row
 abbrev pub CommandGives : List Named → Option Command → Status → List ℕ → Type 0
 CommandGives files None status output = ⊥
-CommandGives files (Some command) status output = LoadedGives command (loaded files command) status output
+CommandGives files (Some command) status output = LoadedGives (loaded files command) status output
 
 -- the words and the files stand for this status and this output
 abbrev pub Outcome : List (List ℕ) → List Named → Status → List ℕ → Type 0
@@ -66,3 +103,16 @@ IsSettled status = (status ≡ Done) ⊎ (status ≡ Negative)
 abbrev pub MayRefuse : Option Command → Type 0
 MayRefuse None = ⊥
 MayRefuse (Some (Analyse name)) = ⊥
+MayRefuse (Some (Convert name)) = ⊥
+MayRefuse (Some (Analyse6 name)) = ⊥
+
+-- the same of what a command works on
+abbrev pub TaskMayRefuse : Task → Type 0
+TaskMayRefuse (task.Analyse named) = ⊥
+TaskMayRefuse (task.Convert named) = ⊥
+TaskMayRefuse (task.Analyse6 g) = ⊥
+
+-- the same of what was loaded, if it was
+abbrev pub GatheredMayRefuse : Result code.the_data Stop → Type 0
+GatheredMayRefuse (Ok loaded_task) = TaskMayRefuse (task_of loaded_task)
+GatheredMayRefuse (Err stop) = ⊥

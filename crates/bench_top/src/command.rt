@@ -14,6 +14,12 @@ pub fn plan(words: &[String]) -> Option<Command<'_>>
         [command, graph] if command.as_str() == "analyse" => Some(Command::Analyse {
             graph: graph.as_str(),
         }),
+        [command, graph] if command.as_str() == "convert" => Some(Command::Convert {
+            graph: graph.as_str(),
+        }),
+        [command, graph] if command.as_str() == "analyse6" => Some(Command::Analyse6 {
+            graph: graph.as_str(),
+        }),
         _ => None,
     }
 }

@@ -2,37 +2,36 @@
 ghost use Rattle.std.specs.Prelude.{◌≡◌, ◌≤◌, ◌<◌, ◌-◌, ◌^◌, List, ℕ, length, IfOk, OnErr, IsErrOf, IsTrue, Some, None};
 ghost use Rattle.outside.specs.Faults.{Rose};
 ghost use Rattle.outside.specs.Shelf.{Named, TellsFile, file_named};
-ghost use Rattle.line_text.specs.Reading.{reading_of};
-ghost use Rattle.graph_core.specs.Graph.{Graph};
-ghost use Rattle.graph_text.specs.VersionOne.{version_one};
 ghost use Rattle.bench_top.specs.Asked.{asked};
 ghost use Rattle.bench_top.specs.Loading.{Loaded, Absent, file_read, loaded};
-ghost use Rattle.bench_top.specs.Loads.{LoadsAs, inputs_of};
+ghost use Rattle.bench_top.specs.Loads.{LoadsAs, task_of};
+ghost use Rattle.bench_top.specs.Outcome.{MayRefuse, GatheredMayRefuse};
 
-use crate::inputs::Inputs;
+use crate::formats::{FileFormat, Graph6File, GraphFile};
 use crate::order::Command;
 use crate::stop::Stop;
-use graph_core::{MultiGraph, TextFault};
-use graph_text::read_graph;
+use crate::tasks::Task;
+use graph_core::TextFault;
 use outside::{Shelf, ShelfFault};
 use std::alloc::Global;
 
 /// The most bytes that a file may have.
 pub const MOST_BYTES: usize = 1_048_576;
 
-// The graph of the file of that name, which has this place among the named files.
-fn load_graph<S: Shelf>(
+// What the file of that name holds, which has this place among the named files.
+fn load<S: Shelf, F: FileFormat>(
     alloc: Global,
+    format: &F,
     name: &str,
     place: u32,
     shelf: &mut S,
-) -> Result<MultiGraph, Stop>
+) -> Result<F::Value, Stop>
     ensures files { S.files shelf.new ≡ S.files shelf.old }
     ensures steady { S.steady shelf.new ≡ S.steady shelf.old }
     ensures later { S.faults shelf.old ≤ S.faults shelf.new }
     ensures failed { IsErrOf result Stop.ReadFault → Rose (S.faults shelf.old) (S.faults shelf.new) }
-    ensures loads { (files : List Named) → S.files shelf.old ≡ Some files → LoadsAs (λ (g : Graph). g) result (file_read place (reading_of version_one) (file_named name.now files)) }
-    ensures absent { (files : List Named) → S.files shelf.old ≡ Some files → IsErrOf result Stop.ReadFault → IsTrue (S.steady shelf.old) → file_read place (reading_of version_one) (file_named name.now files) ≡ Absent }
+    ensures loads { (files : List Named) → S.files shelf.old ≡ Some files → LoadsAs F.meaning result (file_read place (F.reading format.now) (file_named name.now files)) }
+    ensures absent { (files : List Named) → S.files shelf.old ≡ Some files → IsErrOf result Stop.ReadFault → IsTrue (S.steady shelf.old) → file_read place (F.reading format.now) (file_named name.now files) ≡ Absent }
 {
     let bytes = match shelf.read(alloc, name, MOST_BYTES) {
         Ok(bytes) => bytes,
@@ -46,8 +45,8 @@ fn load_graph<S: Shelf>(
         }
         Err(ShelfFault::Memory) => return Err(Stop::Memory),
     };
-    match read_graph(alloc, &bytes) {
-        Ok(graph) => Ok(graph),
+    match format.read(alloc, &bytes) {
+        Ok(value) => Ok(value),
         Err(TextFault::At { line, kind }) => Err(Stop::Bad {
             file: place,
             line,
@@ -58,15 +57,22 @@ fn load_graph<S: Shelf>(
 }
 
 /// Reads and parses the files of the command, in the order of the words, up to the first that stops it.
-pub fn gather<S: Shelf>(alloc: Global, command: Command<'_>, shelf: &mut S) -> Result<Inputs, Stop>
+pub fn gather<S: Shelf>(alloc: Global, command: Command<'_>, shelf: &mut S) -> Result<Task, Stop>
     ensures later { S.faults shelf.old ≤ S.faults shelf.new }
     ensures failed { IsErrOf result Stop.ReadFault → Rose (S.faults shelf.old) (S.faults shelf.new) }
-    ensures loads { (files : List Named) → S.files shelf.old ≡ Some files → LoadsAs inputs_of result (loaded files (asked command.entry)) }
+    ensures loads { (files : List Named) → S.files shelf.old ≡ Some files → LoadsAs task_of result (loaded files (asked command.entry)) }
     ensures absent { (files : List Named) → S.files shelf.old ≡ Some files → IsErrOf result Stop.ReadFault → IsTrue (S.steady shelf.old) → loaded files (asked command.entry) ≡ Absent }
+    ensures refuses { GatheredMayRefuse result → MayRefuse (Some (asked command.entry)) }
 {
     match command {
-        Command::Analyse { graph } => Ok(Inputs::Graph {
-            graph: load_graph(alloc, graph, 1, shelf)?,
+        Command::Analyse { graph } => Ok(Task::Analyse {
+            named: load(alloc, &GraphFile, graph, 1, shelf)?,
+        }),
+        Command::Convert { graph } => Ok(Task::Convert {
+            named: load(alloc, &GraphFile, graph, 1, shelf)?,
+        }),
+        Command::Analyse6 { graph } => Ok(Task::Analyse6 {
+            simple: load(alloc, &Graph6File, graph, 1, shelf)?,
         }),
     }
 }

@@ -1,20 +1,22 @@
 //! What a command makes of its inputs.
-ghost use Rattle.std.specs.Prelude.{◌≡◌, ◌↔◌, IfOk, IsTrue, Some};
+ghost use Rattle.std.specs.Prelude.{◌≡◌, ◌↔◌, IfOk, IsTrue, length};
+ghost use Rattle.std.specs.Option.{ForSome};
 ghost use Rattle.graph_core.specs.Graph.{IsBipartite};
-ghost use Rattle.bench_top.specs.Asked.{asked};
-ghost use Rattle.bench_top.specs.Loads.{inputs_of};
+ghost use Rattle.graph_text.specs.SoFar.{named_graph};
+ghost use Rattle.bench_top.specs.Loads.{graph_in, task_of};
 ghost use Rattle.bench_top.specs.Facts.{HasMaximum, IsAnalysis};
-ghost use Rattle.bench_top.specs.Outcome.{ResultOf, IsReported, MayRefuse};
+ghost use Rattle.bench_top.specs.Outcome.{Analysed, Converted, Analysed6, ResultOf, IsReported, TaskMayRefuse, with_given_names, given_or_plain};
 
-use crate::inputs::Inputs;
-use crate::order::Command;
 use crate::report::Report;
 use crate::status::Status;
+use crate::tasks::{SimpleGraph, Task};
 use allowed_edges::{allowed, covered};
 use gallai_edmonds::sets;
 use graph_core::{MultiGraph, Sides};
+use graph_text::{Named, Names, plain_names, write_named};
+use graph6_text::write_graph6;
 use match_core::maximum;
-use report_text::{AnalysisLines, analysis};
+use report_text::{AnalysisLines, analysis, graph6_line, with_names};
 use std::alloc::{AllocError as Memory, Global};
 
 // Whether some vertex set has all edges in its cut.
@@ -63,19 +65,81 @@ fn analysis_lines(alloc: Global, g: &MultiGraph) -> Result<AnalysisLines, Memory
     })
 }
 
-/// The status and the whole report of a command, made in memory. Neither a shelf nor a sink is asked.
-pub fn judge(alloc: Global, command: Command<'_>, inputs: &Inputs) -> Result<Report, Memory>
-    ensures result { IfOk result (λ report. ResultOf (asked command.entry) (inputs_of inputs.now) report.status report.bytes.items) }
-    ensures reported { IfOk result (λ report. IsReported report.status) }
-    ensures refuses { IfOk result (λ report. report.status ≡ Status.Negative → MayRefuse (Some (asked command.entry))) }
+// The report of `analyse`.
+fn analysed(alloc: Global, named: &Named) -> Result<Report, Memory>
+    ensures { IfOk result (λ report. Analysed (named_graph named.now) report.status report.bytes.items) }
 {
-    match (command, inputs) {
-        (Command::Analyse { .. }, Inputs::Graph { graph }) => {
-            let lines = analysis_lines(alloc, graph)?;
-            Ok(Report {
-                status: Status::Done,
-                bytes: analysis(alloc, &lines)?,
-            })
-        }
+    let lines = analysis_lines(alloc, &named.graph)?;
+    let text = analysis(alloc, &lines)?;
+    let bytes = with_given_names(alloc, text, &named.names)?;
+    Ok(Report {
+        status: Status::Done,
+        bytes,
+    })
+}
+
+// The report, and then the names where the graph has names.
+fn with_given_names(
+    alloc: Global,
+    report: Vec<u8>,
+    names: &Option<Names>,
+) -> Result<Vec<u8>, Memory>
+    ensures { IfOk result (λ bytes. bytes.items ≡ with_given_names report.items names.now) }
+{
+    match names {
+        Some(names) => with_names(alloc, &report, names, false),
+        None => Ok(report),
+    }
+}
+
+// The names of the vertices: those that are given, or else the plain ones.
+fn given_or_plain(alloc: Global, graph: &MultiGraph, names: Option<Names>) -> Result<Names, Memory>
+    requires { ForSome names (λ given. length given ≡ graph.now.order) }
+    ensures names { IfOk result (λ all. all ≡ given_or_plain graph.now.order names) }
+    ensures one_each { IfOk result (λ all. length all ≡ graph.now.order) }
+{
+    graph.keeps_limits();
+    match names {
+        Some(names) => Ok(names),
+        None => plain_names(alloc, graph.order()),
+    }
+}
+
+// The report of `convert`.
+fn converted(alloc: Global, named: Named) -> Result<Report, Memory>
+    ensures { IfOk result (λ report. Converted (named_graph named) report.status report.bytes.items) }
+{
+    let Named { graph, names } = named;
+    let names = given_or_plain(alloc, &graph, names)?;
+    Ok(Report {
+        status: Status::Done,
+        bytes: write_named(alloc, &graph, &names)?,
+    })
+}
+
+// The report of `analyse6`.
+fn analysed6(alloc: Global, simple: SimpleGraph) -> Result<Report, Memory>
+    ensures { IfOk result (λ report. Analysed6 (graph_in simple) report.status report.bytes.items) }
+{
+    let SimpleGraph { graph } = simple;
+    let lines = analysis_lines(alloc, &graph)?;
+    let text = analysis(alloc, &lines)?;
+    let graph6 = write_graph6(alloc, &graph)?;
+    Ok(Report {
+        status: Status::Done,
+        bytes: graph6_line(alloc, &text, &graph6)?,
+    })
+}
+
+/// The status and the whole report of a task, made in memory. Neither a shelf nor a sink is asked.
+pub fn judge(alloc: Global, task: Task) -> Result<Report, Memory>
+    ensures result { IfOk result (λ report. ResultOf (task_of task) report.status report.bytes.items) }
+    ensures reported { IfOk result (λ report. IsReported report.status) }
+    ensures refuses { IfOk result (λ report. report.status ≡ Status.Negative → TaskMayRefuse (task_of task)) }
+{
+    match task {
+        Task::Analyse { named } => analysed(alloc, &named),
+        Task::Convert { named } => converted(alloc, named),
+        Task::Analyse6 { simple } => analysed6(alloc, simple),
     }
 }

@@ -1,17 +1,27 @@
-//! The top call of the program.
+//! The top call of the program: `run` does what the words ask for.
+//!
+//! The words are a `Command`, a row of the table of words; what its files hold makes it a `Task`; a task has a status and a
+//! report, which is written. Main definitions, in specs/: `command_of` (what the words ask for), `loaded` (what the files of a
+//! command hold, up to the first that is not held or is bad), `ResultOf` (what a task gives) and `Outcome`, which puts them
+//! together. Main promises: the clauses of `run` say for each status its cause, and tie what was written to `Outcome`; that what
+//! `convert` writes is canonical is `laws::convert_law`.
+//!
+//! Stands on all crates below: the texts, the engine, the reports, and `outside` for the shelf and the sink.
 #![tactic(auto)]
 
 mod command;
 mod emit;
+mod formats;
 mod gather;
-mod inputs;
 mod judge;
+pub mod laws;
 mod order;
 mod performing;
 mod report;
 mod running;
 mod status;
 mod stop;
+mod tasks;
 #[cfg(test)]
 mod tests;
 

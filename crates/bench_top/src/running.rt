@@ -3,7 +3,8 @@ ghost use Rattle.std.specs.Prelude.{◌≡◌, ◌⊎◌, ◌↔◌, ℕ, List, 
 ghost use Rattle.outside.specs.Faults.{Rose};
 ghost use Rattle.outside.specs.Shelf.{Named};
 ghost use Rattle.bench_top.specs.Commands.{Command, command_of};
-ghost use Rattle.bench_top.specs.Loading.{Inputs, All, Bad, Absent, loaded};
+ghost use Rattle.bench_top.specs.Tasks.{Task};
+ghost use Rattle.bench_top.specs.Loading.{All, Bad, Absent, loaded};
 ghost use Rattle.bench_top.specs.Outcome.{Outcome, Appended, CutShort, IsReported, IsSettled, MayRefuse};
 ghost use Rattle.bench_top.specs.Calm.{IsCalm};
 
@@ -43,7 +44,7 @@ pub fn run<S: Shelf, K: Sink>(
     // What the files hold decides the status, where the outside does not fail and memory lasts.
     ensures absent { (files : List Named) (command : Command) → S.files shelf.old ≡ Some files → command_of (map string_bytes words.now) ≡ Some command → loaded files command ≡ Absent → (result ≡ Status.ReadFault) ⊎ (result ≡ Status.Memory) }
     ensures bad { (files : List Named) (command : Command) (file line kind : ℕ) → S.files shelf.old ≡ Some files → command_of (map string_bytes words.now) ≡ Some command → loaded files command ≡ Bad file line kind → IsCalm (S.steady shelf.old) (S.faults shelf.old) (S.faults shelf.new) (K.faults sink.old) (K.faults sink.new) → (result ≡ Status.BadInput) ⊎ (result ≡ Status.Memory) }
-    ensures good { (files : List Named) (command : Command) (inputs : Inputs) → S.files shelf.old ≡ Some files → command_of (map string_bytes words.now) ≡ Some command → loaded files command ≡ All inputs → IsCalm (S.steady shelf.old) (S.faults shelf.old) (S.faults shelf.new) (K.faults sink.old) (K.faults sink.new) → IsSettled result ⊎ (result ≡ Status.Memory) }
+    ensures good { (files : List Named) (command : Command) (task : Task) → S.files shelf.old ≡ Some files → command_of (map string_bytes words.now) ≡ Some command → loaded files command ≡ All task → IsCalm (S.steady shelf.old) (S.faults shelf.old) (S.faults shelf.new) (K.faults sink.old) (K.faults sink.new) → IsSettled result ⊎ (result ≡ Status.Memory) }
 {
     match plan(words) {
         Some(command) => perform(alloc, command, shelf, sink),

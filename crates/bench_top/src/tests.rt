@@ -1,7 +1,8 @@
-// The worked examples of the command `analyse`, its refusals, and faults of the outside.
+// The worked examples of the commands, their refusals, and faults of the outside.
 use crate::{Status, run};
 use outside::{CountSink, MemShelf, MemSink};
 use std::alloc::Global;
+use std::str;
 use std::test::Fail;
 
 const K4: &str = "p mcg 4 6\ne 1 2\ne 1 3\ne 1 4\ne 2 3\ne 2 4\ne 3 4\n";
@@ -18,12 +19,12 @@ fn words_of(alloc: Global, words: &[&str]) -> Result<Vec<String>, Fail> {
     Ok(list)
 }
 
-// What `analyse` of a file with these bytes answers and writes.
-fn analysed(alloc: Global, bytes: &[u8]) -> Result<(Status, Vec<u8>), Fail> {
+// What a command answers and writes on a file with these bytes.
+fn ran(alloc: Global, command: &str, bytes: &[u8]) -> Result<(Status, Vec<u8>), Fail> {
     let mut shelf = MemShelf::new(alloc);
     shelf.put("g", bytes)?;
-    let mut sink = MemSink::new(alloc, 4096, 4096)?;
-    let words = words_of(alloc, &["analyse", "g"])?;
+    let mut sink = MemSink::new(alloc, 8192, 8192)?;
+    let words = words_of(alloc, &[command, "g"])?;
     let status = run(alloc, &words, &mut shelf, &mut sink);
     let mut written = Vec::new(alloc);
     written.extend_from_slice(sink.bytes())?;
@@ -69,8 +70,169 @@ fn reports(rt: HostRuntime) -> Result<(), Fail> {
         ),
     ];
     for (text, report) in &table {
-        let (status, written) = analysed(rt.alloc(), text.as_bytes())?;
+        let (status, written) = ran(rt.alloc(), "analyse", text.as_bytes())?;
         assert_eq!(rt; status, Status::Done);
+        assert_eq!(rt; written.as_slice(), report.as_bytes());
+    }
+    Ok(())
+}
+
+// The cycle of four with names.
+const NAMED_CYCLE: &str = "p mcg2 4 4\nv a\nv b\nv c\nv d\ne a b\ne b c\ne c d\ne d a\n";
+
+#[test]
+fn reports_with_names(rt: HostRuntime) -> Result<(), Fail> {
+    let (status, written) = ran(rt.alloc(), "analyse", NAMED_CYCLE.as_bytes())?;
+    let report =
+        "graph 4 4\ncomponents 1\nbipartite yes\nmatching 2\ndeficiency 0\nD\nA\nC 1 2 3 4\nallowed 1 2 3 4\ncovered yes\nname 1 a\nname 2 b\nname 3 c\nname 4 d\n";
+    assert_eq!(rt; status, Status::Done);
+    assert_eq!(rt; written.as_slice(), report.as_bytes());
+    Ok(())
+}
+
+// The cycle of so many vertices in version 1 of the graph format.
+fn plain_cycle(alloc: Global, n: u32) -> Result<String, Fail> {
+    let mut text = format!(in alloc; "p mcg {n} {n}\n")?;
+    for k in 1..n {
+        let next = k + 1;
+        write!(text, "e {k} {next}\n")?;
+    }
+    write!(text, "e {n} 1\n")?;
+    Ok(text)
+}
+
+// The same with the plain names in version 2.
+fn named_cycle(alloc: Global, n: u32) -> Result<String, Fail> {
+    let mut text = format!(in alloc; "p mcg2 {n} {n}\n")?;
+    for k in 0..n {
+        let vertex = k + 1;
+        write!(text, "v v{vertex}\n")?;
+    }
+    for k in 1..n {
+        let next = k + 1;
+        write!(text, "e v{k} v{next}\n")?;
+    }
+    write!(text, "e v{n} v1\n")?;
+    Ok(text)
+}
+
+#[test]
+fn cycle_of_128(rt: HostRuntime) -> Result<(), Fail> {
+    let text = named_cycle(rt.alloc(), 128)?;
+    let (status, written) = ran(rt.alloc(), "analyse", text.as_bytes())?;
+    assert_eq!(rt; status, Status::Done);
+    let report = str::from_utf8(&written)?;
+    assert!(rt;
+        report.starts_with(
+            "graph 128 128\ncomponents 1\nbipartite yes\nmatching 64\ndeficiency 0\nD\nA\nC 1 2 3 "
+        )
+    );
+    assert!(rt; report.contains("\ncovered yes\nname 1 v1\nname 2 v2\n"));
+    assert!(rt; report.ends_with("\nname 127 v127\nname 128 v128\n"));
+    Ok(())
+}
+
+#[test]
+fn conversions(rt: HostRuntime) -> Result<(), Fail> {
+    let table = [
+        // parallel edges are kept
+        (
+            "p mcg 2 2\ne 1 2\ne 1 2\n",
+            "p mcg2 2 2\nv v1\nv v2\ne v1 v2\ne v1 v2\n",
+        ),
+        // the ends of an edge keep their order
+        ("p mcg 2 1\ne 2 1\n", "p mcg2 2 1\nv v1\nv v2\ne v2 v1\n"),
+        ("p mcg 0 0\n", "p mcg2 0 0\n"),
+        // names are kept
+        (NAMED_CYCLE, NAMED_CYCLE),
+        (
+            "c two\r\np mcg2 02 1\n\nv x.1\nv -_\ne -_ \tx.1",
+            "p mcg2 2 1\nv x.1\nv -_\ne -_ x.1\n",
+        ),
+    ];
+    for (text, canonical) in &table {
+        let (status, written) = ran(rt.alloc(), "convert", text.as_bytes())?;
+        assert_eq!(rt; status, Status::Done);
+        assert_eq!(rt; written.as_slice(), canonical.as_bytes());
+        let (status, again) = ran(rt.alloc(), "convert", &written)?;
+        assert_eq!(rt; status, Status::Done);
+        assert_eq!(rt; again.as_slice(), canonical.as_bytes());
+    }
+    let plain = plain_cycle(rt.alloc(), 64)?;
+    let named = named_cycle(rt.alloc(), 64)?;
+    let (_, written) = ran(rt.alloc(), "convert", plain.as_bytes())?;
+    assert_eq!(rt; written.as_slice(), named.as_bytes());
+    Ok(())
+}
+
+#[test]
+fn refused_conversions(rt: HostRuntime) -> Result<(), Fail> {
+    let table = [
+        ("", "file 1 line 1 kind 1\n"),
+        ("p mcg 65 65\n", "file 1 line 1 kind 6\n"),
+        ("p mcg2 2 1\nv a\n", "file 1 line 3 kind 7\n"),
+        ("p mcg2 2 1\nv a\nv b\ne 1 2\n", "file 1 line 4 kind 11\n"),
+    ];
+    for (text, report) in &table {
+        let (status, written) = ran(rt.alloc(), "convert", text.as_bytes())?;
+        assert_eq!(rt; status, Status::BadInput);
+        assert_eq!(rt; written.as_slice(), report.as_bytes());
+    }
+    Ok(())
+}
+
+#[test]
+fn reports_of_graph6(rt: HostRuntime) -> Result<(), Fail> {
+    let table = [
+        (
+            "C~\n",
+            "graph 4 6\ncomponents 1\nbipartite no\nmatching 2\ndeficiency 0\nD\nA\nC 1 2 3 4\nallowed 1 2 3 4 5 6\ncovered yes\ngraph6 C~\n",
+        ),
+        (
+            ">>graph6<<Bw",
+            "graph 3 3\ncomponents 1\nbipartite no\nmatching 1\ndeficiency 1\nD 1 2 3\nA\nC\nallowed\ncovered no berge\ngraph6 Bw\n",
+        ),
+        // the path: its middle edge is in no perfect matching
+        (
+            "Ch",
+            "graph 4 3\ncomponents 1\nbipartite yes\nmatching 2\ndeficiency 0\nD\nA\nC 1 2 3 4\nallowed 1 3\ncovered no edge 2\ngraph6 Ch\n",
+        ),
+        (
+            "?",
+            "graph 0 0\ncomponents 0\nbipartite yes\nmatching 0\ndeficiency 0\nD\nA\nC\nallowed\ncovered no order\ngraph6 ?\n",
+        ),
+        // the Petersen graph
+        (
+            "IheA@GUAo\r\n",
+            "graph 10 15\ncomponents 1\nbipartite no\nmatching 5\ndeficiency 0\nD\nA\nC 1 2 3 4 5 6 7 8 9 10\nallowed 1 2 3 4 5 6 7 8 9 10 11 12 13 14 15\ncovered yes\ngraph6 IheA@GUAo\n",
+        ),
+    ];
+    for (text, report) in &table {
+        let (status, written) = ran(rt.alloc(), "analyse6", text.as_bytes())?;
+        assert_eq!(rt; status, Status::Done);
+        assert_eq!(rt; written.as_slice(), report.as_bytes());
+    }
+    Ok(())
+}
+
+#[test]
+fn refused_graph6_files(rt: HostRuntime) -> Result<(), Fail> {
+    let table = [
+        ("", "file 1 line 1 kind 7\n"),
+        ("C~\nC~", "file 1 line 2 kind 8\n"),
+        (":Bc", "file 1 line 1 kind 4\n"),
+        ("~?A", "file 1 line 1 kind 7\n"),
+        ("~~??????", "file 1 line 1 kind 6\n"),
+        ("~??C~", "file 1 line 1 kind 15\n"),
+        ("~?A@", "file 1 line 1 kind 6\n"),
+        ("C", "file 1 line 1 kind 7\n"),
+        ("C~~", "file 1 line 1 kind 8\n"),
+        ("B~", "file 1 line 1 kind 14\n"),
+        (K4, "file 1 line 2 kind 8\n"),
+    ];
+    for (text, report) in &table {
+        let (status, written) = ran(rt.alloc(), "analyse6", text.as_bytes())?;
+        assert_eq!(rt; status, Status::BadInput);
         assert_eq!(rt; written.as_slice(), report.as_bytes());
     }
     Ok(())
@@ -89,9 +251,19 @@ fn refused_files(rt: HostRuntime) -> Result<(), Fail> {
         ("p mcg 65 65\n", "file 1 line 1 kind 6\n"),
         ("p mcg x 1\n", "file 1 line 1 kind 3\n"),
         ("c nothing else\n", "file 1 line 2 kind 1\n"),
+        ("p mcg2 2 1\ne 1 2\n", "file 1 line 2 kind 2\n"),
+        ("p mcg2 2 1\nv a\nv a\n", "file 1 line 3 kind 12\n"),
+        ("p mcg2 2 1\nv a\nv b!\n", "file 1 line 3 kind 13\n"),
+        ("p mcg2 2 1\nv a\nv b\ne a c\n", "file 1 line 4 kind 11\n"),
+        ("p mcg2 2 1\nv a\nv b\ne a a\n", "file 1 line 4 kind 5\n"),
+        (
+            "p mcg2 2 1\nv a\nv b\ne a b\ne a b\n",
+            "file 1 line 5 kind 8\n",
+        ),
+        ("p mcg2 129 129\n", "file 1 line 1 kind 6\n"),
     ];
     for (text, report) in &table {
-        let (status, written) = analysed(rt.alloc(), text.as_bytes())?;
+        let (status, written) = ran(rt.alloc(), "analyse", text.as_bytes())?;
         assert_eq!(rt; status, Status::BadInput);
         assert_eq!(rt; written.as_slice(), report.as_bytes());
     }
@@ -107,7 +279,7 @@ fn files_of_spaces(rt: HostRuntime) -> Result<(), Fail> {
     ];
     for (size, report) in &table {
         let spaces = vec![in rt.alloc(); b' '; *size]?;
-        let (status, written) = analysed(rt.alloc(), &spaces)?;
+        let (status, written) = ran(rt.alloc(), "analyse", &spaces)?;
         assert_eq!(rt; status, Status::BadInput);
         assert_eq!(rt; written.as_slice(), report.as_bytes());
     }
@@ -126,7 +298,7 @@ fn prefixes_of_a_file(rt: HostRuntime) -> Result<(), Fail> {
         (45, K4_REPORT),
     ];
     for (kept, report) in &table {
-        let (_, written) = analysed(rt.alloc(), &K4.as_bytes()[..*kept])?;
+        let (_, written) = ran(rt.alloc(), "analyse", &K4.as_bytes()[..*kept])?;
         assert_eq!(rt; written.as_slice(), report.as_bytes());
     }
     Ok(())
@@ -134,7 +306,15 @@ fn prefixes_of_a_file(rt: HostRuntime) -> Result<(), Fail> {
 
 #[test]
 fn words_that_match_no_command(rt: HostRuntime) -> Result<(), Fail> {
-    let table: [&[&str]; 4] = [&[], &["analyse"], &["analyse", "g", "g"], &["--help"]];
+    let table: [&[&str]; 7] = [
+        &[],
+        &["analyse"],
+        &["analyse", "g", "g"],
+        &["--help"],
+        &["convert"],
+        &["convert", "g", "g"],
+        &["analyse7", "g"],
+    ];
     for words in &table {
         let mut shelf = MemShelf::new(rt.alloc());
         shelf.put("g", K4.as_bytes())?;

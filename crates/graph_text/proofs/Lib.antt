@@ -3,3 +3,5 @@ pub mod TextSoFar
 pub mod Edges
 pub mod VersionOneReadBack
 pub mod NamedReadBack
+pub mod PlainNames
+pub mod Versions

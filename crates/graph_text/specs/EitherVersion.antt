@@ -1,10 +1,10 @@
 -- Both versions of the graph format. The second word of the header tells which one it is: version 2 has a header `p mcg2 N M`,
 -- N lines `v NAME` and M lines `e X Y` between names.
-use Rattle.std.specs.Prelude.{ℕ, ◌==◌, ◌&&◌, ◌||◌, not, nat_lt, Bool, List, [], ◌∷◌, ◌++◌, codes, length, Option, Some, None, Result, Ok, Err, if◌then◌else◌}
+use Rattle.std.specs.Prelude.{ℕ, ◌==◌, ◌&&◌, ◌||◌, not, nat_lt, Bool, false, List, [], ◌∷◌, ◌++◌, codes, length, Option, Some, None, Result, Ok, Err, if◌then◌else◌}
 use Rattle.std.specs.Str.{bytes_eq}
 use Rattle.std.specs.Result.{result_map_both}
 use Rattle.line_text.specs.Format.{Rules, checked}
-use Rattle.line_text.specs.Words.{has_form, word_at}
+use Rattle.line_text.specs.Words.{SignificantLine, significant_lines_of, has_form, word_at}
 use Rattle.line_text.specs.Numerals.{is_number, value_of}
 use Rattle.graph_core.specs.Graph.{Graph, size, with_edge}
 use Rattle.graph_core.specs.declared.faults.FaultKind.{FaultKind}
@@ -106,3 +106,12 @@ either_version = record {
   close = λ body. end_behind body.so_far body.names;
   headless = kind.Header;
 }
+
+-- the first of these lines is a header of version 2
+abbrev pub begin_named : List SignificantLine → Bool
+begin_named [] = false
+begin_named (line ∷ lines) = is_named_header line.words
+
+-- a text is judged by version 2 exactly where its first significant line is a header of that version, and else by version 1
+abbrev pub is_version_two : List ℕ → Bool
+is_version_two text = begin_named (significant_lines_of text)

@@ -1,5 +1,6 @@
 -- The names of vertices.
-use Rattle.std.specs.Prelude.{◌≡◌, ◌≢◌, ℕ, ◌+◌, ◌<◌, ◌≤◌, ◌==◌, ◌&&◌, ◌||◌, nat_le, List, [], length, Bool, true, slice_index_or}
+use Rattle.std.specs.Prelude.{◌≡◌, ◌≢◌, ℕ, zero, suc, ◌+◌, ◌<◌, ◌≤◌, ◌==◌, ◌&&◌, ◌||◌, nat_le, List, [], ◌∷◌, ◌++◌, codes, length, Bool, true, slice_index_or}
+use Rattle.std.specs.Fmt.{decimal}
 use Rattle.std.specs.Char.{is_ascii_alphanumeric}
 use Rattle.std.specs.List.{list_all, list_any, position_or_len, AllByRecursion}
 use Rattle.std.specs.Str.{bytes_eq}
@@ -25,3 +26,12 @@ pub record AreNames (names : List (List ℕ)) : Type 0 where
   pub each : AllByRecursion (λ name. is_name name ≡ true) names
   pub differ : (i j : ℕ) → i < j → j < length names → slice_index_or names i [] ≢ slice_index_or names j []
   pub few : length names ≤ 128
+
+-- the plain name of vertex k: `v` and its number
+abbrev pub plain_name : ℕ → List ℕ
+plain_name k = codes "v" ++ decimal k
+
+-- the plain names of the vertices 1 to n: `v1`, `v2` and so on
+unfoldable pub plain_names : ℕ → List (List ℕ)
+plain_names zero = []
+plain_names (suc n) = plain_names n ++ plain_name (suc n) ∷ []

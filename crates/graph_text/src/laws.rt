@@ -1,12 +1,14 @@
 //! Laws of the texts of graphs.
-ghost use Rattle.std.specs.Prelude.{◌≡◌, ℕ, List, ◌++◌, true, Some};
+ghost use Rattle.std.specs.Prelude.{◌≡◌, ◌↔◌, ℕ, List, ◌∷◌, ◌++◌, true, false, Some, None};
 ghost use Rattle.std.specs.List.{AllByRecursion};
-ghost use Rattle.line_text.specs.Format.{Stands, StandsAlone};
+ghost use Rattle.line_text.specs.Format.{Stands, StandsAlone, FirstFault};
 ghost use Rattle.line_text.specs.Lines.{lines_of};
-ghost use Rattle.line_text.specs.Words.{words_of, is_skipped};
+ghost use Rattle.line_text.specs.Words.{SignificantLine, significant_lines_of, words_of, is_skipped};
+ghost use Rattle.graph_core.specs.declared.faults.FaultKind.{FaultKind};
+ghost use Rattle.graph_core.specs.declared.faults.FaultKind.TheVariants.{Header};
 ghost use Rattle.graph_core.specs.Graph.{Graph};
 ghost use Rattle.graph_text.specs.VersionOne.{version_one, FitsVersionOne};
-ghost use Rattle.graph_text.specs.EitherVersion.{either_version};
+ghost use Rattle.graph_text.specs.EitherVersion.{either_version, is_version_two, is_named_header};
 ghost use Rattle.graph_text.specs.Writing.{graph_text, named_text, FitsNames};
 
 /// What is written of a graph within the limits of version 1 stands for this graph, for no other, and has no fault.
@@ -26,4 +28,16 @@ pub fn comments_change_nothing()
 pub fn written_names_stand()
     ensures { (g : Graph) (names : List (List ℕ)) → FitsNames g names
         → Stands either_version (named_text g names) (record { graph = g; names = Some names }) }
+{}
+
+/// The two readers agree on version 1. A text stands for a graph without names exactly where it stands for it in version 1; a
+/// text that is not judged by version 2 has the same first fault in both formats; and where the first significant line is a
+/// header of version 2, that line is the first fault in version 1, of the kind Header.
+pub fn versions_law()
+    ensures reads { (text : List ℕ) (g : Graph)
+        → Stands version_one text g ↔ Stands either_version text (record { graph = g; names = None }) }
+    ensures faults { (text : List ℕ) (line : ℕ) (kind : FaultKind) → is_version_two text ≡ false
+        → FirstFault version_one text line kind ↔ FirstFault either_version text line kind }
+    ensures refused { (text : List ℕ) (line : SignificantLine) (lines : List SignificantLine) → significant_lines_of text ≡ line ∷ lines
+        → is_named_header line.words ≡ true → FirstFault version_one text line.number Header }
 {}

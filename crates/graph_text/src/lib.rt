@@ -22,7 +22,7 @@ mod writing;
 
 pub use either_version::read_any;
 pub use named::Named;
-pub use names::Names;
+pub use names::{Names, plain_names};
 pub use version_one::read_graph;
 pub use writing::{write_graph, write_named};
 

@@ -1,8 +1,8 @@
 //! The names of vertices.
-ghost use Rattle.std.specs.Prelude.{◌≡◌, ◌<◌, ◌++◌, ◌∷◌, [], List, ℕ, true, false, is_some, length, position, slice_index_or, IfSome, OnOk, OnErr};
+ghost use Rattle.std.specs.Prelude.{◌≡◌, ◌<◌, ◌≤◌, ◌++◌, ◌∷◌, [], List, ℕ, true, false, is_some, length, position, slice_index_or, IfSome, IfOk, OnOk, OnErr};
 ghost use Rattle.std.specs.List.{list_all};
 ghost use Rattle.std.specs.Str.{bytes_eq};
-ghost use Rattle.graph_text.specs.Names.{is_name, is_name_byte, is_among, vertex_of};
+ghost use Rattle.graph_text.specs.Names.{is_name, is_name_byte, is_among, vertex_of, plain_names};
 ghost use Rattle.counting.specs.Counts.{Within};
 
 use indexmap::IndexSet;
@@ -144,4 +144,19 @@ impl Names {
             Err(_) => Err(Memory),
         }
     }
+}
+
+/// The plain names of `n` vertices: `v1`, `v2` and so on, that of vertex k being `v` and k in decimal.
+pub fn plain_names(alloc: Global, n: u32) -> Result<Names, Memory>
+    requires { n ≤ MOST_VERTICES }
+    ensures names { IfOk result (λ names. names ≡ plain_names n) }
+    ensures one_each { IfOk result (λ names. length names ≡ n) }
+{
+    let mut names = Names::new(alloc);
+    for k in 0..n {
+        let number = k + 1;
+        let name = format!(in alloc; "v{number}")?;
+        names.push(alloc, &name)?;
+    }
+    Ok(names)
 }

@@ -1,5 +1,5 @@
 //! Worked texts: what is read of them, and what is written.
-use crate::{read_any, read_graph, write_graph, write_named};
+use crate::{plain_names, read_any, read_graph, write_graph, write_named};
 use graph_core::{FaultKind, TextFault};
 use std::test::Fail;
 
@@ -87,4 +87,16 @@ fn first_faults_of_version_two(rt: HostRuntime) {
         let fault = read_any(rt.alloc(), text).err();
         assert_eq!(rt; fault, Some(TextFault::At { line, kind }));
     }
+}
+
+#[test]
+fn plain_names_by_number(rt: HostRuntime) -> Result<(), Fail> {
+    assert_eq!(rt; plain_names(rt.alloc(), 0)?.len(), 0);
+    let names = plain_names(rt.alloc(), 128)?;
+    for (i, name) in [(0, "v1"), (1, "v2"), (9, "v10"), (127, "v128")] {
+        assert!(rt; i < names.len());
+        assert_eq!(rt; names.get(i), name);
+    }
+    assert_eq!(rt; names.len(), 128);
+    Ok(())
 }

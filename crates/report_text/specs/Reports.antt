@@ -1,5 +1,5 @@
 -- The bytes of each report as a function of the values that it tells.
-use Rattle.std.specs.Prelude.{ℕ, List, [], ◌∷◌, ◌++◌, Bool, if◌then◌else◌, codes}
+use Rattle.std.specs.Prelude.{ℕ, zero, suc, List, [], ◌∷◌, ◌++◌, length, slice_index_or, Bool, if◌then◌else◌, codes}
 use Rattle.std.specs.Fmt.{decimal}
 use Rattle.graph_core.specs.declared.verdict.Reason.{Reason}
 use Rattle.graph_core.specs.declared.verdict.Reason.TheVariants.{Small, Parted, Unmatched, Unallowed}
@@ -71,3 +71,21 @@ analysis_text lines = with_verdict (with_three_sets ((graph_lines lines ++ match
 -- the report of a file that is outside its format: its place among the named files, the line and the kind of the fault
 unfoldable pub bad_input_text : (file line kind : ℕ) → List ℕ
 bad_input_text file line kind = codes "file " ++ decimal file ++ codes " line " ++ decimal line ++ codes " kind " ++ decimal kind ++ codes "\n"
+
+-- the line that names a vertex, which may be a comment
+abbrev pub name_line : (comments : Bool) (vertex : ℕ) → List ℕ → List ℕ
+name_line comments vertex name =
+    (if comments then codes "c " else []) ++ codes "name " ++ decimal vertex ++ codes " " ++ name ++ codes "\n"
+
+-- the lines that name the first vertices, so many
+abbrev pub name_lines : (comments : Bool) → List (List ℕ) → ℕ → List ℕ
+name_lines comments names zero = []
+name_lines comments names (suc k) = name_lines comments names k ++ name_line comments (suc k) (slice_index_or names k [])
+
+-- a report and then a line for each name, in order
+unfoldable pub with_names_text : (report : List ℕ) → List (List ℕ) → (comments : Bool) → List ℕ
+with_names_text report names comments = report ++ name_lines comments names (length names)
+
+-- a report and then the line of a graph6 text
+abbrev pub graph6_line : (report text : List ℕ) → List ℕ
+graph6_line report text = report ++ codes "graph6 " ++ text ++ codes "\n"

@@ -1,0 +1,33 @@
+-- What `convert` writes stands for the graph with the names that it writes, and for nothing else. So a file that holds it is
+-- read as this graph with these names, and the text of them is the same text.
+use Rattle.std.proofs.Common.{◌≡◌, ℕ, ◌≤◌, List, length, Some, refl, sym, subst}
+use Rattle.outside.specs.Shelf.{Named, file_named}
+use Rattle.line_text.specs.Reading.{reading_of}
+use Rattle.line_text.proofs.ExactlyOne.{Stands-reading_of}
+use Rattle.graph_text.specs.EitherVersion.{NamedGraph, either_version}
+use Rattle.bench_top.specs.Loading.{Loaded, All, Bad, Absent, loaded_as, graph_file, most_bytes}
+use Rattle.bench_top.specs.Outcome.{LoadedGives, Converted, given_or_plain}
+use Rattle.bench_top.specs.Tasks.{Task}
+use Rattle.bench_top.specs.Tasks as task
+use Rattle.bench_top.specs.declared.status.Status.TheVariants.{Done}
+use Rattle.bench_top.proofs.FileReads.{file_read-value}
+
+-- the graph with the names that are written
+abbrev written_graph : NamedGraph → NamedGraph
+written_graph named = record { graph = named.graph; names = Some (given_or_plain named.graph.order named.names) }
+
+-- the conversion of what was written
+again : (named : NamedGraph) (output : List ℕ) → Converted named Done output → Converted (written_graph named) Done output
+again named output first = record { done = refl; text = first.text; stands = first.stands }
+
+convert-again : (held : Loaded NamedGraph) (again_held : Loaded NamedGraph) (output : List ℕ) → ((named : NamedGraph) → Converted named Done output → again_held ≡ All (written_graph named)) → LoadedGives (loaded_as task.Convert held) Done output → LoadedGives (loaded_as task.Convert again_held) Done output
+convert-again (All named) again_held output holds gives =
+    subst (λ (h : Loaded NamedGraph). LoadedGives (loaded_as task.Convert h) Done output) (sym (holds named gives)) (again named output gives)
+convert-again (Bad file line kind) again_held output holds gives = let no = gives.0 in cc no
+convert-again Absent again_held output holds gives = absurd gives
+
+pub convert-twice : (files others : List Named) (name other : List ℕ) (output : List ℕ) → LoadedGives (loaded_as task.Convert (graph_file files name)) Done output → file_named other others ≡ Some output → length output ≤ most_bytes → LoadedGives (loaded_as task.Convert (graph_file others other)) Done output
+convert-twice files others name other output gives held within =
+    convert-again (graph_file files name) (graph_file others other) output
+    (λ named first. file_read-value 1 (reading_of either_version) (file_named other others) output (written_graph named) held within (Stands-reading_of either_version output (written_graph named) first.stands))
+    gives
