@@ -7,4 +7,5 @@ pub mod FirstPairs
 pub mod EdgeLoop
 pub mod Completeness
 pub mod LeanLists
+pub mod Leaders
 mod CrossingMatchings
