@@ -27,9 +27,9 @@ head-least n x d u wu xu h = go (rising_list n x) refl
     go [] q = absurd (true≢false (sym (rising_holds n x u wu xu) ∙ ap (λ s. mem s u) q))
     go (y ∷ ys) q = first-least n y u ys (subst (IsRisingIn n) q (rising_list-rises n x))
         (record {
-        member = ap (λ s. mem s u) (sym q) ∙ rising_holds n x u wu xu;
-        before = λ w l. false_from_ne_true (mem (y ∷ ys) w) (λ m. let p = rising_only n x w (ap (λ s. mem s w) q ∙ m) in let k = h w p.0 p.1 in omega arith);
-      })
+          member = ap (λ s. mem s u) (sym q) ∙ rising_holds n x u wu xu;
+          before = λ w l. false_from_ne_true (mem (y ∷ ys) w) (λ m. let p = rising_only n x w (ap (λ s. mem s w) q ∙ m) in let k = h w p.0 p.1 in omega arith);
+        })
 
 module _ (h : Graph) (s : Set) (is : IsGraph h) where
   abbrev list_from : ℕ → List ℕ
@@ -65,10 +65,13 @@ module _ (h : Graph) (s : Set) (is : IsGraph h) where
         | inr f ↦
             let q : leader (map (λ u. rising_list h.order (joined h s u)) (u ∷ us)) v ≡ rest = ap (λ b. cond b (head_or (list_from u) v) rest) (mem-rising_list h.order (joined h s u) v wv ∙ f) in
             elim (lead us (All-tail (λ u. Within h.order u × (is_least h s u ≡ true)) u us a) v wv) [
-              | inl k ↦ inl (q ∙ k.0, λ w m. elim (or_cases (u == w) (mem us w) m) [
-                | inl e ↦ ap (λ w. joined h s w v) (sym (eqb-true u w e)) ∙ f
-                | inr e ↦ k.1 w e
-              ])
+              | inl k ↦ inl (
+                q ∙ k.0,
+                λ w m. elim (or_cases (u == w) (mem us w) m) [
+                  | inl e ↦ ap (λ w. joined h s w v) (sym (eqb-true u w e)) ∙ f
+                  | inr e ↦ k.1 w e
+                ],
+              )
               | inr k ↦ inr (subst (Within h.order) (sym q) k.0, ap (is_least h s) q ∙ k.1, ap (λ w. joined h s w v) q ∙ k.2)
             ]
       ]

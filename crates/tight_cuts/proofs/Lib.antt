@@ -8,4 +8,7 @@ pub mod EdgeLoop
 pub mod Completeness
 pub mod LeanLists
 pub mod Leaders
+pub mod EdgeNetworks
+pub mod EdgeShores
+pub mod EdgePairs
 mod CrossingMatchings

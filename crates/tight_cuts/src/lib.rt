@@ -9,6 +9,7 @@
 //! and the matching lattice" (1987); Lucchesi and Murty, "Perfect Matchings".
 #![tactic(auto)]
 
+mod edge_search;
 mod tightness;
 
 pub use tightness::{Tightness, is_tight};
