@@ -1,1 +1,4 @@
 pub mod AllowedMarks
+pub mod Leaving
+pub mod EdgeTables
+pub mod PairTables

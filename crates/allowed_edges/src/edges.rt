@@ -9,8 +9,9 @@ ghost use Rattle.match_core.specs.Rows.{marks};
 ghost use Rattle.match_core.specs.MatchingRows.{IsOf, edges_of};
 ghost use Rattle.allowed_edges.specs.AllowedMarks.{MarksAllowed, SettlesTo};
 
+use crate::questions::perfect_with_edge;
 use graph_core::{MOST_EDGES, MultiGraph, Numbers};
-use match_core::{Matching, perfect_with, perfect_without};
+use match_core::{Matching, perfect_without};
 use std::alloc::{AllocError as Memory, Global};
 use vset_core::VSet;
 
@@ -38,41 +39,36 @@ pub fn allowed_marks(alloc: Global, g: &MultiGraph, kept: &Matching) -> Result<V
     let mut known = vec![in alloc; false; size as usize + 1]?;
     mark_edges(&mut known, kept);
     for k in 0..size {
-        settle(alloc, g, &mut known, k + 1)?;
+        settle(alloc, g, kept, &mut known, k + 1)?;
     }
     Ok(known)
 }
 
 // Settles an edge, where those before it are settled.
-fn settle(alloc: Global, g: &MultiGraph, known: &mut Vec<bool>, e: u32) -> Result<(), Memory>
+fn settle(
+    alloc: Global,
+    g: &MultiGraph,
+    kept: &Matching,
+    known: &mut Vec<bool>,
+    e: u32,
+) -> Result<(), Memory>
     requires within { Within (size g.now) e }
+    requires of { IsOf g.now kept.now }
+    requires perfect { IsPerfect g.now none (mem (edges_of kept.now)) }
     requires before { SettlesTo g.now (e - 1) known.old.items }
     ensures { IfOk result (λ _. SettlesTo g.now e known.new.items) }
 {
     if known[e as usize] {
         return Ok(());
     }
-    if let Some(other) = perfect_with_edge(alloc, g, e)? {
+    if let Some(other) = perfect_with_edge(alloc, g, kept, e)? {
         mark_edges(known, &other);
     }
     Ok(())
 }
 
-/// A perfect matching that holds the edge; `None` exactly where the edge is not allowed.
-pub fn perfect_with_edge(alloc: Global, g: &MultiGraph, e: u32) -> Result<Option<Matching>, Memory>
-    requires { Within (size g.now) e }
-    ensures of { IfOk result (λ o. (m : _) → o ≡ Some m → IsOf g.now m) }
-    ensures perfect { IfOk result (λ o. (m : _) → o ≡ Some m → IsPerfect g.now none (mem (edges_of m))) }
-    ensures holds { IfOk result (λ o. (m : _) → o ≡ Some m → mem (edges_of m) e ≡ true) }
-    ensures none { IfOk result (λ o. (o ≡ None) ↔ (Allowed g.now e → ⊥)) }
-{
-    let mut edges = Numbers::new(alloc);
-    edges.push(e)?;
-    perfect_with(alloc, g, &edges)
-}
-
-// Marks the edges of a matching.
-fn mark_edges(mark: &mut Vec<bool>, m: &Matching)
+/// Marks the edges of a matching.
+pub fn mark_edges(mark: &mut Vec<bool>, m: &Matching)
     requires { All (λ row. row.edge < length mark.old.items) m.now.rows }
     ensures length { length mark.new.items ≡ length mark.old.items }
     ensures each { (i : ℕ) → marks mark.new.items i ≡ (marks mark.old.items i || mem (edges_of m.now) i) }

@@ -5,14 +5,23 @@
 //! allowed edges. `covered` answers whether the graph is matching covered and, where it is not, the first reason that
 //! applies (`IsVerdict`): fewer than two vertices, no connection, no perfect matching, or the least edge that is not allowed.
 //!
-//! Stands on `match_core`, which answers a perfect matching that holds a given edge. Source: Lovász and Plummer, "Matching
-//! Theory", chapter 5; Lucchesi and Murty, "Perfect Matchings".
+//! Two edges lie together if some perfect matching contains both (`Together`). `together` answers a `PairTable`: `both` is
+//! true exactly for the edges that lie together, and `list` is a pair list (`IsPairList`), in which each matching holds an
+//! edge or a pair of edges that no earlier one holds (`IsLean`).
+//!
+//! Each question is answered from a perfect matching at hand by one augmentation at most. Stands on `match_core`, which
+//! repairs a matching along one path. Source: Lovász and Plummer, "Matching Theory", chapter 5; Lucchesi and Murty,
+//! "Perfect Matchings".
 #![tactic(auto)]
 
 mod edges;
+mod pairs;
+mod questions;
+mod table;
 mod verdict;
 
 pub use edges::allowed;
+pub use pairs::{PairTable, together};
 pub use verdict::covered;
 
 #[cfg(test)]

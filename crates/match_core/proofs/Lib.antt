@@ -24,3 +24,4 @@ pub mod FirstMarks
 pub mod FrameFacts
 pub mod Gluing
 pub mod RepairWalks
+pub mod ClearedMatchings

@@ -1,5 +1,5 @@
 -- Matchings as lists of rows, each an edge with its two ends.
-use Rattle.std.specs.Prelude.{◌≡◌, ℕ, ◌+◌, ◌≤◌, Bool, ◌==◌, ◌&&◌, not, List, [], ◌∷◌, map, All}
+use Rattle.std.specs.Prelude.{◌≡◌, ℕ, ◌+◌, ◌≤◌, Bool, ◌==◌, ◌&&◌, ◌||◌, not, List, [], ◌∷◌, map, All}
 use Rattle.counting.specs.Counts.{Within, bit}
 use Rattle.counting.specs.Sets.{Set}
 use Rattle.counting.specs.Lists.{IsRisingIn}
@@ -46,3 +46,11 @@ is_clear x row = not (x row.a) && not (x row.b)
 -- edge e of g as a row
 abbrev pub row_at : Graph → ℕ → MatchRow
 row_at g e = record { edge = e; a = first_end g e; b = second_end g e }
+
+-- edge e has an end in x
+abbrev pub has_end_in : Graph → Set → Set
+has_end_in g x e = x (first_end g e) || x (second_end g e)
+
+-- the edges of m that have no end in x
+abbrev pub left_over : Graph → Set → Set → Set
+left_over g x m e = m e && not (has_end_in g x e)

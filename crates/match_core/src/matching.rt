@@ -3,12 +3,12 @@ ghost use Rattle.std.specs.Prelude.{◌≡◌, ℕ, ◌+◌, ◌<◌, ◌≤◌,
 ghost use Rattle.counting.specs.Counts.{Within};
 ghost use Rattle.counting.specs.Sets.{none};
 ghost use Rattle.counting.specs.Lists.{mem, rising_list};
-ghost use Rattle.graph_core.specs.Graph.{size, degree, first_end, second_end};
+ghost use Rattle.graph_core.specs.Graph.{Graph, size, degree, first_end, second_end};
 ghost use Rattle.graph_core.specs.View.{graph_of};
 ghost use Rattle.graph_core.specs.Matchings.{IsMatching};
 ghost use Rattle.match_core.specs.Rows.{marks};
 ghost use Rattle.match_core.specs.Searches.{IsGraphRow};
-ghost use Rattle.match_core.specs.MatchingRows.{KeepsMatching, IsOf, edges_of, is_clear, row_at};
+ghost use Rattle.match_core.specs.MatchingRows.{KeepsMatching, IsOf, edges_of, is_clear, left_over, row_at};
 
 use crate::rows::{falses, mark_place};
 use graph_core::{Ends, MOST_EDGES, MultiGraph};
@@ -66,11 +66,16 @@ impl Matching {
         let _ = &self.rows;
     }
 
-    /// The matching with the same order and those rows that meet no vertex of `removed`.
+    /// The matching with the same order and those rows that meet no vertex of `removed`. Of each graph that it was of, it is
+    /// a matching without `removed`.
     pub fn cleared(&self, alloc: Global, removed: VSet) -> Result<Matching, Memory>
         ensures order { IfOk result (λ m. m.order ≡ self.now.order) }
         ensures rows { IfOk result (λ m. m.rows ≡ filter (is_clear (mem removed)) self.now.rows) }
+        ensures of { IfOk result (λ m. (g : Graph) → IsOf g self.now → IsOf g m) }
+        ensures matching { IfOk result (λ m. (g : Graph) → IsOf g self.now → IsMatching g (mem removed) (mem (edges_of m))) }
+        ensures edges { IfOk result (λ m. (g : Graph) → IsOf g self.now → (i : ℕ) → mem (edges_of m) i ≡ left_over g (mem removed) (mem (edges_of self.now)) i) }
     {
+        self.keeps_matching();
         Ok(Matching {
             order: self.order,
             rows: clear_rows(alloc, &self.rows, removed)?,

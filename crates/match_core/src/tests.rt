@@ -1,7 +1,11 @@
 //! Worked graphs: the sizes of their maximum matchings, their Gallai-Edmonds sets, and perfect matchings on request.
-ghost use Rattle.std.specs.Prelude.{◌≤◌};
+ghost use Rattle.std.specs.Prelude.{◌≡◌, ◌≤◌, true};
+ghost use Rattle.counting.specs.Lists.{mem};
+ghost use Rattle.counting.specs.Sets.{none};
+ghost use Rattle.graph_core.specs.Matchings.{missed_count};
+ghost use Rattle.match_core.specs.MatchingRows.{IsOf, edges_of};
 
-use crate::{Matching, frame, maximum, perfect_with, perfect_without};
+use crate::{Matching, frame, maximum, perfect_with, perfect_without, repair};
 use graph_core::{MultiGraph, Numbers};
 use std::alloc::Global;
 use std::test::Fail;
@@ -48,6 +52,9 @@ const FLOWER: [(u32, u32); 10] = [
     (7, 3),
     (8, 7),
 ];
+
+// A square 3 4 5 6 beside an edge.
+const SQUARE: [(u32, u32); 5] = [(1, 2), (3, 4), (4, 5), (5, 6), (3, 6)];
 
 fn made(alloc: Global, order: u32, edges: &[(u32, u32)]) -> Result<MultiGraph, Fail>
     requires { order ≤ MOST_VERTICES }
@@ -150,4 +157,59 @@ fn perfect_with_edges(
         return Ok(None);
     }
     Ok(perfect_with(alloc, graph, edges)?)
+}
+
+// A body that searches anew gives one answer for both.
+#[test]
+fn repairs_along_one_path(rt: HostRuntime) -> Result<(), Fail> {
+    let square = made(rt.alloc(), 6, &SQUARE)?;
+    let one = repaired_beside(rt.alloc(), &square, 2)?;
+    assert!(rt; one.is_some_and(|m| has_edges(&m, &[1, 2, 4])));
+    let other = repaired_beside(rt.alloc(), &square, 3)?;
+    assert!(rt; other.is_some_and(|m| has_edges(&m, &[1, 3, 5])));
+    Ok(())
+}
+
+#[test]
+fn repairs_where_there_is_no_perfect_matching(rt: HostRuntime) -> Result<(), Fail> {
+    let star = made(rt.alloc(), 4, &STAR)?;
+    let found = maximum(rt.alloc(), &star)?;
+    assert!(rt; repaired(rt.alloc(), &star, &found.matching)?.is_none());
+    Ok(())
+}
+
+// A perfect matching that holds the edge, without its rows at 1 and 2, repaired.
+fn repaired_beside(alloc: Global, graph: &MultiGraph, edge: u32) -> Result<Option<Matching>, Fail> {
+    let mut edges = Numbers::new(alloc);
+    edges.push(edge)?;
+    if edge < 1 || edge > graph.size() {
+        return Ok(None);
+    }
+    match perfect_with(alloc, graph, &edges)? {
+        None => Ok(None),
+        Some(whole) => {
+            let rest = whole.cleared(alloc, VSet::one(1).with(2))?;
+            repaired(alloc, graph, &rest)
+        }
+    }
+}
+
+// Asks only where two vertices are missed.
+fn repaired(alloc: Global, graph: &MultiGraph, m: &Matching) -> Result<Option<Matching>, Fail>
+    requires { IsOf graph.now m.now }
+{
+    m.keeps_matching();
+    if !misses_two(graph, m) {
+        return Ok(None);
+    }
+    Ok(repair(alloc, graph, VSet::empty(), m)?)
+}
+
+fn misses_two(graph: &MultiGraph, m: &Matching) -> bool
+    requires { IsOf graph.now m.now }
+    ensures { result ≡ true → missed_count graph.now none (mem (edges_of m.now)) ≡ 2 }
+{
+    graph.keeps_limits();
+    m.keeps_matching();
+    m.len() < 64 && m.len() * 2 + 2 == graph.order() as usize
 }

@@ -1,0 +1,88 @@
+-- Marks set in a square table row by row, for all pairs of edges of a matching.
+-- A row that is written has the new marks and every other row stays; by cases on the row that is asked for.
+use Rattle.std.proofs.Common.{◌≡◌, ◌≢◌, ℕ, suc, zero, ◌+◌, ◌<◌, ◌≤◌, Bool, true, false, ◌&&◌, ◌||◌, ◌==◌, List, [], ◌∷◌, length, get_or, set, map, take, refl, sym, ap, ◌∙◌, arith, inl, inr, eq-eqb, ne_eqb, subst}
+use Rattle.std.specs.Prelude.{All, Some, replicate, slice_get}
+use Rattle.std.specs.Global.{Vec}
+use Rattle.std.proofs.lemmas.Bool.{cases_eq}
+use Rattle.std.proofs.lemmas.List.{get_or-map, get_or-set_same, get_or-set_other, length-map, map-set}
+use Rattle.std.proofs.lemmas.List.Elements.{All-head, All-tail}
+use Rattle.counting.specs.Counts.{Within}
+use Rattle.counting.specs.Lists.{mem}
+use Rattle.match_core.specs.Rows.{marks}
+use Rattle.match_core.specs.declared.matching.MatchRow.{MatchRow}
+use Rattle.match_core.proofs.MatchingEdges.{edge_of}
+use Rattle.allowed_edges.specs.EdgeTables.{IsSquare, MarksPairs, row_of, rows_of}
+use Rattle.allowed_edges.proofs.Marking.{edges-more}
+
+abbrev marks_in : Vec Bool → List Bool
+marks_in row = row.items
+
+-- a row written anew
+pub row_written : (rows : List (Vec Bool)) (view : List (List Bool)) → rows_of rows ≡ view → (e : ℕ) (new : Vec Bool) → rows_of (set rows e new) ≡ set view e new.items
+row_written rows view is e new = map-set marks_in rows e new ∙ ap (λ (xs : List (List Bool)). set xs e new.items) is
+
+-- the row that was read
+pub row_read : (rows : List (Vec Bool)) (view : List (List Bool)) → rows_of rows ≡ view → (e : ℕ) → e < length view → (row : Vec Bool) → row ≡ get_or rows e row → row_of view e ≡ row.items
+row_read rows view is e l row read =
+    let at : e < length rows = let m = length-map rows marks_in in let n = ap length is in omega arith in
+    ap (λ (xs : List (List Bool)). row_of xs e) (sym is) ∙ get_or-map marks_in rows e row [] at ∙ ap marks_in (sym read)
+
+pub row_here : (view : List (List Bool)) (e : ℕ) (new : List Bool) → e < length view → row_of (set view e new) e ≡ new
+row_here view e new l = get_or-set_same view e new [] l
+
+pub row_elsewhere : (view : List (List Bool)) (e d : ℕ) (new : List Bool) → d ≢ e → row_of (set view e new) d ≡ row_of view d
+row_elsewhere view e d new n = get_or-set_other view e d new [] n
+
+-- rows without a mark
+blank_at : (n f : ℕ) → marks (replicate n false) f ≡ false
+blank_at zero f = refl
+blank_at (suc n) zero = refl
+blank_at (suc n) (suc f) = blank_at n f
+
+pub blank_marks : (n : ℕ) (rows : List (Vec Bool)) → All (λ (row : Vec Bool). row.items ≡ replicate n false) rows → (e f : ℕ) → marks (row_of (rows_of rows) e) f ≡ false
+blank_marks n [] all e f = refl
+blank_marks n (row ∷ rows) all zero f = ap (λ (r : List Bool). marks r f) (All-head (λ (r : Vec Bool). r.items ≡ replicate n false) row rows all) ∙ blank_at n f
+blank_marks n (row ∷ rows) all (suc e) f = blank_marks n rows (All-tail (λ (r : Vec Bool). r.items ≡ replicate n false) row rows all) e f
+
+length_blank : (n : ℕ) → length (replicate n false) ≡ n
+length_blank zero = refl
+length_blank (suc n) = ap suc (length_blank n)
+
+blank_length : (n : ℕ) (rows : List (Vec Bool)) → All (λ (row : Vec Bool). row.items ≡ replicate n false) rows → (e : ℕ) → e < length rows → length (row_of (rows_of rows) e) ≡ n
+blank_length n [] all e l = absurd (omega arith)
+blank_length n (row ∷ rows) all zero l = ap length (All-head (λ (r : Vec Bool). r.items ≡ replicate n false) row rows all) ∙ length_blank n
+blank_length n (row ∷ rows) all (suc e) l = blank_length n rows (All-tail (λ (r : Vec Bool). r.items ≡ replicate n false) row rows all) e (omega arith)
+
+pub blank_square : (n : ℕ) (rows : List (Vec Bool)) → All (λ (row : Vec Bool). row.items ≡ replicate n false) rows → length rows ≡ n → IsSquare (rows_of rows)
+blank_square n rows all long e l = let m = length-map rows marks_in in blank_length n rows all e (omega arith) ∙ sym long ∙ sym m
+
+-- one row more is marked
+module _ (old now after : List (List Bool)) (rows : List MatchRow) (i : ℕ) (row : MatchRow) (m : ℕ → Bool) (read : slice_get rows i ≡ Some row) (others : (d : ℕ) → d ≢ row.edge → row_of after d ≡ row_of now d) where
+  pub square_more : length after ≡ length now → length (row_of after row.edge) ≡ length (row_of now row.edge) → IsSquare now → IsSquare after
+  square_more long same square e l = elim (cases_eq e row.edge) [
+    | inl q ↦ ap (λ d. length (row_of after d)) q ∙ same ∙ square row.edge (let k = q in omega arith) ∙ sym long
+    | inr d ↦ ap length (others e d) ∙ square e (omega arith) ∙ sym long
+  ]
+
+  pub pairs_more : ((f : ℕ) → marks (row_of after row.edge) f ≡ (marks (row_of now row.edge) f || m f)) →
+      ((e f : ℕ) → marks (row_of now e) f ≡ (marks (row_of old e) f || (mem (map edge_of (take i rows)) e && m f))) →
+      (e f : ℕ) → marks (row_of after e) f ≡ (marks (row_of old e) f || (mem (map edge_of (take (i + 1) rows)) e && m f))
+  pairs_more marked before e f =
+      let next : suc i ≡ i + 1 = omega arith in
+      let taken : mem (map edge_of (take (i + 1) rows)) e ≡ (mem (map edge_of (take i rows)) e || (row.edge == e)) = ap (λ k. mem (map edge_of (take k rows)) e) (sym next) ∙ edges-more rows i row e read in
+      elim (cases_eq e row.edge) [
+        | inl q ↦ ap (λ d. marks (row_of after d) f) q ∙ marked f ∙ ap (λ d. marks (row_of now d) f || m f) (sym q) ∙ ap (λ b. b || m f) (before e f)
+            ∙ with_it (marks (row_of old e) f) (mem (map edge_of (take i rows)) e) (m f) ∙ sym (ap (λ b. marks (row_of old e) f || (b && m f)) (taken ∙ ap (λ b. mem (map edge_of (take i rows)) e || b) (eq-eqb row.edge e (sym q))))
+        | inr d ↦ ap (λ (r : List Bool). marks r f) (others e d) ∙ before e f
+            ∙ ap (λ b. marks (row_of old e) f || (b && m f)) (sym (or_no (mem (map edge_of (take i rows)) e)) ∙ ap (λ b. mem (map edge_of (take i rows)) e || b) (sym (ne_eqb row.edge e (λ q. d (sym q)))) ∙ sym taken)
+      ]
+    where
+      with_it : (a t b : Bool) → ((a || (t && b)) || b) ≡ (a || ((t || true) && b))
+      with_it true t b = refl
+      with_it false true true = refl
+      with_it false true false = refl
+      with_it false false b = refl
+
+      or_no : (b : Bool) → (b || false) ≡ b
+      or_no true = refl
+      or_no false = refl

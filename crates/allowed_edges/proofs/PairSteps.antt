@@ -1,0 +1,211 @@
+-- One perfect matching more in a list of them, each of which holds something new; and what such a list settles.
+-- What a list holds it still holds when it is longer; the new matching holds a pair that no listed one holds.
+use Rattle.std.proofs.Common.{◌≡◌, ◌≢◌, ℕ, suc, zero, ◌+◌, ◌-◌, ◌<◌, ◌≤◌, Bool, true, false, ◌&&◌, ◌||◌, ◌==◌, ◌⊎◌, ◌↔◌, List, [], ◌∷◌, ◌++◌, length, get_or, map, refl, sym, ap, ◌∙◌, arith, inl, inr, subst, eq-eqb, eqb-true, length-append}
+use Rattle.std.specs.Prelude.{All, Any}
+use Rattle.std.specs.List.{list_any}
+use Rattle.std.proofs.lemmas.Bool.{and_from, and_parts, both_ways, cases_Bool, cases_eq, cases_order, false_from_ne_true, or_cases, or_left, or_right, true≢false}
+use Rattle.std.proofs.lemmas.List.{get_or_append_left, map-append}
+use Rattle.std.proofs.Math.Seq.{get_or-append_seam}
+use Rattle.std.proofs.lemmas.List.Elements.{All-nil, All-push}
+use Rattle.std.proofs.lemmas.List.Folds.{Any-from_list_any, list_any-append, list_any_at}
+use Rattle.counting.specs.Counts.{Within}
+use Rattle.counting.specs.Lists.{IsRisingIn, item, mem}
+use Rattle.counting.specs.Sets.{none}
+use Rattle.graph_core.specs.Graph.{Graph, IsGraph, first_end, second_end, size}
+use Rattle.graph_core.specs.Matchings.{Allowed, IsEnd, IsPerfect, Together}
+use Rattle.graph_core.specs.PairLists.{HoldsNew, IsLean, IsPairList}
+use Rattle.graph_core.proofs.Edits.{two_ends_le_degree}
+use Rattle.match_core.specs.MatchingRows.{IsOf, KeepsMatching, MatchingValue, edges_of}
+use Rattle.match_core.proofs.ClearedMatchings.{end_at}
+use Rattle.match_core.proofs.MatchingEdges.{rows-rise}
+use Rattle.allowed_edges.specs.Leaving.{ShareNone, share_end}
+use Rattle.allowed_edges.specs.PairTables.{AreGrown, PairsValue, SettlesEdges, SettlesPairs, edge_lists, holds_both}
+
+-- what a longer list holds
+pub held_more : (ms : List (List ℕ)) (es : List ℕ) (e f : ℕ) → holds_both (ms ++ es ∷ []) e f ≡ (holds_both ms e f || (mem es e && mem es f))
+held_more ms es e f = list_any-append (λ m. mem m e && mem m f) ms (es ∷ []) ∙ ap (λ b. holds_both ms e f || b) (or_no (mem es e && mem es f))
+  where
+    or_no : (b : Bool) → (b || false) ≡ b
+    or_no true = refl
+    or_no false = refl
+
+pub still_held : (ms : List (List ℕ)) (es : List ℕ) (e f : ℕ) → holds_both ms e f ≡ true → holds_both (ms ++ es ∷ []) e f ≡ true
+still_held ms es e f h = held_more ms es e f ∙ or_left (holds_both ms e f) (mem es e && mem es f) h
+
+pub now_held : (ms : List (List ℕ)) (es : List ℕ) (e f : ℕ) → mem es e ≡ true → mem es f ≡ true → holds_both (ms ++ es ∷ []) e f ≡ true
+now_held ms es e f he hf = held_more ms es e f ∙ or_right (holds_both ms e f) (mem es e && mem es f) (and_from (mem es e) (mem es f) he hf)
+
+-- a list of matchings that holds both edges of no pair is no part of what holds them
+not_held : (ms : List (List ℕ)) (e f : ℕ) → holds_both ms e f ≡ false → (j : ℕ) → j < length ms → (mem (get_or ms j []) e && mem (get_or ms j []) f) ≡ false
+not_held ms e f h j l = false_from_ne_true (mem (get_or ms j []) e && mem (get_or ms j []) f) (λ t. both_ways (holds_both ms e f) h (list_any_at (λ m. mem m e && mem m f) ms j [] l t))
+
+-- one matching more, which holds a pair that no listed one holds
+pub lean_more : (ms : List (List ℕ)) (es : List ℕ) (e f : ℕ) → IsLean ms → mem es e ≡ true → mem es f ≡ true → holds_both ms e f ≡ false → IsLean (ms ++ es ∷ [])
+lean_more ms es e f lean he hf new k w = elim (cases_eq k (length ms + 1)) [
+  | inl q ↦ record {
+    one = e;
+    other = f;
+    holds = (ap (λ m. mem m e) (last q) ∙ he, ap (λ m. mem m f) (last q) ∙ hf);
+    new = λ j wj. let l : j - 1 < length ms = omega arith in ap (λ m. mem m e && mem m f) (get_or_append_left ms (es ∷ []) [] (j - 1) l) ∙ not_held ms e f new (j - 1) l;
+  }
+  | inr d ↦
+      let n = length-append ms (es ∷ []) in
+      let l : k - 1 < length ms = omega arith in
+      let old = lean k (w.0, omega arith) in
+      let here = get_or_append_left ms (es ∷ []) [] (k - 1) l in
+      record {
+        one = old.one;
+        other = old.other;
+        holds = (ap (λ m. mem m old.one) here ∙ old.holds.0, ap (λ m. mem m old.other) here ∙ old.holds.1);
+        new = λ j wj. ap (λ m. mem m old.one && mem m old.other) (get_or_append_left ms (es ∷ []) [] (j - 1) (omega arith)) ∙ old.new j wj;
+      }
+]
+  where
+    last : k ≡ length ms + 1 → get_or (ms ++ es ∷ []) (k - 1) [] ≡ es
+    last q = ap (λ i. get_or (ms ++ es ∷ []) i []) (let r : k - 1 ≡ length ms = omega arith in r) ∙ get_or-append_seam ms es [] []
+
+pub grown_more : (g : Graph) (ms : List (List ℕ)) (es : List ℕ) (e f : ℕ) → AreGrown g ms → IsRisingIn (size g) es → IsPerfect g none (mem es) → mem es e ≡ true → mem es f ≡ true → holds_both ms e f ≡ false → AreGrown g (ms ++ es ∷ [])
+grown_more g ms es e f grown rises perfect he hf new = record {
+  rising = All-push (IsRisingIn (size g)) ms es grown.rising rises;
+  perfect = All-push (λ (m : List ℕ). IsPerfect g none (mem m)) ms es grown.perfect perfect;
+  lean = lean_more ms es e f grown.lean he hf new;
+}
+
+-- the values with one matching more
+pub lists_more : (p q : PairsValue) (m : MatchingValue) → q.list ≡ p.list ++ m ∷ [] → edge_lists q ≡ edge_lists p ++ edges_of m ∷ []
+lists_more p q m list = ap (λ (ms : List MatchingValue). map edges_of ms) list ∙ map-append edges_of p.list (m ∷ [])
+
+-- one matching more, which holds a pair that no listed one holds, settles no less
+pub settles_more : (g : Graph) (e : ℕ) (p q : PairsValue) (m : MatchingValue) (a b : ℕ) → SettlesEdges g e p → q.size ≡ p.size → q.list ≡ p.list ++ m ∷ [] → IsOf g m → KeepsMatching m → IsPerfect g none (mem (edges_of m)) →
+    mem (edges_of m) a ≡ true → mem (edges_of m) b ≡ true → holds_both (edge_lists p) a b ≡ false → SettlesEdges g e q
+settles_more g e p q m a b s same list of keeps perfect ha hb new = record {
+  edge_count = same ∙ s.edge_count;
+  of = subst (All (IsOf g)) (sym list) (All-push (IsOf g) p.list m s.of of);
+  grown = subst (AreGrown g) (sym (lists_more p q m list)) (grown_more g (edge_lists p) (edges_of m) a b s.grown (rows-rise g m of keeps) perfect ha hb new);
+  done = λ x y wx wy l k t. ap (λ ms. holds_both ms x y) (lists_more p q m list) ∙ still_held (edge_lists p) (edges_of m) x y (s.done x y wx wy l k t);
+}
+
+-- one pair more that is held, or that does not lie together
+pub settles_pair : (g : Graph) (e f : ℕ) (p : PairsValue) → SettlesPairs g e f p → (Together g e f → holds_both (edge_lists p) e f ≡ true) → SettlesPairs g e (f + 1) p
+settles_pair g e f p s h = record {
+  edges = s.edges;
+  done = λ b wb above below t. elim (cases_eq b f) [
+    | inl q ↦ ap (holds_both (edge_lists p) e) q ∙ h (subst (Together g e) q t)
+    | inr d ↦ s.done b wb above (omega arith) t
+  ];
+}
+
+pub settles_found : (g : Graph) (e f : ℕ) (p q : PairsValue) (m : MatchingValue) → SettlesPairs g e f p → q.size ≡ p.size → q.list ≡ p.list ++ m ∷ [] → IsOf g m → KeepsMatching m → IsPerfect g none (mem (edges_of m)) →
+    mem (edges_of m) e ≡ true → mem (edges_of m) f ≡ true → holds_both (edge_lists p) e f ≡ false → SettlesPairs g e (f + 1) q
+settles_found g e f p q m s same list of keeps perfect he hf new = settles_pair g e f q (record {
+  edges = settles_more g e p q m e f s.edges same list of keeps perfect he hf new;
+  done = λ b wb above below t. ap (λ ms. holds_both ms e b) (lists_more p q m list) ∙ still_held (edge_lists p) (edges_of m) e b (s.done b wb above below t);
+}) (λ t. ap (λ ms. holds_both ms e f) (lists_more p q m list) ∙ now_held (edge_lists p) (edges_of m) e f he hf)
+
+-- an edge with all its pairs
+pub settles_edge : (g : Graph) (e : ℕ) (p : PairsValue) → SettlesPairs g e (size g + 1) p → (Together g e e → holds_both (edge_lists p) e e ≡ true) → SettlesEdges g (e + 1) p
+settles_edge g e p s h = record {
+  edge_count = s.edges.edge_count;
+  of = s.edges.of;
+  grown = s.edges.grown;
+  done = λ a b wa wb l k t. elim (cases_eq a e) [
+    | inr d ↦ s.edges.done a b wa wb (omega arith) k t
+    | inl q ↦ elim (cases_eq b e) [
+      | inl r ↦ ap (λ x. holds_both (edge_lists p) x b) q ∙ ap (holds_both (edge_lists p) e) r ∙ h (subst (Together g e) r (subst (λ x. Together g x b) q t))
+      | inr r ↦ ap (λ x. holds_both (edge_lists p) x b) q ∙ s.done b wb (omega arith) (omega arith) (subst (λ x. Together g x b) q t)
+    ]
+  ];
+}
+
+pub settles_last : (g : Graph) (e : ℕ) (p q : PairsValue) (m : MatchingValue) → SettlesPairs g e (size g + 1) p → q.size ≡ p.size → q.list ≡ p.list ++ m ∷ [] → IsOf g m → KeepsMatching m → IsPerfect g none (mem (edges_of m)) →
+    mem (edges_of m) e ≡ true → holds_both (edge_lists p) e e ≡ false → SettlesEdges g (e + 1) q
+settles_last g e p q m s same list of keeps perfect he new = settles_edge g e q (record {
+  edges = settles_more g e p q m e e s.edges same list of keeps perfect he he new;
+  done = λ b wb above below t. ap (λ ms. holds_both ms e b) (lists_more p q m list) ∙ still_held (edge_lists p) (edges_of m) e b (s.done b wb above below t);
+}) (λ t. ap (λ ms. holds_both ms e e) (lists_more p q m list) ∙ now_held (edge_lists p) (edges_of m) e e he he)
+
+-- the test of a common end
+pub share_some : (g : Graph) (e f : ℕ) → IsGraph g → Within (size g) e → share_end g e f ≡ true → (v : ℕ) × Within g.order v × IsEnd g e v × IsEnd g f v
+share_some g e f is we t = elim (or_cases (((first_end g e == first_end g f) || (first_end g e == second_end g f)) || (second_end g e == first_end g f)) (second_end g e == second_end g f) t) [
+  | inr q ↦ (second_end g e, (is e we).1, inr refl, inr (sym (eqb-true (second_end g e) (second_end g f) q)))
+  | inl t ↦ elim (or_cases ((first_end g e == first_end g f) || (first_end g e == second_end g f)) (second_end g e == first_end g f) t) [
+    | inr q ↦ (second_end g e, (is e we).1, inr refl, inl (sym (eqb-true (second_end g e) (first_end g f) q)))
+    | inl t ↦ elim (or_cases (first_end g e == first_end g f) (first_end g e == second_end g f) t) [
+      | inl q ↦ (first_end g e, (is e we).0, inl refl, inl (sym (eqb-true (first_end g e) (first_end g f) q)))
+      | inr q ↦ (first_end g e, (is e we).0, inl refl, inr (sym (eqb-true (first_end g e) (second_end g f) q)))
+    ]
+  ]
+]
+
+pub share_none : (g : Graph) (e f : ℕ) → share_end g e f ≡ false → ShareNone g e f
+share_none g e f h v pe pf = elim pe [
+  | inl p ↦ elim pf [
+    | inl q ↦ both_ways (share_end g e f) h (one (first_end g e == first_end g f) (first_end g e == second_end g f) (second_end g e == first_end g f) (second_end g e == second_end g f) (eq-eqb (first_end g e) (first_end g f) (p ∙ sym q)))
+    | inr q ↦ both_ways (share_end g e f) h (two (first_end g e == first_end g f) (first_end g e == second_end g f) (second_end g e == first_end g f) (second_end g e == second_end g f) (eq-eqb (first_end g e) (second_end g f) (p ∙ sym q)))
+  ]
+  | inr p ↦ elim pf [
+    | inl q ↦ both_ways (share_end g e f) h (three (first_end g e == first_end g f) (first_end g e == second_end g f) (second_end g e == first_end g f) (second_end g e == second_end g f) (eq-eqb (second_end g e) (first_end g f) (p ∙ sym q)))
+    | inr q ↦ both_ways (share_end g e f) h (or_right (((first_end g e == first_end g f) || (first_end g e == second_end g f)) || (second_end g e == first_end g f)) (second_end g e == second_end g f) (eq-eqb (second_end g e) (second_end g f) (p ∙ sym q)))
+  ]
+]
+  where
+    one : (a b c d : Bool) → a ≡ true → (((a || b) || c) || d) ≡ true
+    one a b c d h = or_left ((a || b) || c) d (or_left (a || b) c (or_left a b h))
+
+    two : (a b c d : Bool) → b ≡ true → (((a || b) || c) || d) ≡ true
+    two a b c d h = or_left ((a || b) || c) d (or_left (a || b) c (or_right a b h))
+
+    three : (a b c d : Bool) → c ≡ true → (((a || b) || c) || d) ≡ true
+    three a b c d h = or_left ((a || b) || c) d (or_right (a || b) c h)
+
+-- two edges with a common end do not lie together
+pub apart_shared : (g : Graph) (e f v : ℕ) → e ≢ f → Within (size g) e → Within (size g) f → Within g.order v → IsEnd g e v → IsEnd g f v → Together g e f → ⊥
+apart_shared g e f v d we wf wv pe pf t =
+    let two = two_ends_le_degree g t.0 e f v we wf d t.2 t.3 in
+    let a = end_at g e v pe in
+    let b = end_at g f v pf in
+    let o = t.1.once v wv refl in
+    absurd (omega arith)
+
+-- lying together does not depend on the order
+turned : (g : Graph) (e f : ℕ) → Together g e f → Together g f e
+turned g e f t = (t.0, t.1, t.3, t.2)
+
+held_turned : (ms : List (List ℕ)) (e f : ℕ) → holds_both ms e f ≡ holds_both ms f e
+held_turned [] e f = refl
+held_turned (m ∷ ms) e f = ap (λ b. b || holds_both ms e f) (swap (mem m e) (mem m f)) ∙ ap (λ b. (mem m f && mem m e) || b) (held_turned ms e f)
+  where
+    swap : (a b : Bool) → (a && b) ≡ (b && a)
+    swap true true = refl
+    swap true false = refl
+    swap false true = refl
+    swap false false = refl
+
+-- all edges
+module _ (g : Graph) (p : PairsValue) (s : SettlesEdges g (size g + 1) p) where
+  together_held : (e f : ℕ) → Within (size g) e → Within (size g) f → Together g e f → holds_both (edge_lists p) e f ≡ true
+  together_held e f we wf t = elim (cases_order e f) [
+    | inl q ↦ s.done e f we wf (omega arith) (omega arith) t
+    | inr r ↦ elim r [
+      | inl l ↦ s.done e f we wf (omega arith) (omega arith) t
+      | inr l ↦ held_turned (edge_lists p) e f ∙ s.done f e wf we (omega arith) (omega arith) (turned g e f t)
+    ]
+  ]
+
+  one_holds : (e f : ℕ) → holds_both (edge_lists p) e f ≡ true → Any (λ (m : List ℕ). (mem m e ≡ true) × (mem m f ≡ true)) (edge_lists p)
+  one_holds e f h =
+      let a = Any-from_list_any (λ m. mem m e && mem m f) (edge_lists p) h in
+      (a.0, a.1, a.2, a.3, and_parts (mem a.1 e) (mem a.1 f) a.4)
+
+  pub settled_pairs : IsPairList g (edge_lists p)
+  settled_pairs = record {
+    rising = s.grown.rising;
+    perfect = s.grown.perfect;
+    both = λ e f we wf t. one_holds e f (together_held e f we wf t);
+  }
+
+  pub settled_both : (e f : ℕ) → Within (size g) e → Within (size g) f → (holds_both (edge_lists p) e f ≡ true) ↔ Together g e f
+  settled_both e f we wf = (
+    (λ h. let a = one_holds e f h in (mem a.1, subst (λ (m : List ℕ). IsPerfect g none (mem m)) a.3 (s.grown.perfect a.0 a.1 a.2), a.4.0, a.4.1)),
+    together_held e f we wf,
+  )

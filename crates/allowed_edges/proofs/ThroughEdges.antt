@@ -1,0 +1,197 @@
+-- Perfect matchings through one edge or two, from a perfect matching of the graph without their ends and back.
+-- The edges meet their ends once, so they are glued to the one and cut off the other; and a perfect matching leaves few
+-- vertices missed when the edges at these ends are taken out.
+use Rattle.std.proofs.Common.{◌≡◌, ℕ, suc, zero, ◌+◌, ◌*◌, ◌≤◌, ◌<◌, ◌≢◌, Bool, true, false, ◌==◌, ◌&&◌, ◌||◌, ◌⊎◌, not, refl, sym, ap, ap₂, ◌∙◌, arith, List, length, map, inl, inr, eqb-true, eq-eqb, ne_eqb, subst}
+use Rattle.std.proofs.lemmas.Bool.{both_ways, cases_Bool, cases_eq, false_from_ne_true, true≢false, or_cases}
+use Rattle.std.proofs.lemmas.List.{length-map}
+use Rattle.counting.specs.Counts.{Within, bit, count}
+use Rattle.counting.specs.Lists.{IsRisingIn, mem}
+use Rattle.counting.specs.Sets.{Set, none, put, union, minus, everything}
+use Rattle.counting.proofs.Counts.{count_complement}
+use Rattle.counting.proofs.Lists.{count_mem_length}
+use Rattle.graph_core.specs.Graph.{Graph, HasEnds, IsGraph, IsMultigraph, degree, first_end, second_end, size}
+use Rattle.graph_core.specs.Matchings.{Allowed, HasPerfect, IsMatching, IsPerfect, Together, missed_count}
+use Rattle.graph_core.proofs.Decide.{degree_congr, none_matching}
+use Rattle.graph_core.proofs.Edits.{degree_put, ends_of, missed_edges}
+use Rattle.match_core.specs.MatchingRows.{IsOf, KeepsMatching, MatchingValue, edges_of, left_over}
+use Rattle.match_core.specs.Questions.{MeetOnce}
+use Rattle.match_core.proofs.ClearedMatchings.{left_misses}
+use Rattle.match_core.proofs.Gluing.{cut_off, glued, meet_more}
+use Rattle.match_core.proofs.MatchingEdges.{edge_of, rows-rise}
+use Rattle.allowed_edges.specs.Leaving.{LeavesFew, ShareNone}
+
+-- a perfect matching is what it answers at the edges
+pub perfect_alike : (g : Graph) (r m n : Set) → ((e : ℕ) → n e ≡ m e) → IsPerfect g r m → IsPerfect g r n
+perfect_alike g r m n h p = record {
+  once = λ v w rv. degree_congr g n m v (λ e we. h e) ∙ p.once v w rv;
+  away = λ v w rv. degree_congr g n m v (λ e we. h e) ∙ p.away v w rv;
+}
+
+-- the vertices of a matching's rows, those outside and those it misses are all
+pub left_size : (g : Graph) (x : List ℕ) (m : MatchingValue) → IsGraph g → IsRisingIn g.order x → IsOf g m → KeepsMatching m → IsMatching g (mem x) (mem (edges_of m)) →
+    missed_count g (mem x) (mem (edges_of m)) + 2 * length m.rows + length x ≡ g.order
+left_size g x m is rises of keeps mm =
+    let a = missed_edges g (mem x) (mem (edges_of m)) is mm in
+    let b = count_mem_length (size g) (edges_of m) (rows-rise g m of keeps) in
+    let l = length-map m.rows edge_of in
+    let c = count_mem_length g.order x rises in
+    let d = count_complement g.order (mem x) in
+    omega arith
+
+-- the sets with the ends of an edge, and of another
+abbrev pub AddsEnds : Graph → ℕ → Set → Set → Type 0
+AddsEnds g e x y = (v : ℕ) → y v ≡ ((x v || (first_end g e == v)) || (second_end g e == v))
+
+pub ends_within : (g : Graph) (e : ℕ) (x y : Set) → IsGraph g → Within (size g) e → AddsEnds g e x y → ((v : ℕ) → x v ≡ true → Within g.order v) → (v : ℕ) → y v ≡ true → Within g.order v
+ends_within g e x y is we adds before v t = elim (or_cases (x v || (first_end g e == v)) (second_end g e == v) (sym (adds v) ∙ t)) [
+  | inl p ↦ elim (or_cases (x v) (first_end g e == v) p) [
+    | inl q ↦ before v q
+    | inr q ↦ subst (Within g.order) (eqb-true (first_end g e) v q) (is e we).0
+  ]
+  | inr p ↦ subst (Within g.order) (eqb-true (second_end g e) v p) (is e we).1
+]
+
+-- nothing meets nothing
+pub none_meets : (g : Graph) (x : Set) → ((v : ℕ) → x v ≡ false) → MeetOnce g none x
+none_meets g x h v w = (none_matching g everything).away v w refl ∙ sym (ap bit (h v))
+
+-- one edge meets its ends once
+pub one_meets : (g : Graph) → IsMultigraph g → (e : ℕ) (x y : Set) → Within (size g) e → ((v : ℕ) → x v ≡ false) → AddsEnds g e x y → MeetOnce g (put none e true) y
+one_meets g is e x y we empty adds = meet_more g none x y e (first_end g e) (second_end g e) we (inl (refl, refl)) (is.no_loop e we) refl (none_meets g x empty) (empty (first_end g e)) (empty (second_end g e)) adds
+
+-- an edge is in the set of it, and no other
+pub put_here : (x : Set) (e : ℕ) (b : Bool) → put x e b e ≡ b
+put_here x e b = ap (λ c. Rattle.std.proofs.Common.cond c b (x e)) (eq-eqb e e refl)
+
+pub put_other : (x : Set) (e : ℕ) (b : Bool) (i : ℕ) → i ≢ e → put x e b i ≡ x i
+put_other x e b i h = ap (λ c. Rattle.std.proofs.Common.cond c b (x i)) (ne_eqb i e h)
+
+pub put_only : (x : Set) (e i : ℕ) → put x e true i ≡ true → (i ≡ e) ⊎ (x i ≡ true)
+put_only x e i h = elim (cases_eq i e) [ inl q ↦ inl q | inr d ↦ inr (sym (put_other x e true i d) ∙ h) ]
+
+-- an edge that shares no end with e is not at the ends of e
+pub ends_free : (g : Graph) (e f : ℕ) (x y : Set) → ((v : ℕ) → x v ≡ false) → AddsEnds g e x y → ShareNone g e f → (y (first_end g f) ≡ false) × (y (second_end g f) ≡ false)
+ends_free g e f x y empty adds apart = (
+  false_from_ne_true (y (first_end g f)) (λ t. at (first_end g f) (inl refl) t),
+  false_from_ne_true (y (second_end g f)) (λ t. at (second_end g f) (inr refl) t),
+)
+  where
+    at : (v : ℕ) → (first_end g f ≡ v) ⊎ (second_end g f ≡ v) → y v ≡ true → ⊥
+    at v end t = elim (or_cases (x v || (first_end g e == v)) (second_end g e == v) (sym (adds v) ∙ t)) [
+      | inl p ↦ elim (or_cases (x v) (first_end g e == v) p) [
+        | inl q ↦ both_ways (x v) (empty v) q
+        | inr q ↦ apart v (inl (eqb-true (first_end g e) v q)) end
+      ]
+      | inr p ↦ apart v (inr (eqb-true (second_end g e) v p)) end
+    ]
+
+-- an edge has no end at a vertex that is not one of its ends
+pub ends_none : (g : Graph) (e v : ℕ) → ((first_end g e ≡ v) ⊎ (second_end g e ≡ v) → ⊥) → ends_of g e v ≡ 0
+unfolding ends_of
+ends_none g e v h = let a = ap bit (ne_eqb (first_end g e) v (λ q. h (inl q))) in let b = ap bit (ne_eqb (second_end g e) v (λ q. h (inr q))) in omega arith
+
+pub or_mid : (a b : Bool) → ((a || true) || b) ≡ true
+or_mid true b = refl
+or_mid false b = refl
+
+pub or_end : (b : Bool) → (b || true) ≡ true
+or_end true = refl
+or_end false = refl
+
+pub or_no : (b : Bool) → (b || false) ≡ b
+or_no true = refl
+or_no false = refl
+
+-- the edge e alone
+pub only_one : (e i : ℕ) → (e == i) ≡ put none e true i
+only_one e i = elim (cases_eq i e) [
+  | inl s ↦ eq-eqb e i (sym s) ∙ sym (ap (put none e true) s ∙ put_here none e true)
+  | inr s ↦ ne_eqb e i (λ t. s (sym t)) ∙ sym (put_other none e true i s)
+]
+
+-- two edges that share no end are two
+pub apart_differ : (g : Graph) (e f : ℕ) → ShareNone g e f → f ≢ e
+apart_differ g e f apart q = apart (first_end g e) (inl refl) (inl (ap (first_end g) q))
+
+module _ (g : Graph) (is : IsMultigraph g) (e : ℕ) (we : Within (size g) e) (x y : Set) (empty : (v : ℕ) → x v ≡ false) (first : AddsEnds g e x y) where
+  -- a perfect matching leaves few vertices missed
+  pub one_leaves : (m : Set) → IsPerfect g none m → LeavesFew g y m
+  one_leaves m perfect = left_misses g is.ends m (put none e true) y e perfect (one_meets g is e x y we empty first) we (put_here none e true) (λ i wi ci other. elim (put_only none e i ci) [
+    | inl q ↦ absurd (other q)
+    | inr q ↦ absurd (true≢false (sym q))
+  ])
+
+  -- from a perfect matching without the ends to one with the edge, and back
+  pub one_glued : (q m : Set) → IsPerfect g y q → ((i : ℕ) → m i ≡ (q i || (e == i))) → IsPerfect g none m
+  one_glued q m perfect h = perfect_alike g none (union q (put none e true)) m (λ i. h i ∙ ap (λ b. q i || b) (only_one e i)) (glued g (put none e true) y q is.ends (one_meets g is e x y we empty first) perfect)
+
+  pub one_cut : Allowed g e → HasPerfect g y
+  one_cut t = (
+    minus t.0 (put none e true),
+    cut_off g (put none e true) y t.0 (one_meets g is e x y we empty first) t.1 (λ i ci. elim (put_only none e i ci) [
+      | inl q ↦ ap t.0 q ∙ t.2
+      | inr q ↦ absurd (true≢false (sym q))
+    ]),
+  )
+
+  -- the edge can be joined to it
+  pub edge_free : (r q : Set) → IsPerfect g r q → ((v : ℕ) → y v ≡ true → r v ≡ true) → (degree g q (first_end g e) ≡ 0) × (degree g q (second_end g e) ≡ 0)
+  edge_free r q perfect in_r = (
+    perfect.away (first_end g e) (is.ends e we).0 (in_r (first_end g e) (first (first_end g e) ∙ ap (λ b. (x (first_end g e) || b) || (second_end g e == first_end g e)) (eq-eqb (first_end g e) (first_end g e) refl) ∙ or_mid (x (first_end g e)) (second_end g e == first_end g e))),
+    perfect.away (second_end g e) (is.ends e we).1 (in_r (second_end g e) (first (second_end g e) ∙ ap (λ b. (x (second_end g e) || (first_end g e == second_end g e)) || b) (eq-eqb (second_end g e) (second_end g e) refl) ∙ or_end (x (second_end g e) || (first_end g e == second_end g e)))),
+  )
+
+module _ (g : Graph) (is : IsMultigraph g) (e f : ℕ) (we : Within (size g) e) (wf : Within (size g) f) (apart : ShareNone g e f) (x y z : Set) (empty : (v : ℕ) → x v ≡ false) (first : AddsEnds g e x y) (second : AddsEnds g f y z) where
+  abbrev pub pair : Set
+  pair = put (put none e true) f true
+
+  -- two edges that share no end meet their ends once
+  pub two_meet : MeetOnce g pair z
+  two_meet =
+      let free = ends_free g e f x y empty first apart in
+      meet_more g (put none e true) y z f (first_end g f) (second_end g f) wf (inl (refl, refl)) (is.no_loop f wf) (put_other none e true f (apart_differ g e f apart)) (one_meets g is e x y we empty first) free.0 free.1 second
+
+  -- a perfect matching that holds the first leaves few vertices missed
+  pub two_leave : (m : Set) → IsPerfect g none m → m e ≡ true → LeavesFew g z m
+  two_leave m perfect me = left_misses g is.ends m pair z f perfect two_meet wf (put_here (put none e true) f true) (λ i wi ci other. elim (put_only (put none e true) f i ci) [
+    | inl q ↦ absurd (other q)
+    | inr q ↦ elim (put_only none e i q) [ inl s ↦ ap m s ∙ me | inr s ↦ absurd (true≢false (sym s)) ]
+  ])
+
+  -- from a perfect matching without the ends to one with both edges, and back
+  pub two_glued : (q m : Set) → IsPerfect g z q → ((i : ℕ) → m i ≡ ((q i || (e == i)) || (f == i))) → IsPerfect g none m
+  two_glued q m perfect h = perfect_alike g none (union q pair) m (λ i. h i ∙ together i) (glued g pair z q is.ends two_meet perfect)
+    where
+      together : (i : ℕ) → ((q i || (e == i)) || (f == i)) ≡ union q pair i
+      together i = elim (cases_eq i f) [
+        | inl s ↦ ap (λ b. (q i || (e == i)) || b) (eq-eqb f i (sym s)) ∙ or_end (q i || (e == i)) ∙ sym (ap (λ b. q i || b) (ap pair s ∙ put_here (put none e true) f true) ∙ or_end (q i))
+        | inr s ↦ ap (λ b. (q i || (e == i)) || b) (ne_eqb f i (λ t. s (sym t))) ∙ or_no (q i || (e == i)) ∙ ap (λ b. q i || b) (only_one e i ∙ sym (put_other (put none e true) f true i s))
+      ]
+
+  pub two_cut : Together g e f → HasPerfect g z
+  two_cut t = (
+    minus t.0 pair,
+    cut_off g pair z t.0 two_meet t.1 (λ i ci. elim (put_only (put none e true) f i ci) [
+      | inl q ↦ ap t.0 q ∙ t.3
+      | inr q ↦ elim (put_only none e i q) [ inl s ↦ ap t.0 s ∙ t.2 | inr s ↦ absurd (true≢false (sym s)) ]
+    ]),
+  )
+
+  -- the second edge can be joined to what holds the first
+  pub second_free : (q m : Set) → IsPerfect g z q → ((i : ℕ) → m i ≡ (q i || (e == i))) → (degree g m (first_end g f) ≡ 0) × (degree g m (second_end g f) ≡ 0)
+  second_free q m perfect h = (at (first_end g f) (is.ends f wf).0 (inl refl), at (second_end g f) (is.ends f wf).1 (inr refl))
+    where
+      z_ends : (v : ℕ) → (first_end g f ≡ v) ⊎ (second_end g f ≡ v) → z v ≡ true
+      z_ends v h = elim h [
+        | inl s ↦ second v ∙ ap (λ b. (y v || b) || (second_end g f == v)) (eq-eqb (first_end g f) v s) ∙ or_mid (y v) (second_end g f == v)
+        | inr s ↦ second v ∙ ap (λ b. (y v || (first_end g f == v)) || b) (eq-eqb (second_end g f) v s) ∙ or_end (y v || (first_end g f == v))
+      ]
+
+      at : (v : ℕ) → Within g.order v → (first_end g f ≡ v) ⊎ (second_end g f ≡ v) → degree g m v ≡ 0
+      at v wv end =
+          let a = perfect.away v wv (z_ends v end) in
+          let s = degree_congr g m (put q e true) v (λ i wi. h i ∙ Rattle.match_core.proofs.GrownRows.with_put q e i) in
+          let p = degree_put g q e true v we in
+          let n = ap (λ k. bit (q e) * k) (ends_none g e v (λ s. apart v s end)) in
+          let l = ends_none g e v (λ s. apart v s end) in
+          omega arith

@@ -1,0 +1,38 @@
+use Rattle.std.proofs.Common.{◌≡◌, ℕ, ◌⊎◌, ap, sym, ◌∙◌, subst, eqb-true}
+use mathlib.Core.Path.{fun_ext}
+use Rattle.counting.specs.Lists.{mem}
+use Rattle.counting.specs.Sets.{Set}
+use Rattle.graph_core.specs.Matchings.{IsPerfect, missed_count}
+use Rattle.graph_core.proofs.Perfect.{none_missed-perfect}
+use Rattle.match_core.specs.MatchingRows.{IsOf, MatchingValue, edges_of, left_over}
+use Rattle.allowed_edges.proofs.questions.perfect_off.Goals as goal
+
+pub misses_none-requires-clause-of : goal.misses_none-requires-clause-of
+misses_none-requires-clause-of c = c.in_ok-rest.ensures.of c.args.g.now c.requires.of
+
+pub misses_none-requires-clause-few : goal.misses_none-requires-clause-few
+misses_none-requires-clause-few c =
+    let same : mem (edges_of c.in_ok-rest.rest) ≡ left_over c.args.g.now (mem c.args.met) (mem (edges_of c.args.kept.now)) = fun_ext (c.in_ok-rest.ensures.edges c.args.g.now c.requires.of) in
+    subst (λ (s : Set). (missed_count c.args.g.now (mem c.args.met) s ≡ 0) ⊎ (missed_count c.args.g.now (mem c.args.met) s ≡ 2)) (sym same) c.requires.few
+
+pub returns-then-misses_none-clause-of : goal.returns-then-misses_none-clause-of
+returns-then-misses_none-clause-of c = λ m q.
+    let same : c.in_ok-rest.rest ≡ m = cc in
+    subst (λ (m : MatchingValue). IsOf c.args.g.now m) same (c.in_ok-rest.ensures.of c.args.g.now c.requires.of)
+
+pub returns-then-misses_none-clause-perfect : goal.returns-then-misses_none-clause-perfect
+returns-then-misses_none-clause-perfect c = λ m q.
+    let same : c.in_ok-rest.rest ≡ m = cc in
+    let zero = eqb-true (missed_count c.args.g.now (mem c.args.met) (mem (edges_of c.in_ok-rest.rest))) 0 (sym c.misses_none.ensures ∙ c.if-misses_none.true) in
+    subst (λ (m : MatchingValue). IsPerfect c.args.g.now (mem c.args.met) (mem (edges_of m))) same (none_missed-perfect c.args.g.now (mem c.args.met) (mem (edges_of c.in_ok-rest.rest)) (c.in_ok-rest.ensures.matching c.args.g.now c.requires.of) zero)
+
+pub returns-then-misses_none-clause-none : goal.returns-then-misses_none-clause-none
+returns-then-misses_none-clause-none c =
+    let zero = eqb-true (missed_count c.args.g.now (mem c.args.met) (mem (edges_of c.in_ok-rest.rest))) 0 (sym c.misses_none.ensures ∙ c.if-misses_none.true) in
+    let perfect = none_missed-perfect c.args.g.now (mem c.args.met) (mem (edges_of c.in_ok-rest.rest)) (c.in_ok-rest.ensures.matching c.args.g.now c.requires.of) zero in (
+      (λ q. cc),
+      (λ h. absurd (h (mem (edges_of c.in_ok-rest.rest), perfect))),
+    )
+
+pub repair-requires-clause-of : goal.repair-requires-clause-of
+repair-requires-clause-of c = c.in_ok-rest.ensures.of c.args.g.now c.requires.of

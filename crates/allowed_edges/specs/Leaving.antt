@@ -1,0 +1,18 @@
+-- What a matching leaves when the edges with an end in a set are taken out of it.
+use Rattle.std.specs.Prelude.{◌≡◌, ℕ, ◌⊎◌, Bool, ◌||◌, ◌==◌}
+use Rattle.counting.specs.Sets.{Set}
+use Rattle.graph_core.specs.Graph.{Graph, first_end, second_end}
+use Rattle.graph_core.specs.Matchings.{IsEnd, missed_count}
+use Rattle.match_core.specs.MatchingRows.{left_over}
+
+-- the edges of m without an end in x miss no vertex outside x, or two
+abbrev pub LeavesFew : Graph → Set → Set → Type 0
+LeavesFew g x m = (missed_count g x (left_over g x m) ≡ 0) ⊎ (missed_count g x (left_over g x m) ≡ 2)
+
+-- no vertex is an end of both edges
+abbrev pub ShareNone : Graph → ℕ → ℕ → Type 0
+ShareNone g e f = (v : ℕ) → IsEnd g e v → IsEnd g f v → ⊥
+
+-- some vertex is an end of both edges, as a test
+abbrev pub share_end : Graph → ℕ → ℕ → Bool
+share_end g e f = (((first_end g e == first_end g f) || (first_end g e == second_end g f)) || (second_end g e == first_end g f)) || (second_end g e == second_end g f)

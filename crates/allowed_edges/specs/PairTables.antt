@@ -1,0 +1,41 @@
+-- Tables of pairs: perfect matchings, among them for each two edges that lie together one with both.
+use Rattle.std.specs.Prelude.{◌≡◌, ℕ, ◌≤◌, ◌<◌, Bool, true, ◌&&◌, List, map, All}
+use Rattle.std.specs.List.{list_any}
+use Rattle.counting.specs.Counts.{Within}
+use Rattle.counting.specs.Lists.{IsRisingIn, mem}
+use Rattle.counting.specs.Sets.{none}
+use Rattle.graph_core.specs.Graph.{Graph, size}
+use Rattle.graph_core.specs.Matchings.{IsPerfect, Together}
+use Rattle.graph_core.specs.PairLists.{IsLean}
+use Rattle.match_core.specs.MatchingRows.{IsOf, MatchingValue, edges_of}
+
+-- the number of edges of the graph, and matchings of it
+pub record PairsValue : Type 0 where
+  pub size : ℕ
+  pub list : List MatchingValue
+
+-- the matchings, each as the list of its edges
+abbrev pub edge_lists : PairsValue → List (List ℕ)
+edge_lists p = map edges_of p.list
+
+-- some list has both e and f
+abbrev pub holds_both : List (List ℕ) → ℕ → ℕ → Bool
+holds_both ms e f = list_any (λ m. mem m e && mem m f) ms
+
+-- perfect matchings, each with an edge or a pair that no earlier one holds
+pub record AreGrown (g : Graph) (ms : List (List ℕ)) : Type 0 where
+  pub rising : All (IsRisingIn (size g)) ms
+  pub perfect : All (λ m. IsPerfect g none (mem m)) ms
+  pub lean : IsLean ms
+
+-- such matchings of g; of each edge below e and any other that lie together one holds both
+pub record SettlesEdges (g : Graph) (e : ℕ) (p : PairsValue) : Type 0 where
+  pub edge_count : p.size ≡ size g
+  pub of : All (IsOf g) p.list
+  pub grown : AreGrown g (edge_lists p)
+  pub done : (a b : ℕ) → Within (size g) a → Within (size g) b → a < e → a ≤ b → Together g a b → holds_both (edge_lists p) a b ≡ true
+
+-- and of edge e and any other above it and below f
+pub record SettlesPairs (g : Graph) (e f : ℕ) (p : PairsValue) : Type 0 where
+  pub edges : SettlesEdges g e p
+  pub done : (b : ℕ) → Within (size g) b → e < b → b < f → Together g e b → holds_both (edge_lists p) e b ≡ true
