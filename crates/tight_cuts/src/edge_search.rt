@@ -200,7 +200,10 @@ fn shore_at(
     ensures none { IfOk result (λ o. o ≡ None → NoneBefore g.now e groups.x (groups.y + 1)) }
 {
     g.keeps_limits();
-    if groups.x == groups.y || !leads(leaders, groups.a, groups.b, groups.y) {
+    if groups.x == groups.y {
+        return Ok(None);
+    }
+    if !leads(leaders, groups.a, groups.b, groups.y) {
         return Ok(None);
     }
     shore_of_pair(alloc, g, weights, leaders, groups, e)
