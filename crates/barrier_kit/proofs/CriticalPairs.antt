@@ -118,23 +118,24 @@ module _ (g : Graph) (is : IsGraph g) (cov : IsCovered g) (odd_cycle : (x : Set)
       let s = class_exists g is cov p.0 p.2 in
       (p.0, p.2, (s.0, s.2, barrier_cut s.0 s.1 p.0 p.1 p.2 p.3 p.4 (s.2.all p.0 p.2 (inl refl)) (s.2.all p.1 p.3 (inr (λ h. p.5 h.0 h.1)))))
 
+  -- at least four vertices, since two would have two sides
+  pub four : 4 ≤ g.order
+  four = let m = covered_perfect g is cov in go g.order refl cov.two (even_order g m.0 is m.1)
+    where
+      two_sides : g.order ≡ 2 → IsSide g (singleton 1)
+      two_sides q e w l = elim (cases_eq (first_end g e) 1) [
+        | inl a ↦ rw (a, ne_eqb 1 (second_end g e) (λ b. l (a ∙ b))) refl
+        | inr a ↦ let i = is e w in let d : 1 ≡ second_end g e = omega (arith, l, a, i) in rw (ne_eqb 1 (first_end g e) (λ b. a (sym b)), eq-eqb 1 (second_end g e) d) refl
+      ]
+
+      go : (n : ℕ) → g.order ≡ n → 2 ≤ g.order → is_odd g.order ≡ false → 4 ≤ g.order
+      go zero e h o = absurd (omega arith)
+      go (suc zero) e h o = absurd (omega arith)
+      go (suc (suc zero)) e h o = absurd (odd_cycle (singleton 1) (two_sides e))
+      go (suc (suc (suc zero))) e h o = absurd (true≢false (sym (ap is_odd e) ∙ o))
+      go (suc (suc (suc (suc n)))) e h o = omega arith
+
   module _ (brick : (x : Set) → IsTight g x → IsNontrivial g.order x → ⊥) where
-    pub four : 4 ≤ g.order
-    four = let m = covered_perfect g is cov in go g.order refl cov.two (even_order g m.0 is m.1)
-      where
-        two_sides : g.order ≡ 2 → IsSide g (singleton 1)
-        two_sides q e w l = elim (cases_eq (first_end g e) 1) [
-          | inl a ↦ rw (a, ne_eqb 1 (second_end g e) (λ b. l (a ∙ b))) refl
-          | inr a ↦ let i = is e w in let d : 1 ≡ second_end g e = omega (arith, l, a, i) in rw (ne_eqb 1 (first_end g e) (λ b. a (sym b)), eq-eqb 1 (second_end g e) d) refl
-        ]
-
-        go : (n : ℕ) → g.order ≡ n → 2 ≤ g.order → is_odd g.order ≡ false → 4 ≤ g.order
-        go zero e h o = absurd (omega arith)
-        go (suc zero) e h o = absurd (omega arith)
-        go (suc (suc zero)) e h o = absurd (odd_cycle (singleton 1) (two_sides e))
-        go (suc (suc (suc zero))) e h o = absurd (true≢false (sym (ap is_odd e) ∙ o))
-        go (suc (suc (suc (suc n)))) e h o = omega arith
-
     pub bicritical : IsBicritical g
     bicritical a b wa wb d = elim (perfect_or_not g (pair_set a b)) [
       | inl m ↦ m

@@ -7,3 +7,8 @@ pub mod Families
 pub mod Joining
 pub mod ClassLaw
 pub mod CriticalPairs
+pub mod ListedClasses
+pub mod CutLists
+pub mod CutFacts
+pub mod AllOf
+pub mod ShoreFacts

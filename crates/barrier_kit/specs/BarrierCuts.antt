@@ -1,8 +1,9 @@
 -- Cuts that barriers give (Lovász and Plummer, "Matching Theory", chapter 5; Edmonds, Lovász and Pulleyblank 1982).
-use Rattle.std.specs.Prelude.{◌≡◌, ◌≢◌, ℕ, true, false}
-use Rattle.counting.specs.Counts.{Within}
+use Rattle.std.specs.Prelude.{◌≡◌, ◌≢◌, ◌≤◌, ℕ, true, false}
+use Rattle.counting.specs.Counts.{Within, count}
 use Rattle.counting.specs.Sets.{Set}
-use Rattle.graph_core.specs.Graph.{Graph, size, first_end, second_end, in_cut}
+use Rattle.graph_core.specs.Graph.{Graph, size, first_end, second_end, in_cut, inside}
+use Rattle.graph_core.specs.Structure.{IsClass}
 use Rattle.graph_core.specs.Walks.{joined}
 use Rattle.graph_core.specs.Tight.{IsTight, IsNontrivial}
 
@@ -17,3 +18,16 @@ pub record BarrierCut (g : Graph) (s : Set) : Type 0 where
 -- x is one side of g: each edge that is no loop has one end in x
 abbrev pub IsSide : Graph → Set → Type 0
 IsSide g x = (e : ℕ) → Within (size g) e → first_end g e ≢ second_end g e → in_cut g x e ≡ true
+
+-- a class with at least two vertices that no edge joins, and without it a component with at least three
+pub record WideClass (g : Graph) : Type 0 where
+  pub vertex : ℕ
+  pub class : Set
+  pub within : Within g.order vertex
+  pub is_class : IsClass g vertex class
+  pub two : 2 ≤ count g.order class
+  pub independent : (e : ℕ) → Within (size g) e → inside g class e ≡ false
+  pub beside : ℕ
+  pub beside_within : Within g.order beside
+  pub outside : class beside ≡ false
+  pub three : 3 ≤ count g.order (joined g class beside)

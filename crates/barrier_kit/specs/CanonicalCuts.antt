@@ -1,9 +1,9 @@
 -- Lists of cuts, each given by its canonical shore: the shore without the greatest vertex.
-use Rattle.std.specs.Prelude.{ℕ, Bool, List, [], ◌∷◌, ◌++◌, ◌&&◌, not, fold, if◌then◌else◌}
+use Rattle.std.specs.Prelude.{◌≡◌, ℕ, Bool, false, List, [], ◌∷◌, ◌++◌, ◌&&◌, not, fold, if◌then◌else◌}
 use Rattle.std.specs.List.{list_any}
-use Rattle.counting.specs.Sets.{Set}
-use Rattle.counting.specs.Lists.{mem, is_subset, rising_list}
-use Rattle.graph_core.specs.Tight.{is_nontrivial, canonical_shore}
+use Rattle.counting.specs.Lists.{mem, is_subset, rising_list, IsRisingIn}
+use Rattle.graph_core.specs.Graph.{Graph}
+use Rattle.graph_core.specs.Tight.{IsTight, IsNontrivial, is_nontrivial, canonical_shore}
 
 -- some shore of the list has the same vertices as s
 abbrev pub is_listed : List (List ℕ) → List ℕ → Bool
@@ -20,3 +20,10 @@ with_cut n cuts s = if is_nontrivial n (canonical_shore n (mem s)) && not (is_li
 -- the nontrivial cuts that shores give, in order, each once
 abbrev pub cuts_of : ℕ → List (List ℕ) → List (List ℕ)
 cuts_of n shores = fold (with_cut n) [] shores
+
+-- s is the canonical shore of a nontrivial tight cut: a rising list without the greatest vertex
+pub record IsCanonicalCut (g : Graph) (s : List ℕ) : Type 0 where
+  pub rising : IsRisingIn g.order s
+  pub canonical : mem s g.order ≡ false
+  pub nontrivial : IsNontrivial g.order (mem s)
+  pub tight : IsTight g (mem s)

@@ -1,13 +1,17 @@
 //! The laws of barriers and classes. Each is the contract of a function that does nothing.
-ghost use Rattle.std.specs.Prelude.{◌≡◌, ◌≢◌, ℕ, true, false, ◌⊎◌, ◌↔◌, ◌≤◌};
+ghost use Rattle.std.specs.Prelude.{◌≡◌, ◌≢◌, ℕ, true, false, ◌⊎◌, ◌↔◌, ◌≤◌, All, []};
 ghost use Rattle.counting.specs.Counts.{Within, count, is_odd};
+ghost use Rattle.counting.specs.Lists.{mem};
 ghost use Rattle.counting.specs.Sets.{Set};
-ghost use Rattle.graph_core.specs.Graph.{Graph, IsGraph, size, first_end, second_end, inside};
+ghost use Rattle.graph_core.specs.Graph.{Graph, IsBipartite, IsGraph, IsMultigraph, size, first_end, second_end, inside};
 ghost use Rattle.graph_core.specs.Walks.{joined};
 ghost use Rattle.graph_core.specs.Components.{component_count};
 ghost use Rattle.graph_core.specs.Covered.{IsCovered};
 ghost use Rattle.graph_core.specs.Tight.{IsTight};
-ghost use Rattle.graph_core.specs.Structure.{Equivalent, IsBarrier, IsClass};
+ghost use Rattle.graph_core.specs.Structure.{Equivalent, IsBarrier, IsBicritical, IsClass};
+ghost use Rattle.barrier_kit.specs.BarrierCuts.{WideClass};
+ghost use Rattle.barrier_kit.specs.BarrierShores.{barrier_cuts, barrier_shores};
+ghost use Rattle.barrier_kit.specs.CanonicalCuts.{IsCanonicalCut};
 
 /// The relation "equal, or without the two there is no perfect matching" is an equivalence in a covered graph, and it is
 /// decided (Kotzig; Lovász and Plummer, "Matching Theory", chapter 5).
@@ -33,4 +37,19 @@ pub fn barrier_law()
     ensures many { (g : Graph) (s : Set) (a : ℕ) → IsGraph g → IsCovered g → IsBarrier g s → Within g.order a → s a ≡ true → component_count g s ≡ count g.order s }
     ensures tight { (g : Graph) (s : Set) (a u : ℕ) → IsGraph g → IsCovered g → IsBarrier g s → Within g.order a → s a ≡ true → Within g.order u → s u ≡ false → IsTight g (joined g s u) }
     ensures independent { (g : Graph) (s : Set) (e : ℕ) → IsGraph g → IsCovered g → IsBarrier g s → Within (size g) e → first_end g e ≢ second_end g e → inside g s e ≡ false }
+{}
+
+/// In a covered graph the cut of each component without a class is tight, and the cuts that `barrier_cuts` lists are canonical
+/// shores of nontrivial tight cuts (Edmonds, Lovász and Pulleyblank 1982).
+pub fn barrier_cuts_law()
+    ensures tight { (g : Graph) → IsGraph g → IsCovered g → All (λ s. IsTight g (mem s)) (barrier_shores g) }
+    ensures canonical { (g : Graph) → IsGraph g → IsCovered g → All (IsCanonicalCut g) (barrier_cuts g) }
+{}
+
+/// In a covered graph that is neither bicritical nor bipartite some class has at least two vertices, no edge joins two of
+/// them, and some component without it has at least three, so that it gives a cut. In a bicritical graph no class does.
+pub fn wide_class_law()
+    ensures class { (g : Graph) → IsMultigraph g → IsCovered g → ¬ (IsBicritical g) → ¬ (IsBipartite g) → WideClass g }
+    ensures some { (g : Graph) → IsMultigraph g → IsCovered g → ¬ (IsBicritical g) → ¬ (IsBipartite g) → barrier_cuts g ≢ [] }
+    ensures none { (g : Graph) → IsGraph g → IsCovered g → IsBicritical g → barrier_cuts g ≡ [] }
 {}

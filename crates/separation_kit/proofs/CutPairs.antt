@@ -1,6 +1,6 @@
 -- The components at a cut pair of a bicritical graph give nontrivial tight cuts, and a brick has four vertices, is
 -- bicritical and has no cut pair. Each fact of a brick is the tight cut that there would be else.
-use Rattle.std.proofs.Common.{◌≡◌, ℕ, ◌≤◌, ◌≢◌, false, ◌==◌, refl, ◌∙◌, arith, ◌⊎◌, ◌↔◌}
+use Rattle.std.proofs.Common.{◌≡◌, ℕ, ◌≤◌, false, arith}
 use Rattle.barrier_kit.proofs.BarrierCuts.{leads_out}
 use Rattle.barrier_kit.proofs.Matched.{count_member}
 use Rattle.barrier_kit.specs.BarrierCuts.{IsSide}
@@ -12,7 +12,6 @@ use Rattle.graph_core.specs.Graph.{Graph, IsGraph}
 use Rattle.graph_core.specs.Structure.{IsBicritical, IsCutPair}
 use Rattle.graph_core.specs.Tight.{IsTight, IsNontrivial}
 use Rattle.graph_core.specs.Walks.{joined}
-
 use Rattle.separation_kit.proofs.Separations.{separation_tight, separation_nontrivial}
 use Rattle.barrier_kit.proofs.CriticalPairs.{four, bicritical}
 
@@ -37,5 +36,4 @@ pub brick_facts : (g : Graph) → IsGraph g → IsCovered g → ((x : Set) → I
     (4 ≤ g.order) × IsBicritical g × ((u v : ℕ) → Within g.order u → Within g.order v → IsCutPair g u v → ⊥)
 brick_facts g is cov odd_cycle brick =
     let b = bicritical g is cov odd_cycle brick in
-    (four g is cov odd_cycle brick, b, no_cut_pair g is b brick)
-
+    (four g is cov odd_cycle, b, no_cut_pair g is b brick)

@@ -1,2 +1,5 @@
 pub mod Separations
 pub mod CutPairs
+pub mod PairSearch
+pub mod PairShores
+pub mod SeparationFacts

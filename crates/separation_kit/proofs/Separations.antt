@@ -9,7 +9,6 @@ use Rattle.counting.proofs.Odd.{odd-double, complement_odd}
 use Rattle.counting.proofs.Totals.{total_congr, total_add, total_le, total_none}
 use Rattle.counting.specs.Counts.{bit, count, Within, is_odd}
 use Rattle.counting.specs.Sets.{Set, pair_set, none, union, minus, complement, singleton}
-
 use Rattle.graph_core.proofs.Components.{joined_outside, walk_joined}
 use Rattle.graph_core.proofs.Edits.{ends_of, degree_sum, missed_edges}
 use Rattle.graph_core.proofs.Parity.{degrees, parity}

@@ -1,1 +1,2 @@
 pub mod SeparationShores
+pub mod Pairs

@@ -1,8 +1,39 @@
-//! Pairs of vertices.
+//! Pairs of vertices in lexicographic order.
+ghost use Rattle.std.specs.Prelude.{◌≡◌, ◌≤◌, ◌++◌, map, nat_lt, IfOk, OnOk};
+ghost use Rattle.counting.specs.Counts.{Within};
+ghost use Rattle.counting.specs.Lists.{pair_with, rising_list, rising_pairs};
+ghost use Rattle.separation_kit.specs.Pairs.{pair_of};
+
+use std::alloc::{AllocError as Memory, Global};
+use vset_core::MOST_VERTICES;
 
 /// Two vertices a < b.
-#[derive(Clone, Copy)]
+#[derive(Clone, Copy, Debug, PartialEq, Eq, Drop)]
 pub struct Pair {
     pub a: u32,
     pub b: u32,
+}
+
+// Appends the pairs of a with the greater numbers up to n.
+fn push_pairs(pairs: &mut Vec<Pair>, n: u32, a: u32) -> Result<(), Memory>
+    requires few { n ≤ MOST_VERTICES }
+    requires first { Within n a }
+    ensures { OnOk result (map pair_of pairs.new.items ≡ map pair_of pairs.old.items ++ map (pair_with a) (rising_list n (nat_lt a))) }
+{
+    for k in a..n {
+        pairs.push(Pair { a, b: k + 1 })?;
+    }
+    Ok(())
+}
+
+/// The pairs of the numbers 1 to `n`, in lexicographic order.
+pub fn all_pairs(alloc: Global, n: u32) -> Result<Vec<Pair>, Memory>
+    requires { n ≤ MOST_VERTICES }
+    ensures { IfOk result (λ pairs. map pair_of pairs.items ≡ rising_pairs n) }
+{
+    let mut pairs = Vec::new(alloc);
+    for i in 0..n {
+        push_pairs(&mut pairs, n, i + 1)?;
+    }
+    Ok(pairs)
 }

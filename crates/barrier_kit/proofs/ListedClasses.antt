@@ -1,0 +1,133 @@
+-- The classes found one after the other: a vertex is the least of its class exactly where no class before it holds it.
+-- A class is met by its least vertex, and by transitivity a vertex that was met adds no vertex to those met.
+use Rattle.std.proofs.Common.{◌≡◌, ℕ, suc, inl, inr, ◌+◌, ◌<◌, ◌≤◌, Bool, true, false, ◌==◌, refl, sym, ap, ap₂, ◌∙◌, arith, ◌&&◌, ◌||◌, not, cond, List, [], ◌∷◌, ◌++◌, map, nat_lt, ltb-true, lt-ltb, subst, append-nil}
+use Rattle.std.proofs.lemmas.Bool.{cases_Bool, and_parts, and_from}
+use Rattle.std.proofs.lemmas.List.{map-append}
+use Rattle.counting.specs.Counts.{Within}
+use Rattle.counting.specs.Lists.{IsRisingIn, mem, rising_list}
+use Rattle.counting.specs.Sets.{Set}
+use Rattle.counting.specs.Tests.{some}
+use Rattle.counting.proofs.Lists.{mem-append}
+use Rattle.counting.proofs.RisingLists.{mem-rising_list, rising_list-rises, same_answers, same_rising_list, set-wider}
+use Rattle.counting.proofs.Tests.{some_true, true_some}
+use Rattle.graph_core.proofs.Decide.{has_perfect_found, has_perfect_says, is_equivalent_found, is_equivalent_says}
+use Rattle.graph_core.specs.Covered.{IsCovered}
+use Rattle.graph_core.specs.Graph.{Graph, IsGraph}
+use Rattle.graph_core.specs.Matchings.{HasPerfect, has_perfect}
+use Rattle.graph_core.specs.Structure.{classes, is_equivalent, is_least_of_class}
+use Rattle.barrier_kit.proofs.ClassLaw.{equivalent_on}
+use Rattle.barrier_kit.proofs.Matched.{perfect_congr}
+
+-- the test is true exactly where there is a perfect matching
+pub has_perfect-true : (g : Graph) (r s : Set) → ((v : ℕ) → r v ≡ s v) → HasPerfect g r → has_perfect g s ≡ true
+has_perfect-true g r s same m = has_perfect_found g s (m.0, perfect_congr g r s m.0 (λ v w. same v) m.1)
+
+pub has_perfect-false : (g : Graph) (r s : Set) → ((v : ℕ) → r v ≡ s v) → (HasPerfect g r → ⊥) → has_perfect g s ≡ false
+has_perfect-false g r s same none = elim (cases_Bool (has_perfect g s)) [
+  | inr f ↦ f
+  | inl t ↦ let m = has_perfect_says g s t in absurd (none (m.0, perfect_congr g s r m.0 (λ v w. sym (same v)) m.1))
+]
+
+-- a rising list by its last number
+pub rising_list-more : (k : ℕ) (x : Set) → rising_list (k + 1) x ≡ rising_list k x ++ cond (x (k + 1)) ((k + 1) ∷ []) []
+rising_list-more k x =
+    let e : suc k ≡ k + 1 = omega arith in
+    subst (λ j. rising_list j x ≡ rising_list k x ++ cond (x j) (j ∷ []) []) e refl
+
+pub members-taken : (k : ℕ) (x : Set) (before after : List ℕ) → x (k + 1) ≡ true → ((v : ℕ) → mem before v ≡ mem (rising_list k x) v) → ((v : ℕ) → mem after v ≡ (mem before v || k + 1 == v)) → (v : ℕ) → mem after v ≡ mem (rising_list (k + 1) x) v
+members-taken k x before after t old new v =
+    new v ∙ ap (λ b. b || k + 1 == v) (old v)
+    ∙ ap (λ b. mem (rising_list k x) v || b) (sym (or_false (k + 1 == v)))
+    ∙ sym (mem-append (rising_list k x) ((k + 1) ∷ []) v)
+    ∙ ap (λ ys. mem (rising_list k x ++ ys) v) (sym (ap (λ b. cond b ((k + 1) ∷ []) []) t))
+    ∙ ap (λ ys. mem ys v) (sym (rising_list-more k x))
+  where
+    or_false : (b : Bool) → (b || false) ≡ b
+    or_false true = refl
+    or_false false = refl
+
+pub members-passed : (k : ℕ) (x : Set) (before : List ℕ) → x (k + 1) ≡ false → ((v : ℕ) → mem before v ≡ mem (rising_list k x) v) → (v : ℕ) → mem before v ≡ mem (rising_list (k + 1) x) v
+members-passed k x before f old v =
+    old v
+    ∙ ap (λ ys. mem ys v) (sym (append-nil (rising_list k x)))
+    ∙ ap (λ ys. mem (rising_list k x ++ ys) v) (sym (ap (λ b. cond b ((k + 1) ∷ []) []) f))
+    ∙ ap (λ ys. mem ys v) (sym (rising_list-more k x))
+
+-- a set with these members is their rising list
+pub members-all : (m n k : ℕ) (x : Set) (set : List ℕ) → n ≤ m → k ≡ n → IsRisingIn m set → ((v : ℕ) → mem set v ≡ mem (rising_list k x) v) → set ≡ rising_list n x
+members-all m n k x set few e rises same =
+    same_rising_list m set (rising_list n x) rises (set-wider n m (rising_list n x) few (rising_list-rises n x)) (λ v w. same v ∙ ap (λ j. mem (rising_list j x) v) e)
+
+-- some number below k + 1 passes exactly where one of 1 to k does
+some_below : (n k : ℕ) (p : Set) → k < n → some n (λ b. nat_lt b (k + 1) && p b) ≡ some k p
+some_below n k p l = same_answers _ _
+    (λ t. let b = some_true n (λ b. nat_lt b (k + 1) && p b) t in
+    let h = and_parts (nat_lt b.0 (k + 1)) (p b.0) b.2 in
+    let j = ltb-true b.0 (k + 1) h.0 in let w = b.1 in
+    true_some k p b.0 (omega arith) h.1)
+    (λ t. let b = some_true k p t in let w = b.1 in
+    true_some n (λ b. nat_lt b (k + 1) && p b) b.0 (omega arith) (and_from (nat_lt b.0 (k + 1)) (p b.0) (lt-ltb b.0 (k + 1) (omega arith)) b.2))
+
+module _ (g : Graph) (is : IsGraph g) (cov : IsCovered g) where
+  class_at : ℕ → List ℕ
+  class_at a = rising_list g.order (is_equivalent g a)
+
+  least-first : (k : ℕ) → k < g.order → is_least_of_class g (k + 1) ≡ not (some k (λ a. is_equivalent g a (k + 1)))
+  least-first k l = ap not (some_below g.order k (λ a. is_equivalent g a (k + 1)) l)
+
+  -- a vertex outside the classes before it begins a class
+  pub classes-taken : (k : ℕ) (list after : List (List ℕ)) (met new : Set) (class : List ℕ) → k < g.order →
+      list ≡ map (λ a. rising_list g.order (is_equivalent g a)) (rising_list k (is_least_of_class g)) → ((v : ℕ) → Within g.order v → met v ≡ some k (λ a. is_equivalent g a v)) → met (k + 1) ≡ false →
+      class ≡ rising_list g.order (is_equivalent g (k + 1)) → after ≡ list ++ class ∷ [] → ((v : ℕ) → new v ≡ (met v || mem class v)) →
+      (after ≡ map (λ a. rising_list g.order (is_equivalent g a)) (rising_list (k + 1) (is_least_of_class g))) × ((v : ℕ) → Within g.order v → new v ≡ some (k + 1) (λ a. is_equivalent g a v))
+  unfolding class_at
+  classes-taken k list after met new class l old_list old_met out is_class is_after is_new = (
+    is_after ∙ ap₂ (λ xs c. xs ++ c ∷ []) old_list is_class
+        ∙ sym (map-append class_at (rising_list k (is_least_of_class g)) ((k + 1) ∷ []))
+        ∙ ap (λ ys. map class_at (rising_list k (is_least_of_class g) ++ ys)) (sym (ap (λ b. cond b ((k + 1) ∷ []) []) begins))
+        ∙ ap (map class_at) (sym (rising_list-more k (is_least_of_class g))),
+    λ v w. is_new v ∙ ap₂ (λ a b. a || b) (old_met v w) (ap (λ xs. mem xs v) is_class ∙ mem-rising_list g.order (is_equivalent g (k + 1)) v w) ∙ grown v,
+  )
+    where
+      begins : is_least_of_class g (k + 1) ≡ true
+      begins = least-first k l ∙ ap not (sym (old_met (k + 1) (omega arith)) ∙ out)
+
+      grown : (v : ℕ) → (some k (λ a. is_equivalent g a v) || is_equivalent g (k + 1) v) ≡ some (k + 1) (λ a. is_equivalent g a v)
+      grown v = let e : suc k ≡ k + 1 = omega arith in subst (λ j. (some k (λ a. is_equivalent g a v) || is_equivalent g j v) ≡ some j (λ a. is_equivalent g a v)) e refl
+
+  -- a vertex of a class before it begins none
+  pub classes-passed : (k : ℕ) (list : List (List ℕ)) (met : Set) → k < g.order →
+      list ≡ map (λ a. rising_list g.order (is_equivalent g a)) (rising_list k (is_least_of_class g)) → ((v : ℕ) → Within g.order v → met v ≡ some k (λ a. is_equivalent g a v)) → met (k + 1) ≡ true →
+      (list ≡ map (λ a. rising_list g.order (is_equivalent g a)) (rising_list (k + 1) (is_least_of_class g))) × ((v : ℕ) → Within g.order v → met v ≡ some (k + 1) (λ a. is_equivalent g a v))
+  unfolding class_at
+  classes-passed k list met l old_list old_met inside = (
+    old_list ∙ ap (map class_at) (sym (append-nil (rising_list k (is_least_of_class g)))
+        ∙ ap (λ ys. rising_list k (is_least_of_class g) ++ ys) (sym (ap (λ b. cond b ((k + 1) ∷ []) []) begins))
+        ∙ sym (rising_list-more k (is_least_of_class g))),
+    λ v w. old_met v w ∙ same v w ∙ grown v,
+  )
+    where
+      here : some k (λ a. is_equivalent g a (k + 1)) ≡ true
+      here = sym (old_met (k + 1) (omega arith)) ∙ inside
+
+      begins : is_least_of_class g (k + 1) ≡ false
+      begins = least-first k l ∙ ap not here
+
+      grown : (v : ℕ) → (some k (λ a. is_equivalent g a v) || is_equivalent g (k + 1) v) ≡ some (k + 1) (λ a. is_equivalent g a v)
+      grown v = let e : suc k ≡ k + 1 = omega arith in subst (λ j. (some k (λ a. is_equivalent g a v) || is_equivalent g j v) ≡ some j (λ a. is_equivalent g a v)) e refl
+
+      or_same : (a b : Bool) → (b ≡ true → a ≡ true) → a ≡ (a || b)
+      or_same true b h = refl
+      or_same false true h = h refl
+      or_same false false h = refl
+
+      same : (v : ℕ) → Within g.order v → some k (λ a. is_equivalent g a v) ≡ (some k (λ a. is_equivalent g a v) || is_equivalent g (k + 1) v)
+      same v w = or_same (some k (λ a. is_equivalent g a v)) (is_equivalent g (k + 1) v) (λ t.
+          let a = some_true k (λ a. is_equivalent g a (k + 1)) here in
+          let wa = a.1 in
+          true_some k (λ a. is_equivalent g a v) a.0 a.1 (is_equivalent_found g a.0 v
+          (equivalent_on g a.0 (k + 1) v is cov (omega arith) (omega arith) w (is_equivalent_says g a.0 (k + 1) a.2) (is_equivalent_says g (k + 1) v t))))
+
+  pub classes-all : (k : ℕ) (list : List (List ℕ)) → k ≡ g.order → list ≡ map (λ a. rising_list g.order (is_equivalent g a)) (rising_list k (is_least_of_class g)) → list ≡ classes g
+  unfolding classes
+  classes-all k list e h = h ∙ ap (λ j. map (λ a. rising_list g.order (is_equivalent g a)) (rising_list j (is_least_of_class g))) e

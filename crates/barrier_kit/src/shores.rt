@@ -1,0 +1,87 @@
+//! Lists of cuts by their canonical shores, and the cuts that the classes give.
+ghost use Rattle.std.specs.Prelude.{◌≡◌, ◌≤◌, fold, IfOk, OnOk, OnErr};
+ghost use Rattle.counting.specs.Counts.{Within};
+ghost use Rattle.counting.specs.Lists.{mem, IsRisingIn};
+ghost use Rattle.graph_core.specs.Covered.{IsCovered};
+ghost use Rattle.graph_core.specs.Tight.{is_nontrivial};
+ghost use Rattle.barrier_kit.specs.BarrierShores.{barrier_cuts};
+ghost use Rattle.barrier_kit.specs.CanonicalCuts.{canonical_list, is_listed, with_cut};
+
+use crate::canonical_partition::classes;
+use graph_core::{MultiGraph, SetList};
+use std::alloc::{AllocError as Memory, Global};
+use vset_core::{MOST_VERTICES, VSet};
+
+// The shore of the cut of this one that does not hold n.
+fn canonical(n: u32, shore: VSet) -> VSet
+    requires { Within MOST_VERTICES n }
+    ensures { result ≡ canonical_list n shore }
+{
+    let all = VSet::full(n);
+    let shore = if shore.contains(n) {
+        all.minus(shore)
+    } else {
+        all.meet(shore)
+    };
+    shore.rises();
+    shore
+}
+
+// Whether both sides of the cut of this canonical shore have at least three of the vertices 1 to n.
+fn is_wide(n: u32, shore: VSet) -> bool
+    requires vertices { n ≤ MOST_VERTICES }
+    requires set { IsRisingIn n shore }
+    ensures { result ≡ is_nontrivial n (mem shore) }
+{
+    let inside = shore.len();
+    inside >= 3 && n - inside >= 3
+}
+
+// Whether the shore is in the list.
+fn holds(cuts: &[VSet], shore: VSet) -> bool
+    ensures { result ≡ is_listed cuts.now shore }
+{
+    cuts.iter()
+        .any(|cut| shore.is_subset(*cut) && cut.is_subset(shore))
+}
+
+/// Appends the cut of `shore` by its canonical shore, the one without the greatest vertex `n`. It is left out where a side has
+/// fewer than three vertices or the cut is in the list. After `Memory` the list is unchanged.
+pub fn add_cut(cuts: &mut SetList, n: u32, shore: VSet) -> Result<(), Memory>
+    requires { Within MOST_VERTICES n }
+    ensures ok { OnOk result (cuts.new ≡ with_cut n cuts.old shore) }
+    ensures err { OnErr result (cuts.new ≡ cuts.old) }
+{
+    let shore = canonical(n, shore);
+    if is_wide(n, shore) && !holds(cuts.as_slice(), shore) {
+        cuts.push(shore)?;
+    }
+    Ok(())
+}
+
+/// Appends the cuts of all the shores in order, as `add_cut` does.
+pub fn add_cuts(cuts: &mut SetList, n: u32, shores: &SetList) -> Result<(), Memory>
+    requires { Within MOST_VERTICES n }
+    ensures { OnOk result (cuts.new ≡ fold (with_cut n) cuts.old shores.now) }
+{
+    for shore in shores.as_slice() {
+        add_cut(cuts, n, *shore)?;
+    }
+    Ok(())
+}
+
+/// The nontrivial cuts that the classes of a covered graph give: for each class, each component of the graph without it. Each
+/// cut is given once, by its canonical shore, and is tight (Edmonds, Lovász and Pulleyblank 1982).
+pub fn barrier_cuts(alloc: Global, g: &MultiGraph) -> Result<SetList, Memory>
+    requires { IsCovered g.now }
+    ensures { IfOk result (λ cuts. cuts ≡ barrier_cuts g.now) }
+{
+    g.keeps_limits();
+    let mut cuts = SetList::new(alloc);
+    let list = classes(alloc, g)?;
+    for class in list.as_slice() {
+        let parts = g.components_without(alloc, *class)?;
+        add_cuts(&mut cuts, g.order(), &parts)?;
+    }
+    Ok(cuts)
+}

@@ -1,0 +1,8 @@
+use Rattle.std.proofs.Common.{◌≡◌, flat_map, map, nat_lt}
+use Rattle.counting.specs.Lists.{pair_with, rising_list}
+use Rattle.counting.specs.Sets.{everything}
+use Rattle.separation_kit.specs.Pairs.{pair_of}
+use Rattle.separation_kit.proofs.pair.all_pairs.Given as goal
+
+abbrev pub invariant-loop-i : goal.invariant-loop-i
+invariant-loop-i l = map pair_of l.pairs.items ≡ flat_map (λ a. map (pair_with a) (rising_list l.n (nat_lt a))) (rising_list l.i everything)

@@ -1,0 +1,8 @@
+use Rattle.std.proofs.Common.{◌≡◌, fold, map, take}
+use Rattle.counting.specs.Lists.{mem, rising_list}
+use Rattle.counting.specs.Sets.{singleton, union}
+use Rattle.barrier_kit.specs.CanonicalCuts.{with_cut}
+use Rattle.separation_kit.proofs.shores.add_with_vertex.Given as goal
+
+abbrev pub invariant-loop-part : goal.invariant-loop-part
+invariant-loop-part l = l.cuts ≡ fold (with_cut l.n) l.initial.cuts (map (λ s. rising_list l.n (union (mem s) (singleton l.a))) (take l.part-index l.parts))

@@ -1,0 +1,14 @@
+-- How contracts see the code's pairs of vertices.
+use Rattle.std.specs.Prelude.{ℕ, ◌<◌}
+use Rattle.counting.specs.Counts.{Within}
+use Rattle.separation_kit.specs.declared.pair.Pair.{Pair}
+
+-- the two vertices as a pair
+abbrev pub pair_of : Pair → ℕ × ℕ
+pair_of p = (p.a, p.b)
+
+-- two vertices of 1 to n, the lesser first
+pub record IsPairIn (n : ℕ) (p : Pair) : Type 0 where
+  pub first : Within n p.a
+  pub second : Within n p.b
+  pub rising : p.a < p.b

@@ -1,0 +1,61 @@
+//! The cuts that cut pairs give.
+ghost use Rattle.std.specs.Prelude.{◌≡◌, ◌≤◌, fold, map, All, IfOk, OnOk};
+ghost use Rattle.counting.specs.Counts.{Within};
+ghost use Rattle.counting.specs.Sets.{singleton, union};
+ghost use Rattle.counting.specs.Lists.{mem, rising_list, IsRisingIn};
+ghost use Rattle.graph_core.specs.Covered.{IsCovered};
+ghost use Rattle.graph_core.specs.Structure.{IsBicritical};
+ghost use Rattle.barrier_kit.specs.CanonicalCuts.{with_cut};
+ghost use Rattle.separation_kit.specs.SeparationShores.{separation_cuts};
+
+use crate::critical::parts_without;
+use crate::pair::all_pairs;
+use barrier_kit::add_cut;
+use graph_core::{MultiGraph, SetList};
+use std::alloc::{AllocError as Memory, Global};
+use vset_core::{MOST_VERTICES, VSet};
+
+// The component with one vertex of the pair.
+fn with_vertex(n: u32, part: VSet, a: u32) -> VSet
+    requires few { n ≤ MOST_VERTICES }
+    requires vertex { Within n a }
+    requires part { IsRisingIn n part }
+    ensures { result ≡ rising_list n (union (mem part) (singleton a)) }
+{
+    let shore = part.with(a);
+    shore.rises();
+    shore
+}
+
+// Appends the cuts of the components, each with the vertex a.
+fn add_with_vertex(cuts: &mut SetList, n: u32, parts: &SetList, a: u32) -> Result<(), Memory>
+    requires few { n ≤ MOST_VERTICES }
+    requires vertex { Within n a }
+    requires parts { All (IsRisingIn n) parts.now }
+    ensures { OnOk result (cuts.new ≡ fold (with_cut n) cuts.old (map (λ s. rising_list n (union (mem s) (singleton a))) parts.now)) }
+{
+    for part in parts.as_slice() {
+        add_cut(cuts, n, with_vertex(n, *part, a))?;
+    }
+    Ok(())
+}
+
+/// The nontrivial cuts that the cut pairs u < v of a bicritical covered graph give: u with each component of the graph without
+/// the two. Each cut is given once, by its canonical shore, and is tight (Edmonds, Lovász and Pulleyblank 1982).
+pub fn separation_cuts(alloc: Global, g: &MultiGraph) -> Result<SetList, Memory>
+    requires covered { IsCovered g.now }
+    requires bicritical { IsBicritical g.now }
+    requires four { 4 ≤ g.now.order }
+    ensures { IfOk result (λ cuts. cuts ≡ separation_cuts g.now) }
+{
+    g.keeps_limits();
+    let mut cuts = SetList::new(alloc);
+    let pairs = all_pairs(alloc, g.order())?;
+    for pair in &pairs {
+        let parts = parts_without(alloc, g, pair.a, pair.b)?;
+        if parts.len() >= 2 {
+            add_with_vertex(&mut cuts, g.order(), &parts, pair.a)?;
+        }
+    }
+    Ok(cuts)
+}
