@@ -28,7 +28,7 @@ use Rattle.tight_cuts.specs.PairSums.{weight}
 use Rattle.tight_cuts.specs.Pieces.{arcs_of, contracted_net, group_of, leader, IsBeside, IsGrouping}
 
 -- a total of numbers up to 2048
-total_small : (n : ℕ) (f : ℕ → ℕ) → ((v : ℕ) → Within n v → f v ≤ 2048) → total n f ≤ 2048 * n
+pub total_small : (n : ℕ) (f : ℕ → ℕ) → ((v : ℕ) → Within n v → f v ≤ 2048) → total n f ≤ 2048 * n
 total_small zero f h = omega arith
 total_small (suc n) f h = let i = total_small n f (λ v w. h v (omega arith)) in let j = h (suc n) (omega arith) in omega arith
 

@@ -11,4 +11,8 @@ pub mod Leaders
 pub mod EdgeNetworks
 pub mod EdgeShores
 pub mod EdgePairs
+pub mod CandidateLists
+pub mod Weighing
+pub mod BesideGraphs
+pub mod FrontCandidates
 mod CrossingMatchings

@@ -3,3 +3,4 @@ pub mod Candidates
 pub mod Pieces
 pub mod Tightness
 pub mod EdgeSearch
+pub mod View

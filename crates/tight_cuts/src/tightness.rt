@@ -45,8 +45,8 @@ pub fn is_tight(alloc: Global, g: &MultiGraph, shore: VSet) -> Result<Tightness,
     Ok(Tightness::Tight)
 }
 
-// Whether edge e is in the cut of the shore.
-fn is_in_cut(g: &MultiGraph, shore: VSet, e: u32) -> bool
+/// Whether edge e is in the cut of the shore.
+pub(crate) fn is_in_cut(g: &MultiGraph, shore: VSet, e: u32) -> bool
     requires { Within (size g.now) e }
     ensures { result ≡ in_cut g.now (mem shore) e }
 {
