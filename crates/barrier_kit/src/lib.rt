@@ -21,4 +21,4 @@ mod shores;
 pub use barrier::is_barrier;
 pub use canonical_partition::{classes, is_matched_without};
 pub use laws::{barrier_cuts_law, barrier_law, class_law, equivalence_law, wide_class_law};
-pub use shores::{add_cut, add_cuts, barrier_cuts};
+pub use shores::{add_cut, add_cuts, barrier_cuts, canonical_shore, is_nontrivial};

@@ -12,8 +12,8 @@ use graph_core::{MultiGraph, SetList};
 use std::alloc::{AllocError as Memory, Global};
 use vset_core::{MOST_VERTICES, VSet};
 
-// The shore of the cut of this one that does not hold n.
-fn canonical(n: u32, shore: VSet) -> VSet
+/// The canonical shore of the cut of `shore`, a set of the vertices 1 to `n`: the one without the vertex `n`.
+pub fn canonical_shore(n: u32, shore: VSet) -> VSet
     requires { Within MOST_VERTICES n }
     ensures { result ≡ canonical_list n shore }
 {
@@ -27,8 +27,8 @@ fn canonical(n: u32, shore: VSet) -> VSet
     shore
 }
 
-// Whether both sides of the cut of this canonical shore have at least three of the vertices 1 to n.
-fn is_wide(n: u32, shore: VSet) -> bool
+/// Whether the cut of `shore` is nontrivial: at least three of the vertices 1 to `n` are inside, and at least three outside.
+pub fn is_nontrivial(n: u32, shore: VSet) -> bool
     requires vertices { n ≤ MOST_VERTICES }
     requires set { IsRisingIn n shore }
     ensures { result ≡ is_nontrivial n (mem shore) }
@@ -52,8 +52,8 @@ pub fn add_cut(cuts: &mut SetList, n: u32, shore: VSet) -> Result<(), Memory>
     ensures ok { OnOk result (cuts.new ≡ with_cut n cuts.old shore) }
     ensures err { OnErr result (cuts.new ≡ cuts.old) }
 {
-    let shore = canonical(n, shore);
-    if is_wide(n, shore) && !holds(cuts.as_slice(), shore) {
+    let shore = canonical_shore(n, shore);
+    if is_nontrivial(n, shore) && !holds(cuts.as_slice(), shore) {
         cuts.push(shore)?;
     }
     Ok(())

@@ -3,7 +3,7 @@ use Rattle.std.proofs.lemmas.Bool.{true≢false}
 use Rattle.std.proofs.lemmas.List.Elements.{All-nil, All-head, All-tail}
 use Rattle.std.specs.List.{AllPairs, list_any}
 use Rattle.std.specs.Prelude.{All, fold}
-use Rattle.tight_cuts.specs.Candidates.{Barrier, Separation, cuts, front_candidates}
+use Rattle.tight_cuts.specs.Candidates.{ShoresDiffer, Barrier, Separation, cuts, front_candidates}
 use Rattle.barrier_kit.proofs.Matched.{count_member, cut_edge}
 use Rattle.barrier_kit.specs.BarrierShores.{barrier_shores}
 use Rattle.counting.specs.Counts.{Within}
@@ -14,7 +14,7 @@ use Rattle.graph_core.specs.Graph.{Graph, size, IsGraph, in_cut}
 use Rattle.graph_core.specs.Tight.{IsTight, IsNontrivial}
 use Rattle.separation_kit.specs.SeparationShores.{separation_shores}
 use Rattle.tight_cuts.proofs.EdgeLoop.{after_edges, after_apart, after_found, after_covers}
-use Rattle.tight_cuts.proofs.Shores.{ShoresDiffer, with_found, with_apart}
+use Rattle.tight_cuts.proofs.Shores.{with_found, with_apart}
 use Rattle.tight_cuts.specs.Candidates.{Origin, Candidate, with_list, candidates, IsTightCandidate}
 
 -- The candidates: none twice, each tight where the shores of the first two parts are, and each edge of a nontrivial tight cut in a candidate's cut.

@@ -4,7 +4,7 @@ use Rattle.std.proofs.lemmas.List.Folds.{list_any-append}
 use Rattle.std.proofs.lemmas.List.Sums.{fold_push}
 use Rattle.std.specs.List.{AllPairs, list_any}
 use Rattle.std.specs.Prelude.{All, if◌then◌else◌, find, fold}
-use Rattle.tight_cuts.specs.Candidates.{Flow, cuts, lesser_end, greater_end, first_parted}
+use Rattle.tight_cuts.specs.Candidates.{ShoresDiffer, Flow, cuts, lesser_end, greater_end, first_parted}
 use Rattle.barrier_kit.proofs.Matched.{count_minus, count_member}
 use Rattle.counting.proofs.Tests.{some_true, some_none, some_congr}
 use Rattle.counting.specs.Counts.{Within}
@@ -17,7 +17,7 @@ use Rattle.graph_core.specs.Graph.{Graph, size, first_end, second_end, IsGraph, 
 use Rattle.graph_core.specs.Tight.{IsTight, IsNontrivial}
 use Rattle.tight_cuts.proofs.LeastShores.{parted_says, parted_found, common_parts, parts_nontrivial}
 use Rattle.tight_cuts.proofs.PairsOfEdges.{cut_between}
-use Rattle.tight_cuts.proofs.Shores.{ShoresDiffer, with_found, with_apart, with_grows, with_covers, complement_tight, complement_nontrivial}
+use Rattle.tight_cuts.proofs.Shores.{with_found, with_apart, with_grows, with_covers, complement_tight, complement_nontrivial}
 use Rattle.tight_cuts.specs.Candidates.{Candidate, is_parted, common_shore, with_pair, with_edge_cut, IsTightCandidate}
 use Rattle.tight_cuts.specs.Pieces.{PartsTightly}
 
@@ -210,7 +210,7 @@ edge_apart g list e h = go (list_any (cuts g e) list) (first_parted g e)
 abbrev pub after_edges : Graph → List Candidate → ℕ → List Candidate
 after_edges g list m = fold (with_edge_cut g) list (rising_list m everything)
 
-after_suc : (g : Graph) (list : List Candidate) (m : ℕ) → after_edges g list (suc m) ≡ with_edge_cut g (after_edges g list m) (suc m)
+pub after_suc : (g : Graph) (list : List Candidate) (m : ℕ) → after_edges g list (suc m) ≡ with_edge_cut g (after_edges g list m) (suc m)
 after_suc g list m = fold_push (with_edge_cut g) list (rising_list m everything) (suc m)
 
 pub after_apart : (g : Graph) (list : List Candidate) (m : ℕ) → AllPairs ShoresDiffer list → AllPairs ShoresDiffer (after_edges g list m)

@@ -73,21 +73,21 @@ module _ (g h : Graph) (is : IsGraph g) (a b e : ℕ) (wa : Within g.order a) (w
   abbrev pub back : Set → Set
   back u v = u (group v)
 
-  at_a : group a ≡ 1
+  at_a : group a ≡ a
   at_a = groups.source a wa (or_left (a == a) (joined h (pair_set a b) k.0 a) (eq-eqb a a refl))
 
-  at_b : group b ≡ 2
+  at_b : group b ≡ b
   at_b = groups.sink b wb (or_left (b == b) (joined h (pair_set a b) k.1 b) (eq-eqb b b refl))
 
-  back_odd : (u : Set) → Separates 1 2 u → (is_odd (count g.order (back u)) ≡ true) × (is_odd (count g.order (complement (back u))) ≡ true)
+  back_odd : (u : Set) → Separates a b u → (is_odd (count g.order (back u)) ≡ true) × (is_odd (count g.order (complement (back u))) ≡ true)
   back_odd u s = pieces_odd g h is a b e wa wb we ends beside al (back u) (ap u at_a ∙ s.holds) (ap u at_b ∙ s.lacks) (λ p q wp wq j. ap u (groups.kept p q wp wq j))
 
   -- the value is at least the list's length
-  pub value_bound : (u : Set) → Separates 1 2 u → length ms ≤ value_of (contracted_net g ms group r) u
+  pub value_bound : (u : Set) → Separates a b u → length ms ≤ value_of (contracted_net g ms group r) u
   value_bound u s = let c = value_cut g ms group r u in let l = pair_list_bound g ms is list (back u) (back_odd u s).0 in omega arith
 
   -- and is the length exactly where the vertices are tight
-  pub value_tight : (u : Set) → Separates 1 2 u → (value_of (contracted_net g ms group r) u ≡ length ms) ↔ IsTight g (back u)
+  pub value_tight : (u : Set) → Separates a b u → (value_of (contracted_net g ms group r) u ≡ length ms) ↔ IsTight g (back u)
   value_tight u s = let o = back_odd u s in let c = value_cut g ms group r u in
       (λ v. pair_list_tight g ms is list (back u) o.0 o.1 (sym c ∙ v), λ t. c ∙ tight_pair_list g ms is list (back u) o.0 t)
 
@@ -95,7 +95,7 @@ module _ (g h : Graph) (is : IsGraph g) (a b e : ℕ) (wa : Within g.order a) (w
   own_piece v w = let o = beside.order in walk_joined h (pair_set a b) (beside_graph g h is a b e wa wb we ends beside) v v (omega arith) (joined_self h (pair_set a b) v)
 
   -- a set of that value parts the pairs
-  pub value_parts : (u : Set) → Separates 1 2 u → value_of (contracted_net g ms group r) u ≡ length ms → PartsTightly g a b k (back u)
+  pub value_parts : (u : Set) → Separates a b u → value_of (contracted_net g ms group r) u ≡ length ms → PartsTightly g a b k (back u)
   value_parts u s v = record {
     tight = (value_tight u s).0 v;
     has_a = ap u at_a ∙ s.holds;
@@ -140,12 +140,12 @@ module _ (g h : Graph) (is : IsGraph g) (a b e : ℕ) (wa : Within g.order a) (w
       (λ t. true_some g.order (λ i. (group i == group v) && x i) v w (and_from (group v == group v) (x v) (eq-eqb (group v) (group v) refl) t))
 
   -- so it comes from a set of nodes, whose value is the list's length
-  pub parts_nodes : (x : Set) → PartsTightly g a b k x → (u : Set) × Separates 1 2 u × ((v : ℕ) → Within g.order v → u (group v) ≡ x v) × (value_of (contracted_net g ms group r) u ≡ length ms)
+  pub parts_nodes : (x : Set) → PartsTightly g a b k x → (u : Set) × Separates a b u × ((v : ℕ) → Within g.order v → u (group v) ≡ x v) × (value_of (contracted_net g ms group r) u ≡ length ms)
   parts_nodes x p =
-      let s : Separates 1 2 (nodes_of x) = record { holds = ap (nodes_of x) (sym at_a) ∙ nodes_back x p a wa ∙ p.has_a; lacks = ap (nodes_of x) (sym at_b) ∙ nodes_back x p b wb ∙ p.lacks_b } in
+      let s : Separates a b (nodes_of x) = record { holds = ap (nodes_of x) (sym at_a) ∙ nodes_back x p a wa ∙ p.has_a; lacks = ap (nodes_of x) (sym at_b) ∙ nodes_back x p b wb ∙ p.lacks_b } in
       (nodes_of x, s, nodes_back x p, (value_tight (nodes_of x) s).1 (tight_congr g x (back (nodes_of x)) is (λ v w. sym (nodes_back x p v w)) p.tight))
 
-  module _ (set : List ℕ) (value : ℕ) (cut : IsLeastCut (contracted_net g ms group r) 1 2 set value) where
+  module _ (set : List ℕ) (value : ℕ) (cut : IsLeastCut (contracted_net g ms group r) a b set value) where
     -- a least cut of at most the list's length has that length
     pub least_value : value ≤ length ms → value ≡ length ms
     least_value l = let v = value_bound (mem set) cut.separates in let e = cut.is in omega arith

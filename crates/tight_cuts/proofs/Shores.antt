@@ -15,7 +15,7 @@ use Rattle.counting.specs.Lists.{mem, all_in, rising_list, is_subset}
 use Rattle.counting.specs.Sets.{Set, complement}
 use Rattle.graph_core.specs.Graph.{Graph, size, first_end, second_end, IsGraph, in_cut}
 use Rattle.graph_core.specs.Tight.{IsTight, IsNontrivial, canonical_shore, is_nontrivial}
-use Rattle.tight_cuts.specs.Candidates.{Origin, Candidate, candidate, cuts, shores_of, with_shore, IsTightCandidate}
+use Rattle.tight_cuts.specs.Candidates.{Origin, Candidate, ShoresDiffer, candidate, cuts, shores_of, with_shore, IsTightCandidate}
 
 -- Canonical shores, shores as rising lists, and what one more shore does to a list of candidates.
 -- the other shore
@@ -147,10 +147,6 @@ with_cases n o list x = go (is_nontrivial n (canonical_shore n x)) (is_listed (s
     go true true more = inl (refl, refl)
     go true false more = inr (refl, refl, refl)
     go false t more = inl (refl, refl)
-
--- shores differ
-abbrev pub ShoresDiffer : Candidate → Candidate → Type 0
-ShoresDiffer c d = c.shore ≢ d.shore
 
 pub with_found : (g : Graph) (o : Origin) (list : List Candidate) (x : Set) → IsGraph g → IsTight g x → All (IsTightCandidate g) list → All (IsTightCandidate g) (with_shore g.order o list x)
 with_found g o list x is t h = elim (with_cases g.order o list x) [

@@ -1,7 +1,7 @@
 -- The candidates of a matching covered graph: a list of nontrivial tight cuts, empty exactly where the graph has none.
 -- Barrier and separation cuts: Edmonds, Lovász and Pulleyblank 1982; tight cuts: Lovász 1987. The third part finds, edge by
 -- edge, what the first two leave.
-use Rattle.std.specs.Prelude.{◌≡◌, false, ℕ, Bool, List, [], ◌∷◌, ◌++◌, Option, Some, None, ◌&&◌, ◌||◌, not, map, find, fold, min, max, if◌then◌else◌}
+use Rattle.std.specs.Prelude.{◌≡◌, ◌≢◌, false, ℕ, Bool, List, [], ◌∷◌, ◌++◌, Option, Some, None, ◌&&◌, ◌||◌, not, map, find, fold, min, max, if◌then◌else◌}
 use Rattle.std.specs.List.{list_any}
 use Rattle.counting.specs.Counts.{count}
 use Rattle.counting.specs.Sets.{Set, complement, everything, pair_set}
@@ -96,3 +96,16 @@ pub record IsTightCandidate (g : Graph) (c : Candidate) : Type 0 where
   pub canonical : mem c.shore g.order ≡ false
   pub inside : c.inside ≡ count g.order (mem c.shore)
   pub outside : c.outside ≡ count g.order (complement (mem c.shore))
+
+-- the candidate of a shore as a list
+abbrev pub candidate_at : ℕ → Origin → List ℕ → Candidate
+candidate_at n origin s = record { shore = s; inside = count n (mem s); outside = count n (complement (mem s)); origin = origin }
+
+-- the shore of the first candidate
+abbrev pub first_shore : List Candidate → Option (List ℕ)
+first_shore [] = None
+first_shore (c ∷ list) = Some c.shore
+
+-- two candidates have different shores
+abbrev pub ShoresDiffer : Candidate → Candidate → Type 0
+ShoresDiffer c d = c.shore ≢ d.shore

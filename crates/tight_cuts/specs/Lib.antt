@@ -2,3 +2,5 @@ pub mod PairSums
 pub mod Candidates
 pub mod Pieces
 pub mod Tightness
+pub mod EdgeSearch
+pub mod View

@@ -2,6 +2,7 @@
 use Rattle.std.specs.Prelude.{◌≡◌, ℕ, zero, suc, ◌≢◌, ◌⊎◌, true, false, List, [], ◌∷◌, ◌++◌, ◌==◌, ◌||◌, cond}
 use Rattle.counting.specs.Counts.{Within}
 use Rattle.counting.specs.Sets.{Set, pair_set}
+use Rattle.counting.specs.Lists.{mem}
 use Rattle.graph_core.specs.Graph.{Graph, size, first_end, second_end}
 use Rattle.graph_core.specs.Matchings.{Together}
 use Rattle.graph_core.specs.Tight.{IsTight}
@@ -36,12 +37,27 @@ contracted_net g ms group k = record { nodes = k; arcs = arcs_of g ms group (siz
 abbrev pub with_piece : Graph → (a b : ℕ) → ℕ → ℕ → Set
 with_piece h a b c x v = (c == v) || joined h (pair_set a b) x v
 
--- groups 1 to r: a with the piece of k.0 is the first, b with the piece of k.1 the second, and each other piece is one
+-- the vertices in groups, each named by a node 1 to r: a with the piece of k.0 is one and named a, b with the piece of k.1 is one
+-- and named b, and each other piece is one
 pub record IsGrouping (g h : Graph) (a b : ℕ) (k : ℕ × ℕ) (r : ℕ) (group : ℕ → ℕ) : Type 0 where
   pub nodes : (v : ℕ) → Within g.order v → Within r (group v)
-  pub source : (v : ℕ) → Within g.order v → with_piece h a b a k.0 v ≡ true → group v ≡ 1
-  pub sink : (v : ℕ) → Within g.order v → with_piece h a b b k.1 v ≡ true → group v ≡ 2
+  pub source : (v : ℕ) → Within g.order v → with_piece h a b a k.0 v ≡ true → group v ≡ a
+  pub sink : (v : ℕ) → Within g.order v → with_piece h a b b k.1 v ≡ true → group v ≡ b
   pub kept : (u v : ℕ) → Within g.order u → Within g.order v → joined h (pair_set a b) u v ≡ true → group u ≡ group v
   pub apart : (u v : ℕ) → Within g.order u → Within g.order v → group u ≡ group v →
       (joined h (pair_set a b) u v ≡ true)
       ⊎ (((with_piece h a b a k.0 u ≡ true) × (with_piece h a b a k.0 v ≡ true)) ⊎ ((with_piece h a b b k.1 u ≡ true) × (with_piece h a b b k.1 v ≡ true)))
+
+-- the first number of a list
+abbrev pub head_or : List ℕ → ℕ → ℕ
+head_or [] d = d
+head_or (x ∷ xs) d = x
+
+-- the first number of the first list that holds v, and v itself where none does
+abbrev pub leader : List (List ℕ) → ℕ → ℕ
+leader [] v = v
+leader (p ∷ ps) v = cond (mem p v) (head_or p v) (leader ps v)
+
+-- the group of a vertex whose piece is led by l, where x and y lead the pieces of the first and the second vertex
+abbrev pub group_of : (a b x y l : ℕ) → ℕ
+group_of a b x y l = cond (l == x) a (cond (l == y) b l)

@@ -9,6 +9,12 @@
 //! "Matching structure and the matching lattice" (1987); Lucchesi and Murty, "Perfect Matchings".
 #![tactic(auto)]
 
+mod candidate;
+mod edge_search;
+mod finder;
+mod pieces;
 mod tightness;
 
+pub use candidate::{Candidate, CandidateList, Origin};
+pub use finder::{candidates, find_any};
 pub use tightness::{Tightness, is_tight};

@@ -69,8 +69,8 @@ fn crossing(
     Ok(None)
 }
 
-// Whether edge e is in the cut of the shore.
-fn is_in_cut(g: &MultiGraph, shore: VSet, e: u32) -> bool
+/// Whether edge e is in the cut of the shore.
+pub(crate) fn is_in_cut(g: &MultiGraph, shore: VSet, e: u32) -> bool
     requires { Within (size g.now) e }
     ensures { result ≡ in_cut g.now (mem shore) e }
 {

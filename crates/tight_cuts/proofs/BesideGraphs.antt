@@ -1,0 +1,69 @@
+-- The graph of the edges that lie together with one edge, made edge by edge.
+-- Idea: each edge of it comes from one of the edges so far, and each of these that lies together with e is in it.
+use Rattle.std.proofs.Common.{◌≡◌, ℕ, suc, zero, ◌+◌, ◌≤◌, ◌<◌, ◌≢◌, Bool, true, false, List, [], ◌∷◌, ◌++◌, length, refl, sym, ap, ◌∙◌, arith, inl, inr, ◌⊎◌, subst, ◌↔◌, ◌-◌, length-append, slice_index_or}
+use Rattle.std.proofs.lemmas.Bool.{cases_eq, cases_lt}
+use Rattle.std.proofs.lemmas.List.{get_or_append_left}
+use Rattle.std.proofs.Math.Seq.{get_or-append_seam}
+use Rattle.counting.specs.Counts.{Within}
+use Rattle.graph_core.specs.Graph.{Graph, size, first_end, second_end, with_edge}
+use Rattle.graph_core.specs.Matchings.{Together}
+use Rattle.tight_cuts.specs.Pieces.{IsBeside}
+
+-- the edges 1 to k are treated
+pub record BesideSoFar (g : Graph) (e k : ℕ) (h : Graph) : Type 0 where
+  pub order : h.order ≡ g.order
+  pub few : size h ≤ k
+  pub from : (f : ℕ) → Within (size h) f → (d : ℕ) × Within (size g) d × (d ≢ e) × Together g e d × (first_end h f ≡ first_end g d) × (second_end h f ≡ second_end g d)
+  pub every : (d : ℕ) → Within k d → d ≢ e → Together g e d → (f : ℕ) × Within (size h) f × (first_end h f ≡ first_end g d) × (second_end h f ≡ second_end g d)
+
+pub beside-none : (g h : Graph) (e : ℕ) → h.order ≡ g.order → size h ≡ 0 → BesideSoFar g e 0 h
+beside-none g h e o s = record { order = o; few = omega arith; from = λ f w. absurd (omega arith); every = λ d w n t. absurd (omega arith) }
+
+-- an edge that is e or does not lie together with it
+pub beside-skip : (g h : Graph) (e k : ℕ) → BesideSoFar g e k h → ((k + 1 ≢ e) → Together g e (k + 1) → ⊥) → BesideSoFar g e (k + 1) h
+beside-skip g h e k b n = record {
+  order = b.order;
+  few = let f = b.few in omega arith;
+  from = b.from;
+  every = λ d w ne t. elim (cases_lt k d) [
+    | inl l ↦ let q : d ≡ k + 1 = omega arith in absurd (n (λ s. ne (q ∙ s)) (subst (Together g e) q t))
+    | inr l ↦ b.every d (omega arith) ne t
+  ];
+}
+
+pub beside-all : (g h : Graph) (e k : ℕ) → size g ≤ k → BesideSoFar g e k h → IsBeside g e h
+beside-all g h e k l b = record { order = b.order; from = b.from; every = λ d w ne t. b.every d (omega arith) ne t }
+
+-- the ends of the edges of a graph with one edge more
+size-more : (h : Graph) (a b : ℕ) → size (with_edge h a b) ≡ size h + 1
+size-more h a b = length-append h.ends ((a, b) ∷ [])
+
+ends-old : (h : Graph) (a b f : ℕ) → Within (size h) f → (first_end (with_edge h a b) f ≡ first_end h f) × (second_end (with_edge h a b) f ≡ second_end h f)
+ends-old h a b f w = let q = get_or_append_left h.ends ((a, b) ∷ []) (0, 0) (f - 1) (omega arith) in (ap (λ p. p.0) q, ap (λ p. p.1) q)
+
+ends-new : (h : Graph) (a b : ℕ) → (first_end (with_edge h a b) (size h + 1) ≡ a) × (second_end (with_edge h a b) (size h + 1) ≡ b)
+ends-new h a b =
+    let n : size h + 1 - 1 ≡ length h.ends = omega arith in
+    let q = ap (λ i. slice_index_or (h.ends ++ (a, b) ∷ []) i (0, 0)) n ∙ get_or-append_seam h.ends (a, b) [] (0, 0) in (ap (λ p. p.0) q, ap (λ p. p.1) q)
+
+-- an edge that lies together with e
+pub beside-more : (g h : Graph) (e k a b : ℕ) → BesideSoFar g e k h → k < size g → k + 1 ≢ e → Together g e (k + 1) → a ≡ first_end g (k + 1) → b ≡ second_end g (k + 1) → BesideSoFar g e (k + 1) (with_edge h a b)
+beside-more g h e k a b s l ne t qa qb =
+    let more = size-more h a b in
+    let new = ends-new h a b in
+    record {
+      order = s.order;
+      few = let f = s.few in omega arith;
+      from = λ f w. elim (cases_lt (size h) f) [
+        | inl u ↦
+            let q : f ≡ size h + 1 = omega arith in
+            (k + 1, (omega arith, omega arith), ne, t, ap (first_end (with_edge h a b)) q ∙ new.0 ∙ qa, ap (second_end (with_edge h a b)) q ∙ new.1 ∙ qb)
+        | inr u ↦ let v : Within (size h) f = (w.0, u) in let r = s.from f v in let o = ends-old h a b f v in (r.0, r.1, r.2, r.3, o.0 ∙ r.4, o.1 ∙ r.5)
+      ];
+      every = λ d w n u. elim (cases_lt k d) [
+        | inl v ↦
+            let q : k + 1 ≡ d = omega arith in
+            (size h + 1, (omega arith, omega arith), new.0 ∙ qa ∙ ap (first_end g) q, new.1 ∙ qb ∙ ap (second_end g) q)
+        | inr v ↦ let r = s.every d (omega arith) n u in let o = ends-old h a b r.0 r.1 in (r.0, (r.1.0, let x = r.1.1 in omega arith), o.0 ∙ r.2, o.1 ∙ r.3)
+      ];
+    }

@@ -1,0 +1,104 @@
+-- Lists of candidates as the code makes them: one shore more, and the candidates of a list of canonical shores.
+-- Idea: a candidate goes by its shore alone, and a set and its rising list have the same numbers on both sides.
+use Rattle.std.proofs.Common.{◌≡◌, ℕ, ◌+◌, ◌-◌, ◌≤◌, Bool, true, false, refl, sym, ap, ap₂, ◌∙◌, arith, ◌&&◌, ◌||◌, not, List, [], ◌∷◌, ◌++◌, map, length, subst, nat_le}
+use Rattle.std.specs.Prelude.{if◌then◌else◌, fold, flat_map, All}
+use Rattle.std.specs.List.{list_any}
+use Rattle.std.proofs.lemmas.Bool.{true≢false}
+use Rattle.barrier_kit.proofs.CutLists.{canonical-nontrivial}
+use Rattle.barrier_kit.specs.CanonicalCuts.{canonical_list, is_listed, with_cut}
+use Rattle.counting.proofs.Counts.{count_congr, count_complement}
+use Rattle.counting.proofs.Lists.{count_mem_length}
+use Rattle.counting.proofs.RisingLists.{mem-rising_list, rising_list-congr}
+use Rattle.counting.specs.Counts.{count, Within}
+use Rattle.counting.specs.Lists.{mem, is_subset, rising_list, IsRisingIn}
+use Rattle.counting.specs.Sets.{Set, complement}
+use Rattle.graph_core.specs.Graph.{Graph, size, in_cut}
+use Rattle.graph_core.specs.Tight.{is_nontrivial, canonical_shore}
+use Rattle.tight_cuts.specs.Candidates.{Candidate, Origin, candidate, candidate_at, cuts, shores_of, with_list, with_shore}
+use Rattle.tight_cuts.specs.View.{candidate_of, origin_of}
+use Rattle.tight_cuts.specs.declared.candidate.Candidate.{Candidate as StoredCandidate}
+use Rattle.tight_cuts.specs.declared.candidate.Origin.{Origin as StoredOrigin}
+
+-- the shores of the code's candidates
+pub listed-items : (items : List StoredCandidate) (s : List ℕ) → is_listed (shores_of (map candidate_of items)) s ≡ list_any (λ (c : StoredCandidate). is_subset s c.shore && is_subset c.shore s) items
+listed-items [] s = refl
+listed-items (c ∷ items) s = ap (λ b. (is_subset s c.shore && is_subset c.shore s) || b) (listed-items items s)
+
+pub cuts-items : (g : Graph) (e : ℕ) (items : List StoredCandidate) → list_any (cuts g e) (map candidate_of items) ≡ list_any (λ (c : StoredCandidate). in_cut g (mem c.shore) e) items
+cuts-items g e [] = refl
+cuts-items g e (c ∷ items) = ap (λ b. in_cut g (mem c.shore) e || b) (cuts-items g e items)
+
+-- the candidate of a shore by its length
+pub candidate-length : (n k : ℕ) (o : Origin) (s : List ℕ) → IsRisingIn n s → k ≡ length s → record { shore = s; inside = k; outside = n - k; origin = o } ≡ candidate_at n o s
+candidate-length n k o s r e =
+    let c = count_mem_length n s r in
+    let d = count_complement n (mem s) in
+    let p : k ≡ count n (mem s) = omega arith in
+    let q : n - k ≡ count n (complement (mem s)) = omega arith in
+    ap₂ (λ i j. record { shore = s; inside = i; outside = j; origin = o }) p q
+
+-- the candidate of a set is that of its list
+pub candidate-list : (n : ℕ) (o : Origin) (x : Set) → candidate_at n o (rising_list n x) ≡ candidate n o x
+candidate-list n o x =
+    ap₂ (λ i j. record { shore = rising_list n x; inside = i; outside = j; origin = o })
+    (count_congr n (mem (rising_list n x)) x (λ v w. mem-rising_list n x v w))
+    (count_congr n (complement (mem (rising_list n x))) (complement x) (λ v w. ap not (mem-rising_list n x v w)))
+
+choose-true : (b : Bool) (x y : List Candidate) → b ≡ true → (if b then x else y) ≡ x
+choose-true true x y e = refl
+choose-true false x y e = absurd (true≢false (sym e))
+
+choose-false : (b : Bool) (x y : List Candidate) → b ≡ false → (if b then x else y) ≡ y
+choose-false true x y e = absurd (true≢false e)
+choose-false false x y e = refl
+
+module _ (n : ℕ) (o : Origin) (list : List Candidate) (s t : List ℕ) (is : t ≡ canonical_list n s) where
+  -- a nontrivial cut that is not in the list
+  pub shore-taken : (after : List Candidate) → is_nontrivial n (mem t) ≡ true → is_listed (shores_of list) t ≡ false → after ≡ list ++ candidate_at n o t ∷ [] → after ≡ with_list n o list s
+  shore-taken after w l q =
+      q ∙ ap (λ c. list ++ c ∷ []) (ap (candidate_at n o) is ∙ candidate-list n o (canonical_shore n (mem s)))
+      ∙ sym (choose-true (is_nontrivial n (canonical_shore n (mem s)) && not (is_listed (shores_of list) (canonical_list n s))) (list ++ candidate n o (canonical_shore n (mem s)) ∷ []) list
+      (both (is_nontrivial n (canonical_shore n (mem s))) (is_listed (shores_of list) (canonical_list n s)) (sym (canonical-nontrivial n s t is) ∙ w) (ap (is_listed (shores_of list)) (sym is) ∙ l)))
+    where
+      both : (a b : Bool) → a ≡ true → b ≡ false → (a && not b) ≡ true
+      both a b p q = grind arith
+
+  -- a trivial cut
+  pub shore-narrow : is_nontrivial n (mem t) ≡ false → list ≡ with_list n o list s
+  shore-narrow w = sym (choose-false (is_nontrivial n (canonical_shore n (mem s)) && not (is_listed (shores_of list) (canonical_list n s))) (list ++ candidate n o (canonical_shore n (mem s)) ∷ []) list
+      (none (is_nontrivial n (canonical_shore n (mem s))) (not (is_listed (shores_of list) (canonical_list n s))) (sym (canonical-nontrivial n s t is) ∙ w)))
+    where
+      none : (a b : Bool) → a ≡ false → (a && b) ≡ false
+      none a b p = grind arith
+
+  -- a cut that is in the list
+  pub shore-known : is_listed (shores_of list) t ≡ true → list ≡ with_list n o list s
+  shore-known l = sym (choose-false (is_nontrivial n (canonical_shore n (mem s)) && not (is_listed (shores_of list) (canonical_list n s))) (list ++ candidate n o (canonical_shore n (mem s)) ∷ []) list
+      (none (is_nontrivial n (canonical_shore n (mem s))) (is_listed (shores_of list) (canonical_list n s)) (ap (is_listed (shores_of list)) (sym is) ∙ l)))
+    where
+      none : (a b : Bool) → b ≡ true → (a && not b) ≡ false
+      none a b p = grind arith
+
+-- the shores of candidates of shores
+shores-of-map : (n : ℕ) (o : Origin) (xs : List (List ℕ)) → shores_of (map (candidate_at n o) xs) ≡ xs
+shores-of-map n o [] = refl
+shores-of-map n o (x ∷ xs) = ap (λ ys. x ∷ ys) (shores-of-map n o xs)
+
+map-push : (n : ℕ) (o : Origin) (xs : List (List ℕ)) (x : List ℕ) → map (candidate_at n o) (xs ++ x ∷ []) ≡ map (candidate_at n o) xs ++ candidate_at n o x ∷ []
+map-push n o [] x = refl
+map-push n o (y ∷ xs) x = ap (λ ys. candidate_at n o y ∷ ys) (map-push n o xs x)
+
+-- one cut more, and its candidate
+with-cut : (n : ℕ) (o : Origin) (xs : List (List ℕ)) (s : List ℕ) → with_list n o (map (candidate_at n o) xs) s ≡ map (candidate_at n o) (with_cut n xs s)
+with-cut n o xs s =
+    ap (λ ys. if is_nontrivial n (canonical_shore n (mem s)) && not (is_listed ys (canonical_list n s)) then map (candidate_at n o) xs ++ candidate n o (canonical_shore n (mem s)) ∷ [] else map (candidate_at n o) xs) (shores-of-map n o xs)
+    ∙ go (is_nontrivial n (canonical_shore n (mem s)) && not (is_listed xs (canonical_list n s)))
+  where
+    go : (b : Bool) → (if b then map (candidate_at n o) xs ++ candidate n o (canonical_shore n (mem s)) ∷ [] else map (candidate_at n o) xs) ≡ map (candidate_at n o) (if b then xs ++ canonical_list n s ∷ [] else xs)
+    go true = ap (λ c. map (candidate_at n o) xs ++ c ∷ []) (sym (candidate-list n o (canonical_shore n (mem s)))) ∙ sym (map-push n o xs (canonical_list n s))
+    go false = refl
+
+-- all cuts of a list of shores, and their candidates
+pub fold-cuts : (n : ℕ) (o : Origin) (shores xs : List (List ℕ)) → fold (with_list n o) (map (candidate_at n o) xs) shores ≡ map (candidate_at n o) (fold (with_cut n) xs shores)
+fold-cuts n o [] xs = refl
+fold-cuts n o (s ∷ shores) xs = ap (λ list. fold (with_list n o) list shores) (with-cut n o xs s) ∙ fold-cuts n o shores (with_cut n xs s)

@@ -1,0 +1,163 @@
+-- The search over pairs in lexicographic order finds the first pair that is parted.
+-- Idea: a pair of which a vertex does not lead its piece is parted only if the earlier pair of the leaders is.
+use Rattle.std.proofs.Common.{◌≡◌, ℕ, suc, zero, ◌+◌, ◌≤◌, ◌<◌, ◌≢◌, Bool, true, false, ◌==◌, refl, sym, ap, ap₂, ◌∙◌, arith, not, ◌&&◌, ◌||◌, inl, inr, ◌⊎◌, List, Option, Some, None, subst, eq-eqb, eqb-true}
+use Rattle.std.specs.Prelude.{find}
+use Rattle.std.proofs.lemmas.Bool.{cases_eq, cases_lt, cases_Bool, and_parts, or_cases, or_left, or_right, true≢false, both_ways, false_from_ne_true}
+use Rattle.counting.specs.Counts.{Within}
+use Rattle.counting.specs.Lists.{mem, ordered_pairs}
+use Rattle.counting.specs.Sets.{Set, pair_set}
+use Rattle.graph_core.proofs.Walks.{joined_self}
+use Rattle.graph_core.proofs.Components.{walk_joined}
+use Rattle.graph_core.specs.Components.{components, is_least}
+use Rattle.graph_core.specs.Covered.{IsCovered}
+use Rattle.graph_core.specs.Graph.{Graph, size}
+use Rattle.graph_core.specs.View.{IsWithinLimits}
+use Rattle.graph_core.specs.Walks.{joined}
+use Rattle.tight_cuts.proofs.EdgeLoop.{first_pair, no_pair, ends_between}
+use Rattle.tight_cuts.proofs.EdgeShores.{ends_apart, lesser_within, greater_within, least_leads, leads_least}
+use Rattle.tight_cuts.proofs.FirstPairs.{before_first, first_leads}
+use Rattle.tight_cuts.proofs.LeastShores.{parted_says}
+use Rattle.tight_cuts.specs.Candidates.{lesser_end, greater_end, is_parted, common_shore, first_parted}
+use Rattle.tight_cuts.specs.EdgeSearch.{AreLeaders, IsShoreOfEdge, IsShoreOfPair, Leads, NoneBefore, at_place}
+
+module _ (g : Graph) (lim : IsWithinLimits g) (cov : IsCovered g) (e : ℕ) (we : Within (size g) e) (leaders : List ℕ) (ld : AreLeaders g e leaders) where
+  abbrev parted : ℕ × ℕ → Bool
+  parted k = is_parted g (lesser_end g e) (greater_end g e) k
+
+  -- both vertices of the first pair lead their pieces
+  both_lead : (k : ℕ × ℕ) → first_parted g e ≡ Some k → (parted k ≡ true) × Leads g e leaders k.0 × Leads g e leaders k.1
+  both_lead k q =
+      let f = first_pair g.order (is_parted g (lesser_end g e) (greater_end g e)) k q in
+      let p = parted_says g (lesser_end g e) (greater_end g e) k f.0 in
+      let l = first_leads g ld.beside lim.multigraph.ends (lesser_end g e) (greater_end g e) e (lesser_within g lim cov e we) (greater_within g lim cov e we) we (ends_between g e) ld.is k q in
+      (f.0, least_leads g lim cov e we leaders ld k.0 f.1 p.0 l.0, least_leads g lim cov e we leaders ld k.1 f.2 p.1 l.1)
+
+  -- where no pair of different leaders is parted from a pair on, none is
+  abbrev pub LeadersBefore : ℕ → ℕ → Type 0
+  LeadersBefore x y = (c d : ℕ) → Leads g e leaders c → Leads g e leaders d → (c < x) ⊎ ((c ≡ x) × (d < y)) → parted (c, d) ≡ false
+
+  -- a pair is parted only between different vertices
+  unequal : (x : ℕ) → parted (x, x) ≡ false
+  unequal x = false_from_ne_true (parted (x, x)) (λ t. let p = parted_says g (lesser_end g e) (greater_end g e) (x, x) t in true≢false (sym p.2.1.has_x ∙ p.2.1.lacks_y))
+
+  -- no leaders' pair before (x, y) is parted: then no pair before it is
+  pub none_before : (x y : ℕ) → LeadersBefore x y → NoneBefore g e x y
+  none_before x y h c d wc wd b = go (first_parted g e) refl
+    where
+      go : (o : Option (ℕ × ℕ)) → first_parted g e ≡ o → parted (c, d) ≡ false
+      go None q = no_pair g.order (is_parted g (lesser_end g e) (greater_end g e)) q c d wc wd
+      go (Some k) q =
+          let l = both_lead k q in
+          elim (cases_lt c k.0) [
+            | inl s ↦ before_first g.order (is_parted g (lesser_end g e) (greater_end g e)) k q c d wc wd (inl s)
+            | inr s ↦ elim (cases_eq c k.0) [
+              | inl t ↦ elim (cases_lt d k.1) [
+                | inl u ↦ before_first g.order (is_parted g (lesser_end g e) (greater_end g e)) k q c d wc wd (inr (t, u))
+                | inr u ↦ absurd (both_ways (parted k) (h k.0 k.1 l.1 l.2 (elim b [ inl m ↦ inl (omega arith) | inr m ↦ let m0 = m.0 in let m1 = m.1 in inr (sym t ∙ m.0, omega arith) ])) l.0)
+              ]
+              | inr t ↦ absurd (both_ways (parted k) (h k.0 k.1 l.1 l.2 (inl (elim b [ inl m ↦ omega arith | inr m ↦ let m0 = m.0 in omega arith ]))) l.0)
+            ]
+          ]
+
+  -- the pair that is parted with none before it is the first
+  pub first_is : (x y : ℕ) → Within g.order x → Within g.order y → NoneBefore g e x y → parted (x, y) ≡ true → first_parted g e ≡ Some (x, y)
+  first_is x y wx wy h t = go (first_parted g e) refl
+    where
+      go : (o : Option (ℕ × ℕ)) → first_parted g e ≡ o → o ≡ Some (x, y)
+      go None q = absurd (both_ways (parted (x, y)) (no_pair g.order (is_parted g (lesser_end g e) (greater_end g e)) q x y wx wy) t)
+      go (Some k) q =
+          let f = first_pair g.order (is_parted g (lesser_end g e) (greater_end g e)) k q in
+          elim (cases_lt k.0 x) [
+            | inl s ↦ absurd (both_ways (parted k) (h k.0 k.1 f.1 f.2 (inl s)) f.0)
+            | inr s ↦ elim (cases_lt x k.0) [
+              | inl u ↦ absurd (both_ways (parted (x, y)) (before_first g.order (is_parted g (lesser_end g e) (greater_end g e)) k q x y wx wy (inl u)) t)
+              | inr u ↦
+                  let a : k.0 ≡ x = omega arith in
+                  elim (cases_lt k.1 y) [
+                    | inl v ↦ absurd (both_ways (parted k) (h k.0 k.1 f.1 f.2 (inr (a, v))) f.0)
+                    | inr v ↦ elim (cases_lt y k.1) [
+                      | inl w ↦ absurd (both_ways (parted (x, y)) (before_first g.order (is_parted g (lesser_end g e) (greater_end g e)) k q x y wx wy (inr (sym a, w))) t)
+                      | inr w ↦ let b : k.1 ≡ y = omega arith in ap₂ (λ i j. Some (i, j)) a b
+                    ]
+                  ]
+            ]
+          ]
+
+  -- none before the end: there is no pair
+  pub none_at_all : (x : ℕ) → g.order < x → NoneBefore g e x 1 → first_parted g e ≡ None
+  none_at_all x l h = go (first_parted g e) refl
+    where
+      go : (o : Option (ℕ × ℕ)) → first_parted g e ≡ o → o ≡ None
+      go None q = refl
+      go (Some k) q = let f = first_pair g.order (is_parted g (lesser_end g e) (greater_end g e)) k q in let w = f.1 in absurd (both_ways (parted k) (h k.0 k.1 f.1 f.2 (inl (omega arith))) f.0)
+
+  -- a pair that gives its shore with none before it: the edge gives that
+  pub found_shore : (x y : ℕ) → Within g.order x → Within g.order y → NoneBefore g e x y → (answer : Option (List ℕ)) → IsShoreOfPair g e (x, y) answer → (s : List ℕ) → answer ≡ Some s → IsShoreOfEdge g e (Some s)
+  found_shore x y wx wy h answer p s q =
+      let a = p.some s q in
+      record {
+        some = λ t r. let m : s ≡ t = cc in ((x, y), first_is x y wx wy h a.0, λ v w. ap (λ z. mem z v) (sym m) ∙ a.1 v w);
+        none = λ r. absurd cc;
+      }
+
+  -- one pair more
+  pub next_pair : (x y : ℕ) → NoneBefore g e x y → parted (x, y) ≡ false → NoneBefore g e x (y + 1)
+  next_pair x y h f c d wc wd b = elim b [
+    | inl l ↦ h c d wc wd (inl l)
+    | inr p ↦ let p1 = p.1 in elim (cases_lt d y) [
+      | inl l ↦ h c d wc wd (inr (p.0, l))
+      | inr l ↦ let q : d ≡ y = omega arith in ap (λ k. parted (k, d)) p.0 ∙ ap (λ k. parted (x, k)) q ∙ f
+    ]
+  ]
+
+  -- a vertex more as the second: it does not lead a piece, or is the first itself
+  pub skip_second : (x y : ℕ) → NoneBefore g e x y → (Leads g e leaders y → x ≡ y) → NoneBefore g e x (y + 1)
+  skip_second x y h n = none_before x (y + 1) (λ c d lc l b. elim b [
+    | inl s ↦ h c d lc.within l.within (inl s)
+    | inr s ↦ let s1 = s.1 in elim (cases_lt d y) [
+      | inl t ↦ h c d lc.within l.within (inr (s.0, t))
+      | inr t ↦ let q : d ≡ y = omega arith in
+          let xy = n (subst (Leads g e leaders) q l) in
+          ap (λ k. parted (k, d)) s.0 ∙ ap (λ k. parted (x, k)) (q ∙ sym xy) ∙ unequal x
+    ]
+  ])
+
+  -- all second vertices are done
+  pub next_first : (x y : ℕ) → g.order < y → NoneBefore g e x y → NoneBefore g e (x + 1) 1
+  next_first x y l h c d wc wd b = elim b [
+    | inl s ↦ elim (cases_lt c x) [
+      | inl t ↦ h c d wc wd (inl t)
+      | inr t ↦ h c d wc wd (inr (let q : c ≡ x = omega arith in q, omega arith))
+    ]
+    | inr s ↦ let s1 = s.1 in absurd (omega arith)
+  ]
+
+  -- a vertex more as the first that does not lead a piece
+  pub skip_first : (x : ℕ) → NoneBefore g e x 1 → (Leads g e leaders x → ⊥) → NoneBefore g e (x + 1) 1
+  skip_first x h n = none_before (x + 1) 1 (λ c d lc l b. elim b [
+    | inl s ↦ elim (cases_lt c x) [
+      | inl t ↦ h c d lc.within l.within (inl t)
+      | inr t ↦ let q : c ≡ x = omega arith in absurd (n (subst (Leads g e leaders) q lc))
+    ]
+    | inr s ↦ let s1 = s.1 in let w = l.within in absurd (omega arith)
+  ])
+
+  -- before the first pair there is none
+  pub none_first : NoneBefore g e 1 1
+  none_first c d wc wd b = elim b [ inl s ↦ absurd (omega arith) | inr s ↦ let s1 = s.1 in absurd (omega arith) ]
+
+  -- at one pair: what a pair of different leaders gives, or nothing
+  pub pair_not : (x y : ℕ) → NoneBefore g e x y → (answer : Option (List ℕ)) → IsShoreOfPair g e (x, y) answer → answer ≡ None → NoneBefore g e x (y + 1)
+  pair_not x y h answer p q = next_pair x y h (p.none q)
+
+-- what the test of a leader says
+pub leads-test : (g : Graph) (e : ℕ) (leaders : List ℕ) (a b x : ℕ) → a ≡ lesser_end g e → b ≡ greater_end g e → Leads g e leaders x → (not (pair_set a b x) && (at_place leaders x == x)) ≡ true
+leads-test g e leaders a b x qa qb l = ap (λ t. not t && (at_place leaders x == x)) (ap₂ (λ i j. pair_set i j x) qa qb ∙ l.outside) ∙ eq-eqb (at_place leaders x) x l.itself
+
+pub test-leads : (g : Graph) (e : ℕ) (leaders : List ℕ) (a b x : ℕ) → a ≡ lesser_end g e → b ≡ greater_end g e → Within g.order x → (not (pair_set a b x) && (at_place leaders x == x)) ≡ true → Leads g e leaders x
+test-leads g e leaders a b x qa qb w t =
+    let p = and_parts (not (pair_set a b x)) (at_place leaders x == x) t in
+    record { within = w; outside = sym (ap₂ (λ i j. pair_set i j x) qa qb) ∙ off (pair_set a b x) p.0; itself = eqb-true (at_place leaders x) x p.1 }
+  where
+    off : (s : Bool) → not s ≡ true → s ≡ false
+    off s q = grind arith

@@ -1,0 +1,180 @@
+-- What one pair gives, as the code finds it: a least cut of the network of groups within the length of the pair list.
+-- Idea: the network of the rows is the contracted network of the pair list, and the leaders give its groups.
+use Rattle.std.proofs.Common.{◌≡◌, ℕ, suc, zero, ◌+◌, ◌*◌, ◌≤◌, ◌<◌, ◌^◌, ◌≢◌, Bool, true, false, cond, ◌==◌, refl, sym, ap, ap₂, ◌∙◌, arith, inl, inr, ◌⊎◌, List, [], ◌∷◌, ◌++◌, length, subst, not, ◌&&◌, ◌||◌, Option, Some, None, min, max, ◌↔◌, sum_by}
+use Rattle.std.proofs.lemmas.Bool.{cases_lt, false_from_ne_true, true≢false, or_cases, both_ways}
+use Rattle.std.proofs.lemmas.List.Sums.{sum_by-cons}
+use Rattle.counting.specs.Counts.{bit, Within, total}
+use Rattle.counting.specs.Lists.{mem}
+use Rattle.counting.specs.Sets.{Set, pair_set}
+use Rattle.flow_core.specs.Cuts.{IfCut, IsCut}
+use Rattle.flow_core.specs.Nets.{Net, HasCutWithin, IsLeastCut}
+use Rattle.flow_core.specs.declared.cut.CutAnswer.{CutAnswer}
+use Rattle.flow_core.specs.declared.cut.CutAnswer.TheVariants.{Cut, Exceeds}
+use Rattle.flow_core.specs.declared.flow.Flow.{Flow}
+use Rattle.graph_core.specs.Components.{components, is_least}
+use Rattle.graph_core.specs.Covered.{IsCovered}
+use Rattle.graph_core.specs.Graph.{Graph, size, first_end, second_end, IsGraph}
+use Rattle.graph_core.specs.Matchings.{Allowed}
+use Rattle.graph_core.specs.View.{IsWithinLimits}
+use Rattle.tight_cuts.proofs.EdgeLoop.{ends_between}
+use Rattle.tight_cuts.proofs.LeanLists.{grown_length}
+use Rattle.tight_cuts.proofs.Leaders.{leaders_group, leader-least, leader-fixed}
+use Rattle.tight_cuts.proofs.LeastShores.{parted_says}
+use Rattle.tight_cuts.proofs.Networks.{least_common, least_parted, parts_nodes}
+use Rattle.tight_cuts.proofs.PiecesOfEdges.{beside_graph}
+use Rattle.tight_cuts.specs.Candidates.{lesser_end, greater_end, is_parted, common_shore}
+use Rattle.tight_cuts.specs.EdgeSearch.{AreLeaders, AreWeights, IsShoreOfPair, Leads, arc_between, arcs_by, at_place, group_net, row_group}
+use Rattle.tight_cuts.specs.PairSums.{weight}
+use Rattle.tight_cuts.specs.Pieces.{arcs_of, contracted_net, group_of, leader, IsBeside, IsGrouping}
+
+-- a total of numbers up to 2048
+pub total_small : (n : ℕ) (f : ℕ → ℕ) → ((v : ℕ) → Within n v → f v ≤ 2048) → total n f ≤ 2048 * n
+total_small zero f h = omega arith
+total_small (suc n) f h = let i = total_small n f (λ v w. h v (omega arith)) in let j = h (suc n) (omega arith) in omega arith
+
+-- a total of numbers up to 2^22
+total_large : (n : ℕ) (f : ℕ → ℕ) → ((v : ℕ) → Within n v → f v ≤ 4194304) → total n f ≤ 4194304 * n
+total_large zero f h = omega arith
+total_large (suc n) f h = let i = total_large n f (λ v w. h v (omega arith)) in let j = h (suc n) (omega arith) in omega arith
+
+-- no edge is in more matchings than there are
+weight_within : (ms : List (List ℕ)) (e : ℕ) → weight ms e ≤ length ms
+weight_within [] e = omega arith
+weight_within (m ∷ ms) e =
+    let s = sum_by-cons (λ m. bit (mem m e)) m ms in
+    let i = weight_within ms e in let b = at_most (mem m e) in omega arith
+  where
+    at_most : (b : Bool) → bit b ≤ 1
+    at_most true = omega arith
+    at_most false = omega arith
+
+-- the sum of all weights
+pub weights_small : (g : Graph) (weights : List ℕ) (bound : ℕ) → IsWithinLimits g → AreWeights g weights bound → total (size g) (at_place weights) < 2 ^ 63
+weights_small g weights bound lim w =
+    let m = lim.edges in
+    let l = grown_length w.list (size g) w.pairs.rising w.lean in
+    let s = total_small (size g) (λ f. f) (λ v wv. omega arith) in
+    let t = total_large (size g) (at_place weights) (λ v wv. let a = w.each v wv in let b = weight_within w.list v in omega arith) in omega arith
+
+module _ (g : Graph) (lim : IsWithinLimits g) (cov : IsCovered g) (e : ℕ) (we : Within (size g) e) where
+  is : IsGraph g
+  is = lim.multigraph.ends
+
+  pub ends_apart : lesser_end g e ≢ greater_end g e
+  ends_apart q = lim.multigraph.no_loop e we (let a : lesser_end g e ≡ greater_end g e = q in omega arith)
+
+  pub lesser_within : Within g.order (lesser_end g e)
+  lesser_within = let w = is e we in let a = w.0 in let b = w.1 in elim (cases_lt (first_end g e) (second_end g e)) [ inl l ↦ omega arith | inr l ↦ omega arith ]
+
+  pub greater_within : Within g.order (greater_end g e)
+  greater_within = let w = is e we in let a = w.0 in let b = w.1 in elim (cases_lt (first_end g e) (second_end g e)) [ inl l ↦ omega arith | inr l ↦ omega arith ]
+
+  allowed : Allowed g e
+  allowed = cov.allowed e we (lim.multigraph.no_loop e we)
+
+  module _ (leaders : List ℕ) (ld : AreLeaders g e leaders) where
+    beside_is : IsGraph ld.beside
+    beside_is = beside_graph g ld.beside is (lesser_end g e) (greater_end g e) e lesser_within greater_within we (ends_between g e) ld.is
+
+    inside : (v : ℕ) → Within g.order v → Within ld.beside.order v
+    inside v w = subst (λ n. Within n v) (sym ld.is.order) w
+
+    -- a vertex that leads a piece is its least vertex
+    pub leads_least : (x : ℕ) → Leads g e leaders x → is_least ld.beside (pair_set (lesser_end g e) (greater_end g e)) x ≡ true
+    leads_least x l =
+        let q : leader (components ld.beside (pair_set (lesser_end g e) (greater_end g e))) x ≡ x = sym (ld.each x l.within) ∙ l.itself in
+        ap (is_least ld.beside (pair_set (lesser_end g e) (greater_end g e))) (sym q) ∙ (leader-least ld.beside (pair_set (lesser_end g e) (greater_end g e)) beside_is x (inside x l.within) l.outside).1
+
+    -- and the least vertex of a piece leads it
+    pub least_leads : (x : ℕ) → Within g.order x → pair_set (lesser_end g e) (greater_end g e) x ≡ false → is_least ld.beside (pair_set (lesser_end g e) (greater_end g e)) x ≡ true → Leads g e leaders x
+    least_leads x wx o l = record {
+      within = wx;
+      outside = o;
+      itself = ld.each x wx ∙ leader-fixed ld.beside (pair_set (lesser_end g e) (greater_end g e)) beside_is x (inside x wx) l;
+    }
+
+    module _ (x y : ℕ) (lx : Leads g e leaders x) (ly : Leads g e leaders y) (xy : x ≢ y) where
+      abbrev pub groups : ℕ → ℕ
+      groups v = group_of (lesser_end g e) (greater_end g e) x y (leader (components ld.beside (pair_set (lesser_end g e) (greater_end g e))) v)
+
+      grouping : IsGrouping g ld.beside (lesser_end g e) (greater_end g e) (x, y) g.order groups
+      grouping = leaders_group g ld.beside beside_is ld.is.order (lesser_end g e) (greater_end g e) lesser_within greater_within ends_apart x y lx.within ly.within (leads_least x lx) (leads_least y ly) xy
+
+      row_same : (v : ℕ) → Within g.order v → row_group (lesser_end g e) (greater_end g e) x y leaders v ≡ groups v
+      row_same v w = ap (group_of (lesser_end g e) (greater_end g e) x y) (ld.each v w)
+
+      -- each group is a node
+      pub groups_within : (v : ℕ) → Within g.order v → Within g.order (row_group (lesser_end g e) (greater_end g e) x y leaders v)
+      groups_within v w = subst (Within g.order) (sym (row_same v w)) (grouping.nodes v w)
+
+      module _ (weights : List ℕ) (bound : ℕ) (wt : AreWeights g weights bound) where
+        same_arcs : (k : ℕ) → k ≤ size g → arcs_by g weights (row_group (lesser_end g e) (greater_end g e) x y leaders) k ≡ arcs_of g wt.list groups k
+        same_arcs zero l = refl
+        same_arcs (suc k) l =
+            let w : Within (size g) (suc k) = omega arith in
+            ap₂ ◌++◌ (same_arcs k (omega arith))
+            (ap₂ (λ i j. arc_between i j (at_place weights (suc k))) (row_same (first_end g (suc k)) (is (suc k) w).0) (row_same (second_end g (suc k)) (is (suc k) w).1)
+            ∙ ap (arc_between (groups (first_end g (suc k))) (groups (second_end g (suc k)))) (wt.each (suc k) w))
+
+        same_net : group_net g weights leaders (lesser_end g e) (greater_end g e) x y ≡ contracted_net g wt.list groups g.order
+        same_net = ap (λ arcs. record { nodes = g.order; arcs = arcs }) (same_arcs (size g) (omega arith))
+
+        -- a least cut within the bound gives the common shore
+        pub cut_parts : (set : List ℕ) (value : ℕ) → IsLeastCut (group_net g weights leaders (lesser_end g e) (greater_end g e) x y) (lesser_end g e) (greater_end g e) set value → value ≤ bound →
+            (is_parted g (lesser_end g e) (greater_end g e) (x, y) ≡ true) × ((v : ℕ) → Within g.order v → mem set (row_group (lesser_end g e) (greater_end g e) x y leaders v) ≡ common_shore g (lesser_end g e) (greater_end g e) (x, y) v)
+        cut_parts set value c l =
+            let cut = subst (λ net. IsLeastCut net (lesser_end g e) (greater_end g e) set value) same_net c in
+            let m : value ≤ length wt.list = let b = wt.is in omega arith in (
+              (least_parted g ld.beside is (lesser_end g e) (greater_end g e) e lesser_within greater_within we (ends_between g e) ld.is allowed wt.list wt.pairs (x, y) lx.within ly.within g.order groups grouping set value cut lx.outside ly.outside).0 m,
+              λ v w. ap (mem set) (row_same v w) ∙ least_common g ld.beside is (lesser_end g e) (greater_end g e) e lesser_within greater_within we (ends_between g e) ld.is allowed wt.list wt.pairs (x, y) lx.within ly.within g.order groups grouping set value cut m v w,
+            )
+
+        -- where no cut is within the bound the pair is not parted
+        pub no_cut_parts : (HasCutWithin (group_net g weights leaders (lesser_end g e) (greater_end g e) x y) (lesser_end g e) (greater_end g e) bound → ⊥) → is_parted g (lesser_end g e) (greater_end g e) (x, y) ≡ false
+        no_cut_parts h = false_from_ne_true (is_parted g (lesser_end g e) (greater_end g e) (x, y)) (λ t.
+            let q = parted_says g (lesser_end g e) (greater_end g e) (x, y) t in
+            let n = parts_nodes g ld.beside is (lesser_end g e) (greater_end g e) e lesser_within greater_within we (ends_between g e) ld.is allowed wt.list wt.pairs (x, y) lx.within ly.within g.order groups grouping q.2.0 q.2.1 in
+            h (subst (λ net. HasCutWithin net (lesser_end g e) (greater_end g e) bound) (sym same_net) (record { set = n.0; separates = n.1; within = let b = wt.is in let v = n.3 in omega arith })))
+
+-- all that the code asks at one pair, for the two ends of the edge under any names
+pub record PairFacts (g : Graph) (e : ℕ) (leaders weights : List ℕ) (bound x y a b : ℕ) : Type 0 where
+  pub small : total (size g) (at_place weights) < 2 ^ 63
+  pub nodes : (v : ℕ) → Within g.order v → Within g.order (row_group a b x y leaders v)
+  pub source : Within g.order a
+  pub sink : Within g.order b
+  pub differ : a ≢ b
+  pub cut : (set : List ℕ) (value : ℕ) → IsLeastCut (group_net g weights leaders a b x y) a b set value → value ≤ bound →
+      (is_parted g (lesser_end g e) (greater_end g e) (x, y) ≡ true) × ((v : ℕ) → Within g.order v → mem set (row_group a b x y leaders v) ≡ common_shore g (lesser_end g e) (greater_end g e) (x, y) v)
+  pub none : (HasCutWithin (group_net g weights leaders a b x y) a b bound → ⊥) → is_parted g (lesser_end g e) (greater_end g e) (x, y) ≡ false
+
+pub pair_facts : (g : Graph) (e : ℕ) (leaders weights : List ℕ) (bound x y a b : ℕ) → IsWithinLimits g → IsCovered g → Within (size g) e → AreLeaders g e leaders → AreWeights g weights bound → Leads g e leaders x → Leads g e leaders y → x ≢ y → a ≡ lesser_end g e → b ≡ greater_end g e →
+    PairFacts g e leaders weights bound x y a b
+pair_facts g e leaders weights bound x y a b lim cov we ld wt lx ly xy qa qb =
+    subst (λ b. PairFacts g e leaders weights bound x y a b) (sym qb) (subst (λ a. PairFacts g e leaders weights bound x y a (greater_end g e)) (sym qa) (record {
+      small = weights_small g weights bound lim wt;
+      nodes = groups_within g lim cov e we leaders ld x y lx ly xy;
+      source = lesser_within g lim cov e we;
+      sink = greater_within g lim cov e we;
+      differ = ends_apart g lim cov e we;
+      cut = cut_parts g lim cov e we leaders ld x y lx ly xy weights bound wt;
+      none = no_cut_parts g lim cov e we leaders ld x y lx ly xy weights bound wt;
+    }))
+
+module _ (g : Graph) (e : ℕ) (leaders weights : List ℕ) (bound x y a b : ℕ) (facts : PairFacts g e leaders weights bound x y a b) (net : Net) (is_net : net ≡ group_net g weights leaders a b x y) where
+  -- a cut within the bound is what the pair gives
+  pub cut_answer : (answer : CutAnswer) → IfCut answer (λ set value. IsLeastCut net a b set value × (value ≤ bound)) → (set : List ℕ) (value : ℕ) → answer ≡ Cut set value →
+      (shore : List ℕ) → ((v : ℕ) → Within g.order v → mem shore v ≡ mem set (row_group a b x y leaders v)) → IsShoreOfPair g e (x, y) (Some shore)
+  cut_answer answer h set value q shore same =
+      let c = subst (λ o. IfCut o (λ set value. IsLeastCut net a b set value × (value ≤ bound))) q h in
+      let p = facts.cut set value (subst (λ n. IsLeastCut n a b set value) is_net c.0) c.1 in
+      record {
+        some = λ s r. let t : shore ≡ s = cc in (p.0, λ v w. ap (λ z. mem z v) (sym t) ∙ same v w ∙ p.1 v w);
+        none = λ r. absurd cc;
+      }
+
+  -- a flow above it shows that the pair gives nothing
+  pub flow_answer : (answer : CutAnswer) → IsCut answer ↔ HasCutWithin net a b bound → (flow : Flow) → answer ≡ Exceeds flow → IsShoreOfPair g e (x, y) None
+  flow_answer answer h flow q = record {
+    some = λ s r. absurd cc;
+    none = λ r. facts.none (λ t. subst IsCut q (h.1 (subst (λ n. HasCutWithin n a b bound) (sym is_net) t)));
+  }

@@ -1,0 +1,124 @@
+-- The candidates of the first two parts, as the code makes them, and the steps of the loop over the edges.
+-- Idea: a bicritical graph has no barrier cut, and one that is not has no separation shore.
+use Rattle.std.proofs.Common.{◌≡◌, ℕ, suc, zero, ◌+◌, ◌≤◌, ◌<◌, ◌≢◌, Bool, true, false, refl, sym, ap, ◌∙◌, arith, ◌&&◌, not, inl, inr, ◌⊎◌, List, [], ◌∷◌, ◌++◌, map, length, subst, nat_le, Option, Some, None}
+use Rattle.std.specs.Prelude.{All, fold, if◌then◌else◌, is_none}
+use Rattle.std.specs.List.{AllPairs, list_any}
+use Rattle.std.proofs.lemmas.Bool.{cases_Bool, true≢false, lt-leb, le-leb}
+use Rattle.barrier_kit.proofs.ShoreFacts.{barrier_cuts-canonical, barrier_shores-tight}
+use Rattle.barrier_kit.specs.BarrierShores.{barrier_cuts, barrier_shores}
+use Rattle.barrier_kit.specs.CanonicalCuts.{IsCanonicalCut, is_listed, with_cut}
+use Rattle.counting.proofs.Counts.{count_congr}
+use Rattle.counting.proofs.RisingLists.{rising_list-congr}
+use Rattle.counting.specs.Counts.{count, Within}
+use Rattle.counting.specs.Lists.{mem, rising_list, IsRisingIn}
+use Rattle.counting.specs.Sets.{Set, complement}
+use Rattle.graph_core.specs.Covered.{IsCovered}
+use Rattle.graph_core.specs.Graph.{Graph, IsGraph, size}
+use Rattle.graph_core.specs.Structure.{IsBicritical, is_bicritical, unlike_pair}
+use Rattle.graph_core.specs.Tight.{IsTight, IsNontrivial, canonical_shore, is_nontrivial}
+use Rattle.separation_kit.proofs.PairShores.{bicritical-true}
+use Rattle.separation_kit.proofs.SeparationFacts.{unlike-none}
+use Rattle.separation_kit.specs.SeparationShores.{separation_cuts, separation_shores}
+use Rattle.tight_cuts.proofs.CandidateLists.{fold-cuts}
+use Rattle.tight_cuts.proofs.Completeness.{candidates_apart, candidates_found, candidates_none, candidates_cover}
+use Rattle.tight_cuts.proofs.EdgeLoop.{after_edges, after_suc}
+use Rattle.tight_cuts.specs.Candidates.{Barrier, Candidate, Flow, Origin, Separation, candidate, candidate_at, candidates, common_shore, cuts, first_parted, front_candidates, greater_end, lesser_end, shores_of, with_edge_cut, with_list, with_pair, with_shore}
+use Rattle.tight_cuts.specs.EdgeSearch.{IsShoreOfEdge}
+
+-- the cuts of shores, as candidates
+cuts-candidates : (n : ℕ) (o : Origin) (shores : List (List ℕ)) → fold (with_list n o) [] shores ≡ map (candidate_at n o) (fold (with_cut n) [] shores)
+cuts-candidates n o shores = fold-cuts n o shores []
+
+-- a graph that is not bicritical, or has fewer than four vertices, has no separation shore
+no-separations : (g : Graph) → (is_bicritical g && nat_le 4 g.order) ≡ false → separation_shores g ≡ []
+unfolding separation_shores
+no-separations g h = choose (is_bicritical g && nat_le 4 g.order) _ h
+  where
+    choose : (b : Bool) (xs : List (List ℕ)) → b ≡ false → (if b then xs else []) ≡ []
+    choose true xs e = absurd (true≢false e)
+    choose false xs e = refl
+
+-- where no separation shore is there, the first candidates are the barrier cuts
+pub front-barriers : (g : Graph) → (is_bicritical g && nat_le 4 g.order) ≡ false → map (candidate_at g.order Barrier) (barrier_cuts g) ≡ front_candidates g
+unfolding front_candidates barrier_cuts
+front-barriers g h =
+    sym (cuts-candidates g.order Barrier (barrier_shores g))
+    ∙ ap (λ shores. fold (with_list g.order Separation) (fold (with_list g.order Barrier) [] (barrier_shores g)) shores) (sym (no-separations g h))
+
+-- in a bicritical graph they are the separation cuts
+pub front-separations : (g : Graph) → barrier_cuts g ≡ [] → map (candidate_at g.order Separation) (separation_cuts g) ≡ front_candidates g
+unfolding front_candidates barrier_cuts separation_cuts
+front-separations g h =
+    let none : fold (with_list g.order Barrier) [] (barrier_shores g) ≡ [] = cuts-candidates g.order Barrier (barrier_shores g) ∙ ap (map (candidate_at g.order Barrier)) h in
+    sym (cuts-candidates g.order Separation (separation_shores g))
+    ∙ ap (λ list. fold (with_list g.order Separation) list (separation_shores g)) (sym none)
+
+-- a list of canonical cuts rises
+pub canonical-rising : (g : Graph) (cuts : List (List ℕ)) → All (IsCanonicalCut g) cuts → All (IsRisingIn g.order) cuts
+canonical-rising g cuts a k d l = (a k d l).rising
+
+-- what the first pair says
+pub unlike-some : (g : Graph) (k : ℕ × ℕ) → Some k ≡ unlike_pair g → (is_bicritical g && nat_le 4 g.order) ≡ false
+unlike-some g k q = ap (λ o. is_none o && nat_le 4 g.order) (sym q)
+
+pub order-small : (g : Graph) → g.order < 4 → (is_bicritical g && nat_le 4 g.order) ≡ false
+order-small g l = none (is_bicritical g) (nat_le 4 g.order) (lt-leb 4 g.order l)
+  where
+    none : (a b : Bool) → b ≡ false → (a && b) ≡ false
+    none a b p = grind arith
+
+-- sets that agree on 1 to n add the same candidate
+pub shore-congr : (n : ℕ) (o : Origin) (list : List Candidate) (x y : Set) → Within n n → ((v : ℕ) → Within n v → x v ≡ y v) → with_shore n o list x ≡ with_shore n o list y
+shore-congr n o list x y w h =
+    let last = h n w in
+    let same : (v : ℕ) → Within n v → canonical_shore n x v ≡ canonical_shore n y v = λ v wv. choose (x n) (y n) (x v) (y v) last (h v wv) in
+    let inside = count_congr n (canonical_shore n x) (canonical_shore n y) same in
+    let outside = count_congr n (complement (canonical_shore n x)) (complement (canonical_shore n y)) (λ v wv. ap not (same v wv)) in
+    let shore = rising_list-congr n (canonical_shore n x) (canonical_shore n y) same in
+    go (rising_list n (canonical_shore n x)) (rising_list n (canonical_shore n y)) (count n (canonical_shore n x)) (count n (canonical_shore n y)) (count n (complement (canonical_shore n x))) (count n (complement (canonical_shore n y))) shore inside outside
+  where
+    choose : (a b c d : Bool) → a ≡ b → c ≡ d → (if a then not c else c) ≡ (if b then not d else d)
+    choose a b c d p q = ap (λ s. if s then not c else c) p ∙ ap (λ s. if b then not s else s) q
+
+    go : (s t : List ℕ) (i j k l : ℕ) → s ≡ t → i ≡ j → k ≡ l →
+        (if (nat_le 3 i && nat_le 3 k) && not (is_listed (shores_of list) s) then list ++ record { shore = s; inside = i; outside = k; origin = o } ∷ [] else list)
+        ≡ (if (nat_le 3 j && nat_le 3 l) && not (is_listed (shores_of list) t) then list ++ record { shore = t; inside = j; outside = l; origin = o } ∷ [] else list)
+    go s t i j k l p q r =
+        ap (λ s. if (nat_le 3 i && nat_le 3 k) && not (is_listed (shores_of list) s) then list ++ record { shore = s; inside = i; outside = k; origin = o } ∷ [] else list) p
+        ∙ ap (λ i. if (nat_le 3 i && nat_le 3 k) && not (is_listed (shores_of list) t) then list ++ record { shore = t; inside = i; outside = k; origin = o } ∷ [] else list) q
+        ∙ ap (λ k. if (nat_le 3 j && nat_le 3 k) && not (is_listed (shores_of list) t) then list ++ record { shore = t; inside = j; outside = k; origin = o } ∷ [] else list) r
+
+choose-true : (b : Bool) (x y : List Candidate) → b ≡ true → (if b then x else y) ≡ x
+choose-true true x y e = refl
+choose-true false x y e = absurd (true≢false (sym e))
+
+choose-false : (b : Bool) (x y : List Candidate) → b ≡ false → (if b then x else y) ≡ y
+choose-false true x y e = absurd (true≢false e)
+choose-false false x y e = refl
+
+module _ (g : Graph) (list : List Candidate) (e : ℕ) where
+  -- an edge in the cut of a candidate adds nothing
+  pub edge-known : list_any (cuts g e) list ≡ true → list ≡ with_edge_cut g list e
+  edge-known h = sym (choose-true (list_any (cuts g e) list) list (with_pair g (lesser_end g e) (greater_end g e) list (first_parted g e)) h)
+
+  -- an edge that gives nothing
+  pub edge-nothing : list_any (cuts g e) list ≡ false → first_parted g e ≡ None → list ≡ with_edge_cut g list e
+  edge-nothing h q = sym (choose-false (list_any (cuts g e) list) list (with_pair g (lesser_end g e) (greater_end g e) list (first_parted g e)) h ∙ ap (with_pair g (lesser_end g e) (greater_end g e) list) q)
+
+  -- an edge that gives a shore
+  pub edge-shore : (after : List Candidate) (s : List ℕ) → Within g.order g.order → list_any (cuts g e) list ≡ false → IsShoreOfEdge g e (Some s) → after ≡ with_list g.order Flow list s → after ≡ with_edge_cut g list e
+  edge-shore after s w h p q =
+      let k = p.some s refl in
+      q ∙ shore-congr g.order Flow list (mem s) (common_shore g (lesser_end g e) (greater_end g e) k.0) w k.2
+      ∙ sym (choose-false (list_any (cuts g e) list) list (with_pair g (lesser_end g e) (greater_end g e) list (first_parted g e)) h ∙ ap (with_pair g (lesser_end g e) (greater_end g e) list) k.1)
+
+-- one edge more
+pub edges-more : (g : Graph) (list after : List Candidate) (k : ℕ) → list ≡ after_edges g (front_candidates g) k → after ≡ with_edge_cut g list (k + 1) → after ≡ after_edges g (front_candidates g) (k + 1)
+edges-more g list after k h q =
+    let next : suc k ≡ k + 1 = omega arith in
+    q ∙ ap (λ l. with_edge_cut g l (k + 1)) h ∙ ap (with_edge_cut g (after_edges g (front_candidates g) k)) (sym next) ∙ sym (after_suc g (front_candidates g) k) ∙ ap (after_edges g (front_candidates g)) next
+
+-- after all edges
+pub edges-all : (g : Graph) (list : List Candidate) (k : ℕ) → k ≡ size g → list ≡ after_edges g (front_candidates g) k → list ≡ candidates g
+unfolding candidates
+edges-all g list k q h = h ∙ ap (after_edges g (front_candidates g)) q

@@ -1,0 +1,123 @@
+-- Counting how often the matchings of a list hold each edge, row by row.
+-- Idea: the edges of a matching rise, so the edge of a row is in no earlier row.
+use Rattle.std.proofs.Common.{◌≡◌, ℕ, suc, zero, ◌+◌, ◌≤◌, ◌<◌, Bool, true, false, ◌||◌, ◌==◌, List, [], ◌∷◌, length, map, take, refl, sym, ap, ◌∙◌, arith, inl, inr, eq-eqb, ne_eqb, eqb-true, get_or-set_same, get_or-set_other, subst, sum_by, rules}
+use Rattle.std.specs.Prelude.{All, Some, slice_get, slice_set}
+use Rattle.std.proofs.lemmas.Bool.{cases_eq, cases_lt, or_left, or_right, or_from, both_ways, true≢false}
+use Rattle.std.proofs.lemmas.List.Sums.{sum_by-cons}
+use Rattle.std.proofs.lemmas.List.Elements.{All-get_or}
+use Rattle.std.proofs.lemmas.Option.{get_or_from_slice_get, slice_get_within}
+use Rattle.allowed_edges.proofs.Marking.{edge-below, edges-more}
+use Rattle.allowed_edges.specs.PairTables.{PairsValue, edge_lists}
+use Rattle.counting.proofs.Lists.{Rises, mem_low, rises-from_set}
+use Rattle.counting.specs.Counts.{bit, Within}
+use Rattle.counting.specs.Lists.{mem, IsRisingIn}
+use Rattle.graph_core.specs.Graph.{Graph, size}
+use Rattle.graph_core.specs.PairLists.{IsPairList, IsLean}
+use Rattle.graph_core.specs.View.{IsWithinLimits}
+use Rattle.tight_cuts.proofs.EdgeShores.{total_small}
+use Rattle.tight_cuts.proofs.LeanLists.{grown_length}
+use Rattle.match_core.proofs.MatchingEdges.{edge_of}
+use Rattle.match_core.specs.MatchingRows.{IsOf, IsRowOf, KeepsMatching, MatchingValue, edges_of}
+use Rattle.match_core.specs.declared.matching.MatchRow.{MatchRow}
+use Rattle.tight_cuts.specs.EdgeSearch.{AreWeights, at_place}
+use Rattle.tight_cuts.specs.PairSums.{weight}
+
+-- the edge of a row is one of the edges
+row-held : (rows : List MatchRow) (i : ℕ) (row : MatchRow) → slice_get rows i ≡ Some row → mem (map edge_of rows) row.edge ≡ true
+row-held [] i row q = absurd cc
+row-held (r ∷ rows) zero row q = let e : r ≡ row = cc in or_left (r.edge == row.edge) (mem (map edge_of rows) row.edge) (eq-eqb r.edge row.edge (ap edge_of e))
+row-held (r ∷ rows) (suc i) row q = or_right (r.edge == row.edge) (mem (map edge_of rows) row.edge) (row-held rows i row q)
+
+-- and of none before it
+row-fresh : (low n : ℕ) (rows : List MatchRow) (i : ℕ) (row : MatchRow) → Rises low n (map edge_of rows) → slice_get rows i ≡ Some row → mem (map edge_of (take i rows)) row.edge ≡ false
+row-fresh low n [] i row r q = absurd cc
+row-fresh low n (s ∷ rows) zero row r q = refl
+row-fresh low n (s ∷ rows) (suc i) row r q =
+    or_from (s.edge == row.edge) (mem (map edge_of (take i rows)) row.edge)
+    (ne_eqb s.edge row.edge (λ e. both_ways (mem (map edge_of rows) row.edge) (mem_low (s.edge + 1) n (map edge_of rows) r.2 row.edge (omega arith)) (row-held rows i row q)))
+    (row-fresh (s.edge + 1) n rows i row r.2 q)
+
+module _ (old now : List ℕ) (m : MatchingValue) (keeps : KeepsMatching m) (i : ℕ) (row : MatchRow) (q : slice_get m.rows i ≡ Some row)
+    (h : (e : ℕ) → at_place now e ≡ at_place old e + bit (mem (map edge_of (take i m.rows)) e)) where
+  -- what the row's edge had before
+  pub edge-before : at_place now row.edge ≡ at_place old row.edge
+  edge-before = let f = ap bit (row-fresh 1 2048 m.rows i row (rises-from_set 2048 (edges_of m) keeps.edges) q) in let e = h row.edge in omega arith
+
+  -- one row more is counted
+  pub counts-more : row.edge < length now → (e : ℕ) → at_place (slice_set now row.edge (at_place now row.edge + 1)) e ≡ at_place old e + bit (mem (map edge_of (take (i + 1) m.rows)) e)
+  counts-more l e =
+      let next : suc i ≡ i + 1 = omega arith in
+      let more : mem (map edge_of (take (i + 1) m.rows)) e ≡ (mem (map edge_of (take i m.rows)) e || (row.edge == e)) = ap (λ k. mem (map edge_of (take k m.rows)) e) (sym next) ∙ edges-more m.rows i row e q in
+      elim (cases_eq row.edge e) [
+        | inl d ↦
+            let a : at_place (slice_set now row.edge (at_place now row.edge + 1)) e ≡ at_place now row.edge + 1 = ap (at_place (slice_set now row.edge (at_place now row.edge + 1))) (sym d) ∙ get_or-set_same now row.edge (at_place now row.edge + 1) 0 l in
+            let b = edge-before in
+            let c = ap bit (more ∙ or_right (mem (map edge_of (take i m.rows)) e) (row.edge == e) (eq-eqb row.edge e d)) in
+            let o = ap (at_place old) d in omega arith
+        | inr d ↦
+            let a = get_or-set_other now row.edge e (at_place now row.edge + 1) 0 (λ s. d (sym s)) in
+            let b = h e in
+            let c = ap bit (more ∙ ap (λ t. mem (map edge_of (take i m.rows)) e || t) (ne_eqb row.edge e d) ∙ or_no (mem (map edge_of (take i m.rows)) e)) in omega arith
+      ]
+    where
+      or_no : (b : Bool) → (b || false) ≡ b
+      or_no true = refl
+      or_no false = refl
+
+-- one matching more
+pub weight-more : (list : List MatchingValue) (i : ℕ) (m : MatchingValue) (e : ℕ) → slice_get list i ≡ Some m → weight (map edges_of (take (suc i) list)) e ≡ weight (map edges_of (take i list)) e + bit (mem (edges_of m) e)
+weight-more [] i m e q = absurd cc
+weight-more (k ∷ list) zero m e q = let d : k ≡ m = cc in let s = sum_by-cons (λ es. bit (mem es e)) (edges_of k) [] in let t = ap (λ (k : MatchingValue). bit (mem (edges_of k) e)) d in omega arith
+weight-more (k ∷ list) (suc i) m e q =
+    let s = sum_by-cons (λ es. bit (mem es e)) (edges_of k) (map edges_of (take (suc i) list)) in
+    let t = sum_by-cons (λ es. bit (mem es e)) (edges_of k) (map edges_of (take i list)) in
+    let r = weight-more list i m e q in omega arith
+
+-- at most one a matching
+pub weight-taken : (list : List MatchingValue) (i e : ℕ) → weight (map edges_of (take i list)) e ≤ i
+weight-taken list zero e = omega arith
+weight-taken [] (suc i) e = omega arith
+weight-taken (k ∷ list) (suc i) e =
+    let t = sum_by-cons (λ es. bit (mem es e)) (edges_of k) (map edges_of (take i list)) in
+    let r = weight-taken list i e in let b = at_most (mem (edges_of k) e) in omega arith
+  where
+    at_most : (b : Bool) → bit b ≤ 1
+    at_most true = omega arith
+    at_most false = omega arith
+
+pub take-whole : (list : List MatchingValue) (i : ℕ) → length list ≤ i → take i list ≡ list
+take-whole [] zero l = refl
+take-whole [] (suc i) l = refl
+take-whole (k ∷ list) zero l = absurd (omega arith)
+take-whole (k ∷ list) (suc i) l = ap (λ ys. k ∷ ys) (take-whole list i (omega arith))
+
+map-length : (list : List MatchingValue) → length (map edges_of list) ≡ length list
+map-length [] = refl
+map-length (k ∷ list) = let i = map-length list in omega arith
+
+-- edges of matchings of g are places of the row
+pub rows-below : (g : Graph) (n : ℕ) (m : MatchingValue) → IsOf g m → n ≡ size g + 1 → All (λ (r : MatchRow). r.edge < n) m.rows
+rows-below g n m o q k d l = let w = (o.rows k d l).edge in omega arith
+
+pub weights-are : (g : Graph) (pairs : PairsValue) (row : List ℕ) (i bound : ℕ) → IsPairList g (edge_lists pairs) → IsLean (edge_lists pairs) → length row ≡ size g + 1 → length pairs.list ≤ i → bound ≡ length pairs.list →
+    ((e : ℕ) → at_place row e ≡ weight (map edges_of (take i pairs.list)) e) → AreWeights g row bound
+weights-are g pairs row i bound pl lean long l b h = record {
+  list = edge_lists pairs;
+  pairs = pl;
+  lean = lean;
+  long = long;
+  each = λ e w. h e ∙ ap (λ list. weight (map edges_of list) e) (take-whole pairs.list i l);
+  is = b ∙ sym (map-length pairs.list);
+}
+
+-- as many places as before
+pub length-counted : (xs : List ℕ) (e v : ℕ) → length (slice_set xs e v) ≡ length xs
+length-counted xs e v = search rules
+
+-- a lean pair list of a graph within the limits has at most 2^22 matchings
+pub list-small : (g : Graph) (pairs : PairsValue) → IsWithinLimits g → IsPairList g (edge_lists pairs) → IsLean (edge_lists pairs) → length pairs.list ≤ 4194304
+list-small g pairs lim pl lean =
+    let m = lim.edges in
+    let l = grown_length (edge_lists pairs) (size g) pl.rising lean in
+    let s = total_small (size g) (λ f. f) (λ v wv. omega arith) in
+    let n = map-length pairs.list in omega arith

@@ -1,0 +1,10 @@
+use Rattle.std.proofs.Common.{sym, subst}
+use Rattle.std.specs.Prelude.{All}
+use Rattle.std.proofs.lemmas.List.Elements.{All-get_or}
+use Rattle.counting.specs.Lists.{IsRisingIn}
+use Rattle.tight_cuts.proofs.candidate.candidates_of.Goals as goal
+
+pub new-requires-clause-shore : goal.new-requires-clause-shore
+new-requires-clause-shore c =
+    subst (IsRisingIn c.args.n) (sym c.shore-item.is)
+    (All-get_or (IsRisingIn c.args.n) c.as_slice-shore-items.result.now c.loop-shore.shore-index c.shore-item.result c.loop-shore-test.true (subst (All (IsRisingIn c.args.n)) (sym c.as_slice-shore-items.ensures) c.requires.shores))

@@ -1,0 +1,9 @@
+use Rattle.std.proofs.Common.{◌≡◌, length}
+use Rattle.tight_cuts.specs.Pieces.{leader}
+use Rattle.tight_cuts.proofs.edge_search.leader_in.Given as goal
+
+abbrev pub invariant-loop-piece : goal.invariant-loop-piece
+invariant-loop-piece l = leader l.fn.pieces l.v ≡ leader l.rest l.v
+
+abbrev pub decreases-loop-piece : goal.decreases-loop-piece
+decreases-loop-piece l = length l.rest

@@ -1,0 +1,12 @@
+use Rattle.std.proofs.Common.{◌≡◌, ℕ, ◌+◌, length, take, map}
+use Rattle.counting.specs.Counts.{bit}
+use Rattle.counting.specs.Lists.{mem}
+use Rattle.match_core.proofs.MatchingEdges.{edge_of}
+use Rattle.tight_cuts.specs.EdgeSearch.{at_place}
+use Rattle.tight_cuts.proofs.pieces.count_edges.Given as goal
+
+abbrev pub invariant-loop-i : goal.invariant-loop-i
+invariant-loop-i l = record {
+  long : length l.row.items ≡ length l.initial.row.items;
+  each : (e : ℕ) → at_place l.row.items e ≡ at_place l.initial.row.items e + bit (mem (map edge_of (take l.i l.m.rows)) e);
+}

@@ -1,0 +1,12 @@
+use Rattle.std.proofs.Common.{◌≡◌, ℕ, ◌+◌, length, take, map}
+use Rattle.graph_core.specs.Graph.{size}
+use Rattle.match_core.specs.MatchingRows.{edges_of}
+use Rattle.tight_cuts.specs.EdgeSearch.{at_place}
+use Rattle.tight_cuts.specs.PairSums.{weight}
+use Rattle.tight_cuts.proofs.pieces.weights_of.Given as goal
+
+abbrev pub invariant-loop-i : goal.invariant-loop-i
+invariant-loop-i l = record {
+  long : length l.row.items ≡ size l.g + 1;
+  each : (e : ℕ) → at_place l.row.items e ≡ weight (map edges_of (take l.i l.list)) e;
+}

@@ -1,0 +1,70 @@
+-- What the search at one edge keeps in rows, and what it answers.
+use Rattle.std.specs.Prelude.{◌≡◌, ℕ, zero, suc, ◌+◌, ◌<◌, ◌^◌, ◌⊎◌, false, true, List, [], ◌∷◌, ◌++◌, ◌==◌, Option, Some, None, cond, length, slice_index_or}
+use Rattle.counting.specs.Counts.{Within, total}
+use Rattle.counting.specs.Sets.{Set, pair_set}
+use Rattle.counting.specs.Lists.{mem}
+use Rattle.graph_core.specs.Components.{components}
+use Rattle.graph_core.specs.Graph.{Graph, size, first_end, second_end}
+use Rattle.graph_core.specs.Matchings.{Together}
+use Rattle.graph_core.specs.PairLists.{IsPairList, IsLean}
+use Rattle.flow_core.specs.Nets.{Arc, Net}
+use Rattle.tight_cuts.specs.Candidates.{lesser_end, greater_end, is_parted, common_shore, first_parted}
+use Rattle.tight_cuts.specs.PairSums.{weight}
+use Rattle.tight_cuts.specs.Pieces.{IsBeside, leader, group_of}
+
+-- the number at place i of a row
+abbrev pub at_place : List ℕ → ℕ → ℕ
+at_place row i = slice_index_or row i 0
+
+-- the row has the weight of each edge in some pair list, and the number is the list's length
+pub record AreWeights (g : Graph) (weights : List ℕ) (bound : ℕ) : Type 0 where
+  pub list : List (List ℕ)
+  pub pairs : IsPairList g list
+  pub lean : IsLean list
+  pub long : length weights ≡ size g + 1
+  pub each : (e : ℕ) → Within (size g) e → at_place weights e ≡ weight list e
+  pub is : bound ≡ length list
+
+-- the row has for each vertex the least vertex of its piece at edge e; an end of e stands for itself
+pub record AreLeaders (g : Graph) (e : ℕ) (leaders : List ℕ) : Type 0 where
+  pub beside : Graph
+  pub is : IsBeside g e beside
+  pub long : length leaders ≡ g.order + 1
+  pub each : (v : ℕ) → Within g.order v → at_place leaders v ≡ leader (components beside (pair_set (lesser_end g e) (greater_end g e))) v
+
+-- an arc between two nodes, and none where they are one
+abbrev pub arc_between : ℕ → ℕ → ℕ → List Arc
+arc_between a b capacity = cond (a == b) [] (record { a = a; b = b; capacity = capacity } ∷ [])
+
+-- the arcs of the edges 1 to e that join different groups, with the numbers of the row as capacities
+abbrev pub arcs_by : Graph → List ℕ → (ℕ → ℕ) → ℕ → List Arc
+arcs_by g weights group zero = []
+arcs_by g weights group (suc e) = arcs_by g weights group e ++ arc_between (group (first_end g (suc e))) (group (second_end g (suc e))) (at_place weights (suc e))
+
+-- the group of a vertex, by the row of leaders
+abbrev pub row_group : (a b x y : ℕ) → List ℕ → ℕ → ℕ
+row_group a b x y leaders v = group_of a b x y (at_place leaders v)
+
+-- the network of the groups for the pieces that x and y lead
+abbrev pub group_net : Graph → List ℕ → List ℕ → (a b x y : ℕ) → Net
+group_net g weights leaders a b x y = record { nodes = g.order; arcs = arcs_by g weights (row_group a b x y leaders) (size g) }
+
+-- x leads a piece of edge e
+pub record Leads (g : Graph) (e : ℕ) (leaders : List ℕ) (x : ℕ) : Type 0 where
+  pub within : Within g.order x
+  pub outside : pair_set (lesser_end g e) (greater_end g e) x ≡ false
+  pub itself : at_place leaders x ≡ x
+
+-- what a pair gives at edge e: the common shore where the pair is parted, and nothing where it is not
+pub record IsShoreOfPair (g : Graph) (e : ℕ) (k : ℕ × ℕ) (answer : Option (List ℕ)) : Type 0 where
+  pub some : (s : List ℕ) → answer ≡ Some s → (is_parted g (lesser_end g e) (greater_end g e) k ≡ true) × ((v : ℕ) → Within g.order v → mem s v ≡ common_shore g (lesser_end g e) (greater_end g e) k v)
+  pub none : answer ≡ None → is_parted g (lesser_end g e) (greater_end g e) k ≡ false
+
+-- what edge e gives: the common shore of the first pair that is parted, and nothing where there is none
+pub record IsShoreOfEdge (g : Graph) (e : ℕ) (answer : Option (List ℕ)) : Type 0 where
+  pub some : (s : List ℕ) → answer ≡ Some s → (k : ℕ × ℕ) × (first_parted g e ≡ Some k) × ((v : ℕ) → Within g.order v → mem s v ≡ common_shore g (lesser_end g e) (greater_end g e) k v)
+  pub none : answer ≡ None → first_parted g e ≡ None
+
+-- no pair before (x, y), in lexicographic order, is parted at edge e
+abbrev pub NoneBefore : Graph → ℕ → ℕ → ℕ → Type 0
+NoneBefore g e x y = (c d : ℕ) → Within g.order c → Within g.order d → (c < x) ⊎ ((c ≡ x) × (d < y)) → is_parted g (lesser_end g e) (greater_end g e) (c, d) ≡ false

@@ -1,0 +1,184 @@
+//! Candidates: shores of nontrivial tight cuts, and lists of them.
+ghost use Rattle.std.specs.Prelude.{◌≡◌, ◌<◌, ◌≤◌, ◌&&◌, ◌++◌, ◌∷◌, [], ◌==◌, All, IfOk, OnOk, OnErr, length, map, slice_get, Some};
+ghost use Rattle.std.specs.List.{list_any};
+ghost use Rattle.counting.specs.Counts.{Within};
+ghost use Rattle.counting.specs.Lists.{mem, is_subset, IsRisingIn};
+ghost use Rattle.graph_core.specs.Graph.{in_cut, size};
+ghost use Rattle.barrier_kit.specs.CanonicalCuts.{is_listed};
+ghost use Rattle.tight_cuts.specs.Candidates.{candidate_at, cuts, shores_of, with_list};
+ghost use Rattle.tight_cuts.specs.View.{candidate_of, origin_of};
+
+use crate::tightness::is_in_cut;
+use barrier_kit::{canonical_shore, is_nontrivial};
+use graph_core::{MultiGraph, SetList};
+use std::alloc::{AllocError as Memory, Global};
+use std::marker::Model;
+use vset_core::{MOST_VERTICES, VSet};
+
+/// The part of the list of candidates that a candidate comes from.
+#[derive(Clone, Copy, Debug, PartialEq, Eq, Drop)]
+pub enum Origin {
+    /// A component of the graph without a class of the canonical partition.
+    Barrier,
+    /// A component of the graph without a cut pair, with the lesser vertex of the pair.
+    Separation,
+    /// The common shore of all tight sets that part two pairs of vertices, found by a minimum cut.
+    Flow,
+}
+
+/// A nontrivial tight cut by its canonical shore, the one without the greatest vertex, with the numbers of vertices inside and
+/// outside.
+#[derive(Clone, Copy, Drop)]
+pub struct Candidate {
+    pub shore: VSet,
+    pub inside: u32,
+    pub outside: u32,
+    pub origin: Origin,
+}
+
+impl Candidate {
+    // The candidate of a shore within the vertices 1 to n.
+    fn new(n: u32, origin: Origin, shore: VSet) -> Candidate
+        requires vertices { n ≤ MOST_VERTICES }
+        requires shore { IsRisingIn n shore }
+        ensures { candidate_of result ≡ candidate_at n (origin_of origin) shore }
+    {
+        let inside = shore.len();
+        Candidate {
+            shore,
+            inside,
+            outside: n - inside,
+            origin,
+        }
+    }
+}
+
+/// A list of candidates, seen by contracts as such a list.
+#[derive(Drop)]
+pub struct CandidateList {
+    items: Vec<Candidate>,
+}
+
+impl Model for CandidateList {
+    ghost use Rattle.std.specs.Prelude.{List, map};
+    ghost use Rattle.tight_cuts.specs.Candidates.{Candidate};
+    ghost use Rattle.tight_cuts.specs.View.{candidate_of};
+
+    ghost Value = { List Candidate };
+
+    ghost view = { λ list. map candidate_of list.items.items };
+}
+
+impl CandidateList {
+    /// The empty list. Takes no memory.
+    pub fn new(alloc: Global) -> CandidateList
+        ensures { result ≡ [] }
+    {
+        CandidateList {
+            items: Vec::new(alloc),
+        }
+    }
+
+    /// The number of candidates.
+    pub fn len(&self) -> usize
+        ensures { result ≡ length self.now }
+    {
+        self.items.len()
+    }
+
+    /// Whether there is no candidate.
+    pub fn is_empty(&self) -> bool
+        ensures { result ≡ (length self.now == 0) }
+    {
+        self.items.is_empty()
+    }
+
+    /// The candidate at place `i`, counted from 0.
+    pub fn get(&self, i: usize) -> Candidate
+        requires { i < length self.now }
+        ensures { slice_get self.now i ≡ Some (candidate_of result) }
+    {
+        self.items[i]
+    }
+
+    /// Appends a candidate. After `Memory` the list is unchanged.
+    pub fn push(&mut self, item: Candidate) -> Result<(), Memory>
+        ensures ok { OnOk result (self.new ≡ self.old ++ candidate_of item ∷ []) }
+        ensures err { OnErr result (self.new ≡ self.old) }
+    {
+        self.items.push(item)?;
+        Ok(())
+    }
+}
+
+/// Appends the candidate of the cut of `shore`, a set of the vertices 1 to `n`. It is left out where the cut is trivial or in the
+/// list.
+pub(crate) fn add_shore(
+    list: &mut CandidateList,
+    n: u32,
+    origin: Origin,
+    shore: VSet,
+) -> Result<(), Memory>
+    requires { Within MOST_VERTICES n }
+    ensures { OnOk result (list.new ≡ with_list n (origin_of origin) list.old shore) }
+{
+    let shore = canonical_shore(n, shore);
+    if !is_nontrivial(n, shore) {
+        return Ok(());
+    }
+    if has_shore(list, shore) {
+        return Ok(());
+    }
+    list.push(Candidate::new(n, origin, shore))?;
+    Ok(())
+}
+
+// Whether a candidate has this shore.
+fn has_shore(list: &CandidateList, shore: VSet) -> bool
+    ensures { result ≡ is_listed (shores_of list.now) shore }
+{
+    holds(&list.items, shore)
+}
+
+// Whether one of these has this shore.
+fn holds(items: &[Candidate], shore: VSet) -> bool
+    ensures { result ≡ list_any (λ c. is_subset shore c.shore && is_subset c.shore shore) items.now }
+{
+    items
+        .iter()
+        .any(|c| shore.is_subset(c.shore) && c.shore.is_subset(shore))
+}
+
+/// The candidates of these shores, which are canonical and nontrivial.
+pub(crate) fn candidates_of(
+    alloc: Global,
+    n: u32,
+    origin: Origin,
+    shores: &SetList,
+) -> Result<CandidateList, Memory>
+    requires vertices { n ≤ MOST_VERTICES }
+    requires shores { All (IsRisingIn n) shores.now }
+    ensures { IfOk result (λ list. list ≡ map (candidate_at n (origin_of origin)) shores.now) }
+{
+    let mut list = CandidateList::new(alloc);
+    for shore in shores.as_slice() {
+        list.push(Candidate::new(n, origin, *shore))?;
+    }
+    Ok(list)
+}
+
+/// Whether edge `e` of `g` is in the cut of a candidate.
+pub(crate) fn any_cuts(list: &CandidateList, g: &MultiGraph, e: u32) -> bool
+    requires { Within (size g.now) e }
+    ensures { result ≡ list_any (cuts g.now e) list.now }
+{
+    any_in_cut(&list.items, g, e)
+}
+
+// Whether the edge is in the cut of one of these.
+fn any_in_cut(items: &[Candidate], g: &MultiGraph, e: u32) -> bool
+    requires { Within (size g.now) e }
+    ensures { result ≡ list_any (λ c. in_cut g.now (mem c.shore) e) items.now }
+{
+    items.iter().any(|c| is_in_cut(g, c.shore, e))
+}

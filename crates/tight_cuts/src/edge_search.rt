@@ -1,0 +1,268 @@
+//! The search at one edge for tight cuts through it: pairs of pieces, and a least minimum cut for each.
+ghost use Rattle.std.specs.Prelude.{◌≡◌, ◌≢◌, ℕ, ◌+◌, ◌<◌, ◌≤◌, ◌^◌, ◌==◌, ◌||◌, ◌&&◌, ◌++◌, not, true, false, length, Some, None, IfOk, OnOk};
+ghost use Rattle.counting.specs.Counts.{Within, total};
+ghost use Rattle.counting.specs.Lists.{mem};
+ghost use Rattle.counting.specs.Sets.{pair_set};
+ghost use Rattle.flow_core.specs.Nets.{total_capacity, with_arc};
+ghost use Rattle.graph_core.specs.Components.{components};
+ghost use Rattle.graph_core.specs.Covered.{IsCovered};
+ghost use Rattle.graph_core.specs.Graph.{first_end, second_end, size};
+ghost use Rattle.tight_cuts.specs.Candidates.{greater_end, lesser_end};
+ghost use Rattle.tight_cuts.specs.EdgeSearch.{AreLeaders, AreWeights, arc_between, IsShoreOfEdge, IsShoreOfPair, Leads, NoneBefore, arcs_by, at_place, group_net, row_group};
+ghost use Rattle.tight_cuts.specs.Pieces.{group_of, head_or, leader};
+
+use flow_core::{CutAnswer, Net, min_cut};
+use graph_core::MultiGraph;
+use std::alloc::{AllocError as Memory, Global};
+use vset_core::{MOST_VERTICES, VSet};
+
+/// How many matchings of a pair list hold each edge, by edge number, and how many matchings the list has.
+#[derive(Drop)]
+pub(crate) struct Weights {
+    pub(crate) row: Vec<u64>,
+    pub(crate) matchings: u64,
+}
+
+// The least vertex of the first piece that holds the vertex, and the vertex itself where none does.
+fn leader_in(pieces: &[VSet], v: u32) -> u32
+    requires { Within MOST_VERTICES v }
+    ensures { result ≡ leader pieces.now v }
+{
+    let mut rest = pieces;
+    while let Some((piece, others)) = rest.split_first() {
+        if piece.contains(v) {
+            return match piece.split_first() {
+                Some((least, _)) => least,
+                None => v,
+            };
+        }
+        rest = others;
+    }
+    v
+}
+
+/// For each vertex the least vertex of its component in `h` without `a` and `b`; these two stand for themselves. The row is by
+/// vertex number.
+pub(crate) fn leaders_of(alloc: Global, h: &MultiGraph, a: u32, b: u32) -> Result<Vec<u32>, Memory>
+    requires first { Within h.now.order a }
+    requires second { Within h.now.order b }
+    ensures long { IfOk result (λ row. length row.items ≡ h.now.order + 1) }
+    ensures each { IfOk result (λ row. (v : ℕ) → Within h.now.order v → at_place row.items v ≡ leader (components h.now (pair_set a b)) v) }
+{
+    h.keeps_limits();
+    let pieces = h.components_without(alloc, VSet::empty().with(a).with(b))?;
+    let mut row = Vec::new(alloc);
+    row.push(0)?;
+    for k in 0..h.order() {
+        row.push(leader_in(pieces.as_slice(), k + 1))?;
+    }
+    Ok(row)
+}
+
+/// The ends `a` and `b` of an edge, and the vertices `x` and `y` that lead two of its pieces: `a` and the piece of `x` make one
+/// group, `b` and the piece of `y` another, and each other piece is a group.
+#[derive(Clone, Copy, Drop)]
+struct Grouping {
+    a: u32,
+    b: u32,
+    x: u32,
+    y: u32,
+}
+
+impl Grouping {
+    // The group of a vertex, by the vertex that leads its piece.
+    fn group(self, leader: u32) -> u32
+        ensures { result ≡ group_of self.a self.b self.x self.y leader }
+    {
+        if leader == self.x {
+            self.a
+        } else if leader == self.y {
+            self.b
+        } else {
+            leader
+        }
+    }
+}
+
+// Appends an arc between two nodes, unless they are one.
+fn add_arc(net: &mut Net, first: u32, second: u32, capacity: u64) -> Result<(), Memory>
+    requires first { Within net.old.nodes first }
+    requires second { Within net.old.nodes second }
+    requires below { total_capacity net.old + capacity < 2 ^ 63 }
+    ensures { OnOk result (net.new ≡ record net.old { arcs = net.old.arcs ++ arc_between first second capacity }) }
+{
+    if first != second {
+        net.add(first, second, capacity)?;
+    }
+    Ok(())
+}
+
+// The network of the groups: an arc for each edge that joins two groups, with the edge's weight.
+fn network(
+    alloc: Global,
+    g: &MultiGraph,
+    weights: &[u64],
+    leaders: &[u32],
+    groups: Grouping,
+) -> Result<Net, Memory>
+    requires weights { length weights.now ≡ size g.now + 1 }
+    requires leaders { length leaders.now ≡ g.now.order + 1 }
+    requires small { total (size g.now) (at_place weights.now) < 2 ^ 63 }
+    requires within { (v : ℕ) → Within g.now.order v → Within g.now.order (row_group groups.a groups.b groups.x groups.y leaders.now v) }
+    ensures { IfOk result (λ net. net ≡ group_net g.now weights.now leaders.now groups.a groups.b groups.x groups.y) }
+{
+    g.keeps_limits();
+    let mut net = Net::new(alloc, g.order())?;
+    for k in 0..g.size() {
+        let e = k + 1;
+        let ends = g.ends(e);
+        let first = groups.group(leaders[ends.a as usize]);
+        let second = groups.group(leaders[ends.b as usize]);
+        add_arc(&mut net, first, second, weights[e as usize])?;
+    }
+    Ok(net)
+}
+
+// The vertices whose groups are in the set of nodes.
+fn vertices_of(set: VSet, leaders: &[u32], n: u32, groups: Grouping) -> VSet
+    requires few { n ≤ MOST_VERTICES }
+    requires leaders { length leaders.now ≡ n + 1 }
+    requires within { (v : ℕ) → Within n v → Within n (row_group groups.a groups.b groups.x groups.y leaders.now v) }
+    ensures { (v : ℕ) → Within n v → mem result v ≡ mem set (row_group groups.a groups.b groups.x groups.y leaders.now v) }
+{
+    let mut vertices = VSet::empty();
+    for k in 0..n {
+        let v = k + 1;
+        if set.contains(groups.group(leaders[v as usize])) {
+            vertices = vertices.with(v);
+        }
+    }
+    vertices
+}
+
+// What a pair of vertices that lead pieces gives: the common shore of all tight sets that have `a` and `x` and neither `b` nor `y`,
+// where there is one. It is the vertices of the least minimum cut of the groups' network, if its value is at most the number of
+// matchings in the pair list.
+fn shore_of_pair(
+    alloc: Global,
+    g: &MultiGraph,
+    weights: &Weights,
+    leaders: &[u32],
+    groups: Grouping,
+    e: u32,
+) -> Result<Option<VSet>, Memory>
+    requires covered { IsCovered g.now }
+    requires edge { Within (size g.now) e }
+    requires weights { AreWeights g.now weights.now.row.items weights.now.matchings }
+    requires leaders { AreLeaders g.now e leaders.now }
+    requires first { groups.a ≡ lesser_end g.now e }
+    requires second { groups.b ≡ greater_end g.now e }
+    requires x { Leads g.now e leaders.now groups.x }
+    requires y { Leads g.now e leaders.now groups.y }
+    requires differ { groups.x ≢ groups.y }
+    ensures { IfOk result (IsShoreOfPair g.now e (groups.x, groups.y)) }
+{
+    g.keeps_limits();
+    let net = network(alloc, g, &weights.row, leaders, groups)?;
+    match min_cut(alloc, &net, groups.a, groups.b, weights.matchings)? {
+        CutAnswer::Cut { set, .. } => Ok(Some(vertices_of(set, leaders, g.order(), groups))),
+        CutAnswer::Exceeds { .. } => Ok(None),
+    }
+}
+
+// Whether x leads a piece of the edge with the ends a and b.
+fn leads(leaders: &[u32], a: u32, b: u32, x: u32) -> bool
+    requires { x < length leaders.now }
+    ensures { result ≡ (not (pair_set a b x) && (at_place leaders.now x == x)) }
+{
+    x != a && x != b && leaders[x as usize] == x
+}
+
+// What the pair (x, y) gives, where no pair before it is parted; nothing unless y leads a piece of its own.
+fn shore_at(
+    alloc: Global,
+    g: &MultiGraph,
+    weights: &Weights,
+    leaders: &[u32],
+    groups: Grouping,
+    e: u32,
+) -> Result<Option<VSet>, Memory>
+    requires covered { IsCovered g.now }
+    requires edge { Within (size g.now) e }
+    requires weights { AreWeights g.now weights.now.row.items weights.now.matchings }
+    requires leaders { AreLeaders g.now e leaders.now }
+    requires first { groups.a ≡ lesser_end g.now e }
+    requires second { groups.b ≡ greater_end g.now e }
+    requires x { Leads g.now e leaders.now groups.x }
+    requires y { Within g.now.order groups.y }
+    requires before { NoneBefore g.now e groups.x groups.y }
+    ensures some { IfOk result (λ o. (s : _) → o ≡ Some s → IsShoreOfEdge g.now e o) }
+    ensures none { IfOk result (λ o. o ≡ None → NoneBefore g.now e groups.x (groups.y + 1)) }
+{
+    g.keeps_limits();
+    if groups.x == groups.y {
+        return Ok(None);
+    }
+    if !leads(leaders, groups.a, groups.b, groups.y) {
+        return Ok(None);
+    }
+    shore_of_pair(alloc, g, weights, leaders, groups, e)
+}
+
+// What the pairs (x, y) give, for one x and all y in order, where no pair before them is parted; nothing unless x leads a piece.
+fn shore_from(
+    alloc: Global,
+    g: &MultiGraph,
+    weights: &Weights,
+    leaders: &[u32],
+    e: u32,
+    x: u32,
+) -> Result<Option<VSet>, Memory>
+    requires covered { IsCovered g.now }
+    requires edge { Within (size g.now) e }
+    requires weights { AreWeights g.now weights.now.row.items weights.now.matchings }
+    requires leaders { AreLeaders g.now e leaders.now }
+    requires x { Within g.now.order x }
+    requires before { NoneBefore g.now e x 1 }
+    ensures some { IfOk result (λ o. (s : _) → o ≡ Some s → IsShoreOfEdge g.now e o) }
+    ensures none { IfOk result (λ o. o ≡ None → NoneBefore g.now e (x + 1) 1) }
+{
+    g.keeps_limits();
+    let ends = g.ends(e);
+    let a = ends.a.min(ends.b);
+    let b = ends.a.max(ends.b);
+    if !leads(leaders, a, b, x) {
+        return Ok(None);
+    }
+    for k in 0..g.order() {
+        let groups = Grouping { a, b, x, y: k + 1 };
+        if let Some(shore) = shore_at(alloc, g, weights, leaders, groups, e)? {
+            return Ok(Some(shore));
+        }
+    }
+    Ok(None)
+}
+
+/// What edge `e` gives: the common shore of all tight sets that part the first pair in lexicographic order that any parts; `None`
+/// exactly where no pair is parted. Only pairs of vertices that lead pieces are asked: a pair is parted by its pieces alone.
+pub(crate) fn shore_of_edge(
+    alloc: Global,
+    g: &MultiGraph,
+    weights: &Weights,
+    leaders: &[u32],
+    e: u32,
+) -> Result<Option<VSet>, Memory>
+    requires covered { IsCovered g.now }
+    requires edge { Within (size g.now) e }
+    requires weights { AreWeights g.now weights.now.row.items weights.now.matchings }
+    requires leaders { AreLeaders g.now e leaders.now }
+    ensures { IfOk result (IsShoreOfEdge g.now e) }
+{
+    g.keeps_limits();
+    for k in 0..g.order() {
+        if let Some(shore) = shore_from(alloc, g, weights, leaders, e, k + 1)? {
+            return Ok(Some(shore));
+        }
+    }
+    Ok(None)
+}

@@ -1,0 +1,98 @@
+//! What the search at an edge stands on: how often the matchings of a pair list hold each edge, and the graph of the edges that
+//! lie together with one edge.
+ghost use Rattle.std.specs.Prelude.{◌≡◌, ◌≢◌, ℕ, ◌+◌, ◌<◌, ◌≤◌, ◌-◌, ◌^◌, ◌↔◌, true, All, IfOk, OnOk, length, map};
+ghost use Rattle.counting.specs.Counts.{Within, bit};
+ghost use Rattle.counting.specs.Lists.{mem};
+ghost use Rattle.graph_core.specs.Graph.{first_end, second_end, size, with_edge};
+ghost use Rattle.graph_core.specs.Matchings.{Together};
+ghost use Rattle.graph_core.specs.PairLists.{IsLean, IsPairList};
+ghost use Rattle.match_core.specs.MatchingRows.{IsOf, edges_of};
+ghost use Rattle.allowed_edges.specs.PairTables.{edge_lists, holds_both};
+ghost use Rattle.tight_cuts.specs.EdgeSearch.{AreWeights, at_place};
+ghost use Rattle.tight_cuts.specs.PairSums.{weight};
+ghost use Rattle.tight_cuts.specs.Pieces.{IsBeside};
+
+use crate::edge_search::Weights;
+use allowed_edges::PairTable;
+use graph_core::{AddFault, MOST_EDGES, MultiGraph};
+use match_core::Matching;
+use std::alloc::{AllocError as Memory, Global};
+
+// Counts the edges of one matching more.
+fn count_edges(row: &mut Vec<u64>, m: &Matching)
+    requires within { All (λ r. r.edge < length row.old.items) m.now.rows }
+    requires room { (e : ℕ) → at_place row.old.items e < 2 ^ 64 - 1 }
+    ensures long { length row.new.items ≡ length row.old.items }
+    ensures each { (e : ℕ) → at_place row.new.items e ≡ at_place row.old.items e + bit (mem (edges_of m.now) e) }
+{
+    m.keeps_matching();
+    for i in 0..m.len() {
+        let edge = m.row(i).edge as usize;
+        row[edge] += 1;
+    }
+}
+
+/// How many of the table's matchings hold each edge of `g`.
+pub(crate) fn weights_of(
+    alloc: Global,
+    g: &MultiGraph,
+    pairs: &PairTable,
+) -> Result<Weights, Memory>
+    requires of { All (IsOf g.now) pairs.now.list }
+    requires list { IsPairList g.now (edge_lists pairs.now) }
+    requires lean { IsLean (edge_lists pairs.now) }
+    ensures { IfOk result (λ weights. AreWeights g.now weights.row.items weights.matchings) }
+{
+    g.keeps_limits();
+    let mut row = vec![in alloc; 0; g.size() as usize + 1]?;
+    let list = pairs.list();
+    let matchings = list.len();
+    for i in 0..matchings {
+        count_edges(&mut row, &list[i]);
+    }
+    Ok(Weights {
+        row,
+        matchings: matchings as u64,
+    })
+}
+
+// Appends an edge that the graph has room for.
+fn add_pair(graph: &mut MultiGraph, a: u32, b: u32) -> Result<(), Memory>
+    requires first { Within graph.old.order a }
+    requires second { Within graph.old.order b }
+    requires differ { a ≢ b }
+    requires room { size graph.old < MOST_EDGES }
+    ensures { OnOk result (graph.new ≡ with_edge graph.old a b) }
+{
+    match graph.add_edge(a, b) {
+        Ok(_) => Ok(()),
+        Err(AddFault::Memory) => Err(Memory),
+        Err(AddFault::Range) => unreachable!(),
+        Err(AddFault::Loop) => unreachable!(),
+        Err(AddFault::TooMany) => unreachable!(),
+    }
+}
+
+/// The graph with the vertices of `g` and, for edges, those that lie together with edge `e`, without `e` itself.
+pub(crate) fn graph_beside(
+    alloc: Global,
+    g: &MultiGraph,
+    pairs: &PairTable,
+    e: u32,
+) -> Result<MultiGraph, Memory>
+    requires edge { Within (size g.now) e }
+    requires size { pairs.now.size ≡ size g.now }
+    requires both { (e f : ℕ) → Within (size g.now) e → Within (size g.now) f → (holds_both (edge_lists pairs.now) e f ≡ true) ↔ Together g.now e f }
+    ensures { IfOk result (IsBeside g.now e) }
+{
+    g.keeps_limits();
+    let mut beside = MultiGraph::new(alloc, g.order())?;
+    for k in 0..g.size() {
+        let f = k + 1;
+        if f != e && pairs.both(e, f) {
+            let ends = g.ends(f);
+            add_pair(&mut beside, ends.a, ends.b)?;
+        }
+    }
+    Ok(beside)
+}
