@@ -8,7 +8,7 @@ use graph_core::{MultiGraph, Reason, Verdict};
 use plain_graph::{edges_in_cut, is_perfect, is_small};
 use std::alloc::Global;
 use std::test::Fail;
-use tight_cuts::{Tightness, is_tight};
+use tight_cuts::{CandidateList, Origin, Tightness, candidates, find_any, is_tight};
 use vset_core::{MOST_VERTICES, VSet};
 
 const TRIANGLE_IN_K33: [(u32, u32); 12] = [
@@ -201,6 +201,112 @@ fn all_odd_sets_of_small_graphs(rt: HostRuntime) -> Result<(), Fail> {
             }
         }
         assert_eq!(rt; odd_sets, 1u32 << (order - 1));
+    }
+    Ok(())
+}
+
+// The candidates of a graph; none where it is not matching covered.
+fn candidates_if_covered(alloc: Global, graph: &MultiGraph) -> Result<CandidateList, Fail> {
+    match covered(alloc, graph)? {
+        Verdict::Covered => Ok(candidates(alloc, graph)?),
+        Verdict::NotCovered(Reason::Small) => Ok(CandidateList::new(alloc)),
+        Verdict::NotCovered(_) => Ok(CandidateList::new(alloc)),
+    }
+}
+
+// The shore that `find_any` answers; none where the graph is not matching covered.
+fn any_if_covered(alloc: Global, graph: &MultiGraph) -> Result<Option<VSet>, Fail> {
+    match covered(alloc, graph)? {
+        Verdict::Covered => Ok(find_any(alloc, graph)?),
+        Verdict::NotCovered(Reason::Small) => Ok(None),
+        Verdict::NotCovered(_) => Ok(None),
+    }
+}
+
+#[test]
+fn worked_candidates(rt: HostRuntime) -> Result<(), Fail> {
+    let hexagon = [0b1110, 0b11100, 0b111];
+    let cycle_of_8 = [0b1110, 0b1111100, 0b111, 0b11111, 0b111110];
+    let triangle = [0b111];
+    let two_k4 = [0b1101, 0b1110];
+    let cases = [
+        (6, HEXAGON.as_slice(), hexagon.as_slice(), Origin::Flow),
+        (
+            8,
+            CYCLE_OF_8.as_slice(),
+            cycle_of_8.as_slice(),
+            Origin::Flow,
+        ),
+        (
+            8,
+            TRIANGLE_IN_K33.as_slice(),
+            triangle.as_slice(),
+            Origin::Barrier,
+        ),
+        (6, TWO_K4.as_slice(), two_k4.as_slice(), Origin::Separation),
+    ];
+    for (order, edges, shores, origin) in cases {
+        assert!(rt; order <= MOST_VERTICES);
+        let graph = made(rt.alloc(), order, edges)?;
+        let list = candidates_if_covered(rt.alloc(), &graph)?;
+        assert_eq!(rt; list.len(), shores.len());
+        for i in 0..list.len() {
+            let candidate = list.get(i);
+            assert!(rt; i < shores.len());
+            assert!(rt; candidate.shore == set_of_bits(shores[i]));
+            assert!(rt; candidate.origin == origin);
+            assert_eq!(rt; candidate.inside, candidate.shore.len());
+        }
+        assert!(rt; 0 < shores.len());
+        assert!(rt; any_if_covered(rt.alloc(), &graph)? == Some(set_of_bits(shores[0])));
+    }
+    Ok(())
+}
+
+#[test]
+fn bricks_and_braces_have_no_candidates(rt: HostRuntime) -> Result<(), Fail> {
+    let cases = [
+        (2, TWO_PARALLEL.as_slice()),
+        (4, K4.as_slice()),
+        (4, DOUBLED_SQUARE.as_slice()),
+        (6, PRISM.as_slice()),
+        (10, PETERSEN.as_slice()),
+    ];
+    for (order, edges) in cases {
+        assert!(rt; order <= MOST_VERTICES);
+        let graph = made(rt.alloc(), order, edges)?;
+        assert!(rt; candidates_if_covered(rt.alloc(), &graph)?.is_empty());
+        assert!(rt; any_if_covered(rt.alloc(), &graph)? == None);
+    }
+    Ok(())
+}
+
+#[test]
+fn candidates_exactly_where_a_set_is_tight(rt: HostRuntime) -> Result<(), Fail> {
+    let cases = [
+        (4, K4.as_slice()),
+        (6, HEXAGON.as_slice()),
+        (6, PRISM.as_slice()),
+        (6, TWO_K4.as_slice()),
+        (8, CYCLE_OF_8.as_slice()),
+        (8, TRIANGLE_IN_K33.as_slice()),
+    ];
+    for (order, edges) in cases {
+        assert!(rt; order <= MOST_VERTICES);
+        let graph = made(rt.alloc(), order, edges)?;
+        let all = VSet::full(order);
+        let mut tight = false;
+        for bits in 0..256 {
+            let set = set_of_bits(bits);
+            if set.is_subset(all) && set.len() >= 3 && all.minus(set).len() >= 3 {
+                tight = tight || plain_graph::is_tight(rt.alloc(), &graph, set)?;
+            }
+        }
+        let list = candidates_if_covered(rt.alloc(), &graph)?;
+        assert!(rt; list.is_empty() != tight);
+        for i in 0..list.len() {
+            assert!(rt; plain_graph::is_tight(rt.alloc(), &graph, list.get(i).shore)?);
+        }
     }
     Ok(())
 }

@@ -1,13 +1,12 @@
 -- The graph of the edges that lie together with one edge, made edge by edge.
 -- Idea: each edge of it comes from one of the edges so far, and each of these that lies together with e is in it.
-use Rattle.std.proofs.Common.{◌≡◌, ℕ, suc, zero, ◌+◌, ◌≤◌, ◌<◌, ◌≢◌, Bool, true, false, List, [], ◌∷◌, ◌++◌, length, refl, sym, ap, ◌∙◌, arith, inl, inr, ◌⊎◌, subst, ◌↔◌, ◌-◌, length-append, slice_index_or}
-use Rattle.std.proofs.lemmas.Bool.{cases_eq, cases_lt}
+use Rattle.std.proofs.Common.{◌≡◌, ℕ, ◌+◌, ◌≤◌, ◌<◌, ◌≢◌, [], ◌∷◌, ◌++◌, length, ap, ◌∙◌, arith, inl, inr, subst, ◌-◌, length-append, slice_index_or}
+use Rattle.std.proofs.lemmas.Bool.{cases_lt}
 use Rattle.std.proofs.lemmas.List.{get_or_append_left}
 use Rattle.std.proofs.Math.Seq.{get_or-append_seam}
 use Rattle.counting.specs.Counts.{Within}
 use Rattle.graph_core.specs.Graph.{Graph, size, first_end, second_end, with_edge}
 use Rattle.graph_core.specs.Matchings.{Together}
-use Rattle.tight_cuts.specs.Pieces.{IsBeside}
 
 -- the edges 1 to k are treated
 pub record BesideSoFar (g : Graph) (e k : ℕ) (h : Graph) : Type 0 where
@@ -15,9 +14,6 @@ pub record BesideSoFar (g : Graph) (e k : ℕ) (h : Graph) : Type 0 where
   pub few : size h ≤ k
   pub from : (f : ℕ) → Within (size h) f → (d : ℕ) × Within (size g) d × (d ≢ e) × Together g e d × (first_end h f ≡ first_end g d) × (second_end h f ≡ second_end g d)
   pub every : (d : ℕ) → Within k d → d ≢ e → Together g e d → (f : ℕ) × Within (size h) f × (first_end h f ≡ first_end g d) × (second_end h f ≡ second_end g d)
-
-pub beside-none : (g h : Graph) (e : ℕ) → h.order ≡ g.order → size h ≡ 0 → BesideSoFar g e 0 h
-beside-none g h e o s = record { order = o; few = omega arith; from = λ f w. absurd (omega arith); every = λ d w n t. absurd (omega arith) }
 
 -- an edge that is e or does not lie together with it
 pub beside-skip : (g h : Graph) (e k : ℕ) → BesideSoFar g e k h → ((k + 1 ≢ e) → Together g e (k + 1) → ⊥) → BesideSoFar g e (k + 1) h
@@ -30,9 +26,6 @@ beside-skip g h e k b n = record {
     | inr l ↦ b.every d (omega arith) ne t
   ];
 }
-
-pub beside-all : (g h : Graph) (e k : ℕ) → size g ≤ k → BesideSoFar g e k h → IsBeside g e h
-beside-all g h e k l b = record { order = b.order; from = b.from; every = λ d w ne t. b.every d (omega arith) ne t }
 
 -- the ends of the edges of a graph with one edge more
 size-more : (h : Graph) (a b : ℕ) → size (with_edge h a b) ≡ size h + 1

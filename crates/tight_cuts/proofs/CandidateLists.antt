@@ -1,23 +1,22 @@
 -- Lists of candidates as the code makes them: one shore more, and the candidates of a list of canonical shores.
 -- Idea: a candidate goes by its shore alone, and a set and its rising list have the same numbers on both sides.
-use Rattle.std.proofs.Common.{◌≡◌, ℕ, ◌+◌, ◌-◌, ◌≤◌, Bool, true, false, refl, sym, ap, ap₂, ◌∙◌, arith, ◌&&◌, ◌||◌, not, List, [], ◌∷◌, ◌++◌, map, length, subst, nat_le}
-use Rattle.std.specs.Prelude.{if◌then◌else◌, fold, flat_map, All}
+use Rattle.std.proofs.Common.{◌≡◌, ℕ, ◌-◌, Bool, true, false, refl, sym, ap, ap₂, ◌∙◌, arith, ◌&&◌, ◌||◌, not, List, [], ◌∷◌, ◌++◌, map, length}
+use Rattle.std.specs.Prelude.{if◌then◌else◌, fold}
 use Rattle.std.specs.List.{list_any}
 use Rattle.std.proofs.lemmas.Bool.{true≢false}
 use Rattle.barrier_kit.proofs.CutLists.{canonical-nontrivial}
 use Rattle.barrier_kit.specs.CanonicalCuts.{canonical_list, is_listed, with_cut}
 use Rattle.counting.proofs.Counts.{count_congr, count_complement}
 use Rattle.counting.proofs.Lists.{count_mem_length}
-use Rattle.counting.proofs.RisingLists.{mem-rising_list, rising_list-congr}
-use Rattle.counting.specs.Counts.{count, Within}
+use Rattle.counting.proofs.RisingLists.{mem-rising_list}
+use Rattle.counting.specs.Counts.{count}
 use Rattle.counting.specs.Lists.{mem, is_subset, rising_list, IsRisingIn}
 use Rattle.counting.specs.Sets.{Set, complement}
-use Rattle.graph_core.specs.Graph.{Graph, size, in_cut}
+use Rattle.graph_core.specs.Graph.{Graph, in_cut}
 use Rattle.graph_core.specs.Tight.{is_nontrivial, canonical_shore}
-use Rattle.tight_cuts.specs.Candidates.{Candidate, Origin, candidate, candidate_at, cuts, shores_of, with_list, with_shore}
-use Rattle.tight_cuts.specs.View.{candidate_of, origin_of}
+use Rattle.tight_cuts.specs.Candidates.{Candidate, Origin, candidate, candidate_at, cuts, shores_of, with_list}
+use Rattle.tight_cuts.specs.View.{candidate_of}
 use Rattle.tight_cuts.specs.declared.candidate.Candidate.{Candidate as StoredCandidate}
-use Rattle.tight_cuts.specs.declared.candidate.Origin.{Origin as StoredOrigin}
 
 -- the shores of the code's candidates
 pub listed-items : (items : List StoredCandidate) (s : List ℕ) → is_listed (shores_of (map candidate_of items)) s ≡ list_any (λ (c : StoredCandidate). is_subset s c.shore && is_subset c.shore s) items

@@ -1,3 +1,4 @@
+-- The candidates: none twice, each tight where the shores of the first two parts are, and each edge of a nontrivial tight cut in a candidate's cut.
 use Rattle.std.proofs.Common.{◌≡◌, ℕ, Bool, true, false, refl, sym, ap, not, ◌∙◌, arith, List, [], ◌∷◌, ◌↔◌}
 use Rattle.std.proofs.lemmas.Bool.{true≢false}
 use Rattle.std.proofs.lemmas.List.Elements.{All-nil, All-head, All-tail}
@@ -13,11 +14,10 @@ use Rattle.graph_core.specs.Covered.{IsCovered}
 use Rattle.graph_core.specs.Graph.{Graph, size, IsGraph, in_cut}
 use Rattle.graph_core.specs.Tight.{IsTight, IsNontrivial}
 use Rattle.separation_kit.specs.SeparationShores.{separation_shores}
-use Rattle.tight_cuts.proofs.EdgeLoop.{after_edges, after_apart, after_found, after_covers}
+use Rattle.tight_cuts.proofs.EdgeLoop.{after_apart, after_found, after_covers}
 use Rattle.tight_cuts.proofs.Shores.{with_found, with_apart}
 use Rattle.tight_cuts.specs.Candidates.{Origin, Candidate, with_list, candidates, IsTightCandidate}
 
--- The candidates: none twice, each tight where the shores of the first two parts are, and each edge of a nontrivial tight cut in a candidate's cut.
 -- shores one after another
 lists_apart : (n : ℕ) (o : Origin) (shores : List (List ℕ)) (list : List Candidate) → AllPairs ShoresDiffer list → AllPairs ShoresDiffer (fold (with_list n o) list shores)
 lists_apart n o [] list h = h
@@ -68,13 +68,3 @@ candidates_none g is cov b s = (
     go : (list : List Candidate) → All (IsTightCandidate g) list → ((x : Set) → IsTight g x → IsNontrivial g.order x → ⊥) → list ≡ []
     go [] h f = refl
     go (c ∷ list) h f = let p = All-head (IsTightCandidate g) c list h in absurd (f (mem c.shore) p.tight p.nontrivial)
-
--- the same for the third part alone
-pub edges_found : (g : Graph) → IsGraph g → IsCovered g → All (IsTightCandidate g) (after_edges g [] (size g))
-edges_found g is cov = after_found g is cov [] (size g) (omega arith) (All-nil (IsTightCandidate g))
-
-pub edges_apart : (g : Graph) → AllPairs ShoresDiffer (after_edges g [] (size g))
-edges_apart g = after_apart g [] (size g) none_apart
-
-pub edges_cover : (g : Graph) → IsGraph g → IsCovered g → (x : Set) (e : ℕ) → Within (size g) e → IsTight g x → IsNontrivial g.order x → in_cut g x e ≡ true → list_any (cuts g e) (after_edges g [] (size g)) ≡ true
-edges_cover g is cov x e w t nt ce = after_covers g is cov [] (size g) (omega arith) x e w t nt ce

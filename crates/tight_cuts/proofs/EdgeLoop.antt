@@ -1,3 +1,5 @@
+-- The loop over the edges.
+-- Idea: what an edge gives is tight, and where some nontrivial tight set has the edge in its cut, so has a candidate then.
 use Rattle.std.proofs.Common.{◌≡◌, ℕ, suc, zero, ◌≤◌, Bool, true, false, cond, ◌==◌, refl, sym, ap, ap₂, ◌∙◌, arith, ◌&&◌, ◌||◌, not, inl, inr, ◌⊎◌, List, [], ◌∷◌, subst, map, flat_map, Option, Some, None, eq-eqb, ne_eqb, eqb-true, min, max}
 use Rattle.std.proofs.lemmas.Bool.{cases_eq, cases_lt, cases_Bool, and_parts, and_from, or_from, or_left, or_right, true≢false, both_ways}
 use Rattle.std.proofs.lemmas.List.Folds.{list_any-append}
@@ -21,7 +23,6 @@ use Rattle.tight_cuts.proofs.Shores.{with_found, with_apart, with_grows, with_co
 use Rattle.tight_cuts.specs.Candidates.{Candidate, is_parted, common_shore, with_pair, with_edge_cut, IsTightCandidate}
 use Rattle.tight_cuts.specs.Pieces.{PartsTightly}
 
--- The loop over the edges. Idea: what an edge gives is tight, and where some nontrivial tight set has the edge in its cut, so has a candidate then.
 -- the first element that passes
 abbrev pub same_pair : ℕ × ℕ → ℕ × ℕ → Bool
 same_pair k j = (j.0 == k.0) && (j.1 == k.1)

@@ -1,15 +1,12 @@
 -- The network as the code makes it, edge by edge, is the contracted network of a pair list.
 -- Idea: one edge more is one arc more or none; equal rows give equal arcs.
-use Rattle.std.proofs.Common.{◌≡◌, ℕ, suc, zero, ◌+◌, ◌*◌, ◌≤◌, ◌<◌, ◌^◌, Bool, true, false, cond, ◌==◌, refl, sym, ap, ap₂, ◌∙◌, arith, List, [], ◌∷◌, ◌++◌, length, sum_by, ◌⊎◌, inl, inr}
+use Rattle.std.proofs.Common.{◌≡◌, ℕ, suc, zero, ◌+◌, ◌≤◌, ◌<◌, Bool, true, false, cond, ◌==◌, sym, ap, ap₂, ◌∙◌, arith, List, [], ◌∷◌, ◌++◌, sum_by, inl, inr}
 use Rattle.std.proofs.lemmas.Bool.{cases_eq}
 use Rattle.std.proofs.lemmas.List.Sums.{sum_by-append, sum_by-cons}
-use Rattle.counting.proofs.Totals.{total_congr, total_le}
-use Rattle.counting.specs.Counts.{Within, total}
-use Rattle.flow_core.specs.Nets.{Arc, Net, total_capacity}
-use Rattle.graph_core.specs.Graph.{Graph, size, first_end, second_end, IsGraph}
-use Rattle.tight_cuts.specs.EdgeSearch.{AreWeights, arc_between, arcs_by, at_place}
-use Rattle.tight_cuts.specs.PairSums.{weight}
-use Rattle.tight_cuts.specs.Pieces.{arcs_of}
+use Rattle.counting.specs.Counts.{total}
+use Rattle.flow_core.specs.Nets.{Arc}
+use Rattle.graph_core.specs.Graph.{Graph, first_end, second_end}
+use Rattle.tight_cuts.specs.EdgeSearch.{arc_between, arcs_by, at_place}
 
 -- one edge more
 pub arcs-next : (g : Graph) (weights : List ℕ) (group : ℕ → ℕ) (k first second capacity : ℕ) → first ≡ group (first_end g (k + 1)) → second ≡ group (second_end g (k + 1)) → capacity ≡ at_place weights (k + 1) →

@@ -1,23 +1,18 @@
 -- The search over pairs in lexicographic order finds the first pair that is parted.
 -- Idea: a pair of which a vertex does not lead its piece is parted only if the earlier pair of the leaders is.
-use Rattle.std.proofs.Common.{◌≡◌, ℕ, suc, zero, ◌+◌, ◌≤◌, ◌<◌, ◌≢◌, Bool, true, false, ◌==◌, refl, sym, ap, ap₂, ◌∙◌, arith, not, ◌&&◌, ◌||◌, inl, inr, ◌⊎◌, List, Option, Some, None, subst, eq-eqb, eqb-true}
-use Rattle.std.specs.Prelude.{find}
-use Rattle.std.proofs.lemmas.Bool.{cases_eq, cases_lt, cases_Bool, and_parts, or_cases, or_left, or_right, true≢false, both_ways, false_from_ne_true}
+use Rattle.std.proofs.Common.{◌≡◌, ℕ, ◌+◌, ◌<◌, Bool, true, false, ◌==◌, refl, sym, ap, ap₂, ◌∙◌, arith, not, ◌&&◌, inl, inr, ◌⊎◌, List, Option, Some, None, subst, eq-eqb}
+use Rattle.std.proofs.lemmas.Bool.{cases_eq, cases_lt, true≢false, both_ways, false_from_ne_true}
 use Rattle.counting.specs.Counts.{Within}
-use Rattle.counting.specs.Lists.{mem, ordered_pairs}
-use Rattle.counting.specs.Sets.{Set, pair_set}
-use Rattle.graph_core.proofs.Walks.{joined_self}
-use Rattle.graph_core.proofs.Components.{walk_joined}
-use Rattle.graph_core.specs.Components.{components, is_least}
+use Rattle.counting.specs.Lists.{mem}
+use Rattle.counting.specs.Sets.{pair_set}
 use Rattle.graph_core.specs.Covered.{IsCovered}
 use Rattle.graph_core.specs.Graph.{Graph, size}
 use Rattle.graph_core.specs.View.{IsWithinLimits}
-use Rattle.graph_core.specs.Walks.{joined}
 use Rattle.tight_cuts.proofs.EdgeLoop.{first_pair, no_pair, ends_between}
-use Rattle.tight_cuts.proofs.EdgeShores.{ends_apart, lesser_within, greater_within, least_leads, leads_least}
+use Rattle.tight_cuts.proofs.EdgeShores.{lesser_within, greater_within, least_leads}
 use Rattle.tight_cuts.proofs.FirstPairs.{before_first, first_leads}
 use Rattle.tight_cuts.proofs.LeastShores.{parted_says}
-use Rattle.tight_cuts.specs.Candidates.{lesser_end, greater_end, is_parted, common_shore, first_parted}
+use Rattle.tight_cuts.specs.Candidates.{lesser_end, greater_end, is_parted, first_parted}
 use Rattle.tight_cuts.specs.EdgeSearch.{AreLeaders, IsShoreOfEdge, IsShoreOfPair, Leads, NoneBefore, at_place}
 
 module _ (g : Graph) (lim : IsWithinLimits g) (cov : IsCovered g) (e : ℕ) (we : Within (size g) e) (leaders : List ℕ) (ld : AreLeaders g e leaders) where
@@ -142,10 +137,6 @@ module _ (g : Graph) (lim : IsWithinLimits g) (cov : IsCovered g) (e : ℕ) (we 
     | inr s ↦ let s1 = s.1 in let w = l.within in absurd (omega arith)
   ])
 
-  -- before the first pair there is none
-  pub none_first : NoneBefore g e 1 1
-  none_first c d wc wd b = elim b [ inl s ↦ absurd (omega arith) | inr s ↦ let s1 = s.1 in absurd (omega arith) ]
-
   -- at one pair: what a pair of different leaders gives, or nothing
   pub pair_not : (x y : ℕ) → NoneBefore g e x y → (answer : Option (List ℕ)) → IsShoreOfPair g e (x, y) answer → answer ≡ None → NoneBefore g e x (y + 1)
   pair_not x y h answer p q = next_pair x y h (p.none q)
@@ -153,11 +144,3 @@ module _ (g : Graph) (lim : IsWithinLimits g) (cov : IsCovered g) (e : ℕ) (we 
 -- what the test of a leader says
 pub leads-test : (g : Graph) (e : ℕ) (leaders : List ℕ) (a b x : ℕ) → a ≡ lesser_end g e → b ≡ greater_end g e → Leads g e leaders x → (not (pair_set a b x) && (at_place leaders x == x)) ≡ true
 leads-test g e leaders a b x qa qb l = ap (λ t. not t && (at_place leaders x == x)) (ap₂ (λ i j. pair_set i j x) qa qb ∙ l.outside) ∙ eq-eqb (at_place leaders x) x l.itself
-
-pub test-leads : (g : Graph) (e : ℕ) (leaders : List ℕ) (a b x : ℕ) → a ≡ lesser_end g e → b ≡ greater_end g e → Within g.order x → (not (pair_set a b x) && (at_place leaders x == x)) ≡ true → Leads g e leaders x
-test-leads g e leaders a b x qa qb w t =
-    let p = and_parts (not (pair_set a b x)) (at_place leaders x == x) t in
-    record { within = w; outside = sym (ap₂ (λ i j. pair_set i j x) qa qb) ∙ off (pair_set a b x) p.0; itself = eqb-true (at_place leaders x) x p.1 }
-  where
-    off : (s : Bool) → not s ≡ true → s ≡ false
-    off s q = grind arith

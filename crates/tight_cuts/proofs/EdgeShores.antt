@@ -1,11 +1,11 @@
 -- What one pair gives, as the code finds it: a least cut of the network of groups within the length of the pair list.
 -- Idea: the network of the rows is the contracted network of the pair list, and the leaders give its groups.
-use Rattle.std.proofs.Common.{◌≡◌, ℕ, suc, zero, ◌+◌, ◌*◌, ◌≤◌, ◌<◌, ◌^◌, ◌≢◌, Bool, true, false, cond, ◌==◌, refl, sym, ap, ap₂, ◌∙◌, arith, inl, inr, ◌⊎◌, List, [], ◌∷◌, ◌++◌, length, subst, not, ◌&&◌, ◌||◌, Option, Some, None, min, max, ◌↔◌, sum_by}
-use Rattle.std.proofs.lemmas.Bool.{cases_lt, false_from_ne_true, true≢false, or_cases, both_ways}
+use Rattle.std.proofs.Common.{◌≡◌, ℕ, suc, zero, ◌*◌, ◌≤◌, ◌<◌, ◌^◌, ◌≢◌, Bool, true, false, refl, sym, ap, ap₂, ◌∙◌, arith, inl, inr, List, [], ◌∷◌, ◌++◌, length, subst, Some, None, ◌↔◌}
+use Rattle.std.proofs.lemmas.Bool.{cases_lt, false_from_ne_true}
 use Rattle.std.proofs.lemmas.List.Sums.{sum_by-cons}
 use Rattle.counting.specs.Counts.{bit, Within, total}
 use Rattle.counting.specs.Lists.{mem}
-use Rattle.counting.specs.Sets.{Set, pair_set}
+use Rattle.counting.specs.Sets.{pair_set}
 use Rattle.flow_core.specs.Cuts.{IfCut, IsCut}
 use Rattle.flow_core.specs.Nets.{Net, HasCutWithin, IsLeastCut}
 use Rattle.flow_core.specs.declared.cut.CutAnswer.{CutAnswer}
@@ -25,7 +25,7 @@ use Rattle.tight_cuts.proofs.PiecesOfEdges.{beside_graph}
 use Rattle.tight_cuts.specs.Candidates.{lesser_end, greater_end, is_parted, common_shore}
 use Rattle.tight_cuts.specs.EdgeSearch.{AreLeaders, AreWeights, IsShoreOfPair, Leads, arc_between, arcs_by, at_place, group_net, row_group}
 use Rattle.tight_cuts.specs.PairSums.{weight}
-use Rattle.tight_cuts.specs.Pieces.{arcs_of, contracted_net, group_of, leader, IsBeside, IsGrouping}
+use Rattle.tight_cuts.specs.Pieces.{arcs_of, contracted_net, group_of, leader, IsGrouping}
 
 -- a total of numbers up to 2048
 pub total_small : (n : ℕ) (f : ℕ → ℕ) → ((v : ℕ) → Within n v → f v ≤ 2048) → total n f ≤ 2048 * n

@@ -1,3 +1,5 @@
+-- The first pair consists of least vertices of pieces.
+-- Idea: a pair is parted by its pieces alone, so an earlier pair would be found.
 use Rattle.std.proofs.Common.{◌≡◌, ℕ, suc, zero, ◌<◌, Bool, true, false, cond, refl, sym, ap, ◌∙◌, arith, ◌&&◌, not, inl, inr, ◌⊎◌, List, [], ◌∷◌, ◌++◌, map, flat_map, Option, Some, None, nat_lt}
 use Rattle.std.proofs.lemmas.Bool.{cases_eq, cases_Bool, and_parts, and_from, both_ways, ltb-true, false_from_ne_true}
 use Rattle.std.proofs.lemmas.Grind.{flat_map-append}
@@ -22,7 +24,6 @@ use Rattle.tight_cuts.proofs.PiecesOfEdges.{tight_piece, beside_graph}
 use Rattle.tight_cuts.specs.Candidates.{is_parted}
 use Rattle.tight_cuts.specs.Pieces.{PartsTightly, IsBeside}
 
--- The first pair consists of least vertices of pieces. Idea: a pair is parted by its pieces alone, so an earlier pair would be found.
 -- the row in which the first is found
 module _ (p : ℕ × ℕ → Bool) (f : ℕ → List (ℕ × ℕ)) where
   rows_suc : (m : ℕ) → find p (flat_map f (rising_list (suc m) everything)) ≡ option_or (find p (flat_map f (rising_list m everything))) (option_or (find p (f (suc m))) None)

@@ -1,10 +1,9 @@
 -- The candidates of the first two parts, as the code makes them, and the steps of the loop over the edges.
 -- Idea: a bicritical graph has no barrier cut, and one that is not has no separation shore.
-use Rattle.std.proofs.Common.{◌≡◌, ℕ, suc, zero, ◌+◌, ◌≤◌, ◌<◌, ◌≢◌, Bool, true, false, refl, sym, ap, ◌∙◌, arith, ◌&&◌, not, inl, inr, ◌⊎◌, List, [], ◌∷◌, ◌++◌, map, length, subst, nat_le, Option, Some, None}
+use Rattle.std.proofs.Common.{◌≡◌, ℕ, suc, ◌+◌, ◌<◌, Bool, true, false, refl, sym, ap, ◌∙◌, arith, ◌&&◌, not, List, [], ◌∷◌, ◌++◌, map, nat_le, Some}
 use Rattle.std.specs.Prelude.{All, fold, if◌then◌else◌, is_none}
-use Rattle.std.specs.List.{AllPairs, list_any}
-use Rattle.std.proofs.lemmas.Bool.{cases_Bool, true≢false, lt-leb, le-leb}
-use Rattle.barrier_kit.proofs.ShoreFacts.{barrier_cuts-canonical, barrier_shores-tight}
+use Rattle.std.specs.List.{list_any}
+use Rattle.std.proofs.lemmas.Bool.{true≢false, lt-leb}
 use Rattle.barrier_kit.specs.BarrierShores.{barrier_cuts, barrier_shores}
 use Rattle.barrier_kit.specs.CanonicalCuts.{IsCanonicalCut, is_listed, with_cut}
 use Rattle.counting.proofs.Counts.{count_congr}
@@ -12,17 +11,13 @@ use Rattle.counting.proofs.RisingLists.{rising_list-congr}
 use Rattle.counting.specs.Counts.{count, Within}
 use Rattle.counting.specs.Lists.{mem, rising_list, IsRisingIn}
 use Rattle.counting.specs.Sets.{Set, complement}
-use Rattle.graph_core.specs.Covered.{IsCovered}
-use Rattle.graph_core.specs.Graph.{Graph, IsGraph, size}
-use Rattle.graph_core.specs.Structure.{IsBicritical, is_bicritical, unlike_pair}
-use Rattle.graph_core.specs.Tight.{IsTight, IsNontrivial, canonical_shore, is_nontrivial}
-use Rattle.separation_kit.proofs.PairShores.{bicritical-true}
-use Rattle.separation_kit.proofs.SeparationFacts.{unlike-none}
+use Rattle.graph_core.specs.Graph.{Graph, size}
+use Rattle.graph_core.specs.Structure.{is_bicritical, unlike_pair}
+use Rattle.graph_core.specs.Tight.{canonical_shore}
 use Rattle.separation_kit.specs.SeparationShores.{separation_cuts, separation_shores}
 use Rattle.tight_cuts.proofs.CandidateLists.{fold-cuts}
-use Rattle.tight_cuts.proofs.Completeness.{candidates_apart, candidates_found, candidates_none, candidates_cover}
 use Rattle.tight_cuts.proofs.EdgeLoop.{after_edges, after_suc}
-use Rattle.tight_cuts.specs.Candidates.{Barrier, Candidate, Flow, Origin, Separation, candidate, candidate_at, candidates, common_shore, cuts, first_parted, front_candidates, greater_end, lesser_end, shores_of, with_edge_cut, with_list, with_pair, with_shore}
+use Rattle.tight_cuts.specs.Candidates.{Barrier, Candidate, Flow, Origin, Separation, candidate_at, candidates, common_shore, cuts, first_parted, front_candidates, greater_end, lesser_end, shores_of, with_edge_cut, with_list, with_pair, with_shore}
 use Rattle.tight_cuts.specs.EdgeSearch.{IsShoreOfEdge}
 
 -- the cuts of shores, as candidates
@@ -100,10 +95,6 @@ module _ (g : Graph) (list : List Candidate) (e : ℕ) where
   -- an edge in the cut of a candidate adds nothing
   pub edge-known : list_any (cuts g e) list ≡ true → list ≡ with_edge_cut g list e
   edge-known h = sym (choose-true (list_any (cuts g e) list) list (with_pair g (lesser_end g e) (greater_end g e) list (first_parted g e)) h)
-
-  -- an edge that gives nothing
-  pub edge-nothing : list_any (cuts g e) list ≡ false → first_parted g e ≡ None → list ≡ with_edge_cut g list e
-  edge-nothing h q = sym (choose-false (list_any (cuts g e) list) list (with_pair g (lesser_end g e) (greater_end g e) list (first_parted g e)) h ∙ ap (with_pair g (lesser_end g e) (greater_end g e) list) q)
 
   -- an edge that gives a shore
   pub edge-shore : (after : List Candidate) (s : List ℕ) → Within g.order g.order → list_any (cuts g e) list ≡ false → IsShoreOfEdge g e (Some s) → after ≡ with_list g.order Flow list s → after ≡ with_edge_cut g list e

@@ -1,14 +1,14 @@
 -- The leader of a vertex is the least vertex of its component, and by leaders the pieces of an edge become groups.
 -- Idea: in the list of components one alone holds the vertex, and a component's list begins with its least vertex.
-use Rattle.std.proofs.Common.{◌≡◌, ℕ, ◌≤◌, ◌<◌, ◌≢◌, Bool, true, false, cond, ◌==◌, refl, sym, ap, ◌∙◌, arith, ◌&&◌, ◌||◌, not, inl, inr, ◌⊎◌, List, [], ◌∷◌, map, subst, eq-eqb, ne_eqb, eqb-true, nat_lt}
+use Rattle.std.proofs.Common.{◌≡◌, ℕ, ◌≤◌, ◌≢◌, Bool, true, false, cond, ◌==◌, refl, sym, ap, ◌∙◌, arith, ◌&&◌, not, inl, inr, ◌⊎◌, List, [], ◌∷◌, map, subst, eq-eqb, ne_eqb, eqb-true, nat_lt}
 use Rattle.std.specs.Prelude.{All}
-use Rattle.std.proofs.lemmas.Bool.{cases_eq, cases_lt, cases_Bool, and_parts, or_cases, or_left, or_right, or_from, true≢false, both_ways, ltb-true, lt-ltb, false_from_ne_true}
-use Rattle.std.proofs.lemmas.List.Elements.{All-head, All-tail, All-nil, All-cons, All-append}
+use Rattle.std.proofs.lemmas.Bool.{cases_lt, cases_Bool, and_parts, or_cases, or_left, or_right, true≢false, both_ways, lt-ltb, false_from_ne_true}
+use Rattle.std.proofs.lemmas.List.Elements.{All-head, All-tail, All-nil, All-cons}
 use Rattle.counting.proofs.Tests.{some_none}
 use Rattle.counting.proofs.Lists.{rising_holds, rising_only}
 use Rattle.counting.proofs.RisingLists.{mem-rising_list, rising_list-rises, first-least}
 use Rattle.counting.specs.Counts.{Within}
-use Rattle.counting.specs.Lists.{mem, rising_list, IsRisingIn, IsLeastOf}
+use Rattle.counting.specs.Lists.{mem, rising_list, IsRisingIn}
 use Rattle.counting.specs.Sets.{Set, pair_set}
 use Rattle.counting.specs.Tests.{some}
 use Rattle.graph_core.proofs.Components.{joined_outside, joined_walk, walk_joined}

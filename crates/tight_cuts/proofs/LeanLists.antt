@@ -1,3 +1,5 @@
+-- The length of a pair list that grows.
+-- Idea: each member is the first to hold some pair of edges, and no pair has two first members.
 use Rattle.std.proofs.Common.{◌≡◌, ℕ, suc, zero, ◌+◌, ◌-◌, ◌≤◌, ◌<◌, ◌≢◌, Bool, true, false, ◌==◌, refl, sym, ap, ◌∙◌, arith, ◌&&◌, ◌||◌, not, inl, inr, List, [], ◌∷◌, length, nat_le, get_or}
 use Rattle.std.proofs.lemmas.Bool.{cases_lt, cases_Bool, and_parts, and_from, or_cases, true≢false, both_ways, false_from_ne_true, eqb-true, le-leb, leb-true}
 use Rattle.std.proofs.lemmas.List.Elements.{All-head, All-tail}
@@ -10,7 +12,6 @@ use Rattle.counting.specs.Lists.{mem, item, IsRisingIn}
 use Rattle.counting.specs.Tests.{some}
 use Rattle.graph_core.specs.PairLists.{IsLean}
 
--- The length of a pair list that grows. Idea: each member is the first to hold some pair of edges, and no pair has two first members.
 mem_holds : (P : ℕ → Type 0) (xs : List ℕ) (v : ℕ) → All P xs → mem xs v ≡ true → P v
 mem_holds P [] v h m = absurd (true≢false (sym m))
 mem_holds P (x ∷ xs) v h m = elim (or_cases (x == v) (mem xs v) m) [

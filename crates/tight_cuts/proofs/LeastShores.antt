@@ -1,3 +1,5 @@
+-- The intersection of all tight sets that part two pairs is one of them.
+-- Idea: the meet of two of them is odd by one matching with the edge, so a least one lies in each.
 use Rattle.std.proofs.Common.{◌≡◌, ℕ, suc, zero, ◌≤◌, ◌≢◌, Bool, true, false, refl, sym, ap, ap₂, ◌∙◌, arith, ◌&&◌, ◌||◌, not, inl, inr, nat_lt, lt-ltb}
 use Rattle.std.proofs.lemmas.Bool.{cases_lt, and_parts, and_from, or_parts, or_from, true≢false, both_ways, ltb-true}
 use Rattle.barrier_kit.proofs.Matched.{tight_congr, total_tight, two_members, odd_three}
@@ -17,7 +19,6 @@ use Rattle.tight_cuts.proofs.PairsOfEdges.{odd_sides, others_stay, cut_between}
 use Rattle.tight_cuts.specs.Candidates.{parts_tightly, is_parted, common_shore}
 use Rattle.tight_cuts.specs.Pieces.{PartsTightly}
 
--- The intersection of all tight sets that part two pairs is one of them. Idea: the meet of two of them is odd by one matching with the edge, so a least one lies in each.
 not_true : (b : Bool) → not b ≡ true → b ≡ false
 not_true b h = grind arith
 

@@ -1,3 +1,5 @@
+-- The contracted network.
+-- Idea: the value of a set of nodes is the sum over the pair list of the cut of its vertices.
 use Rattle.std.proofs.Common.{◌≡◌, ℕ, suc, zero, ◌+◌, ◌*◌, ◌≤◌, Bool, true, false, cond, ◌==◌, refl, sym, ap, ap₂, ◌∙◌, arith, ◌&&◌, ◌||◌, not, inl, inr, eq-eqb, ne_eqb, eqb-true, List, [], ◌∷◌, length, sum_by, ◌↔◌}
 use Rattle.std.proofs.lemmas.Bool.{cases_eq, and_parts, and_from, or_cases, or_left, or_right, true≢false}
 use Rattle.std.proofs.lemmas.List.Sums.{sum_by-cons, sum_by-append}
@@ -24,7 +26,6 @@ use Rattle.tight_cuts.specs.Candidates.{is_parted, common_shore}
 use Rattle.tight_cuts.specs.PairSums.{weight, cut_sum}
 use Rattle.tight_cuts.specs.Pieces.{PartsTightly, IsBeside, arcs_of, contracted_net, with_piece, IsGrouping}
 
--- The contracted network. Idea: the value of a set of nodes is the sum over the pair list of the cut of its vertices.
 -- the weights in a cut are its edges in all the matchings
 pub weights_cut : (g : Graph) (ms : List (List ℕ)) (x : Set) → total (size g) (λ e. weight ms e * bit (in_cut g x e)) ≡ cut_sum g ms x
 unfolding cut_sum

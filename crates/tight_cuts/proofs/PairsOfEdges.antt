@@ -1,6 +1,6 @@
 -- Two tests of tightness: no two edges of the cut lie together; a pair list meets the cut as often as it is long.
 -- Idea: an odd set is met by each perfect matching, so one with an odd cut that is not tight is met twice by some.
-use Rattle.std.proofs.Common.{◌≡◌, ℕ, suc, ◌+◌, ◌≤◌, ◌≢◌, Bool, true, false, refl, sym, ap, ◌∙◌, arith, ◌&&◌, ◌||◌, not, inl, inr, List, [], ◌∷◌, length, ◌↔◌, sum_by, get_or}
+use Rattle.std.proofs.Common.{◌≡◌, ℕ, suc, ◌+◌, ◌≤◌, ◌≢◌, Bool, true, false, refl, sym, ap, ◌∙◌, arith, ◌&&◌, ◌||◌, not, inl, inr, List, [], ◌∷◌, length, sum_by, get_or}
 use Rattle.std.proofs.lemmas.Bool.{cases_lt, and_parts, and_from, true≢false, false_from_ne_true}
 use Rattle.std.proofs.lemmas.List.Elements.{All-head, All-tail, All-cons, All-nil}
 use Rattle.std.proofs.lemmas.List.Sums.{sum_by-cons}
@@ -42,10 +42,6 @@ alone_tight g x is o r h = record {
         absurd (h q.0 q.1 q.2 q.3 q.4 s.1 t.1 (m, p, s.0, t.0))
   ];
 }
-
--- an odd cut is tight exactly where no two of its edges lie together
-pub tight_by_pairs : (g : Graph) (x : Set) → IsGraph g → is_odd (count g.order x) ≡ true → is_odd (count g.order (complement x)) ≡ true → IsTight g x ↔ NoTwoTogether g x
-tight_by_pairs g x is o r = (tight_alone g x, alone_tight g x is o r)
 
 -- sums of numbers that are at least 1
 pub sum_bound : (ms : List (List ℕ)) (f : List ℕ → ℕ) → All (λ m. 1 ≤ f m) ms → length ms ≤ sum_by f ms

@@ -1,24 +1,22 @@
-use Rattle.std.proofs.Common.{◌≡◌, ℕ, ◌+◌, ◌≤◌, ◌≢◌, Bool, true, false, ◌==◌, refl, sym, ap, ap₂, ◌∙◌, arith, ◌&&◌, ◌||◌, not, inl, inr, eq-eqb, ne_eqb}
-use Rattle.std.proofs.lemmas.Bool.{cases_eq, or_from, both_ways, false_from_ne_true}
+-- The pieces of an edge.
+-- Idea: an edge that lies together with it meets neither of its ends, so it stays in one piece, and a tight set has it on one side.
+use Rattle.std.proofs.Common.{◌≡◌, ℕ, ◌≤◌, ◌≢◌, Bool, true, false, ◌==◌, refl, sym, ap, ap₂, ◌∙◌, arith, ◌&&◌, ◌||◌, not, inl, inr, ne_eqb}
+use Rattle.std.proofs.lemmas.Bool.{or_from, both_ways}
 use Rattle.barrier_kit.proofs.BarrierCuts.{part_step}
-use Rattle.barrier_kit.proofs.Matched.{inner, near_end, far_end}
-use Rattle.counting.proofs.Odd.{odd-double}
+use Rattle.barrier_kit.proofs.Matched.{near_end, far_end}
 use Rattle.counting.proofs.RisingLists.{same_answers}
-use Rattle.counting.proofs.Totals.{total_none}
-use Rattle.counting.specs.Counts.{bit, count, Within, is_odd}
+use Rattle.counting.specs.Counts.{count, Within, is_odd}
 use Rattle.counting.specs.Sets.{Set, none, complement, pair_set}
-use Rattle.graph_core.proofs.Components.{joined_walk, walk_joined, joined_outside}
+use Rattle.graph_core.proofs.Components.{joined_walk, walk_joined}
 use Rattle.graph_core.proofs.Edits.{ends_of, two_ends_le_degree}
-use Rattle.graph_core.proofs.Parity.{parity}
 use Rattle.graph_core.proofs.Walks.{has_ends-cases, adjacent-edge, adjacent_within, Walk-stays, IsClosed, joined_self}
-use Rattle.graph_core.specs.Graph.{Graph, size, first_end, second_end, IsGraph, in_cut, has_ends, edges_in_cut}
+use Rattle.graph_core.specs.Graph.{Graph, size, first_end, second_end, IsGraph, in_cut, has_ends}
 use Rattle.graph_core.specs.Matchings.{IsPerfect, Allowed, Together}
 use Rattle.graph_core.specs.Tight.{IsTight}
 use Rattle.graph_core.specs.Walks.{joined, Joined, adjacent}
 use Rattle.tight_cuts.proofs.PairsOfEdges.{odd_sides, others_stay, cut_between}
 use Rattle.tight_cuts.specs.Pieces.{IsBeside}
 
--- The pieces of an edge. Idea: an edge that lies together with it meets neither of its ends, so it stays in one piece, and a tight set has it on one side.
 -- a set that no edge of h leaves holds all of a component or nothing
 pub uncrossed_joined : (h : Graph) (s z : Set) → IsGraph h → ((f : ℕ) → Within (size h) f → in_cut h z f ≡ false) → (u v : ℕ) → joined h s u v ≡ true → z u ≡ z v
 unfolding Joined IsClosed
@@ -106,39 +104,3 @@ module _ (g h : Graph) (is : IsGraph g) (a b e : ℕ) (wa : Within g.order a) (w
     where
       alike : (s t : Bool) → s ≡ t → ((s && not t) || (not s && t)) ≡ false
       alike s t h = grind arith
-
-  -- the pieces are even
-  pub piece_even : Allowed g e → (u : ℕ) → Within g.order u → pair_set a b u ≡ false → is_odd (count g.order (joined h (pair_set a b) u)) ≡ false
-  piece_even al u wu o =
-      let k = inner g al.0 (joined h (pair_set a b) u) in
-      let z : edges_in_cut g al.0 (joined h (pair_set a b) u) ≡ 0 = total_none (size g) _ (λ f wf. ap bit (no_cross f wf (al.0 f) refl)) in
-      let q : count g.order (joined h (pair_set a b) u) ≡ k + k = omega (arith, parity g is al.0 (joined h (pair_set a b) u) al.1) in
-      ap is_odd q ∙ odd-double k
-    where
-      alike : (s t : Bool) → s ≡ t → ((s && not t) || (not s && t)) ≡ false
-      alike s t h = grind arith
-
-      out : (v : ℕ) → pair_set a b v ≡ true → joined h (pair_set a b) u v ≡ false
-      out v t = false_from_ne_true (joined h (pair_set a b) u v) (λ j. both_ways (pair_set a b v) (joined_outside h (pair_set a b) beside_graph u v o j) t)
-
-      at_a : pair_set a b a ≡ true
-      at_a = ap (λ s. s || (b == a)) (eq-eqb a a refl)
-
-      at_b : pair_set a b b ≡ true
-      at_b = right (a == b) (b == b) (eq-eqb b b refl)
-        where
-          right : (s t : Bool) → t ≡ true → (s || t) ≡ true
-          right s t h = grind arith
-
-      own : joined h (pair_set a b) u (first_end g e) ≡ joined h (pair_set a b) u (second_end g e)
-      own = elim (has_ends-cases g a b e ends) [
-        | inl k ↦ out (first_end g e) (ap (pair_set a b) k.0 ∙ at_a) ∙ sym (out (second_end g e) (ap (pair_set a b) k.1 ∙ at_b))
-        | inr k ↦ out (first_end g e) (ap (pair_set a b) k.0 ∙ at_b) ∙ sym (out (second_end g e) (ap (pair_set a b) k.1 ∙ at_a))
-      ]
-
-      no_cross : (f : ℕ) → Within (size g) f → (s : Bool) → al.0 f ≡ s → (s && in_cut g (joined h (pair_set a b) u) f) ≡ false
-      no_cross f wf false p = refl
-      no_cross f wf true p = alike (joined h (pair_set a b) u (first_end g f)) (joined h (pair_set a b) u (second_end g f)) (elim (cases_eq f e) [
-        | inl d ↦ ap (λ i. joined h (pair_set a b) u (first_end g i)) d ∙ own ∙ ap (λ i. joined h (pair_set a b) u (second_end g i)) (sym d)
-        | inr d ↦ beside_stays f u wu wf d (al.0, al.1, al.2, p)
-      ])

@@ -1,4 +1,5 @@
-use Rattle.std.proofs.Common.{◌≡◌, ℕ, ◌≢◌, Bool, true, false, refl, sym, ap, ap₂, ◌∙◌, arith, ◌==◌, ◌&&◌, ◌||◌, not, inl, inr, ◌⊎◌, List, [], ◌∷◌, ◌++◌, subst, nat_le}
+-- Canonical shores, shores as rising lists, and what one more shore does to a list of candidates.
+use Rattle.std.proofs.Common.{◌≡◌, ℕ, Bool, true, false, refl, sym, ap, ap₂, ◌∙◌, arith, ◌==◌, ◌&&◌, ◌||◌, not, inl, inr, ◌⊎◌, List, [], ◌∷◌, ◌++◌, subst, nat_le}
 use Rattle.std.proofs.lemmas.Bool.{cases_Bool, and_parts, and_from, or_cases, or_left, or_right, true≢false, both_ways, false_from_ne_true, leb-true, le-leb, eqb-true, eq-eqb}
 use Rattle.std.proofs.lemmas.List.Elements.{All-push}
 use Rattle.std.proofs.lemmas.List.Folds.{list_any-append, list_any_at, Any-from_list_any}
@@ -17,7 +18,6 @@ use Rattle.graph_core.specs.Graph.{Graph, size, first_end, second_end, IsGraph, 
 use Rattle.graph_core.specs.Tight.{IsTight, IsNontrivial, canonical_shore, is_nontrivial}
 use Rattle.tight_cuts.specs.Candidates.{Origin, Candidate, ShoresDiffer, candidate, cuts, shores_of, with_shore, IsTightCandidate}
 
--- Canonical shores, shores as rising lists, and what one more shore does to a list of candidates.
 -- the other shore
 pub complement_tight : (g : Graph) (x : Set) → IsTight g x → IsTight g (complement x)
 complement_tight g x t = record {

@@ -1,25 +1,23 @@
 -- Counting how often the matchings of a list hold each edge, row by row.
 -- Idea: the edges of a matching rise, so the edge of a row is in no earlier row.
-use Rattle.std.proofs.Common.{◌≡◌, ℕ, suc, zero, ◌+◌, ◌≤◌, ◌<◌, Bool, true, false, ◌||◌, ◌==◌, List, [], ◌∷◌, length, map, take, refl, sym, ap, ◌∙◌, arith, inl, inr, eq-eqb, ne_eqb, eqb-true, get_or-set_same, get_or-set_other, subst, sum_by, rules}
-use Rattle.std.specs.Prelude.{All, Some, slice_get, slice_set}
-use Rattle.std.proofs.lemmas.Bool.{cases_eq, cases_lt, or_left, or_right, or_from, both_ways, true≢false}
+use Rattle.std.proofs.Common.{◌≡◌, ℕ, suc, zero, ◌+◌, ◌≤◌, ◌<◌, Bool, true, false, ◌||◌, ◌==◌, List, [], ◌∷◌, length, map, take, refl, sym, ap, ◌∙◌, arith, inl, inr, eq-eqb, ne_eqb, get_or-set_same, get_or-set_other, rules}
+use Rattle.std.specs.Prelude.{Some, slice_get, slice_set}
+use Rattle.std.proofs.lemmas.Bool.{cases_eq, or_left, or_right, or_from, both_ways}
 use Rattle.std.proofs.lemmas.List.Sums.{sum_by-cons}
-use Rattle.std.proofs.lemmas.List.Elements.{All-get_or}
-use Rattle.std.proofs.lemmas.Option.{get_or_from_slice_get, slice_get_within}
-use Rattle.allowed_edges.proofs.Marking.{edge-below, edges-more}
+use Rattle.allowed_edges.proofs.Marking.{edges-more}
 use Rattle.allowed_edges.specs.PairTables.{PairsValue, edge_lists}
 use Rattle.counting.proofs.Lists.{Rises, mem_low, rises-from_set}
-use Rattle.counting.specs.Counts.{bit, Within}
-use Rattle.counting.specs.Lists.{mem, IsRisingIn}
+use Rattle.counting.specs.Counts.{bit}
+use Rattle.counting.specs.Lists.{mem}
 use Rattle.graph_core.specs.Graph.{Graph, size}
 use Rattle.graph_core.specs.PairLists.{IsPairList, IsLean}
 use Rattle.graph_core.specs.View.{IsWithinLimits}
 use Rattle.tight_cuts.proofs.EdgeShores.{total_small}
 use Rattle.tight_cuts.proofs.LeanLists.{grown_length}
 use Rattle.match_core.proofs.MatchingEdges.{edge_of}
-use Rattle.match_core.specs.MatchingRows.{IsOf, IsRowOf, KeepsMatching, MatchingValue, edges_of}
+use Rattle.match_core.specs.MatchingRows.{KeepsMatching, MatchingValue, edges_of}
 use Rattle.match_core.specs.declared.matching.MatchRow.{MatchRow}
-use Rattle.tight_cuts.specs.EdgeSearch.{AreWeights, at_place}
+use Rattle.tight_cuts.specs.EdgeSearch.{at_place}
 use Rattle.tight_cuts.specs.PairSums.{weight}
 
 -- the edge of a row is one of the edges
@@ -94,21 +92,6 @@ take-whole (k ∷ list) (suc i) l = ap (λ ys. k ∷ ys) (take-whole list i (ome
 map-length : (list : List MatchingValue) → length (map edges_of list) ≡ length list
 map-length [] = refl
 map-length (k ∷ list) = let i = map-length list in omega arith
-
--- edges of matchings of g are places of the row
-pub rows-below : (g : Graph) (n : ℕ) (m : MatchingValue) → IsOf g m → n ≡ size g + 1 → All (λ (r : MatchRow). r.edge < n) m.rows
-rows-below g n m o q k d l = let w = (o.rows k d l).edge in omega arith
-
-pub weights-are : (g : Graph) (pairs : PairsValue) (row : List ℕ) (i bound : ℕ) → IsPairList g (edge_lists pairs) → IsLean (edge_lists pairs) → length row ≡ size g + 1 → length pairs.list ≤ i → bound ≡ length pairs.list →
-    ((e : ℕ) → at_place row e ≡ weight (map edges_of (take i pairs.list)) e) → AreWeights g row bound
-weights-are g pairs row i bound pl lean long l b h = record {
-  list = edge_lists pairs;
-  pairs = pl;
-  lean = lean;
-  long = long;
-  each = λ e w. h e ∙ ap (λ list. weight (map edges_of list) e) (take-whole pairs.list i l);
-  is = b ∙ sym (map-length pairs.list);
-}
 
 -- as many places as before
 pub length-counted : (xs : List ℕ) (e v : ℕ) → length (slice_set xs e v) ≡ length xs

@@ -1,11 +1,10 @@
 -- What the search at one edge keeps in rows, and what it answers.
-use Rattle.std.specs.Prelude.{◌≡◌, ℕ, zero, suc, ◌+◌, ◌<◌, ◌^◌, ◌⊎◌, false, true, List, [], ◌∷◌, ◌++◌, ◌==◌, Option, Some, None, cond, length, slice_index_or}
-use Rattle.counting.specs.Counts.{Within, total}
-use Rattle.counting.specs.Sets.{Set, pair_set}
+use Rattle.std.specs.Prelude.{◌≡◌, ℕ, zero, suc, ◌+◌, ◌<◌, ◌⊎◌, false, true, List, [], ◌∷◌, ◌++◌, ◌==◌, Option, Some, None, cond, length, slice_index_or}
+use Rattle.counting.specs.Counts.{Within}
+use Rattle.counting.specs.Sets.{pair_set}
 use Rattle.counting.specs.Lists.{mem}
 use Rattle.graph_core.specs.Components.{components}
 use Rattle.graph_core.specs.Graph.{Graph, size, first_end, second_end}
-use Rattle.graph_core.specs.Matchings.{Together}
 use Rattle.graph_core.specs.PairLists.{IsPairList, IsLean}
 use Rattle.flow_core.specs.Nets.{Arc, Net}
 use Rattle.tight_cuts.specs.Candidates.{lesser_end, greater_end, is_parted, common_shore, first_parted}

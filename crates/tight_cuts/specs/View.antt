@@ -1,5 +1,4 @@
 -- How the code's candidates are seen.
-use Rattle.std.specs.Prelude.{List, map}
 use Rattle.tight_cuts.specs.Candidates.{Candidate, Origin, Barrier, Separation, Flow}
 use Rattle.tight_cuts.specs.declared.candidate.Candidate.{Candidate as StoredCandidate}
 use Rattle.tight_cuts.specs.declared.candidate.Origin.{Origin as StoredOrigin}

@@ -1,12 +1,18 @@
-//! Tight cuts of a matching covered graph.
+//! Tight cuts of a matching covered graph, and the complete finder of them.
 //!
-//! Is a cut tight, that is, does each perfect matching have exactly one edge in it? `is_tight` answers this for the cut of a
-//! shore with an odd number of vertices (`IsTight` of `graph_core`): `Tightness::Tight` comes exactly where the cut is tight,
-//! and `Tightness::Crossed` shows a perfect matching with at least two edges in the cut (`CrossesTwice`). An odd cut is tight
-//! exactly where no two of its edges lie together in a perfect matching (`NoTwoTogether`), so only pairs of edges are asked.
+//! A cut is tight if each perfect matching has exactly one edge in it (`IsTight` of `graph_core`). `is_tight` tests one cut and,
+//! where it is not tight, shows a perfect matching with two edges in it. `candidates` lists nontrivial tight cuts by their
+//! canonical shores: first those of barriers and separations, then, for each edge that no earlier cut has, one that a least
+//! minimum cut gives. Each listed cut is tight (`IsTightCandidate`), none comes twice, each edge of each nontrivial tight cut is
+//! in a listed one (clause `cover`), and so the list is empty exactly where there is no nontrivial tight cut (clause `none`).
+//! `find_any` answers the first.
 //!
-//! Stands on `allowed_edges`, which answers a perfect matching that holds two given edges from one at hand. Source: Lovász,
-//! "Matching structure and the matching lattice" (1987); Lucchesi and Murty, "Perfect Matchings".
+//! How an edge is searched: a tight set through an edge is a union of the edge's pieces beside one of its ends (`Pieces`); over a
+//! pair list each odd set is met at least as often as the list is long, and exactly so often where it is tight (`PairSums`); so
+//! the least minimum cut of the network of the pieces is the intersection of all tight sets that part two pieces (`Networks`).
+//!
+//! Stands on `allowed_edges`, `barrier_kit`, `separation_kit` and `flow_core`. Sources: Edmonds, Lovász and Pulleyblank 1982;
+//! Lovász, "Matching structure and the matching lattice" (1987); Picard and Queyranne (1980) for least minimum cuts.
 #![tactic(auto)]
 
 mod candidate;

@@ -1,8 +1,7 @@
-use Rattle.std.proofs.Common.{◌≡◌, ◌+◌, ℕ, List, Option, Some, None, true, refl, sym, ap, ◌∙◌, subst}
+use Rattle.std.proofs.Common.{◌≡◌, ◌+◌, ℕ, List, Option, Some, None, sym, ◌∙◌, subst}
 use Rattle.std.proofs.lemmas.Bool.{both_ways}
 use Rattle.std.proofs.lemmas.Result.{IfOk-weaker}
-use Rattle.counting.specs.Counts.{Within}
-use Rattle.tight_cuts.specs.EdgeSearch.{IsShoreOfEdge, IsShoreOfPair, NoneBefore, at_place}
+use Rattle.tight_cuts.specs.EdgeSearch.{IsShoreOfEdge, IsShoreOfPair, NoneBefore}
 use Rattle.tight_cuts.proofs.EdgePairs.{found_shore, leads-test, pair_not, skip_second}
 use Rattle.tight_cuts.proofs.edge_search.shore_at.Goals as goal
 

@@ -1,6 +1,6 @@
-use Rattle.std.proofs.Common.{◌≡◌, true, false, sym, ◌∙◌, ap, ap₂, min, max}
+use Rattle.std.proofs.Common.{◌∙◌, ap₂, min, max}
 use Rattle.std.proofs.lemmas.Bool.{both_ways}
-use Rattle.tight_cuts.proofs.EdgePairs.{leads-test, skip_first, next_first}
+use Rattle.tight_cuts.proofs.EdgePairs.{leads-test, skip_first}
 use Rattle.tight_cuts.proofs.edge_search.shore_from.Goals as goal
 
 pub returns-then-not-leads-clause-none : goal.returns-then-not-leads-clause-none

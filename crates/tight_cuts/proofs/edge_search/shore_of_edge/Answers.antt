@@ -1,4 +1,4 @@
-use Rattle.std.proofs.Common.{◌≡◌, ◌+◌, ◌<◌, arith, Some, None}
+use Rattle.std.proofs.Common.{◌+◌, arith}
 use Rattle.tight_cuts.proofs.EdgePairs.{none_at_all}
 use Rattle.tight_cuts.proofs.edge_search.shore_of_edge.Goals as goal
 

@@ -1,7 +1,7 @@
-use Rattle.std.proofs.Common.{ℕ, List, ◌≡◌, ◌∙◌, ap, sym, subst}
+use Rattle.std.proofs.Common.{◌∙◌, ap, sym, subst}
 use Rattle.counting.specs.Counts.{Within}
 use Rattle.tight_cuts.specs.EdgeSearch.{AreWeights, group_net, row_group}
-use Rattle.tight_cuts.proofs.EdgeShores.{PairFacts, cut_answer, flow_answer, pair_facts}
+use Rattle.tight_cuts.proofs.EdgeShores.{cut_answer, flow_answer, pair_facts}
 use Rattle.tight_cuts.proofs.edge_search.shore_of_pair.Goals as goal
 
 pub network-requires-clause-small : goal.network-requires-clause-small

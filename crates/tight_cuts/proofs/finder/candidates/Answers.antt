@@ -1,13 +1,11 @@
-use Rattle.std.proofs.Common.{◌≡◌, ◌≤◌, ℕ, [], ◌↔◌, ◌∙◌, sym, ap, subst, true, arith, List}
+use Rattle.std.proofs.Common.{◌≡◌, [], ◌↔◌, ◌∙◌, sym, ap, subst, arith, List}
 use Rattle.std.specs.Prelude.{All}
 use Rattle.std.specs.List.{AllPairs, list_any}
 use Rattle.barrier_kit.proofs.ShoreFacts.{barrier_shores-tight}
-use Rattle.counting.specs.Counts.{Within}
 use Rattle.counting.specs.Sets.{Set}
-use Rattle.graph_core.specs.Graph.{in_cut, size}
 use Rattle.graph_core.specs.Tight.{IsNontrivial, IsTight}
 use Rattle.separation_kit.proofs.SeparationFacts.{separation_shores-tight}
-use Rattle.tight_cuts.specs.Candidates.{Candidate, IsTightCandidate, ShoresDiffer, candidates, cuts}
+use Rattle.tight_cuts.specs.Candidates.{Candidate, IsTightCandidate, ShoresDiffer, cuts}
 use Rattle.tight_cuts.proofs.Completeness.{candidates_apart, candidates_found, candidates_none, candidates_cover}
 use Rattle.tight_cuts.proofs.FrontCandidates.{edges-all, edges-more}
 use Rattle.tight_cuts.proofs.finder.candidates.Goals as goal

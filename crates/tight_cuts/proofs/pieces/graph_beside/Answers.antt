@@ -1,4 +1,4 @@
-use Rattle.std.proofs.Common.{◌≡◌, ℕ, ◌+◌, ◌∙◌, sym, ap, subst, arith}
+use Rattle.std.proofs.Common.{◌+◌, ◌∙◌, sym, subst, arith}
 use Rattle.std.proofs.lemmas.Bool.{both_ways}
 use Rattle.tight_cuts.proofs.BesideGraphs.{BesideSoFar, beside-more, beside-skip}
 use Rattle.tight_cuts.proofs.pieces.graph_beside.Goals.{then-f-e+then-both+in_ok-add_pair, else-f-e, else-f-e-via-then-f-e+else-both, else-f-e-via-else-f-e}

@@ -1,5 +1,5 @@
-use Rattle.std.proofs.Common.{◌≡◌, ◌≤◌, ℕ, ◌∙◌, length, sym, ap, subst, arith}
-use Rattle.tight_cuts.proofs.Weighing.{list-small, weight-taken, weights-are}
+use Rattle.std.proofs.Common.{length, ap, arith}
+use Rattle.tight_cuts.proofs.Weighing.{list-small, weight-taken}
 use Rattle.tight_cuts.proofs.pieces.weights_of.Goals as goal
 
 pub count_edges-requires-clause-room : goal.count_edges-requires-clause-room
