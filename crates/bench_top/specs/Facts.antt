@@ -1,5 +1,8 @@
 -- What the lines of a report claim of a graph.
 use Rattle.std.specs.Prelude.{◌≡◌, ◌↔◌, ℕ, IsTrue}
+use Rattle.std.specs.declared.option.Option.{Option}
+use Rattle.std.specs.declared.option.Option.TheVariants.{Some, None}
+use Rattle.std.specs.Option.{option_map}
 use Rattle.counting.specs.Counts.{count}
 use Rattle.counting.specs.Sets.{Set, none}
 use Rattle.counting.specs.Lists.{Lists}
@@ -7,8 +10,15 @@ use Rattle.graph_core.specs.Graph.{Graph, size, IsBipartite}
 use Rattle.graph_core.specs.Components.{component_count}
 use Rattle.graph_core.specs.Matchings.{Allowed, IsMaximum, missed_count}
 use Rattle.graph_core.specs.GallaiEdmonds.{InD, InA, InC}
+use Rattle.graph_core.specs.Structure.{classes, cut_pair, unlike_pair}
 use Rattle.graph_core.specs.Verdicts.{IsVerdict}
+use Rattle.graph_core.specs.View.{pair_of}
+use Rattle.graph_core.specs.declared.verdict.Verdict.{Verdict}
+use Rattle.graph_core.specs.declared.verdict.Verdict.TheVariants.{Covered, NotCovered}
+use Rattle.tight_cuts.specs.Candidates.{candidates, first_shore}
+use Rattle.leaf_kinds.specs.LeafKinds.{IsKind, cut_of}
 use Rattle.report_text.specs.declared.analyses.AnalysisLines.{AnalysisLines}
+use Rattle.report_text.specs.declared.structures.Structure.{Structure}
 
 -- some maximum matching has so many edges and misses so many vertices
 pub record HasMaximum (g : Graph) (edges missed : ℕ) : Type 0 where
@@ -16,6 +26,23 @@ pub record HasMaximum (g : Graph) (edges missed : ℕ) : Type 0 where
   pub maximum : IsMaximum g none matching
   pub size_is : count (size g) matching ≡ edges
   pub misses : missed_count g none matching ≡ missed
+
+-- each line on the structure of a covered graph is right: the classes are those of the canonical partition; the pairs are the first
+-- without which there is no perfect matching, and without which at least two components are left; the kind is shown by the shore of
+-- the first candidate, if there is one
+pub record IsStructure (g : Graph) (structure : Structure) : Type 0 where
+  pub partition : structure.classes ≡ classes g
+  pub unlike : option_map pair_of structure.unlike ≡ unlike_pair g
+  pub separates : option_map pair_of structure.cutpair ≡ cut_pair g
+  pub kind : IsKind g structure.kind
+  pub cut : cut_of structure.kind ≡ first_shore (candidates g)
+
+-- the structure is told exactly where the graph is covered, and is right
+abbrev pub TellsStructure : Graph → Verdict → Option Structure → Type 0
+TellsStructure g Covered None = ⊥
+TellsStructure g Covered (Some structure) = IsStructure g structure
+TellsStructure g (NotCovered reason) None = Unit {0}
+TellsStructure g (NotCovered reason) (Some structure) = ⊥
 
 -- each line of `analyse` is right
 pub record IsAnalysis (g : Graph) (lines : AnalysisLines) : Type 0 where
@@ -29,3 +56,4 @@ pub record IsAnalysis (g : Graph) (lines : AnalysisLines) : Type 0 where
   pub c : Lists g.order lines.c (InC g)
   pub allowed : Lists (size g) lines.allowed (Allowed g)
   pub verdict : IsVerdict g lines.verdict
+  pub structure : TellsStructure g lines.verdict lines.structure

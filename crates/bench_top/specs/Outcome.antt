@@ -12,7 +12,8 @@ use Rattle.graph_text.specs.EitherVersion.{NamedGraph, either_version}
 use Rattle.graph_text.specs.Names.{plain_names}
 use Rattle.graph_text.specs.Writing.{named_text}
 use Rattle.graph6_text.specs.Writing.{graph6_of}
-use Rattle.report_text.specs.Reports.{analysis_text, bad_input_text, with_names_text, graph6_line}
+use Rattle.report_text.specs.Analyses.{analysis_text}
+use Rattle.report_text.specs.Reports.{bad_input_text, with_names_text, graph6_line}
 use Rattle.report_text.specs.declared.analyses.AnalysisLines.{AnalysisLines}
 use Rattle.bench_top.specs.Commands.{Command, Analyse, Convert, Analyse6, command_of}
 use Rattle.bench_top.specs.Tasks.{Task}

@@ -9,6 +9,7 @@ ghost use Rattle.bench_top.specs.Outcome.{Analysed, Converted, Analysed6, Result
 
 use crate::report::Report;
 use crate::status::Status;
+use crate::structures::structure_where_covered;
 use crate::tasks::{SimpleGraph, Task};
 use allowed_edges::{allowed, covered};
 use gallai_edmonds::sets;
@@ -50,6 +51,7 @@ fn analysis_lines(alloc: Global, g: &MultiGraph) -> Result<AnalysisLines, Memory
     let sets = sets(alloc, g)?;
     let allowed = allowed(alloc, g)?;
     let verdict = covered(alloc, g)?;
+    let structure = structure_where_covered(alloc, g, &verdict)?;
     Ok(AnalysisLines {
         order: g.order(),
         size: g.size(),
@@ -62,6 +64,7 @@ fn analysis_lines(alloc: Global, g: &MultiGraph) -> Result<AnalysisLines, Memory
         c: sets.c,
         allowed,
         verdict,
+        structure,
     })
 }
 

@@ -21,6 +21,7 @@ mod report;
 mod running;
 mod status;
 mod stop;
+mod structures;
 mod tasks;
 #[cfg(test)]
 mod tests;

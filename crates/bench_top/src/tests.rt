@@ -8,7 +8,7 @@ use std::test::Fail;
 const K4: &str = "p mcg 4 6\ne 1 2\ne 1 3\ne 1 4\ne 2 3\ne 2 4\ne 3 4\n";
 
 const K4_REPORT: &str =
-    "graph 4 6\ncomponents 1\nbipartite no\nmatching 2\ndeficiency 0\nD\nA\nC 1 2 3 4\nallowed 1 2 3 4 5 6\ncovered yes\n";
+    "graph 4 6\ncomponents 1\nbipartite no\nmatching 2\ndeficiency 0\nD\nA\nC 1 2 3 4\nallowed 1 2 3 4 5 6\ncovered yes\nclasses 4\nclass 1\nclass 2\nclass 3\nclass 4\nbicritical yes\ncutpair none\nkind brick\n";
 
 // The words of a command.
 fn words_of(alloc: Global, words: &[&str]) -> Result<Vec<String>, Fail> {
@@ -56,7 +56,7 @@ fn reports(rt: HostRuntime) -> Result<(), Fail> {
         // parallel edges are kept
         (
             "p mcg 2 2\ne 1 2\ne 1 2\n",
-            "graph 2 2\ncomponents 1\nbipartite yes\nmatching 1\ndeficiency 0\nD\nA\nC 1 2\nallowed 1 2\ncovered yes\n",
+            "graph 2 2\ncomponents 1\nbipartite yes\nmatching 1\ndeficiency 0\nD\nA\nC 1 2\nallowed 1 2\ncovered yes\nclasses 2\nclass 1\nclass 2\nbicritical yes\ncutpair none\nkind brace\n",
         ),
         // the path: its middle edge is in no perfect matching
         (
@@ -77,6 +77,43 @@ fn reports(rt: HostRuntime) -> Result<(), Fail> {
     Ok(())
 }
 
+#[test]
+fn reports_of_covered_graphs(rt: HostRuntime) -> Result<(), Fail> {
+    let table = [
+        // the complete bipartite graph of three and three vertices with a triangle for one vertex
+        (
+            "p mcg 8 12\ne 1 2\ne 1 3\ne 2 3\ne 1 4\ne 2 5\ne 3 6\ne 7 4\ne 7 5\ne 7 6\ne 8 4\ne 8 5\ne 8 6\n",
+            "graph 8 12\ncomponents 1\nbipartite no\nmatching 4\ndeficiency 0\nD\nA\nC 1 2 3 4 5 6 7 8\nallowed 1 2 3 4 5 6 7 8 9 10 11 12\ncovered yes\nclasses 6\nclass 1\nclass 2\nclass 3\nclass 4 5 6\nclass 7\nclass 8\nbicritical no 4 5\ncutpair none\nkind composite 1 2 3\n",
+        ),
+        // the Petersen graph
+        (
+            "p mcg 10 15\ne 1 2\ne 2 3\ne 3 4\ne 4 5\ne 1 5\ne 1 6\ne 2 7\ne 3 8\ne 4 9\ne 5 10\ne 6 8\ne 8 10\ne 7 10\ne 7 9\ne 6 9\n",
+            "graph 10 15\ncomponents 1\nbipartite no\nmatching 5\ndeficiency 0\nD\nA\nC 1 2 3 4 5 6 7 8 9 10\nallowed 1 2 3 4 5 6 7 8 9 10 11 12 13 14 15\ncovered yes\nclasses 10\nclass 1\nclass 2\nclass 3\nclass 4\nclass 5\nclass 6\nclass 7\nclass 8\nclass 9\nclass 10\nbicritical yes\ncutpair none\nkind brick\n",
+        ),
+        // the cube
+        (
+            "p mcg 8 12\ne 1 2\ne 2 3\ne 3 4\ne 1 4\ne 5 6\ne 6 7\ne 7 8\ne 5 8\ne 1 5\ne 2 6\ne 3 7\ne 4 8\n",
+            "graph 8 12\ncomponents 1\nbipartite yes\nmatching 4\ndeficiency 0\nD\nA\nC 1 2 3 4 5 6 7 8\nallowed 1 2 3 4 5 6 7 8 9 10 11 12\ncovered yes\nclasses 2\nclass 1 3 6 8\nclass 2 4 5 7\nbicritical no 1 3\ncutpair none\nkind brace\n",
+        ),
+        // the hexagon
+        (
+            "p mcg 6 6\ne 1 2\ne 2 3\ne 3 4\ne 4 5\ne 5 6\ne 6 1\n",
+            "graph 6 6\ncomponents 1\nbipartite yes\nmatching 3\ndeficiency 0\nD\nA\nC 1 2 3 4 5 6\nallowed 1 2 3 4 5 6\ncovered yes\nclasses 2\nclass 1 3 5\nclass 2 4 6\nbicritical no 1 3\ncutpair 1 3\nkind composite 2 3 4\n",
+        ),
+        // two complete graphs of four vertices that share an edge
+        (
+            "p mcg 6 11\ne 1 2\ne 1 3\ne 1 4\ne 2 3\ne 2 4\ne 3 4\ne 1 5\ne 1 6\ne 2 5\ne 2 6\ne 5 6\n",
+            "graph 6 11\ncomponents 1\nbipartite no\nmatching 3\ndeficiency 0\nD\nA\nC 1 2 3 4 5 6\nallowed 1 2 3 4 5 6 7 8 9 10 11\ncovered yes\nclasses 6\nclass 1\nclass 2\nclass 3\nclass 4\nclass 5\nclass 6\nbicritical yes\ncutpair 1 2\nkind composite 1 3 4\n",
+        ),
+    ];
+    for (text, report) in &table {
+        let (status, written) = ran(rt.alloc(), "analyse", text.as_bytes())?;
+        assert_eq!(rt; status, Status::Done);
+        assert_eq!(rt; written.as_slice(), report.as_bytes());
+    }
+    Ok(())
+}
+
 // The cycle of four with names.
 const NAMED_CYCLE: &str = "p mcg2 4 4\nv a\nv b\nv c\nv d\ne a b\ne b c\ne c d\ne d a\n";
 
@@ -84,7 +121,7 @@ const NAMED_CYCLE: &str = "p mcg2 4 4\nv a\nv b\nv c\nv d\ne a b\ne b c\ne c d\n
 fn reports_with_names(rt: HostRuntime) -> Result<(), Fail> {
     let (status, written) = ran(rt.alloc(), "analyse", NAMED_CYCLE.as_bytes())?;
     let report =
-        "graph 4 4\ncomponents 1\nbipartite yes\nmatching 2\ndeficiency 0\nD\nA\nC 1 2 3 4\nallowed 1 2 3 4\ncovered yes\nname 1 a\nname 2 b\nname 3 c\nname 4 d\n";
+        "graph 4 4\ncomponents 1\nbipartite yes\nmatching 2\ndeficiency 0\nD\nA\nC 1 2 3 4\nallowed 1 2 3 4\ncovered yes\nclasses 2\nclass 1 3\nclass 2 4\nbicritical no 1 3\ncutpair 1 3\nkind brace\nname 1 a\nname 2 b\nname 3 c\nname 4 d\n";
     assert_eq!(rt; status, Status::Done);
     assert_eq!(rt; written.as_slice(), report.as_bytes());
     Ok(())
@@ -127,7 +164,13 @@ fn cycle_of_128(rt: HostRuntime) -> Result<(), Fail> {
             "graph 128 128\ncomponents 1\nbipartite yes\nmatching 64\ndeficiency 0\nD\nA\nC 1 2 3 "
         )
     );
-    assert!(rt; report.contains("\ncovered yes\nname 1 v1\nname 2 v2\n"));
+    assert!(rt; report.contains("\ncovered yes\nclasses 2\nclass 1 3 5 "));
+    assert!(rt; report.contains(" 125 127\nclass 2 4 6 "));
+    assert!(rt;
+        report.contains(
+            " 126 128\nbicritical no 1 3\ncutpair 1 3\nkind composite 2 3 4\nname 1 v1\nname 2 v2\n"
+        )
+    );
     assert!(rt; report.ends_with("\nname 127 v127\nname 128 v128\n"));
     Ok(())
 }
@@ -186,7 +229,7 @@ fn reports_of_graph6(rt: HostRuntime) -> Result<(), Fail> {
     let table = [
         (
             "C~\n",
-            "graph 4 6\ncomponents 1\nbipartite no\nmatching 2\ndeficiency 0\nD\nA\nC 1 2 3 4\nallowed 1 2 3 4 5 6\ncovered yes\ngraph6 C~\n",
+            "graph 4 6\ncomponents 1\nbipartite no\nmatching 2\ndeficiency 0\nD\nA\nC 1 2 3 4\nallowed 1 2 3 4 5 6\ncovered yes\nclasses 4\nclass 1\nclass 2\nclass 3\nclass 4\nbicritical yes\ncutpair none\nkind brick\ngraph6 C~\n",
         ),
         (
             ">>graph6<<Bw",
@@ -204,7 +247,7 @@ fn reports_of_graph6(rt: HostRuntime) -> Result<(), Fail> {
         // the Petersen graph
         (
             "IheA@GUAo\r\n",
-            "graph 10 15\ncomponents 1\nbipartite no\nmatching 5\ndeficiency 0\nD\nA\nC 1 2 3 4 5 6 7 8 9 10\nallowed 1 2 3 4 5 6 7 8 9 10 11 12 13 14 15\ncovered yes\ngraph6 IheA@GUAo\n",
+            "graph 10 15\ncomponents 1\nbipartite no\nmatching 5\ndeficiency 0\nD\nA\nC 1 2 3 4 5 6 7 8 9 10\nallowed 1 2 3 4 5 6 7 8 9 10 11 12 13 14 15\ncovered yes\nclasses 10\nclass 1\nclass 2\nclass 3\nclass 4\nclass 5\nclass 6\nclass 7\nclass 8\nclass 9\nclass 10\nbicritical yes\ncutpair none\nkind brick\ngraph6 IheA@GUAo\n",
         ),
     ];
     for (text, report) in &table {

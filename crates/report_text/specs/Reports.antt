@@ -1,11 +1,10 @@
--- The bytes of each report as a function of the values that it tells.
+-- The lines of the reports as functions of the values that they tell; the report of `analyse` is in Analyses.antt.
 use Rattle.std.specs.Prelude.{ℕ, zero, suc, List, [], ◌∷◌, ◌++◌, length, slice_index_or, Bool, if◌then◌else◌, codes}
 use Rattle.std.specs.Fmt.{decimal}
 use Rattle.graph_core.specs.declared.verdict.Reason.{Reason}
 use Rattle.graph_core.specs.declared.verdict.Reason.TheVariants.{Small, Parted, Unmatched, Unallowed}
 use Rattle.graph_core.specs.declared.verdict.Verdict.{Verdict}
 use Rattle.graph_core.specs.declared.verdict.Verdict.TheVariants.{Covered, NotCovered}
-use Rattle.report_text.specs.declared.analyses.AnalysisLines.{AnalysisLines}
 
 -- `yes` or `no`
 abbrev pub yes_or_no : Bool → List ℕ
@@ -51,22 +50,6 @@ matching_line edges = codes "matching " ++ decimal edges ++ codes "\n"
 -- the line with the number of vertices that a maximum matching misses
 abbrev pub deficiency_line : ℕ → List ℕ
 deficiency_line missed = codes "deficiency " ++ decimal missed ++ codes "\n"
-
--- the lines on the graph and its sides
-abbrev pub graph_lines : AnalysisLines → List ℕ
-graph_lines lines = (graph_line lines.order lines.size ++ components_line lines.components) ++ bipartite_line lines.bipartite
-
--- the lines of the Gallai-Edmonds sets behind others
-abbrev pub with_three_sets : List ℕ → AnalysisLines → List ℕ
-with_three_sets before lines = ((before ++ list_line (codes "D") lines.d) ++ list_line (codes "A") lines.a) ++ list_line (codes "C") lines.c
-
--- the lines of the allowed edges and of the verdict behind others
-abbrev pub with_verdict : List ℕ → AnalysisLines → List ℕ
-with_verdict before lines = (before ++ list_line (codes "allowed") lines.allowed) ++ verdict_text lines.verdict
-
--- the report of `analyse`
-unfoldable pub analysis_text : AnalysisLines → List ℕ
-analysis_text lines = with_verdict (with_three_sets ((graph_lines lines ++ matching_line lines.matching) ++ deficiency_line lines.deficiency) lines) lines
 
 -- the report of a file that is outside its format: its place among the named files, the line and the kind of the fault
 unfoldable pub bad_input_text : (file line kind : ℕ) → List ℕ

@@ -1,8 +1,10 @@
 //! The report of `analyse`.
 ghost use Rattle.std.specs.Prelude.{◌≡◌, ◌++◌, codes, OnOk, IfOk, string_bytes};
-ghost use Rattle.report_text.specs.Reports.{analysis_text, graph_line, components_line, bipartite_line, matching_line, deficiency_line, list_line, yes_or_no};
+ghost use Rattle.report_text.specs.Analyses.{analysis_text, verdict_lines, with_structure};
+ghost use Rattle.report_text.specs.Reports.{graph_line, components_line, bipartite_line, matching_line, deficiency_line, list_line, yes_or_no};
 
-use crate::numbers::{push_numbers, push_set};
+use crate::numbers::{push_numbers_line, push_set_line};
+use crate::structures::{Structure, push_structure};
 use crate::verdicts::push_verdict;
 use graph_core::{Numbers, Verdict};
 use std::alloc::{AllocError as Memory, Global};
@@ -33,6 +35,8 @@ pub struct AnalysisLines {
     pub allowed: Numbers,
     /// Whether the graph is matching covered, and if not, why.
     pub verdict: Verdict,
+    /// The structure, exactly where the graph is matching covered.
+    pub structure: Option<Structure>,
 }
 
 // `yes` or `no`
@@ -73,26 +77,10 @@ fn push_deficiency(text: &mut String, deficiency: u32) -> Result<(), Memory>
     write!(text, "deficiency {deficiency}\n")
 }
 
-fn push_set_line(text: &mut String, word: &str, set: VSet) -> Result<(), Memory>
-    ensures { OnOk result (string_bytes text.new ≡ string_bytes text.old ++ list_line word.now set) }
-{
-    write!(text, "{word}")?;
-    push_set(text, set)?;
-    write!(text, "\n")
-}
-
-fn push_numbers_line(text: &mut String, word: &str, numbers: &Numbers) -> Result<(), Memory>
-    ensures { OnOk result (string_bytes text.new ≡ string_bytes text.old ++ list_line word.now numbers.now) }
-{
-    write!(text, "{word}")?;
-    push_numbers(text, numbers.as_slice())?;
-    write!(text, "\n")
-}
-
-/// Writes the lines of `analyse`.
-#[tactic(auto, unfolding(crate::specs::Reports::analysis_text))]
-pub fn analysis(alloc: Global, lines: &AnalysisLines) -> Result<Vec<u8>, Memory>
-    ensures { IfOk result (λ text. text.items ≡ analysis_text lines.now) }
+// The lines from that of the graph to that of the verdict.
+#[tactic(auto, unfolding(crate::specs::Analyses::verdict_lines))]
+fn text_to_verdict(alloc: Global, lines: &AnalysisLines) -> Result<String, Memory>
+    ensures { IfOk result (λ text. string_bytes text ≡ verdict_lines lines.now) }
 {
     let mut text = String::new(alloc);
     push_graph(&mut text, lines.order, lines.size)?;
@@ -105,5 +93,29 @@ pub fn analysis(alloc: Global, lines: &AnalysisLines) -> Result<Vec<u8>, Memory>
     push_set_line(&mut text, "C", lines.c)?;
     push_numbers_line(&mut text, "allowed", &lines.allowed)?;
     push_verdict(&mut text, &lines.verdict)?;
+    Ok(text)
+}
+
+// The text, and then the lines on the structure where there is one.
+fn with_structure(text: String, structure: &Option<Structure>) -> Result<String, Memory>
+    ensures { IfOk result (λ all. string_bytes all ≡ with_structure (string_bytes text) structure.now) }
+{
+    match structure {
+        Some(structure) => {
+            let mut text = text;
+            push_structure(&mut text, structure)?;
+            Ok(text)
+        }
+        None => Ok(text),
+    }
+}
+
+/// Writes the lines of `analyse`: those of every graph, and then those on the structure, where there is one.
+#[tactic(auto, unfolding(crate::specs::Analyses::analysis_text))]
+pub fn analysis(alloc: Global, lines: &AnalysisLines) -> Result<Vec<u8>, Memory>
+    ensures { IfOk result (λ text. text.items ≡ analysis_text lines.now) }
+{
+    let text = text_to_verdict(alloc, lines)?;
+    let text = with_structure(text, &lines.structure)?;
     Ok(text.into_bytes())
 }

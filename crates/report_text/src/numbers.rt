@@ -1,7 +1,8 @@
 //! Lists of numbers in a report.
 ghost use Rattle.std.specs.Prelude.{◌≡◌, ◌++◌, OnOk, string_bytes};
-ghost use Rattle.report_text.specs.Reports.{numbers_text};
+ghost use Rattle.report_text.specs.Reports.{list_line, numbers_text};
 
+use graph_core::Numbers;
 use std::alloc::AllocError as Memory;
 use vset_core::VSet;
 
@@ -27,4 +28,22 @@ pub fn push_set(text: &mut String, set: VSet) -> Result<(), Memory>
         rest = others;
     }
     Ok(())
+}
+
+/// Appends a line of the word and the set.
+pub fn push_set_line(text: &mut String, word: &str, set: VSet) -> Result<(), Memory>
+    ensures { OnOk result (string_bytes text.new ≡ string_bytes text.old ++ list_line word.now set) }
+{
+    write!(text, "{word}")?;
+    push_set(text, set)?;
+    write!(text, "\n")
+}
+
+/// Appends a line of the word and the numbers.
+pub fn push_numbers_line(text: &mut String, word: &str, numbers: &Numbers) -> Result<(), Memory>
+    ensures { OnOk result (string_bytes text.new ≡ string_bytes text.old ++ list_line word.now numbers.now) }
+{
+    write!(text, "{word}")?;
+    push_numbers(text, numbers.as_slice())?;
+    write!(text, "\n")
 }

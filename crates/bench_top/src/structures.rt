@@ -1,0 +1,57 @@
+//! The structure of a covered graph, as `analyse` tells it.
+ghost use Rattle.std.specs.Prelude.{◌≡◌, IfOk};
+ghost use Rattle.std.specs.Option.{option_map};
+ghost use Rattle.graph_core.specs.Covered.{IsCovered};
+ghost use Rattle.graph_core.specs.Verdicts.{IsVerdict};
+ghost use Rattle.graph_core.specs.View.{pair_of};
+ghost use Rattle.separation_kit.specs.Pairs.{pair_of as pair_in};
+ghost use Rattle.bench_top.specs.Facts.{IsStructure, TellsStructure};
+
+use barrier_kit::classes;
+use graph_core::{Ends, MultiGraph, Verdict};
+use leaf_kinds::kind;
+use report_text::Structure;
+use separation_kit::{Pair, cut_pair, not_bicritical};
+use std::alloc::{AllocError as Memory, Global};
+
+// The two vertices of a pair.
+fn ends_of(pair: Option<Pair>) -> Option<Ends>
+    ensures { option_map pair_of result ≡ option_map pair_in pair }
+{
+    match pair {
+        Some(Pair { a, b }) => Some(Ends { a, b }),
+        None => None,
+    }
+}
+
+// The structure of a covered graph.
+fn structure(alloc: Global, g: &MultiGraph) -> Result<Structure, Memory>
+    requires { IsCovered g.now }
+    ensures { IfOk result (IsStructure g.now) }
+{
+    let classes = classes(alloc, g)?;
+    let unlike = ends_of(not_bicritical(alloc, g)?);
+    let cutpair = ends_of(cut_pair(alloc, g)?);
+    let kind = kind(alloc, g)?;
+    Ok(Structure {
+        classes,
+        unlike,
+        cutpair,
+        kind,
+    })
+}
+
+/// The structure of a graph where the verdict is that it is covered.
+pub fn structure_where_covered(
+    alloc: Global,
+    g: &MultiGraph,
+    verdict: &Verdict,
+) -> Result<Option<Structure>, Memory>
+    requires { IsVerdict g.now verdict.now }
+    ensures { IfOk result (TellsStructure g.now verdict.now) }
+{
+    match verdict {
+        Verdict::Covered => Ok(Some(structure(alloc, g)?)),
+        Verdict::NotCovered(_) => Ok(None),
+    }
+}

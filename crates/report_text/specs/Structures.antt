@@ -1,0 +1,48 @@
+-- The lines on the structure of a matching covered graph, as functions of the values that they tell.
+use Rattle.std.specs.Prelude.{ℕ, List, [], ◌∷◌, ◌++◌, length, codes}
+use Rattle.std.specs.declared.option.Option.{Option}
+use Rattle.std.specs.declared.option.Option.TheVariants.{Some, None}
+use Rattle.std.specs.Fmt.{decimal}
+use Rattle.graph_core.specs.declared.ends.Ends.{Ends}
+use Rattle.graph_core.specs.declared.verdict.Kind.{Kind}
+use Rattle.graph_core.specs.declared.verdict.Kind.TheVariants.{Brace, Brick, Composite}
+use Rattle.report_text.specs.Reports.{list_line}
+use Rattle.report_text.specs.declared.structures.Structure.{Structure}
+
+-- the line of a class
+abbrev pub class_line : List ℕ → List ℕ
+class_line class = list_line (codes "class") class
+
+-- the lines of these classes
+abbrev pub class_lines : List (List ℕ) → List ℕ
+class_lines [] = []
+class_lines (class ∷ classes) = class_line class ++ class_lines classes
+
+-- the line with the number of classes, and their lines
+abbrev pub classes_lines : List (List ℕ) → List ℕ
+classes_lines classes = (codes "classes " ++ decimal (length classes) ++ codes "\n") ++ class_lines classes
+
+-- a line of words and two vertices
+abbrev pub pair_line : List ℕ → Ends → List ℕ
+pair_line words pair = words ++ codes " " ++ decimal pair.a ++ codes " " ++ decimal pair.b ++ codes "\n"
+
+-- the line that tells whether the graph is bicritical, and if not, two vertices that show it
+abbrev pub bicritical_line : Option Ends → List ℕ
+bicritical_line None = codes "bicritical yes\n"
+bicritical_line (Some pair) = pair_line (codes "bicritical no") pair
+
+-- the line of a cut pair
+abbrev pub cut_pair_line : Option Ends → List ℕ
+cut_pair_line None = codes "cutpair none\n"
+cut_pair_line (Some pair) = pair_line (codes "cutpair") pair
+
+-- the line of the kind
+abbrev pub kind_line : Kind → List ℕ
+kind_line Brace = codes "kind brace\n"
+kind_line Brick = codes "kind brick\n"
+kind_line (Composite cut) = list_line (codes "kind composite") cut
+
+-- all lines on the structure
+unfoldable pub structure_text : Structure → List ℕ
+structure_text structure =
+    ((classes_lines structure.classes ++ bicritical_line structure.unlike) ++ cut_pair_line structure.cutpair) ++ kind_line structure.kind

@@ -1,0 +1,87 @@
+//! The lines on the structure of a matching covered graph.
+ghost use Rattle.std.specs.Prelude.{◌≡◌, ◌++◌, OnOk, string_bytes};
+ghost use Rattle.report_text.specs.Structures.{class_lines, classes_lines, pair_line, bicritical_line, cut_pair_line, kind_line, structure_text};
+
+use crate::numbers::push_set_line;
+use graph_core::{Ends, Kind, SetList};
+use std::alloc::AllocError as Memory;
+use vset_core::VSet;
+
+/// What `analyse` tells of a matching covered graph.
+#[derive(Drop)]
+pub struct Structure {
+    /// The classes of the canonical partition (Lovász and Plummer, "Matching Theory", chapter 5), by least vertex.
+    pub classes: SetList,
+    /// The first pair of vertices in lexicographic order without which there is no perfect matching; none where the graph is
+    /// bicritical.
+    pub unlike: Option<Ends>,
+    /// The first pair of vertices in lexicographic order without which at least two components are left, or none.
+    pub cutpair: Option<Ends>,
+    /// Brace, brick, or composite with a shore of a nontrivial tight cut.
+    pub kind: Kind,
+}
+
+fn push_class_lines(text: &mut String, classes: &[VSet]) -> Result<(), Memory>
+    ensures { OnOk result (string_bytes text.new ≡ string_bytes text.old ++ class_lines classes.now) }
+{
+    let mut rest = classes;
+    'writing: while let Some((class, others)) = rest.split_first() {
+        push_set_line(text, "class", *class)?;
+        rest = others;
+    }
+    Ok(())
+}
+
+fn push_classes(text: &mut String, classes: &SetList) -> Result<(), Memory>
+    ensures { OnOk result (string_bytes text.new ≡ string_bytes text.old ++ classes_lines classes.now) }
+{
+    let count = classes.len();
+    write!(text, "classes {count}\n")?;
+    push_class_lines(text, classes.as_slice())
+}
+
+fn push_pair_line(text: &mut String, words: &str, pair: Ends) -> Result<(), Memory>
+    ensures { OnOk result (string_bytes text.new ≡ string_bytes text.old ++ pair_line words.now pair) }
+{
+    let Ends { a, b } = pair;
+    write!(text, "{words} {a} {b}\n")
+}
+
+fn push_bicritical(text: &mut String, unlike: Option<Ends>) -> Result<(), Memory>
+    ensures { OnOk result (string_bytes text.new ≡ string_bytes text.old ++ bicritical_line unlike) }
+{
+    match unlike {
+        None => write!(text, "bicritical yes\n"),
+        Some(pair) => push_pair_line(text, "bicritical no", pair),
+    }
+}
+
+fn push_cut_pair(text: &mut String, pair: Option<Ends>) -> Result<(), Memory>
+    ensures { OnOk result (string_bytes text.new ≡ string_bytes text.old ++ cut_pair_line pair) }
+{
+    match pair {
+        None => write!(text, "cutpair none\n"),
+        Some(pair) => push_pair_line(text, "cutpair", pair),
+    }
+}
+
+fn push_kind(text: &mut String, kind: Kind) -> Result<(), Memory>
+    ensures { OnOk result (string_bytes text.new ≡ string_bytes text.old ++ kind_line kind) }
+{
+    match kind {
+        Kind::Brace => write!(text, "kind brace\n"),
+        Kind::Brick => write!(text, "kind brick\n"),
+        Kind::Composite { cut } => push_set_line(text, "kind composite", cut),
+    }
+}
+
+/// Appends the lines on the structure.
+#[tactic(auto, unfolding(crate::specs::Structures::structure_text))]
+pub fn push_structure(text: &mut String, structure: &Structure) -> Result<(), Memory>
+    ensures { OnOk result (string_bytes text.new ≡ string_bytes text.old ++ structure_text structure.now) }
+{
+    push_classes(text, &structure.classes)?;
+    push_bicritical(text, structure.unlike)?;
+    push_cut_pair(text, structure.cutpair)?;
+    push_kind(text, structure.kind)
+}
