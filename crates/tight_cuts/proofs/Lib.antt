@@ -16,3 +16,5 @@ pub mod Weighing
 pub mod BesideGraphs
 pub mod FrontCandidates
 mod CrossingMatchings
+pub mod SingleVertices
+pub mod LiftedCandidates

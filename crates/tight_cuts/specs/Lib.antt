@@ -4,3 +4,4 @@ pub mod Pieces
 pub mod Tightness
 pub mod EdgeSearch
 pub mod View
+pub mod CandidatesAt

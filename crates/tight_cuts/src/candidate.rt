@@ -101,6 +101,13 @@ impl CandidateList {
         self.items[i]
     }
 
+    /// The candidates, in order.
+    pub fn as_slice(&self) -> &[Candidate]
+        ensures { map candidate_of result.now ≡ self.now }
+    {
+        &self.items
+    }
+
     /// Appends a candidate. After `Memory` the list is unchanged.
     pub fn push(&mut self, item: Candidate) -> Result<(), Memory>
         ensures ok { OnOk result (self.new ≡ self.old ++ candidate_of item ∷ []) }

@@ -10,17 +10,21 @@
 //! How an edge is searched: a tight set through an edge is a union of the edge's pieces beside one of its ends (`Pieces`); over a
 //! pair list each odd set is met at least as often as the list is long, and exactly so often where it is tight (`PairSums`); so
 //! the least minimum cut of the network of the pieces is the intersection of all tight sets that part two pieces (`Networks`).
+//! `candidates_at` lists the candidates at a partition of the vertices into blocks: those of the quotient, led back to vertices of
+//! the graph (`IsCandidateAt`).
 //!
-//! Stands on `allowed_edges`, `barrier_kit`, `separation_kit` and `flow_core`. Sources: Edmonds, Lovász and Pulleyblank 1982;
+//! Stands on `contraction`, `allowed_edges`, `barrier_kit`, `separation_kit` and `flow_core`. Sources: Edmonds, Lovász and Pulleyblank 1982;
 //! Lovász, "Matching structure and the matching lattice" (1987); Picard and Queyranne (1980) for least minimum cuts.
 #![tactic(auto)]
 
+mod at_partition;
 mod candidate;
 mod edge_search;
 mod finder;
 mod pieces;
 mod tightness;
 
+pub use at_partition::candidates_at;
 pub use candidate::{Candidate, CandidateList, Origin};
 pub use finder::{candidates, find_any};
 pub use tightness::{Tightness, is_tight};

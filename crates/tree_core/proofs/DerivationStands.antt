@@ -13,7 +13,7 @@ use Rattle.graph_core.specs.Shores.{IsUnion, blocks_in}
 use Rattle.graph_core.proofs.Blocks.{in_union}
 use Rattle.graph_core.proofs.Complements.{complement_of-rises, union-complement_of}
 use Rattle.graph_core.proofs.MergeOrder.{merged_blocks}
-use Rattle.contraction.proofs.SinglePartitions.{singles-partition}
+use Rattle.graph_core.proofs.Singles.{singles-partition}
 use Rattle.tree_core.specs.Shapes.{Shape, leaf, cut, Fits}
 use Rattle.tree_core.specs.Derivations.{IsCutAt, IsDerivationAt, IsDerivation, kept_at, merged_at}
 use Rattle.tree_core.specs.Leaves.{StandsAt}

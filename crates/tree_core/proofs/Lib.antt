@@ -2,3 +2,4 @@ pub mod DerivationLeaves
 pub mod DerivationStands
 pub mod Shores
 pub mod Sizes
+pub mod CutsBelow

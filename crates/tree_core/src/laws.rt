@@ -1,6 +1,6 @@
 //! Laws of derivations and of plain trees. Each is the contract of a function that does nothing.
-ghost use Rattle.std.specs.Prelude.{◌≡◌, ◌+◌, ◌*◌, ℕ, length, List, All};
-ghost use Rattle.graph_core.specs.Graph.{Graph};
+ghost use Rattle.std.specs.Prelude.{◌≡◌, ◌+◌, ◌*◌, ◌≤◌, ℕ, length, List, All};
+ghost use Rattle.graph_core.specs.Graph.{Graph, IsGraph};
 ghost use Rattle.graph_core.specs.Partitions.{IsPartition, singles};
 ghost use Rattle.tree_core.specs.Shapes.{Shape, Fits, cut_count, leaf_count, node_count};
 ghost use Rattle.tree_core.specs.Derivations.{IsDerivation, IsLeafAt};
@@ -24,4 +24,10 @@ pub fn tree_sizes()
     ensures leaves { (t : Shape) → leaf_count t ≡ cut_count t + 1 }
     ensures nodes { (t : Shape) → node_count t ≡ 2 * cut_count t + 1 }
     ensures list { (n : ℕ) (t : Shape) → length (leaves n t) ≡ leaf_count t }
+{}
+
+/// A derivation of a graph with at least four vertices has at most half as many leaves as vertices, less one: n vertices and c leaves
+/// keep 2 c + 2 at most n (Lovász 1987).
+pub fn derivation_size()
+    ensures { (g : Graph) (t : Shape) → IsGraph g → IsDerivation g t → 4 ≤ g.order → 2 * leaf_count t + 2 ≤ g.order }
 {}

@@ -13,12 +13,14 @@
 //! Murty, "Perfect Matchings".
 #![tactic(auto)]
 
+mod below;
 pub mod laws;
 mod leaf_partitions;
 mod partitions;
 mod path;
 mod tree;
 
+pub use below::{kept_partition, merged_partition};
 pub use leaf_partitions::leaves;
 pub use partitions::Partitions;
 pub use path::{Path, Side};

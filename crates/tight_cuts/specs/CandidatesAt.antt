@@ -1,0 +1,28 @@
+-- The candidates at a partition: those of the quotient, their shores led back to vertices of the graph and their sides counted in
+-- blocks. At the partition into single vertices they are those of the graph itself, in the order of its own edges.
+use Rattle.std.specs.Prelude.{◌≡◌, ℕ, false, List, length, map, ◌==◌, if◌then◌else◌}
+use Rattle.counting.specs.Counts.{count}
+use Rattle.counting.specs.Sets.{complement}
+use Rattle.counting.specs.Lists.{mem, IsRisingIn}
+use Rattle.graph_core.specs.Graph.{Graph}
+use Rattle.graph_core.specs.Tight.{IsNontrivial}
+use Rattle.graph_core.specs.Quotients.{quotient, union_of_blocks}
+use Rattle.graph_core.specs.Shores.{IsTightAt, blocks_in}
+use Rattle.tight_cuts.specs.Candidates.{Candidate, candidates}
+
+-- a candidate of the quotient with its shore led back to vertices; inside and outside stay the numbers of blocks
+abbrev pub lifted_candidate : Graph → List (List ℕ) → Candidate → Candidate
+lifted_candidate g p c = record { shore = union_of_blocks g p (mem c.shore); inside = c.inside; outside = c.outside; origin = c.origin }
+
+-- the candidates at p; a partition with as many blocks as vertices is the one into single vertices
+unfoldable pub candidates_at : Graph → List (List ℕ) → List Candidate
+candidates_at g p = if length p == g.order then candidates g else map (lifted_candidate g p) (candidates (quotient g p))
+
+-- the shore is tight at p, nontrivial and canonical, as a rising list, and the two numbers are those of the blocks on its sides
+pub record IsCandidateAt (g : Graph) (p : List (List ℕ)) (c : Candidate) : Type 0 where
+  pub rising : IsRisingIn g.order c.shore
+  pub tight : IsTightAt g p (mem c.shore)
+  pub nontrivial : IsNontrivial (length p) (blocks_in p (mem c.shore))
+  pub canonical : mem c.shore g.order ≡ false
+  pub inside : c.inside ≡ count (length p) (blocks_in p (mem c.shore))
+  pub outside : c.outside ≡ count (length p) (complement (blocks_in p (mem c.shore)))

@@ -1,0 +1,59 @@
+//! The candidates at a partition.
+ghost use Rattle.std.specs.Prelude.{◌≡◌, ℕ, [], ◌↔◌, All, List, IfOk, length, map};
+ghost use Rattle.counting.specs.Sets.{Set};
+ghost use Rattle.graph_core.specs.Covered.{IsCovered};
+ghost use Rattle.graph_core.specs.Graph.{Graph};
+ghost use Rattle.graph_core.specs.Quotients.{quotient};
+ghost use Rattle.graph_core.specs.Shores.{IsTightAt, blocks_in};
+ghost use Rattle.graph_core.specs.Tight.{IsNontrivial};
+ghost use Rattle.contraction.specs.Contracted.{contraction};
+ghost use Rattle.tight_cuts.specs.CandidatesAt.{IsCandidateAt, candidates_at, lifted_candidate};
+ghost use Rattle.tight_cuts.specs.View.{candidate_of};
+
+use crate::candidate::{Candidate, CandidateList};
+use crate::finder::candidates;
+use contraction::{Contracted, Partition, quotient};
+use graph_core::MultiGraph;
+use std::alloc::{AllocError as Memory, Global};
+
+/// The candidates at the partition `p` of the vertices of `g`, whose quotient is matching covered: at single vertices those of `g`
+/// itself, in the order of its own edges, else those of the quotient, each shore led back to vertices of `g`, with `inside` and
+/// `outside` counted in blocks. Each is a canonical nontrivial shore that is tight at `p`, and the list is empty exactly where no
+/// nontrivial shore is tight at `p` (Lovász 1987).
+pub fn candidates_at(alloc: Global, g: &MultiGraph, p: &Partition) -> Result<CandidateList, Memory>
+    requires order { p.now.order ≡ g.now.order }
+    requires covered { IsCovered (quotient g.now p.now.blocks) }
+    ensures list { IfOk result (λ list. list ≡ candidates_at g.now p.now.blocks) }
+    ensures tight { IfOk result (λ list. All (IsCandidateAt g.now p.now.blocks) list) }
+    ensures none { IfOk result (λ list. (list ≡ []) ↔ ((x : Set) → IsTightAt g.now p.now.blocks x → IsNontrivial (length p.now.blocks) (blocks_in p.now.blocks x) → ⊥)) }
+{
+    g.keeps_limits();
+    p.keeps_partition();
+    if p.len() == g.order() as usize {
+        return candidates(alloc, g);
+    }
+    let q = quotient(alloc, g, p)?;
+    let found = candidates(alloc, q.graph())?;
+    lifted(alloc, &q, &found)
+}
+
+// The candidates of the quotient, led back to the graph.
+fn lifted(alloc: Global, q: &Contracted, found: &CandidateList) -> Result<CandidateList, Memory>
+    ensures { (g : Graph) (p : List (List ℕ)) → q.now ≡ contraction g p → IfOk result (λ list. list ≡ map (lifted_candidate g p) found.now) }
+{
+    let mut list = CandidateList::new(alloc);
+    for candidate in found.as_slice() {
+        list.push(lifted_one(q, *candidate))?;
+    }
+    Ok(list)
+}
+
+// One candidate of the quotient, led back to the graph.
+fn lifted_one(q: &Contracted, candidate: Candidate) -> Candidate
+    ensures { (g : Graph) (p : List (List ℕ)) → q.now ≡ contraction g p → candidate_of result ≡ lifted_candidate g p (candidate_of candidate) }
+{
+    Candidate {
+        shore: q.lift_set(candidate.shore),
+        ..candidate
+    }
+}

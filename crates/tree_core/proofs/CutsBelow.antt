@@ -1,0 +1,85 @@
+-- What stands below a cut: both partitions are partitions, their quotients are matching covered where that of the node is, and each
+-- has one block for the merged side and the blocks of the other side. So a tree of cuts has few leaves, by induction.
+use Rattle.std.proofs.Common.{◌≡◌, ℕ, zero, suc, ◌+◌, ◌*◌, ◌≤◌, ◌<◌, true, List, length, refl, sym, ap, ◌∙◌, arith}
+use Rattle.counting.proofs.Counts.{count_congr, count_complement}
+use Rattle.counting.proofs.Lists.{mem-within, member-of_set}
+use Rattle.counting.proofs.RisingLists.{true_all_in}
+use Rattle.counting.specs.Counts.{count}
+use Rattle.counting.specs.Lists.{mem, IsRisingIn}
+use Rattle.counting.specs.Sets.{complement, everything}
+use Rattle.graph_core.proofs.BlockSets.{block_count_congr, block_count_rest, union_rest}
+use Rattle.graph_core.proofs.Complements.{complement_of-rises, mem-complement_of, union-complement_of}
+use Rattle.graph_core.proofs.MergedShores.{block_count_around, merge_of}
+use Rattle.graph_core.proofs.ShoreLists.{complement-tight, shore-some}
+use Rattle.graph_core.proofs.Singles.{length-singles, singles-partition}
+use Rattle.graph_core.specs.Covered.{IsCovered}
+use Rattle.graph_core.specs.Graph.{Graph, IsGraph}
+use Rattle.graph_core.specs.Partitions.{IsPartition, block, complement_of, merged, singles}
+use Rattle.graph_core.specs.Quotients.{quotient}
+use Rattle.graph_core.specs.Shores.{IsTightAt, block_count, blocks_in}
+use Rattle.contraction.proofs.MergedQuotients.{merged-covered}
+use Rattle.tree_core.specs.Shapes.{Shape, leaf, cut, cut_count, leaf_count}
+use Rattle.tree_core.specs.Derivations.{IsCutAt, IsDerivation, IsDerivationAt, kept_at, merged_at}
+use Rattle.tree_core.proofs.Sizes.{leaf_count-cuts}
+use Rattle.tree_core.proofs.DerivationStands.{cut-below, cut-nonempty, partition-kept, partition-merged}
+
+count-all : (n : ℕ) → count n everything ≡ n
+count-all zero = refl
+count-all (suc n) = omega (arith, count-all n)
+
+all-blocks : (p : List (List ℕ)) → block_count p everything ≡ length p
+all-blocks p = count_congr (length p) _ everything (λ i w. true_all_in (block p i) everything (λ v m. refl)) ∙ count-all (length p)
+
+-- merging a tight shore leaves one block for those inside
+length-merged : (g : Graph) (p : List (List ℕ)) (x : List ℕ) → IsGraph g → IsPartition g.order p → IsRisingIn g.order x → IsTightAt g p (mem x) → length (merged p x) + block_count p (mem x) ≡ length p + 1
+length-merged g p x is pp rises tight =
+    let some = member-of_set g.order x rises (shore-some g is p pp.partition x tight) in
+    let merge = merge_of g is p x pp.partition tight some (mem-within g.order x rises) in
+    let around = block_count_around g.order p (merged p x) (mem x) pp.partition tight.union merge some everything (λ u v wu wv e. refl) (λ v w h. refl) in
+    let before = all-blocks p in
+    let after = all-blocks (merged p x) in
+    omega arith
+
+module _ (g : Graph) (p : List (List ℕ)) (x : List ℕ) (is : IsGraph g) (pp : IsPartition g.order p) (cuts : IsCutAt g p x) where
+  pub kept-partition : IsPartition g.order (kept_at g.order p x)
+  kept-partition = partition-kept g.order p x pp cuts.set (cut-nonempty g p x pp cuts) (cut-below g p x cuts) cuts.tight.union
+
+  pub merged-partition : IsPartition g.order (merged_at g.order p x)
+  merged-partition = partition-merged g.order p x pp cuts.set (cut-nonempty g p x pp cuts) cuts.tight.union
+
+  pub kept-covers : IsCovered (quotient g p) → IsCovered (quotient g (kept_at g.order p x))
+  kept-covers covered = merged-covered g p (complement_of g.order x) is pp.partition (complement_of-rises g.order x) (complement-tight g is p pp.partition x cuts.tight) covered
+
+  pub merged-covers : IsCovered (quotient g p) → IsCovered (quotient g (merged_at g.order p x))
+  merged-covers covered = merged-covered g p x is pp.partition cuts.set cuts.tight covered
+
+  pub merged-length : length (merged_at g.order p x) + count (length p) (blocks_in p (mem x)) ≡ length p + 1
+  merged-length = length-merged g p x is pp cuts.set cuts.tight
+
+  pub kept-length : length (kept_at g.order p x) + count (length p) (complement (blocks_in p (mem x))) ≡ length p + 1
+  kept-length =
+      let a = length-merged g p (complement_of g.order x) is pp (complement_of-rises g.order x) (complement-tight g is p pp.partition x cuts.tight) in
+      let b = block_count_rest g.order p pp.partition (mem x) cuts.tight.union in
+      let c = block_count_congr g.order p pp.partition (complement (mem x)) (mem (complement_of g.order x)) (λ v w. sym (mem-complement_of g.order x v w)) (union_rest g.order p pp.partition (mem x) cuts.tight.union) in
+      omega arith
+
+-- c cuts stand at a partition with at least 2 c + 4 blocks, if it has at least four
+pub few-cuts_at : (g : Graph) (p : List (List ℕ)) (t : Shape) → IsGraph g → IsPartition g.order p → IsDerivationAt g p t → 4 ≤ length p → 2 * cut_count t + 4 ≤ length p
+few-cuts_at g p leaf is pp derives four = omega arith
+few-cuts_at g p (cut x k m) is pp derives four =
+    let cuts = derives.0 in
+    let inside = cuts.nontrivial.inside in
+    let outside = cuts.nontrivial.outside in
+    let both = count_complement (length p) (blocks_in p (mem x)) in
+    let a = kept-length g p x is pp cuts in
+    let b = merged-length g p x is pp cuts in
+    let kept = few-cuts_at g (kept_at g.order p x) k is (kept-partition g p x is pp cuts) derives.1 (omega arith) in
+    let rest = few-cuts_at g (merged_at g.order p x) m is (merged-partition g p x is pp cuts) derives.2 (omega arith) in
+    omega arith
+
+pub few-leaves : (g : Graph) (t : Shape) → IsGraph g → IsDerivation g t → 4 ≤ g.order → 2 * leaf_count t + 2 ≤ g.order
+few-leaves g t is derives four =
+    let n = length-singles g.order in
+    let few = few-cuts_at g (singles g.order) t is (singles-partition g.order) derives.derives (omega arith) in
+    let leaves = leaf_count-cuts t in
+    omega arith
