@@ -1,0 +1,4 @@
+pub mod Stages
+pub mod Ears
+pub mod EarLists
+pub mod View

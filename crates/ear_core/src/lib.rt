@@ -1,0 +1,8 @@
+//! Ear lists of matching covered graphs, and their check.
+#![tactic(auto)]
+
+mod ears;
+mod judgement;
+
+pub use ears::{Ear, EarList, Step, Steps};
+pub use judgement::{EarJudgement, EarWhy};

@@ -1,0 +1,173 @@
+-- What is written of an ear list is read as this list. Line by line the tests of the table pass, since the numbers are in range and
+-- no ear is empty; the ear that stands apart goes to the steps with the next line, or at the end.
+use Rattle.std.proofs.Common.{◌≡◌, ◌<◌, ◌==◌, ◌||◌, ◌&&◌, ◌^◌, ◌++◌, codes, nat_le, ℕ, suc, List, [], ◌∷◌, All, Bool, length, map, true, false, Option, Some, None, Ok, inl, inr, refl, sym, ◌∙◌, ap, ap₂, subst, arith, append_assoc}
+use Rattle.std.specs.List.{AllByRecursion, list_all, list_any}
+use Rattle.std.specs.Fmt.{decimal}
+use Rattle.std.proofs.lemmas.List.{length-map, append-nil}
+use Rattle.std.proofs.lemmas.Bool.{and_from}
+use Rattle.std.proofs.lemmas.Bool.Decides.{nat_tests}
+use Rattle.counting.specs.Counts.{Within}
+use Rattle.line_text.specs.Format.{Begins, Stands, StandsAlone}
+use Rattle.line_text.specs.Words.{has_form, AreWords, IsSignificant}
+use Rattle.line_text.specs.Numerals.{is_number, value_of}
+use Rattle.line_text.proofs.Decimals.{number_of-decimal, is_word-decimal}
+use Rattle.line_text.proofs.ExactlyOne.{exactly_one}
+use Rattle.line_text.proofs.ReadBack.{Stands-written}
+use Rattle.ear_core.specs.EarLists.{PlainEar, PlainStep, one, two, PlainEars, FitsEar, FitsStep}
+use Rattle.ear_text.specs.EarFormat.{EarsSoFar, headed, started, ear_format, is_out_of_range, is_ear_line, is_with_line, closed, ears_end}
+use Rattle.ear_text.specs.Writing.{header_words, start_words, ear_words, step_words, ears_text, HasEdges, IsWritable}
+
+-- the header line
+header-taken : (n m : ℕ) → n < 10 ^ 9 → m < 10 ^ 9 → (ear_format n m).header (header_words n m) ≡ Ok headed
+unfolding has_form
+header-taken n m order size = rw (number_of-decimal n order, number_of-decimal m size) (grind (arith, nat_tests))
+
+-- a number in range, and its word
+value-decimal : (v : ℕ) → v < 10 ^ 9 → value_of (decimal v) ≡ v
+value-decimal v less = rw (number_of-decimal v less) refl
+
+number-decimal : (v : ℕ) → v < 10 ^ 9 → is_number (decimal v) ≡ true
+number-decimal v less = rw (number_of-decimal v less) refl
+
+within-test : (n v : ℕ) → Within n v → is_out_of_range n v ≡ false
+within-test n v within = let low = within.0 in let high = within.1 in grind (arith, nat_tests)
+
+-- the line of the first stage
+start-taken : (n m e : ℕ) → m < 10 ^ 9 → Within m e → (ear_format n m).line headed (start_words e) ≡ Ok (started e [] None)
+unfolding has_form
+start-taken n m e size within =
+    let high = within.1 in
+    rw (number_of-decimal e (omega arith), within-test m e within) (grind (arith, nat_tests))
+
+-- numbers in range, and their words
+below : (m : ℕ) (x : List ℕ) → m < 10 ^ 9 → All (Within m) x → All (λ v. v < 10 ^ 9) x
+below m x size within k d less = let in_order = within k d less in omega arith
+
+values-decimal : (x : List ℕ) → All (λ v. v < 10 ^ 9) x → map value_of (map decimal x) ≡ x
+values-decimal [] small = refl
+values-decimal (v ∷ x) small = ap₂ ◌∷◌ (value-decimal v (small 0 0 (omega arith))) (values-decimal x (λ k d less. small (suc k) d (omega arith)))
+
+numbers-decimal : (x : List ℕ) → All (λ v. v < 10 ^ 9) x → list_all is_number (map decimal x) ≡ true
+numbers-decimal [] small = refl
+numbers-decimal (v ∷ x) small = and_from (is_number (decimal v)) (list_all is_number (map decimal x)) (number-decimal v (small 0 0 (omega arith))) (numbers-decimal x (λ k d less. small (suc k) d (omega arith)))
+
+within-tests : (n : ℕ) (x : List ℕ) → All (Within n) x → list_any (is_out_of_range n) x ≡ false
+within-tests n [] within = refl
+within-tests n (v ∷ x) within = ap₂ (λ a b. a || b) (within-test n v (within 0 0 (omega arith))) (within-tests n x (λ k d less. within (suc k) d (omega arith)))
+
+words-decimal : (x : List ℕ) → All (λ v. v < 10 ^ 9) x → AreWords (map decimal x)
+words-decimal [] small = tt
+words-decimal (v ∷ x) small = (is_word-decimal v (small 0 0 (omega arith)), words-decimal x (λ k d less. small (suc k) d (omega arith)))
+
+-- which line it is
+is-ear : (word : List ℕ) (words : List (List ℕ)) → 0 < length words → is_ear_line (codes "ear" ∷ word ∷ words) ≡ true
+unfolding has_form
+is-ear word [] some = absurd (omega arith)
+is-ear word (next ∷ words) some = grind (arith, nat_tests)
+
+is-with : (word : List ℕ) (words : List (List ℕ)) → 0 < length words → is_with_line (codes "with" ∷ word ∷ words) ≡ true
+unfolding has_form
+is-with word [] some = absurd (omega arith)
+is-with word (next ∷ words) some = grind (arith, nat_tests)
+
+not-ear : (word : List ℕ) (words : List (List ℕ)) → is_ear_line (codes "with" ∷ word ∷ words) ≡ false
+unfolding has_form
+not-ear word [] = refl
+not-ear word (next ∷ words) = with-false (nat_le 3 (length (codes "with" ∷ word ∷ next ∷ words))) (length (codes "with" ∷ word ∷ next ∷ words) == length (codes "with" ∷ word ∷ next ∷ words))
+  where
+    with-false : (a b : Bool) → (a && (b && false)) ≡ false
+    with-false true true = refl
+    with-false true false = refl
+    with-false false b = refl
+
+-- the line of the first ear of a step
+ear-taken : (n m start : ℕ) (steps : List PlainStep) (last : Option PlainEar) (a : PlainEar) → n < 10 ^ 9 → m < 10 ^ 9 → FitsEar n m a → 0 < length a.edges → (ear_format n m).line (started start steps last) (ear_words (codes "ear") a) ≡ Ok (started start (closed steps last) (Some a))
+ear-taken n m start steps last a order size fits some =
+    taken (map decimal a.edges) (is-ear (decimal a.begin) (map decimal a.edges) (subst (λ k. 0 < k) (sym (length-map a.edges decimal)) some)) (value-decimal a.begin small) (number-decimal a.begin small) (values-decimal a.edges edges) (numbers-decimal a.edges edges)
+  where
+    small : a.begin < 10 ^ 9
+    small = let high = fits.0.1 in omega arith
+
+    edges : All (λ v. v < 10 ^ 9) a.edges
+    edges = below m a.edges size fits.1
+
+    taken : (words : List (List ℕ)) → is_ear_line (codes "ear" ∷ decimal a.begin ∷ words) ≡ true → value_of (decimal a.begin) ≡ a.begin → is_number (decimal a.begin) ≡ true → map value_of words ≡ a.edges → list_all is_number words ≡ true → (ear_format n m).line (started start steps last) (codes "ear" ∷ decimal a.begin ∷ words) ≡ Ok (started start (closed steps last) (Some a))
+    taken words is value number values numbers = rw (is, value, number, values, numbers, within-test n a.begin fits.0, within-tests m a.edges fits.1) refl
+
+-- the line of the second ear
+with-taken : (n m start : ℕ) (steps : List PlainStep) (a b : PlainEar) → n < 10 ^ 9 → m < 10 ^ 9 → FitsEar n m b → 0 < length b.edges → (ear_format n m).line (started start steps (Some a)) (ear_words (codes "with") b) ≡ Ok (started start (steps ++ two a b ∷ []) None)
+with-taken n m start steps a b order size fits some =
+    taken (map decimal b.edges) (not-ear (decimal b.begin) (map decimal b.edges)) (is-with (decimal b.begin) (map decimal b.edges) (subst (λ k. 0 < k) (sym (length-map b.edges decimal)) some)) (value-decimal b.begin small) (number-decimal b.begin small) (values-decimal b.edges edges) (numbers-decimal b.edges edges)
+  where
+    small : b.begin < 10 ^ 9
+    small = let high = fits.0.1 in omega arith
+
+    edges : All (λ v. v < 10 ^ 9) b.edges
+    edges = below m b.edges size fits.1
+
+    taken : (words : List (List ℕ)) → is_ear_line (codes "with" ∷ decimal b.begin ∷ words) ≡ false → is_with_line (codes "with" ∷ decimal b.begin ∷ words) ≡ true → value_of (decimal b.begin) ≡ b.begin → is_number (decimal b.begin) ≡ true → map value_of words ≡ b.edges → list_all is_number words ≡ true → (ear_format n m).line (started start steps (Some a)) (codes "with" ∷ decimal b.begin ∷ words) ≡ Ok (started start (steps ++ two a b ∷ []) None)
+    taken words other is value number values numbers = rw (other, is, value, number, values, numbers, within-test n b.begin fits.0, within-tests m b.edges fits.1) refl
+
+-- what the lines of steps lead to
+abbrev after : ℕ → List PlainStep → Option PlainEar → List PlainStep → EarsSoFar
+after start before last [] = started start before last
+after start before last (one a ∷ steps) = after start (closed before last) (Some a) steps
+after start before last (two a b ∷ steps) = after start (closed before last ++ two a b ∷ []) None steps
+
+steps-taken : (n m start : ℕ) (before : List PlainStep) (last : Option PlainEar) (steps : List PlainStep) → n < 10 ^ 9 → m < 10 ^ 9 → AllByRecursion (FitsStep n m) steps → AllByRecursion HasEdges steps → Begins (ear_format n m) (Some (started start before last)) (step_words steps) (Some (after start before last steps))
+steps-taken n m start before last [] order size fits some = refl
+steps-taken n m start before last (one a ∷ steps) order size fits some = (
+  started start (closed before last) (Some a),
+  ear-taken n m start before last a order size fits.0 some.0,
+  steps-taken n m start (closed before last) (Some a) steps order size fits.1 some.1,
+)
+steps-taken n m start before last (two a b ∷ steps) order size fits some =
+    let ears = fits.0 in let filled = some.0 in (
+      started start (closed before last) (Some a),
+      ear-taken n m start before last a order size ears.0 filled.0,
+      (started start (closed before last ++ two a b ∷ []) None, with-taken n m start (closed before last) a b order size ears.1 filled.1, steps-taken n m start (closed before last ++ two a b ∷ []) None steps order size fits.1 some.1),
+    )
+
+-- and what they are at the end
+abbrev list_from : ℕ → List PlainStep → PlainEars
+list_from start steps = record { start = start; steps = steps }
+
+after-ends : (start : ℕ) (before : List PlainStep) (last : Option PlainEar) (steps : List PlainStep) → ears_end (after start before last steps) ≡ Ok (list_from start (closed before last ++ steps))
+after-ends start before last [] = ap (λ all. Ok (list_from start all)) (sym (append-nil (closed before last)))
+after-ends start before last (one a ∷ steps) = after-ends start (closed before last) (Some a) steps ∙ ap (λ all. Ok (list_from start all)) (append_assoc (closed before last) (one a ∷ []) steps)
+after-ends start before last (two a b ∷ steps) = after-ends start (closed before last ++ two a b ∷ []) None steps ∙ ap (λ all. Ok (list_from start all)) (append_assoc (closed before last) (two a b ∷ []) steps)
+
+-- each line is significant
+ear-significant : (n m : ℕ) (a : PlainEar) → n < 10 ^ 9 → m < 10 ^ 9 → FitsEar n m a → IsSignificant (ear_words (codes "ear") a)
+ear-significant n m a order size fits =
+    let high = fits.0.1 in
+    record { kept = refl; each = (refl, (is_word-decimal a.begin (omega arith), words-decimal a.edges (below m a.edges size fits.1))) }
+
+with-significant : (n m : ℕ) (a : PlainEar) → n < 10 ^ 9 → m < 10 ^ 9 → FitsEar n m a → IsSignificant (ear_words (codes "with") a)
+with-significant n m a order size fits =
+    let high = fits.0.1 in
+    record { kept = refl; each = (refl, (is_word-decimal a.begin (omega arith), words-decimal a.edges (below m a.edges size fits.1))) }
+
+steps-significant : (n m : ℕ) (steps : List PlainStep) → n < 10 ^ 9 → m < 10 ^ 9 → AllByRecursion (FitsStep n m) steps → AllByRecursion IsSignificant (step_words steps)
+steps-significant n m [] order size fits = tt
+steps-significant n m (one a ∷ steps) order size fits = (ear-significant n m a order size fits.0, steps-significant n m steps order size fits.1)
+steps-significant n m (two a b ∷ steps) order size fits =
+    let ears = fits.0 in (ear-significant n m a order size ears.0, (with-significant n m b order size ears.1, steps-significant n m steps order size fits.1))
+
+-- the text of an ear list stands for it
+pub Stands-ears_text : (n m : ℕ) (list : PlainEars) → IsWritable n m list → Stands (ear_format n m) (ears_text n m list) list
+unfolding ears_text
+Stands-ears_text n m list is =
+    let first = is.fits.start.1 in
+    let size = is.size in
+    Stands-written (ear_format n m) (header_words n m ∷ start_words list.start ∷ step_words list.steps) (Some (after list.start [] None list.steps)) list
+    (record { kept = refl; each = (refl, (refl, (is_word-decimal n is.order, (is_word-decimal m is.size, tt)))) }, (record { kept = refl; each = (refl, (is_word-decimal list.start (omega arith), tt)) }, steps-significant n m list.steps is.order is.size is.fits.steps))
+    (headed, header-taken n m is.order is.size, (started list.start [] None, start-taken n m list.start is.size is.fits.start, steps-taken n m list.start [] None list.steps is.order is.size is.fits.steps is.filled))
+    (after-ends list.start [] None list.steps)
+
+-- and for no other
+pub StandsAlone-ears_text : (n m : ℕ) (list : PlainEars) → IsWritable n m list → StandsAlone (ear_format n m) (ears_text n m list)
+StandsAlone-ears_text n m list is = elim (exactly_one (ear_format n m) (ears_text n m list)) [
+  | inl alone ↦ alone
+  | inr broken ↦ absurd (broken.valueless list (Stands-ears_text n m list is))
+]

@@ -1,0 +1,3 @@
+pub mod TextSoFar
+pub mod EarsReadBack
+pub mod EarsRead

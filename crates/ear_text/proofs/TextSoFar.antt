@@ -1,0 +1,63 @@
+-- The text of a list of lines is that of the first and then that of the others, and a line is its first word and each further
+-- word behind a space.
+use Rattle.std.proofs.Common.{◌≡◌, ℕ, List, [], ◌∷◌, ◌++◌, codes, length, map, refl, sym, ◌∙◌, ap, append_assoc, arith}
+use Rattle.std.proofs.lemmas.List.{append-nil}
+use Rattle.std.specs.Fmt.{decimal}
+use Rattle.line_text.specs.Words.{unwords, written}
+use Rattle.ear_core.specs.EarLists.{PlainEar, PlainStep, one, two, PlainEars}
+use Rattle.ear_text.specs.Writing.{ear_words, header_words, start_words, step_words, ears_text}
+
+pub written-append : (lines more : List (List (List ℕ))) → written (lines ++ more) ≡ written lines ++ written more
+written-append [] more = refl
+written-append (words ∷ lines) more =
+    ap (λ text. unwords words ++ 10 ∷ text) (written-append lines more) ∙ sym (append_assoc (unwords words) (10 ∷ written lines) (written more))
+
+-- words, each behind a space
+abbrev pub spaced : List (List ℕ) → List ℕ
+spaced [] = []
+spaced (word ∷ words) = 32 ∷ (word ++ spaced words)
+
+pub unwords-spaced : (word : List ℕ) (words : List (List ℕ)) → unwords (word ∷ words) ≡ word ++ spaced words
+unwords-spaced word [] = sym (append-nil word)
+unwords-spaced word (next ∷ words) = ap (λ text. word ++ 32 ∷ text) (unwords-spaced next words)
+
+-- the line of an ear is whole when no edge is left
+pub ear_text-line : (old text new keyword edges rest : List ℕ) (v : ℕ) → length rest ≡ 0 → old ++ (keyword ++ spaced (map decimal (v ∷ edges))) ≡ text ++ spaced (map decimal rest) → new ≡ text ++ 10 ∷ [] → new ≡ old ++ written (ear_words keyword (record { begin = v; edges = edges }) ∷ [])
+ear_text-line old text new keyword edges (e ∷ rest) v none same is = absurd (omega arith)
+ear_text-line old text new keyword edges [] v none same is =
+    let words : List (List ℕ) = ear_words keyword (record { begin = v; edges = edges }) in
+    let whole : text ≡ old ++ unwords words = sym (same ∙ append-nil text) ∙ ap (λ t. old ++ t) (sym (unwords-spaced keyword (map decimal (v ∷ edges)))) in
+    is ∙ ap (λ t. t ++ 10 ∷ []) whole ∙ append_assoc old (unwords words) (10 ∷ [])
+
+-- the lines of two ears, one behind the other
+pub pair_lines : (old first second : List ℕ) (a b : PlainEar) → first ≡ old ++ written (ear_words (codes "ear") a ∷ []) → second ≡ first ++ written (ear_words (codes "with") b ∷ []) → second ≡ old ++ written (step_words (two a b ∷ []))
+pair_lines old first second a b is_first is_second =
+    is_second ∙ ap (λ t. t ++ written (ear_words (codes "with") b ∷ [])) is_first
+    ∙ append_assoc old (written (ear_words (codes "ear") a ∷ [])) (written (ear_words (codes "with") b ∷ []))
+    ∙ ap (λ t. old ++ t) (sym (written-append (ear_words (codes "ear") a ∷ []) (ear_words (codes "with") b ∷ [])))
+
+-- the lines of a step and of those behind it
+step_words-append : (s : PlainStep) (steps : List PlainStep) → step_words (s ∷ steps) ≡ step_words (s ∷ []) ++ step_words steps
+step_words-append (one a) steps = refl
+step_words-append (two a b) steps = refl
+
+pub steps_lines : (old next : List ℕ) (s : PlainStep) (steps : List PlainStep) → next ≡ old ++ written (step_words (s ∷ [])) → old ++ written (step_words (s ∷ steps)) ≡ next ++ written (step_words steps)
+steps_lines old next s steps is =
+    ap (λ lines. old ++ written lines) (step_words-append s steps)
+    ∙ ap (λ t. old ++ t) (written-append (step_words (s ∷ [])) (step_words steps))
+    ∙ sym (append_assoc old (written (step_words (s ∷ []))) (written (step_words steps)))
+    ∙ ap (λ t. t ++ written (step_words steps)) (sym is)
+
+-- the bytes of the first two lines
+abbrev pub first_lines : ℕ → ℕ → ℕ → List ℕ
+first_lines n m e = codes "r mcg " ++ (decimal n ++ 32 ∷ (decimal m ++ 10 ∷ (codes "start " ++ (decimal e ++ 10 ∷ []))))
+
+first_lines-written : (n m e : ℕ) → first_lines n m e ≡ written (header_words n m ∷ start_words e ∷ [])
+first_lines-written n m e = ap (λ text. codes "r mcg " ++ text) (sym (append_assoc (decimal n) (32 ∷ decimal m) (10 ∷ (codes "start " ++ (decimal e ++ 10 ∷ [])))))
+
+-- the first two lines, and the lines of the steps
+pub ears_text-lines : (n m : ℕ) (list : PlainEars) (steps : List PlainStep) (head text : List ℕ) → steps ≡ list.steps → head ≡ first_lines n m list.start → text ≡ head ++ written (step_words steps) → text ≡ ears_text n m list
+unfolding ears_text
+ears_text-lines n m list steps head text same is_head is_text =
+    is_text ∙ ap (λ all. head ++ written (step_words all)) same ∙ ap (λ h. h ++ written (step_words list.steps)) (is_head ∙ first_lines-written n m list.start)
+    ∙ sym (written-append (header_words n m ∷ start_words list.start ∷ []) (step_words list.steps))

@@ -1,0 +1,3 @@
+pub mod EarFormat
+pub mod Writing
+pub mod SoFar

@@ -1,0 +1,214 @@
+//! The ear format.
+ghost use Rattle.std.specs.Prelude.{◌≡◌, ◌<◌, ◌-◌, ◌^◌, ℕ, length, map, option_map, IfOk, IfErr, Ok, Err};
+ghost use Rattle.std.specs.List.{AllByRecursion, list_any};
+ghost use Rattle.line_text.specs.Reading.{Gives};
+ghost use Rattle.line_text.specs.Format.{Stands, FirstFault};
+ghost use Rattle.line_text.specs.Words.{texts_of};
+ghost use Rattle.text_faults.specs.Readings.{IsFirstFault, ReadsText};
+ghost use Rattle.graph_core.specs.declared.faults.FaultKind.{FaultKind};
+ghost use Rattle.ear_core.specs.EarLists.{PlainEars, FitsEars};
+ghost use Rattle.ear_core.specs.View.{ear_of, step_of, ears_of};
+ghost use Rattle.ear_text.specs.EarFormat.{EarsSoFar, ears_header, start_line, ear_line, ear_format, behind_two, is_ear_line, is_with_line, is_out_of_range};
+ghost use Rattle.ear_text.specs.Writing.{HasEdges};
+ghost use Rattle.ear_text.specs.SoFar.{ears_so_far};
+
+use crate::ears_read::{EarsRead, close_last, pair_last};
+use ear_core::{Ear, EarList, Steps};
+use graph_core::{FaultKind, Numbers, TextFault};
+use line_text::{LineFormat, Refusal, has_form, number, numbers, word};
+use std::alloc::{AllocError as Memory, Global};
+use text_faults::read_text;
+
+// The format, for graphs of this order and size.
+#[derive(Drop)]
+struct EarFormat {
+    alloc: Global,
+    order: u32,
+    size: u32,
+}
+
+fn read_header(n: u32, m: u32, words: &[&[u8]]) -> Result<EarsRead, Refusal<FaultKind>>
+    ensures { Gives ears_so_far result (ears_header n m (texts_of words.now)) }
+{
+    if !has_form(words, 4, &["r", "mcg"]) {
+        return Err(Refusal::Fault(FaultKind::Header));
+    }
+    let (Some(order), Some(size)) = (number(word(words, 2)), number(word(words, 3))) else {
+        return Err(Refusal::Fault(FaultKind::Number));
+    };
+    if order != n || size != m {
+        return Err(Refusal::Fault(FaultKind::Header));
+    }
+    Ok(EarsRead::Headed)
+}
+
+// Whether a number is 0 or over `n`.
+fn is_out_of_range(n: u32, v: u32) -> bool
+    ensures { result ≡ is_out_of_range n v }
+{
+    v == 0 || v > n
+}
+
+// Whether one of the numbers is 0 or over `n`.
+fn has_out_of_range(n: u32, numbers: &[u32]) -> bool
+    ensures { result ≡ list_any (is_out_of_range n) numbers.now }
+{
+    numbers.iter().any(|v| *v == 0 || *v > n)
+}
+
+// The line of the first stage.
+fn read_start(alloc: Global, m: u32, words: &[&[u8]]) -> Result<EarsRead, Refusal<FaultKind>>
+    ensures { Gives ears_so_far result (start_line m (texts_of words.now)) }
+{
+    if !has_form(words, 2, &["start"]) {
+        return Err(Refusal::Fault(FaultKind::Word));
+    }
+    let Some(start) = number(word(words, 1)) else {
+        return Err(Refusal::Fault(FaultKind::Number));
+    };
+    if is_out_of_range(m, start) {
+        return Err(Refusal::Fault(FaultKind::Range));
+    }
+    Ok(EarsRead::Started {
+        start,
+        steps: Steps::new(alloc),
+        last: None,
+    })
+}
+
+// Whether these are the words of a step's first ear.
+fn is_ear(words: &[&[u8]]) -> bool
+    ensures { result ≡ is_ear_line (texts_of words.now) }
+{
+    words.len() >= 3 && has_form(words, words.len(), &["ear"])
+}
+
+// Whether these are the words of a step's second ear.
+fn is_with(words: &[&[u8]]) -> bool
+    ensures { result ≡ is_with_line (texts_of words.now) }
+{
+    words.len() >= 3 && has_form(words, words.len(), &["with"])
+}
+
+// The words behind the second.
+fn behind_two<'a, 'b>(words: &'a [&'b [u8]]) -> &'a [&'b [u8]]
+    ensures { texts_of result.now ≡ behind_two (texts_of words.now) }
+{
+    &words[words.len().min(2)..]
+}
+
+// The numbers as a list of their own.
+fn copied(alloc: Global, items: &[u32]) -> Result<Numbers, Memory>
+    ensures { IfOk result (λ list. list ≡ items.now) }
+{
+    let mut list = Numbers::new(alloc);
+    let mut rest = items;
+    'items: while let Some((item, others)) = rest.split_first() {
+        list.push(*item)?;
+        rest = others;
+    }
+    Ok(list)
+}
+
+// A line behind that of the first stage.
+fn read_ear(
+    format: &EarFormat,
+    start: u32,
+    steps: Steps,
+    last: Option<Ear>,
+    words: &[&[u8]],
+) -> Result<EarsRead, Refusal<FaultKind>>
+    ensures { Gives ears_so_far result (ear_line format.now.order format.now.size start (map step_of steps) (option_map ear_of last) (texts_of words.now)) }
+{
+    let is_first = is_ear(words);
+    if !is_first && !(last.is_some() && is_with(words)) {
+        return Err(Refusal::Fault(FaultKind::Word));
+    }
+    let read = numbers(format.alloc, behind_two(words))?;
+    let (Some(from), Some(edges)) = (number(word(words, 1)), read) else {
+        return Err(Refusal::Fault(FaultKind::Number));
+    };
+    if is_out_of_range(format.order, from) || has_out_of_range(format.size, &edges) {
+        return Err(Refusal::Fault(FaultKind::Range));
+    }
+    let edges = copied(format.alloc, &edges)?;
+    let ear = Ear { from, edges };
+    if is_first {
+        let steps = close_last(steps, last)?;
+        Ok(EarsRead::Started {
+            start,
+            steps,
+            last: Some(ear),
+        })
+    } else {
+        let steps = pair_last(steps, last, ear)?;
+        Ok(EarsRead::Started {
+            start,
+            steps,
+            last: None,
+        })
+    }
+}
+
+impl LineFormat for EarFormat {
+    type Body = EarsRead;
+
+    type Value = EarList;
+
+    type Kind = FaultKind;
+
+    ghost State = { EarsSoFar };
+
+    ghost Meaning = { PlainEars };
+
+    ghost state = { ears_so_far };
+
+    ghost meaning = { ears_of };
+
+    ghost rules = { λ format. ear_format format.order format.size };
+
+    fn header(&self, words: &[&[u8]]) -> Result<EarsRead, Refusal<FaultKind>> {
+        read_header(self.order, self.size, words)
+    }
+
+    fn line(&self, body: EarsRead, words: &[&[u8]]) -> Result<EarsRead, Refusal<FaultKind>> {
+        match body {
+            EarsRead::Headed => read_start(self.alloc, self.size, words),
+            EarsRead::Started { start, steps, last } => read_ear(self, start, steps, last, words),
+        }
+    }
+
+    fn close(&self, body: EarsRead) -> Result<EarList, Refusal<FaultKind>> {
+        match body {
+            EarsRead::Headed => Err(Refusal::Fault(FaultKind::Missing)),
+            EarsRead::Started { start, steps, last } => {
+                let steps = close_last(steps, last)?;
+                Ok(EarList { start, steps })
+            }
+        }
+    }
+
+    fn headless(&self) -> FaultKind {
+        FaultKind::Header
+    }
+}
+
+/// Reads an ear list for a graph of `n` vertices and `m` edges: the list that the bytes stand for, or the first line outside the
+/// format with the kind of its fault. All numbers of the list are in range, and no ear is empty. Want of memory may come at any
+/// time.
+pub fn read_ears(alloc: Global, bytes: &[u8], n: u32, m: u32) -> Result<EarList, TextFault>
+    requires { length bytes.now < 2 ^ 32 - 1 }
+    ensures fits { IfOk result (λ list. FitsEars n m (ears_of list)) }
+    ensures filled { IfOk result (λ list. AllByRecursion HasEdges (ears_of list).steps) }
+    ensures value { IfOk result (λ list. Stands (ear_format n m) bytes.now (ears_of list)) }
+    ensures fault { IfErr result (IsFirstFault (ear_format n m) bytes.now) }
+    ensures stands { (list : PlainEars) → Stands (ear_format n m) bytes.now list → ReadsText ears_of result (Ok list) }
+    ensures breaks { (line : ℕ) (kind : FaultKind) → FirstFault (ear_format n m) bytes.now line kind → ReadsText ears_of result (Err (line, kind)) }
+{
+    let format = EarFormat {
+        alloc,
+        order: n,
+        size: m,
+    };
+    read_text(alloc, &format, bytes)
+}

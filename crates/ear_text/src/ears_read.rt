@@ -1,0 +1,49 @@
+//! The state of reading an ear list.
+ghost use Rattle.std.specs.Prelude.{◌≡◌, IfOk, map, option_map};
+ghost use Rattle.ear_core.specs.View.{ear_of, step_of};
+ghost use Rattle.ear_text.specs.EarFormat.{closed, paired};
+
+use ear_core::{Ear, Step, Steps};
+use std::alloc::AllocError as Memory;
+
+/// What the lines read so far say.
+#[derive(Drop)]
+pub enum EarsRead {
+    /// The header alone.
+    Headed,
+    /// The line of the first stage too.
+    Started {
+        start: u32,
+        steps: Steps,
+        /// The first ear of a step to which a second one may come.
+        last: Option<Ear>,
+    },
+}
+
+/// The steps, the last of which has one ear where an ear stands apart.
+pub fn close_last(steps: Steps, last: Option<Ear>) -> Result<Steps, Memory>
+    ensures { IfOk result (λ all. map step_of all ≡ closed (map step_of steps) (option_map ear_of last)) }
+{
+    let mut all = steps;
+    if let Some(first) = last {
+        all.push(Step {
+            first,
+            second: None,
+        })?;
+    }
+    Ok(all)
+}
+
+/// The steps, the last of which is the ear that stands apart with the other one.
+pub fn pair_last(steps: Steps, last: Option<Ear>, other: Ear) -> Result<Steps, Memory>
+    ensures { IfOk result (λ all. map step_of all ≡ paired (map step_of steps) (option_map ear_of last) (ear_of other)) }
+{
+    let mut all = steps;
+    if let Some(first) = last {
+        all.push(Step {
+            first,
+            second: Some(other),
+        })?;
+    }
+    Ok(all)
+}
