@@ -1,10 +1,10 @@
 -- What stands below a cut: both partitions are partitions, their quotients are matching covered where that of the node is, and each
 -- has one block for the merged side and the blocks of the other side. So a tree of cuts has few leaves, by induction.
-use Rattle.std.proofs.Common.{◌≡◌, ℕ, zero, suc, ◌+◌, ◌*◌, ◌≤◌, ◌<◌, true, List, length, refl, sym, ap, ◌∙◌, arith}
+use Rattle.std.proofs.Common.{◌≡◌, ℕ, zero, suc, ◌+◌, ◌*◌, ◌≤◌, ◌<◌, ◌-◌, true, List, length, All, subst, refl, sym, ap, ◌∙◌, arith}
 use Rattle.counting.proofs.Counts.{count_congr, count_complement}
 use Rattle.counting.proofs.Lists.{mem-within, member-of_set}
 use Rattle.counting.proofs.RisingLists.{true_all_in}
-use Rattle.counting.specs.Counts.{count}
+use Rattle.counting.specs.Counts.{Within, count}
 use Rattle.counting.specs.Lists.{mem, IsRisingIn}
 use Rattle.counting.specs.Sets.{complement, everything}
 use Rattle.graph_core.proofs.BlockSets.{block_count_congr, block_count_rest, union_rest}
@@ -16,8 +16,9 @@ use Rattle.graph_core.specs.Covered.{IsCovered}
 use Rattle.graph_core.specs.Graph.{Graph, IsGraph}
 use Rattle.graph_core.specs.Partitions.{IsPartition, block, complement_of, merged, singles}
 use Rattle.graph_core.specs.Quotients.{quotient}
-use Rattle.graph_core.specs.Shores.{IsTightAt, block_count, blocks_in}
+use Rattle.graph_core.specs.Shores.{IsTightAt, IsUnion, block_count, blocks_in}
 use Rattle.contraction.proofs.MergedQuotients.{merged-covered}
+use Rattle.contraction.specs.Partition.{IsUnionAt}
 use Rattle.tree_core.specs.Shapes.{Shape, leaf, cut, cut_count, leaf_count}
 use Rattle.tree_core.specs.Derivations.{IsCutAt, IsDerivation, IsDerivationAt, kept_at, merged_at}
 use Rattle.tree_core.proofs.Sizes.{leaf_count-cuts}
@@ -83,3 +84,30 @@ few-leaves g t is derives four =
     let few = few-cuts_at g (singles g.order) t is (singles-partition g.order) derives.derives (omega arith) in
     let leaves = leaf_count-cuts t in
     omega arith
+
+-- what the code is asked and answers at a cut, for a partition whose number of vertices is that of the graph
+module _ (g : Graph) (n : ℕ) (p : List (List ℕ)) (x : List ℕ) (is : IsGraph g) (pp : IsPartition n p) (same : n ≡ g.order) (cuts : IsCutAt g p x) where
+  own : IsPartition g.order p
+  own = subst (λ k. IsPartition k p) same pp
+
+  pub cut-fits : All (Within (n - 1)) x
+  cut-fits = subst (λ k. All (Within (k - 1)) x) (sym same) (cut-below g p x cuts)
+
+  pub cut-some : 0 < length x
+  cut-some = cut-nonempty g p x own cuts
+
+  pub cut-union : IsUnionAt (record { order = n; blocks = p }) x
+  cut-union = record { set = subst (λ k. IsRisingIn k x) (sym same) cuts.set; union = subst (λ k. IsUnion k p (mem x)) (sym same) cuts.tight.union }
+
+  module _ (q : List (List ℕ)) where
+    pub covers-kept : q ≡ kept_at g.order p x → IsCovered (quotient g p) → IsCovered (quotient g q)
+    covers-kept e covered = subst (λ (r : List (List ℕ)). IsCovered (quotient g r)) (sym e) (kept-covers g p x is own cuts covered)
+
+    pub covers-merged : q ≡ merged_at g.order p x → IsCovered (quotient g p) → IsCovered (quotient g q)
+    covers-merged e covered = subst (λ (r : List (List ℕ)). IsCovered (quotient g r)) (sym e) (merged-covers g p x is own cuts covered)
+
+    pub length-of_kept : q ≡ kept_at g.order p x → length q + count (length p) (complement (blocks_in p (mem x))) ≡ length p + 1
+    length-of_kept e = ap (λ (r : List (List ℕ)). length r + count (length p) (complement (blocks_in p (mem x)))) e ∙ kept-length g p x is own cuts
+
+    pub length-of_merged : q ≡ merged_at g.order p x → length q + count (length p) (blocks_in p (mem x)) ≡ length p + 1
+    length-of_merged e = ap (λ (r : List (List ℕ)). length r + count (length p) (blocks_in p (mem x))) e ∙ merged-length g p x is own cuts

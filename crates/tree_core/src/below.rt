@@ -1,32 +1,61 @@
 //! The partitions below a cut.
-ghost use Rattle.std.specs.Prelude.{◌≡◌, ◌<◌, ◌-◌, length, IfOk, All};
-ghost use Rattle.counting.specs.Counts.{Within};
+ghost use Rattle.std.specs.Prelude.{◌≡◌, ◌<◌, ◌≤◌, ◌-◌, ◌+◌, length, IfOk, All};
+ghost use Rattle.counting.specs.Counts.{Within, count};
+ghost use Rattle.counting.specs.Lists.{mem};
+ghost use Rattle.counting.specs.Sets.{complement};
+ghost use Rattle.graph_core.specs.Covered.{IsCovered};
+ghost use Rattle.graph_core.specs.Quotients.{quotient};
+ghost use Rattle.graph_core.specs.Shores.{blocks_in};
 ghost use Rattle.contraction.specs.Partition.{IsUnionAt};
-ghost use Rattle.tree_core.specs.Derivations.{kept_at, merged_at};
+ghost use Rattle.tree_core.specs.Derivations.{IsCutAt, kept_at, merged_at};
 
 use crate::leaf_partitions::complement_in;
 use contraction::Partition;
+use graph_core::MultiGraph;
 use std::alloc::{AllocError as Memory, Global};
 use vset_core::VSet;
 
-/// The partition below a cut where the shore is kept: the complement of `shore` becomes one block. The shore is a nonempty union of
-/// blocks without the greatest vertex.
-pub fn kept_partition(alloc: Global, p: &Partition, shore: VSet) -> Result<Partition, Memory>
-    requires fits { All (Within (p.now.order - 1)) shore }
-    requires nonempty { 0 < length shore }
-    requires union { IsUnionAt p.now shore }
-    ensures order { IfOk result (λ q. q.order ≡ p.now.order) }
-    ensures blocks { IfOk result (λ q. q.blocks ≡ kept_at p.now.order p.now.blocks shore) }
+/// The partition below a cut where the shore is kept: the complement of `shore`, a canonical nontrivial shore that is tight at `p`,
+/// becomes one block. The quotient at it is matching covered again.
+pub fn kept_partition(
+    alloc: Global,
+    g: &MultiGraph,
+    p: &Partition,
+    shore: VSet,
+) -> Result<Partition, Memory>
+    requires order { p.now.order ≡ g.now.order }
+    requires covered { IsCovered (quotient g.now p.now.blocks) }
+    requires cut { IsCutAt g.now p.now.blocks shore }
+    ensures order { IfOk result (λ q. q.order ≡ g.now.order) }
+    ensures blocks { IfOk result (λ q. q.blocks ≡ kept_at g.now.order p.now.blocks shore) }
+    ensures covered { IfOk result (λ q. IsCovered (quotient g.now q.blocks)) }
+    ensures length { IfOk result (λ q. length q.blocks + count (length p.now.blocks) (complement (blocks_in p.now.blocks (mem shore))) ≡ length p.now.blocks + 1) }
 {
-    p.merge(alloc, complement_in(p, shore))
+    g.keeps_limits();
+    p.keeps_partition();
+    let complement = complement_in(p, shore);
+    let q = p.merge(alloc, complement)?;
+    Ok(q)
 }
 
-/// The partition below a cut where the shore is merged: `shore`, a nonempty union of blocks, becomes one block.
-pub fn merged_partition(alloc: Global, p: &Partition, shore: VSet) -> Result<Partition, Memory>
-    requires nonempty { 0 < length shore }
-    requires union { IsUnionAt p.now shore }
-    ensures order { IfOk result (λ q. q.order ≡ p.now.order) }
-    ensures blocks { IfOk result (λ q. q.blocks ≡ merged_at p.now.order p.now.blocks shore) }
+/// The partition below a cut where the shore is merged: `shore`, a canonical nontrivial shore that is tight at `p`, becomes one block.
+/// The quotient at it is matching covered again.
+pub fn merged_partition(
+    alloc: Global,
+    g: &MultiGraph,
+    p: &Partition,
+    shore: VSet,
+) -> Result<Partition, Memory>
+    requires order { p.now.order ≡ g.now.order }
+    requires covered { IsCovered (quotient g.now p.now.blocks) }
+    requires cut { IsCutAt g.now p.now.blocks shore }
+    ensures order { IfOk result (λ q. q.order ≡ g.now.order) }
+    ensures blocks { IfOk result (λ q. q.blocks ≡ merged_at g.now.order p.now.blocks shore) }
+    ensures covered { IfOk result (λ q. IsCovered (quotient g.now q.blocks)) }
+    ensures length { IfOk result (λ q. length q.blocks + count (length p.now.blocks) (blocks_in p.now.blocks (mem shore)) ≡ length p.now.blocks + 1) }
 {
-    p.merge(alloc, shore)
+    g.keeps_limits();
+    p.keeps_partition();
+    let q = p.merge(alloc, shore)?;
+    Ok(q)
 }

@@ -1,0 +1,100 @@
+-- Steps of a decomposition. A candidate at a partition is a cut there; its shores may be passed to an order; and a cut with two trees
+-- is the tree that the order picks, and a derivation, where both trees are.
+use Rattle.std.proofs.Common.{◌≡◌, ℕ, zero, suc, ◌+◌, ◌-◌, ◌≤◌, ◌<◌, ◌^◌, List, [], ◌∷◌, length, map, All, get_or, refl, sym, ap, ◌∙◌, arith, subst, slice_get, Some, true, false, ◌==◌, ◌↔◌, eqb-true, ◌*◌}
+use Rattle.std.proofs.lemmas.Bool.{both_ways}
+use Rattle.std.proofs.lemmas.List.{length-map, nil_from_length}
+use Rattle.std.proofs.lemmas.Option.{get_or_from_slice_get, slice_get_within}
+use Rattle.counting.proofs.Counts.{count_complement, count_le}
+use Rattle.counting.proofs.RisingLists.{set-wider}
+use Rattle.counting.specs.Counts.{count}
+use Rattle.counting.specs.Lists.{IsRisingIn, mem}
+use Rattle.counting.specs.Sets.{Set, complement}
+use Rattle.contraction.proofs.BlockLists.{length-partition}
+use Rattle.contraction.proofs.QuotientLaws.{covered_up}
+use Rattle.graph_core.proofs.SingleBlocks.{contracted-singles}
+use Rattle.graph_core.proofs.Singles.{singles-partition}
+use Rattle.graph_core.specs.Covered.{IsCovered}
+use Rattle.graph_core.specs.Graph.{Graph, IsGraph}
+use Rattle.graph_core.specs.Partitions.{IsPartition, singles}
+use Rattle.graph_core.specs.Quotients.{quotient}
+use Rattle.graph_core.specs.Shores.{IsTightAt, blocks_in}
+use Rattle.graph_core.specs.Tight.{IsNontrivial}
+use Rattle.tight_cuts.specs.Candidates.{Candidate}
+use Rattle.tight_cuts.specs.CandidatesAt.{IsCandidateAt, candidates_at}
+use Rattle.tight_cuts.specs.View.{candidate_of}
+use Rattle.tight_cuts.specs.declared.candidate.Candidate.{Candidate as StoredCandidate}
+use Rattle.tree_core.specs.Shapes.{Shape, leaf, cut, cut_count}
+use Rattle.tree_core.specs.Derivations.{IsCutAt, IsDerivationAt, IsLeafAt, kept_at, merged_at}
+use Rattle.decomposer.specs.Choices.{IsChoice, IsPassed}
+use Rattle.decomposer.specs.Picked.{IsPickedAt, PicksShore}
+
+-- the candidates can be passed to an order
+pub passed : (g : Graph) (p : List (List ℕ)) (stored : List StoredCandidate) → g.order ≤ 128 → length p ≤ 128 → All (IsCandidateAt g p) (map candidate_of stored) → All IsPassed stored
+passed g p stored few blocks all k d l = go stored all k l
+  where
+    go : (stored : List StoredCandidate) → All (IsCandidateAt g p) (map candidate_of stored) → (k : ℕ) → k < length stored → IsPassed (get_or stored k d)
+    go [] all k l = absurd (omega arith)
+    go (s ∷ stored) all zero l =
+        let c = all 0 (candidate_of s) (omega arith) in
+        let inside = count_le (length p) (blocks_in p (mem s.shore)) in
+        let outside = count_le (length p) (complement (blocks_in p (mem s.shore))) in
+        let is_inside = c.inside in
+        let is_outside = c.outside in
+        (set-wider g.order 128 s.shore few c.rising, omega arith, omega arith)
+    go (s ∷ stored) all (suc k) l = go stored (λ j e m. all (suc j) e (omega arith)) k (omega arith)
+
+-- the picked candidate is a cut
+pub picked-shore : (g : Graph) (p : List (List ℕ)) (stored : List StoredCandidate) (place : ℕ) (c : StoredCandidate) → All (IsCandidateAt g p) (map candidate_of stored) → slice_get (map candidate_of stored) place ≡ Some (candidate_of c) → IsCutAt g p c.shore
+picked-shore g p stored place c all is =
+    let e : place < length (map candidate_of stored) = slice_get_within (map candidate_of stored) place (candidate_of c) is in
+    let v = get_or_from_slice_get (map candidate_of stored) place (candidate_of c) (candidate_of c) is in
+    let t = subst (IsCandidateAt g p) v (all place (candidate_of c) e) in
+    record { set = t.rising; tight = t.tight; nontrivial = t.nontrivial; canonical = t.canonical }
+
+-- at a covered graph the first quotient is covered
+pub root-covered : (g : Graph) (p : List (List ℕ)) → IsGraph g → p ≡ singles g.order → IsCovered g → IsCovered (quotient g p)
+root-covered g p is e cov = subst (λ (q : List (List ℕ)). IsCovered (quotient g q)) (sym e) (covered_up g (singles g.order) is (singles-partition g.order).partition (subst IsCovered (sym (contracted-singles g is)) cov))
+
+module _ (g : Graph) (p q r : List (List ℕ)) (x : List ℕ) (t kept merged : Shape) (is_t : t ≡ cut x kept merged) (is_q : q ≡ kept_at g.order p x) (is_r : r ≡ merged_at g.order p x) (cuts : IsCutAt g p x) where
+  pub cut-derives : IsDerivationAt g q kept → IsDerivationAt g r merged → IsDerivationAt g p t
+  cut-derives k m = subst (IsDerivationAt g p) (sym is_t) (cuts, subst (λ (s : List (List ℕ)). IsDerivationAt g s kept) is_q k, subst (λ (s : List (List ℕ)). IsDerivationAt g s merged) is_r m)
+
+  pub cut-picked : (picks : List Candidate → ℕ → ℕ → Type 0) (before between : ℕ) → PicksShore picks (candidates_at g p) before x → IsPickedAt picks g q (before + 1) kept → between ≡ before + 1 + cut_count kept → IsPickedAt picks g r between merged → IsPickedAt picks g p before t
+  cut-picked picks before between picked k e m = subst (IsPickedAt picks g p before) (sym is_t) (
+    picked,
+    subst (λ (s : List (List ℕ)). IsPickedAt picks g s (before + 1) kept) is_q k,
+    subst (λ (s : List (List ℕ)). IsPickedAt picks g s (before + 1 + cut_count kept) merged) is_r (subst (λ j. IsPickedAt picks g r j merged) e m),
+  )
+
+  pub cut-after : (before between after : ℕ) → between ≡ before + 1 + cut_count kept → after ≡ between + cut_count merged → after ≡ before + cut_count t
+  cut-after before between after a b = let e = ap cut_count is_t in omega arith
+
+-- no candidate: a leaf
+pub leaf-from_none : (g : Graph) (p : List (List ℕ)) (list : List Candidate) → ((list ≡ []) ↔ ((x : Set) → IsTightAt g p x → IsNontrivial (length p) (blocks_in p x) → ⊥)) → (length list == 0) ≡ true → IsLeafAt g p
+unfolding IsLeafAt
+leaf-from_none g p list none is = none.0 (nil_from_length list (eqb-true (length list) 0 is))
+
+-- what is asked is a choice
+pub is-choice : (g : Graph) (p : List (List ℕ)) (stored : List StoredCandidate) (list : List Candidate) (before : ℕ) → g.order ≤ 128 → IsPartition g.order p → map candidate_of stored ≡ list → All (IsCandidateAt g p) list →
+    length stored * 32 < 2 ^ 63 → before < 2 ^ 64 → (length list == 0) ≡ false → IsChoice stored before
+is-choice g p stored list before few pp shows all room fits some = record {
+  some = let l = length-map stored candidate_of in let e = ap length shows in positive (length stored) (ap (λ k. k == 0) (sym l ∙ e) ∙ some);
+  few = omega arith;
+  count = fits;
+  each = passed g p stored few (let l = length-partition g.order p pp in omega arith) (subst (All (IsCandidateAt g p)) (sym shows) all);
+}
+  where
+    positive : (k : ℕ) → (k == 0) ≡ false → 0 < k
+    positive zero e = absurd (both_ways true e refl)
+    positive (suc k) e = omega arith
+
+pub stored-length : (stored : List StoredCandidate) (list : List Candidate) (place : ℕ) → map candidate_of stored ≡ list → place < length stored → place < length list
+stored-length stored list place shows l = let a = length-map stored candidate_of in let e = ap length shows in omega arith
+
+-- the numbers of blocks below a cut, and so how many cuts stand before each part of the tree
+module _ (g : Graph) (p : List (List ℕ)) (x : List ℕ) (cuts : IsCutAt g p x) (lk lm before : ℕ) (is_k : lk + count (length p) (complement (blocks_in p (mem x))) ≡ length p + 1) where
+  pub kept-few : lk + 2 ≤ length p
+  kept-few = let a = cuts.nontrivial.inside in let b = cuts.nontrivial.outside in let s = count_complement (length p) (blocks_in p (mem x)) in omega arith
+
+  pub merged-few : lm + count (length p) (blocks_in p (mem x)) ≡ length p + 1 → (4 ≤ lk) × ((4 ≤ lm) × (lk + lm ≡ length p + 2))
+  merged-few is_m = let a = cuts.nontrivial.inside in let b = cuts.nontrivial.outside in let s = count_complement (length p) (blocks_in p (mem x)) in (omega arith, (omega arith, omega arith))

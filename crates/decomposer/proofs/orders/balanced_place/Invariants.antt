@@ -1,0 +1,11 @@
+-- The best place so far is before the place, no earlier one has a lesser gap, and those before it have greater ones.
+use Rattle.std.proofs.Common.{◌≤◌, ◌<◌, ℕ}
+use Rattle.decomposer.specs.Choices.{gap}
+use Rattle.decomposer.proofs.orders.balanced_place.Given as goal
+
+abbrev pub invariant-loop-place : goal.invariant-loop-place
+invariant-loop-place l = record {
+  within : l.best < l.place;
+  least : (i : ℕ) → i < l.place → gap l.list l.best ≤ gap l.list i;
+  first : (i : ℕ) → i < l.best → gap l.list l.best < gap l.list i;
+}

@@ -1,0 +1,25 @@
+-- The tree that an order picks from a graph (Lovász 1987: any order leads to the same leaves, up to multiplicities of edges).
+use Rattle.std.specs.Prelude.{◌≡◌, ℕ, ◌+◌, List, [], Some, slice_get}
+use Rattle.graph_core.specs.Graph.{Graph}
+use Rattle.graph_core.specs.Partitions.{singles}
+use Rattle.tight_cuts.specs.Candidates.{Candidate}
+use Rattle.tight_cuts.specs.CandidatesAt.{candidates_at}
+use Rattle.tree_core.specs.Shapes.{Shape, leaf, cut, cut_count}
+use Rattle.tree_core.specs.Derivations.{kept_at, merged_at}
+
+-- the shore is that of the candidate at a place that is picked
+abbrev pub PicksShore : (List Candidate → ℕ → ℕ → Type 0) → List Candidate → ℕ → List ℕ → Type 0
+PicksShore picks list k x = (place : ℕ) × (c : Candidate) × picks list k place × (slice_get list place ≡ Some c) × (c.shore ≡ x)
+
+-- the tree that is picked at p, with k cuts before it in preorder: a leaf exactly where no candidate is there, else the cut of the
+-- picked candidate, with the `kept` tree before the `merged` one
+abbrev pub IsPickedAt : (List Candidate → ℕ → ℕ → Type 0) → Graph → List (List ℕ) → ℕ → Shape → Type 0
+IsPickedAt picks g p k leaf = candidates_at g p ≡ []
+IsPickedAt picks g p k (cut x kept merged) =
+    PicksShore picks (candidates_at g p) k x
+    × IsPickedAt picks g (kept_at g.order p x) (k + 1) kept
+    × IsPickedAt picks g (merged_at g.order p x) (k + 1 + cut_count kept) merged
+
+-- the tree that is picked from a graph
+abbrev pub IsPicked : (List Candidate → ℕ → ℕ → Type 0) → Graph → Shape → Type 0
+IsPicked picks g t = IsPickedAt picks g (singles g.order) 0 t

@@ -1,0 +1,150 @@
+//! The decomposition of a graph by tight cuts.
+ghost use Rattle.std.specs.Prelude.{◌≡◌, ◌≤◌, ◌<◌, ◌+◌, ◌-◌, ℕ, List, [], length, IfOk, Err, Some, None};
+ghost use Rattle.graph_core.specs.Covered.{IsCovered, IsReason};
+ghost use Rattle.graph_core.specs.Partitions.{singles};
+ghost use Rattle.graph_core.specs.Quotients.{quotient};
+ghost use Rattle.graph_core.specs.Verdicts.{reason_of};
+ghost use Rattle.tight_cuts.specs.CandidatesAt.{candidates_at};
+ghost use Rattle.tree_core.specs.Derivations.{IsCutAt, IsDerivation, IsDerivationAt, IsLeafAt};
+ghost use Rattle.tree_core.specs.Shapes.{cut, cut_count};
+ghost use Rattle.tree_core.specs.View.{shape_of};
+ghost use Rattle.decomposer.specs.Choices.{FnPicks, PicksInRange};
+ghost use Rattle.decomposer.specs.Picked.{IsPicked, IsPickedAt, PicksShore};
+
+use crate::orders::Order;
+use allowed_edges::covered;
+use contraction::Partition;
+use graph_core::{MultiGraph, Reason, Verdict};
+use std::alloc::{AllocError, Global};
+use tight_cuts::{Candidate, candidates_at};
+use tree_core::{Tree, kept_partition, merged_partition};
+use vset_core::VSet;
+
+/// Why there is no decomposition.
+#[derive(Clone, Copy, PartialEq, Eq)]
+pub enum Refused {
+    /// The graph is not matching covered, for this reason.
+    NotCovered(Reason),
+    /// Want of memory.
+    Memory,
+}
+
+/// The tree of tight cuts that `order` picks from `g`. At the node with k cuts before it in preorder the order is asked with the
+/// candidates there and with k; the node is the cut of the candidate that it picks, and a leaf exactly where there is none.
+/// `NotCovered` comes exactly where `g` is not matching covered, with the first reason.
+pub fn decompose<F: Fn(&[Candidate], usize) -> usize>(
+    alloc: Global,
+    g: &MultiGraph,
+    order: &Order<F>,
+) -> Result<Tree, Refused>
+    requires { PicksInRange F.Fn order.now.f }
+    ensures derivation { IfOk result (λ tree. IsDerivation g.now (shape_of tree)) }
+    ensures picked { IfOk result (λ tree. IsPicked (FnPicks F.Fn order.now.f) g.now (shape_of tree)) }
+    ensures reason { (r : _) → result ≡ Err (Refused.NotCovered r) → IsReason g.now (reason_of r) }
+{
+    match covered(alloc, g) {
+        Err(_) => Err(Refused::Memory),
+        Ok(Verdict::NotCovered(reason)) => Err(Refused::NotCovered(reason)),
+        Ok(Verdict::Covered) => match decompose_covered(alloc, g, order) {
+            Ok(tree) => Ok(tree),
+            Err(_) => Err(Refused::Memory),
+        },
+    }
+}
+
+// The tree that the order picks from a covered graph.
+fn decompose_covered<F: Fn(&[Candidate], usize) -> usize>(
+    alloc: Global,
+    g: &MultiGraph,
+    order: &Order<F>,
+) -> Result<Tree, AllocError>
+    requires order { PicksInRange F.Fn order.now.f }
+    requires covered { IsCovered g.now }
+    ensures derivation { IfOk result (λ tree. IsDerivation g.now (shape_of tree)) }
+    ensures picked { IfOk result (λ tree. IsPicked (FnPicks F.Fn order.now.f) g.now (shape_of tree)) }
+{
+    let root = root_partition(alloc, g)?;
+    let (tree, _) = decompose_at(alloc, g, order, &root, 0)?;
+    Ok(tree)
+}
+
+// The single vertices of a covered graph.
+fn root_partition(alloc: Global, g: &MultiGraph) -> Result<Partition, AllocError>
+    requires { IsCovered g.now }
+    ensures order { IfOk result (λ p. p.order ≡ g.now.order) }
+    ensures blocks { IfOk result (λ p. p.blocks ≡ singles g.now.order) }
+    ensures covered { IfOk result (λ p. IsCovered (quotient g.now p.blocks)) }
+    ensures few { IfOk result (λ p. length p.blocks ≤ 128) }
+{
+    g.keeps_limits();
+    let root = Partition::singles(alloc, g.order())?;
+    Ok(root)
+}
+
+// The shore of the candidate at p that the order picks, with so many cuts before it; none exactly where there is no candidate.
+fn pick_shore<F: Fn(&[Candidate], usize) -> usize>(
+    alloc: Global,
+    g: &MultiGraph,
+    order: &Order<F>,
+    p: &Partition,
+    before: usize,
+) -> Result<Option<VSet>, AllocError>
+    requires order { PicksInRange F.Fn order.now.f }
+    requires partition { p.now.order ≡ g.now.order }
+    requires covered { IsCovered (quotient g.now p.now.blocks) }
+    ensures none { IfOk result (λ o. o ≡ None → candidates_at g.now p.now.blocks ≡ []) }
+    ensures leaf { IfOk result (λ o. o ≡ None → IsLeafAt g.now p.now.blocks) }
+    ensures picks { IfOk result (λ o. (s : List ℕ) → o ≡ Some s → PicksShore (FnPicks F.Fn order.now.f) (candidates_at g.now p.now.blocks) before s) }
+    ensures cut { IfOk result (λ o. (s : List ℕ) → o ≡ Some s → IsCutAt g.now p.now.blocks s) }
+{
+    g.keeps_limits();
+    p.keeps_partition();
+    let list = candidates_at(alloc, g, p)?;
+    if list.is_empty() {
+        return Ok(None);
+    }
+    let place = (order.f)(list.as_slice(), before);
+    let picked = list.get(place);
+    Ok(Some(picked.shore))
+}
+
+// The tree of a cut.
+fn cut_tree(alloc: Global, shore: VSet, kept: Tree, merged: Tree) -> Result<Tree, AllocError>
+    ensures { IfOk result (λ tree. shape_of tree ≡ cut shore (shape_of kept) (shape_of merged)) }
+{
+    Ok(Tree::Cut {
+        shore,
+        kept: Box::new(alloc, kept)?,
+        merged: Box::new(alloc, merged)?,
+    })
+}
+
+// The tree that the order picks at p with so many cuts before it, and the number of cuts before what follows it.
+fn decompose_at<F: Fn(&[Candidate], usize) -> usize>(
+    alloc: Global,
+    g: &MultiGraph,
+    order: &Order<F>,
+    p: &Partition,
+    before: usize,
+) -> Result<(Tree, usize), AllocError>
+    requires order { PicksInRange F.Fn order.now.f }
+    requires partition { p.now.order ≡ g.now.order }
+    requires covered { IsCovered (quotient g.now p.now.blocks) }
+    requires few { before + length p.now.blocks ≤ 256 }
+    ensures derives { IfOk result (λ made. IsDerivationAt g.now p.now.blocks (shape_of made.0)) }
+    ensures picked { IfOk result (λ made. IsPickedAt (FnPicks F.Fn order.now.f) g.now p.now.blocks before (shape_of made.0)) }
+    ensures after { IfOk result (λ made. made.1 ≡ before + cut_count (shape_of made.0)) }
+    ensures few { IfOk result (λ made. 4 ≤ length p.now.blocks → cut_count (shape_of made.0) + 3 ≤ length p.now.blocks) }
+{
+    match pick_shore(alloc, g, order, p, before)? {
+        None => Ok((Tree::Leaf, before)),
+        Some(shore) => {
+            let kept_at = kept_partition(alloc, g, p, shore)?;
+            let (kept, between) = decompose_at(alloc, g, order, &kept_at, before + 1)?;
+            let merged_at = merged_partition(alloc, g, p, shore)?;
+            let (merged, after) = decompose_at(alloc, g, order, &merged_at, between)?;
+            let tree = cut_tree(alloc, shore, kept, merged)?;
+            Ok((tree, after))
+        }
+    }
+}
