@@ -1,0 +1,4 @@
+pub mod Growth
+pub mod NextStages
+pub mod EarTests
+pub mod Refusing

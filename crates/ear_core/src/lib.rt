@@ -3,6 +3,7 @@
 
 mod ears;
 mod judgement;
+pub mod laws;
 
 pub use ears::{Ear, EarList, Step, Steps};
 pub use judgement::{EarJudgement, EarWhy};
