@@ -55,7 +55,7 @@ times_repeats (x ∷ xs) h = or_from (mem xs x) (repeats xs)
     (false_from_ne_true (mem xs x) (λ m. let a = mem_times xs x m in let b = h x in let c = ap bit (eq-eqb x x refl) in omega arith))
     (times_repeats xs (λ w. let b = h w in omega arith))
 
-no_member_at : (p : ℕ → Bool) (xs : List ℕ) → no_member p xs ≡ true → (w : ℕ) → mem xs w ≡ true → p w ≡ false
+pub no_member_at : (p : ℕ → Bool) (xs : List ℕ) → no_member p xs ≡ true → (w : ℕ) → mem xs w ≡ true → p w ≡ false
 no_member_at p [] h w m = absurd (true≢false (sym m))
 no_member_at p (x ∷ xs) h w m =
     let b = and_parts (not (p x)) (no_member p xs) h in
@@ -64,7 +64,7 @@ no_member_at p (x ∷ xs) h w m =
       | inr i ↦ no_member_at p xs b.1 w i
     ]
 
-at_no_member : (p : ℕ → Bool) (xs : List ℕ) → ((w : ℕ) → mem xs w ≡ true → p w ≡ false) → no_member p xs ≡ true
+pub at_no_member : (p : ℕ → Bool) (xs : List ℕ) → ((w : ℕ) → mem xs w ≡ true → p w ≡ false) → no_member p xs ≡ true
 at_no_member p [] h = refl
 at_no_member p (x ∷ xs) h = and_from (not (p x)) (no_member p xs) (ap not (h x (or_left (x == x) _ (eq-eqb x x refl)))) (at_no_member p xs (λ w m. h w (or_right (x == w) _ m)))
 

@@ -1,12 +1,12 @@
 -- A stage with an ear. The odd edges of an ear meet each of its vertices once, and the even ones each but its two ends; so a perfect
 -- matching of the stage with the even edges is one of the new stage, and only the odd edges are left to ask.
 use Rattle.std.proofs.Common.{◌≡◌, ℕ, suc, zero, ◌+◌, ◌*◌, ◌≤◌, Bool, true, false, cond, ◌==◌, refl, sym, ap, ap₂, ◌∙◌, arith, ◌&&◌, ◌||◌, not, eq-eqb, ne_eqb, eqb-true, ◌⊎◌, inl, inr, subst, [], ◌∷◌, ◌++◌, List, length}
-use Rattle.std.proofs.lemmas.Bool.{cases_eq, cases_Bool, and_parts, and_from, both_ways, true≢false, false_from_ne_true, not-false, or_left, or_right, or_parts, or_cases, or_from}
+use Rattle.std.proofs.lemmas.Bool.{cases_eq, cases_Bool, and_parts, and_from, both_ways, true≢false, false_from_ne_true, not-false, or_left, or_right, or_parts, or_cases}
 use Rattle.counting.proofs.Tests.{true_some, some_true}
 use Rattle.counting.proofs.Totals.{total_congr, total_add, total_le, total_none}
 use Rattle.counting.specs.Counts.{bit, Within, is_odd}
 use Rattle.counting.specs.Lists.{mem}
-use Rattle.counting.specs.Sets.{Set, none, union, put, pair_set}
+use Rattle.counting.specs.Sets.{Set, none, put}
 use Rattle.ear_core.specs.Ears.{other_end, Follow, trail, last_vertex, times, IsEar}
 use Rattle.ear_core.specs.NearlyStages.{odds, evens, IsNearlyStage}
 use Rattle.ear_core.specs.Stages.{is_met, adjacent_by, IsPerfectOf, IsPerfectOff, with_edges}

@@ -1,17 +1,17 @@
 -- Steps from a stage. Whether an edge lies in a perfect matching of a stage is decided, and the second ear of a step is an ear of the
 -- stage with the first.
-use Rattle.std.proofs.Common.{◌≡◌, ℕ, Bool, true, false, ◌==◌, refl, sym, ap, ap₂, ◌∙◌, arith, ◌&&◌, ◌||◌, not, eq-eqb, eqb-true, ◌⊎◌, inl, inr, subst, List}
-use Rattle.std.proofs.lemmas.Bool.{cases_Bool, and_parts, and_from, both_ways, true≢false, false_from_ne_true, or_left, or_right, or_cases, or_from}
+use Rattle.std.proofs.Common.{◌≡◌, ℕ, Bool, true, false, ◌==◌, refl, ap, ap₂, arith, ◌&&◌, ◌||◌, not, eq-eqb, eqb-true, ◌⊎◌, inl, inr, subst, List}
+use Rattle.std.proofs.lemmas.Bool.{and_parts, and_from, both_ways, false_from_ne_true, or_left, or_from}
 use Rattle.counting.proofs.Choice.{choose_set}
-use Rattle.counting.proofs.Tests.{every_true, true_every, every_congr, scan}
+use Rattle.counting.proofs.Tests.{every_true, true_every, every_congr}
 use Rattle.counting.specs.Counts.{Within}
 use Rattle.counting.specs.Lists.{mem}
-use Rattle.counting.specs.Sets.{Set, none, union, pair_set}
+use Rattle.counting.specs.Sets.{Set, none}
 use Rattle.counting.specs.Tests.{every}
-use Rattle.ear_core.proofs.Growth.{met-some, some-met, degree_le, new-met, none_but, grow}
+use Rattle.ear_core.proofs.Growth.{met-some, some-met, degree_le, new-met}
 use Rattle.ear_core.specs.Ears.{last_vertex, IsEar, IsEarPair}
-use Rattle.ear_core.specs.NearlyStages.{odds, IsNearlyStage}
-use Rattle.ear_core.specs.Stages.{is_met, IsPerfectOf, IsPerfectOff, IsStage, with_edges}
+use Rattle.ear_core.specs.NearlyStages.{IsNearlyStage}
+use Rattle.ear_core.specs.Stages.{is_met, IsPerfectOf, IsStage, with_edges}
 use Rattle.graph_core.proofs.Decide.{degree_congr}
 use Rattle.graph_core.proofs.Edits.{edge_at}
 use Rattle.graph_core.specs.Graph.{Graph, size, IsGraph, degree}

@@ -1,7 +1,7 @@
 -- A list of steps from a stage leads to all edges, or has exactly one first refusal. The tests of a step say that it is a step; then
 -- only the odd edges of its ears are left to ask, and the new stage is covered exactly where no edge of it is refused.
-use Rattle.std.proofs.Common.{◌≡◌, ℕ, suc, zero, ◌+◌, ◌<◌, Bool, true, false, if◌then◌else◌, Option, Some, None, refl, sym, ap, ◌∙◌, arith, ◌⊎◌, ◌||◌, inl, inr, [], ◌∷◌, List, subst, ◌↔◌}
-use Rattle.std.proofs.lemmas.Bool.{cases_eq, cases_Bool, cases_order, both_ways, true≢false}
+use Rattle.std.proofs.Common.{◌≡◌, ℕ, ◌+◌, Bool, true, false, if◌then◌else◌, Option, Some, None, refl, sym, ap, ◌∙◌, ◌||◌, inl, inr, [], ◌∷◌, List}
+use Rattle.std.proofs.lemmas.Bool.{cases_order, both_ways}
 use Rattle.counting.specs.Counts.{Within}
 use Rattle.counting.specs.Lists.{mem}
 use Rattle.counting.specs.Sets.{Set, none}
@@ -13,7 +13,7 @@ use Rattle.ear_core.specs.EarLists.{PlainStep, one, two, next_stage, IsStep, Are
 use Rattle.ear_core.specs.EarTests.{Why, not_path, even_length, bad_ends, inner_on_stage, edge_used, stage_not_covered, ends_early, is_path, has_odd_length, has_good_ends, has_free_inner, has_new_edges, Passes, ear_fault, inner_vertices}
 use Rattle.ear_core.specs.Refusals.{first_of, step_fault, IsLeastUnallowed, IsStepRefused, IsFirstRefusal}
 use Rattle.ear_core.proofs.Growth.{grow}
-use Rattle.ear_core.proofs.NextStages.{in_some_or_none, nearly, met-within, second_ear}
+use Rattle.ear_core.proofs.NextStages.{nearly, met-within, second_ear}
 use Rattle.ear_core.proofs.EarTests.{first_passes, second_passes}
 
 -- the first test that fails
