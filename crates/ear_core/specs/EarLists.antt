@@ -23,15 +23,20 @@ pub record PlainEars : Type 0 where
   pub start : ℕ
   pub steps : List PlainStep
 
+-- the stage behind a step
+abbrev pub next_stage : Set → PlainStep → Set
+next_stage f (one a) = with_edges f a.edges
+next_stage f (two a b) = with_edges (with_edges f a.edges) b.edges
+
+-- a step adds an ear of f, or two
+abbrev pub IsStep : Graph → Set → PlainStep → Type 0
+IsStep g f (one a) = IsEar g f a.begin a.edges
+IsStep g f (two a b) = IsEarPair g f a.begin a.edges b.begin b.edges
+
 -- the steps lead from the stage f over matching covered stages to that of all edges
 abbrev pub AreSteps : Graph → Set → List PlainStep → Type 0
 AreSteps g f [] = (e : ℕ) → Within (size g) e → f e ≡ true
-AreSteps g f (one a ∷ steps) =
-    let next = with_edges f a.edges in
-    IsEar g f a.begin a.edges × IsStage g next × AreSteps g next steps
-AreSteps g f (two a b ∷ steps) =
-    let next = with_edges (with_edges f a.edges) b.edges in
-    IsEarPair g f a.begin a.edges b.begin b.edges × IsStage g next × AreSteps g next steps
+AreSteps g f (s ∷ steps) = IsStep g f s × IsStage g (next_stage f s) × AreSteps g (next_stage f s) steps
 
 -- an ear list of g
 pub record IsEarList (g : Graph) (list : PlainEars) : Type 0 where

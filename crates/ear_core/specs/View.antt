@@ -1,9 +1,14 @@
 -- How the code's ear lists and judgements are seen, as plain data.
-use Rattle.std.specs.Prelude.{map, Option, Some, None}
+use Rattle.std.specs.Prelude.{ℕ, map, Option, Some, None}
 use Rattle.ear_core.specs.EarLists.{PlainEar, PlainStep, one, two, PlainEars}
+use Rattle.ear_core.specs.EarTests.{Why, not_path, even_length, bad_ends, inner_on_stage, edge_used, stage_not_covered, ends_early}
 use Rattle.ear_core.specs.declared.ears.Ear.{Ear}
 use Rattle.ear_core.specs.declared.ears.Step.{Step}
 use Rattle.ear_core.specs.declared.ears.EarList.{EarList}
+use Rattle.ear_core.specs.declared.judgement.EarWhy.{EarWhy}
+use Rattle.ear_core.specs.declared.judgement.EarWhy.TheVariants as why
+use Rattle.ear_core.specs.declared.judgement.EarJudgement.{EarJudgement}
+use Rattle.ear_core.specs.declared.judgement.EarJudgement.TheVariants as judgement
 
 -- the ear
 abbrev pub ear_of : Ear → PlainEar
@@ -21,3 +26,18 @@ step_of step = plain_step (ear_of step.first) step.second
 -- the ear list
 abbrev pub ears_of : EarList → PlainEars
 ears_of list = record { start = list.start; steps = map step_of list.steps }
+
+-- the reason
+abbrev pub why_of : EarWhy → Why
+why_of why.NotPath = not_path
+why_of why.EvenLength = even_length
+why_of why.BadEnds = bad_ends
+why_of why.InnerOnStage = inner_on_stage
+why_of why.EdgeUsed = edge_used
+why_of (why.StageNotCovered e) = stage_not_covered e
+why_of (why.EndsEarly e) = ends_early e
+
+-- the refusal that a judgement names
+abbrev pub refusal_of : EarJudgement → Option (ℕ × Why)
+refusal_of judgement.Accepted = None
+refusal_of (judgement.Refused step why) = Some (step, why_of why)

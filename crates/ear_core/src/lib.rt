@@ -2,7 +2,10 @@
 #![tactic(auto)]
 
 mod ears;
+mod faults;
 mod judgement;
+pub mod laws;
+mod paths;
 
 pub use ears::{Ear, EarList, Step, Steps};
 pub use judgement::{EarJudgement, EarWhy};

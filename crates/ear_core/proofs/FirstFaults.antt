@@ -1,0 +1,78 @@
+-- What the code's tests of an ear say of the definitions: the first test that fails, the vertices met by marks, and inner vertices
+-- that are free.
+use Rattle.std.proofs.Common.{◌≡◌, ℕ, suc, ◌<◌, true, false, ◌==◌, refl, sym, ap, ap₂, ◌∙◌, arith, ◌&&◌, ◌||◌, not, eq-eqb, ne_eqb, Some, None, [], ◌∷◌, List, length, All, subst, inl, inr}
+use Rattle.std.proofs.lemmas.Bool.{and_parts, and_from, both_ways, or_cases, or_left, or_right, false_from_ne_true, true≢false}
+use Rattle.counting.proofs.Tests.{some_true, true_some}
+use Rattle.counting.specs.Counts.{bit}
+use Rattle.counting.specs.Lists.{mem}
+use Rattle.counting.specs.Sets.{Set}
+use Rattle.counting.specs.Tests.{some}
+use Rattle.graph_core.proofs.Edits.{ends_of, edge_at, ends_le_degree}
+use Rattle.counting.proofs.RisingLists.{same_answers}
+use Rattle.graph_core.specs.Graph.{Graph, size, first_end, second_end}
+use Rattle.ear_core.specs.Ears.{last_vertex}
+use Rattle.ear_core.specs.Stages.{is_met}
+use Rattle.ear_core.specs.EarTests.{not_path, even_length, bad_ends, inner_on_stage, edge_used, is_path, has_odd_length, has_good_ends, has_free_inner, has_new_edges, ear_fault, inner_vertices, no_member}
+use Rattle.ear_core.proofs.Growth.{met-some, some-met}
+use Rattle.ear_core.proofs.EarTests.{no_member_at, at_no_member}
+
+-- the vertices that f meets are the ends of its edges
+pub met-ends : (g : Graph) (f : Set) (v : ℕ) → some (size g) (λ e. f e && (first_end g e == v || second_end g e == v)) ≡ is_met g f v
+unfolding ends_of
+met-ends g f v = same_answers (some (size g) (λ e. f e && (first_end g e == v || second_end g e == v))) (is_met g f v)
+    (λ h. let e = some_true (size g) (λ e. f e && (first_end g e == v || second_end g e == v)) h in
+    let b = and_parts (f e.0) (first_end g e.0 == v || second_end g e.0 == v) e.2 in
+    let d = ends_le_degree g f e.0 v e.1 b.0 in
+    some-met g f v (elim (or_cases (first_end g e.0 == v) (second_end g e.0 == v) b.1) [ inl i ↦ let k = ap bit i in omega arith | inr i ↦ let k = ap bit i in omega arith ]))
+    (λ h. let e = edge_at g f v (met-some g f v h) in
+    true_some (size g) (λ e. f e && (first_end g e == v || second_end g e == v)) e.0 e.1
+    (and_from (f e.0) (first_end g e.0 == v || second_end g e.0 == v) e.2 (elim e.3.1 [
+      | inl p ↦ or_left (first_end g e.0 == v) (second_end g e.0 == v) (eq-eqb (first_end g e.0) v p.0)
+      | inr p ↦ or_right (first_end g e.0 == v) (second_end g e.0 == v) (eq-eqb (second_end g e.0) v p.1)
+    ])))
+
+module _ (g : Graph) (f : Set) (xs ds : List ℕ) (v : ℕ) (es : List ℕ) where
+  -- the first test that fails
+  pub fault-path : is_path g v es ≡ false → ear_fault g f xs ds v es ≡ Some not_path
+  fault-path a = rw a refl
+
+  pub fault-length : is_path g v es ≡ true → has_odd_length es ≡ false → ear_fault g f xs ds v es ≡ Some even_length
+  fault-length a b = rw (a, b) refl
+
+  pub fault-ends : is_path g v es ≡ true → has_odd_length es ≡ true → has_good_ends g f v es ≡ false → ear_fault g f xs ds v es ≡ Some bad_ends
+  fault-ends a b c = rw (a, b, c) refl
+
+  pub fault-inner : is_path g v es ≡ true → has_odd_length es ≡ true → has_good_ends g f v es ≡ true → has_free_inner g f xs v es ≡ false → ear_fault g f xs ds v es ≡ Some inner_on_stage
+  fault-inner a b c d = rw (a, b, c, d) refl
+
+  pub fault-edge : is_path g v es ≡ true → has_odd_length es ≡ true → has_good_ends g f v es ≡ true → has_free_inner g f xs v es ≡ true → has_new_edges f ds es ≡ false → ear_fault g f xs ds v es ≡ Some edge_used
+  fault-edge a b c d e = rw (a, b, c, d, e) refl
+
+  pub fault-none : is_path g v es ≡ true → has_odd_length es ≡ true → has_good_ends g f v es ≡ true → has_free_inner g f xs v es ≡ true → has_new_edges f ds es ≡ true → ear_fault g f xs ds v es ≡ None
+  fault-none a b c d e = rw (a, b, c, d, e) refl
+
+  -- the tests of the code
+  pub ends-same : (met : List ℕ) (last : ℕ) → ((w : ℕ) → mem met w ≡ is_met g f w) → last ≡ last_vertex g v es → (mem met v && (mem met last && not (v == last))) ≡ has_good_ends g f v es
+  ends-same met last are is = ap₂ (λ a b. a && (b && not (v == last))) (are v) (are last) ∙ ap (λ y. is_met g f v && (is_met g f y && not (v == y))) is
+
+  pub free-same : (inner met taken : List ℕ) → ((w : ℕ) → mem inner w ≡ mem (inner_vertices g v es) w) → ((w : ℕ) → mem met w ≡ is_met g f w) → ((w : ℕ) → mem taken w ≡ (mem met w || mem xs w)) → no_member (mem taken) inner ≡ has_free_inner g f xs v es
+  free-same inner met taken is_inner are_met are_taken = same_answers (no_member (mem taken) inner) (has_free_inner g f xs v es)
+      (λ h. at_no_member (λ w. is_met g f w || mem xs w) (inner_vertices g v es) (λ w m. sym (is w) ∙ no_member_at (mem taken) inner h w (is_inner w ∙ m)))
+      (λ h. at_no_member (mem taken) inner (λ w m. is w ∙ no_member_at (λ w. is_met g f w || mem xs w) (inner_vertices g v es) h w (sym (is_inner w) ∙ m)))
+    where
+      is : (w : ℕ) → mem taken w ≡ (is_met g f w || mem xs w)
+      is w = are_taken w ∙ ap (λ b. b || mem xs w) (are_met w)
+
+-- no number is in both lists
+pub free-length : (inner taken common : List ℕ) → ((w : ℕ) → mem common w ≡ (mem inner w && mem taken w)) → (length common == 0) ≡ no_member (mem taken) inner
+free-length inner taken [] is = sym (at_no_member (mem taken) inner (λ w m. false_from_ne_true (mem taken w) (λ t. true≢false (sym (is w ∙ and_from (mem inner w) (mem taken w) m t)))))
+free-length inner taken (x ∷ common) is =
+    let b = and_parts (mem inner x) (mem taken x) (sym (is x) ∙ or_left (x == x) (mem common x) (eq-eqb x x refl)) in
+    ne_eqb (length (x ∷ common)) 0 (λ z. absurd (omega arith)) ∙ sym (false_from_ne_true (no_member (mem taken) inner) (λ h. both_ways (mem taken x) (no_member_at (mem taken) inner h x b.0) b.1))
+
+-- the edges that are left
+pub new-behind : (f : Set) (ds : List ℕ) (e : ℕ) (rest others : List ℕ) → rest ≡ e ∷ others → f e ≡ false → mem ds e ≡ false → has_new_edges f ds rest ≡ has_new_edges f ds others
+new-behind f ds e rest others begins h k = ap (has_new_edges f ds) begins ∙ rw (h, k) refl
+
+pub below-behind : (n e : ℕ) (rest others : List ℕ) → rest ≡ e ∷ others → All (λ d. d < n) rest → All (λ d. d < n) others
+below-behind n e rest others begins all k d less = subst (All (λ d. d < n)) begins all (suc k) d (omega arith)

@@ -1,0 +1,90 @@
+-- Steps from a stage. Whether an edge lies in a perfect matching of a stage is decided, and the second ear of a step is an ear of the
+-- stage with the first.
+use Rattle.std.proofs.Common.{◌≡◌, ℕ, Bool, true, false, ◌==◌, refl, ap, ap₂, arith, ◌&&◌, ◌||◌, not, eq-eqb, eqb-true, ◌⊎◌, inl, inr, subst, List}
+use Rattle.std.proofs.lemmas.Bool.{and_parts, and_from, both_ways, false_from_ne_true, or_left, or_from}
+use Rattle.counting.proofs.Choice.{choose_set}
+use Rattle.counting.proofs.Tests.{every_true, true_every, every_congr}
+use Rattle.counting.specs.Counts.{Within}
+use Rattle.counting.specs.Lists.{mem}
+use Rattle.counting.specs.Sets.{Set, none}
+use Rattle.counting.specs.Tests.{every}
+use Rattle.ear_core.proofs.Growth.{met-some, some-met, degree_le, new-met}
+use Rattle.ear_core.specs.Ears.{last_vertex, IsEar, IsEarPair}
+use Rattle.ear_core.specs.NearlyStages.{IsNearlyStage}
+use Rattle.ear_core.specs.Stages.{is_met, IsPerfectOf, IsStage, with_edges}
+use Rattle.graph_core.proofs.Decide.{degree_congr}
+use Rattle.graph_core.proofs.Edits.{edge_at}
+use Rattle.graph_core.specs.Graph.{Graph, size, IsGraph, degree}
+
+-- the test for a perfect matching of the edges f
+abbrev pub is_part : Set → Set → ℕ → Bool
+is_part f m e = not (m e) || f e
+
+abbrev pub meets_once : Graph → Set → Set → ℕ → Bool
+meets_once g f m v = not (is_met g f v) || (degree g m v == 1)
+
+abbrev pub is_perfect_of : Graph → Set → Set → Bool
+is_perfect_of g f m = every (size g) (is_part f m) && every g.order (meets_once g f m)
+
+implied : (a b : Bool) → (not a || b) ≡ true → a ≡ true → b ≡ true
+implied a b h k = grind arith
+
+implies : (a b : Bool) → (a ≡ true → b ≡ true) → (not a || b) ≡ true
+implies true b h = h refl
+implies false b h = refl
+
+pub perfect_of_true : (g : Graph) (f m : Set) → is_perfect_of g f m ≡ true → IsPerfectOf g f m
+perfect_of_true g f m h =
+    let b = and_parts (every (size g) (is_part f m)) (every g.order (meets_once g f m)) h in
+    record {
+      part = λ e w t. implied (m e) (f e) (every_true (size g) (is_part f m) b.0 e w) t;
+      once = λ v w t. eqb-true (degree g m v) 1 (implied (is_met g f v) (degree g m v == 1) (every_true g.order (meets_once g f m) b.1 v w) t);
+    }
+
+pub true_perfect_of : (g : Graph) (f m : Set) → IsPerfectOf g f m → is_perfect_of g f m ≡ true
+true_perfect_of g f m p = and_from (every (size g) (is_part f m)) (every g.order (meets_once g f m))
+    (true_every (size g) (is_part f m) (λ e w. implies (m e) (f e) (p.part e w)))
+    (true_every g.order (meets_once g f m) (λ v w. implies (is_met g f v) (degree g m v == 1) (λ t. eq-eqb (degree g m v) 1 (p.once v w t))))
+
+-- an edge lies in a perfect matching of f, or in none
+pub in_some_or_none : (g : Graph) (f : Set) (e : ℕ) → Within (size g) e → ((m : Set) × IsPerfectOf g f m × (m e ≡ true)) ⊎ ((m : Set) → IsPerfectOf g f m → m e ≡ true → ⊥)
+in_some_or_none g f e w = elim (choose_set (size g) (λ m. is_perfect_of g f m && m e) (record {
+  same = λ m k h. ap₂ ◌&&◌
+      (ap₂ ◌&&◌ (every_congr (size g) _ _ (λ d wd. ap (λ b. not b || f d) (h d wd))) (every_congr g.order _ _ (λ v wv. ap (λ k. not (is_met g f v) || (k == 1)) (degree_congr g m k v h)))) (h e w);
+})) [
+  | inl x ↦ let b = and_parts (is_perfect_of g f x.0) (x.0 e) x.1 in inl (x.0, perfect_of_true g f x.0 b.0, b.1)
+  | inr x ↦ inr (λ m p t. both_ways (is_perfect_of g f m && m e) (x m) (and_from (is_perfect_of g f m) (m e) (true_perfect_of g f m p) t))
+]
+
+pub nearly : (g : Graph) (f : Set) → IsStage g f → IsNearlyStage g f none
+nearly g f s = record {
+  some_edge = s.some_edge;
+  connected = s.connected;
+  perfect = let m = s.allowed s.some_edge.0 s.some_edge.1 s.some_edge.2 in (m.0, m.1);
+  allowed = λ e w t o. s.allowed e w t;
+}
+
+pub met-within : (g : Graph) → IsGraph g → (f : Set) (v : ℕ) → is_met g f v ≡ true → Within g.order v
+met-within g is f v t =
+    let e = edge_at g f v (met-some g f v t) in
+    elim e.3.1 [ inl p ↦ subst (Within g.order) p.0 (is e.0 e.1).0 | inr p ↦ subst (Within g.order) p.1 (is e.0 e.1).1 ]
+
+-- the second ear of a pair is an ear of the stage with the first
+pub second_ear : (g : Graph) (f : Set) (v : ℕ) (es : List ℕ) (w : ℕ) (ds : List ℕ) → IsEarPair g f v es w ds → IsEar g (with_edges f es) w ds
+second_ear g f v es w ds p = record {
+  follow = p.second.follow;
+  once = p.second.once;
+  odd = p.second.odd;
+  start = more w p.second.start;
+  end = more (last_vertex g w ds) p.second.end;
+  inner = λ x m a b. false_from_ne_true (is_met g (with_edges f es) x) (λ t.
+      let o = p.second.inner x m a b in
+      elim (new-met g f v es p.first x t) [
+        | inl i ↦ both_ways (is_met g f x) o i
+        | inr i ↦ both_ways (is_met g f x) o (p.vertices x i m)
+      ]);
+  new = λ e m. or_from (f e) (mem es e) (p.second.new e m) (false_from_ne_true (mem es e) (λ t. both_ways (mem ds e) (p.edges e t) m));
+}
+  where
+    more : (x : ℕ) → is_met g f x ≡ true → is_met g (with_edges f es) x ≡ true
+    more x t = let a = met-some g f x t in let b = degree_le g f (with_edges f es) x (λ e we i. or_left (f e) (mem es e) i) in some-met g (with_edges f es) x (omega arith)

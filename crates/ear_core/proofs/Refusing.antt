@@ -1,0 +1,148 @@
+-- A list of steps from a stage leads to all edges, or has exactly one first refusal. The tests of a step say that it is a step; then
+-- only the odd edges of its ears are left to ask, and the new stage is covered exactly where no edge of it is refused.
+use Rattle.std.proofs.Common.{◌≡◌, ℕ, ◌+◌, Bool, true, false, if◌then◌else◌, Option, Some, None, refl, sym, ap, ◌∙◌, ◌||◌, inl, inr, [], ◌∷◌, List}
+use Rattle.std.proofs.lemmas.Bool.{cases_order, both_ways}
+use Rattle.counting.specs.Counts.{Within}
+use Rattle.counting.specs.Lists.{mem}
+use Rattle.counting.specs.Sets.{Set, none}
+use Rattle.counting.specs.Tests.{IsLeastWithout}
+use Rattle.graph_core.specs.Graph.{Graph, size, IsGraph}
+use Rattle.ear_core.specs.Stages.{IsStage, AllowedBy, with_edges}
+use Rattle.ear_core.specs.NearlyStages.{IsNearlyStage, odds}
+use Rattle.ear_core.specs.EarLists.{PlainStep, one, two, next_stage, IsStep, AreSteps}
+use Rattle.ear_core.specs.EarTests.{Why, not_path, even_length, bad_ends, inner_on_stage, edge_used, stage_not_covered, ends_early, is_path, has_odd_length, has_good_ends, has_free_inner, has_new_edges, Passes, ear_fault, inner_vertices}
+use Rattle.ear_core.specs.Refusals.{first_of, step_fault, IsLeastUnallowed, IsStepRefused, IsFirstRefusal}
+use Rattle.ear_core.proofs.Growth.{grow}
+use Rattle.ear_core.proofs.NextStages.{nearly, met-within, second_ear}
+use Rattle.ear_core.proofs.EarTests.{first_passes, second_passes}
+
+-- the first test that fails
+abbrev which : Bool → Bool → Bool → Bool → Bool → Option Why
+which b1 b2 b3 b4 b5 = if b1 then (if b2 then (if b3 then (if b4 then (if b5 then None else Some edge_used) else Some inner_on_stage) else Some bad_ends) else Some even_length) else Some not_path
+
+abbrev is_none : Option Why → Bool
+is_none None = true
+is_none (Some why) = false
+
+some_none : (why : Why) → Some why ≡ None → ⊥
+some_none why same = both_ways (is_none (Some why)) refl (ap is_none same)
+
+passed : (b1 b2 b3 b4 b5 : Bool) → which b1 b2 b3 b4 b5 ≡ None → (b1 ≡ true) × (b2 ≡ true) × (b3 ≡ true) × (b4 ≡ true) × (b5 ≡ true)
+passed true true true true true h = (refl, refl, refl, refl, refl)
+passed true true true true false h = absurd (some_none edge_used h)
+passed true true true false b5 h = absurd (some_none inner_on_stage h)
+passed true true false b4 b5 h = absurd (some_none bad_ends h)
+passed true false b3 b4 b5 h = absurd (some_none even_length h)
+passed false b2 b3 b4 b5 h = absurd (some_none not_path h)
+
+passes-none : (g : Graph) (f : Set) (xs ds : List ℕ) (v : ℕ) (es : List ℕ) → ear_fault g f xs ds v es ≡ None → Passes g f xs ds v es
+passes-none g f xs ds v es h = let p = passed (is_path g v es) (has_odd_length es) (has_good_ends g f v es) (has_free_inner g f xs v es) (has_new_edges f ds es) h in record { path = p.0; odd = p.1; ends = p.2; inner = p.3; new = p.4 }
+
+none-passes : (g : Graph) (f : Set) (xs ds : List ℕ) (v : ℕ) (es : List ℕ) → Passes g f xs ds v es → ear_fault g f xs ds v es ≡ None
+none-passes g f xs ds v es p = go (is_path g v es) (has_odd_length es) (has_good_ends g f v es) (has_free_inner g f xs v es) (has_new_edges f ds es) p.path p.odd p.ends p.inner p.new
+  where
+    go : (b1 b2 b3 b4 b5 : Bool) → b1 ≡ true → b2 ≡ true → b3 ≡ true → b4 ≡ true → b5 ≡ true → which b1 b2 b3 b4 b5 ≡ None
+    go b1 b2 b3 b4 b5 h1 h2 h3 h4 h5 = rw (h1, h2, h3, h4, h5) refl
+
+-- of two faults
+both-none : (first other : Option Why) → first_of first other ≡ None → (first ≡ None) × (other ≡ None)
+both-none None other h = (refl, h)
+both-none (Some why) other h = absurd (some_none why h)
+
+none-both : (first other : Option Why) → first ≡ None → other ≡ None → first_of first other ≡ None
+none-both first other h k = rw (h, k) refl
+
+-- no test of a step fails exactly where it is a step
+pub step-none : (g : Graph) (f : Set) (s : PlainStep) → step_fault g f s ≡ None → IsStep g f s
+step-none g f (one a) h = (first_passes g f a.begin a.edges).0 (passes-none g f [] [] a.begin a.edges h)
+step-none g f (two a b) h =
+    let x = both-none (ear_fault g f [] [] a.begin a.edges) (ear_fault g f (inner_vertices g a.begin a.edges) a.edges b.begin b.edges) h in
+    let ear = (first_passes g f a.begin a.edges).0 (passes-none g f [] [] a.begin a.edges x.0) in
+    (second_passes g f a.begin a.edges b.begin b.edges ear).0 (passes-none g f (inner_vertices g a.begin a.edges) a.edges b.begin b.edges x.1)
+
+pub none-step : (g : Graph) (f : Set) (s : PlainStep) → IsStep g f s → step_fault g f s ≡ None
+none-step g f (one a) ear = none-passes g f [] [] a.begin a.edges ((first_passes g f a.begin a.edges).1 ear)
+none-step g f (two a b) pair =
+    none-both (ear_fault g f [] [] a.begin a.edges) (ear_fault g f (inner_vertices g a.begin a.edges) a.edges b.begin b.edges)
+    (none-passes g f [] [] a.begin a.edges ((first_passes g f a.begin a.edges).1 pair.first))
+    (none-passes g f (inner_vertices g a.begin a.edges) a.edges b.begin b.edges ((second_passes g f a.begin a.edges b.begin b.edges pair.first).1 pair))
+
+-- the odd edges of the ears of a step
+abbrev pub step_odds : PlainStep → Set
+step_odds (one a) e = none e || mem (odds a.edges) e
+step_odds (two a b) e = (none e || mem (odds a.edges) e) || mem (odds b.edges) e
+
+pub step-nearly : (g : Graph) → IsGraph g → (f : Set) (s : PlainStep) → IsStage g f → IsStep g f s → IsNearlyStage g (next_stage f s) (step_odds s)
+step-nearly g is f (one a) stage ear = grow g is f none a.begin a.edges ear (met-within g is f a.begin ear.start) (nearly g f stage)
+step-nearly g is f (two a b) stage pair =
+    let ear = pair.first in
+    let second = second_ear g f a.begin a.edges b.begin b.edges pair in
+    grow g is (with_edges f a.edges) (λ e. none e || mem (odds a.edges) e) b.begin b.edges second (met-within g is (with_edges f a.edges) b.begin second.start)
+    (grow g is f none a.begin a.edges ear (met-within g is f a.begin ear.start) (nearly g f stage))
+
+-- a stage has no edge that is refused
+pub stage-fine : (g : Graph) (f : Set) (e : ℕ) → IsStage g f → IsLeastUnallowed g f e → ⊥
+stage-fine g f e stage least = least.without (λ t. stage.allowed e least.within t)
+
+-- and what is nearly a stage without such an edge is one
+pub fine-stage : (g : Graph) (f o : Set) → IsNearlyStage g f o → ((e : ℕ) → Within (size g) e → f e ≡ true → AllowedBy g f e) → IsStage g f
+fine-stage g f o near fine = record { some_edge = near.some_edge; connected = near.connected; allowed = fine }
+
+-- two least numbers without a property are one
+pub least-one : (n : ℕ) (P : ℕ → Type 0) (d e : ℕ) → IsLeastWithout n P d → IsLeastWithout n P e → d ≡ e
+least-one n P d e least other = elim (cases_order d e) [
+  | inl i ↦ i
+  | inr i ↦ elim i [ inl l ↦ absurd (least.without (other.before d least.within l)) | inr l ↦ absurd (other.without (least.before e other.within l)) ]
+]
+
+some-one : (a b : Why) → Some a ≡ Some b → a ≡ b
+some-one a b same = ap (λ o. from o a) same
+  where
+    from : Option Why → Why → Why
+    from None d = d
+    from (Some why) d = why
+
+-- the first refusal is one alone
+pub refusal-one : (g : Graph) (f : Set) (k : ℕ) (steps : List PlainStep) (i j : ℕ) (a b : Why) → IsFirstRefusal g f k steps i a → IsFirstRefusal g f k steps j b → (i ≡ j) × (a ≡ b)
+refusal-one g f k [] i j a b x y =
+    let p = x.1 in let q = y.1 in
+    (x.0 ∙ sym y.0, p.2 ∙ ap ends_early (least-one (size g) (λ d. f d ≡ true) p.0 q.0 p.1 q.1) ∙ sym q.2)
+refusal-one g f k (s ∷ steps) i j a b x y = elim x [
+  | inl p ↦ elim y [
+    | inl q ↦ (p.0 ∙ sym q.0, step-one p.1 q.1)
+    | inr q ↦ absurd (not-both p.1 q.0 q.1)
+  ]
+  | inr p ↦ elim y [
+    | inl q ↦ absurd (not-both q.1 p.0 p.1)
+    | inr q ↦ refusal-one g (next_stage f s) (k + 1) steps i j a b p.2 q.2
+  ]
+]
+  where
+    not-both : {why : Why} → IsStepRefused g f s why → step_fault g f s ≡ None → IsStage g (next_stage f s) → ⊥
+    not-both {why} r passes stage = elim r [
+      | inl t ↦ some_none why (sym t ∙ passes)
+      | inr t ↦ let u = t.1 in stage-fine g (next_stage f s) u.0 stage u.1
+    ]
+
+    step-one : IsStepRefused g f s a → IsStepRefused g f s b → a ≡ b
+    step-one r t = elim r [
+      | inl m ↦ elim t [
+        | inl n ↦ some-one a b (sym m ∙ n)
+        | inr n ↦ absurd (some_none a (sym m ∙ n.0))
+      ]
+      | inr m ↦ elim t [
+        | inl n ↦ absurd (some_none b (sym n ∙ m.0))
+        | inr n ↦ let c = m.1 in let d = n.1 in c.2 ∙ ap stage_not_covered (least-one (size g) (λ e. next_stage f s e ≡ true → AllowedBy g (next_stage f s) e) c.0 d.0 c.1 d.1) ∙ sym d.2
+      ]
+    ]
+
+-- and steps with a refusal do not lead to all edges
+pub refusal-none : (g : Graph) (f : Set) (k : ℕ) (steps : List PlainStep) (i : ℕ) (a : Why) → IsFirstRefusal g f k steps i a → AreSteps g f steps → ⊥
+refusal-none g f k [] i a x all = let p = x.1 in let least = p.1 in least.without (all p.0 least.within)
+refusal-none g f k (s ∷ steps) i a x all = elim x [
+  | inl p ↦ elim p.1 [
+    | inl t ↦ some_none a (sym t ∙ none-step g f s all.0)
+    | inr t ↦ let u = t.1 in stage-fine g (next_stage f s) u.0 all.1 u.1
+  ]
+  | inr p ↦ refusal-none g (next_stage f s) (k + 1) steps i a p.2 all.2
+]

@@ -1,0 +1,10 @@
+use Rattle.std.proofs.Common.{◌≡◌, ◌||◌, ◌==◌, ◌&&◌, ℕ}
+use Rattle.counting.specs.Lists.{mem}
+use Rattle.counting.specs.Tests.{some}
+use Rattle.graph_core.specs.Graph.{first_end, second_end}
+use Rattle.match_core.specs.Rows.{marks}
+use Rattle.ear_core.proofs.faults.met_by.Given as goal
+
+-- the vertices that the marked edges so far meet
+abbrev pub invariant-loop-k : goal.invariant-loop-k
+invariant-loop-k l = (v : ℕ) → mem l.met v ≡ some l.k (λ e. marks l.mark e && (first_end l.g e == v || second_end l.g e == v))

@@ -1,0 +1,33 @@
+//! Laws of ear lists. Each is the contract of a function that does nothing.
+ghost use Rattle.std.specs.Prelude.{◌≡◌, ◌↔◌, ℕ, true, List, [], None};
+ghost use Rattle.counting.specs.Counts.{Within};
+ghost use Rattle.counting.specs.Sets.{Set};
+ghost use Rattle.graph_core.specs.Graph.{Graph, IsGraph, size};
+ghost use Rattle.ear_core.specs.Stages.{IsStage, AllowedBy};
+ghost use Rattle.ear_core.specs.EarLists.{PlainStep, next_stage, IsStep, AreSteps};
+ghost use Rattle.ear_core.specs.Refusals.{step_fault, IsFirstRefusal};
+ghost use Rattle.ear_core.specs.Ears.{IsEar, IsEarPair};
+ghost use Rattle.ear_core.specs.EarTests.{Passes, Why, inner_vertices};
+
+/// The five tests of an ear say that it is an ear of the stage; those of the second ear of a step, that the two are ears without a
+/// common inner vertex and without a common edge.
+pub fn ear_tests_law()
+    ensures first { (g : Graph) (f : Set) (v : ℕ) (es : List ℕ) → Passes g f [] [] v es ↔ IsEar g f v es }
+    ensures second { (g : Graph) (f : Set) (v : ℕ) (es : List ℕ) (w : ℕ) (ds : List ℕ) → IsEar g f v es → Passes g f (inner_vertices g v es) es w ds ↔ IsEarPair g f v es w ds }
+{}
+
+/// No test of a step fails exactly where it is a step of the stage; then the new stage is matching covered where each of its edges
+/// lies in a perfect matching of it. So behind the five tests a new stage can fail by an edge in no perfect matching alone.
+pub fn new_stage_law()
+    ensures tests { (g : Graph) (f : Set) (s : PlainStep) → (step_fault g f s ≡ None) ↔ IsStep g f s }
+    ensures stage { (g : Graph) → IsGraph g → (f : Set) (s : PlainStep) → IsStage g f → IsStep g f s
+        → ((e : ℕ) → Within (size g) e → next_stage f s e ≡ true → AllowedBy g (next_stage f s) e) → IsStage g (next_stage f s) }
+{}
+
+/// Steps that lead from a stage to all edges have no refusal, and others have one first refusal at most.
+pub fn first_refusal_law()
+    ensures none { (g : Graph) (f : Set) (k : ℕ) (steps : List PlainStep) (number : ℕ) (why : Why)
+        → IsFirstRefusal g f k steps number why → AreSteps g f steps → ⊥ }
+    ensures one { (g : Graph) (f : Set) (k : ℕ) (steps : List PlainStep) (i j : ℕ) (a b : Why)
+        → IsFirstRefusal g f k steps i a → IsFirstRefusal g f k steps j b → (i ≡ j) × (a ≡ b) }
+{}

@@ -1,0 +1,66 @@
+//! The vertices along the edges of an ear.
+ghost use Rattle.std.specs.Prelude.{◌≡◌, ◌||◌, ◌==◌, ℕ, true, false, All, IfSome, IfNone};
+ghost use Rattle.counting.specs.Counts.{Within};
+ghost use Rattle.counting.specs.Lists.{mem};
+ghost use Rattle.graph_core.specs.Graph.{size, first_end, second_end};
+ghost use Rattle.ear_core.specs.Ears.{other_end, last_vertex};
+ghost use Rattle.ear_core.specs.EarTests.{is_path, inner_vertices};
+
+use crate::ears::Ear;
+use graph_core::MultiGraph;
+use vset_core::VSet;
+
+/// A path, by its inner vertices and its last one.
+#[derive(Clone, Copy)]
+pub struct Path {
+    pub inner: VSet,
+    pub last: u32,
+}
+
+// The end of edge `e` other than `v`, if `v` is an end of it.
+fn other_end(g: &MultiGraph, e: u32, v: u32) -> Option<u32>
+    requires { Within (size g.now) e }
+    ensures some { IfSome result (λ w. ((first_end g.now e == v || second_end g.now e == v) ≡ true) × (w ≡ other_end g.now e v) × Within g.now.order w) }
+    ensures none { IfNone result ((first_end g.now e == v || second_end g.now e == v) ≡ false) }
+{
+    let ends = g.ends(e);
+    if ends.a == v {
+        Some(ends.b)
+    } else if ends.b == v {
+        Some(ends.a)
+    } else {
+        None
+    }
+}
+
+/// The path that an ear is, its last vertex perhaps equal to its first; `None` exactly where it is none.
+pub fn path_of(g: &MultiGraph, ear: &Ear) -> Option<Path>
+    requires begin { Within g.now.order ear.now.from }
+    requires edges { All (Within (size g.now)) ear.now.edges }
+    ensures none { IfNone result (is_path g.now ear.now.from ear.now.edges ≡ false) }
+    ensures path { IfSome result (λ p. is_path g.now ear.now.from ear.now.edges ≡ true) }
+    ensures last { IfSome result (λ p. p.last ≡ last_vertex g.now ear.now.from ear.now.edges) }
+    ensures within { IfSome result (λ p. Within g.now.order p.last) }
+    ensures inner { IfSome result (λ p. (w : ℕ) → mem p.inner w ≡ mem (inner_vertices g.now ear.now.from ear.now.edges) w) }
+{
+    g.keeps_limits();
+    let mut inner = VSet::empty();
+    let mut at = ear.from;
+    let mut rest = ear.edges.as_slice();
+    'edges: while let Some((e, others)) = rest.split_first() {
+        let next = other_end(g, *e, at)?;
+        if inner.contains(next) {
+            return None;
+        }
+        if others.is_empty() {
+            return Some(Path { inner, last: next });
+        }
+        if next == ear.from {
+            return None;
+        }
+        inner = inner.with(next);
+        at = next;
+        rest = others;
+    }
+    None
+}
