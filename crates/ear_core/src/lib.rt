@@ -6,6 +6,8 @@ mod faults;
 mod judgement;
 pub mod laws;
 mod paths;
+mod stages;
+mod steps;
 
 pub use ears::{Ear, EarList, Step, Steps};
 pub use judgement::{EarJudgement, EarWhy};
