@@ -1,28 +1,21 @@
 -- The edges of a stage in a graph of their own. The degree by rank is the degree in g, so a perfect matching of the listed edges is one of
 -- the graph of the stage; and an edge lies in one where its two ends may be left out.
-use Rattle.std.proofs.Common.{◌≡◌, ℕ, suc, zero, ◌+◌, ◌*◌, ◌-◌, ◌≤◌, ◌<◌, ◌≢◌, Bool, true, false, cond, ◌==◌, refl, sym, ap, ap₂, ◌∙◌, arith, ◌&&◌, ◌||◌, not, eq-eqb, ne_eqb, eqb-true, ◌⊎◌, inl, inr, nat_lt, ltb-true, lt-ltb, le-ltb, le_trans, le_of_eq, [], ◌∷◌, ◌++◌, List, length, slice_index_or, subst, ◌↔◌}
-use Rattle.std.proofs.lemmas.Bool.{cases_eq, or_right, cases_Bool, cases_order, cases_lt, and_parts, true≢false, true_from_ne_false, and_from, both_ways, false_from_ne_true, not-true, or_left, or_cases, or_parts, or_from}
+use Rattle.std.proofs.Common.{◌≡◌, ℕ, suc, zero, ◌+◌, ◌*◌, ◌-◌, ◌≤◌, ◌<◌, ◌≢◌, Bool, true, false, cond, ◌==◌, refl, sym, ap, ◌∙◌, arith, ◌&&◌, not, eq-eqb, ne_eqb, eqb-true, inl, inr, [], ◌∷◌, ◌++◌, List, length, slice_index_or, ◌↔◌}
+use Rattle.std.proofs.lemmas.Bool.{cases_eq, or_right, cases_Bool, cases_order, and_parts, true_from_ne_false, and_from, both_ways, false_from_ne_true, not-true, or_left, or_cases, or_parts, or_from}
 use Rattle.std.proofs.lemmas.List.{length-append, get_or_append_left, get_or-append-add}
 use Rattle.counting.proofs.Counts.{count_congr}
 use Rattle.counting.proofs.RisingLists.{same_answers}
 use Rattle.counting.proofs.Tests.{some_true, true_some}
-use Rattle.counting.proofs.Totals.{at_le_total, two_le_total}
 use Rattle.counting.specs.Counts.{bit, count, Within}
-use Rattle.counting.specs.Sets.{Set, none, union, put, pair_set, complement}
+use Rattle.counting.specs.Sets.{Set, union, put, pair_set, complement}
 use Rattle.counting.specs.Tests.{some}
 use Rattle.ear_core.proofs.Growth.{some-met, unmet, degree_le}
-use Rattle.ear_core.proofs.NextStages.{met-within}
 use Rattle.ear_core.specs.StageGraphs.{over, listed}
-use Rattle.ear_core.specs.Stages.{is_met, adjacent_by, IsPerfectOff, IsStage, IsPerfectOf}
+use Rattle.ear_core.specs.Stages.{is_met, IsPerfectOff, IsPerfectOf}
 use Rattle.graph_core.proofs.Decide.{degree_congr}
 use Rattle.graph_core.proofs.Edits.{ends_of, ends_le_degree, degree_put}
-use Rattle.graph_core.proofs.Walks.{has_ends-own, adjacent_from, has_ends-cases, has_ends-back}
-use Rattle.graph_core.specs.Covered.{IsCovered}
-use Rattle.graph_core.specs.Graph.{Graph, size, first_end, second_end, degree, IsGraph, has_ends}
+use Rattle.graph_core.specs.Graph.{Graph, size, first_end, second_end, degree, IsGraph}
 use Rattle.graph_core.specs.Matchings.{IsPerfect, HasPerfect}
-use Rattle.graph_core.specs.Walks.{Walk, Joined}
-use Rattle.match_core.proofs.OuterComponents.{ranked}
-use Rattle.match_core.specs.MatchingRows.{ends_at}
 
 module _ (g : Graph) (es : List (ℕ × ℕ)) (p : ℕ × ℕ) where
   pub size_added : length (es ++ (p ∷ [])) ≡ suc (length es)
@@ -89,7 +82,6 @@ ends-met g f e w h =
     let c = ap bit (eq-eqb (first_end g e) (first_end g e) refl) in
     let d = ap bit (eq-eqb (second_end g e) (second_end g e) refl) in
     (some-met g f (first_end g e) (omega arith), some-met g f (second_end g e) (omega arith))
-
 
 pub listed_size : (g : Graph) (f : Set) (k : ℕ) → length (listed g f k) ≡ count k f
 listed_size g f zero = refl

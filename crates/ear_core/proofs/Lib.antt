@@ -7,3 +7,4 @@ pub mod FirstFaults
 pub mod EngineGraphs
 pub mod Settling
 pub mod Marking
+pub mod Taking

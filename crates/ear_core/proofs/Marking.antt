@@ -9,7 +9,7 @@ use Rattle.graph_core.specs.Graph.{Graph}
 use Rattle.match_core.specs.Rows.{marks}
 use Rattle.allowed_edges.proofs.Marking.{marks-set}
 use Rattle.ear_core.specs.EarLists.{PlainEar, two}
-use Rattle.ear_core.specs.EarTests.{Why, not_path, even_length, bad_ends, inner_on_stage, edge_used, is_path, has_odd_length, has_good_ends, has_free_inner, has_new_edges, ear_fault, inner_vertices, no_member}
+use Rattle.ear_core.specs.EarTests.{Why, not_path, even_length, bad_ends, inner_on_stage, edge_used, is_path, has_odd_length, has_good_ends, has_new_edges, ear_fault, inner_vertices, no_member}
 use Rattle.ear_core.specs.Refusals.{first_of, step_fault}
 use Rattle.ear_core.specs.Stages.{is_met}
 

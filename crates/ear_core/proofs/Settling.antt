@@ -1,11 +1,11 @@
 -- The edges of the ears of a step, asked one by one: what an answer of the engine says of an edge, and what is known behind it.
-use Rattle.std.proofs.Common.{◌≡◌, ◌≢◌, ℕ, suc, zero, ◌+◌, ◌≤◌, ◌<◌, Bool, true, false, cond, ◌==◌, refl, sym, ap, ap₂, ◌∙◌, arith, ◌&&◌, ◌||◌, not, eq-eqb, eqb-true, Some, None, Option, Result, Ok, Err, IfOk, [], ◌∷◌, ◌++◌, List, length, All, subst, ◌↔◌, inl, inr}
-use Rattle.std.proofs.lemmas.Bool.{or_cases, or_left, or_right, true≢false, both_ways}
+use Rattle.std.proofs.Common.{◌≡◌, ◌≢◌, ℕ, suc, ◌≤◌, ◌<◌, Bool, true, false, cond, ◌==◌, refl, sym, ap, ap₂, ◌∙◌, arith, ◌&&◌, ◌||◌, not, eqb-true, Some, None, Option, Result, Ok, Err, IfOk, [], ◌∷◌, ◌++◌, List, length, subst, ◌↔◌, inl, inr}
+use Rattle.std.proofs.lemmas.Bool.{or_cases, true≢false}
 use Rattle.counting.specs.Counts.{Within}
 use Rattle.counting.specs.Lists.{mem}
 use Rattle.counting.specs.Sets.{Set, union, complement, pair_set, none}
 use Rattle.graph_core.specs.Graph.{Graph, size, IsGraph, first_end, second_end, with_edge}
-use Rattle.graph_core.specs.Matchings.{IsPerfect, HasPerfect}
+use Rattle.graph_core.specs.Matchings.{HasPerfect}
 use Rattle.ear_core.specs.Stages.{is_met, AllowedBy, with_edges}
 use Rattle.ear_core.specs.StageGraphs.{over, listed, Settled, asked_too}
 use Rattle.ear_core.proofs.EngineGraphs.{served_listed, edge_serves}
@@ -53,20 +53,30 @@ module _ (g : Graph) (is : IsGraph g) (f r : Set) (e : ℕ) (within : Within (si
 
 -- what is known when one edge more was asked
 pub settled-over : (g : Graph) (f asked : Set) (d e : ℕ) → Settled g f asked (Some d) → d ≤ e → Settled g f (asked_too asked e) (Some d)
-settled-over g f asked d e known low = (known.0, known.1, known.2, λ c w t less. elim (or_cases (asked c) (e == c) t) [
-  | inl i ↦ known.3 c w i less
-  | inr i ↦ let same = eqb-true e c i in absurd (omega arith)
-])
+settled-over g f asked d e known low = (
+  known.0,
+  known.1,
+  known.2,
+  λ c w t less. elim (or_cases (asked c) (e == c) t) [
+    | inl i ↦ known.3 c w i less
+    | inr i ↦ let same = eqb-true e c i in absurd (omega arith)
+  ],
+)
 
 pub settled-allowed : (g : Graph) (f asked : Set) (known : Option ℕ) (e : ℕ) → Settled g f asked known → AllowedBy g f e → Settled g f (asked_too asked e) known
 settled-allowed g f asked None e known allowed = λ c w t. elim (or_cases (asked c) (e == c) t) [
   | inl i ↦ known c w i
   | inr i ↦ subst (AllowedBy g f) (eqb-true e c i) allowed
 ]
-settled-allowed g f asked (Some d) e known allowed = (known.0, known.1, known.2, λ c w t less. elim (or_cases (asked c) (e == c) t) [
-  | inl i ↦ known.3 c w i less
-  | inr i ↦ subst (AllowedBy g f) (eqb-true e c i) allowed
-])
+settled-allowed g f asked (Some d) e known allowed = (
+  known.0,
+  known.1,
+  known.2,
+  λ c w t less. elim (or_cases (asked c) (e == c) t) [
+    | inl i ↦ known.3 c w i less
+    | inr i ↦ subst (AllowedBy g f) (eqb-true e c i) allowed
+  ],
+)
 
 -- below what is known
 abbrev pub Below : ℕ → Option ℕ → Type 0
@@ -74,14 +84,24 @@ Below e None = Unit {0}
 Below e (Some d) = e < d
 
 pub settled-refused : (g : Graph) (f asked : Set) (known : Option ℕ) (e : ℕ) → Settled g f asked known → Below e known → Within (size g) e → f e ≡ true → (AllowedBy g f e → ⊥) → Settled g f (asked_too asked e) (Some e)
-settled-refused g f asked None e known below within marked refused = (within, marked, refused, λ c w t less. elim (or_cases (asked c) (e == c) t) [
-  | inl i ↦ known c w i
-  | inr i ↦ let same = eqb-true e c i in absurd (omega arith)
-])
-settled-refused g f asked (Some d) e known below within marked refused = (within, marked, refused, λ c w t less. elim (or_cases (asked c) (e == c) t) [
-  | inl i ↦ known.3 c w i (omega arith)
-  | inr i ↦ let same = eqb-true e c i in absurd (omega arith)
-])
+settled-refused g f asked None e known below within marked refused = (
+  within,
+  marked,
+  refused,
+  λ c w t less. elim (or_cases (asked c) (e == c) t) [
+    | inl i ↦ known c w i
+    | inr i ↦ let same = eqb-true e c i in absurd (omega arith)
+  ],
+)
+settled-refused g f asked (Some d) e known below within marked refused = (
+  within,
+  marked,
+  refused,
+  λ c w t less. elim (or_cases (asked c) (e == c) t) [
+    | inl i ↦ known.3 c w i (omega arith)
+    | inr i ↦ let same = eqb-true e c i in absurd (omega arith)
+  ],
+)
 
 -- the same edges asked
 pub settled-same : (g : Graph) (f asked others : Set) (known : Option ℕ) → ((e : ℕ) → others e ≡ asked e) → Settled g f asked known → Settled g f others known

@@ -92,3 +92,31 @@ fn refused_edge(
         Some(second) => least_refused(alloc, g, mark, met, least, second.edges.as_slice()),
     }
 }
+
+/// Takes a step on the stage of the marked edges: then its edges are marked too, or it is refused, with the reason.
+#[tactic(auto, using(crate::proofs::Taking::first_fits, crate::proofs::Taking::second_fits, crate::proofs::Taking::first_marked, crate::proofs::Taking::second_marked))]
+pub fn take_step(
+    alloc: Global,
+    g: &MultiGraph,
+    mark: &mut Vec<bool>,
+    step: &Step,
+) -> Result<Option<EarWhy>, Memory>
+    requires long { length mark.old.items ≡ size g.now + 1 }
+    requires fits { FitsStep g.now.order (size g.now) (step_of step.now) }
+    requires stage { IsStage g.now (marks mark.old.items) }
+    ensures length { length mark.new.items ≡ length mark.old.items }
+    ensures refused { IfOk result (λ o. IfSome o (λ why. IsStepRefused g.now (marks mark.old.items) (step_of step.now) (why_of why))) }
+    ensures passes { IfOk result (λ o. IfNone o (step_fault g.now (marks mark.old.items) (step_of step.now) ≡ None)) }
+    ensures stage { IfOk result (λ o. IfNone o (IsStage g.now (next_stage (marks mark.old.items) (step_of step.now)))) }
+    ensures next { IfOk result (λ o. IfNone o ((i : ℕ) → marks mark.new.items i ≡ next_stage (marks mark.old.items) (step_of step.now) i)) }
+{
+    g.keeps_limits();
+    if let Some(why) = fault_of(g, mark, step) {
+        return Ok(Some(why));
+    }
+    mark_step(mark, g.size(), step);
+    match refused_edge(alloc, g, mark, step)? {
+        Some(edge) => Ok(Some(EarWhy::StageNotCovered { edge })),
+        None => Ok(None),
+    }
+}

@@ -1,4 +1,3 @@
-use Rattle.std.proofs.Common.{rules, ◌≡◌}
 use Rattle.match_core.specs.Rows.{marks}
 use Rattle.ear_core.specs.Stages.{with_edges}
 use Rattle.ear_core.specs.StageGraphs.{asked_too}

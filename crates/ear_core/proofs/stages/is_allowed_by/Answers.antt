@@ -1,4 +1,4 @@
-use Rattle.std.proofs.Common.{rules, ◌≡◌, ◌≢◌, ◌∙◌, sym, None}
+use Rattle.std.proofs.Common.{rules, ◌≢◌, ◌∙◌, sym}
 use Rattle.counting.specs.Lists.{mem}
 use Rattle.graph_core.specs.Graph.{first_end, second_end}
 use Rattle.match_core.specs.Rows.{marks}

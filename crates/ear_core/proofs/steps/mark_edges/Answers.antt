@@ -1,4 +1,4 @@
-use Rattle.std.proofs.Common.{rules, ◌∙◌, ◌<◌, length, subst, sym}
+use Rattle.std.proofs.Common.{◌∙◌, ◌<◌, length, subst, sym}
 use Rattle.counting.specs.Lists.{mem}
 use Rattle.match_core.specs.Rows.{marks}
 use Rattle.allowed_edges.proofs.Marking.{length-marked}

@@ -1,4 +1,4 @@
-use Rattle.std.proofs.Common.{rules, ◌≡◌, ◌∙◌, ap, ap₂, sym, List, ℕ}
+use Rattle.std.proofs.Common.{◌∙◌, ap, ap₂, sym, List, ℕ}
 use Rattle.counting.specs.Sets.{none}
 use Rattle.match_core.specs.Rows.{marks}
 use Rattle.ear_core.specs.EarLists.{next_stage}
