@@ -4,3 +4,7 @@ pub mod EarTests
 pub mod Refusing
 pub mod Walking
 pub mod FirstFaults
+pub mod EngineGraphs
+pub mod Settling
+pub mod Marking
+pub mod Taking

@@ -5,3 +5,4 @@ pub mod View
 pub mod NearlyStages
 pub mod EarTests
 pub mod Refusals
+pub mod StageGraphs

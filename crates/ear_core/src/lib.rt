@@ -1,12 +1,15 @@
 //! Ear lists of matching covered graphs.
 //!
-//! An ear list builds a matching covered graph from one edge: each step adds one ear, or two at once, so that each stage, a set of
-//! edges of the graph, is matching covered. Here stand the types, the definitions over plain numbers (`specs/EarLists`, `Stages`)
-//! with the first refusal of a list, and the laws on its tests: what passes them (`ear_tests_law`), that a list is an ear list or
-//! has exactly one first refusal (`first_refusal_law`), and that after the tests a new stage can fail only by an edge that is in
-//! none of its perfect matchings (`new_stage_law`).
+//! An `EarList` names the edge that is the first stage, and steps of one ear or two. It is an ear list of a graph (`IsEarList` of
+//! `specs/EarLists`, over plain data) if each step adds ears (`IsEar`, `IsEarPair`) to a stage, each stage is matching covered
+//! (`IsStage`), and the last one holds all edges. `IsRefused` of `specs/Refusals` is the first refusal of a list: the five tests of a
+//! step's ears, then the least edge of the new stage in no perfect matching of it, and at the end the least edge on no stage.
 //!
-//! Stands on `allowed_edges`. Source: Lovász and Plummer, "Matching Theory", chapter 5; Lovász 1983 on ear decompositions.
+//! `laws::ear_tests_law`: the tests say that an ear is one. `laws::new_stage_law`: behind them a new stage can fail by an edge in no
+//! perfect matching alone. `laws::first_refusal_law`: an ear list has no refusal, and another list one at most. Inside, a step is
+//! taken on a row of marks, and the edges of its ears are asked of the matching engine one by one.
+//!
+//! Stands on `match_core`. Source: Lovász and Plummer, "Matching Theory", chapter 5.
 #![tactic(auto)]
 
 mod ears;
@@ -14,6 +17,8 @@ mod faults;
 mod judgement;
 pub mod laws;
 mod paths;
+mod stages;
+mod steps;
 
 pub use ears::{Ear, EarList, Step, Steps};
 pub use judgement::{EarJudgement, EarWhy};

@@ -1,0 +1,218 @@
+-- The edges of a stage in a graph of their own. The degree by rank is the degree in g, so a perfect matching of the listed edges is one of
+-- the graph of the stage; and an edge lies in one where its two ends may be left out.
+use Rattle.std.proofs.Common.{◌≡◌, ℕ, suc, zero, ◌+◌, ◌*◌, ◌-◌, ◌≤◌, ◌<◌, ◌≢◌, Bool, true, false, cond, ◌==◌, refl, sym, ap, ◌∙◌, arith, ◌&&◌, not, eq-eqb, ne_eqb, eqb-true, inl, inr, [], ◌∷◌, ◌++◌, List, length, slice_index_or, ◌↔◌}
+use Rattle.std.proofs.lemmas.Bool.{cases_eq, or_right, cases_Bool, cases_order, and_parts, true_from_ne_false, and_from, both_ways, false_from_ne_true, not-true, or_left, or_cases, or_parts, or_from}
+use Rattle.std.proofs.lemmas.List.{length-append, get_or_append_left, get_or-append-add}
+use Rattle.counting.proofs.Counts.{count_congr}
+use Rattle.counting.proofs.RisingLists.{same_answers}
+use Rattle.counting.proofs.Tests.{some_true, true_some}
+use Rattle.counting.specs.Counts.{bit, count, Within}
+use Rattle.counting.specs.Sets.{Set, union, put, pair_set, complement}
+use Rattle.counting.specs.Tests.{some}
+use Rattle.ear_core.proofs.Growth.{some-met, unmet, degree_le}
+use Rattle.ear_core.specs.StageGraphs.{over, listed}
+use Rattle.ear_core.specs.Stages.{is_met, IsPerfectOff, IsPerfectOf}
+use Rattle.graph_core.proofs.Decide.{degree_congr}
+use Rattle.graph_core.proofs.Edits.{ends_of, ends_le_degree, degree_put}
+use Rattle.graph_core.specs.Graph.{Graph, size, first_end, second_end, degree, IsGraph}
+use Rattle.graph_core.specs.Matchings.{IsPerfect, HasPerfect}
+
+module _ (g : Graph) (es : List (ℕ × ℕ)) (p : ℕ × ℕ) where
+  pub size_added : length (es ++ (p ∷ [])) ≡ suc (length es)
+  size_added = let l : length (es ++ (p ∷ [])) ≡ length es + length (p ∷ []) = length-append es (p ∷ []) in omega arith
+
+  read_old : (e : ℕ) → Within (length es) e → slice_index_or (es ++ (p ∷ [])) (e - 1) (0, 0) ≡ slice_index_or es (e - 1) (0, 0)
+  read_old e w = get_or_append_left es (p ∷ []) (0, 0) (e - 1) (omega arith)
+
+  read_new : slice_index_or (es ++ (p ∷ [])) (suc (length es) - 1) (0, 0) ≡ p
+  read_new = let i : suc (length es) - 1 ≡ length es + 0 = omega arith in ap (λ k. slice_index_or (es ++ (p ∷ [])) k (0, 0)) i ∙ get_or-append-add es (p ∷ []) 0 (0, 0)
+
+  pub near_old : (e : ℕ) → Within (length es) e → first_end (over g (es ++ (p ∷ []))) e ≡ first_end (over g es) e
+  near_old e w = ap (λ q. q.0) (read_old e w)
+
+  pub far_old : (e : ℕ) → Within (length es) e → second_end (over g (es ++ (p ∷ []))) e ≡ second_end (over g es) e
+  far_old e w = ap (λ q. q.1) (read_old e w)
+
+  pub near_new : first_end (over g (es ++ (p ∷ []))) (suc (length es)) ≡ p.0
+  near_new = ap (λ q. q.0) read_new
+
+  pub far_new : second_end (over g (es ++ (p ∷ []))) (suc (length es)) ≡ p.1
+  far_new = ap (λ q. q.1) read_new
+
+  pub degree_added : (m : Set) (v : ℕ) → degree (over g (es ++ (p ∷ []))) m v ≡ degree (over g es) m v + bit (m (suc (length es))) * (bit (p.0 == v) + bit (p.1 == v))
+  degree_added m v =
+      ap (λ k. count k (λ e. m e && (first_end (over g (es ++ (p ∷ []))) e == v)) + count k (λ e. m e && (second_end (over g (es ++ (p ∷ []))) e == v))) size_added
+      ∙ sum (count (length es) (λ e. m e && (first_end (over g (es ++ (p ∷ []))) e == v))) (count (length es) (λ e. m e && (first_end (over g es) e == v)))
+      (count (length es) (λ e. m e && (second_end (over g (es ++ (p ∷ []))) e == v))) (count (length es) (λ e. m e && (second_end (over g es) e == v)))
+      (m (suc (length es))) (first_end (over g (es ++ (p ∷ []))) (suc (length es)) == v) (second_end (over g (es ++ (p ∷ []))) (suc (length es)) == v) (p.0 == v) (p.1 == v)
+      (count_congr (length es) _ _ (λ e w. ap (λ k. m e && (k == v)) (near_old e w)))
+      (count_congr (length es) _ _ (λ e w. ap (λ k. m e && (k == v)) (far_old e w)))
+      (ap (λ k. k == v) near_new) (ap (λ k. k == v) far_new)
+    where
+      sum : (a a' b b' : ℕ) (x y z y' z' : Bool) → a ≡ a' → b ≡ b' → y ≡ y' → z ≡ z' → (a + bit (x && y)) + (b + bit (x && z)) ≡ (a' + b') + bit x * (bit y' + bit z')
+      sum a a' b b' true y z y' z' e f h k = let i = ap bit h in let j = ap bit k in omega arith
+      sum a a' b b' false y z y' z' e f h k = omega arith
+
+-- ranks
+pub rank_le : (t : Set) (u n : ℕ) → u ≤ n → count u t ≤ count n t
+rank_le t u zero l = let e : u ≡ 0 = omega arith in omega (arith, ap (λ k. count k t) e)
+rank_le t u (suc n) l = elim (cases_eq u (suc n)) [
+  | inl e ↦ omega (arith, ap (λ k. count k t) e)
+  | inr d ↦ let a = rank_le t u n (omega arith) in omega arith
+]
+
+pub rank_less : (t : Set) (u v : ℕ) → u < v → t v ≡ true → count u t < count v t
+rank_less t u zero l h = absurd (omega arith)
+rank_less t u (suc v) l h = let a = rank_le t u v (omega arith) in let b = ap bit h in omega arith
+
+pub rank_same : (t : Set) (u v : ℕ) → t u ≡ true → t v ≡ true → count u t ≡ count v t → u ≡ v
+rank_same t u v tu tv e = elim (cases_order u v) [
+  | inl i ↦ i
+  | inr c ↦ elim c [
+    | inl l ↦ let a = rank_less t u v l tv in absurd (omega arith)
+    | inr l ↦ let a = rank_less t v u l tu in absurd (omega arith)
+  ]
+]
+
+pub ends-met : (g : Graph) (f : Set) (e : ℕ) → Within (size g) e → f e ≡ true → (is_met g f (first_end g e) ≡ true) × (is_met g f (second_end g e) ≡ true)
+unfolding ends_of
+ends-met g f e w h =
+    let a = ends_le_degree g f e (first_end g e) w h in
+    let b = ends_le_degree g f e (second_end g e) w h in
+    let c = ap bit (eq-eqb (first_end g e) (first_end g e) refl) in
+    let d = ap bit (eq-eqb (second_end g e) (second_end g e) refl) in
+    (some-met g f (first_end g e) (omega arith), some-met g f (second_end g e) (omega arith))
+
+pub listed_size : (g : Graph) (f : Set) (k : ℕ) → length (listed g f k) ≡ count k f
+listed_size g f zero = refl
+listed_size g f (suc k) = go (f (suc k)) (listed_size g f k)
+  where
+    go : (b : Bool) → length (listed g f k) ≡ count k f → length (cond b (listed g f k ++ ((first_end g (suc k), second_end g (suc k)) ∷ [])) (listed g f k)) ≡ count k f + bit b
+    go true e = let s = size_added g (listed g f k) (first_end g (suc k), second_end g (suc k)) in omega arith
+    go false e = omega arith
+
+-- the edges of f that m has by rank
+abbrev pub by_rank : Set → Set → Set
+by_rank f m e = f e && m (count e f)
+
+-- the degree by rank, for the first k edges
+pub listed_degree : (g : Graph) (f m : Set) (v k : ℕ) → degree (over g (listed g f k)) m v ≡ count k (λ e. by_rank f m e && (first_end g e == v)) + count k (λ e. by_rank f m e && (second_end g e == v))
+listed_degree g f m v zero = refl
+listed_degree g f m v (suc k) = go (f (suc k)) refl (listed_degree g f m v k)
+  where
+    bits : (x y : Bool) → bit (x && y) ≡ bit x * bit y
+    bits true y = omega arith
+    bits false y = omega arith
+
+    go : (b : Bool) → f (suc k) ≡ b → degree (over g (listed g f k)) m v ≡ count k (λ e. by_rank f m e && (first_end g e == v)) + count k (λ e. by_rank f m e && (second_end g e == v)) →
+        degree (over g (cond b (listed g f k ++ ((first_end g (suc k), second_end g (suc k)) ∷ [])) (listed g f k))) m v
+        ≡ (count k (λ e. by_rank f m e && (first_end g e == v)) + bit ((b && m (count k f + bit b)) && (first_end g (suc k) == v))) + (count k (λ e. by_rank f m e && (second_end g e == v)) + bit ((b && m (count k f + bit b)) && (second_end g (suc k) == v)))
+    go true q e =
+        let d = degree_added g (listed g f k) (first_end g (suc k), second_end g (suc k)) m v in
+        let s : suc (length (listed g f k)) ≡ count k f + bit true = (let l = listed_size g f k in omega arith) in
+        let t = ap (λ i. bit (m i) * (bit (first_end g (suc k) == v) + bit (second_end g (suc k) == v))) s in
+        let x = bits (m (count k f + bit true)) (first_end g (suc k) == v) in
+        let y = bits (m (count k f + bit true)) (second_end g (suc k) == v) in omega arith
+    go false q e = omega arith
+
+module _ (g : Graph) (f r : Set) where
+  abbrev kf : Graph
+  kf = over g (listed g f (size g))
+
+  abbrev out : Set
+  out = union (complement (is_met g f)) r
+
+  -- a perfect matching of the listed edges, by rank
+  pub from_listed : (m : Set) → IsPerfect kf out m → IsPerfectOff g f r (by_rank f m)
+  from_listed m p = record {
+    part = λ e w t. (and_parts (f e) (m (count e f)) t).0;
+    once = λ v w t o. sym (listed_degree g f m v (size g)) ∙ p.once v w (or_from (not (is_met g f v)) (r v) (ap not t) o);
+    away = λ v w o. sym (listed_degree g f m v (size g)) ∙ p.away v w (or_right (not (is_met g f v)) (r v) o);
+  }
+
+  pub rank_of : Set → Set
+  rank_of m i = some (size g) (λ e. (f e && m e) && (count e f == i))
+
+  same_rank : (m : Set) → ((e : ℕ) → Within (size g) e → m e ≡ true → f e ≡ true) → (e : ℕ) → Within (size g) e → by_rank f (rank_of m) e ≡ m e
+  unfolding rank_of
+  same_rank m part e w = same_answers (f e && rank_of m (count e f)) (m e)
+      (λ t. let a = and_parts (f e) (rank_of m (count e f)) t in
+      let d = some_true (size g) (λ d. (f d && m d) && (count d f == count e f)) a.1 in
+      let b = and_parts (f d.0 && m d.0) (count d.0 f == count e f) d.2 in
+      let c = and_parts (f d.0) (m d.0) b.0 in ap m (sym (rank_same f d.0 e c.0 a.0 (eqb-true (count d.0 f) (count e f) b.1))) ∙ c.1)
+      (λ t. and_from (f e) (rank_of m (count e f)) (part e w t) (true_some (size g) (λ d. (f d && m d) && (count d f == count e f)) e w (and_from (f e && m e) (count e f == count e f) (and_from (f e) (m e) (part e w t) t) (eq-eqb (count e f) (count e f) refl))))
+
+  pub to_listed : (m : Set) → IsPerfectOff g f r m → IsPerfect kf out (rank_of m)
+  to_listed m p = record {
+    once = λ v w o. let b = or_parts (not (is_met g f v)) (r v) o in same v ∙ p.once v w (true_from_ne_false (is_met g f v) (λ x. both_ways (not (is_met g f v)) b.0 (ap not x))) b.1;
+    away = λ v w o. same v ∙ (elim (or_cases (not (is_met g f v)) (r v) o) [
+      | inr x ↦ p.away v w x
+      | inl x ↦ let a = unmet g f v (not-true (is_met g f v) x) in let b = degree_le g m f v p.part in omega arith
+    ]);
+  }
+    where
+      same : (v : ℕ) → degree kf (rank_of m) v ≡ degree g m v
+      same v = listed_degree g f (rank_of m) v (size g) ∙ degree_congr g (by_rank f (rank_of m)) m v (same_rank m p.part)
+
+  -- what the engine is asked: the listed edges without the vertices off the stage and r
+  pub served_listed : ((m : Set) × IsPerfectOff g f r m) ↔ HasPerfect kf out
+  served_listed = (λ x. (rank_of x.0, to_listed x.0 x.1), λ x. (by_rank f x.0, from_listed x.0 x.1))
+
+-- an edge of f lies in a perfect matching of f where its two ends serve
+pub edge_serves : (g : Graph) (f : Set) (e : ℕ) → IsGraph g → Within (size g) e → first_end g e ≢ second_end g e → f e ≡ true → ((m : Set) × IsPerfectOf g f m × (m e ≡ true)) ↔ ((m : Set) × IsPerfectOff g f (pair_set (first_end g e) (second_end g e)) m)
+unfolding ends_of
+edge_serves g f e is w d fe = (there, back)
+  where
+    ends_two : (v : ℕ) → pair_set (first_end g e) (second_end g e) v ≡ true → ends_of g e v ≡ 1
+    ends_two v t = elim (or_cases (first_end g e == v) (second_end g e == v) t) [
+      | inl i ↦ let a = ap bit i in let b = ap bit (ne_eqb (second_end g e) v (λ j. d (eqb-true (first_end g e) v i ∙ sym j))) in omega arith
+      | inr i ↦ let a = ap bit i in let b = ap bit (ne_eqb (first_end g e) v (λ j. d (j ∙ sym (eqb-true (second_end g e) v i)))) in omega arith
+    ]
+
+    ends_zero : (v : ℕ) → pair_set (first_end g e) (second_end g e) v ≡ false → ends_of g e v ≡ 0
+    ends_zero v t = let p = or_parts (first_end g e == v) (second_end g e == v) t in let a = ap bit p.0 in let b = ap bit p.1 in omega arith
+
+    is_touched : (v : ℕ) → pair_set (first_end g e) (second_end g e) v ≡ true → is_met g f v ≡ true
+    is_touched v t = let h = ends-met g f e w fe in elim (or_cases (first_end g e == v) (second_end g e == v) t) [
+      | inl i ↦ ap (is_met g f) (sym (eqb-true (first_end g e) v i)) ∙ h.0
+      | inr i ↦ ap (is_met g f) (sym (eqb-true (second_end g e) v i)) ∙ h.1
+    ]
+
+    put_at : (m : Set) (b : Bool) (c : ℕ) → (c ≢ e → m c ≡ true → f c ≡ true) → put m e b c ≡ true → f c ≡ true
+    put_at m b c h t = elim (cases_eq c e) [
+      | inl i ↦ ap f i ∙ fe
+      | inr i ↦ h i (sym (ap (λ x. cond x b (m c)) (ne_eqb c e i)) ∙ t)
+    ]
+
+    there : (m : Set) × IsPerfectOf g f m × (m e ≡ true) → (m : Set) × IsPerfectOff g f (pair_set (first_end g e) (second_end g e)) m
+    there x = (
+      put x.0 e false,
+      record {
+        part = λ c wc t. put_at x.0 false c (λ n h. x.1.part c wc h) t;
+        once = λ v wv t o. let a = degree_put g x.0 e false v w in let b = ends_zero v o in let c = x.1.once v wv t in let i = ap (λ k. bit (x.0 e) * k) b in omega arith;
+        away = λ v wv o. let a = degree_put g x.0 e false v w in let b = ends_two v o in let c = x.1.once v wv (is_touched v o) in let i = ap (λ k. bit k * ends_of g e v) x.2 in omega arith;
+      },
+    )
+
+    own : (m : Set) → put m e true e ≡ true
+    own m = ap (λ x. cond x true (m e)) (eq-eqb e e refl)
+
+    back : (m : Set) × IsPerfectOff g f (pair_set (first_end g e) (second_end g e)) m → (m : Set) × IsPerfectOf g f m × (m e ≡ true)
+    back x = (
+      put x.0 e true,
+      record {
+        part = λ c wc t. put_at x.0 true c (λ n h. x.1.part c wc h) t;
+        once = λ v wv t. let a = degree_put g x.0 e true v w in let n = not_in x.0 x.1 in let i = ap (λ k. bit k * ends_of g e v) n in elim (cases_Bool (pair_set (first_end g e) (second_end g e) v)) [
+          | inl o ↦ let b = ends_two v o in let c = x.1.away v wv o in omega arith
+          | inr o ↦ let b = ends_zero v o in let c = x.1.once v wv t o in omega arith
+        ];
+      },
+      own x.0,
+    )
+      where
+        not_in : (m : Set) → IsPerfectOff g f (pair_set (first_end g e) (second_end g e)) m → m e ≡ false
+        not_in m p = false_from_ne_true (m e) (λ t.
+            let a = ends_le_degree g m e (first_end g e) w t in
+            let o = or_left (first_end g e == first_end g e) (second_end g e == first_end g e) (eq-eqb (first_end g e) (first_end g e) refl) in
+            let b = p.away (first_end g e) (is e w).0 o in
+            let c = ends_two (first_end g e) o in omega arith)

@@ -1,0 +1,42 @@
+-- Marks set at the places of further edges, and the tests of a step of two ears.
+use Rattle.std.proofs.Common.{◌≡◌, ℕ, ◌+◌, ◌<◌, Bool, true, false, ◌||◌, ◌==◌, if◌then◌else◌, List, [], ◌∷◌, length, All, Option, Some, None, refl, sym, ap, ◌∙◌, arith, subst}
+use Rattle.std.specs.Prelude.{slice_set}
+use Rattle.std.proofs.Math.Path.{fun_ext}
+use Rattle.counting.specs.Counts.{Within}
+use Rattle.counting.specs.Lists.{mem}
+use Rattle.counting.specs.Sets.{Set}
+use Rattle.graph_core.specs.Graph.{Graph}
+use Rattle.match_core.specs.Rows.{marks}
+use Rattle.allowed_edges.proofs.Marking.{marks-set}
+use Rattle.ear_core.specs.EarLists.{PlainEar, two}
+use Rattle.ear_core.specs.EarTests.{Why, not_path, even_length, bad_ends, inner_on_stage, edge_used, is_path, has_odd_length, has_good_ends, has_new_edges, ear_fault, inner_vertices, no_member}
+use Rattle.ear_core.specs.Refusals.{first_of, step_fault}
+use Rattle.ear_core.specs.Stages.{is_met}
+
+pub first-below : (n e : ℕ) (rest others : List ℕ) → rest ≡ e ∷ others → All (λ d. d < n) rest → e < n
+first-below n e rest others begins all = subst (All (λ d. d < n)) begins all 0 0 (omega arith)
+
+-- one more is marked, and one less is left
+pub marked-more : (items : List Bool) (old every : Set) (e : ℕ) (rest others : List ℕ) → rest ≡ e ∷ others → e < length items → ((i : ℕ) → (marks items i || mem rest i) ≡ (old i || every i)) → (i : ℕ) → (marks (slice_set items e true) i || mem others i) ≡ (old i || every i)
+marked-more items old every e rest others begins below same i =
+    ap (λ b. b || mem others i) (marks-set items e i below) ∙ joined (marks items i) (e == i) (mem others i) ∙ ap (λ es. marks items i || mem es i) (sym begins) ∙ same i
+  where
+    joined : (a b c : Bool) → ((a || b) || c) ≡ (a || (b || c))
+    joined true b c = refl
+    joined false b c = refl
+
+-- the tests look at the members of a list alone
+fault-same : (g : Graph) (f : Set) (xs ys ds : List ℕ) (v : ℕ) (es : List ℕ) → ((w : ℕ) → mem xs w ≡ mem ys w) → ear_fault g f xs ds v es ≡ ear_fault g f ys ds v es
+fault-same g f xs ys ds v es same =
+    ap (λ b. if is_path g v es then (if has_odd_length es then (if has_good_ends g f v es then (if b then (if has_new_edges f ds es then None else Some edge_used) else Some inner_on_stage) else Some bad_ends) else Some even_length) else Some not_path)
+    (ap (λ (m : Set). no_member (λ w. is_met g f w || m w) (inner_vertices g v es)) (fun_ext same))
+
+-- a step of two ears, the first of which passes
+pub pair-fault : (g : Graph) (f : Set) (a b : PlainEar) (inner used : List ℕ) (fault : Option Why) → ear_fault g f [] [] a.begin a.edges ≡ None → ((w : ℕ) → mem inner w ≡ mem (inner_vertices g a.begin a.edges) w) → used ≡ a.edges → ear_fault g f inner used b.begin b.edges ≡ fault → step_fault g f (two a b) ≡ fault
+pair-fault g f a b inner used fault passes same is second =
+    ap (λ x. first_of x (ear_fault g f (inner_vertices g a.begin a.edges) a.edges b.begin b.edges)) passes
+    ∙ sym (fault-same g f inner (inner_vertices g a.begin a.edges) a.edges b.begin b.edges same) ∙ ap (λ ds. ear_fault g f inner ds b.begin b.edges) (sym is) ∙ second
+
+-- edges in range have places in a row of marks
+pub below_marks : (m n : ℕ) (es : List ℕ) → n ≡ m + 1 → All (Within m) es → All (λ e. e < n) es
+below_marks m n es long within k d less = let w = within k d less in omega arith

@@ -1,0 +1,132 @@
+-- The edges of the ears of a step, asked one by one: what an answer of the engine says of an edge, and what is known behind it.
+use Rattle.std.proofs.Common.{◌≡◌, ◌≢◌, ℕ, suc, ◌≤◌, ◌<◌, Bool, true, false, cond, ◌==◌, refl, sym, ap, ap₂, ◌∙◌, arith, ◌&&◌, ◌||◌, not, eqb-true, Some, None, Option, Result, Ok, Err, IfOk, [], ◌∷◌, ◌++◌, List, length, subst, ◌↔◌, inl, inr}
+use Rattle.std.proofs.lemmas.Bool.{or_cases, true≢false}
+use Rattle.counting.specs.Counts.{Within}
+use Rattle.counting.specs.Lists.{mem}
+use Rattle.counting.specs.Sets.{Set, union, complement, pair_set, none}
+use Rattle.graph_core.specs.Graph.{Graph, size, IsGraph, first_end, second_end, with_edge}
+use Rattle.graph_core.specs.Matchings.{HasPerfect}
+use Rattle.ear_core.specs.Stages.{is_met, AllowedBy, with_edges}
+use Rattle.ear_core.specs.StageGraphs.{over, listed, Settled, asked_too}
+use Rattle.ear_core.proofs.EngineGraphs.{served_listed, edge_serves}
+
+-- one marked edge more, or none
+pub listed-more : (g : Graph) (f : Set) (k : ℕ) (stage : Graph) → stage ≡ over g (listed g f k) → f (suc k) ≡ true → with_edge stage (first_end g (suc k)) (second_end g (suc k)) ≡ over g (listed g f (suc k))
+listed-more g f k stage is marked = ap (λ s. with_edge s (first_end g (suc k)) (second_end g (suc k))) is ∙ ap (λ b. over g (cond b (listed g f k ++ (first_end g (suc k), second_end g (suc k)) ∷ []) (listed g f k))) (sym marked)
+
+pub listed-same : (g : Graph) (f : Set) (k : ℕ) (stage : Graph) → stage ≡ over g (listed g f k) → f (suc k) ≡ false → stage ≡ over g (listed g f (suc k))
+listed-same g f k stage is unmarked = is ∙ ap (λ b. over g (cond b (listed g f k ++ (first_end g (suc k), second_end g (suc k)) ∷ []) (listed g f k))) (sym unmarked)
+
+-- sets that agree on the vertices leave the same perfect matchings
+removed-same : (h : Graph) (r x : Set) → ((v : ℕ) → Within h.order v → r v ≡ x v) → HasPerfect h r → HasPerfect h x
+removed-same h r x same m = (m.0, record { once = λ v w o. m.1.once v w (same v w ∙ o); away = λ v w o. m.1.away v w (same v w ∙ o) })
+
+-- the question to the engine
+pub engine-asked : (g : Graph) → IsGraph g → (f r : Set) (e : ℕ) → Within (size g) e → first_end g e ≢ second_end g e → f e ≡ true →
+    ((v : ℕ) → Within g.order v → r v ≡ (not (is_met g f v) || ((first_end g e == v) || (second_end g e == v)))) → HasPerfect (over g (listed g f (size g))) r ↔ AllowedBy g f e
+engine-asked g is f r e within differ marked same =
+    let ends = edge_serves g f e is within differ marked in
+    let asked = served_listed g f (pair_set (first_end g e) (second_end g e)) in
+    let h = over g (listed g f (size g)) in
+    let x = union (complement (is_met g f)) (pair_set (first_end g e) (second_end g e)) in
+    (λ m. ends.1 (asked.1 (removed-same h r x same m)), λ m. removed-same h x r (λ v w. sym (same v w)) (asked.0 (ends.0 m)))
+
+-- the vertices that are left out: those off the stage, and the two ends
+pub removed-is : (g : Graph) (f : Set) (n a b e : ℕ) (full met outside first removed : List ℕ) → n ≡ g.order → ((v : ℕ) → (mem full v ≡ true) ↔ Within n v) → ((v : ℕ) → mem outside v ≡ (mem full v && not (mem met v))) → ((v : ℕ) → mem first v ≡ (mem outside v || a == v)) → ((v : ℕ) → mem removed v ≡ (mem first v || b == v)) →
+    ((v : ℕ) → mem met v ≡ is_met g f v) → a ≡ first_end g e → b ≡ second_end g e → (v : ℕ) → Within g.order v → mem removed v ≡ (not (is_met g f v) || ((first_end g e == v) || (second_end g e == v)))
+removed-is g f n a b e full met outside first removed order is_full is_outside is_first is_removed are_met is_a is_b v within =
+    is_removed v ∙ ap (λ x. x || b == v) (is_first v ∙ ap (λ x. x || a == v) (is_outside v ∙ ap₂ (λ x y. x && not y) ((is_full v).1 (subst (λ k. Within k v) (sym order) within)) (are_met v)))
+    ∙ joined (not (is_met g f v)) (a == v) (b == v) ∙ ap₂ (λ x y. not (is_met g f v) || ((x == v) || (y == v))) is_a is_b
+  where
+    joined : (x y z : Bool) → ((x || y) || z) ≡ (x || (y || z))
+    joined true y z = refl
+    joined false y z = refl
+
+module _ (g : Graph) (is : IsGraph g) (f r : Set) (e : ℕ) (within : Within (size g) e) (differ : first_end g e ≢ second_end g e) (marked : f e ≡ true)
+    (same : (v : ℕ) → Within g.order v → r v ≡ (not (is_met g f v) || ((first_end g e == v) || (second_end g e == v)))) (stage : Graph) (listed_edges : stage ≡ over g (listed g f (size g))) where
+  -- the answers of the engine
+  pub found-allowed : HasPerfect stage r → AllowedBy g f e
+  found-allowed m = (engine-asked g is f r e within differ marked same).0 (subst (λ h. HasPerfect h r) listed_edges m)
+
+  pub none-refused : (HasPerfect stage r → ⊥) → AllowedBy g f e → ⊥
+  none-refused nothing allowed = nothing (subst (λ h. HasPerfect h r) (sym listed_edges) ((engine-asked g is f r e within differ marked same).1 allowed))
+
+-- what is known when one edge more was asked
+pub settled-over : (g : Graph) (f asked : Set) (d e : ℕ) → Settled g f asked (Some d) → d ≤ e → Settled g f (asked_too asked e) (Some d)
+settled-over g f asked d e known low = (
+  known.0,
+  known.1,
+  known.2,
+  λ c w t less. elim (or_cases (asked c) (e == c) t) [
+    | inl i ↦ known.3 c w i less
+    | inr i ↦ let same = eqb-true e c i in absurd (omega arith)
+  ],
+)
+
+pub settled-allowed : (g : Graph) (f asked : Set) (known : Option ℕ) (e : ℕ) → Settled g f asked known → AllowedBy g f e → Settled g f (asked_too asked e) known
+settled-allowed g f asked None e known allowed = λ c w t. elim (or_cases (asked c) (e == c) t) [
+  | inl i ↦ known c w i
+  | inr i ↦ subst (AllowedBy g f) (eqb-true e c i) allowed
+]
+settled-allowed g f asked (Some d) e known allowed = (
+  known.0,
+  known.1,
+  known.2,
+  λ c w t less. elim (or_cases (asked c) (e == c) t) [
+    | inl i ↦ known.3 c w i less
+    | inr i ↦ subst (AllowedBy g f) (eqb-true e c i) allowed
+  ],
+)
+
+-- below what is known
+abbrev pub Below : ℕ → Option ℕ → Type 0
+Below e None = Unit {0}
+Below e (Some d) = e < d
+
+pub settled-refused : (g : Graph) (f asked : Set) (known : Option ℕ) (e : ℕ) → Settled g f asked known → Below e known → Within (size g) e → f e ≡ true → (AllowedBy g f e → ⊥) → Settled g f (asked_too asked e) (Some e)
+settled-refused g f asked None e known below within marked refused = (
+  within,
+  marked,
+  refused,
+  λ c w t less. elim (or_cases (asked c) (e == c) t) [
+    | inl i ↦ known c w i
+    | inr i ↦ let same = eqb-true e c i in absurd (omega arith)
+  ],
+)
+settled-refused g f asked (Some d) e known below within marked refused = (
+  within,
+  marked,
+  refused,
+  λ c w t less. elim (or_cases (asked c) (e == c) t) [
+    | inl i ↦ known.3 c w i (omega arith)
+    | inr i ↦ let same = eqb-true e c i in absurd (omega arith)
+  ],
+)
+
+-- the same edges asked
+pub settled-same : (g : Graph) (f asked others : Set) (known : Option ℕ) → ((e : ℕ) → others e ≡ asked e) → Settled g f asked known → Settled g f others known
+settled-same g f asked others None same known = λ e w t. known e w (sym (same e) ∙ t)
+settled-same g f asked others (Some d) same known = (known.0, known.1, known.2, λ e w t less. known.3 e w (sym (same e) ∙ t) less)
+
+pub asked-edges : (asked : Set) (e : ℕ) (rest others : List ℕ) → rest ≡ e ∷ others → (w : ℕ) → with_edges asked rest w ≡ with_edges (asked_too asked e) others w
+asked-edges asked e rest others begins w = ap (λ es. asked w || mem es w) begins ∙ joined (asked w) (e == w) (mem others w)
+  where
+    joined : (a b c : Bool) → (a || (b || c)) ≡ ((a || b) || c)
+    joined true b c = refl
+    joined false b c = refl
+
+pub asked-none : (asked : Set) (rest : List ℕ) → length rest ≡ 0 → (w : ℕ) → with_edges asked rest w ≡ asked w
+asked-none asked [] none w = no (asked w)
+  where
+    no : (a : Bool) → (a || false) ≡ a
+    no true = refl
+    no false = refl
+asked-none asked (e ∷ rest) none w = absurd (omega arith)
+
+pub settled-result : {Fault : Type 0} (g : Graph) (f asked others : Set) (result : Result (Option ℕ) Fault) → ((e : ℕ) → others e ≡ asked e) → IfOk result (Settled g f asked) → IfOk result (Settled g f others)
+settled-result g f asked others (Ok known) same is = settled-same g f asked others known same is
+settled-result g f asked others (Err fault) same is = is
+
+-- nothing is asked yet
+pub settled-none : (g : Graph) (f : Set) → Settled g f none None
+settled-none g f = λ e w t. absurd (true≢false (sym t))

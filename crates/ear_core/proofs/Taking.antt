@@ -1,0 +1,73 @@
+-- A step whose tests pass and whose edges are all allowed makes a stage; the least of its edges that is not allowed is that of the stage.
+use Rattle.std.proofs.Common.{◌≡◌, ℕ, suc, zero, ◌<◌, true, false, ◌==◌, List, [], ◌∷◌, length, All, get_or, Option, Some, None, IfSome, refl, ◌∙◌, arith, subst, inl, inr, eq-eqb}
+use Rattle.std.proofs.Math.Path.{fun_ext}
+use Rattle.std.proofs.lemmas.Bool.{cases_Bool, or_left, or_right, or_parts, or_from, both_ways, false_from_ne_true}
+use Rattle.counting.specs.Counts.{Within}
+use Rattle.counting.specs.Lists.{mem}
+use Rattle.counting.specs.Sets.{Set, none}
+use Rattle.graph_core.specs.Graph.{Graph, size, IsGraph}
+use Rattle.ear_core.specs.EarLists.{PlainStep, one, two, next_stage, FitsStep}
+use Rattle.ear_core.specs.NearlyStages.{odds}
+use Rattle.ear_core.specs.Refusals.{step_fault, IsLeastUnallowed}
+use Rattle.ear_core.specs.StageGraphs.{Settled}
+use Rattle.ear_core.specs.Stages.{IsStage, AllowedBy, with_edges}
+use Rattle.ear_core.specs.View.{ear_of, plain_step}
+use Rattle.ear_core.specs.declared.ears.Ear.{Ear}
+use Rattle.ear_core.proofs.Growth.{mem_odds}
+use Rattle.ear_core.proofs.Refusing.{step-none, step_odds, step-nearly, fine-stage}
+
+mem_at : (es : List ℕ) (k d : ℕ) → k < length es → mem es (get_or es k d) ≡ true
+mem_at [] k d less = absurd (omega arith)
+mem_at (e ∷ es) zero d less = or_left (e == e) (mem es e) (eq-eqb e e refl)
+mem_at (e ∷ es) (suc k) d less = or_right (e == get_or es k d) (mem es (get_or es k d)) (mem_at es k d (omega arith))
+
+all-marked : (new : Set) (es : List ℕ) → ((i : ℕ) → mem es i ≡ true → new i ≡ true) → All (λ e. new e ≡ true) es
+all-marked new es h k d less = h (get_or es k d) (mem_at es k d less)
+
+-- the edges of a step that was marked
+pub first_marked : (old new : Set) (first : Ear) (second : Option Ear) → ((i : ℕ) → new i ≡ next_stage old (plain_step (ear_of first) second) i) → All (λ e. new e ≡ true) first.edges
+first_marked old new first None same = all-marked new first.edges (λ i m. same i ∙ or_right (old i) (mem first.edges i) m)
+first_marked old new first (Some b) same = all-marked new first.edges (λ i m. same i ∙ or_left (with_edges old first.edges i) (mem b.edges i) (or_right (old i) (mem first.edges i) m))
+
+pub second_marked : (old new : Set) (first : Ear) (second : Option Ear) → ((i : ℕ) → new i ≡ next_stage old (plain_step (ear_of first) second) i) → IfSome second (λ b. All (λ e. new e ≡ true) b.edges)
+second_marked old new first None same = tt
+second_marked old new first (Some b) same = all-marked new b.edges (λ i m. same i ∙ or_right (with_edges old first.edges i) (mem b.edges i) m)
+
+-- the edges of a step in range
+pub first_fits : (n m : ℕ) (first : Ear) (second : Option Ear) → FitsStep n m (plain_step (ear_of first) second) → All (Within m) first.edges
+first_fits n m first None fits = fits.1
+first_fits n m first (Some b) fits = let one_fits = fits.0 in one_fits.1
+
+pub second_fits : (n m : ℕ) (first : Ear) (second : Option Ear) → FitsStep n m (plain_step (ear_of first) second) → IfSome second (λ b. All (Within m) b.edges)
+second_fits n m first None fits = tt
+second_fits n m first (Some b) fits = let other_fits = fits.1 in other_fits.1
+
+-- an edge of no ear is no odd one
+odds-asked : (s : PlainStep) (d : ℕ) → next_stage none s d ≡ false → step_odds s d ≡ false
+odds-asked (one a) d h = false_from_ne_true (mem (odds a.edges) d) (λ t. both_ways (mem a.edges d) h (mem_odds a.edges d t))
+odds-asked (two a b) d h =
+    let p = or_parts (mem a.edges d) (mem b.edges d) h in
+    or_from (mem (odds a.edges) d) (mem (odds b.edges) d) (false_from_ne_true (mem (odds a.edges) d) (λ t. both_ways (mem a.edges d) p.0 (mem_odds a.edges d t)))
+    (false_from_ne_true (mem (odds b.edges) d) (λ t. both_ways (mem b.edges d) p.1 (mem_odds b.edges d t)))
+
+module _ (g : Graph) (is : IsGraph g) (f : Set) (s : PlainStep) (new : Set) (same : (i : ℕ) → new i ≡ next_stage f s i) (stage : IsStage g f) (passes : step_fault g f s ≡ None) where
+  edge-fine : (d : ℕ) → Within (size g) d → next_stage f s d ≡ true → (next_stage none s d ≡ true → AllowedBy g (next_stage f s) d) → AllowedBy g (next_stage f s) d
+  edge-fine d w t asked =
+      let near = step-nearly g is f s stage (step-none g f s passes) in
+      elim (cases_Bool (next_stage none s d)) [
+        | inl a ↦ asked a
+        | inr a ↦ near.allowed d w t (odds-asked s d a)
+      ]
+
+  known : (least : Option ℕ) → Settled g new (next_stage none s) least → Settled g (next_stage f s) (next_stage none s) least
+  known least settled = subst (λ (h : Set). Settled g h (next_stage none s) least) (fun_ext same) settled
+
+  pub step-taken : Settled g new (next_stage none s) None → IsStage g (next_stage f s)
+  step-taken settled =
+      let fine = known None settled in
+      fine-stage g (next_stage f s) (step_odds s) (step-nearly g is f s stage (step-none g f s passes)) (λ d w t. edge-fine d w t (λ a. fine d w a))
+
+  pub step-refused : (e : ℕ) → Settled g new (next_stage none s) (Some e) → IsLeastUnallowed g (next_stage f s) e
+  step-refused e settled =
+      let fine = known (Some e) settled in
+      record { within = fine.0; without = λ p. fine.2 (p fine.1); before = λ d w less t. edge-fine d w t (λ a. fine.3 d w a less) }

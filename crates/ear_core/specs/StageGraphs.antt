@@ -1,0 +1,26 @@
+-- The graph that the engine is asked about: the vertices of g with the edges of a stage alone, which get numbers of their own in the
+-- order of those in g.
+use Rattle.std.specs.Prelude.{◌≡◌, ◌<◌, ℕ, zero, suc, true, List, [], ◌∷◌, ◌++◌, ◌||◌, ◌==◌, cond, Option, Some, None}
+use Rattle.counting.specs.Counts.{Within}
+use Rattle.counting.specs.Sets.{Set}
+use Rattle.graph_core.specs.Graph.{Graph, size, first_end, second_end}
+use Rattle.ear_core.specs.Stages.{AllowedBy}
+
+-- the vertices of g with other edges
+abbrev pub over : Graph → List (ℕ × ℕ) → Graph
+over g xs = record { order = g.order; ends = xs }
+
+-- the ends of the edges of f among the first k
+abbrev pub listed : Graph → Set → ℕ → List (ℕ × ℕ)
+listed g f zero = []
+listed g f (suc k) = cond (f (suc k)) (listed g f k ++ (first_end g (suc k), second_end g (suc k)) ∷ []) (listed g f k)
+
+-- of the edges of `asked` none below the least known one lies in no perfect matching of the graph of f; that one does
+abbrev pub Settled : Graph → Set → Set → Option ℕ → Type 0
+Settled g f asked None = (e : ℕ) → Within (size g) e → asked e ≡ true → AllowedBy g f e
+Settled g f asked (Some d) =
+    Within (size g) d × (f d ≡ true) × (AllowedBy g f d → ⊥) × ((e : ℕ) → Within (size g) e → asked e ≡ true → e < d → AllowedBy g f e)
+
+-- e as well
+abbrev pub asked_too : Set → ℕ → Set
+asked_too asked e w = asked w || (e == w)

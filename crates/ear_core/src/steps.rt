@@ -1,0 +1,122 @@
+//! A step of an ear list, taken on the row of marks of a stage.
+ghost use Rattle.std.specs.Prelude.{◌≡◌, ◌+◌, ◌<◌, ◌||◌, ℕ, true, false, length, All, Some, None, IfOk, IfSome, IfNone};
+ghost use Rattle.counting.specs.Counts.{Within};
+ghost use Rattle.counting.specs.Lists.{mem};
+ghost use Rattle.counting.specs.Sets.{none};
+ghost use Rattle.graph_core.specs.Graph.{size};
+ghost use Rattle.match_core.specs.Rows.{marks};
+ghost use Rattle.ear_core.specs.EarLists.{FitsStep, next_stage, IsStep};
+ghost use Rattle.ear_core.specs.Refusals.{step_fault, IsStepRefused};
+ghost use Rattle.ear_core.specs.StageGraphs.{Settled};
+ghost use Rattle.ear_core.specs.Stages.{IsStage};
+ghost use Rattle.ear_core.specs.View.{step_of, why_of};
+
+use crate::ears::Step;
+use crate::faults::{met_by, tested};
+use crate::judgement::EarWhy;
+use crate::stages::least_refused;
+use graph_core::MultiGraph;
+use std::alloc::{AllocError as Memory, Global};
+use vset_core::VSet;
+
+// The first test that a step fails on the stage of the marked edges.
+fn fault_of(g: &MultiGraph, mark: &[bool], step: &Step) -> Option<EarWhy>
+    requires long { length mark.now ≡ size g.now + 1 }
+    requires fits { FitsStep g.now.order (size g.now) (step_of step.now) }
+    ensures some { IfSome result (λ why. step_fault g.now (marks mark.now) (step_of step.now) ≡ Some (why_of why)) }
+    ensures none { IfNone result (step_fault g.now (marks mark.now) (step_of step.now) ≡ None) }
+{
+    let met = met_by(g, mark);
+    let first = match tested(g, mark, met, VSet::empty(), &[], &step.first) {
+        Ok(path) => path,
+        Err(why) => return Some(why),
+    };
+    match &step.second {
+        None => None,
+        Some(second) => {
+            let used = step.first.edges.as_slice();
+            match tested(g, mark, met, first.inner, used, second) {
+                Ok(_) => None,
+                Err(why) => Some(why),
+            }
+        }
+    }
+}
+
+// Marks further edges.
+fn mark_edges(mark: &mut Vec<bool>, edges: &[u32])
+    requires { All (λ e. e < length mark.old.items) edges.now }
+    ensures length { length mark.new.items ≡ length mark.old.items }
+    ensures each { (i : ℕ) → marks mark.new.items i ≡ (marks mark.old.items i || mem edges.now i) }
+{
+    let mut rest = edges;
+    'edges: while let Some((e, others)) = rest.split_first() {
+        mark[*e as usize] = true;
+        rest = others;
+    }
+}
+
+// Marks the edges of a step.
+#[tactic(auto, using(crate::proofs::Marking::below_marks))]
+fn mark_step(mark: &mut Vec<bool>, size: u32, step: &Step)
+    requires long { length mark.old.items ≡ size + 1 }
+    requires first { All (Within size) step.now.first.edges }
+    requires second { IfSome step.now.second (λ ear. All (Within size) ear.edges) }
+    ensures length { length mark.new.items ≡ length mark.old.items }
+    ensures each { (i : ℕ) → marks mark.new.items i ≡ next_stage (marks mark.old.items) (step_of step.now) i }
+{
+    mark_edges(mark, step.first.edges.as_slice());
+    if let Some(second) = &step.second {
+        mark_edges(mark, second.edges.as_slice());
+    }
+}
+
+// The least edge of a step in no perfect matching of the stage of the marked edges.
+fn refused_edge(
+    alloc: Global,
+    g: &MultiGraph,
+    mark: &[bool],
+    step: &Step,
+) -> Result<Option<u32>, Memory>
+    requires long { length mark.now ≡ size g.now + 1 }
+    requires first { All (Within (size g.now)) step.now.first.edges }
+    requires second { IfSome step.now.second (λ ear. All (Within (size g.now)) ear.edges) }
+    requires marked_first { All (λ e. marks mark.now e ≡ true) step.now.first.edges }
+    requires marked_second { IfSome step.now.second (λ ear. All (λ e. marks mark.now e ≡ true) ear.edges) }
+    ensures { IfOk result (Settled g.now (marks mark.now) (next_stage none (step_of step.now))) }
+{
+    let met = met_by(g, mark);
+    let least = least_refused(alloc, g, mark, met, None, step.first.edges.as_slice())?;
+    match &step.second {
+        None => Ok(least),
+        Some(second) => least_refused(alloc, g, mark, met, least, second.edges.as_slice()),
+    }
+}
+
+/// Takes a step on the stage of the marked edges: then its edges are marked too, or it is refused, with the reason.
+#[tactic(auto, using(crate::proofs::Taking::first_fits, crate::proofs::Taking::second_fits, crate::proofs::Taking::first_marked, crate::proofs::Taking::second_marked))]
+pub fn take_step(
+    alloc: Global,
+    g: &MultiGraph,
+    mark: &mut Vec<bool>,
+    step: &Step,
+) -> Result<Option<EarWhy>, Memory>
+    requires long { length mark.old.items ≡ size g.now + 1 }
+    requires fits { FitsStep g.now.order (size g.now) (step_of step.now) }
+    requires stage { IsStage g.now (marks mark.old.items) }
+    ensures length { length mark.new.items ≡ length mark.old.items }
+    ensures refused { IfOk result (λ o. IfSome o (λ why. IsStepRefused g.now (marks mark.old.items) (step_of step.now) (why_of why))) }
+    ensures passes { IfOk result (λ o. IfNone o (step_fault g.now (marks mark.old.items) (step_of step.now) ≡ None)) }
+    ensures stage { IfOk result (λ o. IfNone o (IsStage g.now (next_stage (marks mark.old.items) (step_of step.now)))) }
+    ensures next { IfOk result (λ o. IfNone o ((i : ℕ) → marks mark.new.items i ≡ next_stage (marks mark.old.items) (step_of step.now) i)) }
+{
+    g.keeps_limits();
+    if let Some(why) = fault_of(g, mark, step) {
+        return Ok(Some(why));
+    }
+    mark_step(mark, g.size(), step);
+    match refused_edge(alloc, g, mark, step)? {
+        Some(edge) => Ok(Some(EarWhy::StageNotCovered { edge })),
+        None => Ok(None),
+    }
+}
