@@ -294,6 +294,7 @@ fn candidates_exactly_where_a_set_is_tight(rt: HostRuntime) -> Result<(), Fail> 
     for (order, edges) in cases {
         assert!(rt; order <= MOST_VERTICES);
         let graph = made(rt.alloc(), order, edges)?;
+        assert!(rt; is_small(&graph));
         let all = VSet::full(order);
         let mut tight = false;
         for bits in 0..256 {
