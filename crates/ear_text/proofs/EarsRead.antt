@@ -1,18 +1,19 @@
 -- What is read of a text can be written again. Along the lines of a text the numbers of the ears read so far are in range and no
 -- ear is empty: each line keeps this, since it passed the tests of the table.
-use Rattle.std.proofs.Common.{◌≡◌, ◌<◌, ◌==◌, ◌||◌, ◌&&◌, ◌++◌, codes, not, nat_le, if◌then◌else◌, ℕ, List, [], ◌∷◌, All, Bool, length, map, true, false, Option, Some, None, is_some, Result, Ok, Err, IfOk, refl, sym, ◌∙◌, ap, subst, arith}
+use Rattle.std.proofs.Common.{◌≡◌, ◌<◌, ◌==◌, ◌||◌, ◌&&◌, ◌++◌, codes, not, nat_le, if◌then◌else◌, ℕ, List, [], ◌∷◌, Bool, length, map, true, false, Option, Some, None, is_some, Result, Ok, Err, IfOk, refl, sym, ◌∙◌, ap, subst, arith}
 use Rattle.std.specs.List.{AllByRecursion, list_all, list_any}
 use Rattle.std.proofs.lemmas.Bool.{and_parts, or_parts, both_ways}
-use Rattle.std.proofs.lemmas.Bool.Decides.{nat_tests}
-use Rattle.std.proofs.lemmas.List.Elements.{All-nil, All-cons}
 use Rattle.counting.specs.Counts.{Within}
-use Rattle.line_text.specs.Format.{Begins, Stands, checked, finish}
+use Rattle.line_text.specs.Format.{Begins, Stands, finish}
 use Rattle.line_text.specs.Words.{has_form, word_at}
 use Rattle.line_text.specs.Numerals.{is_number, value_of}
+use Rattle.line_text.proofs.Tables.{all_passed, holds, no_value, value_or}
+use Rattle.text_faults.proofs.InRange.{all-in_range, in_range}
 use Rattle.graph_core.specs.declared.faults.FaultKind.{FaultKind}
 use Rattle.graph_core.specs.declared.faults.FaultKind.TheVariants as kind
 use Rattle.ear_core.specs.EarLists.{PlainEar, PlainStep, one, two, PlainEars, FitsEar, FitsStep, FitsEars}
-use Rattle.ear_text.specs.EarFormat.{EarsSoFar, headed, started, ear_format, ear_line, line_behind, ears_end, behind_two, is_out_of_range, is_ear_line, is_with_line, ear_at, closed, paired}
+use Rattle.text_faults.specs.Ranges.{is_out_of_range}
+use Rattle.ear_text.specs.EarFormat.{EarsSoFar, headed, started, ear_format, ear_line, line_behind, ears_end, behind_two, is_ear_line, is_with_line, ear_at, closed, paired}
 use Rattle.ear_text.specs.Writing.{HasEdges}
 
 -- the numbers of an ear are in range, and it is not empty
@@ -47,47 +48,11 @@ keeps-paired : (n m : ℕ) (steps : List PlainStep) (last : Option PlainEar) (b 
 keeps-paired n m steps None b keeps kept ear = keeps
 keeps-paired n m steps (Some a) b keeps kept ear = keeps-one_more n m steps (two a b) keeps (kept.0, ear.0) (kept.1, ear.1)
 
--- the value of a table none of whose tests applies
-abbrev value_or : {A Kind : Type 0} → A → Result A Kind → A
-value_or d (Ok value) = value
-value_or d (Err kind) = d
-
-abbrev is_ok : {A Kind : Type 0} → Result A Kind → Bool
-is_ok (Ok value) = true
-is_ok (Err kind) = false
-
-no_value : {A Kind : Type 0} (r : Result A Kind) (value : A) → is_ok r ≡ false → r ≡ Ok value → ⊥
-no_value r value is same = both_ways (is_ok r) is (ap is_ok same)
-
-passed : {A Kind : Type 0} (tests : List (Bool × Kind)) (a b : A) → checked tests a ≡ Ok b → AllByRecursion (λ test. test.0 ≡ false) tests × (a ≡ b)
-passed [] a b same = (tt, ap (value_or a) same)
-passed (test ∷ tests) a b same = go test.0 refl (passed tests a b)
-  where
-    go : (applies : Bool) → test.0 ≡ applies → (checked tests a ≡ Ok b → AllByRecursion (λ t. t.0 ≡ false) tests × (a ≡ b)) → AllByRecursion (λ t. t.0 ≡ false) (test ∷ tests) × (a ≡ b)
-    go true is further = absurd (no_value _ b refl (sym (ap (λ c. if c then Err test.1 else checked tests a) is) ∙ same))
-    go false is further =
-        let rest = further (sym (ap (λ c. if c then Err test.1 else checked tests a) is) ∙ same) in
-        ((is, rest.0), rest.1)
-
--- numbers that pass the test of the range
-within-read : (n v : ℕ) → is_out_of_range n v ≡ false → Within n v
-within-read n v is = (grind (arith, nat_tests), grind (arith, nat_tests))
-
-all-within : (n : ℕ) (vs : List ℕ) → list_any (is_out_of_range n) vs ≡ false → All (Within n) vs
-all-within n [] is = All-nil (Within n)
-all-within n (v ∷ vs) is =
-    let parts = or_parts (is_out_of_range n v) (list_any (is_out_of_range n) vs) is in
-    All-cons (Within n) v vs (within-read n v parts.0) (all-within n vs parts.1)
-
 three_words : (words : List (List ℕ)) → nat_le 3 (length words) ≡ true → 0 < length (map value_of (behind_two words))
 three_words [] is = absurd (both_ways (nat_le 3 0) refl is)
 three_words (word ∷ []) is = absurd (both_ways (nat_le 3 1) refl is)
 three_words (word ∷ next ∷ []) is = absurd (both_ways (nat_le 3 2) refl is)
 three_words (word ∷ next ∷ more ∷ words) is = omega arith
-
-holds : (b : Bool) → not b ≡ false → b ≡ true
-holds true is = refl
-holds false is = sym is
 
 -- the line of an ear keeps what is said
 abbrev line_tests : ℕ → ℕ → Option PlainEar → List (List ℕ) → List (Bool × FaultKind)
@@ -102,11 +67,11 @@ line_read start steps last words = if is_ear_line words then started start (clos
 
 ear_line-keeps : (n m start : ℕ) (steps : List PlainStep) (last : Option PlainEar) (words : List (List ℕ)) (next : EarsSoFar) → Keeps n m (started start steps last) → ear_line n m start steps last words ≡ Ok next → Keeps n m next
 ear_line-keeps n m start steps last words next keeps same =
-    let through = passed (line_tests n m last words) (line_read start steps last words) next same in
+    let through = all_passed (line_tests n m last words) (line_read start steps last words) next same in
     let tests = through.0 in
     let range = or_parts (is_out_of_range n (value_of (word_at words 1))) (list_any (is_out_of_range m) (map value_of (behind_two words))) tests.1.1.0 in
     subst (Keeps n m) through.1 (go (is_ear_line words) refl keeps.0 keeps.1 keeps.2 (holds (is_ear_line words || (is_some last && is_with_line words)) tests.0)
-    (within-read n (value_of (word_at words 1)) range.0, all-within m (map value_of (behind_two words)) range.1))
+    (in_range n (value_of (word_at words 1)) range.0, all-in_range m (map value_of (behind_two words)) range.1))
   where
     go : (first : Bool) → is_ear_line words ≡ first → Within m start → KeepsSteps n m steps → KeepsLast n m last → (is_ear_line words || (is_some last && is_with_line words)) ≡ true → FitsEar n m (ear_at words) → Keeps n m (line_read start steps last words)
     go true is begins kept ear known fits =
@@ -129,9 +94,9 @@ start_tests m words =
 
 line-keeps : (n m : ℕ) (body : EarsSoFar) (words : List (List ℕ)) (next : EarsSoFar) → Keeps n m body → line_behind n m body words ≡ Ok next → Keeps n m next
 line-keeps n m headed words next keeps same =
-    let through = passed (start_tests m words) (started (value_of (word_at words 1)) [] None) next same in
+    let through = all_passed (start_tests m words) (started (value_of (word_at words 1)) [] None) next same in
     let tests = through.0 in
-    subst (Keeps n m) through.1 (within-read m (value_of (word_at words 1)) tests.1.1.0, (tt, tt), tt)
+    subst (Keeps n m) through.1 (in_range m (value_of (word_at words 1)) tests.1.1.0, (tt, tt), tt)
 line-keeps n m (started start steps last) words next keeps same = ear_line-keeps n m start steps last words next keeps same
 
 -- what is said of the state that the lines lead to
@@ -154,7 +119,7 @@ header_tests n m words =
 all-keep : (n m : ℕ) (lines : List (List (List ℕ))) (reached : Option EarsSoFar) → Begins (ear_format n m) None lines reached → KeepsReached n m reached
 all-keep n m [] reached begins = subst (KeepsReached n m) (sym begins) tt
 all-keep n m (words ∷ lines) reached begins =
-    let through = passed (header_tests n m words) headed begins.0 begins.1 in
+    let through = all_passed (header_tests n m words) headed begins.0 begins.1 in
     lines-keep n m begins.0 lines reached (subst (Keeps n m) through.1 tt) begins.2
 
 -- the list at the end
@@ -162,13 +127,13 @@ abbrev pub KeepsList : ℕ → ℕ → PlainEars → Type 0
 KeepsList n m list = FitsEars n m list × AllByRecursion HasEdges list.steps
 
 end-keeps : (n m : ℕ) (body : EarsSoFar) (list : PlainEars) → Keeps n m body → ears_end body ≡ Ok list → KeepsList n m list
-end-keeps n m headed list keeps ends = absurd (no_value _ list refl ends)
+end-keeps n m headed list keeps ends = absurd (no_value _ list ends)
 end-keeps n m (started start steps last) list keeps ends =
     let all = keeps-closed n m steps last keeps.1 keeps.2 in
     subst (KeepsList n m) (ap (value_or (record { start = start; steps = closed steps last })) ends) (record { start = keeps.0; steps = all.0 }, all.1)
 
 reached-keeps : (n m : ℕ) (reached : Option EarsSoFar) (list : PlainEars) → KeepsReached n m reached → finish (ear_format n m) reached ≡ Ok list → KeepsList n m list
-reached-keeps n m None list keeps ends = absurd (no_value _ list refl ends)
+reached-keeps n m None list keeps ends = absurd (no_value _ list ends)
 reached-keeps n m (Some body) list keeps ends = end-keeps n m body list keeps ends
 
 -- the list that a text stands for

@@ -1,20 +1,20 @@
 -- What is written of an ear list is read as this list. Line by line the tests of the table pass, since the numbers are in range and
 -- no ear is empty; the ear that stands apart goes to the steps with the next line, or at the end.
-use Rattle.std.proofs.Common.{◌≡◌, ◌<◌, ◌==◌, ◌||◌, ◌&&◌, ◌^◌, ◌++◌, codes, nat_le, ℕ, suc, List, [], ◌∷◌, All, Bool, length, map, true, false, Option, Some, None, Ok, inl, inr, refl, sym, ◌∙◌, ap, ap₂, subst, arith, append_assoc}
-use Rattle.std.specs.List.{AllByRecursion, list_all, list_any}
+use Rattle.std.proofs.Common.{◌≡◌, ◌<◌, ◌==◌, ◌&&◌, ◌^◌, ◌++◌, codes, nat_le, ℕ, List, [], ◌∷◌, All, Bool, length, map, true, false, Option, Some, None, Ok, inl, inr, refl, sym, ◌∙◌, ap, subst, arith, append_assoc}
+use Rattle.std.specs.List.{AllByRecursion, list_all}
 use Rattle.std.specs.Fmt.{decimal}
 use Rattle.std.proofs.lemmas.List.{length-map, append-nil}
-use Rattle.std.proofs.lemmas.Bool.{and_from}
 use Rattle.std.proofs.lemmas.Bool.Decides.{nat_tests}
 use Rattle.counting.specs.Counts.{Within}
 use Rattle.line_text.specs.Format.{Begins, Stands, StandsAlone}
-use Rattle.line_text.specs.Words.{has_form, AreWords, IsSignificant}
+use Rattle.line_text.specs.Words.{has_form, IsSignificant}
 use Rattle.line_text.specs.Numerals.{is_number, value_of}
-use Rattle.line_text.proofs.Decimals.{number_of-decimal, is_word-decimal}
+use Rattle.line_text.proofs.Decimals.{number_of-decimal, is_word-decimal, value-decimal, number-decimal, values-decimal, numbers-decimal, words-decimal}
+use Rattle.text_faults.proofs.InRange.{in_range-test, in_range-tests}
 use Rattle.line_text.proofs.ExactlyOne.{exactly_one}
 use Rattle.line_text.proofs.ReadBack.{Stands-written}
 use Rattle.ear_core.specs.EarLists.{PlainEar, PlainStep, one, two, PlainEars, FitsEar, FitsStep}
-use Rattle.ear_text.specs.EarFormat.{EarsSoFar, headed, started, ear_format, is_out_of_range, is_ear_line, is_with_line, closed, ears_end}
+use Rattle.ear_text.specs.EarFormat.{EarsSoFar, headed, started, ear_format, is_ear_line, is_with_line, closed, ears_end}
 use Rattle.ear_text.specs.Writing.{header_words, start_words, ear_words, step_words, ears_text, HasEdges, IsWritable}
 
 -- the header line
@@ -22,42 +22,16 @@ header-taken : (n m : ℕ) → n < 10 ^ 9 → m < 10 ^ 9 → (ear_format n m).he
 unfolding has_form
 header-taken n m order size = rw (number_of-decimal n order, number_of-decimal m size) (grind (arith, nat_tests))
 
--- a number in range, and its word
-value-decimal : (v : ℕ) → v < 10 ^ 9 → value_of (decimal v) ≡ v
-value-decimal v less = rw (number_of-decimal v less) refl
-
-number-decimal : (v : ℕ) → v < 10 ^ 9 → is_number (decimal v) ≡ true
-number-decimal v less = rw (number_of-decimal v less) refl
-
-within-test : (n v : ℕ) → Within n v → is_out_of_range n v ≡ false
-within-test n v within = let low = within.0 in let high = within.1 in grind (arith, nat_tests)
-
 -- the line of the first stage
 start-taken : (n m e : ℕ) → m < 10 ^ 9 → Within m e → (ear_format n m).line headed (start_words e) ≡ Ok (started e [] None)
 unfolding has_form
 start-taken n m e size within =
     let high = within.1 in
-    rw (number_of-decimal e (omega arith), within-test m e within) (grind (arith, nat_tests))
+    rw (number_of-decimal e (omega arith), in_range-test m e within) (grind (arith, nat_tests))
 
 -- numbers in range, and their words
 below : (m : ℕ) (x : List ℕ) → m < 10 ^ 9 → All (Within m) x → All (λ v. v < 10 ^ 9) x
 below m x size within k d less = let in_order = within k d less in omega arith
-
-values-decimal : (x : List ℕ) → All (λ v. v < 10 ^ 9) x → map value_of (map decimal x) ≡ x
-values-decimal [] small = refl
-values-decimal (v ∷ x) small = ap₂ ◌∷◌ (value-decimal v (small 0 0 (omega arith))) (values-decimal x (λ k d less. small (suc k) d (omega arith)))
-
-numbers-decimal : (x : List ℕ) → All (λ v. v < 10 ^ 9) x → list_all is_number (map decimal x) ≡ true
-numbers-decimal [] small = refl
-numbers-decimal (v ∷ x) small = and_from (is_number (decimal v)) (list_all is_number (map decimal x)) (number-decimal v (small 0 0 (omega arith))) (numbers-decimal x (λ k d less. small (suc k) d (omega arith)))
-
-within-tests : (n : ℕ) (x : List ℕ) → All (Within n) x → list_any (is_out_of_range n) x ≡ false
-within-tests n [] within = refl
-within-tests n (v ∷ x) within = ap₂ (λ a b. a || b) (within-test n v (within 0 0 (omega arith))) (within-tests n x (λ k d less. within (suc k) d (omega arith)))
-
-words-decimal : (x : List ℕ) → All (λ v. v < 10 ^ 9) x → AreWords (map decimal x)
-words-decimal [] small = tt
-words-decimal (v ∷ x) small = (is_word-decimal v (small 0 0 (omega arith)), words-decimal x (λ k d less. small (suc k) d (omega arith)))
 
 -- which line it is
 is-ear : (word : List ℕ) (words : List (List ℕ)) → 0 < length words → is_ear_line (codes "ear" ∷ word ∷ words) ≡ true
@@ -92,7 +66,7 @@ ear-taken n m start steps last a order size fits some =
     edges = below m a.edges size fits.1
 
     taken : (words : List (List ℕ)) → is_ear_line (codes "ear" ∷ decimal a.begin ∷ words) ≡ true → value_of (decimal a.begin) ≡ a.begin → is_number (decimal a.begin) ≡ true → map value_of words ≡ a.edges → list_all is_number words ≡ true → (ear_format n m).line (started start steps last) (codes "ear" ∷ decimal a.begin ∷ words) ≡ Ok (started start (closed steps last) (Some a))
-    taken words is value number values numbers = rw (is, value, number, values, numbers, within-test n a.begin fits.0, within-tests m a.edges fits.1) refl
+    taken words is value number values numbers = rw (is, value, number, values, numbers, in_range-test n a.begin fits.0, in_range-tests m a.edges fits.1) refl
 
 -- the line of the second ear
 with-taken : (n m start : ℕ) (steps : List PlainStep) (a b : PlainEar) → n < 10 ^ 9 → m < 10 ^ 9 → FitsEar n m b → 0 < length b.edges → (ear_format n m).line (started start steps (Some a)) (ear_words (codes "with") b) ≡ Ok (started start (steps ++ two a b ∷ []) None)
@@ -106,7 +80,7 @@ with-taken n m start steps a b order size fits some =
     edges = below m b.edges size fits.1
 
     taken : (words : List (List ℕ)) → is_ear_line (codes "with" ∷ decimal b.begin ∷ words) ≡ false → is_with_line (codes "with" ∷ decimal b.begin ∷ words) ≡ true → value_of (decimal b.begin) ≡ b.begin → is_number (decimal b.begin) ≡ true → map value_of words ≡ b.edges → list_all is_number words ≡ true → (ear_format n m).line (started start steps (Some a)) (codes "with" ∷ decimal b.begin ∷ words) ≡ Ok (started start (steps ++ two a b ∷ []) None)
-    taken words other is value number values numbers = rw (other, is, value, number, values, numbers, within-test n b.begin fits.0, within-tests m b.edges fits.1) refl
+    taken words other is value number values numbers = rw (other, is, value, number, values, numbers, in_range-test n b.begin fits.0, in_range-tests m b.edges fits.1) refl
 
 -- what the lines of steps lead to
 abbrev after : ℕ → List PlainStep → Option PlainEar → List PlainStep → EarsSoFar

@@ -1,25 +1,11 @@
--- The text of a list of lines is that of the first and then that of the others, and a line is its first word and each further
--- word behind a space.
+-- The lines of an ear, of a step and of a list of ears.
 use Rattle.std.proofs.Common.{◌≡◌, ℕ, List, [], ◌∷◌, ◌++◌, codes, length, map, refl, sym, ◌∙◌, ap, append_assoc, arith}
 use Rattle.std.proofs.lemmas.List.{append-nil}
 use Rattle.std.specs.Fmt.{decimal}
 use Rattle.line_text.specs.Words.{unwords, written}
+use Rattle.line_text.proofs.WrittenLines.{spaced, unwords-spaced, written-append}
 use Rattle.ear_core.specs.EarLists.{PlainEar, PlainStep, one, two, PlainEars}
 use Rattle.ear_text.specs.Writing.{ear_words, header_words, start_words, step_words, ears_text}
-
-pub written-append : (lines more : List (List (List ℕ))) → written (lines ++ more) ≡ written lines ++ written more
-written-append [] more = refl
-written-append (words ∷ lines) more =
-    ap (λ text. unwords words ++ 10 ∷ text) (written-append lines more) ∙ sym (append_assoc (unwords words) (10 ∷ written lines) (written more))
-
--- words, each behind a space
-abbrev pub spaced : List (List ℕ) → List ℕ
-spaced [] = []
-spaced (word ∷ words) = 32 ∷ (word ++ spaced words)
-
-pub unwords-spaced : (word : List ℕ) (words : List (List ℕ)) → unwords (word ∷ words) ≡ word ++ spaced words
-unwords-spaced word [] = sym (append-nil word)
-unwords-spaced word (next ∷ words) = ap (λ text. word ++ 32 ∷ text) (unwords-spaced next words)
 
 -- the line of an ear is whole when no edge is left
 pub ear_text-line : (old text new keyword edges rest : List ℕ) (v : ℕ) → length rest ≡ 0 → old ++ (keyword ++ spaced (map decimal (v ∷ edges))) ≡ text ++ spaced (map decimal rest) → new ≡ text ++ 10 ∷ [] → new ≡ old ++ written (ear_words keyword (record { begin = v; edges = edges }) ∷ [])

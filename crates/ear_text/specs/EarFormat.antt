@@ -1,11 +1,12 @@
 -- The ear format for a graph of n vertices and m edges: a header `r mcg N M`, a line `start E`, and for each step a line
 -- `ear V E1 E2 ..`, which a line `with V E1 E2 ..` may follow directly, the second ear of the step. V is the vertex where the ear
 -- begins, and the edges follow in order.
-use Rattle.std.specs.Prelude.{ℕ, ◌==◌, ◌&&◌, ◌||◌, not, nat_lt, nat_le, Bool, List, [], ◌∷◌, ◌++◌, length, map, codes, Option, Some, None, is_some, Result, Ok, Err, if◌then◌else◌}
+use Rattle.std.specs.Prelude.{ℕ, ◌==◌, ◌&&◌, ◌||◌, not, nat_le, Bool, List, [], ◌∷◌, ◌++◌, length, map, codes, Option, Some, None, is_some, Result, Ok, Err, if◌then◌else◌}
 use Rattle.std.specs.List.{list_all, list_any}
 use Rattle.line_text.specs.Format.{Rules, checked}
 use Rattle.line_text.specs.Words.{has_form, word_at}
 use Rattle.line_text.specs.Numerals.{is_number, value_of}
+use Rattle.text_faults.specs.Ranges.{is_out_of_range}
 use Rattle.graph_core.specs.declared.faults.FaultKind.{FaultKind}
 use Rattle.graph_core.specs.declared.faults.FaultKind.TheVariants as kind
 use Rattle.ear_core.specs.EarLists.{PlainEar, PlainStep, one, two, PlainEars}
@@ -21,10 +22,6 @@ abbrev pub behind_two : List (List ℕ) → List (List ℕ)
 behind_two [] = []
 behind_two (word ∷ []) = []
 behind_two (word ∷ next ∷ words) = words
-
--- v is 0 or over n
-abbrev pub is_out_of_range : ℕ → ℕ → Bool
-is_out_of_range n v = (v == 0) || nat_lt n v
 
 -- the words of the first ear of a step: `ear` and at least two more
 abbrev pub is_ear_line : List (List ℕ) → Bool

@@ -8,7 +8,8 @@ ghost use Rattle.text_faults.specs.Readings.{IsFirstFault, ReadsText};
 ghost use Rattle.graph_core.specs.declared.faults.FaultKind.{FaultKind};
 ghost use Rattle.ear_core.specs.EarLists.{PlainEars, FitsEars};
 ghost use Rattle.ear_core.specs.View.{ear_of, step_of, ears_of};
-ghost use Rattle.ear_text.specs.EarFormat.{EarsSoFar, ears_header, start_line, ear_line, ear_format, behind_two, is_ear_line, is_with_line, is_out_of_range};
+ghost use Rattle.text_faults.specs.Ranges.{is_out_of_range};
+ghost use Rattle.ear_text.specs.EarFormat.{EarsSoFar, ears_header, start_line, ear_line, ear_format, behind_two, is_ear_line, is_with_line};
 ghost use Rattle.ear_text.specs.Writing.{HasEdges};
 ghost use Rattle.ear_text.specs.SoFar.{ears_so_far};
 
@@ -17,7 +18,7 @@ use ear_core::{Ear, EarList, Steps};
 use graph_core::{FaultKind, Numbers, TextFault};
 use line_text::{LineFormat, Refusal, has_form, number, numbers, word};
 use std::alloc::{AllocError as Memory, Global};
-use text_faults::read_text;
+use text_faults::{has_out_of_range, is_out_of_range, read_text};
 
 // The format, for graphs of this order and size.
 #[derive(Drop)]
@@ -40,20 +41,6 @@ fn read_header(n: u32, m: u32, words: &[&[u8]]) -> Result<EarsRead, Refusal<Faul
         return Err(Refusal::Fault(FaultKind::Header));
     }
     Ok(EarsRead::Headed)
-}
-
-// Whether a number is 0 or over `n`.
-fn is_out_of_range(n: u32, v: u32) -> bool
-    ensures { result ≡ is_out_of_range n v }
-{
-    v == 0 || v > n
-}
-
-// Whether one of the numbers is 0 or over `n`.
-fn has_out_of_range(n: u32, numbers: &[u32]) -> bool
-    ensures { result ≡ list_any (is_out_of_range n) numbers.now }
-{
-    numbers.iter().any(|v| *v == 0 || *v > n)
 }
 
 // The line of the first stage.

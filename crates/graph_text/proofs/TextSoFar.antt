@@ -1,27 +1,9 @@
 -- The text of the first edges of a graph grows by the line of the next edge: a written list of lines with one line more is
 -- the text of the list and then the text of that line.
-use Rattle.std.proofs.Common.{◌≡◌, ◌+◌, ◌<◌, ◌≤◌, ℕ, suc, List, [], ◌∷◌, ◌++◌, length, get_or, map, take, take_all, refl, sym, ◌∙◌, ap, ap₂, arith, append_assoc}
-use Rattle.std.proofs.Math.Seq.{take-suc}
-use Rattle.std.proofs.lemmas.List.{map-append}
-use Rattle.line_text.specs.Words.{unwords, written}
+use Rattle.std.proofs.Common.{◌≡◌, ◌≤◌, ℕ, List, ◌∷◌, ◌++◌, map, take, take_all, ◌∙◌, ap, ap₂, arith}
+use Rattle.line_text.specs.Words.{written}
 use Rattle.graph_core.specs.Graph.{Graph, size}
 use Rattle.graph_text.specs.Writing.{edge_words, header_words, graph_text, name_words, named_edge_words, named_header_words, named_text}
-
--- what is written of lines and further lines
-written-append : (lines more : List (List (List ℕ))) → written (lines ++ more) ≡ written lines ++ written more
-written-append [] more = refl
-written-append (words ∷ lines) more =
-    ap (λ text. unwords words ++ 10 ∷ text) (written-append lines more) ∙ sym (append_assoc (unwords words) (10 ∷ written lines) (written more))
-
--- one item more
-pub written-more : {X : Type 0} (words_of : X → List (List ℕ)) (before : List (List (List ℕ))) (xs : List X) (i : ℕ) (d : X) → i < length xs → written (before ++ map words_of (take (i + 1) xs)) ≡ written (before ++ map words_of (take i xs)) ++ written (words_of (get_or xs i d) ∷ [])
-written-more words_of before xs i d less =
-    let e : i + 1 ≡ suc i = omega arith in
-    ap (λ k. written (before ++ map words_of (take k xs))) e
-    ∙ ap (λ ys. written (before ++ map words_of ys)) (take-suc xs i d less)
-    ∙ ap (λ lines. written (before ++ lines)) (map-append words_of (take i xs) (get_or xs i d ∷ []))
-    ∙ ap written (sym (append_assoc before (map words_of (take i xs)) (words_of (get_or xs i d) ∷ [])))
-    ∙ written-append (before ++ map words_of (take i xs)) (words_of (get_or xs i d) ∷ [])
 
 -- all edges
 pub graph_text-by_edges : (g : Graph) (order edges i : ℕ) → order ≡ g.order → edges ≡ size g → edges ≤ i → written (header_words order edges ∷ map edge_words (take i g.ends)) ≡ graph_text g

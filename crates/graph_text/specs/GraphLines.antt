@@ -1,9 +1,10 @@
 -- The lines that both versions of the graph format share: what has been read so far, and an edge between numbered vertices.
-use Rattle.std.specs.Prelude.{ℕ, ◌==◌, ◌&&◌, ◌||◌, not, nat_lt, Bool, List, [], ◌∷◌, codes, Result, Ok, Err, if◌then◌else◌}
+use Rattle.std.specs.Prelude.{ℕ, ◌==◌, ◌&&◌, ◌||◌, not, List, [], ◌∷◌, codes, Result, Ok, Err, if◌then◌else◌}
 use Rattle.line_text.specs.Format.{checked}
 use Rattle.line_text.specs.Words.{has_form, word_at}
 use Rattle.line_text.specs.Numerals.{is_number, value_of}
 use Rattle.graph_core.specs.Graph.{Graph, size, with_edge}
+use Rattle.text_faults.specs.Ranges.{is_out_of_range}
 use Rattle.graph_core.specs.declared.faults.FaultKind.{FaultKind}
 use Rattle.graph_core.specs.declared.faults.FaultKind.TheVariants as kind
 
@@ -12,10 +13,6 @@ pub record GraphSoFar : Type 0 where
   pub graph : Graph
   pub edges : ℕ
 
--- v is no vertex of a graph of that order
-abbrev pub is_no_vertex : ℕ → ℕ → Bool
-is_no_vertex n v = (v == 0) || nat_lt n v
-
 -- a line `e A B` adds an edge
 abbrev pub edge_line : GraphSoFar → List (List ℕ) → Result GraphSoFar FaultKind
 edge_line body words =
@@ -23,7 +20,7 @@ edge_line body words =
     let b = value_of (word_at words 2) in
     checked ((not (has_form words 3 (codes "e" ∷ [])), kind.Word)
     ∷ (not (is_number (word_at words 1) && is_number (word_at words 2)), kind.Number)
-    ∷ (is_no_vertex body.graph.order a || is_no_vertex body.graph.order b, kind.Range)
+    ∷ (is_out_of_range body.graph.order a || is_out_of_range body.graph.order b, kind.Range)
     ∷ (a == b, kind.Loop)
     ∷ [])
     (record body { graph = with_edge body.graph a b })

@@ -1,6 +1,6 @@
 -- What is written of a number is a word of digits, and std tells that they read as that number. Below 10 ^ 9 they are
 -- nine at most, so the word is a number.
-use Rattle.std.proofs.Common.{◌≡◌, ℕ, ◌^◌, ◌≤◌, ◌<◌, List, [], ◌∷◌, length, Bool, true, not, ◌||◌, ◌==◌, cond, Some, None, refl, ◌∙◌, ap, arith, rules}
+use Rattle.std.proofs.Common.{◌≡◌, ℕ, suc, ◌^◌, ◌≤◌, ◌<◌, List, [], ◌∷◌, All, length, map, Bool, true, not, ◌||◌, ◌==◌, cond, Some, None, refl, ◌∙◌, ap, ap₂, arith, rules}
 use Rattle.std.specs.Char.{is_ascii_digit}
 use Rattle.std.specs.Fmt.{decimal}
 use Rattle.std.specs.List.{list_all}
@@ -10,8 +10,8 @@ use Rattle.std.proofs.lemmas.Bool.Decides.{nat_tests}
 use Rattle.std.proofs.lemmas.Fmt.{digits_decimal, digits_value-decimal, decimal_nonempty, length-decimal-le}
 use Rattle.std.proofs.lemmas.Str.Parse.{IsNumeralModel, IsDigitsTest, numerals_by_value}
 use Rattle.line_text.specs.Lines.{is_line_feed}
-use Rattle.line_text.specs.Numerals.{number_of}
-use Rattle.line_text.specs.Words.{is_blank, is_word}
+use Rattle.line_text.specs.Numerals.{number_of, is_number, value_of}
+use Rattle.line_text.specs.Words.{is_blank, is_word, AreWords}
 use Rattle.line_text.proofs.Digits.{digits-cons}
 
 -- the test for digits is std's
@@ -53,3 +53,23 @@ nonempty word some = grind (arith, nat_tests)
 pub is_word-decimal : (n : ℕ) → n < 10 ^ 9 → is_word (decimal n) ≡ true
 is_word-decimal n small =
     and_from _ _ (nonempty (decimal n) (decimal_nonempty n (omega arith))) (list_all-digits (λ byte. not (is_blank byte || is_line_feed byte)) word_byte (decimal n) (digits-decimal n small))
+
+-- the number that is read of it
+pub value-decimal : (v : ℕ) → v < 10 ^ 9 → value_of (decimal v) ≡ v
+value-decimal v less = rw (number_of-decimal v less) refl
+
+pub number-decimal : (v : ℕ) → v < 10 ^ 9 → is_number (decimal v) ≡ true
+number-decimal v less = rw (number_of-decimal v less) refl
+
+-- lists of numbers
+pub values-decimal : (x : List ℕ) → All (λ v. v < 10 ^ 9) x → map value_of (map decimal x) ≡ x
+values-decimal [] small = refl
+values-decimal (v ∷ x) small = ap₂ ◌∷◌ (value-decimal v (small 0 0 (omega arith))) (values-decimal x (λ k d less. small (suc k) d (omega arith)))
+
+pub numbers-decimal : (x : List ℕ) → All (λ v. v < 10 ^ 9) x → list_all is_number (map decimal x) ≡ true
+numbers-decimal [] small = refl
+numbers-decimal (v ∷ x) small = and_from (is_number (decimal v)) (list_all is_number (map decimal x)) (number-decimal v (small 0 0 (omega arith))) (numbers-decimal x (λ k d less. small (suc k) d (omega arith)))
+
+pub words-decimal : (x : List ℕ) → All (λ v. v < 10 ^ 9) x → AreWords (map decimal x)
+words-decimal [] small = tt
+words-decimal (v ∷ x) small = (is_word-decimal v (small 0 0 (omega arith)), words-decimal x (λ k d less. small (suc k) d (omega arith)))

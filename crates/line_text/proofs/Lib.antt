@@ -5,3 +5,5 @@ pub mod LineByLine
 pub mod LineCuts
 pub mod ExactlyOne
 pub mod ReadBack
+pub mod Tables
+pub mod WrittenLines

@@ -8,7 +8,9 @@ use Rattle.counting.specs.Counts.{Within}
 use Rattle.counting.specs.Lists.{mem, IsRisingIn}
 use Rattle.counting.proofs.Lists.{Rises}
 use Rattle.counting.proofs.RisingLists.{same_rising_list, set-from_rises, set-wider}
-use Rattle.tree_text.specs.TreeFormat.{is_out_of_range, is_rising}
+use Rattle.text_faults.specs.Ranges.{is_out_of_range}
+use Rattle.text_faults.proofs.InRange.{in_range}
+use Rattle.tree_text.specs.TreeFormat.{is_rising}
 
 or-moves : (a b c : Bool) → (a || (b || c)) ≡ ((a || b) || c)
 or-moves true b c = refl
@@ -30,9 +32,6 @@ pub all_moved : (vertices shore rest : List ℕ) → length rest ≡ 0 → IsRis
 all_moved vertices shore [] none rises in_order same =
     same_rising_list 128 shore vertices rises in_order (λ w within. sym (same w ∙ or-none (mem shore w)))
 all_moved vertices shore (v ∷ rest) none rises in_order same = absurd (omega arith)
-
-in_range : (n v : ℕ) → is_out_of_range n v ≡ false → Within n v
-in_range n v is = (grind (arith, nat_tests), grind (arith, nat_tests))
 
 less-from_test : (v w : ℕ) → nat_lt v w ≡ true → v < w
 less-from_test v w is = grind (arith, nat_tests)

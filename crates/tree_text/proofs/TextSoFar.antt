@@ -1,25 +1,11 @@
--- The text of a list of lines is that of the first and then that of the others, and a line is its first word and each further
--- word behind a space.
-use Rattle.std.proofs.Common.{◌≡◌, ℕ, List, [], ◌∷◌, ◌++◌, codes, map, refl, sym, ◌∙◌, ap, append_assoc}
+-- The lines of a cut and of a tree.
+use Rattle.std.proofs.Common.{◌≡◌, ℕ, List, [], ◌∷◌, ◌++◌, codes, map, sym, ◌∙◌, ap, append_assoc}
 use Rattle.std.proofs.lemmas.List.{append-nil}
 use Rattle.std.specs.Fmt.{decimal}
 use Rattle.line_text.specs.Words.{unwords, written}
+use Rattle.line_text.proofs.WrittenLines.{spaced, unwords-spaced, written-append}
 use Rattle.tree_core.specs.Shapes.{Shape, cut}
 use Rattle.tree_text.specs.Writing.{cut_words, header_words, node_words, tree_text}
-
-pub written-append : (lines more : List (List (List ℕ))) → written (lines ++ more) ≡ written lines ++ written more
-written-append [] more = refl
-written-append (words ∷ lines) more =
-    ap (λ text. unwords words ++ 10 ∷ text) (written-append lines more) ∙ sym (append_assoc (unwords words) (10 ∷ written lines) (written more))
-
--- words, each behind a space
-abbrev pub spaced : List (List ℕ) → List ℕ
-spaced [] = []
-spaced (word ∷ words) = 32 ∷ (word ++ spaced words)
-
-pub unwords-spaced : (word : List ℕ) (words : List (List ℕ)) → unwords (word ∷ words) ≡ word ++ spaced words
-unwords-spaced word [] = sym (append-nil word)
-unwords-spaced word (next ∷ words) = ap (λ text. word ++ 32 ∷ text) (unwords-spaced next words)
 
 -- the line of a cut is whole when no vertex is left
 pub cut_line : (old text new : List ℕ) (shore rest : List ℕ) → rest ≡ [] → old ++ (codes "cut" ++ spaced (map decimal shore)) ≡ text ++ spaced (map decimal rest) → new ≡ text ++ 10 ∷ [] → new ≡ old ++ written (cut_words shore ∷ [])

@@ -1,21 +1,23 @@
 -- What is read of a text can be written again. Along the lines of a text the shores read so far are nonempty, rise and lie below n,
 -- and the nodes are counted: each line keeps this, since it passed the tests of the table, and so does a tree put at a place.
 use Rattle.std.proofs.Common.{◌≡◌, ◌+◌, ◌-◌, ◌≤◌, ◌<◌, ◌==◌, codes, ◌||◌, ◌^◌, not, nat_le, if◌then◌else◌, ℕ, List, [], ◌∷◌, All, Bool, length, map, true, false, Option, Some, None, Result, Ok, Err, IfOk, refl, sym, ◌∙◌, ap, subst, arith}
-use Rattle.std.specs.List.{AllByRecursion, list_all, list_any}
+use Rattle.std.specs.List.{list_all, list_any}
 use Rattle.std.specs.List.Sorted.{IsStrictlyIncreasing}
 use Rattle.std.proofs.lemmas.Bool.{and_parts, both_ways}
 use Rattle.std.proofs.lemmas.Bool.Decides.{nat_tests}
 use Rattle.counting.specs.Counts.{Within}
 use Rattle.counting.specs.Lists.{mem}
-use Rattle.line_text.specs.Format.{Begins, Stands, checked, finish}
+use Rattle.line_text.specs.Format.{Begins, Stands, finish}
 use Rattle.line_text.specs.Words.{has_form, word_at}
 use Rattle.line_text.specs.Numerals.{is_number, value_of}
+use Rattle.line_text.proofs.Tables.{all_passed, holds, no_value, value_or}
 use Rattle.graph_core.specs.declared.faults.FaultKind.{FaultKind}
 use Rattle.graph_core.specs.declared.faults.FaultKind.TheVariants as kind
 use Rattle.tree_core.specs.Shapes.{Shape, leaf, cut, Fits, node_count}
 use Rattle.tree_core.proofs.Shores.{below-without_greatest}
 use Rattle.tree_text.specs.Places.{Place, root, in_kept, in_merged, Reading, wanted, whole, put}
-use Rattle.tree_text.specs.TreeFormat.{TreeSoFar, tree_format, node_line, line_behind, tree_end, behind_first, is_out_of_range, is_rising, is_leaf_line, is_cut_line}
+use Rattle.text_faults.specs.Ranges.{is_out_of_range}
+use Rattle.tree_text.specs.TreeFormat.{TreeSoFar, tree_format, node_line, line_behind, tree_end, behind_first, is_rising, is_leaf_line, is_cut_line}
 use Rattle.tree_text.specs.Writing.{HasVertices, ShoresRise, IsWritable}
 use Rattle.tree_text.proofs.ShoreLists.{rising_read}
 
@@ -51,28 +53,6 @@ keeps-put n nodes (in_merged x k above) t place tree count few =
     let shore = place.0 in let kept = place.1 in
     keeps-put n nodes above (cut x k t) place.2 ((shore.0, kept.0, tree.0), (shore.1, kept.1, tree.1), (shore.2, kept.2, tree.2)) (omega arith) few
 
--- the value of a table none of whose tests applies
-abbrev value_or : {A Kind : Type 0} → A → Result A Kind → A
-value_or d (Ok value) = value
-value_or d (Err kind) = d
-
-abbrev is_ok : {A Kind : Type 0} → Result A Kind → Bool
-is_ok (Ok value) = true
-is_ok (Err kind) = false
-
-no_value : {A Kind : Type 0} (r : Result A Kind) (value : A) → is_ok r ≡ false → r ≡ Ok value → ⊥
-no_value r value is same = both_ways (is_ok r) is (ap is_ok same)
-
-passed : {A Kind : Type 0} (tests : List (Bool × Kind)) (a b : A) → checked tests a ≡ Ok b → AllByRecursion (λ test. test.0 ≡ false) tests × (a ≡ b)
-passed [] a b same = (tt, ap (value_or a) same)
-passed (test ∷ tests) a b same = go test.0 refl (passed tests a b)
-  where
-    go : (applies : Bool) → test.0 ≡ applies → (checked tests a ≡ Ok b → AllByRecursion (λ t. t.0 ≡ false) tests × (a ≡ b)) → AllByRecursion (λ t. t.0 ≡ false) (test ∷ tests) × (a ≡ b)
-    go true is further = absurd (no_value _ b refl (sym (ap (λ c. if c then Err test.1 else checked tests a) is) ∙ same))
-    go false is further =
-        let rest = further (sym (ap (λ c. if c then Err test.1 else checked tests a) is) ∙ same) in
-        ((is, rest.0), rest.1)
-
 -- the tests of the line of a node, and what it leads to
 abbrev vertices_of : List (List ℕ) → List ℕ
 vertices_of words = map value_of (behind_first words)
@@ -90,10 +70,6 @@ node_tests n nodes words =
 abbrev node_read : ℕ → Place → List (List ℕ) → TreeSoFar
 node_read nodes place words = record { nodes = nodes + 1; reading = if is_leaf_line words then put place leaf else wanted (in_kept (vertices_of words) place) }
 
-holds : (b : Bool) → not b ≡ false → b ≡ true
-holds true is = refl
-holds false is = sym is
-
 few_nodes : (nodes : ℕ) → nat_le 127 nodes ≡ false → nodes + 1 ≤ 127
 few_nodes nodes is = grind (arith, nat_tests)
 
@@ -105,7 +81,7 @@ two_words (word ∷ next ∷ words) is = omega arith
 -- the line of a node keeps what is said
 node-keeps : (n nodes : ℕ) (place : Place) (words : List (List ℕ)) (next : TreeSoFar) → KeepsPlace n place → nodes ≡ nodes_at place → node_line n nodes place words ≡ Ok next → Keeps n next.nodes next.reading
 node-keeps n nodes place words next keeps count same =
-    let through = passed (node_tests n nodes words) (node_read nodes place words) next same in
+    let through = all_passed (node_tests n nodes words) (node_read nodes place words) next same in
     let tests = through.0 in
     let few = few_nodes nodes tests.0 in
     let rises = rising_read n (vertices_of words) tests.1.1.1.0 (holds (is_rising (vertices_of words)) tests.1.1.1.1.0) in
@@ -122,7 +98,7 @@ node-keeps n nodes place words next keeps count same =
         (((below, two_words words cuts.0, rising), keeps), omega arith, few)
 
 line-keeps : (n nodes : ℕ) (reading : Reading) (words : List (List ℕ)) (next : TreeSoFar) → Keeps n nodes reading → line_behind n nodes reading words ≡ Ok next → Keeps n next.nodes next.reading
-line-keeps n nodes (whole t) words next keeps same = absurd (no_value _ next refl same)
+line-keeps n nodes (whole t) words next keeps same = absurd (no_value _ next same)
 line-keeps n nodes (wanted place) words next keeps same = node-keeps n nodes place words next keeps.0 keeps.1 same
 
 -- what is said of the state that the lines lead to
@@ -145,7 +121,7 @@ header_tests n words =
 all-keep : (n : ℕ) (lines : List (List (List ℕ))) (reached : Option TreeSoFar) → Begins (tree_format n) None lines reached → KeepsReached n reached
 all-keep n [] reached begins = subst (KeepsReached n) (sym begins) tt
 all-keep n (words ∷ lines) reached begins =
-    let through = passed (header_tests n words) (record { nodes = 0; reading = wanted root }) begins.0 begins.1 in
+    let through = all_passed (header_tests n words) (record { nodes = 0; reading = wanted root }) begins.0 begins.1 in
     lines-keep n begins.0 lines reached (subst (λ (b : TreeSoFar). Keeps n b.nodes b.reading) through.1 (tt, refl, omega arith)) begins.2
 
 -- a tree that is whole at the end
@@ -153,10 +129,10 @@ end-keeps : (n nodes : ℕ) (reading : Reading) (t : Shape) → n < 10 ^ 9 → K
 end-keeps n nodes (whole s) t small keeps ends =
     subst (IsWritable n) (ap (value_or s) ends)
     (let tree = keeps.0 in record { order = small; fits = tree.0; vertices = tree.1; rising = tree.2; few = omega arith })
-end-keeps n nodes (wanted place) t small keeps ends = absurd (no_value _ t refl ends)
+end-keeps n nodes (wanted place) t small keeps ends = absurd (no_value _ t ends)
 
 reached-keeps : (n : ℕ) (reached : Option TreeSoFar) (t : Shape) → n < 10 ^ 9 → KeepsReached n reached → finish (tree_format n) reached ≡ Ok t → IsWritable n t
-reached-keeps n None t small keeps ends = absurd (no_value _ t refl ends)
+reached-keeps n None t small keeps ends = absurd (no_value _ t ends)
 reached-keeps n (Some body) t small keeps ends = end-keeps n body.nodes body.reading t small keeps ends
 
 -- the tree that a text stands for

@@ -1,7 +1,7 @@
 -- What is written of a tree is read as this tree. The header leads to the root, and by induction the lines of a tree lead from any
 -- place to this tree put at the place: the line of a cut leads below it, its `kept` tree put there leads to the place of its
 -- `merged` tree, and this one put there makes the cut whole. No test of the table applies.
-use Rattle.std.proofs.Common.{◌≡◌, ◌+◌, ◌-◌, ◌≤◌, ◌<◌, ◌==◌, ◌&&◌, ◌||◌, ◌^◌, nat_lt, ℕ, suc, List, [], ◌∷◌, ◌++◌, All, Bool, length, map, get_or, codes, true, false, Some, Ok, refl, sym, ap₂, subst, arith, inl, inr}
+use Rattle.std.proofs.Common.{◌≡◌, ◌+◌, ◌-◌, ◌≤◌, ◌<◌, ◌==◌, ◌&&◌, ◌^◌, nat_lt, ℕ, suc, List, [], ◌∷◌, ◌++◌, All, Bool, length, map, get_or, codes, true, false, Some, Ok, refl, sym, subst, arith, inl, inr}
 use Rattle.std.specs.Fmt.{decimal}
 use Rattle.std.specs.List.{AllByRecursion, list_all, list_any}
 use Rattle.std.specs.List.Sorted.{IsStrictlyIncreasing}
@@ -12,15 +12,17 @@ use Rattle.counting.specs.Counts.{Within}
 use Rattle.counting.specs.Lists.{mem}
 use Rattle.counting.proofs.Lists.{mem-within}
 use Rattle.line_text.specs.Format.{Begins, Stands, StandsAlone}
-use Rattle.line_text.specs.Words.{has_form, words_of, unwords, is_skipped, AreWords, IsSignificant}
+use Rattle.line_text.specs.Words.{has_form, words_of, unwords, is_skipped, IsSignificant}
 use Rattle.line_text.specs.Lines.{lines_of}
 use Rattle.line_text.specs.Numerals.{is_number, value_of}
-use Rattle.line_text.proofs.Decimals.{number_of-decimal, is_word-decimal}
+use Rattle.line_text.proofs.Decimals.{number_of-decimal, is_word-decimal, numbers-decimal, values-decimal, words-decimal}
+use Rattle.text_faults.proofs.InRange.{in_range-tests}
 use Rattle.line_text.proofs.ExactlyOne.{exactly_one}
 use Rattle.line_text.proofs.ReadBack.{Stands-written, Stands-comments, is_closed-unlines, Begins-append}
 use Rattle.tree_core.specs.Shapes.{Shape, leaf, cut, Fits, node_count}
 use Rattle.tree_text.specs.Places.{Place, root, in_kept, in_merged, Reading, wanted, whole, put}
-use Rattle.tree_text.specs.TreeFormat.{TreeSoFar, tree_format, is_out_of_range, is_rising, is_leaf_line, is_cut_line, most_nodes}
+use Rattle.text_faults.specs.Ranges.{is_out_of_range}
+use Rattle.tree_text.specs.TreeFormat.{TreeSoFar, tree_format, is_rising, is_leaf_line, is_cut_line, most_nodes}
 use Rattle.tree_text.specs.Writing.{header_words, cut_words, node_words, tree_text, HasVertices, ShoresRise, IsWritable}
 
 -- so many nodes read, and what they say
@@ -37,29 +39,9 @@ leaf-taken : (n nodes : ℕ) (place : Place) → nodes < most_nodes → (tree_fo
 unfolding has_form
 leaf-taken n nodes place few = grind (arith, nat_tests)
 
--- the words of the vertices are numbers, and name them
-values-decimal : (x : List ℕ) → All (λ v. v < 10 ^ 9) x → map value_of (map decimal x) ≡ x
-values-decimal [] small = refl
-values-decimal (v ∷ x) small = ap₂ ◌∷◌ (first v (small 0 0 (omega arith))) (values-decimal x (λ k d less. small (suc k) d (omega arith)))
-  where
-    first : (v : ℕ) → v < 10 ^ 9 → value_of (decimal v) ≡ v
-    first v less = rw (number_of-decimal v less) refl
-
-numbers-decimal : (x : List ℕ) → All (λ v. v < 10 ^ 9) x → list_all is_number (map decimal x) ≡ true
-numbers-decimal [] small = refl
-numbers-decimal (v ∷ x) small = and_from (is_number (decimal v)) (list_all is_number (map decimal x)) (first v (small 0 0 (omega arith))) (numbers-decimal x (λ k d less. small (suc k) d (omega arith)))
-  where
-    first : (v : ℕ) → v < 10 ^ 9 → is_number (decimal v) ≡ true
-    first v less = rw (number_of-decimal v less) refl
-
 -- they lie in range, and rise
-in_range : (n : ℕ) (x : List ℕ) → All (Within (n - 1)) x → list_any (is_out_of_range n) x ≡ false
-in_range n [] within = refl
-in_range n (v ∷ x) within =
-    ap₂ (λ a b. a || b) (first v (within 0 0 (omega arith))) (in_range n x (λ k d less. within (suc k) d (omega arith)))
-  where
-    first : (v : ℕ) → Within (n - 1) v → is_out_of_range n v ≡ false
-    first v within = let low = within.0 in let high = within.1 in grind (arith, nat_tests)
+shore-in_range : (n : ℕ) (x : List ℕ) → All (Within (n - 1)) x → list_any (is_out_of_range n) x ≡ false
+shore-in_range n x within = in_range-tests n x (λ k d less. let in_order = within k d less in (in_order.0, (let high = in_order.1 in omega arith)))
 
 rising-tests : (x : List ℕ) → IsStrictlyIncreasing x → is_rising x ≡ true
 rising-tests [] rising = refl
@@ -100,7 +82,7 @@ cut-taken n nodes place x few small some rising within =
     below k d less = let in_order = within k d less in omega arith
 
     taken : (words : List (List ℕ)) → is_leaf_line (codes "cut" ∷ words) ≡ false → is_cut_line (codes "cut" ∷ words) ≡ true → map value_of words ≡ x → list_all is_number words ≡ true → (tree_format n).line (at nodes (wanted place)) (codes "cut" ∷ words) ≡ Ok (at (nodes + 1) (wanted (in_kept x place)))
-    taken words other is values numbers = rw (other, is, values, numbers, in_range n x within, rising-tests x rising, without-greatest n x rising within) (grind (arith, nat_tests))
+    taken words other is values numbers = rw (other, is, values, numbers, shore-in_range n x within, rising-tests x rising, without-greatest n x rising within) (grind (arith, nat_tests))
 
 -- the lines of a tree
 nodes-taken : (n nodes : ℕ) (place : Place) (t : Shape) → nodes + node_count t ≤ most_nodes → n < 10 ^ 9 → Fits n t → HasVertices t → ShoresRise t → Begins (tree_format n) (Some (at nodes (wanted place))) (node_words t) (Some (at (nodes + node_count t) (put place t)))
@@ -116,10 +98,6 @@ nodes-taken n nodes place (cut x k m) few small fits some rising =
     )
 
 -- each line is significant
-words-decimal : (x : List ℕ) → All (λ v. v < 10 ^ 9) x → AreWords (map decimal x)
-words-decimal [] small = tt
-words-decimal (v ∷ x) small = (is_word-decimal v (small 0 0 (omega arith)), words-decimal x (λ k d less. small (suc k) d (omega arith)))
-
 significant-append : (lines more : List (List (List ℕ))) → AllByRecursion IsSignificant lines → AllByRecursion IsSignificant more → AllByRecursion IsSignificant (lines ++ more)
 significant-append [] more first second = second
 significant-append (words ∷ lines) more first second = (first.0, significant-append lines more first.1 second)

@@ -6,6 +6,7 @@ use Rattle.counting.specs.Lists.{mem}
 use Rattle.line_text.specs.Format.{Rules, checked}
 use Rattle.line_text.specs.Words.{has_form, word_at}
 use Rattle.line_text.specs.Numerals.{is_number, value_of}
+use Rattle.text_faults.specs.Ranges.{is_out_of_range}
 use Rattle.graph_core.specs.declared.faults.FaultKind.{FaultKind}
 use Rattle.graph_core.specs.declared.faults.FaultKind.TheVariants as kind
 use Rattle.tree_core.specs.Shapes.{Shape, leaf}
@@ -24,10 +25,6 @@ pub record TreeSoFar : Type 0 where
 abbrev pub behind_first : List (List ℕ) → List (List ℕ)
 behind_first [] = []
 behind_first (word ∷ words) = words
-
--- v is 0 or over n
-abbrev pub is_out_of_range : ℕ → ℕ → Bool
-is_out_of_range n v = (v == 0) || nat_lt n v
 
 -- each number is below the next
 abbrev pub is_rising : List ℕ → Bool

@@ -2,16 +2,10 @@
 ghost use Rattle.std.specs.Prelude.{◌≡◌, ◌≤◌};
 ghost use Rattle.std.specs.List.{list_any};
 ghost use Rattle.counting.specs.Lists.{mem, IsRisingIn};
-ghost use Rattle.tree_text.specs.TreeFormat.{is_out_of_range, is_rising};
+ghost use Rattle.text_faults.specs.Ranges.{is_out_of_range};
+ghost use Rattle.tree_text.specs.TreeFormat.{is_rising};
 
 use vset_core::{MOST_VERTICES, VSet};
-
-/// Whether one of the numbers is 0 or over `n`.
-pub fn has_out_of_range(n: u32, vertices: &[u32]) -> bool
-    ensures { result ≡ list_any (is_out_of_range n) vertices.now }
-{
-    vertices.iter().any(|v| *v == 0 || *v > n)
-}
 
 /// Whether each number is below the next.
 pub fn rise(vertices: &[u32]) -> bool

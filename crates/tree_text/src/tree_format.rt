@@ -13,11 +13,11 @@ ghost use Rattle.tree_text.specs.SoFar.{place_of, progress_of, tree_so_far};
 
 use crate::nodes_read::{NodesRead, TreeFormat};
 use crate::place::{Above, Progress, put};
-use crate::shores::{has_out_of_range, holds, rise, shore_of};
+use crate::shores::{holds, rise, shore_of};
 use graph_core::{FaultKind, TextFault};
 use line_text::{LineFormat, Refusal, has_form, number, numbers, word};
 use std::alloc::Global;
-use text_faults::read_text;
+use text_faults::{has_out_of_range, read_text};
 use tree_core::Tree;
 use vset_core::MOST_VERTICES;
 

@@ -1,6 +1,6 @@
 use Rattle.std.proofs.Common.{◌≡◌, ◌++◌, ◌∷◌, length, map, string_bytes}
 use Rattle.std.specs.Fmt.{decimal}
-use Rattle.ear_text.proofs.TextSoFar.{spaced}
+use Rattle.line_text.proofs.WrittenLines.{spaced}
 use Rattle.ear_text.proofs.writing.push_ear.Given as goal
 
 -- what is written and the edges left make the whole line

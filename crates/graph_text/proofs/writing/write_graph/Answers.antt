@@ -3,7 +3,8 @@ use Rattle.line_text.specs.Format.{Stands, StandsAlone}
 use Rattle.line_text.specs.Words.{written}
 use Rattle.graph_text.specs.VersionOne.{version_one, FitsVersionOne}
 use Rattle.graph_text.specs.Writing.{edge_words, header_words, graph_text}
-use Rattle.graph_text.proofs.TextSoFar.{written-more, graph_text-by_edges}
+use Rattle.line_text.proofs.WrittenLines.{written-more}
+use Rattle.graph_text.proofs.TextSoFar.{graph_text-by_edges}
 use Rattle.graph_text.proofs.VersionOneReadBack.{Stands-graph_text, StandsAlone-stands}
 use Rattle.graph_text.proofs.writing.write_graph.Goals as goal
 

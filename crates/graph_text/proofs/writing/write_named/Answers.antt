@@ -3,7 +3,8 @@ use Rattle.line_text.specs.Format.{Stands, StandsAlone}
 use Rattle.line_text.specs.Words.{written}
 use Rattle.graph_text.specs.EitherVersion.{either_version}
 use Rattle.graph_text.specs.Writing.{name_words, named_edge_words, named_header_words, named_text, FitsNames}
-use Rattle.graph_text.proofs.TextSoFar.{written-more, named_text-by_edges}
+use Rattle.line_text.proofs.WrittenLines.{written-more}
+use Rattle.graph_text.proofs.TextSoFar.{named_text-by_edges}
 use Rattle.graph_text.proofs.NamedReadBack.{Stands-named_text}
 use Rattle.graph_text.proofs.VersionOneReadBack.{StandsAlone-stands}
 use Rattle.graph_text.proofs.writing.write_named.Goals as goal

@@ -1,6 +1,6 @@
 use Rattle.std.proofs.Common.{◌≡◌, ◌++◌, codes, length, map, string_bytes}
 use Rattle.std.specs.Fmt.{decimal}
-use Rattle.tree_text.proofs.TextSoFar.{spaced}
+use Rattle.line_text.proofs.WrittenLines.{spaced}
 use Rattle.tree_text.proofs.writing.push_cut.Given as goal
 
 -- what is written and the vertices left make the whole line

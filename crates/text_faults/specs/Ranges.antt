@@ -1,0 +1,6 @@
+-- Ranges of the numbers of a text.
+use Rattle.std.specs.Prelude.{ℕ, ◌==◌, ◌||◌, nat_lt, Bool}
+
+-- v is 0 or over n
+abbrev pub is_out_of_range : ℕ → ℕ → Bool
+is_out_of_range n v = (v == 0) || nat_lt n v
