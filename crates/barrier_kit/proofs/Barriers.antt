@@ -1,26 +1,23 @@
 -- Barriers and perfect matchings: without a set of vertices there are at most as many odd components as it has vertices.
 -- Parity decides the rest: two vertices of a barrier have no perfect matching without them, and two such vertices lie in a barrier.
-use Rattle.std.proofs.Common.{◌≡◌, ℕ, suc, zero, ◌+◌, ◌*◌, ◌≤◌, ◌≢◌, Bool, true, false, cond, ◌==◌, refl, sym, ap, ap₂, ◌∙◌, arith, ◌&&◌, ◌||◌, not, eq-eqb, ne_eqb, eqb-true, inl, inr}
-use Rattle.std.proofs.lemmas.Bool.{cases_eq, true≢false}
+use Rattle.std.proofs.Common.{◌≡◌, ℕ, suc, zero, ◌+◌, ◌*◌, ◌≤◌, ◌≢◌, Bool, true, false, cond, ◌==◌, refl, sym, ap, ap₂, ◌∙◌, arith, ◌&&◌, ◌||◌, not, eq-eqb, ne_eqb, eqb-true}
+use Rattle.std.proofs.lemmas.Bool.{true≢false}
 use mathlib.Core.Path.{fun_ext}
 use Rattle.counting.proofs.Counts.{count_complement, count_congr}
-use Rattle.counting.proofs.Odd.{odd-add, odd-double}
-use Rattle.counting.proofs.Totals.{at_le_total, total_add, total_at, total_congr, total_mul, total_none, total_swap}
+use Rattle.counting.proofs.Odd.{odd-add, odd-double, odd_total}
+use Rattle.counting.proofs.Totals.{total_add, total_at, total_congr, total_mul, total_none, total_swap}
 use Rattle.counting.specs.Counts.{Within, bit, count, is_odd, total}
 use Rattle.counting.specs.Sets.{pair_set, Set, complement, minus, none, union}
 use Rattle.graph_core.proofs.Components.{joined_outside, one_leader, some_leader}
 use Rattle.graph_core.proofs.Edits.{missed_edges}
+use Rattle.graph_core.proofs.Perfect.{none_missed-perfect, perfect_matching, perfect_misses}
 use Rattle.graph_core.proofs.WeakDuality.{berge_bound}
 use Rattle.graph_core.specs.Components.{is_least, odd_component_count}
-use Rattle.graph_core.specs.Graph.{Graph, IsGraph, degree, size}
-use Rattle.graph_core.specs.Matchings.{IsMatching, IsPerfect, missed_count}
+use Rattle.graph_core.specs.Graph.{Graph, IsGraph, size}
+use Rattle.graph_core.specs.Matchings.{IsPerfect, missed_count}
 use Rattle.graph_core.specs.Structure.{IsBarrier}
 use Rattle.graph_core.specs.Walks.{joined}
 use Rattle.match_core.proofs.TutteBerge.{TutteBerge, tutte_berge}
-
-pub odd_total : (n : ℕ) (f h : ℕ → ℕ) → ((v : ℕ) → Within n v → is_odd (f v) ≡ is_odd (h v)) → is_odd (total n f) ≡ is_odd (total n h)
-odd_total zero f h e = refl
-odd_total (suc n) f h e = odd-add (total n f) (f (suc n)) ∙ ap₂ (λ a b. cond a (not b) b) (odd_total n f h (λ v w. e v (omega arith))) (e (suc n) (omega arith)) ∙ sym (odd-add (total n h) (h (suc n)))
 
 -- the vertices outside s, component by component
 pub by_components : (g : Graph) (s : Set) → IsGraph g → count g.order (complement s) ≡ total g.order (λ u. bit (is_least g s u) * count g.order (joined g s u))
@@ -68,31 +65,6 @@ odd_component_count-parity g s is = ap is_odd (by_components g s is) ∙ odd_tot
         odd_bit true = refl
         odd_bit false = refl
 
-pub perfect_matching : (g : Graph) (r m : Set) → IsPerfect g r m → IsMatching g r m
-perfect_matching g r m p = record { once = λ v w. go v w (r v) refl; away = p.away }
-  where
-    go : (v : ℕ) → Within g.order v → (b : Bool) → r v ≡ b → degree g m v ≤ 1
-    go v w true e = omega (arith, p.away v w e)
-    go v w false e = omega (arith, p.once v w e)
-
-pub perfect_misses : (g : Graph) (r m : Set) → IsPerfect g r m → missed_count g r m ≡ 0
-unfolding missed_count
-perfect_misses g r m p = total_none g.order _ (λ v w. go v w (r v) refl)
-  where
-    go : (v : ℕ) → Within g.order v → (b : Bool) → r v ≡ b → bit (not b && (degree g m v == 0)) ≡ 0
-    go v w true e = refl
-    go v w false e = ap (λ d. bit (d == 0)) (p.once v w e)
-
-pub misses_none : (g : Graph) (r m : Set) → IsMatching g r m → missed_count g r m ≡ 0 → IsPerfect g r m
-unfolding missed_count
-misses_none g r m mm z = record { once = λ v w o. one v w o; away = mm.away }
-  where
-    one : (v : ℕ) → Within g.order v → r v ≡ false → degree g m v ≡ 1
-    one v w o = elim (cases_eq (degree g m v) 0) [
-      | inl e ↦ let a = at_le_total g.order (λ v. bit (not (r v) && (degree g m v == 0))) v w in let b : bit (not (r v) && (degree g m v == 0)) ≡ 1 = rw (o, e) refl in absurd (omega arith)
-      | inr e ↦ let a = mm.once v w in omega arith
-    ]
-
 -- with a perfect matching no set leaves more odd components than it has vertices
 pub few_odd_components : (g : Graph) (s m : Set) → IsGraph g → IsPerfect g none m → odd_component_count g s ≤ count g.order s
 few_odd_components g s m is p = let a = berge_bound g none s m is (perfect_matching g none m p) in let b = perfect_misses g none m p in omega arith
@@ -139,7 +111,7 @@ equivalent_barrier g m a b is p wa wb d no_match = (union (pair_set a b) t.s, eq
 
     equal : IsBarrier g (union (pair_set a b) t.s)
     equal = settle (missed_count g (pair_set a b) t.m) (count g.order t.s) (odd_component_count g (union (pair_set a b) t.s)) (count g.order (union (pair_set a b) t.s)) t.equal two_more (few_odd_components g (union (pair_set a b) t.s) m is p)
-        (λ z. no_match t.m (misses_none g (pair_set a b) t.m t.is z)) same_parity
+        (λ z. no_match t.m (none_missed-perfect g (pair_set a b) t.m t.is z)) same_parity
       where
         two_more : count g.order (union (pair_set a b) t.s) ≡ count g.order t.s + 2
         two_more = two_less g.order (union (pair_set a b) t.s) a b wa wb d (ap (λ c. (c || (b == a)) || t.s a) (eq-eqb a a refl)) (at_b (a == b) (b == b) (t.s b) (eq-eqb b b refl))

@@ -3,7 +3,8 @@
 use Rattle.std.proofs.Common.{◌≡◌, ℕ, suc, zero, ◌+◌, ◌≤◌, Bool, true, false, cond, ◌==◌, refl, sym, ap, ap₂, ◌∙◌, arith, ◌&&◌, ◌||◌, not, eq-eqb, ne_eqb, eqb-true, inl, inr, nat_lt, List, [], ◌∷◌}
 use Rattle.std.proofs.lemmas.Bool.{cases_eq, true≢false, false_from_ne_true, both_ways}
 use Rattle.barrier_kit.proofs.BarrierCuts.{leader_of, leader_same, leads_out, part_same}
-use Rattle.barrier_kit.proofs.Barriers.{few_odd_components, misses_none, odd_component_count-parity}
+use Rattle.barrier_kit.proofs.Barriers.{few_odd_components, odd_component_count-parity}
+use Rattle.graph_core.proofs.Perfect.{none_missed-perfect}
 use Rattle.barrier_kit.proofs.Matched.{count_only, even_order, perfect_congr}
 use Rattle.counting.proofs.RisingLists.{same_answers}
 use Rattle.counting.proofs.Tests.{some_congr}
@@ -189,7 +190,7 @@ module _ (g : Graph) (is : IsGraph g) (m : Set) (p : IsPerfect g none m) (s : Se
       barrier : IsBarrier g big
       barrier = settle (missed_count g r t.m) (count g.order s) (count g.order t.s) (odd_component_count g big) (count g.order big)
           (let a = parts_sum in let b : odd_component_count g s ≡ count g.order s = bar in let c = t.equal in omega arith)
-          big_count (few_odd_components g big m is p) (λ z. no_match t.m (misses_none g r t.m t.is z)) (same_parity g big is (even_order g m is p))
+          big_count (few_odd_components g big m is p) (λ z. no_match t.m (none_missed-perfect g r t.m t.is z)) (same_parity g big is (even_order g m is p))
 
 -- an odd component that keeps no perfect matching without one of its vertices lets the barrier grow
 pub enlarge_any : (g : Graph) (m s : Set) (v : ℕ) → IsGraph g → IsPerfect g none m → IsBarrier g s → Within g.order v → s v ≡ false → is_odd (count g.order (joined g s v)) ≡ true →

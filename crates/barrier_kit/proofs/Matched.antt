@@ -2,7 +2,7 @@
 -- Where each term is at least one and the sum is no more than the number of terms, each term is one.
 use Rattle.std.proofs.Common.{ap₂, ◌≡◌, ℕ, suc, zero, ◌+◌, ◌≤◌, ◌<◌, ◌≢◌, Bool, true, false, ◌==◌, refl, sym, ap, ◌∙◌, arith, ◌&&◌, ◌||◌, not, eq-eqb, ne_eqb, eqb-true, inl, inr}
 use Rattle.std.proofs.lemmas.Bool.{cases_eq, cases_Bool, true≢false, false_from_ne_true, both_ways}
-use Rattle.barrier_kit.proofs.Barriers.{perfect_matching, perfect_misses}
+use Rattle.graph_core.proofs.Perfect.{perfect_matching, perfect_misses}
 use Rattle.counting.proofs.Counts.{bit_true, count_complement, count_congr, some_le_count}
 use Rattle.counting.proofs.Odd.{odd-double}
 use Rattle.counting.proofs.Tests.{some_none, some_true}
