@@ -1,4 +1,5 @@
 pub mod Marking
+pub mod ShortPaths
 pub mod Settling
 pub mod FirstComponent
 pub mod ThroughEdges

@@ -17,6 +17,7 @@
 mod edges;
 mod pairs;
 mod questions;
+mod short_paths;
 mod table;
 mod verdict;
 

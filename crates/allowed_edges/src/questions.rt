@@ -8,6 +8,7 @@ ghost use Rattle.graph_core.specs.Matchings.{Allowed, HasPerfect, IsMatching, Is
 ghost use Rattle.match_core.specs.MatchingRows.{IsOf, edges_of};
 ghost use Rattle.allowed_edges.specs.Leaving.{LeavesFew, ShareNone};
 
+use crate::short_paths::completed;
 use graph_core::MultiGraph;
 use match_core::{Matching, repair};
 use std::alloc::{AllocError as Memory, Global};
@@ -86,15 +87,17 @@ fn perfect_off(
     if misses_none(g, &rest, met) {
         return Ok(Some(rest));
     }
-    repair(alloc, g, met, &rest)
+    match completed(alloc, g, met, &rest)? {
+        Some(found) => Ok(Some(found)),
+        None => repair(alloc, g, met, &rest),
+    }
 }
 
 /// Whether a matching of G - met misses no other vertex.
-fn misses_none(g: &MultiGraph, m: &Matching, met: VSet) -> bool
+pub fn misses_none(g: &MultiGraph, m: &Matching, met: VSet) -> bool
     requires of { IsOf g.now m.now }
     requires within { (v : ℕ) → mem met v ≡ true → Within g.now.order v }
     requires matching { IsMatching g.now (mem met) (mem (edges_of m.now)) }
-    requires few { (missed_count g.now (mem met) (mem (edges_of m.now)) ≡ 0) ⊎ (missed_count g.now (mem met) (mem (edges_of m.now)) ≡ 2) }
     ensures { result ≡ (missed_count g.now (mem met) (mem (edges_of m.now)) == 0) }
 {
     g.keeps_limits();

@@ -1,6 +1,10 @@
-use Rattle.std.proofs.Common.{◌==◌, ◌+◌, ◌*◌, ap, sym, ◌∙◌, arith, inl, inr, eq-eqb, ne_eqb}
+use Rattle.std.proofs.Common.{◌+◌, ◌*◌, arith}
 use Rattle.counting.proofs.RisingLists.{set-narrower}
+use Rattle.counting.specs.Lists.{mem}
+use Rattle.graph_core.specs.Matchings.{missed_count}
+use Rattle.match_core.specs.MatchingRows.{edges_of}
 use Rattle.match_core.proofs.ClearedMatchings.{left_size}
+use Rattle.allowed_edges.proofs.ShortPaths.{same_zero}
 use Rattle.allowed_edges.proofs.questions.misses_none.Goals as goal
 
 pub overflow_mul-result : goal.overflow_mul-result
@@ -27,7 +31,4 @@ returns c =
     let k = c.len.ensures in
     let j = c.len-2.ensures in
     let o = c.order.ensures.is in
-    elim c.requires.few [
-      | inl z ↦ eq-eqb (c.len.result * 2 + c.len-2.result) c.order.result (omega arith) ∙ sym (ap (λ x. x == 0) z)
-      | inr z ↦ ne_eqb (c.len.result * 2 + c.len-2.result) c.order.result (λ q. absurd (omega arith)) ∙ sym (ap (λ x. x == 0) z)
-    ]
+    same_zero (missed_count c.args.g.now (mem c.args.met) (mem (edges_of c.args.m.now))) (c.len.result * 2 + c.len-2.result) c.order.result (omega arith)

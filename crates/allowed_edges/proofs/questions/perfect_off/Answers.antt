@@ -1,19 +1,12 @@
-use Rattle.std.proofs.Common.{◌≡◌, ◌⊎◌, sym, ◌∙◌, subst, eqb-true}
-use mathlib.Core.Path.{fun_ext}
+use Rattle.std.proofs.Common.{◌≡◌, sym, ◌∙◌, subst, eqb-true}
 use Rattle.counting.specs.Lists.{mem}
-use Rattle.counting.specs.Sets.{Set}
 use Rattle.graph_core.specs.Matchings.{IsPerfect, missed_count}
 use Rattle.graph_core.proofs.Perfect.{none_missed-perfect}
-use Rattle.match_core.specs.MatchingRows.{IsOf, MatchingValue, edges_of, left_over}
+use Rattle.match_core.specs.MatchingRows.{IsOf, MatchingValue, edges_of}
 use Rattle.allowed_edges.proofs.questions.perfect_off.Goals as goal
 
 pub misses_none-requires-clause-of : goal.misses_none-requires-clause-of
 misses_none-requires-clause-of c = c.in_ok-rest.ensures.of c.args.g.now c.requires.of
-
-pub misses_none-requires-clause-few : goal.misses_none-requires-clause-few
-misses_none-requires-clause-few c =
-    let same : mem (edges_of c.in_ok-rest.rest) ≡ left_over c.args.g.now (mem c.args.met) (mem (edges_of c.args.kept.now)) = fun_ext (c.in_ok-rest.ensures.edges c.args.g.now c.requires.of) in
-    subst (λ (s : Set). (missed_count c.args.g.now (mem c.args.met) s ≡ 0) ⊎ (missed_count c.args.g.now (mem c.args.met) s ≡ 2)) (sym same) c.requires.few
 
 pub returns-then-misses_none-clause-of : goal.returns-then-misses_none-clause-of
 returns-then-misses_none-clause-of c = λ m q.
@@ -36,3 +29,12 @@ returns-then-misses_none-clause-none c =
 
 pub repair-requires-clause-of : goal.repair-requires-clause-of
 repair-requires-clause-of c = c.in_ok-rest.ensures.of c.args.g.now c.requires.of
+
+pub completed-requires-clause-of : goal.completed-requires-clause-of
+completed-requires-clause-of c = c.in_ok-rest.ensures.of c.args.g.now c.requires.of
+
+pub returns-in-Some-clause-none : goal.returns-in-Some-clause-none
+returns-in-Some-clause-none c = (
+  (λ q. cc),
+  (λ h. absurd (h (mem (edges_of c.in-Some.found), c.in_ok-found.ensures.perfect c.in-Some.found c.in-Some.is))),
+)

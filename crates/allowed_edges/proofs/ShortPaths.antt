@@ -1,0 +1,62 @@
+-- A matching with an edge more, between two vertices that it does not meet, and what a row that was read says of a matching's ends.
+use Rattle.std.proofs.Common.{◌≡◌, ℕ, suc, zero, ◌+◌, ◌<◌, Bool, true, false, ◌==◌, ◌||◌, refl, sym, ap, ◌∙◌, arith, List, [], ◌∷◌, inl, eq-eqb, ne_eqb, Some, Option, length, slice_get}
+use Rattle.std.proofs.lemmas.Bool.{both_ways}
+use Rattle.counting.specs.Counts.{Within, bit}
+use Rattle.counting.specs.Sets.{Set, put}
+use Rattle.counting.specs.Lists.{mem}
+use Rattle.graph_core.specs.Graph.{Graph, IsMultigraph, degree, first_end, second_end, size}
+use Rattle.graph_core.specs.Matchings.{IsMatching}
+use Rattle.graph_core.proofs.Edits.{add_edge}
+use Rattle.match_core.specs.MatchingRows.{IsOf, KeepsMatching, MatchingValue, edges_of, ends_at}
+use Rattle.match_core.specs.declared.matching.MatchRow.{MatchRow}
+use Rattle.match_core.proofs.Alike.{matching_alike}
+use Rattle.match_core.proofs.GrownRows.{with_put}
+use Rattle.match_core.proofs.MatchingEdges.{degree-ends_at, rows-rise}
+
+-- each row has its ends in x: then no row is at a vertex outside x
+abbrev pub EndsIn : Set → List MatchRow → Type 0
+EndsIn x rows = (i : ℕ) (row : MatchRow) → slice_get rows i ≡ Some row → (x row.a ≡ true) × (x row.b ≡ true)
+
+pub ends_outside : (x : Set) (rows : List MatchRow) → EndsIn x rows → (v : ℕ) → x v ≡ false → ends_at rows v ≡ 0
+ends_outside x [] ends v out = refl
+ends_outside x (row ∷ rows) ends v out =
+    let here = ends 0 row refl in
+    let a = ap bit (ne_eqb row.a v (λ q. both_ways (x v) out (sym (ap x q) ∙ here.0))) in
+    let b = ap bit (ne_eqb row.b v (λ q. both_ways (x v) out (sym (ap x q) ∙ here.1))) in
+    let r = ends_outside x rows (λ i d h. ends (suc i) d h) v out in
+    omega arith
+
+-- a test of a sum is one of its part
+pub same_zero : (k a o : ℕ) → k + a ≡ o → (a == o) ≡ (k == 0)
+same_zero zero a o h = eq-eqb a o (omega arith)
+same_zero (suc k) a o h = ne_eqb a o (λ q. absurd (omega arith)) ∙ sym (ne_eqb (suc k) 0 (λ q. absurd (omega arith)))
+
+module _ (g : Graph) (m : MatchingValue) (of : IsOf g m) (keeps : KeepsMatching m) where
+  -- a vertex at which no row is has no edge
+  pub no_edge : (v : ℕ) → ends_at m.rows v ≡ 0 → degree g (mem (edges_of m)) v ≡ 0
+  no_edge v h = degree-ends_at g m.rows of.rows (rows-rise g m of keeps) v ∙ h
+
+  -- the matching with an edge between two vertices outside r at which no row is
+  pub longer_matching : (r : Set) (k : ℕ) (n : Set) → IsMultigraph g → IsMatching g r (mem (edges_of m)) → Within (size g) k → r (first_end g k) ≡ false → r (second_end g k) ≡ false →
+      ends_at m.rows (first_end g k) ≡ 0 → ends_at m.rows (second_end g k) ≡ 0 → ((i : ℕ) → n i ≡ (mem (edges_of m) i || (k == i))) → IsMatching g r n
+  longer_matching r k n is mm wk ra rb fa fb h =
+      matching_alike g r (put (mem (edges_of m)) k true) n (λ e we. h e ∙ with_put (mem (edges_of m)) k e)
+        (add_edge g r (mem (edges_of m)) k (first_end g k) (second_end g k) mm wk (is.no_loop k wk) ra rb (inl (refl, refl)) (no_edge (first_end g k) fa) (no_edge (second_end g k) fb)).0
+
+-- a matching of the graph without more vertices
+pub fewer_removed : (g : Graph) (r s m : Set) → ((v : ℕ) → s v ≡ true → r v ≡ true) → IsMatching g r m → IsMatching g s m
+fewer_removed g r s m h mm = record { once = mm.once; away = λ v w t. mm.away v w (h v t) }
+
+-- neither of two that are false together
+pub or_parts : (a b : Bool) → (a || b) ≡ false → (a ≡ false) × (b ≡ false)
+or_parts true b h = absurd (both_ways true h refl)
+or_parts false b h = (refl, h)
+
+-- a place that is read is one of the list
+pub get_below : (rows : List MatchRow) (i : ℕ) (row : MatchRow) → slice_get rows i ≡ Some row → i < length rows
+get_below [] i row h = cc
+get_below (r ∷ rows) zero row h = omega arith
+get_below (r ∷ rows) (suc i) row h = let b = get_below rows i row h in omega arith
+
+pub some_inj : (r s : MatchRow) → ◌≡◌ {A = Option MatchRow} (Some r) (Some s) → r ≡ s
+some_inj r s h = cc

@@ -1,0 +1,196 @@
+//! Short alternating paths: a matching that misses two vertices made perfect by one edge between them, or by two edges in place
+//! of one. In a graph with many edges such a path is found far sooner than by the search for any path.
+ghost use Rattle.std.specs.Prelude.{◌≡◌, ◌<◌, ◌≤◌, ℕ, true, false, length, slice_get, IfOk, Some, None};
+ghost use Rattle.counting.specs.Counts.{Within};
+ghost use Rattle.counting.specs.Lists.{mem};
+ghost use Rattle.graph_core.specs.Graph.{size};
+ghost use Rattle.graph_core.specs.Matchings.{IsMatching, IsPerfect};
+ghost use Rattle.match_core.specs.MatchingRows.{IsOf, edges_of, ends_at};
+
+use crate::questions::misses_none;
+use graph_core::MultiGraph;
+use match_core::{MatchRow, Matching};
+use std::alloc::{AllocError as Memory, Global};
+use vset_core::VSet;
+
+/// A perfect matching of G - met, from a matching of it: with an edge more between two vertices that it misses, or with two
+/// edges in place of one. `None` where neither serves, which says nothing of G - met.
+pub fn completed(
+    alloc: Global,
+    g: &MultiGraph,
+    met: VSet,
+    m: &Matching,
+) -> Result<Option<Matching>, Memory>
+    requires of { IsOf g.now m.now }
+    requires within { (v : ℕ) → mem met v ≡ true → Within g.now.order v }
+    requires matching { IsMatching g.now (mem met) (mem (edges_of m.now)) }
+    ensures of { IfOk result (λ o. (n : _) → o ≡ Some n → IsOf g.now n) }
+    ensures perfect { IfOk result (λ o. (n : _) → o ≡ Some n → IsPerfect g.now (mem met) (mem (edges_of n))) }
+{
+    g.keeps_limits();
+    let missed = VSet::full(g.order()).minus(met).minus(met_vertices(m));
+    let x = match missed.first() {
+        Some(x) => x,
+        None => return Ok(None),
+    };
+    let y = match missed.last() {
+        Some(y) => y,
+        None => return Ok(None),
+    };
+    match edge_between(g, x, y) {
+        Some(k) => with_one(alloc, g, met, m, k),
+        None => with_two(alloc, g, met, m, x, y),
+    }
+}
+
+// With edge `k` more.
+fn with_one(
+    alloc: Global,
+    g: &MultiGraph,
+    met: VSet,
+    m: &Matching,
+    k: u32,
+) -> Result<Option<Matching>, Memory>
+    requires of { IsOf g.now m.now }
+    requires within { (v : ℕ) → mem met v ≡ true → Within g.now.order v }
+    requires matching { IsMatching g.now (mem met) (mem (edges_of m.now)) }
+    requires edge { Within (size g.now) k }
+    ensures of { IfOk result (λ o. (n : _) → o ≡ Some n → IsOf g.now n) }
+    ensures perfect { IfOk result (λ o. (n : _) → o ≡ Some n → IsPerfect g.now (mem met) (mem (edges_of n))) }
+{
+    match with_edge(alloc, g, met, m, k)? {
+        Some(found) => {
+            if misses_none(g, &found, met) {
+                Ok(Some(found))
+            } else {
+                Ok(None)
+            }
+        }
+        None => Ok(None),
+    }
+}
+
+// With an edge at `x` and one at `y` in place of the first edge that they enclose.
+fn with_two(
+    alloc: Global,
+    g: &MultiGraph,
+    met: VSet,
+    m: &Matching,
+    x: u32,
+    y: u32,
+) -> Result<Option<Matching>, Memory>
+    requires of { IsOf g.now m.now }
+    requires within { (v : ℕ) → mem met v ≡ true → Within g.now.order v }
+    requires matching { IsMatching g.now (mem met) (mem (edges_of m.now)) }
+    ensures of { IfOk result (λ o. (n : _) → o ≡ Some n → IsOf g.now n) }
+    ensures perfect { IfOk result (λ o. (n : _) → o ≡ Some n → IsPerfect g.now (mem met) (mem (edges_of n))) }
+{
+    g.keeps_limits();
+    m.keeps_matching();
+    let row = match enclosed(m, neighbours(g, x), neighbours(g, y)) {
+        Some(row) => row,
+        None => return Ok(None),
+    };
+    let at_x = match edge_between(g, x, row.a) {
+        Some(k) => k,
+        None => return Ok(None),
+    };
+    let at_y = match edge_between(g, y, row.b) {
+        Some(k) => k,
+        None => return Ok(None),
+    };
+    let opened = m.cleared(alloc, met.with(row.a).with(row.b))?;
+    match with_edge(alloc, g, met, &opened, at_x)? {
+        Some(longer) => with_one(alloc, g, met, &longer, at_y),
+        None => Ok(None),
+    }
+}
+
+// The matching with edge `k` more, if the ends of `k` are neither in `met` nor ends of its edges.
+fn with_edge(
+    alloc: Global,
+    g: &MultiGraph,
+    met: VSet,
+    m: &Matching,
+    k: u32,
+) -> Result<Option<Matching>, Memory>
+    requires of { IsOf g.now m.now }
+    requires matching { IsMatching g.now (mem met) (mem (edges_of m.now)) }
+    requires edge { Within (size g.now) k }
+    ensures of { IfOk result (λ o. (n : _) → o ≡ Some n → IsOf g.now n) }
+    ensures matching { IfOk result (λ o. (n : _) → o ≡ Some n → IsMatching g.now (mem met) (mem (edges_of n))) }
+{
+    g.keeps_limits();
+    m.keeps_matching();
+    let taken = met_vertices(m).union(met);
+    let ends = g.ends(k);
+    if taken.contains(ends.a) || taken.contains(ends.b) {
+        return Ok(None);
+    }
+    let longer = m.joined(alloc, g, k)?;
+    Ok(Some(longer))
+}
+
+// The vertices that are ends of edges of the matching.
+fn met_vertices(m: &Matching) -> VSet
+    ensures { (v : ℕ) → mem result v ≡ false → ends_at m.now.rows v ≡ 0 }
+{
+    m.keeps_matching();
+    let mut met = VSet::empty();
+    for i in 0..m.len() {
+        let row = m.row(i);
+        met = met.with(row.a).with(row.b);
+    }
+    met
+}
+
+// The first row whose ends are in the two sets, one in each; its `a` is then the one in the first set.
+fn enclosed(m: &Matching, near: VSet, far: VSet) -> Option<MatchRow>
+    ensures { (row : _) → result ≡ Some row → Within m.now.order row.a × Within m.now.order row.b }
+{
+    m.keeps_matching();
+    for i in 0..m.len() {
+        let row = m.row(i);
+        if near.contains(row.a) && far.contains(row.b) {
+            return Some(row);
+        }
+        if near.contains(row.b) && far.contains(row.a) {
+            return Some(MatchRow {
+                edge: row.edge,
+                a: row.b,
+                b: row.a,
+            });
+        }
+    }
+    None
+}
+
+// The first edge with the ends `x` and `y`.
+fn edge_between(g: &MultiGraph, x: u32, y: u32) -> Option<u32>
+    ensures { (k : ℕ) → result ≡ Some k → Within (size g.now) k }
+{
+    g.keeps_limits();
+    for k in 0..g.size() {
+        let e = g.ends(k + 1);
+        if (e.a == x && e.b == y) || (e.a == y && e.b == x) {
+            return Some(k + 1);
+        }
+    }
+    None
+}
+
+// The vertices that an edge joins with `x`.
+fn neighbours(g: &MultiGraph, x: u32) -> VSet {
+    g.keeps_limits();
+    let mut near = VSet::empty();
+    for k in 0..g.size() {
+        let e = g.ends(k + 1);
+        if e.a == x {
+            near = near.with(e.b);
+        }
+        if e.b == x {
+            near = near.with(e.a);
+        }
+    }
+    near
+}
