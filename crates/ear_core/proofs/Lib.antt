@@ -8,3 +8,5 @@ pub mod EngineGraphs
 pub mod Settling
 pub mod Marking
 pub mod Taking
+pub mod FirstStage
+pub mod Judging

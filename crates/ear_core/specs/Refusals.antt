@@ -5,7 +5,7 @@ use Rattle.counting.specs.Sets.{Set, singleton}
 use Rattle.counting.specs.Tests.{IsLeastWithout}
 use Rattle.graph_core.specs.Graph.{Graph, size}
 use Rattle.ear_core.specs.Stages.{IsStage, AllowedBy}
-use Rattle.ear_core.specs.EarLists.{PlainStep, one, two, PlainEars, next_stage}
+use Rattle.ear_core.specs.EarLists.{PlainStep, one, two, PlainEars, next_stage, AreSteps}
 use Rattle.ear_core.specs.EarTests.{Why, stage_not_covered, ends_early, ear_fault, inner_vertices}
 
 -- the first of two
@@ -35,6 +35,11 @@ IsFirstRefusal g f k [] number why = (number ≡ k) × ((e : ℕ) × IsLeastWith
 IsFirstRefusal g f k (s ∷ steps) number why =
     ((number ≡ k + 1) × IsStepRefused g f s why)
     ⊎ ((step_fault g f s ≡ None) × IsStage g (next_stage f s) × IsFirstRefusal g (next_stage f s) (k + 1) steps number why)
+
+-- what is answered of steps that follow k others: nothing where they lead to all edges, else their first refusal
+abbrev pub IsJudged : Graph → Set → ℕ → List PlainStep → Option (ℕ × Why) → Type 0
+IsJudged g f k steps None = AreSteps g f steps
+IsJudged g f k steps (Some refusal) = IsFirstRefusal g f k steps refusal.0 refusal.1
 
 -- the first refusal of a list of ears of g
 abbrev pub IsRefused : Graph → PlainEars → ℕ → Why → Type 0

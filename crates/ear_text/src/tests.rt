@@ -1,7 +1,12 @@
-//! Worked texts of ear lists: what is read of them, and what is written.
+//! Worked texts of ear lists: what is read of them, what is written, and what is answered of the lists.
+ghost use Rattle.std.specs.Prelude.{◌≤◌, ◌<◌, length};
+
 use crate::{read_ears, write_ears};
-use graph_core::{FaultKind, TextFault};
+use ear_core::{EarJudgement, EarWhy, check_ears};
+use graph_core::{FaultKind, MultiGraph, TextFault};
+use std::alloc::Global;
 use std::test::Fail;
+use vset_core::MOST_VERTICES;
 
 #[test]
 fn ear_lists_written_and_read_again(rt: HostRuntime) -> Result<(), Fail> {
@@ -78,4 +83,99 @@ fn first_faults_for_4_vertices_and_6_edges(rt: HostRuntime) {
         let fault = read_ears(rt.alloc(), text, 4, 6).err();
         assert_eq!(rt; fault, Some(TextFault::At { line, kind }));
     }
+}
+
+const K4: [(u32, u32); 6] = [(1, 2), (1, 3), (1, 4), (2, 3), (2, 4), (3, 4)];
+
+const CUBE: [(u32, u32); 12] = [
+    (1, 2),
+    (2, 3),
+    (3, 4),
+    (1, 4),
+    (5, 6),
+    (6, 7),
+    (7, 8),
+    (5, 8),
+    (1, 5),
+    (2, 6),
+    (3, 7),
+    (4, 8),
+];
+
+fn judged(
+    alloc: Global,
+    order: u32,
+    edges: &[(u32, u32)],
+    text: &[u8],
+) -> Result<EarJudgement, Fail>
+    requires order { order ≤ MOST_VERTICES }
+    requires text { length text.now < 4294967295 }
+{
+    let mut graph = MultiGraph::new(alloc, order)?;
+    for (a, b) in edges {
+        graph.add_edge(*a, *b)?;
+    }
+    let list = read_ears(alloc, text, graph.order(), graph.size())?;
+    Ok(check_ears(alloc, &graph, &list)?)
+}
+
+fn refused(step: u32, why: EarWhy) -> EarJudgement {
+    EarJudgement::Refused { step, why }
+}
+
+#[test]
+fn ear_lists_of_the_complete_graph_of_4_vertices(rt: HostRuntime) -> Result<(), Fail> {
+    let rows: [(&[u8], EarJudgement); 11] = [
+        (b"ear 2 4 6 3\near 1 2\nwith 2 5\n", EarJudgement::Accepted),
+        (b"ear 2 4 3\n", refused(1, EarWhy::NotPath)),
+        (b"ear 2 4 2\n", refused(1, EarWhy::EvenLength)),
+        (b"ear 3 6\n", refused(1, EarWhy::BadEnds)),
+        (b"ear 2 4 2 1\n", refused(1, EarWhy::BadEnds)),
+        (
+            b"ear 2 4 6 3\near 1 2 4 5\n",
+            refused(2, EarWhy::InnerOnStage),
+        ),
+        (b"ear 2 4 6 3\near 1 1\n", refused(2, EarWhy::EdgeUsed)),
+        (
+            b"ear 2 4 6 3\near 1 2\nwith 1 2\n",
+            refused(2, EarWhy::EdgeUsed),
+        ),
+        (
+            b"ear 2 4 6 3\near 1 2\near 2 5\n",
+            refused(2, EarWhy::StageNotCovered { edge: 2 }),
+        ),
+        (b"ear 2 4 6 3\n", refused(1, EarWhy::EndsEarly { edge: 2 })),
+        (b"", refused(0, EarWhy::EndsEarly { edge: 2 })),
+    ];
+    for (steps, answer) in rows {
+        let mut text = vec![in rt.alloc(); 0; 0]?;
+        text.extend_from_slice(b"r mcg 4 6\nstart 1\n")?;
+        text.extend_from_slice(steps)?;
+        assert!(rt; text.len() < 200);
+        assert_eq!(rt; judged(rt.alloc(), 4, &K4, &text)?, answer);
+    }
+    Ok(())
+}
+
+#[test]
+fn ear_lists_of_the_cube(rt: HostRuntime) -> Result<(), Fail> {
+    let rows: [(&[u8], EarJudgement); 3] = [
+        (
+            b"r mcg 8 12\nstart 1\near 2 2 3 4\near 1 9 5 10\near 3 11 7 12\near 6 6\near 5 8\n",
+            EarJudgement::Accepted,
+        ),
+        (
+            b"r mcg 8 12\nstart 1\near 2 2 3 4\near 1 9 5 10\near 3 11\near 6 6\near 5 8\n",
+            refused(3, EarWhy::BadEnds),
+        ),
+        (
+            b"r mcg 8 12\nstart 1\near 2 2 3 4\near 1 9 5 10\near 3 11 7 12\near 6 6\n",
+            refused(4, EarWhy::EndsEarly { edge: 8 }),
+        ),
+    ];
+    for (text, answer) in rows {
+        assert!(rt; text.len() < 200);
+        assert_eq!(rt; judged(rt.alloc(), 8, &CUBE, text)?, answer);
+    }
+    Ok(())
 }

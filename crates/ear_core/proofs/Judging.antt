@@ -1,0 +1,87 @@
+-- The answer to a list of steps, step by step: what is answered of the steps behind one that is taken is answered of all. And the answer
+-- to a list is right both ways, since a list of steps has no refusal or leads not to all edges.
+use Rattle.std.proofs.Common.{◌≡◌, ◌↔◌, ℕ, zero, suc, ◌+◌, ◌<◌, ◌≤◌, Bool, true, false, ◌||◌, ◌==◌, List, ◌∷◌, length, Option, Some, None, Result, IfOk, refl, sym, ap, ap₂, ◌∙◌, subst, inr}
+use Rattle.std.specs.Prelude.{slice_set, replicate}
+use Rattle.std.proofs.Math.Path.{fun_ext}
+use Rattle.std.proofs.lemmas.Bool.{both_ways}
+use Rattle.std.proofs.lemmas.Result.{IfOk-weaker}
+use Rattle.counting.specs.Counts.{Within, count}
+use Rattle.counting.specs.Sets.{Set, singleton}
+use Rattle.graph_core.specs.Graph.{Graph, size, IsMultigraph}
+use Rattle.match_core.specs.Rows.{marks}
+use Rattle.allowed_edges.proofs.Marking.{marks-set}
+use Rattle.ear_core.specs.EarLists.{PlainStep, PlainEars, next_stage, IsEarList}
+use Rattle.ear_core.specs.EarTests.{Why, not_path}
+use Rattle.ear_core.specs.Refusals.{step_fault, IsJudged, IsRefused}
+use Rattle.ear_core.specs.Stages.{IsStage}
+use Rattle.ear_core.specs.View.{refusal_of}
+use Rattle.ear_core.specs.declared.judgement.EarJudgement.{EarJudgement}
+use Rattle.ear_core.proofs.FirstStage.{first-stage, step-adds}
+use Rattle.ear_core.proofs.Refusing.{step-none, refusal-none, refusal-one}
+
+-- a step that is taken
+module _ (g : Graph) (f new : Set) (s : PlainStep) (passes : step_fault g f s ≡ None) (stage : IsStage g (next_stage f s)) (same : (i : ℕ) → new i ≡ next_stage f s i) where
+  pub taken-stage : IsStage g new
+  taken-stage = subst (IsStage g) (sym (fun_ext same)) stage
+
+  pub taken-adds : count (size g) f + 1 ≤ count (size g) new
+  taken-adds = subst (λ (h : Set). count (size g) f + 1 ≤ count (size g) h) (sym (fun_ext same)) (step-adds g f s (step-none g f s passes))
+
+  behind : (k : ℕ) (steps : List PlainStep) (answer : Option (ℕ × Why)) → IsJudged g (next_stage f s) (k + 1) steps answer → IsJudged g f k (s ∷ steps) answer
+  behind k steps None judged = (step-none g f s passes, stage, judged)
+  behind k steps (Some refusal) judged = inr (passes, stage, judged)
+
+  pub judged-behind : (k : ℕ) (rest others : List PlainStep) → rest ≡ s ∷ others → (answer : Option (ℕ × Why)) → IsJudged g new (k + 1) others answer → IsJudged g f k rest answer
+  judged-behind k rest others begins answer judged =
+      subst (λ (steps : List PlainStep). IsJudged g f k steps answer) (sym begins)
+      (behind k others answer (subst (λ (h : Set). IsJudged g h (k + 1) others answer) (fun_ext same) judged))
+
+abbrev is_some : Option (ℕ × Why) → Bool
+is_some None = false
+is_some (Some refusal) = true
+
+no-some : (refusal : ℕ × Why) → Some refusal ≡ None → ⊥
+no-some refusal same = both_ways (is_some (Some refusal)) (ap is_some same) refl
+
+abbrev named : Option (ℕ × Why) → ℕ × Why
+named None = (0, not_path)
+named (Some refusal) = refusal
+
+-- the answer is right both ways
+module _ (g : Graph) (is : IsMultigraph g) (f : Set) (list : PlainEars) (start : Within (size g) list.start) (same : (i : ℕ) → f i ≡ singleton list.start i) (steps : List PlainStep) (all : steps ≡ list.steps) where
+  of-list : (answer : Option (ℕ × Why)) → IsJudged g f 0 steps answer → IsJudged g (singleton list.start) 0 list.steps answer
+  of-list answer judged =
+      subst (λ (xs : List PlainStep). IsJudged g (singleton list.start) 0 xs answer) all (subst (λ (h : Set). IsJudged g h 0 steps answer) (fun_ext same) judged)
+
+  accepts : (answer : Option (ℕ × Why)) → IsJudged g (singleton list.start) 0 list.steps answer → (answer ≡ None) ↔ IsEarList g list
+  accepts None judged = (λ e. record { start = start; first_stage = first-stage g is list.start start; steps = judged }, λ e. refl)
+  accepts (Some refusal) judged = (λ e. absurd (no-some refusal e), λ ears. absurd (refusal-none g (singleton list.start) 0 list.steps refusal.0 refusal.1 judged ears.steps))
+
+  refuses : (answer : Option (ℕ × Why)) → IsJudged g (singleton list.start) 0 list.steps answer → (step : ℕ) (why : Why) → (answer ≡ Some (step, why)) ↔ IsRefused g list step why
+  refuses None judged step why = (λ e. absurd (no-some (step, why) (sym e)), λ refused. absurd (refusal-none g (singleton list.start) 0 list.steps step why refused judged))
+  refuses (Some refusal) judged step why = (
+    λ e. subst (λ (r : ℕ × Why). IsRefused g list r.0 r.1) (ap named e) judged,
+    λ refused. let one = refusal-one g (singleton list.start) 0 list.steps refusal.0 step refusal.1 why judged refused in ap Some (ap₂ (λ (i : ℕ) (w : Why). (i, w)) one.0 one.1),
+  )
+
+  module _ {Fault : Type 0} (result : Result EarJudgement Fault) (judged : IfOk result (λ judgement. IsJudged g f 0 steps (refusal_of judgement))) where
+    pub judged-accepted : IfOk result (λ judgement. (refusal_of judgement ≡ None) ↔ IsEarList g list)
+    judged-accepted = IfOk-weaker result (λ judgement. IsJudged g f 0 steps (refusal_of judgement)) (λ judgement. (refusal_of judgement ≡ None) ↔ IsEarList g list)
+        (λ judgement x. accepts (refusal_of judgement) (of-list (refusal_of judgement) x)) judged
+
+    pub judged-refused : IfOk result (λ judgement. (step : ℕ) (why : Why) → (refusal_of judgement ≡ Some (step, why)) ↔ IsRefused g list step why)
+    judged-refused = IfOk-weaker result (λ judgement. IsJudged g f 0 steps (refusal_of judgement)) (λ judgement. (step : ℕ) (why : Why) → (refusal_of judgement ≡ Some (step, why)) ↔ IsRefused g list step why)
+        (λ judgement x. refuses (refusal_of judgement) (of-list (refusal_of judgement) x)) judged
+
+-- nothing is marked
+blank : (n i : ℕ) → marks (replicate n false) i ≡ false
+blank zero i = refl
+blank (suc n) zero = refl
+blank (suc n) (suc i) = blank n i
+
+-- one edge is marked
+pub one-marked : (items : List Bool) (n e : ℕ) → items ≡ replicate n false → e < length items → (i : ℕ) → marks (slice_set items e true) i ≡ singleton e i
+one-marked items n e blanks less i = marks-set items e i less ∙ ap (λ b. b || (e == i)) (ap (λ (xs : List Bool). marks xs i) blanks ∙ blank n i)
+
+pub one-stage : (g : Graph) → IsMultigraph g → (f : Set) (e : ℕ) → Within (size g) e → ((i : ℕ) → f i ≡ singleton e i) → IsStage g f
+one-stage g is f e w same = subst (IsStage g) (sym (fun_ext same)) (first-stage g is e w)

@@ -1,0 +1,47 @@
+use Rattle.std.proofs.Common.{rules, ◌≡◌, ◌∙◌, ◌∷◌, ap, arith, subst, map, None, ℕ}
+use Rattle.std.specs.List.{AllByRecursion}
+use Rattle.counting.proofs.Counts.{count_le}
+use Rattle.graph_core.specs.Graph.{size}
+use Rattle.match_core.specs.Rows.{marks}
+use Rattle.ear_core.specs.EarLists.{FitsStep, next_stage}
+use Rattle.ear_core.specs.Refusals.{step_fault}
+use Rattle.ear_core.specs.Stages.{IsStage}
+use Rattle.ear_core.specs.View.{step_of}
+use Rattle.ear_core.proofs.FirstStage.{stage-counts}
+use Rattle.ear_core.proofs.Judging.{taken-stage, taken-adds, judged-behind}
+use Rattle.ear_core.proofs.checking.check_steps.Goals as goal
+
+pub steps-init : goal.steps-init
+steps-init c = record {
+  long = c.requires.long;
+  stage = c.requires.stage;
+  fits = c.requires.fits;
+  few = stage-counts c.args.g.now (marks c.args.mark.now.items) c.requires.stage;
+  answer = λ answer judged. judged;
+}
+
+pub overflow_add-number : goal.overflow_add-number
+overflow_add-number c =
+    let few = c.steps.invariant.few in
+    let most = count_le (size c.args.g.now) (marks c.steps.mark.items) in
+    let limit = c.keeps_limits.ensures.edges in omega arith
+
+pub steps-preserved : goal.steps-preserved
+steps-preserved c =
+    let g = c.args.g.now in
+    let f = marks c.steps.mark.items in
+    let s = step_of c.in-Some.step.now in
+    let begins : map step_of c.steps.rest.now ≡ s ∷ map step_of c.in-Some.others.now = ap (map step_of) c.in-Some.ensures.cases.0 in
+    let passes : step_fault g f s ≡ None = search rules in
+    let stage : IsStage g (next_stage f s) = search rules in
+    let same : (i : ℕ) → marks c.take_step.new.mark.items i ≡ next_stage f s i = search rules in
+    let new = marks c.take_step.new.mark.items in
+    let more = taken-adds g f new s passes stage same in
+    let few = c.steps.invariant.few in
+    record {
+      long = c.in_ok-why.ensures.length ∙ c.steps.invariant.long;
+      stage = taken-stage g f new s passes stage same;
+      fits = (subst (AllByRecursion (FitsStep g.order (size g))) begins c.steps.invariant.fits).1;
+      few = omega arith;
+      answer = λ answer judged. c.steps.invariant.answer answer (judged-behind g f new s passes stage same c.steps.number (map step_of c.steps.rest.now) (map step_of c.in-Some.others.now) begins answer judged);
+    }

@@ -1,0 +1,8 @@
+use Rattle.std.proofs.Common.{◌≡◌, ℕ, true}
+use Rattle.counting.specs.Counts.{Within}
+use Rattle.match_core.specs.Rows.{marks}
+use Rattle.ear_core.proofs.checking.judge_end.Given as goal
+
+-- the edges so far are marked
+abbrev pub invariant-loop-k : goal.invariant-loop-k
+invariant-loop-k l = (e : ℕ) → Within l.k e → marks l.mark e ≡ true

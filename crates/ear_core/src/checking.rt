@@ -1,0 +1,72 @@
+//! The check of an ear list, step by step on a row of marks.
+ghost use Rattle.std.specs.Prelude.{◌≡◌, ◌↔◌, ◌+◌, ℕ, length, map, [], Some, None, IfOk};
+ghost use Rattle.std.specs.List.{AllByRecursion};
+ghost use Rattle.graph_core.specs.Graph.{size};
+ghost use Rattle.match_core.specs.Rows.{marks};
+ghost use Rattle.ear_core.specs.EarLists.{FitsEars, FitsStep, IsEarList};
+ghost use Rattle.ear_core.specs.EarTests.{Why};
+ghost use Rattle.ear_core.specs.Refusals.{IsJudged, IsRefused};
+ghost use Rattle.ear_core.specs.Stages.{IsStage};
+ghost use Rattle.ear_core.specs.View.{ears_of, refusal_of, step_of};
+
+use crate::ears::{EarList, Step};
+use crate::judgement::{EarJudgement, EarWhy};
+use crate::steps::take_step;
+use graph_core::MultiGraph;
+use std::alloc::{AllocError as Memory, Global};
+
+/// Whether `list` is an ear list of `g`, and where it is none its first refusal: steps are numbered from 1, and at a step its first
+/// ear is tested by 1 to 5 of `EarWhy` in order, then its second ear likewise, then its new stage. Its numbers are a vertex and edges
+/// of `g`. `Memory` is want of memory alone. The ear lists of a matching covered graph are those of Lovász and Plummer.
+pub fn check_ears(alloc: Global, g: &MultiGraph, list: &EarList) -> Result<EarJudgement, Memory>
+    requires { FitsEars g.now.order (size g.now) (ears_of list.now) }
+    ensures accepted { IfOk result (λ judgement. (refusal_of judgement ≡ None) ↔ IsEarList g.now (ears_of list.now)) }
+    ensures refused { IfOk result (λ judgement. (step : ℕ) (why : Why) → (refusal_of judgement ≡ Some (step, why)) ↔ IsRefused g.now (ears_of list.now) step why) }
+{
+    g.keeps_limits();
+    let mut mark = vec![in alloc; false; g.size() as usize + 1]?;
+    mark[list.start as usize] = true;
+    check_steps(alloc, g, &mut mark, list.steps.as_slice())
+}
+
+// What is answered of steps from the stage of the marked edges.
+fn check_steps(
+    alloc: Global,
+    g: &MultiGraph,
+    mark: &mut Vec<bool>,
+    steps: &[Step],
+) -> Result<EarJudgement, Memory>
+    requires long { length mark.old.items ≡ size g.now + 1 }
+    requires stage { IsStage g.now (marks mark.old.items) }
+    requires fits { AllByRecursion (FitsStep g.now.order (size g.now)) (map step_of steps.now) }
+    ensures { IfOk result (λ judgement. IsJudged g.now (marks mark.old.items) 0 (map step_of steps.now) (refusal_of judgement)) }
+{
+    g.keeps_limits();
+    let mut number = 0;
+    let mut rest = steps;
+    'steps: while let Some((step, others)) = rest.split_first() {
+        number += 1;
+        if let Some(why) = take_step(alloc, g, mark, step)? {
+            return Ok(EarJudgement::Refused { step: number, why });
+        }
+        rest = others;
+    }
+    Ok(judge_end(g, mark, number))
+}
+
+// What is answered behind the last step, from the stage of the marked edges.
+fn judge_end(g: &MultiGraph, mark: &[bool], number: u32) -> EarJudgement
+    requires { length mark.now ≡ size g.now + 1 }
+    ensures { IsJudged g.now (marks mark.now) number [] (refusal_of result) }
+{
+    for k in 0..g.size() {
+        let edge = k + 1;
+        if !mark[edge as usize] {
+            return EarJudgement::Refused {
+                step: number,
+                why: EarWhy::EndsEarly { edge },
+            };
+        }
+    }
+    EarJudgement::Accepted
+}

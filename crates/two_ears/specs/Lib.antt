@@ -1,0 +1,3 @@
+pub mod VertexPairs
+pub mod AddedEdges
+pub mod Equivalences

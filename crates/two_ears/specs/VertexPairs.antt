@@ -1,0 +1,27 @@
+-- Lists of pairs of vertices.
+use Rattle.std.specs.Prelude.{◌≡◌, ℕ, ◌+◌, ◌≤◌, ◌⊎◌, List, [], ◌∷◌, ◌==◌, not}
+use Rattle.counting.specs.Counts.{bit, Within}
+use Rattle.counting.specs.Sets.{Set, pair_set}
+
+-- the two vertices of a pair
+abbrev pub vertices_of : ℕ × ℕ → Set
+vertices_of p = pair_set p.0 p.1
+
+-- p is in the list
+abbrev pub IsIn : ℕ × ℕ → List (ℕ × ℕ) → Type 0
+IsIn p [] = ⊥
+IsIn p (q ∷ ps) = (p ≡ q) ⊎ IsIn p ps
+
+-- how often v is a vertex of a pair of the list
+abbrev pub pairs_at : List (ℕ × ℕ) → ℕ → ℕ
+pairs_at [] v = 0
+pairs_at (p ∷ ps) v = (bit (p.0 == v) + bit (p.1 == v)) + pairs_at ps v
+
+-- the vertices of the pairs
+abbrev pub in_pairs : List (ℕ × ℕ) → Set
+in_pairs ps v = not (pairs_at ps v == 0)
+
+-- pairs of vertices 1 to n, all different
+pub record AreDisjoint (n : ℕ) (ps : List (ℕ × ℕ)) : Type 0 where
+  pub within : (p : ℕ × ℕ) → IsIn p ps → Within n p.0 × Within n p.1
+  pub once : (v : ℕ) → Within n v → pairs_at ps v ≤ 1

@@ -1,0 +1,24 @@
+//! The two-ear theorem. Each law is the contract of a function that does nothing.
+ghost use Rattle.std.specs.Prelude.{◌≢◌, ◌⊎◌, ℕ, List, [], ◌∷◌};
+ghost use Rattle.counting.specs.Counts.{Within};
+ghost use Rattle.counting.specs.Sets.{union};
+ghost use Rattle.graph_core.specs.Covered.{IsCovered};
+ghost use Rattle.graph_core.specs.Graph.{Graph, IsGraph};
+ghost use Rattle.graph_core.specs.Matchings.{HasPerfect};
+ghost use Rattle.two_ears.specs.AddedEdges.{over, with_pairs};
+ghost use Rattle.two_ears.specs.VertexPairs.{AreDisjoint, IsIn, in_pairs, vertices_of};
+
+/// Of pairs of vertices without which together a matching covered graph has a perfect matching two are such, or one is: p and q may
+/// be one pair.
+pub fn two_ears_law()
+    ensures { (g : Graph) → IsGraph g → IsCovered g → (ps : List (ℕ × ℕ)) → ps ≢ [] → AreDisjoint g.order ps → HasPerfect g (in_pairs ps)
+        → (p : ℕ × ℕ) × (q : ℕ × ℕ) × IsIn p ps × IsIn q ps × HasPerfect g (union (vertices_of p) (vertices_of q)) }
+{}
+
+/// Where a matching covered graph is matching covered with further edges, it is with one of them, or with two.
+pub fn further_edges_law()
+    ensures { (g : Graph) → IsGraph g → IsCovered g → (ps : List (ℕ × ℕ)) → ps ≢ [] → ((p : ℕ × ℕ) → IsIn p ps → Within g.order p.0 × Within g.order p.1)
+        → ((p : ℕ × ℕ) → IsIn p ps → p.0 ≢ p.1) → IsCovered (over g (with_pairs g.ends ps))
+        → ((p : ℕ × ℕ) × IsIn p ps × IsCovered (over g (with_pairs g.ends (p ∷ []))))
+        ⊎ ((p : ℕ × ℕ) × (q : ℕ × ℕ) × IsIn p ps × IsIn q ps × IsCovered (over g (with_pairs g.ends (p ∷ q ∷ [])))) }
+{}
