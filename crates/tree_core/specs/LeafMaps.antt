@@ -100,14 +100,14 @@ move_names n (rotate_at path) t = map names_of (leaves n t)
 move_names n (switch_at path u v) t = names_at n u v path (singles n) t
 
 -- the place of a number in a list, counted from 1
-abbrev pub place_in : List ℕ → ℕ → ℕ
-place_in [] i = 1
-place_in (j ∷ js) i = cond (j == i) 1 (place_in js i + 1)
+abbrev pub position : List ℕ → ℕ → ℕ
+position [] i = 1
+position (j ∷ js) i = cond (j == i) 1 (position js i + 1)
 
 -- leaf maps from the order of the new tree and the names, the first of them for leaf k + 1
 abbrev pub maps_from : List ℕ → ℕ → List (List ℕ) → List PlainLeafMap
 maps_from order k [] = []
-maps_from order k (names ∷ rest) = record { to = place_in order (k + 1); images = names } ∷ maps_from order (k + 1) rest
+maps_from order k (names ∷ rest) = record { to = position order (k + 1); images = names } ∷ maps_from order (k + 1) rest
 
 -- the map of a move on a tree
 unfoldable pub move_maps : ℕ → Shape → PlainMove → List PlainLeafMap
