@@ -1,6 +1,6 @@
 -- What stands below a cut: both partitions are partitions, their quotients are matching covered where that of the node is, and each
 -- has one block for the merged side and the blocks of the other side. So a tree of cuts has few leaves, by induction.
-use Rattle.std.proofs.Common.{◌≡◌, ℕ, zero, suc, ◌+◌, ◌*◌, ◌≤◌, ◌<◌, ◌-◌, true, List, length, All, subst, refl, sym, ap, ◌∙◌, arith}
+use Rattle.std.proofs.Common.{◌≡◌, ℕ, zero, suc, ◌+◌, ◌*◌, ◌≤◌, ◌<◌, ◌-◌, List, length, All, subst, refl, sym, ap, ◌∙◌, arith}
 use Rattle.counting.proofs.Counts.{count_congr, count_complement}
 use Rattle.counting.proofs.Lists.{mem-within, member-of_set}
 use Rattle.counting.proofs.RisingLists.{true_all_in}
@@ -8,7 +8,7 @@ use Rattle.counting.specs.Counts.{Within, count}
 use Rattle.counting.specs.Lists.{mem, IsRisingIn}
 use Rattle.counting.specs.Sets.{complement, everything}
 use Rattle.graph_core.proofs.BlockSets.{block_count_congr, block_count_rest, union_rest}
-use Rattle.graph_core.proofs.Complements.{complement_of-rises, mem-complement_of, union-complement_of}
+use Rattle.graph_core.proofs.Complements.{complement_of-rises, mem-complement_of}
 use Rattle.graph_core.proofs.MergedShores.{block_count_around, merge_of}
 use Rattle.graph_core.proofs.ShoreLists.{complement-tight, shore-some}
 use Rattle.graph_core.proofs.Singles.{length-singles, singles-partition}

@@ -2,3 +2,5 @@ pub mod Shapes
 pub mod Derivations
 pub mod Leaves
 pub mod View
+pub mod Moves
+pub mod LeafMaps

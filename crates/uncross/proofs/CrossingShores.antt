@@ -1,0 +1,371 @@
+-- Exposing a shore that crosses the root shore: the inner and the outer corner are exposed first where they are no single blocks,
+-- a Switch exchanges them, and Rotate brings the shore back over both.
+use Rattle.std.proofs.Common.{Bool, List, None, Some, [], ap, ap₂, arith, cond, false, if◌then◌else◌, inl, inr, length, map, not, refl, subst, sym, true, ℕ, ◌&&◌, ◌*◌, ◌++◌, ◌+◌, ◌||◌, ◌∙◌, ◌∷◌, ◌≡◌, ◌≤◌, ◌⊎◌}
+use Rattle.std.proofs.lemmas.Bool.{both_ways, cases_Bool}
+use Rattle.counting.proofs.Odd.{odd-add}
+use Rattle.counting.proofs.RisingLists.{mem-rising_list, rising_list-rises, same_rising_list}
+use Rattle.counting.specs.Counts.{Within, is_odd}
+use Rattle.counting.specs.Lists.{IsRisingIn, all_in, is_apart, is_subset, mem}
+use Rattle.counting.specs.Sets.{Set, complement, everything, meet, minus, union}
+use Rattle.graph_core.proofs.BlockSets.{block_count_congr, block_count_parts, union_minus}
+use Rattle.graph_core.proofs.Complements.{complement_of-rises, mem-complement_of}
+use Rattle.graph_core.proofs.MergedShores.{Apart}
+use Rattle.graph_core.specs.Graph.{Graph}
+use Rattle.graph_core.specs.Partitions.{complement_of, contracted, merged}
+use Rattle.graph_core.specs.Shores.{block_count}
+use Rattle.tree_core.specs.Derivations.{IsDerivationAt, kept_at, merged_at}
+use Rattle.tree_core.specs.Moves.{IsBlockOf, PlainMove, inner_rest, is_proper, kept_if_in_q, kept_if_in_v, merged_if_in_q, merged_if_in_v, outer_rest, rotate_at, rotate_result_at, switch_at, switch_result_at, union_list}
+use Rattle.tree_core.specs.Shapes.{Shape, cut, cut_count, leaf}
+use Rattle.tree_core.specs.declared.path.Side.{Side}
+use Rattle.tree_core.specs.declared.path.Side.TheVariants.{Kept, Merged}
+use Rattle.uncross.proofs.BigShores.{Big, Stage, big_rest, big_some, cut_big, rest_rest, stage_merged}
+use Rattle.uncross.proofs.Corners.{Corners, corner_of, inner_mem, inner_single_or_big, inner_of, merged_inner, merged_outer, outer_mem, outer_single_or_big, outer_of}
+use Rattle.uncross.proofs.NestedShores.{Crossed, Exposed, Exposes, stays_big}
+use Rattle.uncross.proofs.Rising.{AreRising, bounds}
+use Rattle.uncross.proofs.Rotations.{says_subset, subset_says}
+use Rattle.uncross.proofs.Scripts.{Walk, below, length_below, length_join, walk_end, walk_join, walk_kept, walk_merged, walk_rotate}
+use Rattle.uncross.proofs.Switches.{each_of, kept_in_q, kept_in_v, map_a, map_b, merged_in_q, merged_in_v, inner_rest-mem, outer_rest-mem, switch_in_q, switch_in_v}
+use Rattle.uncross.specs.Exchange.{Corner}
+use Rattle.uncross.specs.Isomorphisms.{carry, carry_cut}
+
+pub fits_carry : (n : ℕ) (k : ℕ → ℕ) (t : Shape) → AreRising n (carry n k t) × (cut_count (carry n k t) ≡ cut_count t)
+fits_carry n k leaf = (tt, refl)
+fits_carry n k (cut x a b) = go (mem x (k n)) (fits_carry n k a) (fits_carry n k b)
+  where
+    go : (t : Bool) → AreRising n (carry n k a) × (cut_count (carry n k a) ≡ cut_count a) → AreRising n (carry n k b) × (cut_count (carry n k b) ≡ cut_count b) →
+        AreRising n (carry_cut n k x t (carry n k a) (carry n k b)) × (cut_count (carry_cut n k x t (carry n k a) (carry n k b)) ≡ cut_count (cut x a b))
+    go true fa fb = ((rising_list-rises n (λ v. not (mem x (k v))), fb.0, fa.0), omega (arith, fa.1, fb.1))
+    go false fa fb = ((rising_list-rises n (λ v. mem x (k v)), fa.0, fb.0), omega (arith, fa.1, fb.1))
+
+row_two : (x y : List ℕ) (a c d : Shape) → is_subset x y ≡ true → rotate_result_at Merged (cut x a (cut y c d)) ≡ Some (cut y (cut x a c) d)
+row_two x y a c d h = ap (λ k. if k then Some (cut y (cut x a c) d) else (if is_apart x y then Some (cut y c (cut x a d)) else None)) h
+
+row_three : (x y : List ℕ) (a c d : Shape) → is_subset x y ≡ false → is_apart x y ≡ true → rotate_result_at Merged (cut x a (cut y c d)) ≡ Some (cut y c (cut x a d))
+row_three x y a c d h k = ap (λ k. if k then Some (cut y (cut x a c) d) else (if is_apart x y then Some (cut y c (cut x a d)) else None)) h ∙ ap (λ k. if k then Some (cut y c (cut x a d)) else None) k
+
+not_subset : (u : List ℕ) (y : Set) (s : ℕ) → mem u s ≡ true → y s ≡ false → all_in u y ≡ false
+not_subset u y s h k = elim (cases_Bool (all_in u y)) [ inr z ↦ z | inl z ↦ absurd (both_ways (y s) k (subset_says u y z s h)) ]
+
+apart_test : (n : ℕ) (x y : List ℕ) → IsRisingIn n x → Apart n (mem x) (mem y) → is_apart x y ≡ true
+apart_test n x y s h = says_subset x (minus everything (mem y)) (λ v m. ap (λ k. true && not k) (h v ((bounds s) v m) m))
+
+proper_test : (u x : List ℕ) → is_subset u [] ≡ false → is_subset u x ≡ true → is_subset x u ≡ false → is_proper u x ≡ true
+proper_test u x a b c = bits (is_subset u []) (is_subset u x) (is_subset x u) a b c
+  where
+    bits : (a b c : Bool) → a ≡ false → b ≡ true → c ≡ false → (not a && b && not c) ≡ true
+    bits a b c h k l = grind arith
+
+-- z is y, or its complement
+abbrev pub Kind : ℕ → (y z : List ℕ) → Type 0
+Kind n y z = ((v : ℕ) → Within n v → mem z v ≡ mem y v) ⊎ ((v : ℕ) → Within n v → mem z v ≡ not (mem y v))
+
+abbrev pub Reached : Graph → List (List ℕ) → Shape → List ℕ → ℕ → Type 0
+Reached g p t y k = (ms : List PlainMove) × (a : Shape) × (b : Shape) × Walk g p t ms (cut y a b) × (length ms ≤ k)
+
+module _ (g : Graph) (p : List (List ℕ)) (x z y : List ℕ) (c : Corners g p x z) (sy : IsRisingIn g.order y) (nx : mem x g.order ≡ false) (ny : mem y g.order ≡ false) (kind : Kind g.order y z) where
+  last : Within g.order g.order
+  last = let r = big_some g p c.stage x c.first in let w = r.1 in (omega arith, omega arith)
+
+  y_big : Big g p y
+  y_big = elim kind [
+    | inl h ↦ subst (Big g p) (same_rising_list g.order z y c.second.shore sy h) c.second
+    | inr h ↦ subst (Big g p) (same_rising_list g.order (complement_of g.order z) y (complement_of-rises g.order z) sy (λ v w. mem-complement_of g.order z v w ∙ ap not (h v w) ∙ twice (mem y v))) (big_rest g p c.stage z c.second)
+  ]
+    where
+      twice : (b : Bool) → not (not b) ≡ b
+      twice true = refl
+      twice false = refl
+
+  module _ (a b : Shape) (f : AreRising g.order (cut x a b)) (d : IsDerivationAt g p (cut x a b)) (s t : ℕ) (bi : IsBlockOf g.order p (mem (inner_of g.order x z)) s) (bo : IsBlockOf g.order p (mem (outer_of g.order x z)) t) where
+    abbrev i : List ℕ
+    i = inner_of g.order x z
+
+    abbrev o : List ℕ
+    o = outer_of g.order x z
+
+    si : IsRisingIn g.order (inner_of g.order x z)
+    si = rising_list-rises g.order (meet (mem x) (mem z))
+
+    so : IsRisingIn g.order (outer_of g.order x z)
+    so = rising_list-rises g.order (complement (union (mem x) (mem z)))
+
+    co : Corner g p (mem x) (mem (inner_of g.order x z)) (mem (outer_of g.order x z)) s t
+    co = corner_of g p x z c s t bi bo
+
+    both_proper : (is_proper i x && is_proper o (complement_of g.order x)) ≡ true
+    both_proper = ap₂ ◌&&◌ (proper_test i x one two three) (proper_test o (complement_of g.order x) four five six)
+      where
+        cm : (w : ℕ) → Within g.order w → mem (complement_of g.order x) w ≡ not (mem x w)
+        cm w ww = mem-complement_of g.order x w ww
+
+        one : is_subset i [] ≡ false
+        one = not_subset i (mem []) s bi.holds refl
+
+        two : is_subset i x ≡ true
+        two = says_subset i (mem x) (λ v m. co.inside v ((bounds si) v m) m)
+
+        three : is_subset x i ≡ false
+        three = let l = c.left in not_subset x (mem i) l.0 l.2 (inner_mem g p x z c l.0 l.1 ∙ bits (mem x l.0) (mem z l.0) l.3)
+          where
+            bits : (a b : Bool) → b ≡ false → (a && b) ≡ false
+            bits a b h = grind arith
+
+        four : is_subset o [] ≡ false
+        four = not_subset o (mem []) t bo.holds refl
+
+        five : is_subset o (complement_of g.order x) ≡ true
+        five = says_subset o (mem (complement_of g.order x)) (λ v m. cm v ((bounds so) v m) ∙ ap not (co.outside v ((bounds so) v m) m))
+
+        six : is_subset (complement_of g.order x) o ≡ false
+        six = let r = c.right in not_subset (complement_of g.order x) (mem o) r.0 (cm r.0 r.1 ∙ ap not r.2) (outer_mem g p x z c r.0 r.1 ∙ bits (mem x r.0) (mem z r.0) r.3)
+          where
+            bits : (a b : Bool) → b ≡ true → not (a || b) ≡ false
+            bits a b h = grind arith
+
+    ska : Stage g (kept_at g.order p x)
+    ska = stage_merged g p c.stage (complement_of g.order x) (big_rest g p c.stage x c.first)
+
+    sma : Stage g (merged_at g.order p x)
+    sma = stage_merged g p c.stage x c.first
+
+    -- the Switch
+    pub switched : Reached g p (cut x a b) y 1
+    switched = elim kind [
+      | inl h ↦
+          let nv : mem o g.order ≡ true = outer_mem g p x z c g.order last ∙ outside (mem x g.order) (mem z g.order) nx (h g.order last ∙ ny) in
+          let ye : union_list g.order (outer_rest g.order x o) i ≡ y = same_rising_list g.order (union_list g.order (outer_rest g.order x o) i) y (rising_list-rises g.order (union (mem (outer_rest g.order x o)) (mem i))) sy
+          (λ w ww. mem-rising_list g.order (union (mem (outer_rest g.order x o)) (mem i)) w ww ∙ ap₂ ◌||◌ (outer_rest-mem g p c.stage x i o s t c.first nx si so co w ww ∙ ap (λ k. not (mem x w) && not k) (outer_mem g p x z c w ww)) (inner_mem g p x z c w ww) ∙ is_z (mem x w) (mem z w) ∙ h w ww) in
+          let der = switch_in_v g p c.stage x i o s t c.first nx si so co a b f d nv (subst (Big g p) (sym ye) y_big) in
+          let ka = kept_in_v g p c.stage x i o s t c.first nx si so co nv a f.1 (each_of g (kept_at g.order p x) a ska f.1 d.1) in
+          let kb = merged_in_v g p c.stage x i o s t c.first nx si so co nv b f.2 (each_of g (merged_at g.order p x) b sma f.2 d.2) in
+          let fa = subst (λ q. AreRising g.order q × (cut_count q ≡ cut_count a)) (sym ka) (fits_carry g.order (map_a g p c.stage x i o s t c.first nx si so co) a) in
+          let fb = subst (λ q. AreRising g.order q × (cut_count q ≡ cut_count b)) (sym kb) (fits_carry g.order (map_b g p c.stage x i o s t c.first nx si so co) b) in
+          let a' = merged_if_in_v g.order x i b in let b' = kept_if_in_v g.order x i o a in
+          let e : switch_result_at g.order i o (cut x a b) ≡ Some (cut y a' b') =
+          ap (λ k. if k then Some (if mem o g.order then cut (union_list g.order (outer_rest g.order x o) i) a' b' else cut (union_list g.order (inner_rest g.order x i) o) (kept_if_in_q g.order x i o a) (merged_if_in_q g.order x i o b)) else None) both_proper
+          ∙ ap (λ k. Some (if k then cut (union_list g.order (outer_rest g.order x o) i) a' b' else cut (union_list g.order (inner_rest g.order x i) o) (kept_if_in_q g.order x i o a) (merged_if_in_q g.order x i o b))) nv
+          ∙ ap (λ k. Some (cut k a' b')) ye in
+          (switch_at [] i o ∷ [], a', b', (cut y a' b', e, ((s, bi), (t, bo)), subst (λ k. IsDerivationAt g p (cut k a' b')) ye der, (sy, fb.0, fa.0), omega (arith, fa.1, fb.1), refl), omega arith)
+      | inr h ↦
+          let nv : mem o g.order ≡ false = outer_mem g p x z c g.order last ∙ within (mem x g.order) (mem z g.order) (h g.order last ∙ ap not ny) in
+          let ye : union_list g.order (inner_rest g.order x i) o ≡ y = same_rising_list g.order (union_list g.order (inner_rest g.order x i) o) y (rising_list-rises g.order (union (mem (inner_rest g.order x i)) (mem o))) sy
+          (λ w ww. mem-rising_list g.order (union (mem (inner_rest g.order x i)) (mem o)) w ww ∙ ap₂ ◌||◌ (inner_rest-mem g p c.stage x i o s t c.first nx si so co w ww ∙ ap (λ k. mem x w && not k) (inner_mem g p x z c w ww)) (outer_mem g p x z c w ww) ∙ not_z (mem x w) (mem z w) ∙ ap not (h w ww) ∙ twice (mem y w)) in
+          let der = switch_in_q g p c.stage x i o s t c.first nx si so co a b f d nv (subst (Big g p) (sym ye) y_big) in
+          let ka = kept_in_q g p c.stage x i o s t c.first nx si so co nv a f.1 (each_of g (kept_at g.order p x) a ska f.1 d.1) in
+          let kb = merged_in_q g p c.stage x i o s t c.first nx si so co nv b f.2 (each_of g (merged_at g.order p x) b sma f.2 d.2) in
+          let fa = subst (λ q. AreRising g.order q × (cut_count q ≡ cut_count a)) (sym ka) (fits_carry g.order (map_a g p c.stage x i o s t c.first nx si so co) a) in
+          let fb = subst (λ q. AreRising g.order q × (cut_count q ≡ cut_count b)) (sym kb) (fits_carry g.order (map_b g p c.stage x i o s t c.first nx si so co) b) in
+          let a' = kept_if_in_q g.order x i o a in let b' = merged_if_in_q g.order x i o b in
+          let e : switch_result_at g.order i o (cut x a b) ≡ Some (cut y a' b') =
+          ap (λ k. if k then Some (if mem o g.order then cut (union_list g.order (outer_rest g.order x o) i) (merged_if_in_v g.order x i b) (kept_if_in_v g.order x i o a) else cut (union_list g.order (inner_rest g.order x i) o) a' b') else None) both_proper
+          ∙ ap (λ k. Some (if k then cut (union_list g.order (outer_rest g.order x o) i) (merged_if_in_v g.order x i b) (kept_if_in_v g.order x i o a) else cut (union_list g.order (inner_rest g.order x i) o) a' b')) nv
+          ∙ ap (λ k. Some (cut k a' b')) ye in
+          (switch_at [] i o ∷ [], a', b', (cut y a' b', e, ((s, bi), (t, bo)), subst (λ k. IsDerivationAt g p (cut k a' b')) ye der, (sy, fa.0, fb.0), omega (arith, fa.1, fb.1), refl), omega arith)
+    ]
+      where
+        outside : (a b : Bool) → a ≡ false → b ≡ false → not (a || b) ≡ true
+        outside a b h k = grind arith
+
+        within : (a b : Bool) → b ≡ true → not (a || b) ≡ false
+        within a b h = grind arith
+
+        is_z : (a b : Bool) → ((not a && not (not (a || b))) || (a && b)) ≡ b
+        is_z a b = grind arith
+
+        not_z : (a b : Bool) → ((a && not (a && b)) || not (a || b)) ≡ not b
+        not_z a b = grind arith
+
+        twice : (b : Bool) → not (not b) ≡ b
+        twice true = refl
+        twice false = refl
+
+-- a walk, one Rotate, and a walk on
+walk_then : (g : Graph) (p : List (List ℕ)) (s : Shape) (ms : List PlainMove) (t : Shape) (side : Side) (r : Shape) → Stage g p → IsDerivationAt g p s → AreRising g.order s → Walk g p s ms t → rotate_result_at side t ≡ Some r → Walk g p s (ms ++ rotate_at (side ∷ []) ∷ []) r
+walk_then g p s ms t side r st d f w e = let q = walk_end g p s ms t d f w in walk_join g p s ms (rotate_at (side ∷ []) ∷ []) t r w (walk_rotate g p side t r st q.0 q.1 e)
+
+-- the outer corner: where it is big, down to it, the Switch, and back
+over_outer : (g : Graph) (p : List (List ℕ)) (x z y : List ℕ) (c : Corners g p x z) → IsRisingIn g.order y → mem x g.order ≡ false → mem y g.order ≡ false → Kind g.order y z → (s : ℕ) → IsBlockOf g.order p (mem (inner_of g.order x z)) s →
+    (a b : Shape) → AreRising g.order (cut x a b) → IsDerivationAt g p (cut x a b) → Exposes g b → Reached g p (cut x a b) y (3 * cut_count b + 1)
+over_outer g p x z y c sy nx ny kind s bi a b f d ih = elim (outer_single_or_big g p x z c) [
+  | inl bo ↦ let r = switched g p x z y c sy nx ny kind a b f d s bo.0 bi bo.1 in let l = r.4 in (r.0, r.1, r.2, r.3, omega arith)
+  | inr bo ↦ elim kind [ inl h ↦ first bo h | inr h ↦ second bo h ]
+]
+  where
+    o : List ℕ
+    o = outer_of g.order x z
+
+    so : IsRisingIn g.order (outer_of g.order x z)
+    so = rising_list-rises g.order (complement (union (mem x) (mem z)))
+
+    lastn : Within g.order g.order
+    lastn = let r = big_some g p c.stage x c.first in let w = r.1 in (omega arith, omega arith)
+
+    off : Apart g.order (mem x) (mem (outer_of g.order x z))
+    off v wv h = outer_mem g p x z c v wv ∙ bits (mem x v) (mem z v) h
+      where
+        bits : (a b : Bool) → a ≡ true → not (a || b) ≡ false
+        bits a b h = grind arith
+
+    below_x : Big g p (outer_of g.order x z) → Big g (merged_at g.order p x) (outer_of g.order x z)
+    below_x bo = let r = c.right in stays_big g p c.stage x (outer_of g.order x z) c.first bo off (r.0, r.1, r.2, outer_mem g p x z c r.0 r.1 ∙ bits (mem x r.0) (mem z r.0) r.3)
+      where
+        bits : (a b : Bool) → b ≡ true → not (a || b) ≡ false
+        bits a b h = grind arith
+
+    first : Big g p (outer_of g.order x z) → ((v : ℕ) → Within g.order v → mem z v ≡ mem y v) → Reached g p (cut x a b) y (3 * cut_count b + 1)
+    first bo h =
+        let sx = stage_merged g p c.stage x c.first in
+        let oc = complement_of g.order (outer_of g.order x z) in
+        let on : mem (outer_of g.order x z) g.order ≡ true = outer_mem g p x z c g.order lastn ∙ outside (mem x g.order) (mem z g.order) nx (h g.order lastn ∙ ny) in
+        let noc : mem oc g.order ≡ false = mem-complement_of g.order (outer_of g.order x z) g.order lastn ∙ ap not on in
+        let e = ih (merged_at g.order p x) oc sx f.2 d.2 (big_rest g (merged_at g.order p x) sx (outer_of g.order x z) (below_x bo)) noc in
+        let w1 = walk_merged g p x a b e.0 (cut oc e.1 e.2) d f e.3 in
+        let sub : is_subset x oc ≡ true = says_subset x (mem oc) (λ v m. let wv = (bounds f.0) v m in mem-complement_of g.order (outer_of g.order x z) v wv ∙ ap not (off v wv m)) in
+        let w2 = walk_then g p (cut x a b) (map (below Merged) e.0) (cut x a (cut oc e.1 e.2)) Merged (cut oc (cut x a e.1) e.2) c.stage d f w1 (row_two x oc a e.1 e.2 sub) in
+        let q2 = walk_end g p (cut x a b) _ (cut oc (cut x a e.1) e.2) d f w2 in
+        let same : kept_at g.order p oc ≡ merged p (outer_of g.order x z) = ap (merged p) (rest_rest g.order (outer_of g.order x z) so) in
+        let m = merged_outer g p x z c bo s bi in
+        let sw = switched g (merged p (outer_of g.order x z)) x z y m.0 sy nx ny kind a e.1 q2.1.1 (subst (λ r. IsDerivationAt g r (cut x a e.1)) same q2.0.1) s m.2.0 m.1 m.2.1 in
+        let w3 = walk_kept g p oc (cut x a e.1) e.2 sw.0 (cut y sw.1 sw.2) q2.0 q2.1 (subst (λ r. Walk g r (cut x a e.1) sw.0 (cut y sw.1 sw.2)) (sym same) sw.3) in
+        let w4 = walk_then g p (cut oc (cut x a e.1) e.2) (map (below Kept) sw.0) (cut oc (cut y sw.1 sw.2) e.2) Kept (cut y sw.1 (cut oc sw.2 e.2)) c.stage q2.0 q2.1 w3 refl in
+        let l1 = length_join (map (below Merged) e.0 ++ rotate_at (Merged ∷ []) ∷ []) (map (below Kept) sw.0 ++ rotate_at (Kept ∷ []) ∷ []) in
+        let l2 = length_join (map (below Merged) e.0) (rotate_at (Merged ∷ []) ∷ []) in let l3 = length_join (map (below Kept) sw.0) (rotate_at (Kept ∷ []) ∷ []) in
+        let l4 = length_below Merged e.0 in let l5 = length_below Kept sw.0 in let l6 = e.4 in let l7 = sw.4 in (
+          (map (below Merged) e.0 ++ rotate_at (Merged ∷ []) ∷ []) ++ (map (below Kept) sw.0 ++ rotate_at (Kept ∷ []) ∷ []),
+          sw.1,
+          cut oc sw.2 e.2,
+          walk_join g p (cut x a b) _ _ (cut oc (cut x a e.1) e.2) (cut y sw.1 (cut oc sw.2 e.2)) w2 w4,
+          omega arith,
+        )
+      where
+        outside : (a b : Bool) → a ≡ false → b ≡ false → not (a || b) ≡ true
+        outside a b h k = grind arith
+
+    second : Big g p (outer_of g.order x z) → ((v : ℕ) → Within g.order v → mem z v ≡ not (mem y v)) → Reached g p (cut x a b) y (3 * cut_count b + 1)
+    second bo h =
+        let sx = stage_merged g p c.stage x c.first in
+        let oo = outer_of g.order x z in
+        let no : mem oo g.order ≡ false = outer_mem g p x z c g.order lastn ∙ within (mem x g.order) (mem z g.order) (h g.order lastn ∙ ap not ny) in
+        let e = ih (merged_at g.order p x) oo sx f.2 d.2 (below_x bo) no in
+        let w1 = walk_merged g p x a b e.0 (cut oo e.1 e.2) d f e.3 in
+        let r = big_some g p c.stage x c.first in
+        let w2 = walk_then g p (cut x a b) (map (below Merged) e.0) (cut x a (cut oo e.1 e.2)) Merged (cut oo e.1 (cut x a e.2)) c.stage d f w1 (row_three x oo a e.1 e.2 (not_subset x (mem oo) r.0 r.2 (off r.0 r.1 r.2)) (apart_test g.order x oo f.0 off)) in
+        let q2 = walk_end g p (cut x a b) _ (cut oo e.1 (cut x a e.2)) d f w2 in
+        let m = merged_outer g p x z c bo s bi in
+        let sw = switched g (merged p oo) x z y m.0 sy nx ny kind a e.2 q2.1.2 q2.0.2 s m.2.0 m.1 m.2.1 in
+        let w3 = walk_merged g p oo e.1 (cut x a e.2) sw.0 (cut y sw.1 sw.2) q2.0 q2.1 sw.3 in
+        let sub : is_subset oo y ≡ true = says_subset oo (mem y) (λ v k. let wv = (bounds so) v k in in_y (mem x v) (mem z v) (mem y v) (h v wv) (sym (outer_mem g p x z c v wv) ∙ k)) in
+        let w4 = walk_then g p (cut oo e.1 (cut x a e.2)) (map (below Merged) sw.0) (cut oo e.1 (cut y sw.1 sw.2)) Merged (cut y (cut oo e.1 sw.1) sw.2) c.stage q2.0 q2.1 w3 (row_two oo y e.1 sw.1 sw.2 sub) in
+        let l1 = length_join (map (below Merged) e.0 ++ rotate_at (Merged ∷ []) ∷ []) (map (below Merged) sw.0 ++ rotate_at (Merged ∷ []) ∷ []) in
+        let l2 = length_join (map (below Merged) e.0) (rotate_at (Merged ∷ []) ∷ []) in let l3 = length_join (map (below Merged) sw.0) (rotate_at (Merged ∷ []) ∷ []) in
+        let l4 = length_below Merged e.0 in let l5 = length_below Merged sw.0 in let l6 = e.4 in let l7 = sw.4 in (
+          (map (below Merged) e.0 ++ rotate_at (Merged ∷ []) ∷ []) ++ (map (below Merged) sw.0 ++ rotate_at (Merged ∷ []) ∷ []),
+          cut oo e.1 sw.1,
+          sw.2,
+          walk_join g p (cut x a b) _ _ (cut oo e.1 (cut x a e.2)) (cut y (cut oo e.1 sw.1) sw.2) w2 w4,
+          omega arith,
+        )
+      where
+        within : (a b : Bool) → b ≡ true → not (a || b) ≡ false
+        within a b h = grind arith
+
+        in_y : (a b y : Bool) → b ≡ not y → not (a || b) ≡ true → y ≡ true
+        in_y a b y h k = grind arith
+
+-- the inner corner: where it is big, down to it, over the outer one, and back
+over_inner : (g : Graph) (p : List (List ℕ)) (x z y : List ℕ) (c : Corners g p x z) → IsRisingIn g.order y → mem x g.order ≡ false → mem y g.order ≡ false → Kind g.order y z →
+    (a b : Shape) → AreRising g.order (cut x a b) → IsDerivationAt g p (cut x a b) → Exposes g a → Exposes g b → Exposed g p (cut x a b) y
+over_inner g p x z y c sy nx ny kind a b f d ia ib = elim (inner_single_or_big g p x z c) [
+  | inl bi ↦ let r = over_outer g p x z y c sy nx ny kind bi.0 bi.1 a b f d ib in let l = r.4 in (r.0, r.1, r.2, r.3, omega arith)
+  | inr bi ↦ deep bi
+]
+  where
+    lastn : Within g.order g.order
+    lastn = let r = big_some g p c.stage x c.first in let w = r.1 in (omega arith, omega arith)
+
+    si : IsRisingIn g.order (inner_of g.order x z)
+    si = rising_list-rises g.order (meet (mem x) (mem z))
+
+    no_and : (a b : Bool) → a ≡ false → (a && b) ≡ false
+    no_and a b h = grind arith
+
+    deep : Big g p (inner_of g.order x z) → Exposed g p (cut x a b) y
+    deep bi =
+        let i = inner_of g.order x z in
+        let rx = big_rest g p c.stage x c.first in
+        let sk = stage_merged g p c.stage (complement_of g.order x) rx in
+        let l = c.left in
+        let bik = stays_big g p c.stage (complement_of g.order x) i rx bi (λ v wv h. inner_mem g p x z c v wv ∙ no_and (mem x v) (mem z v) (negated (mem x v) (sym (mem-complement_of g.order x v wv) ∙ h)))
+        (l.0, l.1, mem-complement_of g.order x l.0 l.1 ∙ ap not l.2, inner_mem g p x z c l.0 l.1 ∙ and_no (mem x l.0) (mem z l.0) l.3) in
+        let ni : mem i g.order ≡ false = inner_mem g p x z c g.order lastn ∙ no_and (mem x g.order) (mem z g.order) nx in
+        let e = ia (kept_at g.order p x) i sk f.1 d.1 bik ni in
+        let w1 = walk_kept g p x a b e.0 (cut i e.1 e.2) d f e.3 in
+        let w2 = walk_then g p (cut x a b) (map (below Kept) e.0) (cut x (cut i e.1 e.2) b) Kept (cut i e.1 (cut x e.2 b)) c.stage d f w1 refl in
+        let q2 = walk_end g p (cut x a b) _ (cut i e.1 (cut x e.2 b)) d f w2 in
+        let m = merged_inner g p x z c bi in
+        let r = over_outer g (merged p i) x z y m.0 sy nx ny kind m.1.0 m.1.1 e.2 b q2.1.2 q2.0.2 ib in
+        let w3 = walk_merged g p i e.1 (cut x e.2 b) r.0 (cut y r.1 r.2) q2.0 q2.1 r.3 in
+        let back = returned e.1 r.1 r.2 bi in
+        let w4 = walk_then g p (cut i e.1 (cut x e.2 b)) (map (below Merged) r.0) (cut i e.1 (cut y r.1 r.2)) Merged (cut y back.0 back.1) c.stage q2.0 q2.1 w3 back.2 in
+        let l1 = length_join (map (below Kept) e.0 ++ rotate_at (Kept ∷ []) ∷ []) (map (below Merged) r.0 ++ rotate_at (Merged ∷ []) ∷ []) in
+        let l2 = length_join (map (below Kept) e.0) (rotate_at (Kept ∷ []) ∷ []) in let l3 = length_join (map (below Merged) r.0) (rotate_at (Merged ∷ []) ∷ []) in
+        let l4 = length_below Kept e.0 in let l5 = length_below Merged r.0 in let l6 = e.4 in let l7 = r.4 in (
+          (map (below Kept) e.0 ++ rotate_at (Kept ∷ []) ∷ []) ++ (map (below Merged) r.0 ++ rotate_at (Merged ∷ []) ∷ []),
+          back.0,
+          back.1,
+          walk_join g p (cut x a b) _ _ (cut i e.1 (cut x e.2 b)) (cut y back.0 back.1) w2 w4,
+          omega arith,
+        )
+      where
+        negated : (b : Bool) → not b ≡ true → b ≡ false
+        negated b h = grind arith
+
+        and_no : (a b : Bool) → b ≡ false → (a && b) ≡ false
+        and_no a b h = grind arith
+
+        returned : (a' b' c' : Shape) → Big g p (inner_of g.order x z) → (k : Shape) × (l : Shape) × (rotate_result_at Merged (cut (inner_of g.order x z) a' (cut y b' c')) ≡ Some (cut y k l))
+        returned a' b' c' bi = elim kind [
+          | inl h ↦ (cut (inner_of g.order x z) a' b', c', row_two (inner_of g.order x z) y a' b' c' (says_subset (inner_of g.order x z) (mem y) (λ v k. let wv = (bounds si) v k in sym (h v wv) ∙ in_z (mem x v) (mem z v) (sym (inner_mem g p x z c v wv) ∙ k))))
+          | inr h ↦
+              let some = big_some g p c.stage (inner_of g.order x z) bi in
+              let off : Apart g.order (mem (inner_of g.order x z)) (mem y) = λ v wv k. not_y (mem x v) (mem z v) (mem y v) (h v wv) (sym (inner_mem g p x z c v wv) ∙ k) in
+              (b', cut (inner_of g.order x z) a' c', row_three (inner_of g.order x z) y a' b' c' (not_subset (inner_of g.order x z) (mem y) some.0 some.2 (off some.0 some.1 some.2)) (apart_test g.order (inner_of g.order x z) y si off))
+        ]
+          where
+            in_z : (a b : Bool) → (a && b) ≡ true → b ≡ true
+            in_z a b h = grind arith
+
+            not_y : (a b y : Bool) → b ≡ not y → (a && b) ≡ true → y ≡ false
+            not_y a b y h k = grind arith
+
+pub crossed : (g : Graph) → Crossed g
+unfolding contracted
+crossed g p st x a b f d y by ny cross ia ib = go (is_odd (block_count p (meet (mem x) (mem y)))) refl
+  where
+    bx : Big g p x
+    bx = cut_big g p st x f.0 d.0
+
+    lastn : Within g.order g.order
+    lastn = let r = big_some g p st x bx in let w = r.1 in (omega arith, omega arith)
+
+    ry : Big g p (complement_of g.order y)
+    ry = big_rest g p st y by
+
+    go : (k : Bool) → is_odd (block_count p (meet (mem x) (mem y))) ≡ k → Exposed g p (cut x a b) y
+    go true h = over_inner g p x y y (record { stage = st; first = bx; second = by; odd = h; left = cross.left; right = cross.right }) by.shore d.0.canonical ny (inl (λ v w. refl)) a b f d ia ib
+    go false h =
+        let m = cross.meet in
+        let n = block_count_parts g.order p st.list.partition (mem x) (mem y) bx.tight.union by.tight.union in
+        let e = block_count_congr g.order p st.list.partition (minus (mem x) (mem y)) (meet (mem x) (mem (complement_of g.order y))) (λ v w. ap (λ k. mem x v && k) (sym (mem-complement_of g.order y v w))) (union_minus g.order p st.list.partition (mem x) (mem y) bx.tight.union by.tight.union) in
+        let o = bits (is_odd (block_count p (meet (mem x) (mem y)))) (is_odd (block_count p (minus (mem x) (mem y)))) h (sym (odd-add (block_count p (meet (mem x) (mem y))) (block_count p (minus (mem x) (mem y)))) ∙ ap is_odd (sym n) ∙ bx.tight.tight.odd) in
+        over_inner g p x (complement_of g.order y) y (record {
+          stage = st;
+          first = bx;
+          second = ry;
+          odd = ap is_odd (sym e) ∙ o;
+          left = (m.0, m.1, m.2, mem-complement_of g.order y m.0 m.1 ∙ ap not m.3);
+          right = (g.order, lastn, d.0.canonical, mem-complement_of g.order y g.order lastn ∙ ap not ny);
+        }) by.shore d.0.canonical ny (inr (λ v w. mem-complement_of g.order y v w)) a b f d ia ib
+      where
+        bits : (a b : Bool) → a ≡ false → cond a (not b) b ≡ true → b ≡ true
+        bits a b h k = grind arith

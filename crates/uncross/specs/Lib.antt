@@ -1,0 +1,4 @@
+pub mod Isomorphisms
+pub mod Exchange
+pub mod SameLeaf
+pub mod Pairings

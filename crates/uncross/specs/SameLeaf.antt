@@ -1,0 +1,28 @@
+-- One leaf under names of blocks: two partitions of one graph whose blocks correspond so that adjacency is kept (Lovász 1987, "up to
+-- multiplicities of edges").
+use Rattle.std.specs.Prelude.{◌≡◌, ℕ, ◌==◌, List, length, map}
+use Rattle.counting.specs.Counts.{count, Within}
+use Rattle.counting.specs.Lists.{last_of}
+use Rattle.graph_core.specs.Graph.{Graph}
+use Rattle.graph_core.specs.Partitions.{block, place}
+use Rattle.graph_core.specs.Quotients.{blocks_adjacent}
+use Rattle.tree_core.specs.LeafMaps.{name, position}
+
+-- the place of the block of q that the names give block i
+abbrev pub image : List (List ℕ) → List ℕ → ℕ → ℕ
+image q names i = place q (name names i)
+
+-- the names give each block of p, in order, a block of q, each block of q once, and keep adjacency both ways
+pub record IsSameLeaf (g : Graph) (p q : List (List ℕ)) (names : List ℕ) : Type 0 where
+  pub one_each : length names ≡ length p
+  pub named : (i : ℕ) → Within (length p) i → Within (length q) (image q names i) × (last_of (block q (image q names i)) ≡ name names i)
+  pub once : (k : ℕ) → Within (length q) k → count (length p) (λ i. image q names i == k) ≡ 1
+  pub adjacent : (i j : ℕ) → Within (length p) i → Within (length p) j → blocks_adjacent g p i j ≡ blocks_adjacent g q (image q names i) (image q names j)
+
+-- the name of the block of q that the names give the block of p with v
+abbrev pub to_name : (p : List (List ℕ)) → List ℕ → ℕ → ℕ
+to_name p names v = name names (place p v)
+
+-- the name of the block of p that the names give the block of q with v
+abbrev pub from_name : (p q : List (List ℕ)) → List ℕ → ℕ → ℕ
+from_name p q names v = last_of (block p (position (map (place q) names) (place q v)))
