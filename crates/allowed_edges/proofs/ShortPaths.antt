@@ -41,7 +41,7 @@ module _ (g : Graph) (m : MatchingValue) (of : IsOf g m) (keeps : KeepsMatching 
       ends_at m.rows (first_end g k) ≡ 0 → ends_at m.rows (second_end g k) ≡ 0 → ((i : ℕ) → n i ≡ (mem (edges_of m) i || (k == i))) → IsMatching g r n
   longer_matching r k n is mm wk ra rb fa fb h =
       matching_alike g r (put (mem (edges_of m)) k true) n (λ e we. h e ∙ with_put (mem (edges_of m)) k e)
-        (add_edge g r (mem (edges_of m)) k (first_end g k) (second_end g k) mm wk (is.no_loop k wk) ra rb (inl (refl, refl)) (no_edge (first_end g k) fa) (no_edge (second_end g k) fb)).0
+      (add_edge g r (mem (edges_of m)) k (first_end g k) (second_end g k) mm wk (is.no_loop k wk) ra rb (inl (refl, refl)) (no_edge (first_end g k) fa) (no_edge (second_end g k) fb)).0
 
 -- a matching of the graph without more vertices
 pub fewer_removed : (g : Graph) (r s m : Set) → ((v : ℕ) → s v ≡ true → r v ≡ true) → IsMatching g r m → IsMatching g s m

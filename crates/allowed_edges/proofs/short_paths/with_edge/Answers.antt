@@ -22,7 +22,7 @@ returns-clause-matching c = λ n q.
     let b = or_parts (mem c.met_vertices.result c.ends-ends.result.b) (mem c.args.met c.ends-ends.result.b) (sym (c.union-taken.ensures c.ends-ends.result.b) ∙ sym c.contains-else-contains.ensures ∙ c.if-contains-2.false) in
     let same : c.in_ok-longer.longer ≡ n = cc in
     subst (λ (m : MatchingValue). IsMatching c.args.g.now (mem c.args.met) (mem (edges_of m))) same
-      (longer_matching c.args.g.now c.args.m.now c.requires.of c.keeps_matching.ensures (mem c.args.met) c.args.k (mem (edges_of c.in_ok-longer.longer)) c.keeps_limits.ensures.multigraph c.requires.matching c.requires.edge
-        (ap (mem c.args.met) (sym c.ends-ends.ensures.first) ∙ a.1) (ap (mem c.args.met) (sym c.ends-ends.ensures.second) ∙ b.1)
-        (subst (λ v. ends_at c.args.m.now.rows v ≡ 0) c.ends-ends.ensures.first (c.met_vertices.ensures c.ends-ends.result.a a.0))
-        (subst (λ v. ends_at c.args.m.now.rows v ≡ 0) c.ends-ends.ensures.second (c.met_vertices.ensures c.ends-ends.result.b b.0)) c.in_ok-longer.ensures.edges)
+    (longer_matching c.args.g.now c.args.m.now c.requires.of c.keeps_matching.ensures (mem c.args.met) c.args.k (mem (edges_of c.in_ok-longer.longer)) c.keeps_limits.ensures.multigraph c.requires.matching c.requires.edge
+    (ap (mem c.args.met) (sym c.ends-ends.ensures.first) ∙ a.1) (ap (mem c.args.met) (sym c.ends-ends.ensures.second) ∙ b.1)
+    (subst (λ v. ends_at c.args.m.now.rows v ≡ 0) c.ends-ends.ensures.first (c.met_vertices.ensures c.ends-ends.result.a a.0))
+    (subst (λ v. ends_at c.args.m.now.rows v ≡ 0) c.ends-ends.ensures.second (c.met_vertices.ensures c.ends-ends.result.b b.0)) c.in_ok-longer.ensures.edges)

@@ -10,4 +10,4 @@ returns-then-misses_none-clause-perfect c = λ n q.
     let zero = eqb-true (missed_count c.args.g.now (mem c.args.met) (mem (edges_of c.in-Some.found))) 0 (sym c.misses_none.ensures ∙ c.if-misses_none.true) in
     let same : c.in-Some.found ≡ n = cc in
     subst (λ (m : MatchingValue). IsPerfect c.args.g.now (mem c.args.met) (mem (edges_of m))) same
-      (none_missed-perfect c.args.g.now (mem c.args.met) (mem (edges_of c.in-Some.found)) (c.in_ok-found.ensures.matching c.in-Some.found c.in-Some.is) zero)
+    (none_missed-perfect c.args.g.now (mem c.args.met) (mem (edges_of c.in-Some.found)) (c.in_ok-found.ensures.matching c.in-Some.found c.in-Some.is) zero)
