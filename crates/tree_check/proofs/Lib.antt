@@ -1,0 +1,5 @@
+pub mod CutRules
+pub mod LeafRules
+pub mod PlacesInside
+pub mod FirstRefusals
+pub mod Walking
