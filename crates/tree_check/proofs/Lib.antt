@@ -2,4 +2,5 @@ pub mod CutRules
 pub mod LeafRules
 pub mod PlacesInside
 pub mod FirstRefusals
+pub mod ThreeAnswers
 pub mod Walking

@@ -17,7 +17,8 @@ use Rattle.tree_core.proofs.CutsBelow.{few-cuts_at, kept-partition}
 use Rattle.tree_core.proofs.Sizes.{node_count-cuts}
 use Rattle.tree_core.specs.Derivations.{IsCutAt, IsDerivationAt, kept_at, merged_at}
 use Rattle.tree_core.specs.Shapes.{Shape, cut, node_count}
-use Rattle.tree_check.specs.Judgements.{IsWalked, why_of}
+use Rattle.tree_check.specs.Judgements.{why_of}
+use Rattle.tree_check.specs.Walks.{IsWalked}
 use Rattle.tree_check.specs.Refusals.{BreaksCut, IsRefusedAt}
 use Rattle.tree_check.specs.declared.judgement.Why.{Why as StoredWhy}
 use Rattle.tree_check.specs.declared.walk.Walked.{Walked}

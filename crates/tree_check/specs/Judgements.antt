@@ -1,17 +1,14 @@
 -- The judgement of a tree, as the code answers it.
-use Rattle.std.specs.Prelude.{◌≡◌, ℕ, ◌+◌, List}
 use Rattle.graph_core.specs.Covered.{IsReason}
 use Rattle.graph_core.specs.Graph.{Graph}
 use Rattle.graph_core.specs.Verdicts.{reason_of}
-use Rattle.tree_core.specs.Derivations.{IsDerivation, IsDerivationAt}
-use Rattle.tree_core.specs.Shapes.{Shape, node_count}
-use Rattle.tree_check.specs.Refusals.{Why, not_blocks, even, trivial, not_tight, not_leaf, IsRefused, IsRefusedAt}
+use Rattle.tree_core.specs.Derivations.{IsDerivation}
+use Rattle.tree_core.specs.Shapes.{Shape}
+use Rattle.tree_check.specs.Refusals.{Why, not_blocks, even, trivial, not_tight, not_leaf, IsRefused}
 use Rattle.tree_check.specs.declared.judgement.Why.{Why as StoredWhy}
 use Rattle.tree_check.specs.declared.judgement.Why.TheVariants.{NotBlocks, Even, Trivial, NotTight, NotLeaf}
 use Rattle.tree_check.specs.declared.judgement.Judgement.{Judgement}
 use Rattle.tree_check.specs.declared.judgement.Judgement.TheVariants as judgement
-use Rattle.tree_check.specs.declared.walk.Walked.{Walked}
-use Rattle.tree_check.specs.declared.walk.Walked.TheVariants as walked
 
 -- the reason that the code's value stands for
 abbrev pub why_of : StoredWhy → Why
@@ -27,9 +24,3 @@ abbrev pub IsJudgement : Graph → Shape → Judgement → Type 0
 IsJudgement g t judgement.Accepted = IsDerivation g t
 IsJudgement g t (judgement.NotCovered reason) = IsReason g (reason_of reason)
 IsJudgement g t (judgement.Refused node why) = IsRefused g t node (why_of why)
-
--- what a walk finds in the tree at p whose first node has this number: it is a derivation, and the number of the node after it is known;
--- or its first refusal
-abbrev pub IsWalked : Graph → List (List ℕ) → Shape → ℕ → Walked → Type 0
-IsWalked g p t node (walked.Passed next) = IsDerivationAt g p t × (next ≡ node + node_count t)
-IsWalked g p t node (walked.Refused number why) = (j : ℕ) × (number + 1 ≡ node + j) × IsRefusedAt g p t j (why_of why)

@@ -6,7 +6,7 @@
 //! tight cut where a leaf stands. Of a graph that is not matching covered it gives the first reason.
 //!
 //! `laws::first_refusal_law`: a derivation has no refusal, and each other tree of a matching covered graph has exactly one, up to the
-//! perfect matching that it shows.
+//! perfect matching that it shows. `laws::judgement_law`: the three answers exclude one another.
 //!
 //! Stands on `allowed_edges` for the verdict, on `contraction` for quotients, on `tight_cuts` for the test of a cut and for the
 //! candidates at a partition, and on `tree_core` for trees. Source: Lovász, "Matching structure and the matching lattice" (1987);

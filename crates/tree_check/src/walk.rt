@@ -5,7 +5,8 @@ ghost use Rattle.graph_core.specs.Partitions.{singles};
 ghost use Rattle.graph_core.specs.Quotients.{quotient};
 ghost use Rattle.tree_core.specs.Shapes.{Fits, leaf};
 ghost use Rattle.tree_core.specs.View.{shape_of};
-ghost use Rattle.tree_check.specs.Judgements.{IsJudgement, IsWalked};
+ghost use Rattle.tree_check.specs.Judgements.{IsJudgement};
+ghost use Rattle.tree_check.specs.Walks.{IsWalked};
 
 use crate::judgement::{Judgement, Why};
 use crate::rules::{cut_fault, first_cut_at};

@@ -4,7 +4,7 @@ use Rattle.std.proofs.lemmas.Result.{IfOk-weaker}
 use Rattle.graph_core.specs.Partitions.{IsPartition}
 use Rattle.tree_core.specs.View.{shape_of}
 use Rattle.tree_core.specs.declared.tree.Tree.{Tree}
-use Rattle.tree_check.specs.Judgements.{IsWalked}
+use Rattle.tree_check.specs.Walks.{IsWalked}
 use Rattle.tree_check.specs.declared.walk.Walked.TheVariants as walked
 use Rattle.tree_check.proofs.Walking.{below-merged, found-merged, kept-less, kept-room, refused-here, refused-kept}
 use Rattle.tree_check.proofs.walk.+walk_at.Goals as goal
