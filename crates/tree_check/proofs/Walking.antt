@@ -1,0 +1,78 @@
+-- Steps of the walk over a tree: what is found below a cut, said of the tree that the cut makes; and the numbers of its nodes, which
+-- stay below those of the blocks.
+use Rattle.std.proofs.Common.{◌≡◌, ℕ, ◌+◌, ◌≤◌, List, length, refl, sym, arith, subst, inl, inr}
+use Rattle.counting.proofs.Counts.{count_complement}
+use Rattle.counting.specs.Counts.{count}
+use Rattle.counting.specs.Lists.{mem}
+use Rattle.counting.specs.Sets.{complement}
+use Rattle.contraction.proofs.QuotientLaws.{covered_up}
+use Rattle.graph_core.proofs.SingleBlocks.{contracted-singles}
+use Rattle.graph_core.proofs.Singles.{singles-partition}
+use Rattle.graph_core.specs.Covered.{IsCovered}
+use Rattle.graph_core.specs.Graph.{Graph, IsGraph}
+use Rattle.graph_core.specs.Partitions.{IsPartition, singles}
+use Rattle.graph_core.specs.Quotients.{quotient}
+use Rattle.graph_core.specs.Shores.{blocks_in}
+use Rattle.tree_core.proofs.CutsBelow.{few-cuts_at, kept-partition}
+use Rattle.tree_core.proofs.Sizes.{node_count-cuts}
+use Rattle.tree_core.specs.Derivations.{IsCutAt, IsDerivationAt, kept_at, merged_at}
+use Rattle.tree_core.specs.Shapes.{Shape, cut, node_count}
+use Rattle.tree_check.specs.Judgements.{why_of}
+use Rattle.tree_check.specs.Walks.{IsWalked}
+use Rattle.tree_check.specs.Refusals.{BreaksCut, IsRefusedAt}
+use Rattle.tree_check.specs.declared.judgement.Why.{Why as StoredWhy}
+use Rattle.tree_check.specs.declared.walk.Walked.{Walked}
+use Rattle.tree_check.specs.declared.walk.Walked.TheVariants as walked
+
+-- at a covered graph the first quotient is covered
+pub root-covered : (g : Graph) (p : List (List ℕ)) → IsGraph g → p ≡ singles g.order → IsCovered g → IsCovered (quotient g p)
+root-covered g p is e covered =
+    subst (λ (q : List (List ℕ)). IsCovered (quotient g q)) (sym e) (covered_up g (singles g.order) is (singles-partition g.order).partition (subst IsCovered (sym (contracted-singles g is)) covered))
+
+-- a derivation has fewer nodes than its partition has blocks
+few-nodes : (g : Graph) (p : List (List ℕ)) (t : Shape) → IsGraph g → IsPartition g.order p → IsDerivationAt g p t → 4 ≤ length p → node_count t + 3 ≤ length p
+few-nodes g p t is pp d four = let a = few-cuts_at g p t is pp d four in let b = node_count-cuts t in omega arith
+
+-- the numbers of blocks below a cut, and so how many nodes stand before each part of the tree
+module _ (g : Graph) (p : List (List ℕ)) (x : List ℕ) (cuts : IsCutAt g p x) (node lk : ℕ) (room : node + length p ≤ 129) (is_k : lk + count (length p) (complement (blocks_in p (mem x))) ≡ length p + 1) where
+  pub kept-less : lk + 2 ≤ length p
+  kept-less =
+      let a = cuts.nontrivial.inside in
+      let b = cuts.nontrivial.outside in
+      let s = count_complement (length p) (blocks_in p (mem x)) in
+      omega arith
+
+  pub kept-room : node + 1 + lk ≤ 129
+  kept-room = let a = cuts.nontrivial.outside in omega arith
+
+  module _ (q : List (List ℕ)) (k : Shape) (is : IsGraph g) (pp : IsPartition g.order p) (same : q ≡ kept_at g.order p x) (derives : IsDerivationAt g q k) (long : length q ≡ lk) (lm next : ℕ) (is_m : lm + count (length p) (blocks_in p (mem x)) ≡ length p + 1) (passed : next ≡ node + 1 + node_count k) where
+    pub below-merged : (lm + 2 ≤ length p) × (next + lm ≤ 129)
+    below-merged =
+        let a = cuts.nontrivial.inside in
+        let b = cuts.nontrivial.outside in
+        let s = count_complement (length p) (blocks_in p (mem x)) in
+        let few = few-nodes g q k is (subst (IsPartition g.order) (sym same) (kept-partition g p x is pp cuts)) derives (omega arith) in
+        (omega arith, omega arith)
+
+-- what is found below a cut
+module _ (g : Graph) (p : List (List ℕ)) (x : List ℕ) (t k m : Shape) (is_t : t ≡ cut x k m) (node : ℕ) where
+  pub refused-here : (why : StoredWhy) → BreaksCut g p (mem x) (why_of why) → IsWalked g p t node (walked.Refused node why)
+  refused-here why breaks = subst (λ s. IsWalked g p s node (walked.Refused node why)) (sym is_t) (1, refl, inl (refl, breaks))
+
+  module _ (cuts : IsCutAt g p x) (q : List (List ℕ)) (is_q : q ≡ kept_at g.order p x) where
+    pub refused-kept : (number : ℕ) (why : StoredWhy) → IsWalked g q k (node + 1) (walked.Refused number why) → IsWalked g p t node (walked.Refused number why)
+    refused-kept number why found = subst (λ s. IsWalked g p s node (walked.Refused number why)) (sym is_t)
+        (1 + found.0, omega (arith, found.1), inr (inl (cuts, (found.0, refl, subst (λ (r : List (List ℕ)). IsRefusedAt g r k found.0 (why_of why)) is_q found.2))))
+
+    pub found-merged : (r : List (List ℕ)) → r ≡ merged_at g.order p x → (next : ℕ) → IsWalked g q k (node + 1) (walked.Passed next) → (w : Walked) → IsWalked g r m next w → IsWalked g p t node w
+    found-merged r is_r next kept (walked.Passed after) found = subst (λ s. IsWalked g p s node (walked.Passed after)) (sym is_t)
+        ((cuts, subst (λ (s : List (List ℕ)). IsDerivationAt g s k) is_q kept.0, subst (λ (s : List (List ℕ)). IsDerivationAt g s m) is_r found.0), omega (arith, kept.1, found.1))
+    found-merged r is_r next kept (walked.Refused number why) found = subst (λ s. IsWalked g p s node (walked.Refused number why)) (sym is_t) (
+      1 + node_count k + found.0,
+      omega (arith, kept.1, found.1),
+      inr (inr (
+        cuts,
+        subst (λ (s : List (List ℕ)). IsDerivationAt g s k) is_q kept.0,
+        (found.0, refl, subst (λ (s : List (List ℕ)). IsRefusedAt g s m found.0 (why_of why)) is_r found.2),
+      )),
+    )

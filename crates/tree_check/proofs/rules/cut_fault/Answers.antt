@@ -1,0 +1,56 @@
+use Rattle.std.proofs.Common.{length, arith}
+use Rattle.counting.proofs.Counts.{count_complement}
+use Rattle.counting.specs.Lists.{mem}
+use Rattle.graph_core.specs.Shores.{blocks_in}
+use Rattle.tree_check.proofs.CutRules.{breaks-some, even-count, is-cut, odd-count, union-at}
+use Rattle.tree_check.specs.declared.judgement.Why.TheVariants.{Even, Trivial, NotTight}
+use Rattle.tree_check.proofs.rules.cut_fault.Goals.{then-inside-lt3-via-then-inside-lt3, then-inside-lt3-via-else-inside-lt3+then-len-inside}
+use Rattle.tree_check.proofs.rules.cut_fault.Goals as goal
+
+pub returns-then-inside-eq0-clause-some : goal.returns-then-inside-eq0-clause-some
+returns-then-inside-eq0-clause-some c why is = breaks-some c.args.g.now c.args.p.now.blocks (mem c.args.shore) Even why is
+    (union-at c.args.g.now c.args.p.now c.args.shore c.is_union.result c.requires.order c.is_union.ensures c.if-not-is_union.false, even-count _ _ c.blocks_in-inside.ensures c.if-inside-eq0.true)
+
+pub returns-then-inside-lt3-clause-some : goal.returns-then-inside-lt3-clause-some
+returns-then-inside-lt3-clause-some c why is = breaks-some c.args.g.now c.args.p.now.blocks (mem c.args.shore) Trivial why is (
+  union-at c.args.g.now c.args.p.now c.args.shore c.is_union.result c.requires.order c.is_union.ensures c.if-not-is_union.false,
+  odd-count _ _ c.blocks_in-inside.ensures c.if-inside-eq0.false,
+  λ t.
+      let a = t.inside in
+      let b = t.outside in
+      let s = count_complement (length c.args.p.now.blocks) (blocks_in c.args.p.now.blocks (mem c.args.shore)) in
+      let e = c.blocks_in-inside.ensures in
+      elim c.then-inside-lt3.branch [
+        | then-inside-lt3-via-then-inside-lt3 w ↦ let l = w.if-inside-lt3.true in absurd (omega arith)
+        | then-inside-lt3-via-else-inside-lt3+then-len-inside w ↦ let l = w.if-len-inside.true in let n = w.len.ensures in absurd (omega arith)
+      ],
+)
+
+pub crossing_at-requires-clause-odd : goal.crossing_at-requires-clause-odd
+crossing_at-requires-clause-odd c = odd-count _ _ c.blocks_in-inside.ensures c.if-inside-eq0.false
+
+pub returns-in-Some-clause-some : goal.returns-in-Some-clause-some
+returns-in-Some-clause-some c why is = breaks-some c.args.g.now c.args.p.now.blocks (mem c.args.shore) (NotTight c.in-Some.matching) why is (
+  union-at c.args.g.now c.args.p.now c.args.shore c.is_union.result c.requires.order c.is_union.ensures c.if-not-is_union.false,
+  odd-count _ _ c.blocks_in-inside.ensures c.if-inside-eq0.false,
+  record {
+    inside = let e = c.blocks_in-inside.ensures in let l = c.if-inside-lt3.false in omega arith;
+    outside =
+        let s = count_complement (length c.args.p.now.blocks) (blocks_in c.args.p.now.blocks (mem c.args.shore)) in
+        let e = c.blocks_in-inside.ensures in
+        let n = c.len.ensures in
+        let l = c.if-len-inside.false in omega arith;
+  },
+  c.in_ok-matching.ensures.some c.in-Some.matching c.in-Some.is,
+)
+
+pub returns-in-None-clause-none : goal.returns-in-None-clause-none
+returns-in-None-clause-none c none = is-cut c.args.g.now c.args.p.now.blocks c.args.shore (record { rising = c.rises.ensures.rising; within = c.requires.fits }) (c.in_ok-matching.ensures.none c.in-None.is)
+    (record {
+      inside = let e = c.blocks_in-inside.ensures in let l = c.if-inside-lt3.false in omega arith;
+      outside =
+          let s = count_complement (length c.args.p.now.blocks) (blocks_in c.args.p.now.blocks (mem c.args.shore)) in
+          let e = c.blocks_in-inside.ensures in
+          let n = c.len.ensures in
+          let l = c.if-len-inside.false in omega arith;
+    })

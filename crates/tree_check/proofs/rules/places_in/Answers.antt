@@ -1,0 +1,56 @@
+use Rattle.std.proofs.Common.{◌≡◌, ℕ, ◌+◌, ◌==◌, ◌||◌, true, List, sym, ◌∙◌, subst, arith}
+use Rattle.counting.specs.Lists.{mem}
+use Rattle.graph_core.specs.Shores.{blocks_in}
+use Rattle.contraction.proofs.BlockLists.{length-partition}
+use Rattle.tree_check.proofs.PlacesInside.{added-members, added-within, all-places, left-members, left-within}
+use Rattle.tree_check.proofs.rules.places_in.Goals.{then-is_subset, else-is_subset}
+use Rattle.tree_check.proofs.rules.places_in.Goals as goal
+
+pub overflow_cast-i : goal.overflow_cast-i
+overflow_cast-i c =
+    let l = length-partition c.args.p.now.order c.args.p.now.blocks c.keeps_partition.ensures.partition in
+    let f = c.keeps_partition.ensures.few in
+    let t = c.loop-i-test.true in
+    let s = c.len-i-end.ensures in
+    omega arith
+
+pub overflow_add-i : goal.overflow_add-i
+overflow_add-i c =
+    let l = length-partition c.args.p.now.order c.args.p.now.blocks c.keeps_partition.ensures.partition in
+    let f = c.keeps_partition.ensures.few in
+    let t = c.loop-i-test.true in
+    let s = c.len-i-end.ensures in
+    omega arith
+
+pub with-places-requires : goal.with-places-requires
+with-places-requires c =
+    let l = length-partition c.args.p.now.order c.args.p.now.blocks c.keeps_partition.ensures.partition in
+    let f = c.keeps_partition.ensures.few in
+    let t = c.loop-i-test.true in
+    let s = c.len-i-end.ensures in
+    (omega arith, omega arith)
+
+pub loop-i-preserved : goal.loop-i-preserved
+loop-i-preserved c = elim c.if-is_subset.branch [
+  | then-is_subset w ↦ record {
+    within = added-within c.args.p.now.blocks c.args.shore c.loop-i.places c.loop-i.i c.loop-i.invariant.within c.loop-i.invariant.members c.block.result c.block.ensures c.if-is_subset.places
+        (λ j. subst (λ (s : List ℕ). mem s j ≡ (mem c.loop-i.places j || (c.loop-i.i + 1 == j))) (sym w.places-is) (w.with-places.ensures j));
+    members = added-members c.args.p.now.blocks c.args.shore c.loop-i.places c.loop-i.i c.loop-i.invariant.within c.loop-i.invariant.members c.block.result c.block.ensures c.if-is_subset.places
+        (λ j. subst (λ (s : List ℕ). mem s j ≡ (mem c.loop-i.places j || (c.loop-i.i + 1 == j))) (sym w.places-is) (w.with-places.ensures j))
+        (sym c.is_subset.ensures ∙ w.if-is_subset.true);
+  }
+  | else-is_subset w ↦ record {
+    within = λ j m. left-within c.args.p.now.blocks c.args.shore c.loop-i.places c.loop-i.i c.loop-i.invariant.within c.loop-i.invariant.members c.block.result c.block.ensures j
+        (subst (λ (s : List ℕ). mem s j ≡ true) w.places-is m);
+    members = λ j u. subst (λ (s : List ℕ). mem s j ≡ blocks_in c.args.p.now.blocks (mem c.args.shore) j) (sym w.places-is)
+        (left-members c.args.p.now.blocks c.args.shore c.loop-i.places c.loop-i.i c.loop-i.invariant.within c.loop-i.invariant.members c.block.result c.block.ensures
+        (sym c.is_subset.ensures ∙ w.if-is_subset.false) j u);
+  }
+]
+
+pub returns : goal.returns
+returns c =
+    let t = c.loop-i-test.false in
+    let a = c.loop-i.auto.i-end in
+    let s = c.len-i-end.ensures in
+    all-places c.args.p.now.blocks c.args.shore c.loop-i.places c.loop-i.i (omega arith) c.rises.ensures c.loop-i.invariant.within c.loop-i.invariant.members

@@ -1,0 +1,25 @@
+//! Whether a tree is a derivation of a graph.
+//!
+//! `check` accepts exactly the derivations of a matching covered graph (`IsDerivation` of `tree_core`). Of another tree it names the
+//! first node in preorder that breaks a rule, with the first of the rules 1 to 5 that it breaks and what shows it (`IsRefused` of
+//! `specs/Refusals`): a perfect matching at the node's partition with at least two edges in a cut that is not tight, or a nontrivial
+//! tight cut where a leaf stands. Of a graph that is not matching covered it gives the first reason.
+//!
+//! `laws::first_refusal_law`: a derivation has no refusal, and each other tree of a matching covered graph has exactly one, up to the
+//! perfect matching that it shows. `laws::judgement_law`: the three answers exclude one another.
+//!
+//! Stands on `allowed_edges` for the verdict, on `contraction` for quotients, on `tight_cuts` for the test of a cut and for the
+//! candidates at a partition, and on `tree_core` for trees. Source: Lovász, "Matching structure and the matching lattice" (1987);
+//! Lucchesi and Murty, "Perfect Matchings".
+#![tactic(auto)]
+
+mod judgement;
+pub mod laws;
+mod rules;
+mod walk;
+
+pub use judgement::{Judgement, Why};
+pub use walk::check;
+
+#[cfg(test)]
+mod tests;

@@ -1,0 +1,109 @@
+//! The rules that a node of a derivation keeps.
+ghost use Rattle.std.specs.Prelude.{◌≡◌, ◌-◌, ℕ, true, All, length, IfOk, None, Some};
+ghost use Rattle.counting.specs.Counts.{Within, is_odd};
+ghost use Rattle.counting.specs.Lists.{mem, rising_list};
+ghost use Rattle.graph_core.specs.Covered.{IsCovered};
+ghost use Rattle.graph_core.specs.Quotients.{quotient};
+ghost use Rattle.graph_core.specs.Shores.{IsTightAt, IsUnion, block_count, blocks_in};
+ghost use Rattle.tight_cuts.specs.Candidates.{first_shore};
+ghost use Rattle.tight_cuts.specs.CandidatesAt.{candidates_at};
+ghost use Rattle.tree_core.specs.Derivations.{IsCutAt, IsLeafAt};
+ghost use Rattle.tree_check.specs.Judgements.{why_of};
+ghost use Rattle.tree_check.specs.Refusals.{BreaksCut, CrossesAt};
+
+use crate::judgement::Why;
+use contraction::{Partition, lift, quotient};
+use graph_core::{MultiGraph, Numbers};
+use std::alloc::{AllocError as Memory, Global};
+use tight_cuts::{Tightness, candidates_at, is_tight};
+use vset_core::VSet;
+
+/// The first rule that the cut of `shore` breaks at `p`, whose quotient is matching covered; `None` exactly where `shore` is a canonical
+/// nontrivial shore that is tight at `p`.
+pub(crate) fn cut_fault(
+    alloc: Global,
+    g: &MultiGraph,
+    p: &Partition,
+    shore: VSet,
+) -> Result<Option<Why>, Memory>
+    requires order { p.now.order ≡ g.now.order }
+    requires covered { IsCovered (quotient g.now p.now.blocks) }
+    requires fits { All (Within (g.now.order - 1)) shore }
+    ensures some { IfOk result (λ o. (why : _) → o ≡ Some why → BreaksCut g.now p.now.blocks (mem shore) (why_of why)) }
+    ensures none { IfOk result (λ o. o ≡ None → IsCutAt g.now p.now.blocks shore) }
+{
+    shore.rises();
+    p.keeps_partition();
+    if !p.is_union(shore) {
+        return Ok(Some(Why::NotBlocks));
+    }
+    let inside = p.blocks_in(shore) as usize;
+    if inside % 2 == 0 {
+        return Ok(Some(Why::Even));
+    }
+    if inside < 3 || p.len() < inside + 3 {
+        return Ok(Some(Why::Trivial));
+    }
+    match crossing_at(alloc, g, p, shore)? {
+        Some(matching) => Ok(Some(Why::NotTight { matching })),
+        None => Ok(None),
+    }
+}
+
+// A perfect matching at p with at least two edges in the cut of the shore, a union of an odd number of blocks; none exactly where the
+// shore is tight at p.
+fn crossing_at(
+    alloc: Global,
+    g: &MultiGraph,
+    p: &Partition,
+    shore: VSet,
+) -> Result<Option<Numbers>, Memory>
+    requires order { p.now.order ≡ g.now.order }
+    requires covered { IsCovered (quotient g.now p.now.blocks) }
+    requires union { IsUnion g.now.order p.now.blocks (mem shore) }
+    requires odd { is_odd (block_count p.now.blocks (mem shore)) ≡ true }
+    ensures some { IfOk result (λ o. (m : _) → o ≡ Some m → CrossesAt g.now p.now.blocks (mem shore) m) }
+    ensures none { IfOk result (λ o. o ≡ None → IsTightAt g.now p.now.blocks (mem shore)) }
+{
+    g.keeps_limits();
+    p.keeps_partition();
+    let q = quotient(alloc, g, p)?;
+    match is_tight(alloc, q.graph(), places_in(p, shore))? {
+        Tightness::Tight => Ok(None),
+        Tightness::Crossed { matching } => Ok(Some(lift(alloc, &q, &matching)?)),
+    }
+}
+
+// The places of the blocks that are in the shore.
+fn places_in(p: &Partition, shore: VSet) -> VSet
+    ensures { result ≡ rising_list (length p.now.blocks) (blocks_in p.now.blocks (mem shore)) }
+{
+    p.keeps_partition();
+    let mut places = VSet::empty();
+    for i in 0..p.len() {
+        if p.block(i).is_subset(shore) {
+            places = places.with(i as u32 + 1);
+        }
+    }
+    places.rises();
+    places
+}
+
+/// The shore of the first candidate at `p`, whose quotient is matching covered; where there is none, no nontrivial shore is tight at `p`.
+pub(crate) fn first_cut_at(
+    alloc: Global,
+    g: &MultiGraph,
+    p: &Partition,
+) -> Result<Option<VSet>, Memory>
+    requires order { p.now.order ≡ g.now.order }
+    requires covered { IsCovered (quotient g.now p.now.blocks) }
+    ensures first { IfOk result (λ o. o ≡ first_shore (candidates_at g.now p.now.blocks)) }
+    ensures none { IfOk result (λ o. o ≡ None → IsLeafAt g.now p.now.blocks) }
+{
+    let list = candidates_at(alloc, g, p)?;
+    if list.is_empty() {
+        Ok(None)
+    } else {
+        Ok(Some(list.get(0).shore))
+    }
+}
