@@ -1,13 +1,13 @@
 -- Steps of a decomposition. A candidate at a partition is a cut there; its shores may be passed to an order; and a cut with two trees
 -- is the tree that the order picks, and a derivation, where both trees are.
-use Rattle.std.proofs.Common.{◌≡◌, ℕ, zero, suc, ◌+◌, ◌-◌, ◌≤◌, ◌<◌, ◌^◌, List, [], ◌∷◌, length, map, All, get_or, refl, sym, ap, ◌∙◌, arith, subst, slice_get, Some, true, false, ◌==◌, ◌↔◌, eqb-true, ◌*◌}
+use Rattle.std.proofs.Common.{◌≡◌, ℕ, zero, suc, ◌+◌, ◌≤◌, ◌<◌, ◌^◌, List, [], ◌∷◌, length, map, All, get_or, refl, sym, ap, ◌∙◌, arith, subst, slice_get, Some, true, false, ◌==◌, ◌↔◌, eqb-true, ◌*◌}
 use Rattle.std.proofs.lemmas.Bool.{both_ways}
 use Rattle.std.proofs.lemmas.List.{length-map, nil_from_length}
 use Rattle.std.proofs.lemmas.Option.{get_or_from_slice_get, slice_get_within}
 use Rattle.counting.proofs.Counts.{count_complement, count_le}
 use Rattle.counting.proofs.RisingLists.{set-wider}
 use Rattle.counting.specs.Counts.{count}
-use Rattle.counting.specs.Lists.{IsRisingIn, mem}
+use Rattle.counting.specs.Lists.{mem}
 use Rattle.counting.specs.Sets.{Set, complement}
 use Rattle.contraction.proofs.BlockLists.{length-partition}
 use Rattle.contraction.proofs.QuotientLaws.{covered_up}
@@ -23,7 +23,7 @@ use Rattle.tight_cuts.specs.Candidates.{Candidate}
 use Rattle.tight_cuts.specs.CandidatesAt.{IsCandidateAt, candidates_at}
 use Rattle.tight_cuts.specs.View.{candidate_of}
 use Rattle.tight_cuts.specs.declared.candidate.Candidate.{Candidate as StoredCandidate}
-use Rattle.tree_core.specs.Shapes.{Shape, leaf, cut, cut_count}
+use Rattle.tree_core.specs.Shapes.{Shape, cut, cut_count}
 use Rattle.tree_core.specs.Derivations.{IsCutAt, IsDerivationAt, IsLeafAt, kept_at, merged_at}
 use Rattle.decomposer.specs.Choices.{IsChoice, IsPassed}
 use Rattle.decomposer.specs.Picked.{IsPickedAt, PicksShore}

@@ -41,7 +41,9 @@ pub fn decompose<F: Fn(&[Candidate], usize) -> usize>(
     ensures derivation { IfOk result (λ tree. IsDerivation g.now (shape_of tree)) }
     ensures picked { IfOk result (λ tree. IsPicked (FnPicks F.Fn order.now.f) g.now (shape_of tree)) }
     ensures reason { (r : _) → result ≡ Err (Refused.NotCovered r) → IsReason g.now (reason_of r) }
+    ensures uncovered { (r : _) → result ≡ Err (Refused.NotCovered r) → ¬ IsCovered g.now }
 {
+    g.keeps_limits();
     match covered(alloc, g) {
         Err(_) => Err(Refused::Memory),
         Ok(Verdict::NotCovered(reason)) => Err(Refused::NotCovered(reason)),

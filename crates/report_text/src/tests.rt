@@ -1,7 +1,14 @@
-//! Lines behind a report.
-use crate::{graph6_line, with_names};
+//! Lines behind a report, the leaves of a decomposition, and judgements.
+use crate::{
+    EarLine, Shown, Tally, TreeLine, count_leaves, derivation, ear_judgement, graph6_line,
+    judgement, with_names,
+};
+use contraction::Partition;
+use graph_core::{MultiGraph, Numbers};
 use graph_text::plain_names;
 use std::test::Fail;
+use tree_core::Partitions;
+use vset_core::VSet;
 
 #[test]
 fn names_behind_a_report(rt: HostRuntime) -> Result<(), Fail> {
@@ -21,5 +28,111 @@ fn names_behind_a_report(rt: HostRuntime) -> Result<(), Fail> {
 fn graph6_behind_a_report(rt: HostRuntime) -> Result<(), Fail> {
     let written = graph6_line(rt.alloc(), b"covered yes\n", b"C~")?;
     assert_eq!(rt; written.as_slice(), b"covered yes\ngraph6 C~\n".as_slice());
+    Ok(())
+}
+
+#[test]
+fn leaf_of_two_parallel_edges(rt: HostRuntime) -> Result<(), Fail> {
+    let mut graph = MultiGraph::new(rt.alloc(), 2)?;
+    graph.add_edge(1, 2)?;
+    graph.add_edge(1, 2)?;
+    let mut leaves = Partitions::new(rt.alloc());
+    leaves.push(Partition::singles(rt.alloc(), 2)?)?;
+    let tally = count_leaves(rt.alloc(), &graph, &leaves)?;
+    assert_eq!(rt;
+        tally,
+        Tally {
+            leaves: 1,
+            bricks: 0,
+            braces: 1
+        }
+    );
+    let report = derivation(rt.alloc(), b"t mcg 2\nleaf\n", &graph, &leaves)?;
+    assert_eq!(rt;
+        report.as_slice(),
+        b"t mcg 2\nleaf\nc leaf 1 brace\nc block 1\nc block 2\nc edge 1 2 by 1 2\nc leaves 1 bricks 0 braces 1\n".as_slice()
+    );
+    Ok(())
+}
+
+fn refused(node: u32, why: u32, shown: Shown) -> TreeLine {
+    TreeLine::Refused {
+        tree: 1,
+        node,
+        why,
+        shown,
+    }
+}
+
+#[test]
+fn judgements_of_trees(rt: HostRuntime) -> Result<(), Fail> {
+    let mut edges = Numbers::new(rt.alloc());
+    for edge in 7..10 {
+        edges.push(edge)?;
+    }
+    let tally = Tally {
+        leaves: 2,
+        bricks: 1,
+        braces: 1,
+    };
+    let shore = VSet::one(2).with(3).with(4);
+    let table = [
+        (
+            TreeLine::Accepted { tally },
+            "accepted leaves 2 bricks 1 braces 1\n",
+        ),
+        (
+            refused(1, 2, Shown::Nothing),
+            "tree 1 refused node 1 why 2\n",
+        ),
+        (
+            refused(1, 4, Shown::Matching { edges }),
+            "tree 1 refused node 1 why 4 matching 7 8 9\n",
+        ),
+        (
+            refused(1, 5, Shown::Cut { shore }),
+            "tree 1 refused node 1 why 5 cut 2 3 4\n",
+        ),
+    ];
+    for (line, text) in &table {
+        assert_eq!(rt; judgement(rt.alloc(), line)?.as_slice(), text.as_bytes());
+    }
+    Ok(())
+}
+
+#[test]
+fn judgements_of_ear_lists(rt: HostRuntime) -> Result<(), Fail> {
+    let table = [
+        (
+            EarLine::Accepted {
+                steps: 2,
+                single: 1,
+                double: 1,
+            },
+            "accepted steps 2 single 1 double 1\n",
+        ),
+        (
+            EarLine::Refused {
+                step: 3,
+                why: 3,
+                edge: None,
+            },
+            "refused step 3 why 3\n",
+        ),
+        (
+            EarLine::Refused {
+                step: 4,
+                why: 7,
+                edge: Some(8),
+            },
+            "refused step 4 why 7 edge 8\n",
+        ),
+    ];
+    for (line, text) in &table {
+        assert_eq!(rt;
+            ear_judgement(rt.alloc(), line)?.as_slice(),
+            text.as_bytes()
+        );
+    }
     Ok(())
 }

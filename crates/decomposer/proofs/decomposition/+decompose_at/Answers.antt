@@ -1,6 +1,5 @@
-use Rattle.std.proofs.Common.{◌≡◌, ◌≤◌, ◌+◌, ap, length, arith, rules}
+use Rattle.std.proofs.Common.{ap, length, arith, rules}
 use Rattle.tree_core.specs.Shapes.{cut_count}
-use Rattle.tree_core.specs.View.{shape_of}
 use Rattle.decomposer.proofs.Picking.{kept-few, merged-few}
 use Rattle.decomposer.proofs.decomposition.+decompose_at.Goals as goal
 

@@ -1,10 +1,9 @@
-use Rattle.std.proofs.Common.{◌≡◌, ◌==◌, ℕ, All, List, [], ap, sym, subst, ◌∙◌, false, length, slice_get, Some, unwrap_or, Option}
+use Rattle.std.proofs.Common.{ℕ, All, List, [], ap, sym, subst, ◌∙◌, slice_get, unwrap_or, Option}
 use Rattle.graph_core.specs.Partitions.{IsPartition}
 use Rattle.tight_cuts.specs.Candidates.{Candidate}
 use Rattle.tight_cuts.specs.CandidatesAt.{IsCandidateAt}
 use Rattle.tight_cuts.specs.View.{candidate_of}
 use Rattle.tree_core.specs.Derivations.{IsCutAt}
-use Rattle.decomposer.specs.Choices.{IsChoice}
 use Rattle.decomposer.proofs.Picking.{is-choice, leaf-from_none, picked-shore, stored-length}
 use Rattle.decomposer.proofs.decomposition.pick_shore.Goals as goal
 

@@ -1,4 +1,4 @@
-use Rattle.std.proofs.Common.{◌≡◌, ◌≤◌, ◌∙◌, ap, length, arith}
+use Rattle.std.proofs.Common.{◌≡◌, ◌∙◌, ap, length, arith}
 use Rattle.graph_core.proofs.Singles.{length-singles}
 use Rattle.graph_core.specs.Partitions.{singles}
 use Rattle.decomposer.proofs.Picking.{root-covered}

@@ -1,0 +1,48 @@
+-- Steps of the loops that write the lines of a leaf, and of the leaves: what is written and one more line are the lines with one more.
+use Rattle.std.proofs.Common.{◌≡◌, ℕ, suc, ◌∙◌, List, [], ◌++◌, length, map, ap, sym, subst, append_assoc, slice_get, get_or, Some}
+use Rattle.std.proofs.lemmas.Option.{get_or_from_slice_get, slice_get-map}
+use Rattle.std.specs.Prelude.{codes}
+use Rattle.std.specs.Option.{option_map}
+use Rattle.counting.specs.Counts.{Within}
+use Rattle.graph_core.specs.Graph.{Graph, first_end, second_end}
+use Rattle.graph_core.specs.Quotients.{quotient, remembered}
+use Rattle.contraction.specs.Contracted.{ContractedValue, contraction}
+use Rattle.contraction.specs.Partition.{PartitionValue}
+use Rattle.report_text.specs.Reports.{list_line}
+use Rattle.report_text.specs.Derivations.{adjacent_line, adjacent_lines, block_lines, leaf_lines, leaf_text, name_at}
+use Rattle.report_text.specs.Tallies.{kind_at, leaf_at}
+use Rattle.report_text.specs.declared.tallies.LeafKind.{LeafKind}
+
+-- one more line behind those that are written
+one-more : (start lines line now next : List ℕ) → now ≡ start ++ lines → next ≡ now ++ line → next ≡ start ++ (lines ++ line)
+one-more start lines line now next first second = second ∙ ap (λ (t : List ℕ). t ++ line) first ∙ append_assoc start lines line
+
+-- the line of the next block
+pub block-written : (p : List (List ℕ)) (i : ℕ) (b start now next : List ℕ) → slice_get p i ≡ Some b → now ≡ start ++ block_lines p i → next ≡ now ++ list_line (codes "c block") b → next ≡ start ++ block_lines p (suc i)
+block-written p i b start now next is first second =
+    one-more start (block_lines p i) (list_line (codes "c block") (get_or p i [])) now next first
+    (second ∙ ap (λ (c : List ℕ). now ++ list_line (codes "c block") c) (sym (get_or_from_slice_get p i b [] is)))
+
+-- the vertices of the quotient are the places of blocks
+pub within-blocks : (g : Graph) (p : List (List ℕ)) (q : ContractedValue) (h : Graph) (a : ℕ) → q ≡ contraction g p → h ≡ q.graph → Within h.order a → Within (length p) a
+unfolding quotient
+within-blocks g p q h a is same within = subst (λ (k : ℕ). Within k a) (ap (λ (h : Graph). h.order) same ∙ ap (λ (q : ContractedValue). q.graph.order) is) within
+
+-- the line of the next two adjacent blocks
+pub adjacent-written : (g : Graph) (p : List (List ℕ)) (q : ContractedValue) (h : Graph) (i a b x y : ℕ) (edges start now next : List ℕ) →
+    q ≡ contraction g p → h ≡ q.graph → a ≡ first_end h (suc i) → b ≡ second_end h (suc i) → x ≡ name_at p a → y ≡ name_at p b → edges ≡ remembered g p (suc i) →
+    now ≡ start ++ adjacent_lines g p i → next ≡ now ++ adjacent_line x y edges → next ≡ start ++ adjacent_lines g p (suc i)
+adjacent-written g p q h i a b x y edges start now next is same first_is second_is x_is y_is edges_are first second =
+    let e : h ≡ quotient g p = same ∙ ap (λ (q : ContractedValue). q.graph) is in
+    let xs : x ≡ name_at p (first_end (quotient g p) (suc i)) = x_is ∙ ap (name_at p) (first_is ∙ ap (λ (h : Graph). first_end h (suc i)) e) in
+    let ys : y ≡ name_at p (second_end (quotient g p) (suc i)) = y_is ∙ ap (name_at p) (second_is ∙ ap (λ (h : Graph). second_end h (suc i)) e) in
+    one-more start (adjacent_lines g p i) (adjacent_line (name_at p (first_end (quotient g p) (suc i))) (name_at p (second_end (quotient g p) (suc i))) (remembered g p (suc i))) now next first
+    (second ∙ ap (λ (l : List ℕ). now ++ l) (ap (λ (v : ℕ). adjacent_line v y edges) xs ∙ ap (λ (v : ℕ). adjacent_line (name_at p (first_end (quotient g p) (suc i))) v edges) ys ∙ ap (λ (es : List ℕ). adjacent_line (name_at p (first_end (quotient g p) (suc i))) (name_at p (second_end (quotient g p) (suc i))) es) edges_are))
+
+-- the lines of the next leaf
+pub leaf-written : (g : Graph) (leaves : List PartitionValue) (kinds : List LeafKind) (i : ℕ) (p : PartitionValue) (start now next : List ℕ) → slice_get leaves i ≡ Some p →
+    now ≡ start ++ leaf_lines g (map (λ (p : PartitionValue). p.blocks) leaves) kinds i → next ≡ now ++ leaf_text g (suc i) p.blocks (kind_at kinds i) → next ≡ start ++ leaf_lines g (map (λ (p : PartitionValue). p.blocks) leaves) kinds (suc i)
+leaf-written g leaves kinds i p start now next is first second =
+    let ps : List (List (List ℕ)) = map (λ (p : PartitionValue). p.blocks) leaves in
+    one-more start (leaf_lines g ps kinds i) (leaf_text g (suc i) (leaf_at ps i) (kind_at kinds i)) now next first
+    (second ∙ ap (λ (b : List (List ℕ)). now ++ leaf_text g (suc i) b (kind_at kinds i)) (sym (get_or_from_slice_get ps i p.blocks [] (slice_get-map (λ (p : PartitionValue). p.blocks) leaves i ∙ ap (option_map (λ (p : PartitionValue). p.blocks)) is))))

@@ -1,0 +1,10 @@
+use Rattle.std.proofs.Common.{◌≡◌, ◌<◌, ℕ, length, map}
+use Rattle.report_text.specs.Tallies.{IsLeafKind, kind_at, leaf_at}
+use Rattle.report_text.proofs.tallies.leaf_kinds.Given as goal
+
+-- the kinds of the first leaves are known
+abbrev pub invariant-loop-i : goal.invariant-loop-i
+invariant-loop-i l = record {
+  so_many : length l.kinds.items ≡ l.i;
+  right : (k : ℕ) → k < l.i → IsLeafKind l.g (leaf_at (map (λ p. p.blocks) l.leaves) k) (kind_at l.kinds.items k);
+}

@@ -1,0 +1,178 @@
+//! The report of a decomposition: the text of its tree, and its leaves as comments.
+ghost use Rattle.std.specs.Prelude.{◌≡◌, ◌<◌, ◌≤◌, ◌++◌, ◌^◌, List, length, map, codes, OnOk, IfOk, All, string_bytes};
+ghost use Rattle.counting.specs.Counts.{Within};
+ghost use Rattle.counting.specs.Lists.{last_of};
+ghost use Rattle.graph_core.specs.Graph.{size};
+ghost use Rattle.graph_core.specs.Quotients.{quotient};
+ghost use Rattle.report_text.specs.Tallies.{AreLeafKinds, tally_of};
+ghost use Rattle.report_text.specs.Derivations.{adjacent_line, adjacent_lines, block_lines, derivation_text, kind_word, leaf_line, leaf_lines, leaf_text, name_at, tally_line};
+ghost use Rattle.report_text.specs.declared.tallies.LeafKind.{LeafKind};
+
+use crate::numbers::{push_numbers, push_set_line};
+use crate::tallies::{LeafKind, Tally, leaf_kinds, tallied};
+use contraction::{Partition, quotient};
+use graph_core::MultiGraph;
+use std::alloc::{AllocError as Memory, Global};
+use tree_core::Partitions;
+use vset_core::VSet;
+
+// The word of a kind.
+fn kind_word(kind: LeafKind) -> &'static str
+    ensures { result.now ≡ kind_word kind }
+{
+    match kind {
+        LeafKind::Brick => "brick",
+        LeafKind::Brace => "brace",
+    }
+}
+
+fn push_leaf_line(text: &mut String, number: usize, kind: LeafKind) -> Result<(), Memory>
+    ensures { OnOk result (string_bytes text.new ≡ string_bytes text.old ++ leaf_line number kind) }
+{
+    let word = kind_word(kind);
+    write!(text, "c leaf {number} {word}\n")
+}
+
+fn push_blocks(text: &mut String, p: &Partition) -> Result<(), Memory>
+    ensures { OnOk result (string_bytes text.new ≡ string_bytes text.old ++ block_lines p.now.blocks (length p.now.blocks)) }
+{
+    for i in 0..p.len() {
+        push_set_line(text, "c block", p.block(i))?;
+    }
+    Ok(())
+}
+
+// The name of a block: its greatest vertex.
+fn name_of(block: VSet) -> u32
+    ensures { result ≡ last_of block }
+{
+    block.rises();
+    block.last().unwrap_or(0)
+}
+
+// The name of the block at a place, counted from 1.
+fn name_at(p: &Partition, place: u32) -> u32
+    requires { Within (length p.now.blocks) place }
+    ensures { result ≡ name_at p.now.blocks place }
+{
+    name_of(p.block(place as usize - 1))
+}
+
+fn push_adjacent(text: &mut String, a: u32, b: u32, edges: &[u32]) -> Result<(), Memory>
+    ensures { OnOk result (string_bytes text.new ≡ string_bytes text.old ++ adjacent_line a b edges.now) }
+{
+    write!(text, "c edge {a} {b} by")?;
+    push_numbers(text, edges)?;
+    write!(text, "\n")
+}
+
+// The lines of the pairs of adjacent blocks.
+fn push_all_adjacent(
+    alloc: Global,
+    text: &mut String,
+    g: &MultiGraph,
+    p: &Partition,
+) -> Result<(), Memory>
+    requires { p.now.order ≡ g.now.order }
+    ensures { OnOk result (string_bytes text.new ≡ string_bytes text.old ++ adjacent_lines g.now p.now.blocks (size (quotient g.now p.now.blocks))) }
+{
+    let q = quotient(alloc, g, p)?;
+    let graph = q.graph();
+    for i in 0..graph.size() {
+        let edge = i + 1;
+        let ends = graph.ends(edge);
+        push_adjacent(
+            text,
+            name_at(p, ends.a),
+            name_at(p, ends.b),
+            q.remembered(edge),
+        )?;
+    }
+    Ok(())
+}
+
+// The lines of the leaf at a partition.
+#[tactic(auto, unfolding(crate::specs::Derivations::leaf_text))]
+fn push_leaf(
+    alloc: Global,
+    text: &mut String,
+    g: &MultiGraph,
+    number: usize,
+    p: &Partition,
+    kind: LeafKind,
+) -> Result<(), Memory>
+    requires { p.now.order ≡ g.now.order }
+    ensures { OnOk result (string_bytes text.new ≡ string_bytes text.old ++ leaf_text g.now number p.now.blocks kind) }
+{
+    push_leaf_line(text, number, kind)?;
+    push_blocks(text, p)?;
+    push_all_adjacent(alloc, text, g, p)
+}
+
+// The lines of the leaves, which have these kinds.
+fn push_leaves(
+    alloc: Global,
+    text: &mut String,
+    g: &MultiGraph,
+    leaves: &Partitions,
+    kinds: &[LeafKind],
+) -> Result<(), Memory>
+    requires order { All (λ p. p.order ≡ g.now.order) leaves.now }
+    requires kinds { length kinds.now ≡ length leaves.now }
+    ensures { OnOk result (string_bytes text.new ≡ string_bytes text.old ++ leaf_lines g.now (map (λ p. p.blocks) leaves.now) kinds.now (length leaves.now)) }
+{
+    for i in 0..leaves.len() {
+        push_leaf(alloc, text, g, i + 1, leaves.get(i), kinds[i])?;
+    }
+    Ok(())
+}
+
+fn push_tally(text: &mut String, tally: Tally) -> Result<(), Memory>
+    ensures { OnOk result (string_bytes text.new ≡ string_bytes text.old ++ tally_line tally) }
+{
+    let Tally {
+        leaves,
+        bricks,
+        braces,
+    } = tally;
+    write!(text, "c leaves {leaves} bricks {bricks} braces {braces}\n")
+}
+
+// The lines of the leaves and of their counts.
+fn leaf_comments(
+    alloc: Global,
+    g: &MultiGraph,
+    leaves: &Partitions,
+    kinds: &[LeafKind],
+) -> Result<String, Memory>
+    requires order { All (λ p. p.order ≡ g.now.order) leaves.now }
+    requires kinds { length kinds.now ≡ length leaves.now }
+    requires few { length leaves.now < 2 ^ 32 }
+    ensures { IfOk result (λ comments. string_bytes comments ≡ leaf_lines g.now (map (λ p. p.blocks) leaves.now) kinds.now (length leaves.now) ++ tally_line (tally_of kinds.now)) }
+{
+    let mut comments = String::new(alloc);
+    push_leaves(alloc, &mut comments, g, leaves, kinds)?;
+    push_tally(&mut comments, tallied(kinds))?;
+    Ok(comments)
+}
+
+/// Writes the text and then comments on the leaves, which are at these partitions of the vertices of `g`: for each its number and
+/// kind, its blocks, and for each two adjacent blocks their names and the edges of `g` between them; last how many leaves there are.
+/// A leaf is called a brace exactly where its quotient is bipartite, and a brick otherwise.
+#[tactic(auto, unfolding(crate::specs::Derivations::derivation_text))]
+pub fn derivation(
+    alloc: Global,
+    text: &[u8],
+    g: &MultiGraph,
+    leaves: &Partitions,
+) -> Result<Vec<u8>, Memory>
+    requires order { All (λ p. p.order ≡ g.now.order) leaves.now }
+    requires few { length leaves.now < 2 ^ 32 }
+    ensures { IfOk result (λ report. (kinds : List LeafKind) × AreLeafKinds g.now (map (λ p. p.blocks) leaves.now) kinds × (report.items ≡ derivation_text text.now g.now (map (λ p. p.blocks) leaves.now) kinds)) }
+{
+    let kinds = leaf_kinds(alloc, g, leaves)?;
+    let comments = leaf_comments(alloc, g, leaves, &kinds)?;
+    let mut report = Vec::from_slice(alloc, text)?;
+    report.extend_from_slice(comments.as_bytes())?;
+    Ok(report)
+}

@@ -1,0 +1,109 @@
+//! The line that judges a tree of cuts.
+ghost use Rattle.std.specs.Prelude.{◌≡◌, ◌++◌, OnOk, IfOk, string_bytes};
+ghost use Rattle.report_text.specs.Judgements.{judgement_text, numbered, refused_line, shown_text};
+
+use crate::numbers::{push_numbers, push_set};
+use crate::tallies::Tally;
+use graph_core::Numbers;
+use std::alloc::{AllocError as Memory, Global};
+use vset_core::VSet;
+
+/// What a refusal shows.
+#[derive(Drop)]
+pub enum Shown {
+    Nothing,
+    /// Edges of a matching.
+    Matching { edges: Numbers },
+    /// A shore.
+    Cut { shore: VSet },
+}
+
+/// What is told of a tree.
+#[derive(Drop)]
+pub enum TreeLine {
+    /// It is a derivation, with so many leaves.
+    Accepted {
+        tally: Tally,
+    },
+    /// The tree of this place, counted from 1, is refused at a node, counted from 1 in preorder, for the reason of this number.
+    Refused {
+        tree: u32,
+        node: u32,
+        why: u32,
+        shown: Shown,
+    },
+}
+
+fn push_shown(text: &mut String, shown: &Shown) -> Result<(), Memory>
+    ensures { OnOk result (string_bytes text.new ≡ string_bytes text.old ++ shown_text shown.now) }
+{
+    match shown {
+        Shown::Nothing => Ok(()),
+        Shown::Matching { edges } => {
+            write!(text, " matching")?;
+            push_numbers(text, edges.as_slice())
+        }
+        Shown::Cut { shore } => {
+            write!(text, " cut")?;
+            push_set(text, *shore)
+        }
+    }
+}
+
+#[tactic(auto, unfolding(crate::specs::Judgements::numbered))]
+fn push_numbered(text: &mut String, words: &str, number: u32) -> Result<(), Memory>
+    ensures { OnOk result (string_bytes text.new ≡ string_bytes text.old ++ numbered words.now number) }
+{
+    write!(text, "{words}{number}")
+}
+
+fn push_refused(
+    text: &mut String,
+    tree: u32,
+    node: u32,
+    why: u32,
+    shown: &Shown,
+) -> Result<(), Memory>
+    ensures { OnOk result (string_bytes text.new ≡ string_bytes text.old ++ refused_line tree node why shown.now) }
+{
+    push_numbered(text, "tree ", tree)?;
+    push_numbered(text, " refused node ", node)?;
+    push_numbered(text, " why ", why)?;
+    push_shown(text, shown)?;
+    write!(text, "\n")?;
+    Ok(())
+}
+
+#[tactic(auto, unfolding(crate::specs::Judgements::judgement_text))]
+fn push_judgement(text: &mut String, line: &TreeLine) -> Result<(), Memory>
+    ensures { OnOk result (string_bytes text.new ≡ string_bytes text.old ++ judgement_text line.now) }
+{
+    match line {
+        TreeLine::Accepted { tally } => {
+            let Tally {
+                leaves,
+                bricks,
+                braces,
+            } = *tally;
+            write!(
+                text,
+                "accepted leaves {leaves} bricks {bricks} braces {braces}\n"
+            )
+        }
+        TreeLine::Refused {
+            tree,
+            node,
+            why,
+            shown,
+        } => push_refused(text, *tree, *node, *why, shown),
+    }
+}
+
+/// Writes the line on a tree: how many leaves it has, or where and why it is refused, and what shows it.
+pub fn judgement(alloc: Global, line: &TreeLine) -> Result<Vec<u8>, Memory>
+    ensures { IfOk result (λ text. text.items ≡ judgement_text line.now) }
+{
+    let mut text = String::new(alloc);
+    push_judgement(&mut text, line)?;
+    Ok(text.into_bytes())
+}

@@ -1,0 +1,99 @@
+//! The kinds of the leaves of a decomposition, and their numbers.
+ghost use Rattle.std.specs.Prelude.{◌≡◌, ◌<◌, ◌^◌, length, map, count_by, not, IfOk, All};
+ghost use Rattle.report_text.specs.Tallies.{AreLeafKinds, IsLeafKind, IsTally, is_brick, tally_of};
+
+use contraction::{Partition, quotient};
+use graph_core::{MultiGraph, Sides};
+use std::alloc::{AllocError as Memory, Global};
+use tree_core::Partitions;
+
+/// The kind of a leaf, told by its quotient.
+#[derive(Clone, Copy, Debug, PartialEq, Eq)]
+pub enum LeafKind {
+    /// The quotient is not bipartite.
+    Brick,
+    /// The quotient is bipartite.
+    Brace,
+}
+
+/// How many leaves a decomposition has.
+#[derive(Clone, Copy, Debug, PartialEq, Eq)]
+pub struct Tally {
+    /// The number of leaves.
+    pub leaves: u32,
+    /// How many of them are bricks.
+    pub bricks: u32,
+    /// How many of them are braces.
+    pub braces: u32,
+}
+
+// The kind of the leaf at a partition.
+fn leaf_kind(alloc: Global, g: &MultiGraph, p: &Partition) -> Result<LeafKind, Memory>
+    requires { p.now.order ≡ g.now.order }
+    ensures { IfOk result (λ kind. IsLeafKind g.now p.now.blocks kind) }
+{
+    let q = quotient(alloc, g, p)?;
+    match q.graph().two_sides(alloc)? {
+        Sides::Even { .. } => Ok(LeafKind::Brace),
+        Sides::Odd { .. } => Ok(LeafKind::Brick),
+    }
+}
+
+/// The kinds of the leaves, in order.
+pub fn leaf_kinds(
+    alloc: Global,
+    g: &MultiGraph,
+    leaves: &Partitions,
+) -> Result<Vec<LeafKind>, Memory>
+    requires { All (λ p. p.order ≡ g.now.order) leaves.now }
+    ensures { IfOk result (λ kinds. AreLeafKinds g.now (map (λ p. p.blocks) leaves.now) kinds.items) }
+{
+    let mut kinds = Vec::new(alloc);
+    for i in 0..leaves.len() {
+        kinds.push(leaf_kind(alloc, g, leaves.get(i))?)?;
+    }
+    Ok(kinds)
+}
+
+// How many of the kinds are bricks.
+fn count_bricks(kinds: &[LeafKind]) -> usize
+    ensures { result ≡ count_by is_brick kinds.now }
+{
+    kinds
+        .iter()
+        .filter(|kind| **kind == LeafKind::Brick)
+        .count()
+}
+
+// How many of the kinds are braces.
+fn count_braces(kinds: &[LeafKind]) -> usize
+    ensures { result ≡ count_by (λ kind. not (is_brick kind)) kinds.now }
+{
+    kinds
+        .iter()
+        .filter(|kind| **kind == LeafKind::Brace)
+        .count()
+}
+
+/// The numbers of these kinds. Takes no memory.
+pub fn tallied(kinds: &[LeafKind]) -> Tally
+    requires { length kinds.now < 2 ^ 32 }
+    ensures { result ≡ tally_of kinds.now }
+{
+    Tally {
+        leaves: kinds.len() as u32,
+        bricks: count_bricks(kinds) as u32,
+        braces: count_braces(kinds) as u32,
+    }
+}
+
+/// Counts the leaves at these partitions of the vertices of `g`: a leaf is a brace exactly where its quotient is bipartite, and a
+/// brick otherwise.
+pub fn count_leaves(alloc: Global, g: &MultiGraph, leaves: &Partitions) -> Result<Tally, Memory>
+    requires order { All (λ p. p.order ≡ g.now.order) leaves.now }
+    requires few { length leaves.now < 2 ^ 32 }
+    ensures { IfOk result (λ tally. IsTally g.now (map (λ p. p.blocks) leaves.now) tally) }
+{
+    let kinds = leaf_kinds(alloc, g, leaves)?;
+    Ok(tallied(&kinds))
+}
