@@ -18,3 +18,4 @@ pub mod Uniqueness
 pub mod Alignments
 pub mod Parts
 pub mod CarriedLeaves
+pub mod SwitchImages
