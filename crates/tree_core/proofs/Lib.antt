@@ -3,3 +3,5 @@ pub mod DerivationStands
 pub mod Shores
 pub mod Sizes
 pub mod CutsBelow
+pub mod RotateSteps
+pub mod SwitchSets

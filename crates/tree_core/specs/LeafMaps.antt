@@ -117,15 +117,17 @@ move_maps n t m = maps_from (move_order n m t) 0 (move_names n m t)
 abbrev pub own_maps : ℕ → Shape → List PlainLeafMap
 own_maps n t = maps_from (numbers 0 (leaf_count t)) 0 (map names_of (leaves n t))
 
--- a leaf's map, and then the map of its partner, whose partition stands in the list
+-- a leaf's map, and then the map of its partner, which stands among the leaves qs
 abbrev pub then_map : List (List (List ℕ)) → List PlainLeafMap → PlainLeafMap → PlainLeafMap
 then_map qs seconds first =
     let second = map_at seconds first.to in
     record { to = second.to; images = map (λ b. name second.images (place (leaf_at qs first.to) b)) first.images }
 
+-- maps to the leaves of s, followed by the maps of the moves of a script on s
+abbrev pub maps_after : ℕ → Shape → List PlainLeafMap → List PlainMove → List PlainLeafMap
+maps_after n s maps [] = maps
+maps_after n s maps (m ∷ ms) = maps_after n (unwrap_or (move_result n s m) s) (map (then_map (leaves n s) (move_maps n s m)) maps) ms
+
 -- the map of a script: the composition of the maps of its moves
 abbrev pub script_maps : ℕ → Shape → List PlainMove → List PlainLeafMap
-script_maps n s [] = own_maps n s
-script_maps n s (m ∷ ms) =
-    let t = unwrap_or (move_result n s m) s in
-    map (then_map (leaves n t) (script_maps n t ms)) (move_maps n s m)
+script_maps n s ms = maps_after n s (own_maps n s) ms

@@ -4,3 +4,4 @@ pub mod Leaves
 pub mod View
 pub mod Moves
 pub mod LeafMaps
+pub mod MoveView

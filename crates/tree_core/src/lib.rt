@@ -9,6 +9,10 @@
 //! `fits`, `nodes`, `depth`, `copy` and `leaves` are exactly these definitions; `laws::derivation_stands` says that the leaves of
 //! a derivation may be asked for. A `Path` leads from the root to a node.
 //!
+//! Two moves change a tree (`specs/Moves`): Rotate brings a cut over its parent, and Switch exchanges two sets of vertices between a
+//! shore and its complement. `rotate`, `switch` and `apply` are exactly these partial functions, take no memory, and hand the same
+//! tree back where a move has no result. `specs/LeafMaps` says where a move and a script of moves take each leaf and its blocks.
+//!
 //! Stands on `contraction` for partitions. Source: Lovász, "Matching structure and the matching lattice" (1987); Lucchesi and
 //! Murty, "Perfect Matchings".
 #![tactic(auto)]
@@ -16,14 +20,21 @@
 mod below;
 pub mod laws;
 mod leaf_partitions;
+mod moves;
 mod partitions;
 mod path;
+mod rotation;
+mod switched_shores;
+mod switching;
 mod tree;
 
 pub use below::{kept_partition, merged_partition};
 pub use leaf_partitions::leaves;
+pub use moves::{Move, Moves, Stuck, apply};
 pub use partitions::Partitions;
 pub use path::{Path, Side};
+pub use rotation::rotate;
+pub use switching::switch;
 pub use tree::{Tree, copy, depth, fits, nodes};
 
 #[cfg(test)]

@@ -3,7 +3,10 @@ ghost use Rattle.std.specs.Prelude.{◌≡◌, IfOk};
 ghost use Rattle.tree_core.specs.Shapes.{leaf, cut};
 ghost use Rattle.tree_core.specs.View.{shape_of};
 
-use crate::{Partitions, Path, Side, Tree, copy, depth, fits, leaves, nodes};
+use crate::{
+    Move, Moves, Partitions, Path, Side, Stuck, Tree, apply, copy, depth, fits, leaves, nodes,
+    rotate, switch,
+};
 use contraction::Partition;
 use std::alloc::{AllocError as Memory, Global};
 use std::test::Fail;
@@ -74,5 +77,63 @@ fn paths_and_lists_of_partitions(rt: HostRuntime) -> Result<(), Fail> {
     list.push(Partition::singles(rt.alloc(), 4)?)?;
     assert!(rt; list.len() == 1);
     assert_eq!(rt; list.get(0).len(), 4);
+    Ok(())
+}
+
+#[test]
+fn a_switch_moves_the_cut_of_the_hexagon(rt: HostRuntime) -> Result<(), Fail> {
+    let tree = one_cut(rt.alloc(), VSet::full(3))?;
+    assert!(rt; fits(&tree, 6));
+    let path = Path::new(rt.alloc());
+    let made = match switch(tree, 6, &path, VSet::one(1), VSet::one(4)) {
+        Ok(made) => made,
+        Err((back, _)) => back,
+    };
+    let Tree::Cut { shore, .. } = &made else {
+        assert!(rt; false);
+        return Ok(());
+    };
+    assert!(rt; shore.contains(2) && shore.contains(3) && shore.contains(4) && shore.len() == 3);
+    Ok(())
+}
+
+#[test]
+fn a_rotate_at_the_root_is_stuck(rt: HostRuntime) -> Result<(), Fail> {
+    let tree = one_cut(rt.alloc(), VSet::full(3))?;
+    let path = Path::new(rt.alloc());
+    let stuck = rotate(tree, &path).is_err();
+    assert!(rt; stuck);
+    assert_eq!(rt; Stuck, Stuck);
+    let mut moves = Moves::new(rt.alloc());
+    assert!(rt; moves.is_empty());
+    moves.push(Move::Rotate { path })?;
+    assert!(rt; moves.len() == 1);
+    assert!(rt; matches!(moves.get(0), Move::Rotate { .. }));
+    Ok(())
+}
+
+#[test]
+fn a_rotate_brings_the_lower_cut_up(rt: HostRuntime) -> Result<(), Fail> {
+    let lower = one_cut(rt.alloc(), VSet::full(3))?;
+    let kept = Box::new(rt.alloc(), lower)?;
+    let merged = Box::new(rt.alloc(), Tree::Leaf)?;
+    let tree = Tree::Cut {
+        shore: VSet::full(5),
+        kept,
+        merged,
+    };
+    let mut path = Path::new(rt.alloc());
+    path.push(Side::Kept)?;
+    assert!(rt; fits(&tree, 8));
+    let made = match apply(tree, 8, &Move::Rotate { path }) {
+        Ok(made) => made,
+        Err((back, _)) => back,
+    };
+    let Tree::Cut { shore, kept, .. } = &made else {
+        assert!(rt; false);
+        return Ok(());
+    };
+    assert_eq!(rt; shore.len(), 3);
+    assert!(rt; matches!(**kept, Tree::Leaf));
     Ok(())
 }

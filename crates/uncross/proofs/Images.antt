@@ -35,6 +35,10 @@ module _ (g : Graph) (is : IsGraph g) (p q : List (List ℕ)) (h k : ℕ → ℕ
   pub move : ℕ → ℕ
   move i = place q (h (rep p i))
 
+  pub move_is : (i : ℕ) → move i ≡ place q (h (rep p i))
+  unfolding move
+  move_is i = refl
+
   pub back : ℕ → ℕ
   back j = place p (k (rep q j))
 

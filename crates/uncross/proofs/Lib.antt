@@ -15,4 +15,7 @@ pub mod Corners
 pub mod CrossingShores
 pub mod SingleVertices
 pub mod Uniqueness
-pub mod MatchedLeaves
+pub mod Alignments
+pub mod Parts
+pub mod CarriedLeaves
+pub mod SwitchImages

@@ -45,7 +45,7 @@ ordered_same (b ∷ p) (c ∷ q) o r f k = ap₂ ◌∷◌ head (ordered_same p 
     ]
 
 -- a block is a rising list within 1 to n
-block_rises : (n : ℕ) (p : List (List ℕ)) (c : List ℕ) → IsPartition n p → Has p c → IsRisingIn n c
+pub block_rises : (n : ℕ) (p : List (List ℕ)) (c : List ℕ) → IsPartition n p → Has p c → IsRisingIn n c
 block_rises n p c is h =
     let r = has_block p c h in let w = r.1 in record {
       rising = subst IsStrictlyIncreasing r.2 (is.blocks (r.0 - 1) [] (omega arith));

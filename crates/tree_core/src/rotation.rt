@@ -1,0 +1,179 @@
+//! Rotate: a cut is brought over its parent.
+ghost use Rattle.std.specs.Prelude.{◌≡◌, Some, None, IfOk, IfErr};
+ghost use Rattle.counting.specs.Lists.{is_apart};
+ghost use Rattle.tree_core.specs.Moves.{rotate_result, rotate_result_kept, rotate_result_merged};
+ghost use Rattle.tree_core.specs.Shapes.{cut};
+ghost use Rattle.tree_core.specs.View.{shape_of};
+
+use crate::moves::Stuck;
+use crate::path::{Path, Side};
+use crate::tree::Tree;
+use std::mem;
+use vset_core::VSet;
+
+// Whether two sets have no common vertex.
+fn are_apart(x: VSet, y: VSet) -> bool
+    ensures { result ≡ is_apart x y }
+{
+    x.is_subset(x.minus(y))
+}
+
+// Brings the root of `kept` over the cut.
+fn rotate_kept(shore: VSet, mut kept: Box<Tree>, merged: Box<Tree>) -> Result<Tree, Tree>
+    ensures ok { IfOk result (λ tree. rotate_result_kept shore (shape_of kept.value) (shape_of merged.value) ≡ Some (shape_of tree)) }
+    ensures stuck { IfErr result (λ tree. rotate_result_kept shore (shape_of kept.value) (shape_of merged.value) ≡ None) }
+    ensures same { IfErr result (λ tree. shape_of tree ≡ cut shore (shape_of kept.value) (shape_of merged.value)) }
+{
+    match mem::replace(&mut *kept, Tree::Leaf) {
+        Tree::Leaf => Err(Tree::Cut {
+            shore,
+            kept,
+            merged,
+        }),
+        Tree::Cut {
+            shore: lower,
+            kept: first,
+            merged: second,
+        } => {
+            *kept = Tree::Cut {
+                shore,
+                kept: second,
+                merged,
+            };
+            Ok(Tree::Cut {
+                shore: lower,
+                kept: first,
+                merged: kept,
+            })
+        }
+    }
+}
+
+// Brings the root of `merged` over the cut.
+fn rotate_merged(shore: VSet, kept: Box<Tree>, mut merged: Box<Tree>) -> Result<Tree, Tree>
+    ensures ok { IfOk result (λ tree. rotate_result_merged shore (shape_of kept.value) (shape_of merged.value) ≡ Some (shape_of tree)) }
+    ensures stuck { IfErr result (λ tree. rotate_result_merged shore (shape_of kept.value) (shape_of merged.value) ≡ None) }
+    ensures same { IfErr result (λ tree. shape_of tree ≡ cut shore (shape_of kept.value) (shape_of merged.value)) }
+{
+    match mem::replace(&mut *merged, Tree::Leaf) {
+        Tree::Leaf => Err(Tree::Cut {
+            shore,
+            kept,
+            merged,
+        }),
+        Tree::Cut {
+            shore: lower,
+            kept: first,
+            merged: second,
+        } => {
+            if shore.is_subset(lower) {
+                *merged = Tree::Cut {
+                    shore,
+                    kept,
+                    merged: first,
+                };
+                Ok(Tree::Cut {
+                    shore: lower,
+                    kept: merged,
+                    merged: second,
+                })
+            } else if are_apart(shore, lower) {
+                *merged = Tree::Cut {
+                    shore,
+                    kept,
+                    merged: second,
+                };
+                Ok(Tree::Cut {
+                    shore: lower,
+                    kept: first,
+                    merged,
+                })
+            } else {
+                *merged = Tree::Cut {
+                    shore: lower,
+                    kept: first,
+                    merged: second,
+                };
+                Err(Tree::Cut {
+                    shore,
+                    kept,
+                    merged,
+                })
+            }
+        }
+    }
+}
+
+// Rotate with the steps of a path.
+fn rotate_along(tree: Tree, path: &[Side]) -> Result<Tree, Tree>
+    ensures ok { IfOk result (λ made. rotate_result path.now (shape_of tree) ≡ Some (shape_of made)) }
+    ensures stuck { IfErr result (λ back. rotate_result path.now (shape_of tree) ≡ None) }
+    ensures same { IfErr result (λ back. shape_of back ≡ shape_of tree) }
+{
+    let Some((side, rest)) = path.split_first() else {
+        return Err(tree);
+    };
+    match tree {
+        Tree::Leaf => Err(Tree::Leaf),
+        Tree::Cut {
+            shore,
+            mut kept,
+            mut merged,
+        } => match (side, rest.is_empty()) {
+            (Side::Kept, true) => rotate_kept(shore, kept, merged),
+            (Side::Merged, true) => rotate_merged(shore, kept, merged),
+            (Side::Kept, false) => match rotate_along(mem::replace(&mut *kept, Tree::Leaf), rest) {
+                Ok(child) => {
+                    *kept = child;
+                    Ok(Tree::Cut {
+                        shore,
+                        kept,
+                        merged,
+                    })
+                }
+                Err(child) => {
+                    *kept = child;
+                    Err(Tree::Cut {
+                        shore,
+                        kept,
+                        merged,
+                    })
+                }
+            },
+            (Side::Merged, false) => {
+                match rotate_along(mem::replace(&mut *merged, Tree::Leaf), rest) {
+                    Ok(child) => {
+                        *merged = child;
+                        Ok(Tree::Cut {
+                            shore,
+                            kept,
+                            merged,
+                        })
+                    }
+                    Err(child) => {
+                        *merged = child;
+                        Err(Tree::Cut {
+                            shore,
+                            kept,
+                            merged,
+                        })
+                    }
+                }
+            }
+        },
+    }
+}
+
+/// Brings the cut at the end of the path over its parent. `Stuck` comes exactly where there is no result: the path is empty or
+/// leads to no cut, or the cut stands in `merged` of a shore that it meets and does not contain. Then the same tree is handed back.
+/// Takes no memory.
+pub fn rotate(tree: Tree, path: &Path) -> Result<Tree, (Tree, Stuck)>
+    ensures ok { IfOk result (λ made. rotate_result path.now (shape_of tree) ≡ Some (shape_of made)) }
+    ensures stuck { IfErr result (λ e. rotate_result path.now (shape_of tree) ≡ None) }
+    ensures same { IfErr result (λ e. shape_of e.0 ≡ shape_of tree) }
+{
+    match rotate_along(tree, path.as_slice()) {
+        Ok(made) => Ok(made),
+        Err(back) => Err((back, Stuck)),
+    }
+}

@@ -1,0 +1,329 @@
+//! Switch: two sets are exchanged between a shore and its complement, and the shores below follow.
+ghost use Rattle.std.specs.Prelude.{◌≡◌, ◌-◌, Some, None, IfOk, IfErr, All, true, if◌then◌else◌};
+ghost use Rattle.counting.specs.Counts.{Within};
+ghost use Rattle.counting.specs.Lists.{mem, is_subset};
+ghost use Rattle.tree_core.specs.Moves.{inner_rest, kept_if_in_q, kept_if_in_v, merged_if_in_q, merged_if_in_v, merged_shore_if_in_q, minus_list, outer_rest, switch_result, switch_result_at, union_list};
+ghost use Rattle.tree_core.specs.Shapes.{Fits, cut};
+ghost use Rattle.tree_core.specs.View.{shape_of};
+
+use crate::moves::Stuck;
+use crate::path::{Path, Side};
+use crate::switched_shores::{
+    holds_greatest, is_proper_outside, is_proper_part, minus_of, outer_rest_of, set_if, union_of,
+};
+use crate::tree::Tree;
+use std::mem;
+use vset_core::VSet;
+
+// What a Switch at a cut over 1 to n exchanges: u leaves the shore x, and v comes in its place.
+#[derive(Drop)]
+struct Exchange {
+    n: u32,
+    x: VSet,
+    u: VSet,
+    v: VSet,
+}
+
+// A shore below `kept` where the greatest vertex is in v: one that contains u gains the rest of the outer side.
+#[tactic(auto, using(crate::proofs::SwitchSets::all_wider))]
+fn kept_shore_in_v(e: &Exchange, rest: VSet, s: VSet) -> VSet
+    requires rest { rest ≡ outer_rest e.now.n e.now.x e.now.v }
+    requires within { All (Within e.now.n) rest }
+    requires shore { All (Within (e.now.n - 1)) s }
+    ensures { result ≡ (if is_subset e.now.u s then union_list e.now.n s (outer_rest e.now.n e.now.x e.now.v) else s) }
+{
+    if e.u.is_subset(s) {
+        union_of(s, rest, e.n)
+    } else {
+        s
+    }
+}
+
+// A shore below `merged` where the greatest vertex is in v: one that contains x has u in its place.
+#[tactic(auto, using(crate::proofs::SwitchSets::all_wider))]
+fn merged_shore_in_v(e: &Exchange, s: VSet) -> VSet
+    requires part { All (Within e.now.n) e.now.u }
+    requires shore { All (Within (e.now.n - 1)) s }
+    ensures { result ≡ (if is_subset e.now.x s then union_list e.now.n (minus_list e.now.n s e.now.x) e.now.u else s) }
+{
+    if e.x.is_subset(s) {
+        union_of(minus_of(s, e.x, e.n), e.u, e.n)
+    } else {
+        s
+    }
+}
+
+// A shore below `merged` where the greatest vertex is outside v.
+#[tactic(auto, using(crate::proofs::SwitchSets::all_wider))]
+fn merged_shore_in_q(e: &Exchange, s: VSet) -> VSet
+    requires first { All (Within e.now.n) e.now.u }
+    requires second { All (Within e.now.n) e.now.v }
+    requires whole { All (Within e.now.n) e.now.x }
+    requires shore { All (Within (e.now.n - 1)) s }
+    ensures { result ≡ merged_shore_if_in_q e.now.n e.now.x e.now.u e.now.v s }
+{
+    let outer = minus_of(minus_of(s, e.x, e.n), e.v, e.n);
+    let gained = union_of(minus_of(e.x, e.u, e.n), e.v, e.n);
+    let inner = set_if(e.x.is_subset(s), e.u, e.n);
+    let further = set_if(e.v.is_subset(s), gained, e.n);
+    union_of(outer, union_of(inner, further, e.n), e.n)
+}
+
+// The tree below `kept` where the greatest vertex is in v.
+fn kept_in_v(tree: Tree, e: &Exchange, rest: VSet) -> Tree
+    requires rest { rest ≡ outer_rest e.now.n e.now.x e.now.v }
+    requires within { All (Within e.now.n) rest }
+    requires fits { Fits e.now.n (shape_of tree) }
+    ensures { shape_of result ≡ kept_if_in_v e.now.n e.now.x e.now.u e.now.v (shape_of tree) }
+{
+    match tree {
+        Tree::Leaf => Tree::Leaf,
+        Tree::Cut {
+            shore,
+            mut kept,
+            mut merged,
+        } => {
+            let below = mem::replace(&mut *kept, Tree::Leaf);
+            *kept = kept_in_v(below, e, rest);
+            let below = mem::replace(&mut *merged, Tree::Leaf);
+            *merged = kept_in_v(below, e, rest);
+            Tree::Cut {
+                shore: kept_shore_in_v(e, rest, shore),
+                kept,
+                merged,
+            }
+        }
+    }
+}
+
+// The tree below `merged` where the greatest vertex is in v.
+fn merged_in_v(tree: Tree, e: &Exchange) -> Tree
+    requires part { All (Within e.now.n) e.now.u }
+    requires fits { Fits e.now.n (shape_of tree) }
+    ensures { shape_of result ≡ merged_if_in_v e.now.n e.now.x e.now.u (shape_of tree) }
+{
+    match tree {
+        Tree::Leaf => Tree::Leaf,
+        Tree::Cut {
+            shore,
+            mut kept,
+            mut merged,
+        } => {
+            let below = mem::replace(&mut *kept, Tree::Leaf);
+            *kept = merged_in_v(below, e);
+            let below = mem::replace(&mut *merged, Tree::Leaf);
+            *merged = merged_in_v(below, e);
+            Tree::Cut {
+                shore: merged_shore_in_v(e, shore),
+                kept,
+                merged,
+            }
+        }
+    }
+}
+
+// The tree below `kept` where the greatest vertex is outside v: where a shore contains u the two trees change places.
+fn kept_in_q(tree: Tree, e: &Exchange) -> Tree
+    requires whole { All (Within e.now.n) e.now.x }
+    requires second { All (Within e.now.n) e.now.v }
+    ensures { shape_of result ≡ kept_if_in_q e.now.n e.now.x e.now.u e.now.v (shape_of tree) }
+{
+    match tree {
+        Tree::Leaf => Tree::Leaf,
+        Tree::Cut {
+            shore,
+            mut kept,
+            mut merged,
+        } => {
+            let below = mem::replace(&mut *kept, Tree::Leaf);
+            *kept = kept_in_q(below, e);
+            let below = mem::replace(&mut *merged, Tree::Leaf);
+            *merged = kept_in_q(below, e);
+            if e.u.is_subset(shore) {
+                Tree::Cut {
+                    shore: union_of(minus_of(e.x, shore, e.n), e.v, e.n),
+                    kept: merged,
+                    merged: kept,
+                }
+            } else {
+                Tree::Cut {
+                    shore,
+                    kept,
+                    merged,
+                }
+            }
+        }
+    }
+}
+
+// The tree below `merged` where the greatest vertex is outside v.
+fn merged_in_q(tree: Tree, e: &Exchange) -> Tree
+    requires first { All (Within e.now.n) e.now.u }
+    requires second { All (Within e.now.n) e.now.v }
+    requires whole { All (Within e.now.n) e.now.x }
+    requires fits { Fits e.now.n (shape_of tree) }
+    ensures { shape_of result ≡ merged_if_in_q e.now.n e.now.x e.now.u e.now.v (shape_of tree) }
+{
+    match tree {
+        Tree::Leaf => Tree::Leaf,
+        Tree::Cut {
+            shore,
+            mut kept,
+            mut merged,
+        } => {
+            let below = mem::replace(&mut *kept, Tree::Leaf);
+            *kept = merged_in_q(below, e);
+            let below = mem::replace(&mut *merged, Tree::Leaf);
+            *merged = merged_in_q(below, e);
+            Tree::Cut {
+                shore: merged_shore_in_q(e, shore),
+                kept,
+                merged,
+            }
+        }
+    }
+}
+
+// The cut after the exchange, where the greatest vertex is in v: the two trees change places.
+fn exchanged_in_v(mut kept: Box<Tree>, mut merged: Box<Tree>, e: &Exchange) -> Tree
+    requires greatest { mem e.now.v e.now.n ≡ true }
+    requires part { All (Within e.now.n) e.now.u }
+    requires first { Fits e.now.n (shape_of kept.value) }
+    requires second { Fits e.now.n (shape_of merged.value) }
+    ensures { shape_of result ≡ cut (union_list e.now.n (outer_rest e.now.n e.now.x e.now.v) e.now.u) (merged_if_in_v e.now.n e.now.x e.now.u (shape_of merged.value)) (kept_if_in_v e.now.n e.now.x e.now.u e.now.v (shape_of kept.value)) }
+{
+    let rest = outer_rest_of(e.x, e.v, e.n);
+    let below = mem::replace(&mut *kept, Tree::Leaf);
+    *kept = kept_in_v(below, e, rest);
+    let below = mem::replace(&mut *merged, Tree::Leaf);
+    *merged = merged_in_v(below, e);
+    Tree::Cut {
+        shore: union_of(rest, e.u, e.n),
+        kept: merged,
+        merged: kept,
+    }
+}
+
+// The cut after the exchange, where the greatest vertex is outside v.
+fn exchanged_in_q(mut kept: Box<Tree>, mut merged: Box<Tree>, e: &Exchange) -> Tree
+    requires part { All (Within e.now.n) e.now.u }
+    requires other { All (Within e.now.n) e.now.v }
+    requires whole { All (Within e.now.n) e.now.x }
+    requires second { Fits e.now.n (shape_of merged.value) }
+    ensures { shape_of result ≡ cut (union_list e.now.n (inner_rest e.now.n e.now.x e.now.u) e.now.v) (kept_if_in_q e.now.n e.now.x e.now.u e.now.v (shape_of kept.value)) (merged_if_in_q e.now.n e.now.x e.now.u e.now.v (shape_of merged.value)) }
+{
+    let below = mem::replace(&mut *kept, Tree::Leaf);
+    *kept = kept_in_q(below, e);
+    let below = mem::replace(&mut *merged, Tree::Leaf);
+    *merged = merged_in_q(below, e);
+    Tree::Cut {
+        shore: union_of(minus_of(e.x, e.u, e.n), e.v, e.n),
+        kept,
+        merged,
+    }
+}
+
+// Switch at the root.
+fn switch_here(tree: Tree, n: u32, u: VSet, v: VSet) -> Result<Tree, Tree>
+    requires { Fits n (shape_of tree) }
+    ensures ok { IfOk result (λ made. switch_result_at n u v (shape_of tree) ≡ Some (shape_of made)) }
+    ensures stuck { IfErr result (λ back. switch_result_at n u v (shape_of tree) ≡ None) }
+    ensures same { IfErr result (λ back. shape_of back ≡ shape_of tree) }
+{
+    match tree {
+        Tree::Leaf => Err(Tree::Leaf),
+        Tree::Cut {
+            shore,
+            kept,
+            merged,
+        } => {
+            if !is_proper_part(u, shore) || !is_proper_outside(v, shore, n) {
+                return Err(Tree::Cut {
+                    shore,
+                    kept,
+                    merged,
+                });
+            }
+            let e = Exchange { n, x: shore, u, v };
+            if holds_greatest(v, n) {
+                Ok(exchanged_in_v(kept, merged, &e))
+            } else {
+                Ok(exchanged_in_q(kept, merged, &e))
+            }
+        }
+    }
+}
+
+// Switch with the steps of a path.
+fn switch_along(tree: Tree, n: u32, path: &[Side], u: VSet, v: VSet) -> Result<Tree, Tree>
+    requires { Fits n (shape_of tree) }
+    ensures ok { IfOk result (λ made. switch_result n path.now u v (shape_of tree) ≡ Some (shape_of made)) }
+    ensures stuck { IfErr result (λ back. switch_result n path.now u v (shape_of tree) ≡ None) }
+    ensures same { IfErr result (λ back. shape_of back ≡ shape_of tree) }
+{
+    let Some((side, rest)) = path.split_first() else {
+        return switch_here(tree, n, u, v);
+    };
+    match tree {
+        Tree::Leaf => Err(Tree::Leaf),
+        Tree::Cut {
+            shore,
+            mut kept,
+            mut merged,
+        } => match side {
+            Side::Kept => match switch_along(mem::replace(&mut *kept, Tree::Leaf), n, rest, u, v) {
+                Ok(child) => {
+                    *kept = child;
+                    Ok(Tree::Cut {
+                        shore,
+                        kept,
+                        merged,
+                    })
+                }
+                Err(child) => {
+                    *kept = child;
+                    Err(Tree::Cut {
+                        shore,
+                        kept,
+                        merged,
+                    })
+                }
+            },
+            Side::Merged => {
+                match switch_along(mem::replace(&mut *merged, Tree::Leaf), n, rest, u, v) {
+                    Ok(child) => {
+                        *merged = child;
+                        Ok(Tree::Cut {
+                            shore,
+                            kept,
+                            merged,
+                        })
+                    }
+                    Err(child) => {
+                        *merged = child;
+                        Err(Tree::Cut {
+                            shore,
+                            kept,
+                            merged,
+                        })
+                    }
+                }
+            }
+        },
+    }
+}
+
+/// Exchanges `u`, a part of the shore at the end of the path, and `v`, a part of its complement. `Stuck` comes exactly where there
+/// is no result: the path leads to no cut, or one of the two is not a nonempty proper subset there. Then the same tree is handed
+/// back. Takes no memory.
+pub fn switch(tree: Tree, n: u32, path: &Path, u: VSet, v: VSet) -> Result<Tree, (Tree, Stuck)>
+    requires { Fits n (shape_of tree) }
+    ensures ok { IfOk result (λ made. switch_result n path.now u v (shape_of tree) ≡ Some (shape_of made)) }
+    ensures stuck { IfErr result (λ e. switch_result n path.now u v (shape_of tree) ≡ None) }
+    ensures same { IfErr result (λ e. shape_of e.0 ≡ shape_of tree) }
+{
+    match switch_along(tree, n, path.as_slice(), u, v) {
+        Ok(made) => Ok(made),
+        Err(back) => Err((back, Stuck)),
+    }
+}
