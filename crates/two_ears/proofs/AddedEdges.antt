@@ -14,8 +14,8 @@ use Rattle.two_ears.specs.AddedEdges.{KeepsEdges, over, with_pairs}
 use Rattle.two_ears.specs.VertexPairs.{IsIn, pairs_at}
 
 module _ (g : Graph) (es : List (ℕ × ℕ)) (p : ℕ × ℕ) where
-  pub size_added : length (es ++ (p ∷ [])) ≡ suc (length es)
-  size_added = let l : length (es ++ (p ∷ [])) ≡ length es + length (p ∷ []) = length-append es (p ∷ []) in omega arith
+  pub size-added : length (es ++ (p ∷ [])) ≡ suc (length es)
+  size-added = let l : length (es ++ (p ∷ [])) ≡ length es + length (p ∷ []) = length-append es (p ∷ []) in omega arith
 
   read_old : (e : ℕ) → Within (length es) e → slice_index_or (es ++ (p ∷ [])) (e - 1) (0, 0) ≡ slice_index_or es (e - 1) (0, 0)
   read_old e w = get_or_append_left es (p ∷ []) (0, 0) (e - 1) (omega arith)
@@ -23,27 +23,27 @@ module _ (g : Graph) (es : List (ℕ × ℕ)) (p : ℕ × ℕ) where
   read_new : slice_index_or (es ++ (p ∷ [])) (suc (length es) - 1) (0, 0) ≡ p
   read_new = let i : suc (length es) - 1 ≡ length es + 0 = omega arith in ap (λ k. slice_index_or (es ++ (p ∷ [])) k (0, 0)) i ∙ get_or-append-add es (p ∷ []) 0 (0, 0)
 
-  pub near_old : (e : ℕ) → Within (length es) e → first_end (over g (es ++ (p ∷ []))) e ≡ first_end (over g es) e
-  near_old e w = ap (λ q. q.0) (read_old e w)
+  pub first_end-old : (e : ℕ) → Within (length es) e → first_end (over g (es ++ (p ∷ []))) e ≡ first_end (over g es) e
+  first_end-old e w = ap (λ q. q.0) (read_old e w)
 
-  pub far_old : (e : ℕ) → Within (length es) e → second_end (over g (es ++ (p ∷ []))) e ≡ second_end (over g es) e
-  far_old e w = ap (λ q. q.1) (read_old e w)
+  pub second_end-old : (e : ℕ) → Within (length es) e → second_end (over g (es ++ (p ∷ []))) e ≡ second_end (over g es) e
+  second_end-old e w = ap (λ q. q.1) (read_old e w)
 
-  pub near_new : first_end (over g (es ++ (p ∷ []))) (suc (length es)) ≡ p.0
-  near_new = ap (λ q. q.0) read_new
+  pub first_end-new : first_end (over g (es ++ (p ∷ []))) (suc (length es)) ≡ p.0
+  first_end-new = ap (λ q. q.0) read_new
 
-  pub far_new : second_end (over g (es ++ (p ∷ []))) (suc (length es)) ≡ p.1
-  far_new = ap (λ q. q.1) read_new
+  pub second_end-new : second_end (over g (es ++ (p ∷ []))) (suc (length es)) ≡ p.1
+  second_end-new = ap (λ q. q.1) read_new
 
-  pub degree_added : (m : Set) (v : ℕ) → degree (over g (es ++ (p ∷ []))) m v ≡ degree (over g es) m v + bit (m (suc (length es))) * (bit (p.0 == v) + bit (p.1 == v))
-  degree_added m v =
-      ap (λ k. count k (λ e. m e && (first_end (over g (es ++ (p ∷ []))) e == v)) + count k (λ e. m e && (second_end (over g (es ++ (p ∷ []))) e == v))) size_added
+  pub degree-added : (m : Set) (v : ℕ) → degree (over g (es ++ (p ∷ []))) m v ≡ degree (over g es) m v + bit (m (suc (length es))) * (bit (p.0 == v) + bit (p.1 == v))
+  degree-added m v =
+      ap (λ k. count k (λ e. m e && (first_end (over g (es ++ (p ∷ []))) e == v)) + count k (λ e. m e && (second_end (over g (es ++ (p ∷ []))) e == v))) size-added
       ∙ sum (count (length es) (λ e. m e && (first_end (over g (es ++ (p ∷ []))) e == v))) (count (length es) (λ e. m e && (first_end (over g es) e == v)))
       (count (length es) (λ e. m e && (second_end (over g (es ++ (p ∷ []))) e == v))) (count (length es) (λ e. m e && (second_end (over g es) e == v)))
       (m (suc (length es))) (first_end (over g (es ++ (p ∷ []))) (suc (length es)) == v) (second_end (over g (es ++ (p ∷ []))) (suc (length es)) == v) (p.0 == v) (p.1 == v)
-      (count_congr (length es) _ _ (λ e w. ap (λ k. m e && (k == v)) (near_old e w)))
-      (count_congr (length es) _ _ (λ e w. ap (λ k. m e && (k == v)) (far_old e w)))
-      (ap (λ k. k == v) near_new) (ap (λ k. k == v) far_new)
+      (count_congr (length es) _ _ (λ e w. ap (λ k. m e && (k == v)) (first_end-old e w)))
+      (count_congr (length es) _ _ (λ e w. ap (λ k. m e && (k == v)) (second_end-old e w)))
+      (ap (λ k. k == v) first_end-new) (ap (λ k. k == v) second_end-new)
     where
       sum : (a a' b b' : ℕ) (x y z y' z' : Bool) → a ≡ a' → b ≡ b' → y ≡ y' → z ≡ z' → (a + bit (x && y)) + (b + bit (x && z)) ≡ (a' + b') + bit x * (bit y' + bit z')
       sum a a' b b' true y z y' z' e f h k = let i = ap bit h in let j = ap bit k in omega arith
@@ -52,60 +52,60 @@ module _ (g : Graph) (es : List (ℕ × ℕ)) (p : ℕ × ℕ) where
   -- each edge is one of those before, or the new one
   pub edge_of : (P : ℕ → ℕ → Type 0) → ((e : ℕ) → Within (length es) e → P (first_end (over g es) e) (second_end (over g es) e)) → P p.0 p.1 → (e : ℕ) → Within (length (es ++ (p ∷ []))) e → P (first_end (over g (es ++ (p ∷ []))) e) (second_end (over g (es ++ (p ∷ []))) e)
   edge_of P old new e w = elim (cases_eq e (suc (length es))) [
-    | inl q ↦ subst2 p.0 (first_end (over g (es ++ (p ∷ []))) e) p.1 (second_end (over g (es ++ (p ∷ []))) e) (sym near_new ∙ ap (first_end (over g (es ++ (p ∷ [])))) (sym q)) (sym far_new ∙ ap (second_end (over g (es ++ (p ∷ [])))) (sym q)) new
-    | inr q ↦ let l = size_added in
+    | inl q ↦ subst2 p.0 (first_end (over g (es ++ (p ∷ []))) e) p.1 (second_end (over g (es ++ (p ∷ []))) e) (sym first_end-new ∙ ap (first_end (over g (es ++ (p ∷ [])))) (sym q)) (sym second_end-new ∙ ap (second_end (over g (es ++ (p ∷ [])))) (sym q)) new
+    | inr q ↦ let l = size-added in
         let v : Within (length es) e = omega arith in
-        subst2 (first_end (over g es) e) (first_end (over g (es ++ (p ∷ []))) e) (second_end (over g es) e) (second_end (over g (es ++ (p ∷ []))) e) (sym (near_old e v)) (sym (far_old e v)) (old e v)
+        subst2 (first_end (over g es) e) (first_end (over g (es ++ (p ∷ []))) e) (second_end (over g es) e) (second_end (over g (es ++ (p ∷ []))) e) (sym (first_end-old e v)) (sym (second_end-old e v)) (old e v)
   ]
     where
       subst2 : (a b c d : ℕ) → a ≡ b → c ≡ d → P a c → P b d
       subst2 a b c d e f t = Rattle.std.proofs.Common.subst (λ k. P b k) f (Rattle.std.proofs.Common.subst (λ k. P k c) e t)
 
   -- the new edge joins its ends
-  pub new_between : some (length (es ++ (p ∷ []))) (has_ends (over g (es ++ (p ∷ []))) p.0 p.1) ≡ true
-  new_between =
-      let l = size_added in
+  pub new-joined : some (length (es ++ (p ∷ []))) (has_ends (over g (es ++ (p ∷ []))) p.0 p.1) ≡ true
+  new-joined =
+      let l = size-added in
       let b = has_ends-own (over g (es ++ (p ∷ []))) (suc (length es)) in
       true_some (length (es ++ (p ∷ []))) (has_ends (over g (es ++ (p ∷ []))) p.0 p.1) (suc (length es)) (omega arith)
-      (ap₂ (λ c d. has_ends (over g (es ++ (p ∷ []))) c d (suc (length es))) (sym near_new) (sym far_new) ∙ b)
+      (ap₂ (λ c d. has_ends (over g (es ++ (p ∷ []))) c d (suc (length es))) (sym first_end-new) (sym second_end-new) ∙ b)
 
-  pub holds_added : KeepsEdges g es → Within g.order p.0 → Within g.order p.1 → KeepsEdges g (es ++ (p ∷ []))
-  holds_added h w0 w1 = record {
+  pub keeps-added : KeepsEdges g es → Within g.order p.0 → Within g.order p.1 → KeepsEdges g (es ++ (p ∷ []))
+  keeps-added h w0 w1 = record {
     graph = edge_of (λ c d. Within g.order c × Within g.order d) h.graph (w0, w1);
     old = λ e w.
         let r = some_true (length es) (has_ends (over g es) (first_end g e) (second_end g e)) (h.old e w) in
-        let l = size_added in
+        let l = size-added in
         true_some (length (es ++ (p ∷ []))) (has_ends (over g (es ++ (p ∷ []))) (first_end g e) (second_end g e)) r.0 (let a = r.1 in omega arith)
-        (ap₂ (λ c d. (c == first_end g e && d == second_end g e) || (c == second_end g e && d == first_end g e)) (near_old r.0 r.1) (far_old r.0 r.1) ∙ r.2);
+        (ap₂ (λ c d. (c == first_end g e && d == second_end g e) || (c == second_end g e && d == first_end g e)) (first_end-old r.0 r.1) (second_end-old r.0 r.1) ∙ r.2);
   }
 
-pub holds_plus : (g : Graph) → KeepsEdges g g.ends → (ps : List (ℕ × ℕ)) → ((p : ℕ × ℕ) → IsIn p ps → Within g.order p.0 × Within g.order p.1) → KeepsEdges g (with_pairs g.ends ps)
-holds_plus g h [] w = h
-holds_plus g h (p ∷ ps) w = holds_added g (with_pairs g.ends ps) p (holds_plus g h ps (λ q i. w q (inr i))) (w p (inl refl)).0 (w p (inl refl)).1
+pub keeps-with_pairs : (g : Graph) → KeepsEdges g g.ends → (ps : List (ℕ × ℕ)) → ((p : ℕ × ℕ) → IsIn p ps → Within g.order p.0 × Within g.order p.1) → KeepsEdges g (with_pairs g.ends ps)
+keeps-with_pairs g h [] w = h
+keeps-with_pairs g h (p ∷ ps) w = keeps-added g (with_pairs g.ends ps) p (keeps-with_pairs g h ps (λ q i. w q (inr i))) (w p (inl refl)).0 (w p (inl refl)).1
 
-pub edge_of_plus : (g : Graph) (P : ℕ → ℕ → Type 0) (ps : List (ℕ × ℕ)) → ((e : ℕ) → Within (size g) e → P (first_end g e) (second_end g e)) → ((p : ℕ × ℕ) → IsIn p ps → P p.0 p.1) →
+pub each-with_pairs : (g : Graph) (P : ℕ → ℕ → Type 0) (ps : List (ℕ × ℕ)) → ((e : ℕ) → Within (size g) e → P (first_end g e) (second_end g e)) → ((p : ℕ × ℕ) → IsIn p ps → P p.0 p.1) →
     (e : ℕ) → Within (length (with_pairs g.ends ps)) e → P (first_end (over g (with_pairs g.ends ps)) e) (second_end (over g (with_pairs g.ends ps)) e)
-edge_of_plus g P [] old new e w = old e w
-edge_of_plus g P (p ∷ ps) old new e w = edge_of g (with_pairs g.ends ps) p P (edge_of_plus g P ps old (λ q i. new q (inr i))) (new p (inl refl)) e w
+each-with_pairs g P [] old new e w = old e w
+each-with_pairs g P (p ∷ ps) old new e w = edge_of g (with_pairs g.ends ps) p P (each-with_pairs g P ps old (λ q i. new q (inr i))) (new p (inl refl)) e w
 
-pub plus_longer : (es ps : List (ℕ × ℕ)) → length es ≤ length (with_pairs es ps)
-plus_longer es [] = omega arith
-plus_longer es (p ∷ ps) = let l : length (with_pairs es ps ++ (p ∷ [])) ≡ length (with_pairs es ps) + length (p ∷ []) = length-append (with_pairs es ps) (p ∷ []) in omega (arith, plus_longer es ps)
+pub with_pairs-longer : (es ps : List (ℕ × ℕ)) → length es ≤ length (with_pairs es ps)
+with_pairs-longer es [] = omega arith
+with_pairs-longer es (p ∷ ps) = let l : length (with_pairs es ps ++ (p ∷ [])) ≡ length (with_pairs es ps) + length (p ∷ []) = length-append (with_pairs es ps) (p ∷ []) in omega (arith, with_pairs-longer es ps)
 
 -- m and all new edges
 abbrev pub with_new : Graph → Set → Set
 with_new g m e = m e || nat_lt (size g) e
 
-pub degree_plus : (g : Graph) (m : Set) (ps : List (ℕ × ℕ)) (v : ℕ) → degree (over g (with_pairs g.ends ps)) (with_new g m) v ≡ degree g m v + pairs_at ps v
-degree_plus g m [] v = degree_congr g (with_new g m) m v (λ e w. old (m e) (nat_lt (size g) e) (le-ltb (size g) e (omega arith))) ∙ zero_more (degree g m v)
+pub degree-with_pairs : (g : Graph) (m : Set) (ps : List (ℕ × ℕ)) (v : ℕ) → degree (over g (with_pairs g.ends ps)) (with_new g m) v ≡ degree g m v + pairs_at ps v
+degree-with_pairs g m [] v = degree_congr g (with_new g m) m v (λ e w. old (m e) (nat_lt (size g) e) (le-ltb (size g) e (omega arith))) ∙ zero_more (degree g m v)
   where
     zero_more : (k : ℕ) → k ≡ k + 0
     zero_more k = omega arith
 
     old : (a b : Bool) → b ≡ false → (a || b) ≡ a
     old a b h = grind arith
-degree_plus g m (p ∷ ps) v =
-    let d = degree_added g (with_pairs g.ends ps) p (with_new g m) v in
-    let i = degree_plus g m ps v in
-    let n : bit (with_new g m (suc (length (with_pairs g.ends ps)))) ≡ 1 = ap bit (or_right (m (suc (length (with_pairs g.ends ps)))) (nat_lt (size g) (suc (length (with_pairs g.ends ps)))) (lt-ltb (size g) (suc (length (with_pairs g.ends ps))) (let a = plus_longer g.ends ps in omega arith))) in
+degree-with_pairs g m (p ∷ ps) v =
+    let d = degree-added g (with_pairs g.ends ps) p (with_new g m) v in
+    let i = degree-with_pairs g m ps v in
+    let n : bit (with_new g m (suc (length (with_pairs g.ends ps)))) ≡ 1 = ap bit (or_right (m (suc (length (with_pairs g.ends ps)))) (nat_lt (size g) (suc (length (with_pairs g.ends ps)))) (lt-ltb (size g) (suc (length (with_pairs g.ends ps))) (let a = with_pairs-longer g.ends ps in omega arith))) in
     let q = ap (λ k. k * (bit (p.0 == v) + bit (p.1 == v))) n in omega arith

@@ -18,7 +18,7 @@ use Rattle.graph_core.specs.Matchings.{Allowed, IsPerfect}
 use Rattle.graph_core.specs.Structure.{IsBarrier}
 use Rattle.graph_core.specs.Walks.{Joined, joined}
 use Rattle.two_ears.proofs.ComponentCuts.{arms, component_out, count_in, cut_sum, odd_at_most, odd_leaving, odd_needs, weighted_cut}
-use Rattle.two_ears.proofs.JoinedClasses.{adjacent_joined, holds_itself, joined_equivalence, joined_more, submodular}
+use Rattle.two_ears.proofs.JoinedClasses.{adjacent_joined, keeps-itself, joined_equivalence, joined_more, submodular}
 use Rattle.two_ears.specs.AddedEdges.{KeepsEdges, over}
 
 pub count_none : (n : ℕ) → count n none ≡ 0
@@ -77,9 +77,9 @@ module _ (g : Graph) (is : IsGraph g) (cov : IsCovered g) where
         let one : bit (is_least (over g xs) b u) ≡ 1 = ap bit l in
         let q = ap (λ k. k * edges_in_cut g m (joined (over g xs) b u)) one in omega arith
 
-    pub all_parts : component_count (over g xs) b ≡ count g.order b
+    pub all_components : component_count (over g xs) b ≡ count g.order b
     unfolding component_count odd_component_count
-    all_parts = count_congr g.order _ _ (λ u w. each u w) ∙ bar
+    all_components = count_congr g.order _ _ (λ u w. each u w) ∙ bar
       where
         each : (u : ℕ) → Within g.order u → is_least (over g xs) b u ≡ (is_least (over g xs) b u && is_odd (count g.order (joined (over g xs) b u)))
         each u w = same_answers (is_least (over g xs) b u) _ (λ t. and_from (is_least (over g xs) b u) _ t (all_odd u w t)) (λ t. (and_parts (is_least (over g xs) b u) _ t).0)
@@ -91,7 +91,7 @@ module _ (g : Graph) (is : IsGraph g) (cov : IsCovered g) where
         count g.order (λ w. is_least g s w && joined (over g xs) a u w) ≡ count g.order (λ v. joined (over g xs) a u v && s v) + edges_in_cut g m (joined (over g xs) a u)
     exact u wu ou m p =
         total_congr g.order _ _ (λ w ww. one w ww (is_least g s w && k w) (λ t. (and_parts (is_least g s w) (k w) t).0))
-        ∙ weighted_cut g g.ends s k m is (holds_itself g is) closed
+        ∙ weighted_cut g g.ends s k m is (keeps-itself g is) closed
         ∙ total_congr (size g) _ _ (λ e we. edges e we (m e) refl)
         ∙ total_add (size g) (λ e. bit (m e && in_cut g (meet k s) e)) (λ e. bit (m e && in_cut g k e))
         ∙ ap (λ c. c + edges_in_cut g m k) (sym inner)
@@ -107,10 +107,10 @@ module _ (g : Graph) (is : IsGraph g) (cov : IsCovered g) where
 
         one : (w : ℕ) → Within g.order w → (b : Bool) → (b ≡ true → is_least g s w ≡ true) → bit b ≡ bit b * edges_in_cut g m (joined g s w)
         one w ww false f = omega arith
-        one w ww true f = let c = one_leaves g.ends (holds_itself g is) s bar a0 w0 (less a0 w0 in0) m p w ww (f refl) in omega arith
+        one w ww true f = let c = one_leaves g.ends (keeps-itself g is) s bar a0 w0 (less a0 w0 in0) m p w ww (f refl) in omega arith
 
         apart : (e : ℕ) → Within (size g) e → m e ≡ true → (s (first_end g e) && s (second_end g e)) ≡ false
-        apart e we me = none_inside g.ends (holds_itself g is) s bar a0 w0 (less a0 w0 in0) e we (loop_free g none m is p e we me)
+        apart e we me = none_inside g.ends (keeps-itself g is) s bar a0 w0 (less a0 w0 in0) e we (loop_free g none m is p e we me)
 
         and_false : (c d x y : Bool) → (x && y) ≡ false → ((c && x) && (d && y)) ≡ false
         and_false c d x y e = grind arith
@@ -170,9 +170,9 @@ module _ (g : Graph) (is : IsGraph g) (cov : IsCovered g) where
         let y = exact u w o c.0 c.1 in omega arith
 
     -- components without a are few, and even ones count twice
-    pub few : 2 * component_count (over g xs) a ≤ count g.order a + odd_component_count (over g xs) a
+    pub few_components : 2 * component_count (over g xs) a ≤ count g.order a + odd_component_count (over g xs) a
     unfolding component_count odd_component_count
-    few =
+    few_components =
         let m = some_perfect in
         let t = total_le g.order (λ u. 2 * bit (is_least (over g xs) a u)) _ (λ u w. each m.0 m.1 u w (is_least (over g xs) a u) (is_odd (count g.order (joined (over g xs) a u))) refl refl) in
         let i = total_mul g.order 2 (λ u. bit (is_least (over g xs) a u)) in
@@ -195,9 +195,9 @@ module _ (g : Graph) (is : IsGraph g) (cov : IsCovered g) where
             let d = odd_leaving g none m (joined (over g xs) a u) is p (λ v wv k. refl) in
             let i = at_least (edges_in_cut g m (joined (over g xs) a u)) c (sym d ∙ f) in omega arith
 
-    pub no_more : component_count (over g xs) a ≤ count g.order a
+    pub no_more_components : component_count (over g xs) a ≤ count g.order a
     unfolding component_count odd_component_count
-    no_more = let f = few in let o = total_le g.order _ (λ u. bit (is_least (over g xs) a u)) (λ u w. bits (is_least (over g xs) a u) (is_odd (count g.order (joined (over g xs) a u)))) in omega arith
+    no_more_components = let f = few_components in let o = total_le g.order _ (λ u. bit (is_least (over g xs) a u)) (λ u w. bits (is_least (over g xs) a u) (is_odd (count g.order (joined (over g xs) a u)))) in omega arith
       where
         bits : (x y : Bool) → bit (x && y) ≤ bit x
         bits true true = omega arith
@@ -224,19 +224,19 @@ module _ (g : Graph) (is : IsGraph g) (cov : IsCovered g) where
     pub meet_full : component_count (over g xs) a ≡ count g.order a → component_count (over g xs) b ≡ count g.order b → (c : ℕ) → Within g.order c → a c ≡ true → b c ≡ true → component_count (over g xs) (meet a b) ≡ count g.order (meet a b)
     meet_full fa fb c wc ac bc =
         let i = submodular (over g xs) s a b h.graph apart less_a less_b in
-        let j = no_more s bar xs h (union a b) both_less c wc (Rattle.std.proofs.lemmas.Bool.or_left (a c) (b c) ac) in
-        let k = no_more s bar xs h (meet a b) meet_less c wc (and_from (a c) (b c) ac bc) in
+        let j = no_more_components s bar xs h (union a b) both_less c wc (Rattle.std.proofs.lemmas.Bool.or_left (a c) (b c) ac) in
+        let k = no_more_components s bar xs h (meet a b) meet_less c wc (and_from (a c) (b c) ac bc) in
         let n = count_meet_union g.order a b in omega arith
 
     -- and a union lacks at most one component more
-    pub unite : (p : ℕ) → count g.order a + 1 ≤ component_count (over g xs) a + p → component_count (over g xs) b ≡ count g.order b → count g.order (union a b) + 1 ≤ component_count (over g xs) (union a b) + (p + 1)
-    unite p fa fb =
+    pub unite_parts : (p : ℕ) → count g.order a + 1 ≤ component_count (over g xs) a + p → component_count (over g xs) b ≡ count g.order b → count g.order (union a b) + 1 ≤ component_count (over g xs) (union a b) + (p + 1)
+    unite_parts p fa fb =
         let i = submodular (over g xs) s a b h.graph apart less_a less_b in
         let n = count_meet_union g.order a b in
         let m = at_most_one in omega arith
       where
         at_most_one : component_count (over g xs) (meet a b) ≤ count g.order (meet a b) + 1
         at_most_one = elim (cases_Bool (some g.order (meet a b))) [
-          | inl t ↦ let c = some_true g.order (meet a b) t in let k = no_more s bar xs h (meet a b) meet_less c.0 c.1 c.2 in omega arith
+          | inl t ↦ let c = some_true g.order (meet a b) t in let k = no_more_components s bar xs h (meet a b) meet_less c.0 c.1 c.2 in omega arith
           | inr f ↦ let k = connected_one xs h (meet a b) (λ v w. some_none g.order (meet a b) f v w) in omega arith
         ]

@@ -10,19 +10,19 @@ use Rattle.graph_core.specs.Covered.{IsCovered}
 use Rattle.graph_core.specs.Graph.{Graph, IsGraph, degree, first_end, second_end, size}
 use Rattle.graph_core.specs.Matchings.{Allowed, IsPerfect}
 use Rattle.graph_core.specs.Walks.{Joined}
-use Rattle.two_ears.proofs.AddedEdges.{degree_added, degree_plus, far_new, far_old, holds_plus, near_new, near_old, plus_longer, size_added, with_new}
-use Rattle.two_ears.proofs.JoinedClasses.{holds_itself, joined_more}
+use Rattle.two_ears.proofs.AddedEdges.{degree-added, degree-with_pairs, second_end-new, second_end-old, keeps-with_pairs, first_end-new, first_end-old, with_pairs-longer, size-added, with_new}
+use Rattle.two_ears.proofs.JoinedClasses.{keeps-itself, joined_more}
 use Rattle.two_ears.proofs.TwoEars.{ends_of_one, two_ears}
 use Rattle.two_ears.specs.AddedEdges.{over, with_pairs}
 use Rattle.two_ears.specs.VertexPairs.{AreDisjoint, IsIn, pairs_at, vertices_of}
 
-near_plus : (g : Graph) (ps : List (ℕ × ℕ)) (e : ℕ) → Within (size g) e → (first_end (over g (with_pairs g.ends ps)) e ≡ first_end g e) × (second_end (over g (with_pairs g.ends ps)) e ≡ second_end g e)
-near_plus g [] e w = (refl, refl)
-near_plus g (p ∷ ps) e w =
-    let l = plus_longer g.ends ps in
+ends-with_pairs : (g : Graph) (ps : List (ℕ × ℕ)) (e : ℕ) → Within (size g) e → (first_end (over g (with_pairs g.ends ps)) e ≡ first_end g e) × (second_end (over g (with_pairs g.ends ps)) e ≡ second_end g e)
+ends-with_pairs g [] e w = (refl, refl)
+ends-with_pairs g (p ∷ ps) e w =
+    let l = with_pairs-longer g.ends ps in
     let v : Within (length (with_pairs g.ends ps)) e = omega arith in
-    let r = near_plus g ps e w in
-    (near_old g (with_pairs g.ends ps) p e v ∙ r.0, far_old g (with_pairs g.ends ps) p e v ∙ r.1)
+    let r = ends-with_pairs g ps e w in
+    (first_end-old g (with_pairs g.ends ps) p e v ∙ r.0, second_end-old g (with_pairs g.ends ps) p e v ∙ r.1)
 
 abbrev without_new : Graph → Set → Set
 without_new g m e = m e && not (nat_lt (size g) e)
@@ -33,26 +33,26 @@ degree_without g m [] v = degree_congr g (without_new g m) m v (λ e w. old (m e
     old : (a b : Bool) → b ≡ false → (a && not b) ≡ a
     old a b h = grind arith
 degree_without g m (p ∷ ps) v =
-    let d = degree_added g (with_pairs g.ends ps) p (without_new g m) v in
+    let d = degree-added g (with_pairs g.ends ps) p (without_new g m) v in
     let i = degree_without g m ps v in
-    let n : bit (without_new g m (suc (length (with_pairs g.ends ps)))) ≡ 0 = ap bit (off (m (suc (length (with_pairs g.ends ps)))) (nat_lt (size g) (suc (length (with_pairs g.ends ps)))) (lt-ltb (size g) (suc (length (with_pairs g.ends ps))) (let a = plus_longer g.ends ps in omega arith))) in
+    let n : bit (without_new g m (suc (length (with_pairs g.ends ps)))) ≡ 0 = ap bit (off (m (suc (length (with_pairs g.ends ps)))) (nat_lt (size g) (suc (length (with_pairs g.ends ps)))) (lt-ltb (size g) (suc (length (with_pairs g.ends ps))) (let a = with_pairs-longer g.ends ps in omega arith))) in
     let q = ap (λ k. k * (bit (p.0 == v) + bit (p.1 == v))) n in omega arith
   where
     off : (a b : Bool) → b ≡ true → (a && not b) ≡ false
     off a b h = grind arith
 
 -- further edges that complete some set to a perfect matching keep a covered graph covered
-pub covered_plus : (g : Graph) → IsGraph g → IsCovered g → (ps : List (ℕ × ℕ)) → ((p : ℕ × ℕ) → IsIn p ps → Within g.order p.0 × Within g.order p.1) →
+pub covered-with_pairs : (g : Graph) → IsGraph g → IsCovered g → (ps : List (ℕ × ℕ)) → ((p : ℕ × ℕ) → IsIn p ps → Within g.order p.0 × Within g.order p.1) →
     (q : Set) → ((v : ℕ) → Within g.order v → degree g q v + pairs_at ps v ≡ 1) → IsCovered (over g (with_pairs g.ends ps))
 unfolding Joined
-covered_plus g is cov ps w q one = record {
+covered-with_pairs g is cov ps w q one = record {
   two = cov.two;
-  connected = λ u v wu wv. let h = holds_plus g (holds_itself g is) ps w in
+  connected = λ u v wu wv. let h = keeps-with_pairs g (keeps-itself g is) ps w in
       joined_walk (over g (with_pairs g.ends ps)) none u v (joined_more g (with_pairs g.ends ps) none none is h (λ x wx t. t) u v wu wv (walk_joined g none is u v wu (cov.connected u v wu wv)));
   allowed = λ e we d. elim (cases_lt (size g) e) [
-    | inl l ↦ (with_new g q, record { once = λ v wv o. degree_plus g q ps v ∙ one v wv; away = λ v wv o. absurd (true≢false (sym o)) }, or_right (q e) (nat_lt (size g) e) (lt-ltb (size g) e l))
+    | inl l ↦ (with_new g q, record { once = λ v wv o. degree-with_pairs g q ps v ∙ one v wv; away = λ v wv o. absurd (true≢false (sym o)) }, or_right (q e) (nat_lt (size g) e) (lt-ltb (size g) e l))
     | inr l ↦
-        let r = near_plus g ps e (omega arith) in
+        let r = ends-with_pairs g ps e (omega arith) in
         let m = cov.allowed e (omega arith) (λ i. d (r.0 ∙ i ∙ sym r.1)) in
         (without_new g m.0, record { once = λ v wv o. degree_without g m.0 ps v ∙ m.1.once v wv o; away = λ v wv o. absurd (true≢false (sym o)) }, and_from (m.0 e) (not (nat_lt (size g) e)) m.2 (ap not (le-ltb (size g) e l)))
   ];
@@ -78,7 +78,7 @@ degree_chosen g m [] v = zero_more (degree g m v)
   where
     zero_more : (k : ℕ) → k ≡ k + 0
     zero_more k = omega arith
-degree_chosen g m (p ∷ ps) v = degree_added g (with_pairs g.ends ps) p m v ∙ go (m (suc (length (with_pairs g.ends ps)))) (degree_chosen g m ps v)
+degree_chosen g m (p ∷ ps) v = degree-added g (with_pairs g.ends ps) p m v ∙ go (m (suc (length (with_pairs g.ends ps)))) (degree_chosen g m ps v)
   where
     go : (b : Bool) → degree (over g (with_pairs g.ends ps)) m v ≡ degree g m v + pairs_at (chosen g m ps) v →
         degree (over g (with_pairs g.ends ps)) m v + bit b * (bit (p.0 == v) + bit (p.1 == v)) ≡ degree g m v + pairs_at (cond b (p ∷ chosen g m ps) (chosen g m ps)) v
@@ -114,7 +114,7 @@ module _ (g : Graph) (is : IsGraph g) (cov : IsCovered g) (p0 : ℕ × ℕ) (res
 
   used : Allowed (over g (with_pairs g.ends ps)) e0
   unfolding e0
-  used = let l = size_added g (with_pairs g.ends rest) p0 in more.allowed (suc (length (with_pairs g.ends rest))) (omega arith) (λ i. differ p0 (inl refl) (sym (near_new g (with_pairs g.ends rest) p0) ∙ i ∙ far_new g (with_pairs g.ends rest) p0))
+  used = let l = size-added g (with_pairs g.ends rest) p0 in more.allowed (suc (length (with_pairs g.ends rest))) (omega arith) (λ i. differ p0 (inl refl) (sym (first_end-new g (with_pairs g.ends rest) p0) ∙ i ∙ second_end-new g (with_pairs g.ends rest) p0))
 
   m : Set
   m = used.0
@@ -175,13 +175,13 @@ module _ (g : Graph) (is : IsGraph g) (cov : IsCovered g) (p0 : ℕ × ℕ) (res
     where
       go : (p q : ℕ × ℕ) → IsIn p qs → IsIn q qs → (k : Set) → IsPerfect g (union (vertices_of p) (vertices_of q)) k → ((p : ℕ × ℕ) × IsIn p ps × IsCovered (over g (with_pairs g.ends (p ∷ [])))) ⊎ ((p : ℕ × ℕ) × (q : ℕ × ℕ) × IsIn p ps × IsIn q ps × IsCovered (over g (with_pairs g.ends (p ∷ q ∷ []))))
       go p q i j k h = elim (same_pair p q) [
-        | inl e ↦ inl (p, of_qs p i, covered_plus g is cov (p ∷ []) (λ r x. elim x [ inl y ↦ subst (λ z. Within g.order z.0 × Within g.order z.1) (sym y) (within p (of_qs p i)) | inr y ↦ absurd y ]) k (λ v w. single v w e))
+        | inl e ↦ inl (p, of_qs p i, covered-with_pairs g is cov (p ∷ []) (λ r x. elim x [ inl y ↦ subst (λ z. Within g.order z.0 × Within g.order z.1) (sym y) (within p (of_qs p i)) | inr y ↦ absurd y ]) k (λ v w. single v w e))
         | inr d ↦ inr (
           p,
           q,
           of_qs p i,
           of_qs q j,
-          covered_plus g is cov (p ∷ q ∷ []) (λ r x. elim x [
+          covered-with_pairs g is cov (p ∷ q ∷ []) (λ r x. elim x [
             | inl y ↦ subst (λ z. Within g.order z.0 × Within g.order z.1) (sym y) (within p (of_qs p i))
             | inr y ↦ elim y [ inl z ↦ subst (λ z. Within g.order z.0 × Within g.order z.1) (sym z) (within q (of_qs q j)) | inr z ↦ absurd z ]
           ]) k (λ v w. double v w d),

@@ -34,9 +34,9 @@ removed_alone g s u v h j = let w = joined_walk g s u v j in go w.0 w.1
     go (x ∷ ws) w = absurd (both_ways (s u) (adjacent-edge g s u x w.0).0 h)
 
 -- the classes are the components and the vertices of s
-pub classes_parts : (g : Graph) (s : Set) → class_count g.order (joined g s) ≡ component_count g s + count g.order s
+pub class_count-components : (g : Graph) (s : Set) → class_count g.order (joined g s) ≡ component_count g s + count g.order s
 unfolding component_count
-classes_parts g s = total_congr g.order _ _ (λ u w. each u w) ∙ total_add g.order (λ u. bit (is_least g s u)) (λ u. bit (s u))
+class_count-components g s = total_congr g.order _ _ (λ u w. each u w) ∙ total_add g.order (λ u. bit (is_least g s u)) (λ u. bit (s u))
   where
     bits : (a b : Bool) → (a ≡ true → b ≡ false) → bit (not b) ≡ bit (not a && not b) + bit a
     bits true true h = absurd (true≢false (h refl))
@@ -86,8 +86,8 @@ joined_more g xs s a is h less u v wu wv = joined_steps g xs s a is h.graph (λ 
         swap : (c d : ℕ) → some (size (over g xs)) (has_ends (over g xs) d c) ≡ true → some (size (over g xs)) (has_ends (over g xs) c d) ≡ true
         swap c d t = let r = some_true (size (over g xs)) (has_ends (over g xs) d c) t in true_some (size (over g xs)) (has_ends (over g xs) c d) r.0 r.1 (has_ends-back (over g xs) d c r.0 r.2)
 
-pub holds_itself : (g : Graph) → IsGraph g → KeepsEdges g g.ends
-holds_itself g is = record { graph = is; old = λ e w. true_some (size g) (has_ends g (first_end g e) (second_end g e)) e w (has_ends-own g e) }
+pub keeps-itself : (g : Graph) → IsGraph g → KeepsEdges g g.ends
+keeps-itself g is = record { graph = is; old = λ e w. true_some (size g) (has_ends g (first_end g e) (second_end g e)) e w (has_ends-own g e) }
 
 -- the number of components without a, for sets a of vertices no two of which an edge joins; loops do no harm
 pub submodular : (g : Graph) (s a b : Set) → IsGraph g → ((e : ℕ) → Within (size g) e → first_end g e ≢ second_end g e → (s (first_end g e) && s (second_end g e)) ≡ false) →
@@ -96,12 +96,12 @@ pub submodular : (g : Graph) (s a b : Set) → IsGraph g → ((e : ℕ) → With
 unfolding Joined IsClosed
 submodular g s a b is apart in_a in_b =
     let f = four_classes g.order (joined g (union a b)) (joined g a) (joined g b) (joined g (meet a b)) (joined_equivalence g (union a b) is) (joined_equivalence g a is) (joined_equivalence g b is) (joined_equivalence g (meet a b) is)
-    (joined_more g g.ends (union a b) a is (holds_itself g is) (λ v w t. Rattle.std.proofs.lemmas.Bool.or_left (a v) (b v) t))
-    (joined_more g g.ends (union a b) b is (holds_itself g is) (λ v w t. Rattle.std.proofs.lemmas.Bool.or_right (a v) (b v) t)) above in
-    let c0 = classes_parts g (union a b) in
-    let c1 = classes_parts g a in
-    let c2 = classes_parts g b in
-    let c3 = classes_parts g (meet a b) in
+    (joined_more g g.ends (union a b) a is (keeps-itself g is) (λ v w t. Rattle.std.proofs.lemmas.Bool.or_left (a v) (b v) t))
+    (joined_more g g.ends (union a b) b is (keeps-itself g is) (λ v w t. Rattle.std.proofs.lemmas.Bool.or_right (a v) (b v) t)) above in
+    let c0 = class_count-components g (union a b) in
+    let c1 = class_count-components g a in
+    let c2 = class_count-components g b in
+    let c3 = class_count-components g (meet a b) in
     let n = count_meet_union g.order a b in omega arith
   where
     which : (ac ad bc bd sc sd : Bool) → (ac ≡ true → sc ≡ true) → (ad ≡ true → sd ≡ true) → (bc ≡ true → sc ≡ true) → (bd ≡ true → sd ≡ true) → (ac && bc) ≡ false → (ad && bd) ≡ false → (sc && sd) ≡ false → ((ac ≡ false) × (ad ≡ false)) ⊎ ((bc ≡ false) × (bd ≡ false))

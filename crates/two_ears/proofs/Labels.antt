@@ -15,15 +15,15 @@ pub count_along : (n : ℕ) (p q : ℕ → Bool) (r : ℕ → ℕ → Bool) → 
     ((k a b : ℕ) → Within n k → Within n a → Within n b → r a k ≡ true → r b k ≡ true → a ≡ b) → ((k l : ℕ) → Within n k → Within n l → r l k ≡ true → q k ≡ true) → count n p ≤ count n q
 count_along n p q r some_k one_k in_q =
     le_trans (total_le n (λ l. bit (p l)) (λ l. total n (λ k. bit (r l k))) (λ l w. each l w (p l) refl))
-    (le_trans (le_of_eq (total_swap n n (λ l k. bit (r l k)))) (total_le n (λ k. total n (λ l. bit (r l k))) (λ k. bit (q k)) (λ k w. few k w (q k) refl)))
+    (le_trans (le_of_eq (total_swap n n (λ l k. bit (r l k)))) (total_le n (λ k. total n (λ l. bit (r l k))) (λ k. bit (q k)) (λ k w. few_components k w (q k) refl)))
   where
     each : (l : ℕ) → Within n l → (b : Bool) → p l ≡ b → bit b ≤ total n (λ k. bit (r l k))
     each l w false e = omega arith
     each l w true e = let k = some_k l w e in let a = at_le_total n (λ k. bit (r l k)) k.0 k.1 in let b = ap bit k.2 in omega arith
 
-    few : (k : ℕ) → Within n k → (b : Bool) → q k ≡ b → total n (λ l. bit (r l k)) ≤ bit b
-    few k w true e = count_le_one n (λ l. r l k) (λ u v wu wv l ru rv. let d = one_k k u v w wu wv ru rv in absurd (omega arith))
-    few k w false e = le_of_eq (total_none n (λ l. bit (r l k)) (λ l wl. ap bit (false_from_ne_true (r l k) (λ t. both_ways (q k) e (in_q k l w wl t)))))
+    few_components : (k : ℕ) → Within n k → (b : Bool) → q k ≡ b → total n (λ l. bit (r l k)) ≤ bit b
+    few_components k w true e = count_le_one n (λ l. r l k) (λ u v wu wv l ru rv. let d = one_k k u v w wu wv ru rv in absurd (omega arith))
+    few_components k w false e = le_of_eq (total_none n (λ l. bit (r l k)) (λ l wl. ap bit (false_from_ne_true (r l k) (λ t. both_ways (q k) e (in_q k l w wl t)))))
 
 -- a partition of 1 to n as a label for each; the labels in use
 abbrev pub used : ℕ → (ℕ → ℕ) → ℕ → Bool

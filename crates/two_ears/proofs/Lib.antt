@@ -6,3 +6,4 @@ pub mod AddedEdges
 pub mod PairBarriers
 pub mod TwoEars
 pub mod EdgeForm
+pub mod OppositeSides

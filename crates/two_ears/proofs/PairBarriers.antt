@@ -14,10 +14,10 @@ use Rattle.graph_core.specs.Graph.{Graph, IsGraph, degree, first_end, second_end
 use Rattle.graph_core.specs.Matchings.{IsPerfect}
 use Rattle.graph_core.specs.Structure.{Equivalent, IsBarrier}
 use Rattle.graph_core.specs.Walks.{adjacent, joined}
-use Rattle.two_ears.proofs.AddedEdges.{degree_added, edge_of_plus, holds_added, holds_plus, new_between}
-use Rattle.two_ears.proofs.BarrierComponents.{all_parts, meet_full, no_more, none_inside, some_perfect}
+use Rattle.two_ears.proofs.AddedEdges.{degree-added, each-with_pairs, keeps-added, keeps-with_pairs, new-joined}
+use Rattle.two_ears.proofs.BarrierComponents.{all_components, meet_full, no_more_components, none_inside, some_perfect}
 use Rattle.two_ears.proofs.ComponentCuts.{odd_need}
-use Rattle.two_ears.proofs.JoinedClasses.{adjacent_joined, classes_parts, holds_itself, joined_equivalence, joined_more, joined_steps}
+use Rattle.two_ears.proofs.JoinedClasses.{adjacent_joined, class_count-components, keeps-itself, joined_equivalence, joined_more, joined_steps}
 use Rattle.two_ears.proofs.Labels.{coarser, strictly}
 use Rattle.two_ears.specs.AddedEdges.{KeepsEdges, over, with_pairs}
 use Rattle.two_ears.specs.VertexPairs.{IsIn, vertices_of}
@@ -41,7 +41,7 @@ module _ (g : Graph) (is : IsGraph g) (cov : IsCovered g) (s : Set) (bar : IsBar
     ys = g.ends ++ (p ∷ [])
 
     hy : KeepsEdges g ys
-    hy = holds_added g g.ends p (holds_itself g is) fits.0.0 fits.0.1
+    hy = keeps-added g g.ends p (keeps-itself g is) fits.0.0 fits.0.1
 
     -- a perfect matching of g is one of g with the edge p
     above : (m : Set) → IsPerfect g none m → IsPerfect (over g ys) none (λ e. m e && not (nat_lt (size g) e))
@@ -55,7 +55,7 @@ module _ (g : Graph) (is : IsGraph g) (cov : IsCovered g) (s : Set) (bar : IsBar
 
         same : (w : ℕ) → degree (over g ys) (λ e. m e && not (nat_lt (size g) e)) w ≡ degree g m w
         same w =
-            let a = degree_added g g.ends p (λ e. m e && not (nat_lt (size g) e)) w in
+            let a = degree-added g g.ends p (λ e. m e && not (nat_lt (size g) e)) w in
             let b = degree_congr g (λ e. m e && not (nat_lt (size g) e)) m w (λ e we. and_yes (m e) (nat_lt (size g) e) (le-ltb (size g) e (omega arith))) in
             let c : bit (m (suc (size g)) && not (nat_lt (size g) (suc (size g)))) ≡ 0 = ap bit (and_no (m (suc (size g))) (nat_lt (size g) (suc (size g))) (lt-ltb (size g) (suc (size g)) (omega arith))) in
             let i = ap (λ k. k * (bit (p.0 == w) + bit (p.1 == w))) c in omega arith
@@ -80,11 +80,11 @@ module _ (g : Graph) (is : IsGraph g) (cov : IsCovered g) (s : Set) (bar : IsBar
         go false e = alone m (record { once = λ w ww o. sym (same w) ∙ q.once w ww o; away = λ w ww o. sym (same w) ∙ q.away w ww o })
           where
             same : (w : ℕ) → degree (over g ys) m w ≡ degree g m w
-            same w = let a = degree_added g g.ends p m w in let c = ap bit e in let i = ap (λ k. k * (bit (p.0 == w) + bit (p.1 == w))) c in omega arith
+            same w = let a = degree-added g g.ends p m w in let c = ap bit e in let i = ap (λ k. k * (bit (p.0 == w) + bit (p.1 == w))) c in omega arith
         go true e = fits.3 m (record { once = once; away = away })
           where
             same : (w : ℕ) → degree (over g ys) m w ≡ degree g m w + (bit (p.0 == w) + bit (p.1 == w))
-            same w = let a = degree_added g g.ends p m w in let c = ap bit e in let i = ap (λ k. k * (bit (p.0 == w) + bit (p.1 == w))) c in omega arith
+            same w = let a = degree-added g g.ends p m w in let c = ap bit e in let i = ap (λ k. k * (bit (p.0 == w) + bit (p.1 == w))) c in omega arith
 
             once : (w : ℕ) → Within g.order w → union (vertices_of (u, v)) (vertices_of p) w ≡ false → degree g m w ≡ 1
             once w ww o =
@@ -117,18 +117,18 @@ module _ (g : Graph) (is : IsGraph g) (cov : IsCovered g) (s : Set) (bar : IsBar
         in_bar : (x : ℕ) → vertices_of (u, w) x ≡ true → bar_y.0 x ≡ true
         in_bar x i = elim (or_cases (u == x) (w == x) i) [ inl j ↦ ap bar_y.0 (sym (eqb-true u x j)) ∙ bar_y.2 | inr j ↦ ap bar_y.0 (sym (eqb-true w x j)) ∙ t ]
 
-    parts_y : component_count (over g ys) bar_y.0 ≡ count g.order bar_y.0
-    parts_y = all_parts g is cov ys hy bar_y.0 bar_y.1 u wu bar_y.2
+    components_y : component_count (over g ys) bar_y.0 ≡ count g.order bar_y.0
+    components_y = all_components g is cov ys hy bar_y.0 bar_y.1 u wu bar_y.2
 
-    parts_g : component_count g bar_y.0 ≤ count g.order bar_y.0
-    parts_g = no_more g is cov s bar g.ends (holds_itself g is) bar_y.0 in_class u wu bar_y.2
+    components_g : component_count g bar_y.0 ≤ count g.order bar_y.0
+    components_g = no_more_components g is cov s bar g.ends (keeps-itself g is) bar_y.0 in_class u wu bar_y.2
 
     full_g : component_count g bar_y.0 ≡ count g.order bar_y.0
     full_g =
         let a = coarser g.order (joined g bar_y.0) (joined (over g ys) bar_y.0) (joined_equivalence g bar_y.0 is) (joined_equivalence (over g ys) bar_y.0 hy.graph) (joined_more g ys bar_y.0 bar_y.0 is hy (λ w ww t. t)) in
-        let b = classes_parts g bar_y.0 in
-        let c = classes_parts (over g ys) bar_y.0 in
-        let i = parts_y in let j = parts_g in omega arith
+        let b = class_count-components g bar_y.0 in
+        let c = class_count-components (over g ys) bar_y.0 in
+        let i = components_y in let j = components_g in omega arith
 
     out_bar : (w : ℕ) → Within g.order w → s w ≡ false → bar_y.0 w ≡ false
     out_bar w ww o = false_from_ne_true (bar_y.0 w) (λ t. both_ways (s w) o (in_class w ww t))
@@ -137,54 +137,54 @@ module _ (g : Graph) (is : IsGraph g) (cov : IsCovered g) (s : Set) (bar : IsBar
     kept = elim (cases_Bool (joined g bar_y.0 p.0 p.1)) [
       | inl t ↦ t
       | inr f ↦
-          let j = adjacent_joined (over g ys) bar_y.0 hy.graph p.0 p.1 (and_from (not (bar_y.0 p.0) && not (bar_y.0 p.1)) _ (rw (out_bar p.0 fits.0.0 fits.1, out_bar p.1 fits.0.1 fits.2) refl) (new_between g g.ends p)) in
+          let j = adjacent_joined (over g ys) bar_y.0 hy.graph p.0 p.1 (and_from (not (bar_y.0 p.0) && not (bar_y.0 p.1)) _ (rw (out_bar p.0 fits.0.0 fits.1, out_bar p.1 fits.0.1 fits.2) refl) (new-joined g g.ends p)) in
           let a = strictly g.order (joined g bar_y.0) (joined (over g ys) bar_y.0) (joined_equivalence g bar_y.0 is) (joined_equivalence (over g ys) bar_y.0 hy.graph) (joined_more g ys bar_y.0 bar_y.0 is hy (λ w ww t. t)) p.0 p.1 fits.0.0 fits.0.1 j f in
-          let b = classes_parts g bar_y.0 in
-          let c = classes_parts (over g ys) bar_y.0 in
-          let i = parts_y in let k = parts_g in absurd (omega arith)
+          let b = class_count-components g bar_y.0 in
+          let c = class_count-components (over g ys) bar_y.0 in
+          let i = components_y in let k = components_g in absurd (omega arith)
     ]
 
     -- the barrier of a pair that does not serve
-    pub one_pair : PairBarrier g s u v (λ b. joined g b p.0 p.1 ≡ true)
-    one_pair = record { b = bar_y.0; less = in_class; has_u = bar_y.2; has_v = bar_y.3; full = full_g; keeps = kept }
+    pub pair_barrier : PairBarrier g s u v (λ b. joined g b p.0 p.1 ≡ true)
+    pair_barrier = record { b = bar_y.0; less = in_class; has_u = bar_y.2; has_v = bar_y.3; full = full_g; keeps = kept }
 
   apart : (e : ℕ) → Within (size g) e → first_end g e ≢ second_end g e → (s (first_end g e) && s (second_end g e)) ≡ false
-  apart e we n = none_inside g is cov g.ends (holds_itself g is) s bar u wu su e we n
+  apart e we n = none_inside g is cov g.ends (keeps-itself g is) s bar u wu su e we n
 
   -- one for all pairs of a list
-  pub all_pairs : (ps : List (ℕ × ℕ)) → ((p : ℕ × ℕ) → IsIn p ps → Fits p) → PairBarrier g s u v (λ b. (p : ℕ × ℕ) → IsIn p ps → joined g b p.0 p.1 ≡ true)
-  all_pairs [] f = record { b = s; less = λ w ww t. t; has_u = su; has_v = sv; full = all_parts g is cov g.ends (holds_itself g is) s bar u wu su; keeps = λ p i. absurd i }
-  all_pairs (q ∷ ps) f =
-      let x = all_pairs ps (λ p i. f p (inr i)) in
-      let y = one_pair q (f q (inl refl)) in
+  pub pairs_barrier : (ps : List (ℕ × ℕ)) → ((p : ℕ × ℕ) → IsIn p ps → Fits p) → PairBarrier g s u v (λ b. (p : ℕ × ℕ) → IsIn p ps → joined g b p.0 p.1 ≡ true)
+  pairs_barrier [] f = record { b = s; less = λ w ww t. t; has_u = su; has_v = sv; full = all_components g is cov g.ends (keeps-itself g is) s bar u wu su; keeps = λ p i. absurd i }
+  pairs_barrier (q ∷ ps) f =
+      let x = pairs_barrier ps (λ p i. f p (inr i)) in
+      let y = pair_barrier q (f q (inl refl)) in
       record {
         b = meet x.b y.b;
         less = λ w ww t. x.less w ww (and_parts (x.b w) (y.b w) t).0;
         has_u = and_from (x.b u) (y.b u) x.has_u y.has_u;
         has_v = and_from (x.b v) (y.b v) x.has_v y.has_v;
-        full = meet_full g is cov s bar g.ends (holds_itself g is) apart x.b y.b x.less y.less x.full y.full u wu x.has_u y.has_u;
+        full = meet_full g is cov s bar g.ends (keeps-itself g is) apart x.b y.b x.less y.less x.full y.full u wu x.has_u y.has_u;
         keeps = λ p i. elim i [
           | inl e ↦ let w = f q (inl refl) in Rattle.std.proofs.Common.subst (λ r. joined g (meet x.b y.b) r.0 r.1 ≡ true) (sym e)
-              (joined_more g g.ends y.b (meet x.b y.b) is (holds_itself g is) (λ w ww t. (and_parts (x.b w) (y.b w) t).1) q.0 q.1 w.0.0 w.0.1 y.keeps)
-          | inr j ↦ let w = f p (inr j) in joined_more g g.ends x.b (meet x.b y.b) is (holds_itself g is) (λ w ww t. (and_parts (x.b w) (y.b w) t).0) p.0 p.1 w.0.0 w.0.1 (x.keeps p j)
+              (joined_more g g.ends y.b (meet x.b y.b) is (keeps-itself g is) (λ w ww t. (and_parts (x.b w) (y.b w) t).1) q.0 q.1 w.0.0 w.0.1 y.keeps)
+          | inr j ↦ let w = f p (inr j) in joined_more g g.ends x.b (meet x.b y.b) is (keeps-itself g is) (λ w ww t. (and_parts (x.b w) (y.b w) t).0) p.0 p.1 w.0.0 w.0.1 (x.keeps p j)
         ];
       }
 
   -- further edges within the components of g without b make no fewer components
-  pub same_parts : (ps : List (ℕ × ℕ)) (b : Set) → ((p : ℕ × ℕ) → IsIn p ps → Within g.order p.0 × Within g.order p.1) → ((p : ℕ × ℕ) → IsIn p ps → joined g b p.0 p.1 ≡ true) → component_count (over g (with_pairs g.ends ps)) b ≡ component_count g b
-  same_parts ps b w k =
-      let h = holds_plus g (holds_itself g is) ps w in
+  pub same_components : (ps : List (ℕ × ℕ)) (b : Set) → ((p : ℕ × ℕ) → IsIn p ps → Within g.order p.0 × Within g.order p.1) → ((p : ℕ × ℕ) → IsIn p ps → joined g b p.0 p.1 ≡ true) → component_count (over g (with_pairs g.ends ps)) b ≡ component_count g b
+  same_components ps b w k =
+      let h = keeps-with_pairs g (keeps-itself g is) ps w in
       let eg = joined_equivalence g b is in
       let ex = joined_equivalence (over g (with_pairs g.ends ps)) b h.graph in
       let a = coarser g.order (joined g b) (joined (over g (with_pairs g.ends ps)) b) eg ex (joined_more g (with_pairs g.ends ps) b b is h (λ w ww t. t)) in
       let c = coarser g.order (joined (over g (with_pairs g.ends ps)) b) (joined g b) ex eg (λ c d wc wd j. joined_steps (over g (with_pairs g.ends ps)) g.ends b b h.graph is (λ x y wx wy t. step x y wx wy t) c d wc j) in
-      let i = classes_parts g b in
-      let j = classes_parts (over g (with_pairs g.ends ps)) b in omega arith
+      let i = class_count-components g b in
+      let j = class_count-components (over g (with_pairs g.ends ps)) b in omega arith
     where
       step : (x y : ℕ) → Within g.order x → Within g.order y → adjacent (over g (with_pairs g.ends ps)) b x y ≡ true → joined g b x y ≡ true
       step x y wx wy t =
           let q = adjacent-edge (over g (with_pairs g.ends ps)) b x y t in
-          let e = edge_of_plus g (λ c d. b c ≡ false → b d ≡ false → (joined g b c d ≡ true) × (joined g b d c ≡ true)) ps
+          let e = each-with_pairs g (λ c d. b c ≡ false → b d ≡ false → (joined g b c d ≡ true) × (joined g b d c ≡ true)) ps
           (λ e we oc od. let j = adjacent_joined g b is (first_end g e) (second_end g e) (adjacent_from g b (first_end g e) (second_end g e) e oc od we (has_ends-own g e)) in
           (j, (joined_equivalence g b is).back (first_end g e) (second_end g e) (is e we).0 (is e we).1 j))
           (λ p i oc od. (k p i, (joined_equivalence g b is).back p.0 p.1 (w p i).0 (w p i).1 (k p i))) q.2.0 q.2.1 in

@@ -14,11 +14,11 @@ use Rattle.graph_core.specs.Structure.{Equivalent, IsBarrier}
 use Rattle.barrier_kit.proofs.ClassLaw.{perfect_or_not, equivalent_back, equivalent_on, class_barrier}
 use Rattle.barrier_kit.proofs.Matched.{perfect_congr}
 use Rattle.barrier_kit.proofs.ShoreFacts.{class_set, class_list}
-use Rattle.two_ears.proofs.AddedEdges.{degree_plus, edge_of_plus, holds_plus, with_new}
-use Rattle.two_ears.proofs.BarrierComponents.{few, none_inside, unite}
+use Rattle.two_ears.proofs.AddedEdges.{degree-with_pairs, each-with_pairs, keeps-with_pairs, with_new}
+use Rattle.two_ears.proofs.BarrierComponents.{few_components, none_inside, unite_parts}
 use Rattle.two_ears.proofs.ComponentCuts.{odd_need}
-use Rattle.two_ears.proofs.JoinedClasses.{holds_itself}
-use Rattle.two_ears.proofs.PairBarriers.{PairBarrier, all_pairs, same_parts}
+use Rattle.two_ears.proofs.JoinedClasses.{keeps-itself}
+use Rattle.two_ears.proofs.PairBarriers.{PairBarrier, pairs_barrier, same_components}
 use Rattle.two_ears.specs.AddedEdges.{KeepsEdges, over, with_pairs}
 use Rattle.two_ears.specs.VertexPairs.{AreDisjoint, IsIn, in_pairs, pairs_at, vertices_of}
 
@@ -159,11 +159,11 @@ module _ (g : Graph) (is : IsGraph g) (cov : IsCovered g) (p0 : ℕ × ℕ) (res
   of_fs p i = let r = pairs_in_has (λ w. not (s w)) rest p i in (inr r.0, not-true (s p.0) r.1)
 
   hx : KeepsEdges g xs
-  hx = holds_plus g (holds_itself g is) fs (λ p i. dis.within p (of_fs p i).0)
+  hx = keeps-with_pairs g (keeps-itself g is) fs (λ p i. dis.within p (of_fs p i).0)
 
   apart : (e : ℕ) → Within (size (over g xs)) e → first_end (over g xs) e ≢ second_end (over g xs) e → (s (first_end (over g xs) e) && s (second_end (over g xs) e)) ≡ false
-  apart e w = edge_of_plus g (λ c d. c ≢ d → (s c && s d) ≡ false) fs
-      (λ e we. none_inside g is cov g.ends (holds_itself g is) s bar p0.0 (dis.within p0 (inl refl)).0 has0 e we)
+  apart e w = each-with_pairs g (λ c d. c ≢ d → (s c && s d) ≡ false) fs
+      (λ e we. none_inside g is cov g.ends (keeps-itself g is) s bar p0.0 (dis.within p0 (inl refl)).0 has0 e we)
       (λ p i n. and_left (s p.0) (s p.1) (of_fs p i).1) e w
 
   -- the barrier of one pair of s against all pairs outside
@@ -175,7 +175,7 @@ module _ (g : Graph) (is : IsGraph g) (cov : IsCovered g) (p0 : ℕ × ℕ) (res
       let class : (v : ℕ) → Within g.order v → Equivalent g p.0 v → s v ≡ true = λ v wv e. in_s v wv (equivalent_on g p0.0 p.0 v is cov w0 w.0 wv (of_s p.0 w.0 r.1) e) in
       let d = differ p r.0 in
       let al = alone p r.0 in
-      let t = all_pairs g is cov s bar p.0 p.1 w.0 w.1 d r.1 s1 class al fs (λ q j.
+      let t = pairs_barrier g is cov s bar p.0 p.1 w.0 w.1 d r.1 s1 class al fs (λ q j.
       let f = of_fs q j in (dis.within q f.0, f.1, sym (follows q f.0) ∙ f.1, λ k z. no_two p r.0 q f.0 k z)) in
       record {
         b = t.b;
@@ -183,7 +183,7 @@ module _ (g : Graph) (is : IsGraph g) (cov : IsCovered g) (p0 : ℕ × ℕ) (res
         has_u = t.has_u;
         has_v = t.has_v;
         full = t.full;
-        keeps = same_parts g is cov s bar p.0 p.1 w.0 w.1 d r.1 s1 class al fs t.b (λ q j. dis.within q (of_fs q j).0) t.keeps ∙ t.full;
+        keeps = same_components g is cov s bar p.0 p.1 w.0 w.1 d r.1 s1 class al fs t.b (λ q j. dis.within q (of_fs q j).0) t.keeps ∙ t.full;
       }
 
   holds_ends : (b : Set) (p : ℕ × ℕ) → b p.0 ≡ true → b p.1 ≡ true → (w : ℕ) → 1 ≤ bit (p.0 == w) + bit (p.1 == w) → b w ≡ true
@@ -206,7 +206,7 @@ module _ (g : Graph) (is : IsGraph g) (cov : IsCovered g) (p0 : ℕ × ℕ) (res
         b = union j.b t.b;
         less = λ w ww x. elim (or_cases (j.b w) (t.b w) x) [ inl y ↦ j.less w ww y | inr y ↦ t.less w ww y ];
         has = λ w l. has j t w l;
-        large = let u = unite g is cov s bar xs hx apart j.b t.b j.less t.less (length (q ∷ qs)) j.large t.keeps in omega arith;
+        large = let u = unite_parts g is cov s bar xs hx apart j.b t.b j.less t.less (length (q ∷ qs)) j.large t.keeps in omega arith;
       }
     where
       has : (j : Joint g s xs (q ∷ qs)) (t : PairBarrier g s p.0 p.1 (λ b. component_count (over g xs) b ≡ count g.order b)) → (w : ℕ) → 1 ≤ (bit (p.0 == w) + bit (p.1 == w)) + pairs_at (q ∷ qs) w → union j.b t.b w ≡ true
@@ -240,7 +240,7 @@ module _ (g : Graph) (is : IsGraph g) (cov : IsCovered g) (p0 : ℕ × ℕ) (res
     where
       once : (v : ℕ) → Within g.order v → in_pairs (p0 ∷ es) v ≡ false → degree (over g xs) (with_new g m) v ≡ 1
       once v w o =
-          let a = degree_plus g m fs v in
+          let a = degree-with_pairs g m fs v in
           let b = covers_none (p0 ∷ es) v o in
           let c = ends_split v in
           let d = dis.once v w in
@@ -251,7 +251,7 @@ module _ (g : Graph) (is : IsGraph g) (cov : IsCovered g) (p0 : ℕ × ℕ) (res
 
       away : (v : ℕ) → Within g.order v → in_pairs (p0 ∷ es) v ≡ true → degree (over g xs) (with_new g m) v ≡ 0
       away v w o =
-          let a = degree_plus g m fs v in
+          let a = degree-with_pairs g m fs v in
           let b = covers_some (p0 ∷ es) v o in
           let c = ends_split v in
           let d = dis.once v w in
@@ -269,8 +269,8 @@ module _ (g : Graph) (is : IsGraph g) (cov : IsCovered g) (p0 : ℕ × ℕ) (res
   two_ears_not =
       let j = joint p0 es (λ q i. i) in
       let l : 1 ≤ pairs_at (p0 ∷ es) p0.0 = let x = ap bit (eq-eqb p0.0 p0.0 refl) in omega arith in
-      let a = few g is cov s bar xs hx j.b j.less p0.0 w0 (j.has p0.0 l) in
-      let b = odd_need (over g xs) xs (in_pairs (p0 ∷ es)) (with_new g m) j.b hx.graph (holds_itself (over g xs) hx.graph) perfect_x (λ v w t. j.has v (covers_some (p0 ∷ es) v t)) in
+      let a = few_components g is cov s bar xs hx j.b j.less p0.0 w0 (j.has p0.0 l) in
+      let b = odd_need (over g xs) xs (in_pairs (p0 ∷ es)) (with_new g m) j.b hx.graph (keeps-itself (over g xs) hx.graph) perfect_x (λ v w t. j.has v (covers_some (p0 ∷ es) v t)) in
       let c = count_covers in
       let d = j.large in omega arith
 

@@ -1,10 +1,11 @@
 //! The two-ear theorem. Each law is the contract of a function that does nothing.
-ghost use Rattle.std.specs.Prelude.{◌≢◌, ◌⊎◌, ℕ, List, [], ◌∷◌};
+ghost use Rattle.std.specs.Prelude.{◌≡◌, ◌≢◌, ◌⊎◌, ℕ, true, false, List, [], ◌∷◌};
 ghost use Rattle.counting.specs.Counts.{Within};
-ghost use Rattle.counting.specs.Sets.{union};
+ghost use Rattle.counting.specs.Sets.{Set, pair_set, union};
 ghost use Rattle.graph_core.specs.Covered.{IsCovered};
 ghost use Rattle.graph_core.specs.Graph.{Graph, IsGraph};
 ghost use Rattle.graph_core.specs.Matchings.{HasPerfect};
+ghost use Rattle.barrier_kit.specs.BarrierCuts.{IsSide};
 ghost use Rattle.two_ears.specs.AddedEdges.{over, with_pairs};
 ghost use Rattle.two_ears.specs.VertexPairs.{AreDisjoint, IsIn, in_pairs, vertices_of};
 
@@ -21,4 +22,10 @@ pub fn further_edges_law()
         → ((p : ℕ × ℕ) → IsIn p ps → p.0 ≢ p.1) → IsCovered (over g (with_pairs g.ends ps))
         → ((p : ℕ × ℕ) × IsIn p ps × IsCovered (over g (with_pairs g.ends (p ∷ []))))
         ⊎ ((p : ℕ × ℕ) × (q : ℕ × ℕ) × IsIn p ps × IsIn q ps × IsCovered (over g (with_pairs g.ends (p ∷ q ∷ [])))) }
+{}
+
+/// A bipartite matching covered graph has a perfect matching without any two vertices on opposite sides.
+pub fn opposite_sides_law()
+    ensures { (g : Graph) → IsGraph g → IsCovered g → (a : Set) → IsSide g a → (x z : ℕ) → Within g.order x → Within g.order z → a x ≡ true → a z ≡ false
+        → HasPerfect g (pair_set x z) }
 {}

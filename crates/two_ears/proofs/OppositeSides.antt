@@ -1,0 +1,217 @@
+-- Two vertices on opposite sides of a bipartite covered graph: it has a perfect matching without them. Else a barrier holds both; each
+-- component that it leaves is heavy on one side, and no edge would lead from the one side of the barrier to the other.
+use Rattle.std.proofs.Common.{◌≡◌, ℕ, ◌+◌, ◌≢◌, Bool, true, false, ◌==◌, refl, sym, ap, ap₂, ◌∙◌, arith, ◌&&◌, ◌||◌, not, eq-eqb, ne_eqb, inl, inr}
+use Rattle.std.proofs.lemmas.Bool.{and_parts, and_from, both_ways, true≢false, false_from_ne_true}
+use Rattle.barrier_kit.proofs.Barriers.{equivalent_barrier}
+use Rattle.barrier_kit.proofs.ClassLaw.{perfect_or_not}
+use Rattle.barrier_kit.proofs.Matched.{crosses_apart, cut_edge, loop_free}
+use Rattle.barrier_kit.specs.BarrierCuts.{IsSide}
+use Rattle.counting.proofs.Counts.{bit_true, count_congr}
+use Rattle.counting.proofs.RisingLists.{same_answers}
+use Rattle.counting.proofs.Totals.{at_le_total, some_term, total_add, total_congr, total_none}
+use Rattle.counting.specs.Counts.{Within, bit, count}
+use Rattle.counting.specs.Sets.{Set, complement, meet, none}
+use Rattle.graph_core.proofs.Components.{joined_outside, some_leader}
+use Rattle.graph_core.proofs.Walks.{adjacent_from, has_ends-own}
+use Rattle.graph_core.specs.Components.{is_least}
+use Rattle.graph_core.specs.Covered.{IsCovered}
+use Rattle.graph_core.specs.Graph.{Graph, IsGraph, edges_in_cut, first_end, in_cut, inside, second_end, size}
+use Rattle.graph_core.specs.Matchings.{HasPerfect, IsPerfect}
+use Rattle.graph_core.specs.Structure.{IsBarrier}
+use Rattle.graph_core.specs.Walks.{joined}
+use Rattle.two_ears.proofs.BarrierComponents.{count_none, none_inside, one_leaves, some_perfect}
+use Rattle.two_ears.proofs.ComponentCuts.{count_in}
+use Rattle.two_ears.proofs.JoinedClasses.{adjacent_joined, keeps-itself, joined_equivalence}
+use Rattle.two_ears.specs.VertexPairs.{vertices_of}
+
+-- an edge that leaves k from a vertex of a
+abbrev pub leaves_from : Graph → Set → Set → ℕ → Bool
+leaves_from g k a e = (k (first_end g e) && (not (k (second_end g e)) && a (first_end g e))) || (k (second_end g e) && (not (k (first_end g e)) && a (second_end g e)))
+
+module _ (g : Graph) (is : IsGraph g) (cov : IsCovered g) (a : Set) (sides : IsSide g a) where
+  -- the vertices of k on the two sides, and the edges of m that leave k from them
+  pub side_count : (k m : Set) → IsPerfect g none m → count g.order (meet k a) + count (size g) (λ e. m e && leaves_from g k (complement a) e) ≡ count g.order (meet k (complement a)) + count (size g) (λ e. m e && leaves_from g k a e)
+  side_count k m p =
+      let x = count_in g none m (meet k a) is p (λ v w t. absurd (true≢false (sym t))) in
+      let y = count_in g none m (meet k (complement a)) is p (λ v w t. absurd (true≢false (sym t))) in
+      let z = count_none g.order in
+      let i = total_none (size g) (λ e. bit (m e && inside g (meet k a) e)) (λ e w. ap bit (apart a e w (m e) refl (λ n. sides e w n))) in
+      let j = total_none (size g) (λ e. bit (m e && inside g (meet k (complement a)) e)) (λ e w. ap bit (apart (complement a) e w (m e) refl (λ n. turned (a (first_end g e)) (a (second_end g e)) (sides e w n)))) in
+      let b = total_add (size g) (λ e. bit (m e && in_cut g (meet k a) e)) (λ e. bit (m e && leaves_from g k (complement a) e)) in
+      let c = total_add (size g) (λ e. bit (m e && in_cut g (meet k (complement a)) e)) (λ e. bit (m e && leaves_from g k a e)) in
+      let d = total_congr (size g) (λ e. bit (m e && in_cut g (meet k a) e) + bit (m e && leaves_from g k (complement a) e)) (λ e. bit (m e && in_cut g (meet k (complement a)) e) + bit (m e && leaves_from g k a e)) (λ e w. edges e w (m e) refl) in omega arith
+    where
+      turned : (x y : Bool) → ((x && not y) || (not x && y)) ≡ true → ((not x && not (not y)) || (not (not x) && not y)) ≡ true
+      turned x y h = grind arith
+
+      never : (c d x y : Bool) → ((x && not y) || (not x && y)) ≡ true → ((c && x) && (d && y)) ≡ false
+      never c d x y h = grind arith
+
+      apart : (b : Set) (e : ℕ) → Within (size g) e → (t : Bool) → m e ≡ t → (first_end g e ≢ second_end g e → in_cut g b e ≡ true) → (t && inside g (meet k b) e) ≡ false
+      apart b e w false q h = refl
+      apart b e w true q h = never (k (first_end g e)) (k (second_end g e)) (b (first_end g e)) (b (second_end g e)) (h (loop_free g none m is p e w q))
+
+      bits : (c d x y : Bool) → ((x && not y) || (not x && y)) ≡ true →
+          bit (((c && x) && not (d && y)) || (not (c && x) && (d && y))) + bit ((c && (not d && not x)) || (d && (not c && not y)))
+          ≡ bit (((c && not x) && not (d && not y)) || (not (c && not x) && (d && not y))) + bit ((c && (not d && x)) || (d && (not c && y)))
+      bits c d true true h = absurd (true≢false (sym h))
+      bits c d false false h = absurd (true≢false (sym h))
+      bits true true true false h = refl
+      bits true false true false h = refl
+      bits false true true false h = refl
+      bits false false true false h = refl
+      bits true true false true h = refl
+      bits true false false true h = refl
+      bits false true false true h = refl
+      bits false false false true h = refl
+
+      edges : (e : ℕ) → Within (size g) e → (t : Bool) → m e ≡ t → bit (t && in_cut g (meet k a) e) + bit (t && leaves_from g k (complement a) e) ≡ bit (t && in_cut g (meet k (complement a)) e) + bit (t && leaves_from g k a e)
+      edges e w false q = refl
+      edges e w true q = bits (k (first_end g e)) (k (second_end g e)) (a (first_end g e)) (a (second_end g e)) (sides e w (loop_free g none m is p e w q))
+
+  pub outs_leave : (k m : Set) → count (size g) (λ e. m e && leaves_from g k a e) + count (size g) (λ e. m e && leaves_from g k (complement a) e) ≡ edges_in_cut g m k
+  outs_leave k m = sym (total_add (size g) (λ e. bit (m e && leaves_from g k a e)) (λ e. bit (m e && leaves_from g k (complement a) e))) ∙ total_congr (size g) _ _ (λ e w. bits (m e) (k (first_end g e)) (k (second_end g e)) (a (first_end g e)) (a (second_end g e)))
+    where
+      bits : (t c d x y : Bool) → bit (t && ((c && (not d && x)) || (d && (not c && y)))) + bit (t && ((c && (not d && not x)) || (d && (not c && not y)))) ≡ bit (t && ((c && not d) || (not c && d)))
+      bits false c d x y = refl
+      bits true true true x y = refl
+      bits true true false true y = refl
+      bits true true false false y = refl
+      bits true false true x true = refl
+      bits true false true x false = refl
+      bits true false false x y = refl
+
+  module _ (s : Set) (bar : IsBarrier g s) (s0 : ℕ) (w0 : Within g.order s0) (in0 : s s0 ≡ true) where
+    -- a component has one edge of m that leaves it
+    leaves_one : (m : Set) → IsPerfect g none m → (p : ℕ) → Within g.order p → s p ≡ false → edges_in_cut g m (joined g s p) ≡ 1
+    leaves_one m pm p wp o =
+        let l = some_leader g s is p wp o in
+        let u = some_term g.order (λ u. bit (is_least g s u && joined g s u p)) (omega arith) in
+        let b = and_parts (is_least g s u.0) (joined g s u.0 p) (bit_true (is_least g s u.0 && joined g s u.0 p) u.2) in
+        let q = joined_equivalence g s is in
+        let same : (v : ℕ) → Within g.order v → joined g s p v ≡ joined g s u.0 v = λ v wv. same_answers (joined g s p v) (joined g s u.0 v) (λ t. q.on u.0 p v u.1 wp wv b.1 t) (λ t. q.on p u.0 v wp u.1 wv (q.back u.0 p u.1 wp b.1) t) in
+        count_congr (size g) _ _ (λ e w. ap₂ (λ c d. m e && ((c && not d) || (not c && d))) (same (first_end g e) (is e w).0) (same (second_end g e) (is e w).1)) ∙ one_leaves g is cov g.ends (keeps-itself g is) s bar s0 w0 in0 m pm u.0 u.1 b.0
+
+    abbrev is_heavy : Set
+    is_heavy p = count g.order (meet (joined g s p) a) == count g.order (meet (joined g s p) (complement a)) + 1
+
+    -- an edge from a component to s starts on its heavy side
+    starts : (e p : ℕ) → Within (size g) e → first_end g e ≢ second_end g e → Within g.order p → s p ≡ false → leaves_from g (joined g s p) (λ v. true) e ≡ true → (leaves_from g (joined g s p) a e ≡ true → is_heavy p ≡ true) × (leaves_from g (joined g s p) (complement a) e ≡ true → is_heavy p ≡ false)
+    starts e p we d wp o h =
+        let m = cov.allowed e we d in
+        let x = side_count (joined g s p) m.0 m.1 in
+        let y = outs_leave (joined g s p) m.0 in
+        let z = leaves_one m.0 m.1 p wp o in (
+          λ t. let i = at_le_total (size g) (λ e. bit (m.0 e && leaves_from g (joined g s p) a e)) e we in let j = ap bit (and_from (m.0 e) (leaves_from g (joined g s p) a e) m.2 t) in eq-eqb _ _ (omega arith),
+          λ t. let i = at_le_total (size g) (λ e. bit (m.0 e && leaves_from g (joined g s p) (complement a) e)) e we in let j = ap bit (and_from (m.0 e) (leaves_from g (joined g s p) (complement a) e) m.2 t) in ne_eqb _ _ (λ q. absurd (omega arith)),
+        )
+
+    -- the vertices of s off a, and the components that are heavy on a
+    abbrev w : Set
+    w v = (s v && not (a v)) || (not (s v) && is_heavy v)
+
+    own : (p : ℕ) → Within g.order p → joined g s p p ≡ true
+    own p wp = (joined_equivalence g s is).own p wp
+
+    off_comp : (p q : ℕ) → s p ≡ false → s q ≡ true → joined g s p q ≡ false
+    off_comp p q o t = false_from_ne_true (joined g s p q) (λ j. both_ways (s q) (joined_outside g s is p q o j) t)
+
+    none_crosses : (e : ℕ) → Within (size g) e → in_cut g w e ≡ false
+    none_crosses e we = false_from_ne_true (in_cut g w e) (λ t. go t (crosses_apart g w e t) (s (first_end g e)) (s (second_end g e)) refl refl)
+      where
+        apart_sides : (x y : Bool) → ((x && not y) || (not x && y)) ≡ true → y ≡ not x
+        apart_sides x y h = grind arith
+
+        out_near : (c d x y : Bool) → c ≡ true → d ≡ false → ((c && (not d && x)) || (d && (not c && y))) ≡ x
+        out_near c d x y p q = rw (p, q) (plain x y)
+          where
+            plain : (x y : Bool) → ((true && (true && x)) || (false && (false && y))) ≡ x
+            plain true y = refl
+            plain false y = refl
+
+        out_far : (c d x y : Bool) → c ≡ false → d ≡ true → ((c && (not d && x)) || (d && (not c && y))) ≡ y
+        out_far c d x y p q = rw (p, q) (plain x y)
+          where
+            plain : (x y : Bool) → ((false && (false && x)) || (true && (true && y))) ≡ y
+            plain x true = refl
+            plain x false = refl
+
+        both_in : (x y c d : Bool) → (x && y) ≡ false → x ≡ true → y ≡ true → ⊥
+        both_in x y c d h p q = both_ways (x && y) h (and_from x y p q)
+
+        same_cross : (x y : Bool) → x ≡ y → ((x && not y) || (not x && y)) ≡ true → ⊥
+        same_cross true true e h = true≢false (sym h)
+        same_cross false false e h = true≢false (sym h)
+        same_cross true false e h = true≢false e
+        same_cross false true e h = true≢false (sym e)
+
+        w_in : (v : ℕ) → s v ≡ true → w v ≡ not (a v)
+        w_in v t = plain (s v) (a v) (is_heavy v) t
+          where
+            plain : (x y z : Bool) → x ≡ true → ((x && not y) || (not x && z)) ≡ not y
+            plain x y z h = grind arith
+
+        w_out : (v : ℕ) → s v ≡ false → w v ≡ is_heavy v
+        w_out v t = plain (s v) (a v) (is_heavy v) t
+          where
+            plain : (x y z : Bool) → x ≡ false → ((x && not y) || (not x && z)) ≡ z
+            plain x y z h = grind arith
+
+        by_side : (x y : Bool) → (x ≡ true → y ≡ true) → (not x ≡ true → y ≡ false) → y ≡ x
+        by_side true y f h = f refl
+        by_side false y f h = h refl
+
+        go : in_cut g w e ≡ true → first_end g e ≢ second_end g e → (x y : Bool) → s (first_end g e) ≡ x → s (second_end g e) ≡ y → ⊥
+        go t d true true p q = both_in (s (first_end g e)) (s (second_end g e)) true true (none_inside g is cov g.ends (keeps-itself g is) s bar s0 w0 in0 e we d) p q
+        go t d false false p q =
+            let j = adjacent_joined g s is (first_end g e) (second_end g e) (adjacent_from g s (first_end g e) (second_end g e) e p q we (has_ends-own g e)) in
+            let eq = joined_equivalence g s is in
+            let wn = (is e we).0 in
+            let wf = (is e we).1 in
+            let same : (v : ℕ) → Within g.order v → joined g s (first_end g e) v ≡ joined g s (second_end g e) v = λ v wv. same_answers (joined g s (first_end g e) v) (joined g s (second_end g e) v) (λ i. eq.on (second_end g e) (first_end g e) v wf wn wv (eq.back (first_end g e) (second_end g e) wn wf j) i) (λ i. eq.on (first_end g e) (second_end g e) v wn wf wv j i) in
+            let x = count_congr g.order (meet (joined g s (first_end g e)) a) (meet (joined g s (second_end g e)) a) (λ v wv. ap (λ c. c && a v) (same v wv)) in
+            let y = count_congr g.order (meet (joined g s (first_end g e)) (complement a)) (meet (joined g s (second_end g e)) (complement a)) (λ v wv. ap (λ c. c && not (a v)) (same v wv)) in
+            same_cross (w (first_end g e)) (w (second_end g e)) (w_out (first_end g e) p ∙ ap₂ (λ c d. c == d + 1) x y ∙ sym (w_out (second_end g e) q)) t
+        go t d false true p q =
+            let wn = (is e we).0 in
+            let k = own (first_end g e) wn in
+            let l = off_comp (first_end g e) (second_end g e) p q in
+            let r = starts e (first_end g e) we d wn p (out_near (joined g s (first_end g e) (first_end g e)) (joined g s (first_end g e) (second_end g e)) true true k l) in
+            let h = by_side (a (first_end g e)) (is_heavy (first_end g e)) (λ i. r.0 (out_near (joined g s (first_end g e) (first_end g e)) (joined g s (first_end g e) (second_end g e)) (a (first_end g e)) (a (second_end g e)) k l ∙ i))
+            (λ i. r.1 (out_near (joined g s (first_end g e) (first_end g e)) (joined g s (first_end g e) (second_end g e)) (not (a (first_end g e))) (not (a (second_end g e))) k l ∙ i)) in
+            let o = apart_sides (a (first_end g e)) (a (second_end g e)) (sides e we d) in
+            same_cross (w (first_end g e)) (w (second_end g e)) (w_out (first_end g e) p ∙ h ∙ sym (twice (a (first_end g e))) ∙ ap not (sym o) ∙ sym (w_in (second_end g e) q)) t
+          where
+            twice : (x : Bool) → not (not x) ≡ x
+            twice true = refl
+            twice false = refl
+        go t d true false p q =
+            let wf = (is e we).1 in
+            let k = own (second_end g e) wf in
+            let l = off_comp (second_end g e) (first_end g e) q p in
+            let r = starts e (second_end g e) we d wf q (out_far (joined g s (second_end g e) (first_end g e)) (joined g s (second_end g e) (second_end g e)) true true l k) in
+            let h = by_side (a (second_end g e)) (is_heavy (second_end g e)) (λ i. r.0 (out_far (joined g s (second_end g e) (first_end g e)) (joined g s (second_end g e) (second_end g e)) (a (first_end g e)) (a (second_end g e)) l k ∙ i))
+            (λ i. r.1 (out_far (joined g s (second_end g e) (first_end g e)) (joined g s (second_end g e) (second_end g e)) (not (a (first_end g e))) (not (a (second_end g e))) l k ∙ i)) in
+            let o = apart_sides (a (first_end g e)) (a (second_end g e)) (sides e we d) in
+            same_cross (w (first_end g e)) (w (second_end g e)) (w_in (first_end g e) p ∙ sym o ∙ sym h ∙ sym (w_out (second_end g e) q)) t
+
+    pub one_side : (z : ℕ) → Within g.order z → s z ≡ true → a s0 ≡ true → a z ≡ false → ⊥
+    one_side z wz tz a0 az =
+        let e = cut_edge g w z s0 is cov wz w0 (in_w (s z) (a z) (is_heavy z) tz az) (out_w (s s0) (a s0) (is_heavy s0) in0 a0) in
+        both_ways (in_cut g w e.0) (none_crosses e.0 e.1) e.2
+      where
+        in_w : (x y c : Bool) → x ≡ true → y ≡ false → ((x && not y) || (not x && c)) ≡ true
+        in_w x y c p q = grind arith
+
+        out_w : (x y c : Bool) → x ≡ true → y ≡ true → ((x && not y) || (not x && c)) ≡ false
+        out_w x y c p q = grind arith
+
+  -- two vertices on opposite sides serve
+  pub opposite : (x z : ℕ) → Within g.order x → Within g.order z → a x ≡ true → a z ≡ false → HasPerfect g (vertices_of (x, z))
+  opposite x z wx wz ax az = elim (perfect_or_not g (vertices_of (x, z))) [
+    | inl m ↦ m
+    | inr no_match ↦
+        let m = some_perfect g is cov in
+        let b = equivalent_barrier g m.0 x z is m.1 wx wz (λ e. both_ways (a z) az (ap a (sym e) ∙ ax)) no_match in
+        absurd (one_side b.0 b.1 x wx b.2 z wz b.3 ax az)
+  ]
