@@ -1,14 +1,24 @@
-//! Tests of cuts and tightness that cross crates.
+//! Tests that cross crates: cuts, and what is asked of covered graphs.
 //!
-//! `tight_cuts::is_tight` is compared with the plain program of `plain_graph`, which goes through all perfect matchings, on a table
-//! of small matching covered graphs and on each set with an odd number of their vertices; and it answers the worked cuts: the
+//! `cuts`: `tight_cuts::is_tight` is compared with the plain program of `plain_graph`, which goes through all perfect matchings, on
+//! a table of small matching covered graphs and on each set with an odd number of their vertices; and it answers the worked cuts: the
 //! triangle in K3,3 is a tight shore, the triangle of the prism and the outer cycle of the Petersen graph are not.
-//!
 //! `tight_cuts::candidates` answers the worked lists of candidates, in order and with their origins; bricks and braces have none; and
 //! on a table of small graphs the list is empty exactly where the plain program finds no nontrivial tight set.
 //!
-//! The crate has no items but these tests. Source of the graphs: Lovász and Plummer, "Matching Theory".
+//! `worked`: each call of `barrier_kit`, `separation_kit` and `quick_kinds` on graphs of the literature, with answers that were worked
+//! out by hand.
+//!
+//! `grown`: on generated graphs and on the leaves of their decomposition the quick tests of `quick_kinds` agree with the complete
+//! finder, and the table of pairs of a large graph ends.
+//!
+//! The crate has no items but these tests; they stand here since most calls ask for a covered graph, which `allowed_edges` decides.
+//! Source of the graphs: Lovász and Plummer, "Matching Theory".
 #![tactic(auto)]
 
 #[cfg(test)]
-mod tests;
+mod cuts;
+#[cfg(test)]
+mod grown;
+#[cfg(test)]
+mod worked;

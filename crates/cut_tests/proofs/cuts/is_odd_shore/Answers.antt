@@ -2,7 +2,7 @@ use Rattle.std.proofs.Common.{◌≡◌, ℕ, ◌∙◌, ◌↔◌, ap, subst, s
 use Rattle.counting.specs.Counts.{Within, is_odd}
 use Rattle.counting.specs.Lists.{mem}
 use Rattle.cut_tests.proofs.OddShores.{remainder-odd, subset-rises}
-use Rattle.cut_tests.proofs.tests.is_odd_shore.Goals as goal
+use Rattle.cut_tests.proofs.cuts.is_odd_shore.Goals as goal
 
 pub returns-then-is_subset-clause-rising : goal.returns-then-is_subset-clause-rising
 returns-then-is_subset-clause-rising c q =

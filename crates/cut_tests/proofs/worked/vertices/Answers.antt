@@ -1,7 +1,7 @@
 use Rattle.std.proofs.Common.{◌≡◌, sym, ◌∙◌, arith}
 use Rattle.counting.specs.Lists.{is_subset, mem}
 use Rattle.counting.proofs.RisingLists.{all_in_true, set-narrower}
-use Rattle.cut_rows.proofs.tests.vertices.Goals as goal
+use Rattle.cut_tests.proofs.worked.vertices.Goals as goal
 
 pub returns-then-is_subset : goal.returns-then-is_subset
 returns-then-is_subset c = set-narrower 128 c.args.g.now.order c.args.set c.rises.ensures (λ v m. let n = c.order.ensures.is in

@@ -1,0 +1,111 @@
+//! Generated graphs and the leaves of their decomposition: the quick tests beside the complete finder.
+ghost use Rattle.std.specs.Prelude.{◌≡◌, ◌↔◌, IsTrue, IfOk};
+ghost use Rattle.graph_core.specs.Covered.{IsCovered};
+ghost use Rattle.graph_core.specs.Graph.{IsBipartite};
+
+use allowed_edges::{covered, together};
+use contraction::{Partition, quotient};
+use decomposer::{Order, Refused, decompose};
+use graph_core::{MultiGraph, Reason, Sides, Verdict};
+use grow_gen::grow;
+use quick_kinds::{quick_brace, quick_brick};
+use std::alloc::{AllocError as Memory, Global};
+use tight_cuts::{Candidate, find_any};
+use tree_core::laws::derivation_stands;
+use tree_core::leaves;
+
+fn is_covered(alloc: Global, g: &MultiGraph) -> Result<bool, Memory>
+    ensures { IfOk result (λ yes. IsTrue yes → IsCovered g.now) }
+{
+    match covered(alloc, g)? {
+        Verdict::Covered => Ok(true),
+        Verdict::NotCovered(Reason::Small) => Ok(false),
+        Verdict::NotCovered(_) => Ok(false),
+    }
+}
+
+fn is_bipartite(alloc: Global, g: &MultiGraph) -> Result<bool, Memory>
+    ensures { IfOk result (λ yes. IsTrue yes ↔ IsBipartite g.now) }
+{
+    match g.two_sides(alloc)? {
+        Sides::Even { .. } => Ok(true),
+        Sides::Odd { .. } => Ok(false),
+    }
+}
+
+// The place of the first candidate.
+fn first_of(_list: &[Candidate], _cuts: usize) -> usize
+    ensures { result ≡ 0 }
+{
+    0
+}
+
+// Whether the graph is covered, and the quick test for its sort finds a nontrivial tight cut exactly where the finder does.
+fn agrees(alloc: Global, g: &MultiGraph) -> Result<bool, Memory> {
+    if !is_covered(alloc, g)? {
+        return Ok(false);
+    }
+    let is_whole = find_any(alloc, g)?.is_none();
+    if is_bipartite(alloc, g)? {
+        if g.order() < 4 {
+            return Ok(is_whole);
+        }
+        return Ok(quick_brace(alloc, g)? == is_whole);
+    }
+    Ok(quick_brick(alloc, g)?.is_none() == is_whole)
+}
+
+// Whether the graph and each of the leaves of its decomposition, as many as wanted, agree.
+fn leaves_agree(alloc: Global, g: &MultiGraph, many: usize) -> Result<bool, Memory>
+    requires { IsCovered g.now }
+{
+    derivation_stands();
+    let tree = match decompose(alloc, g, &Order::new(first_of)) {
+        Ok(tree) => tree,
+        Err(Refused::NotCovered(_)) => return Ok(false),
+        Err(Refused::Memory) => return Err(Memory),
+    };
+    let partitions = leaves(alloc, &tree, g.order())?;
+    for i in 0..partitions.len() {
+        if !leaf_agrees(alloc, g, partitions.get(i))? {
+            return Ok(false);
+        }
+    }
+    Ok(partitions.len() == many)
+}
+
+fn leaf_agrees(alloc: Global, g: &MultiGraph, leaf: &Partition) -> Result<bool, Memory> {
+    if leaf.order() != g.order() {
+        return Ok(false);
+    }
+    let piece = quotient(alloc, g, leaf)?;
+    agrees(alloc, piece.graph())
+}
+
+fn number_agrees(alloc: Global, number: u64) -> Result<bool, Memory> {
+    let g = grow(alloc, number, 6)?;
+    Ok(agrees(alloc, &g)? && leaves_agree(alloc, &g, 6)?)
+}
+
+#[test]
+fn quick_tests_agree_with_the_finder(rt: HostRuntime) -> Result<(), Memory> {
+    let mut agree = true;
+    for number in 1..21u64 {
+        agree = agree && number_agrees(rt.alloc(), number)?;
+    }
+    assert!(rt; agree);
+    Ok(())
+}
+
+#[test]
+fn table_of_pairs_of_a_large_graph(rt: HostRuntime) -> Result<(), Memory> {
+    let g = grow(rt.alloc(), 7, 16)?;
+    let pairs = together(rt.alloc(), &g)?;
+    assert!(rt; g.size() >= 2 && pairs.list().len() > 0);
+    let mut listed = true;
+    for e in 1..=g.size() {
+        listed = listed && pairs.both(e, e);
+    }
+    assert!(rt; listed);
+    Ok(())
+}
