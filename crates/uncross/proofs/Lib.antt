@@ -19,3 +19,4 @@ pub mod Alignments
 pub mod Parts
 pub mod CarriedLeaves
 pub mod SwitchImages
+pub mod SwitchParts

@@ -84,7 +84,7 @@ module _ (g : Graph) (p : List (List ℕ)) (stage : Stage g p) (x u v : List ℕ
       alike_in g.order p (kept_at g.order p x) (mem (complement_of g.order x)) stage.list.partition r.tight.union (big_merge g p stage (complement_of g.order x) r) w z ww wz
       (mem-complement_of g.order x w ww ∙ ap not hw) (mem-complement_of g.order x z wz ∙ ap not hz)
 
-  u_alike : (w : ℕ) → Within g.order w → mem u w ≡ true → place (kept_at g.order p x) w ≡ place (kept_at g.order p x) s
+  pub u_alike : (w : ℕ) → Within g.order w → mem u w ≡ true → place (kept_at g.order p x) w ≡ place (kept_at g.order p x) s
   u_alike w ww m =
       let r = big_rest g p stage x bx in
       alike_up g.order p (kept_at g.order p x) (mem (complement_of g.order x)) stage.list.partition r.tight.union (big_merge g p stage (complement_of g.order x) r) w s ww corner.left.within (corner.left.one w ww m)
