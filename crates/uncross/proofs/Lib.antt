@@ -20,3 +20,4 @@ pub mod Parts
 pub mod CarriedLeaves
 pub mod SwitchImages
 pub mod SwitchParts
+pub mod MoveParts
