@@ -21,3 +21,4 @@ pub mod CarriedLeaves
 pub mod SwitchImages
 pub mod SwitchParts
 pub mod MoveParts
+pub mod ScriptPairs
