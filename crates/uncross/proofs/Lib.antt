@@ -22,3 +22,4 @@ pub mod SwitchImages
 pub mod SwitchParts
 pub mod MoveParts
 pub mod ScriptPairs
+pub mod ExchangedNames

@@ -1,26 +1,26 @@
 -- The leaves under a move, down its path: below the node they are those that the move gives, and elsewhere they stay. So the maps of a
 -- proper move pair the leaves of a derivation with those of the next.
-use Rattle.std.proofs.Common.{◌≡◌, ℕ, ◌+◌, Bool, true, false, ◌&&◌, not, List, [], ◌∷◌, ◌++◌, length, map, Option, Some, None, option_map, if◌then◌else◌, refl, sym, ap, ap₂, ◌∙◌, arith, subst, subst₂, All}
+use Rattle.std.proofs.Common.{◌≡◌, ℕ, ◌+◌, Bool, true, false, ◌&&◌, not, List, [], ◌∷◌, ◌++◌, length, map, Option, Some, None, option_map, if◌then◌else◌, refl, sym, ap, ◌∙◌, arith, subst, subst₂}
 use Rattle.std.proofs.lemmas.List.{length-append, map-append}
 use Rattle.counting.specs.Lists.{is_apart, is_subset, mem}
 use Rattle.counting.specs.Sets.{everything, minus}
 use Rattle.graph_core.specs.Graph.{Graph, IsGraph}
-use Rattle.graph_core.specs.Partitions.{IsPartition, complement_of, merged, names_of, singles}
+use Rattle.graph_core.specs.Partitions.{IsPartition, complement_of, contracted, names_of, singles}
 use Rattle.tree_core.proofs.DerivationLeaves.{partitions-leaves_at}
 use Rattle.tree_core.proofs.Sizes.{length-leaves_at}
-use Rattle.tree_core.specs.Derivations.{IsDerivation, IsDerivationAt, kept_at, merged_at}
-use Rattle.tree_core.specs.LeafMaps.{move_maps, move_names, move_order, names_at, numbers, order_at, rotate_order, switch_names, switch_order}
+use Rattle.tree_core.specs.Derivations.{IsCutAt, IsDerivationAt, kept_at, merged_at}
+use Rattle.tree_core.specs.LeafMaps.{move_maps, move_order, names_at, numbers, order_at, rotate_order, switch_names, switch_order}
 use Rattle.tree_core.specs.Leaves.{leaves, leaves_at}
-use Rattle.tree_core.specs.Moves.{BlocksAt, IsProper, PlainMove, inner_rest, is_proper, kept_if_in_q, kept_if_in_v, merged_if_in_q, merged_if_in_v, outer_rest, union_list, last_step, move_result, parent_path, result_at, rotate_at, rotate_result_at, rotate_result_merged, switch_at, switch_result_at}
+use Rattle.tree_core.specs.Moves.{BlocksAt, IsProper, PlainMove, inner_rest, is_proper, kept_if_in_q, kept_if_in_v, merged_if_in_q, merged_if_in_v, outer_rest, union_list, last_step, move_result, parent_path, result_at, rotate_at, rotate_result_at, switch_at, switch_result_at}
 use Rattle.tree_core.specs.Shapes.{Shape, cut, leaf, leaf_count}
 use Rattle.tree_core.specs.declared.path.Side.{Side}
 use Rattle.tree_core.specs.declared.path.Side.TheVariants.{Kept, Merged}
-use Rattle.uncross.proofs.Alignments.{numbers-split}
 use Rattle.uncross.proofs.BigShores.{Stage, big_rest, cut_big, stage_merged}
 use Rattle.uncross.proofs.Parts.{Part, part-join, part-own, part-pairing, part-turn}
-use Rattle.uncross.proofs.Rising.{AreRising, bounds}
+use Rattle.uncross.proofs.Rising.{AreRising, rising-derivation_at}
 use Rattle.uncross.proofs.Rotations.{append_join, row_apart, row_inside, row_kept, subset_says}
-use Rattle.uncross.proofs.SwitchParts.{switch_part}
+use Rattle.uncross.proofs.SwitchParts.{switch_derives, switch_part}
+use Rattle.graph_core.specs.Covered.{IsCovered}
 use Rattle.uncross.specs.Pairings.{IsPairing}
 
 none_some : {b : Shape} → None ≡ Some b → ⊥
@@ -201,3 +201,12 @@ move_pairs g s t (rotate_at (side ∷ path)) st f d proper e dt =
     part-pairing g (leaves g.order s) (leaves g.order t) (move_order g.order (rotate_at (side ∷ path)) s) (map names_of (leaves g.order s)) (rotate_along g (last_step side path) (parent_path side path) (singles g.order) 0 s t st f d e)
 move_pairs g s t (switch_at path u v) st f d proper e dt =
     part-pairing g (leaves g.order s) (leaves g.order t) (order_at (switch_order g.order u v) path 0 s) (names_at g.order u v path (singles g.order) s) (switch_along g u v path (singles g.order) 0 s t st f d dt proper e)
+
+-- a proper Switch keeps derivations where its new shore is canonical, nontrivial and tight
+pub switch_derives_law : (g : Graph) (p : List (List ℕ)) (s : Shape) (u v z : List ℕ) (a b : Shape) → IsGraph g → IsPartition g.order p → IsCovered (contracted g p) → IsDerivationAt g p s → BlocksAt g.order p [] u v s → switch_result_at g.order u v s ≡ Some (cut z a b) → IsCutAt g p z → IsDerivationAt g p (cut z a b)
+switch_derives_law g p leaf u v z a b is list cov d blocks e cz = absurd (none_some e)
+switch_derives_law g p (cut x c m) u v z a b is list cov d blocks e cz = go (is_proper u x && is_proper v (complement_of g.order x)) refl e
+  where
+    go : (t : Bool) → (is_proper u x && is_proper v (complement_of g.order x)) ≡ t → (if t then Some (if mem v g.order then cut (union_list g.order (outer_rest g.order x v) u) (merged_if_in_v g.order x u m) (kept_if_in_v g.order x u v c) else cut (union_list g.order (inner_rest g.order x u) v) (kept_if_in_q g.order x u v c) (merged_if_in_q g.order x u v m)) else None) ≡ Some (cut z a b) → IsDerivationAt g p (cut z a b)
+    go false h e = absurd (none_some e)
+    go true h e = switch_derives g p (record { graph = is; list = list; covered = cov }) x u v blocks.0.0 blocks.0.1 blocks.1.0 blocks.2.0 blocks.1.1 blocks.2.1 c m (rising-derivation_at g p (cut x c m) d) d h z a b cz (some_same e)

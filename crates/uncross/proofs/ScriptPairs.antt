@@ -1,6 +1,5 @@
 -- The maps of a script pair the leaves: those of no move do, and a pairing followed by the pairing of a move is a pairing.
-use Rattle.std.proofs.Common.{◌≡◌, ℕ, ◌+◌, ◌-◌, ◌≤◌, ◌<◌, Bool, true, ◌==◌, List, [], ◌∷◌, length, map, Some, unwrap_or, refl, sym, ap, ap₂, ◌∙◌, arith, eq-eqb, ne_eqb, eqb-true, subst}
-use Rattle.std.specs.Prelude.{slice_index_or}
+use Rattle.std.proofs.Common.{◌≡◌, ℕ, ◌-◌, ◌<◌, Bool, true, ◌==◌, List, [], ◌∷◌, length, map, unwrap_or, sym, ap, ap₂, ◌∙◌, arith, eq-eqb, ne_eqb, eqb-true, subst}
 use Rattle.std.proofs.lemmas.List.{get_or-map, length-map}
 use Rattle.counting.proofs.Counts.{bit_true, count_congr, only_one}
 use Rattle.counting.proofs.Totals.{some_term, total_at}

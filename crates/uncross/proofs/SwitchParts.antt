@@ -1,29 +1,29 @@
 -- The leaves under a Switch, at its node: those of the two trees, in the order and by the names that the maps give.
-use Rattle.std.proofs.Common.{◌≡◌, ℕ, ◌+◌, Bool, true, false, cond, ◌||◌, ◌&&◌, not, List, [], ◌∷◌, ◌++◌, length, map, Option, Some, None, if◌then◌else◌, refl, sym, ap, ap₂, ◌∙◌, arith, subst}
-use Rattle.std.proofs.lemmas.Bool.{and_parts, both_ways}
-use Rattle.counting.proofs.RisingLists.{mem-rising_list, rising_list-rises}
+use Rattle.std.proofs.Common.{◌≡◌, ℕ, ◌+◌, Bool, true, false, cond, ◌||◌, ◌&&◌, not, List, [], ◌++◌, map, if◌then◌else◌, refl, sym, ap, ap₂, ◌∙◌, arith, subst}
+use Rattle.std.proofs.lemmas.Bool.{and_parts}
+use Rattle.counting.proofs.RisingLists.{mem-rising_list}
 use Rattle.counting.specs.Counts.{Within}
 use Rattle.counting.specs.Lists.{IsRisingIn, is_subset, last_of, mem}
 use Rattle.counting.specs.Sets.{Set, complement, minus, union}
 use Rattle.graph_core.proofs.BlockSets.{tight_congr, tight_rest}
 use Rattle.graph_core.proofs.Complements.{mem-complement_of}
 use Rattle.graph_core.specs.Graph.{Graph}
-use Rattle.graph_core.specs.Partitions.{IsMerge, complement_of, merged}
+use Rattle.graph_core.specs.Partitions.{IsMerge, complement_of}
 use Rattle.graph_core.specs.Shores.{IsTightAt, IsUnion}
 use Rattle.tree_core.proofs.Sizes.{length-leaves_at}
-use Rattle.tree_core.specs.Derivations.{IsDerivationAt, kept_at, merged_at}
+use Rattle.tree_core.specs.Derivations.{IsCutAt, IsDerivationAt, kept_at, merged_at}
 use Rattle.tree_core.specs.LeafMaps.{kept_image, kept_order_if_in_q, merged_image, numbers, switch_names, switch_order}
 use Rattle.tree_core.specs.Leaves.{leaves_at}
-use Rattle.tree_core.specs.Moves.{IsBlockOf, inner_rest, is_proper, kept_if_in_q, kept_if_in_v, merged_if_in_q, merged_if_in_v, outer_rest, switch_result_at, union_list}
+use Rattle.tree_core.specs.Moves.{IsBlockOf, inner_rest, is_proper, kept_if_in_q, kept_if_in_v, merged_if_in_q, merged_if_in_v, outer_rest, union_list}
 use Rattle.tree_core.specs.Shapes.{Shape, cut, leaf, leaf_count}
 use Rattle.uncross.proofs.Alignments.{numbers-split}
-use Rattle.uncross.proofs.BigShores.{Big, Stage, big_merge, big_rest, big_some, cut_big, stage_merged}
+use Rattle.uncross.proofs.BigShores.{Big, Stage, big_merge, big_rest, cut_big, stage_merged}
 use Rattle.uncross.proofs.CarriedLeaves.{carried_parts, carry_order}
 use Rattle.uncross.proofs.Parts.{Part, part-join, part-turn}
 use Rattle.uncross.proofs.Rising.{AreRising, bounds}
 use Rattle.uncross.proofs.Rotations.{subset_says}
 use Rattle.uncross.proofs.SwitchImages.{kept_names, merged_names, u_alike}
-use Rattle.uncross.proofs.Switches.{Each, each_of, in_inner_rest, in_outer_rest, inner_rest-mem, iso_a, iso_b, kept_in_q, kept_in_v, map_a, map_b, merge_congr, merged_in_q, merged_in_v, outer_rest-mem, subset_test}
+use Rattle.uncross.proofs.Switches.{Each, each_of, in_inner_rest, in_outer_rest, inner_rest-mem, iso_a, iso_b, kept_in_q, kept_in_v, map_a, map_b, merge_congr, merged_in_q, merged_in_v, outer_rest-mem, subset_test, switch_in_q, switch_in_v}
 use Rattle.uncross.specs.Exchange.{Corner}
 use Rattle.uncross.specs.Isomorphisms.{carry}
 
@@ -201,3 +201,19 @@ module _ (g : Graph) (p : List (List ℕ)) (stage : Stage g p) (x u v : List ℕ
       go : (m : Bool) → mem v g.order ≡ m → IsDerivationAt g p (made m) → Part g k (leaves_at g.order p (cut x a b)) (leaves_at g.order p (made m)) (order_of m k) (switch_names g.order u v p (cut x a b))
       go true nv dm = switch_part_v g p stage x u v s t bx d.0.canonical su sv (corner_of (tight_v dm.0.tight)) k a b f d nv (cut_big g p stage (union_list g.order (outer_rest g.order x v) u) dm.0.set dm.0)
       go false nv dm = switch_part_q g p stage x u v s t bx d.0.canonical su sv (corner_of (tight_q dm.0.tight)) k a b f d nv (cut_big g p stage (union_list g.order (inner_rest g.order x u) v) dm.0.set dm.0)
+
+  -- the result is a derivation where its new shore is canonical, nontrivial and tight
+  pub switch_derives : (z : List ℕ) (c e : Shape) → IsCutAt g p z → (if mem v g.order then cut (union_list g.order (outer_rest g.order x v) u) (merged_if_in_v g.order x u b) (kept_if_in_v g.order x u v a) else cut (union_list g.order (inner_rest g.order x u) v) (kept_if_in_q g.order x u v a) (merged_if_in_q g.order x u v b)) ≡ cut z c e → IsDerivationAt g p (cut z c e)
+  unfolding made
+  switch_derives z c e cz same = subst (IsDerivationAt g p) same (go (mem v g.order) refl (subst (IsCutAt g p) (sym (ap root same)) cz))
+    where
+      root : Shape → List ℕ
+      root leaf = []
+      root (cut s k m) = s
+
+      bx : Big g p x
+      bx = cut_big g p stage x f.0 d.0
+
+      go : (m : Bool) → mem v g.order ≡ m → IsCutAt g p (root (made m)) → IsDerivationAt g p (made m)
+      go true nv cm = switch_in_v g p stage x u v s t bx d.0.canonical su sv (corner_of (tight_v cm.tight)) a b f d nv (cut_big g p stage (union_list g.order (outer_rest g.order x v) u) cm.set cm)
+      go false nv cm = switch_in_q g p stage x u v s t bx d.0.canonical su sv (corner_of (tight_q cm.tight)) a b f d nv (cut_big g p stage (union_list g.order (inner_rest g.order x u) v) cm.set cm)
