@@ -15,7 +15,7 @@ all-one : {A : Type 0} (P : A → Type 0) (x : A) → P x → All P (x ∷ [])
 all-one P x is zero d less = is
 all-one P x is (suc k) d less = absurd (omega arith)
 
-partitions-leaves_at : (g : Graph) (p : List (List ℕ)) (t : Shape) → IsPartition g.order p → IsDerivationAt g p t → All (IsPartition g.order) (leaves_at g.order p t)
+pub partitions-leaves_at : (g : Graph) (p : List (List ℕ)) (t : Shape) → IsPartition g.order p → IsDerivationAt g p t → All (IsPartition g.order) (leaves_at g.order p t)
 partitions-leaves_at g p leaf is derives = all-one (IsPartition g.order) p is
 partitions-leaves_at g p (cut x k m) is derives =
     let cuts = derives.0 in

@@ -3,7 +3,7 @@
 use Rattle.std.specs.Prelude.{◌≡◌, ℕ, Bool, true, List, [], ◌∷◌, ◌&&◌, not, cond, Option, Some, None, option_map, option_and_then, if◌then◌else◌}
 use Rattle.counting.specs.Counts.{Within}
 use Rattle.counting.specs.Sets.{Set, union, meet, minus}
-use Rattle.counting.specs.Lists.{mem, rising_list, is_subset, is_apart}
+use Rattle.counting.specs.Lists.{mem, rising_list, is_subset, is_apart, IsRisingIn}
 use Rattle.graph_core.specs.Graph.{Graph}
 use Rattle.graph_core.specs.Partitions.{place, complement_of}
 use Rattle.graph_core.specs.Shores.{IsUnion}
@@ -149,9 +149,9 @@ pub record IsBlockOf (n : ℕ) (p : List (List ℕ)) (u : Set) (s : ℕ) : Type 
   pub holds : u s ≡ true
   pub one : (v : ℕ) → Within n v → u v ≡ true → place p v ≡ place p s
 
--- u and v are blocks at the node where the path leads
+-- u and v are blocks, as rising lists, at the node where the path leads
 abbrev pub BlocksAt : ℕ → List (List ℕ) → List Side → (u v : List ℕ) → Shape → Type 0
-BlocksAt n p [] u v t = ((s : ℕ) × IsBlockOf n p (mem u) s) × ((s : ℕ) × IsBlockOf n p (mem v) s)
+BlocksAt n p [] u v t = (IsRisingIn n u × IsRisingIn n v) × ((s : ℕ) × IsBlockOf n p (mem u) s) × ((s : ℕ) × IsBlockOf n p (mem v) s)
 BlocksAt n p (side ∷ path) u v leaf = Unit {0}
 BlocksAt n p (Kept ∷ path) u v (cut x a b) = BlocksAt n (kept_at n p x) path u v a
 BlocksAt n p (Merged ∷ path) u v (cut x a b) = BlocksAt n (merged_at n p x) path u v b

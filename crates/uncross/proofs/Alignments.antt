@@ -1,8 +1,8 @@
 -- Two lists side by side, and orders: lists of numbers that hold k + 1 to k + n once each and no other number.
-use Rattle.std.proofs.Common.{◌≡◌, ℕ, suc, zero, ◌+◌, ◌-◌, ◌≤◌, ◌<◌, Bool, true, false, cond, ◌==◌, ◌||◌, List, [], ◌∷◌, ◌++◌, length, ◌⊎◌, inl, inr, refl, sym, ap, ap₂, ◌∙◌, arith, eq-eqb, ne_eqb, eqb-true, subst}
+use Rattle.std.proofs.Common.{◌≡◌, ℕ, suc, zero, ◌+◌, ◌≤◌, ◌<◌, true, cond, ◌==◌, List, [], ◌∷◌, ◌++◌, length, ◌⊎◌, inl, inr, refl, sym, ap, ap₂, ◌∙◌, arith, eq-eqb, ne_eqb}
 use Rattle.std.specs.Prelude.{slice_index, slice_index_or}
-use Rattle.std.proofs.lemmas.Bool.{both_ways, or_left, or_right, cases_eq, cases_lt}
-use Rattle.counting.specs.Counts.{bit, Within}
+use Rattle.std.proofs.lemmas.Bool.{or_left, or_right, cases_eq, cases_lt}
+use Rattle.counting.specs.Counts.{bit}
 use Rattle.counting.specs.Lists.{mem}
 use Rattle.tree_core.specs.LeafMaps.{numbers, position}
 

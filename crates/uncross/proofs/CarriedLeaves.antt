@@ -1,8 +1,8 @@
 -- The leaves of a carried tree: they are those of the tree, as same leaves by the names of the images of blocks, and two parts change
 -- their places where the complement of an image is taken.
-use Rattle.std.proofs.Common.{Bool, List, ap, arith, cond, false, length, map, not, refl, subst, subst₂, sym, true, ℕ, ◌&&◌, ◌+◌, ◌-◌, ◌||◌, ◌∙◌, ◌≡◌}
+use Rattle.std.proofs.Common.{Bool, List, ap, arith, cond, false, length, map, not, refl, subst, sym, true, ℕ, ◌+◌, ◌-◌, ◌∙◌, ◌≡◌}
 use Rattle.std.proofs.lemmas.List.{get_or-map, length-map, map-append}
-use Rattle.std.specs.Prelude.{[], ◌++◌, ◌∷◌}
+use Rattle.std.specs.Prelude.{[], ◌++◌}
 use Rattle.counting.proofs.RisingLists.{mem-rising_list, rising_list-rises}
 use Rattle.counting.specs.Counts.{Within}
 use Rattle.counting.specs.Lists.{IsRisingIn, last_of, mem, rising_list}

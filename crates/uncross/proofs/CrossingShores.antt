@@ -145,7 +145,7 @@ module _ (g : Graph) (p : List (List ℕ)) (x z y : List ℕ) (c : Corners g p x
           ap (λ k. if k then Some (if mem o g.order then cut (union_list g.order (outer_rest g.order x o) i) a' b' else cut (union_list g.order (inner_rest g.order x i) o) (kept_if_in_q g.order x i o a) (merged_if_in_q g.order x i o b)) else None) both_proper
           ∙ ap (λ k. Some (if k then cut (union_list g.order (outer_rest g.order x o) i) a' b' else cut (union_list g.order (inner_rest g.order x i) o) (kept_if_in_q g.order x i o a) (merged_if_in_q g.order x i o b))) nv
           ∙ ap (λ k. Some (cut k a' b')) ye in
-          (switch_at [] i o ∷ [], a', b', (cut y a' b', e, ((s, bi), (t, bo)), subst (λ k. IsDerivationAt g p (cut k a' b')) ye der, (sy, fb.0, fa.0), omega (arith, fa.1, fb.1), refl), omega arith)
+          (switch_at [] i o ∷ [], a', b', (cut y a' b', e, ((si, so), (s, bi), (t, bo)), subst (λ k. IsDerivationAt g p (cut k a' b')) ye der, (sy, fb.0, fa.0), omega (arith, fa.1, fb.1), refl), omega arith)
       | inr h ↦
           let nv : mem o g.order ≡ false = outer_mem g p x z c g.order last ∙ within (mem x g.order) (mem z g.order) (h g.order last ∙ ap not ny) in
           let ye : union_list g.order (inner_rest g.order x i) o ≡ y = same_rising_list g.order (union_list g.order (inner_rest g.order x i) o) y (rising_list-rises g.order (union (mem (inner_rest g.order x i)) (mem o))) sy
@@ -160,7 +160,7 @@ module _ (g : Graph) (p : List (List ℕ)) (x z y : List ℕ) (c : Corners g p x
           ap (λ k. if k then Some (if mem o g.order then cut (union_list g.order (outer_rest g.order x o) i) (merged_if_in_v g.order x i b) (kept_if_in_v g.order x i o a) else cut (union_list g.order (inner_rest g.order x i) o) a' b') else None) both_proper
           ∙ ap (λ k. Some (if k then cut (union_list g.order (outer_rest g.order x o) i) (merged_if_in_v g.order x i b) (kept_if_in_v g.order x i o a) else cut (union_list g.order (inner_rest g.order x i) o) a' b')) nv
           ∙ ap (λ k. Some (cut k a' b')) ye in
-          (switch_at [] i o ∷ [], a', b', (cut y a' b', e, ((s, bi), (t, bo)), subst (λ k. IsDerivationAt g p (cut k a' b')) ye der, (sy, fa.0, fb.0), omega (arith, fa.1, fb.1), refl), omega arith)
+          (switch_at [] i o ∷ [], a', b', (cut y a' b', e, ((si, so), (s, bi), (t, bo)), subst (λ k. IsDerivationAt g p (cut k a' b')) ye der, (sy, fa.0, fb.0), omega (arith, fa.1, fb.1), refl), omega arith)
     ]
       where
         outside : (a b : Bool) → a ≡ false → b ≡ false → not (a || b) ≡ true

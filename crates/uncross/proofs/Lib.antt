@@ -19,3 +19,7 @@ pub mod Alignments
 pub mod Parts
 pub mod CarriedLeaves
 pub mod SwitchImages
+pub mod SwitchParts
+pub mod MoveParts
+pub mod ScriptPairs
+pub mod ExchangedNames

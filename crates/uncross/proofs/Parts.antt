@@ -1,17 +1,17 @@
 -- A part of the leaves of a tree and what a move makes of it: the new leaves with the old numbers in their order, and for each old
 -- leaf the names that make it the same leaf as its partner. Parts are joined as trees are, and a whole one gives a pairing.
-use Rattle.std.proofs.Common.{◌≡◌, ℕ, suc, zero, ◌+◌, ◌-◌, ◌≤◌, ◌<◌, inl, ◌==◌, List, [], ◌∷◌, ◌++◌, length, map, refl, sym, ap, ap₂, ◌∙◌, arith, eq-eqb, ne_eqb, subst, subst₂, All}
+use Rattle.std.proofs.Common.{◌≡◌, ℕ, suc, zero, ◌+◌, ◌-◌, ◌≤◌, ◌<◌, inl, ◌==◌, List, [], ◌∷◌, ◌++◌, length, map, refl, sym, ap, ◌∙◌, arith, eq-eqb, ne_eqb, subst, subst₂, All}
 use Rattle.std.specs.Prelude.{slice_index, slice_index_or}
 use Rattle.std.proofs.lemmas.List.{get_or_append_left, get_or-append-add, get_or-map, length-append, length-map}
 use Rattle.counting.proofs.Totals.{total_at}
 use Rattle.counting.specs.Counts.{bit, Within}
-use Rattle.counting.specs.Lists.{last_of, mem}
+use Rattle.counting.specs.Lists.{last_of}
 use Rattle.graph_core.proofs.BlockSets.{rep_place}
 use Rattle.graph_core.specs.Graph.{Graph, IsGraph}
 use Rattle.graph_core.specs.Partitions.{AreBlocks, IsPartition, block, names_of}
-use Rattle.tree_core.specs.LeafMaps.{PlainLeafMap, leaf_at, map_at, maps_from, name, numbers, position}
-use Rattle.uncross.proofs.Alignments.{Aligned, IsOrder, aligned-at, aligned-join, aligned-length, aligned-map, numbers-split, order-few, order-join, order-one, order-turn, position-once, times, times-mem}
-use Rattle.uncross.proofs.Images.{moved, move_is}
+use Rattle.tree_core.specs.LeafMaps.{PlainLeafMap, leaf_at, map_at, maps_from, numbers, position}
+use Rattle.uncross.proofs.Alignments.{Aligned, IsOrder, aligned-at, aligned-join, aligned-length, aligned-map, numbers-split, order-few, order-join, order-one, order-turn, position-once, times-mem}
+use Rattle.uncross.proofs.Images.{move_is}
 use Rattle.uncross.proofs.Positions.{position-item}
 use Rattle.uncross.proofs.SameLeaves.{iso_same_leaf}
 use Rattle.uncross.specs.Isomorphisms.{Isomorphism}
@@ -38,10 +38,13 @@ fit-right g k ps rs ns ms e i q f =
     let l = f.0 in let u = f.1 in let a = length-append ps rs in
     let j = i - (k + length ps) - 1 in
     let first : i - k - 1 ≡ length ps + j = omega arith in
-    let second : i - k - 1 ≡ length ns + j = omega arith in
-    (omega arith, omega arith, subst₂ (λ (p : List (List ℕ)) (names : List ℕ). IsSameLeaf g p q names)
-    (sym (ap (λ z. slice_index_or (ps ++ rs) z []) first ∙ get_or-append-add ps rs j []))
-    (sym (ap (λ z. slice_index_or (ns ++ ms) z []) second ∙ get_or-append-add ns ms j [])) f.2)
+    let second : i - k - 1 ≡ length ns + j = omega arith in (
+      omega arith,
+      omega arith,
+      subst₂ (λ (p : List (List ℕ)) (names : List ℕ). IsSameLeaf g p q names)
+          (sym (ap (λ z. slice_index_or (ps ++ rs) z []) first ∙ get_or-append-add ps rs j []))
+          (sym (ap (λ z. slice_index_or (ns ++ ms) z []) second ∙ get_or-append-add ns ms j [])) f.2,
+    )
 
 both-each : {A B : Type 0} (ps rs : List A) (ns ms : List B) → length ns ≡ length ps → length ms ≡ length rs → length (ns ++ ms) ≡ length (ps ++ rs)
 both-each ps rs ns ms a b = let c = length-append ps rs in let d = length-append ns ms in omega arith

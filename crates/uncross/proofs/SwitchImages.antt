@@ -1,18 +1,17 @@
 -- The images of blocks under a Switch: the lists that the table of the maps gives are the blocks that the exchange of blocks takes
 -- them to, so their last numbers are the names of the images.
-use Rattle.std.proofs.Common.{◌≡◌, ℕ, ◌+◌, Bool, true, false, cond, ◌||◌, ◌&&◌, not, List, [], ◌∷◌, length, refl, sym, ap, ap₂, ◌∙◌, arith, subst}
-use Rattle.std.proofs.lemmas.Bool.{both_ways}
+use Rattle.std.proofs.Common.{◌≡◌, ℕ, Bool, true, false, cond, ◌||◌, ◌&&◌, not, List, length, refl, sym, ap, ap₂, ◌∙◌, arith}
 use Rattle.counting.proofs.RisingLists.{mem-rising_list, rising_list-rises, same_answers, same_rising_list}
 use Rattle.counting.specs.Counts.{Within}
 use Rattle.counting.specs.Lists.{IsRisingIn, is_subset, last_of, mem}
-use Rattle.counting.specs.Sets.{Set, complement, meet, minus, union}
+use Rattle.counting.specs.Sets.{complement, meet, minus, union}
 use Rattle.graph_core.proofs.BlockSets.{rep, rep_in, rep_place}
 use Rattle.graph_core.proofs.Blocks.{place_in, place_is}
 use Rattle.graph_core.proofs.Complements.{mem-complement_of}
 use Rattle.graph_core.proofs.MergedShores.{alike_in, alike_up}
 use Rattle.graph_core.proofs.Merging.{block_has}
 use Rattle.graph_core.specs.Graph.{Graph, IsGraph}
-use Rattle.graph_core.specs.Partitions.{AreBlocks, IsPartition, block, complement_of, place}
+use Rattle.graph_core.specs.Partitions.{AreBlocks, block, complement_of, place}
 use Rattle.graph_core.specs.Shores.{IsUnion}
 use Rattle.tree_core.specs.Derivations.{kept_at, merged_at}
 use Rattle.tree_core.specs.LeafMaps.{kept_image, merged_image}
@@ -20,7 +19,7 @@ use Rattle.tree_core.specs.Moves.{inner_rest, list_if, meet_list, outer_rest, un
 use Rattle.uncross.proofs.BigShores.{Big, Stage, big_merge, big_rest}
 use Rattle.uncross.proofs.CarriedLeaves.{NamesImages}
 use Rattle.uncross.proofs.Rising.{bounds}
-use Rattle.uncross.proofs.SameBlocks.{Finer, block_rises}
+use Rattle.uncross.proofs.SameBlocks.{block_rises}
 use Rattle.uncross.proofs.Switches.{in_inner_rest, in_outer_rest, inner_rest-mem, map_a, map_b, outer_rest-mem, subset_test}
 use Rattle.uncross.specs.Exchange.{Corner}
 use Rattle.uncross.specs.Isomorphisms.{Isomorphism}
@@ -84,7 +83,7 @@ module _ (g : Graph) (p : List (List ℕ)) (stage : Stage g p) (x u v : List ℕ
       alike_in g.order p (kept_at g.order p x) (mem (complement_of g.order x)) stage.list.partition r.tight.union (big_merge g p stage (complement_of g.order x) r) w z ww wz
       (mem-complement_of g.order x w ww ∙ ap not hw) (mem-complement_of g.order x z wz ∙ ap not hz)
 
-  u_alike : (w : ℕ) → Within g.order w → mem u w ≡ true → place (kept_at g.order p x) w ≡ place (kept_at g.order p x) s
+  pub u_alike : (w : ℕ) → Within g.order w → mem u w ≡ true → place (kept_at g.order p x) w ≡ place (kept_at g.order p x) s
   u_alike w ww m =
       let r = big_rest g p stage x bx in
       alike_up g.order p (kept_at g.order p x) (mem (complement_of g.order x)) stage.list.partition r.tight.union (big_merge g p stage (complement_of g.order x) r) w s ww corner.left.within (corner.left.one w ww m)

@@ -21,6 +21,16 @@ use Rattle.uncross.proofs.CrossingShores.{crossed}
 use Rattle.uncross.proofs.Images.{image_nontrivial, image_tight}
 use Rattle.uncross.proofs.NestedShores.{Compared, Exposes, expose}
 use Rattle.uncross.proofs.Rising.{AreRising}
+use Rattle.std.proofs.Common.{Some as Just, None, arith}
+use Rattle.tree_core.specs.LeafMaps.{PlainLeafMap, move_maps, script_maps}
+use Rattle.tree_core.specs.Leaves.{leaves}
+use Rattle.tree_core.specs.Moves.{IsProper, last_step, move_result, parent_path, rotate_result, rotate_result_at}
+use Rattle.tree_core.specs.declared.path.Side.{Side}
+use Rattle.uncross.proofs.MoveParts.{move_pairs}
+use Rattle.uncross.proofs.Rising.{rising-derivation_at}
+use Rattle.uncross.proofs.Rotations.{path_keeps, rotate_keeps}
+use Rattle.uncross.proofs.ScriptPairs.{script_pairs}
+use Rattle.uncross.specs.Pairings.{IsPairing}
 use Rattle.uncross.proofs.SameLeaves.{same_leaf_iso}
 use Rattle.uncross.proofs.Scripts.{Walk}
 use Rattle.uncross.proofs.SingleVertices.{singles_stage}
@@ -69,3 +79,27 @@ same_leaf_merged g is p q pp qp cov names same x y sx sy tx nx ny e =
     let iso = same_leaf_iso g is p q pp qp names same in
     let ty = tight_congr g is q qp (pre (from_name p q names) (mem x)) (mem y) (λ v w. sym (e v w)) (image_tight g is p q (to_name p names) (from_name p q names) pp qp iso cov (mem x) tx) in
     iso_merged g is p q (to_name p names) (from_name p q names) pp qp iso x y tx ty sx sy nx ny e
+
+-- the laws without what follows from being a derivation
+pub rotate_derives_law : (g : Graph) (path : List Side) (s t : Shape) → IsGraph g → IsDerivation g s → rotate_result path s ≡ Just t → IsDerivation g t
+rotate_derives_law g [] s t is ds e = absurd (none_some e)
+  where
+    none_some : None ≡ Just t → ⊥
+    none_some h = grind arith
+rotate_derives_law g (side ∷ path) s t is ds e =
+    record { covered = ds.covered; derives = (path_keeps g (rotate_result_at (last_step side path)) (rotate_keeps g (last_step side path)) (parent_path side path) (singles g.order) s t (singles_stage g is ds.covered) (rising-derivation_at g (singles g.order) s ds.derives) ds.derives e).0 }
+
+pub moves_pair_law : (g : Graph) (s t : Shape) (m : PlainMove) → IsGraph g → IsDerivation g s → IsProper g.order (singles g.order) s m → move_result g.order s m ≡ Just t → IsDerivation g t → IsPairing g (leaves g.order s) (leaves g.order t) (move_maps g.order s m)
+moves_pair_law g s t m is ds proper e dt = move_pairs g s t m (singles_stage g is ds.covered) (rising-derivation_at g (singles g.order) s ds.derives) ds.derives proper e dt.derives
+
+pub exposing_law : (g : Graph) (s : Shape) (y : List ℕ) → IsGraph g → IsDerivation g s → IsCutAt g (singles g.order) y → (ms : List PlainMove) × (a : Shape) × (b : Shape) × TurnsThrough g s ms (cut y a b) × (length ms + 2 ≤ 3 * cut_count s)
+exposing_law g s y is ds c = expose_through g s y is (rising-derivation_at g (singles g.order) s ds.derives) ds c.set c
+
+pub uniqueness_law : (g : Graph) (s t : Shape) → IsGraph g → IsDerivation g s → IsDerivation g t → (ms : List PlainMove) × TurnsThrough g s ms t × (length ms ≤ 5 * (cut_count s * cut_count s))
+uniqueness_law g s t is ds dt = compare_through g s t is (rising-derivation_at g (singles g.order) s ds.derives) ds (rising-derivation_at g (singles g.order) t dt.derives) dt
+
+pub pairing_law : (g : Graph) (s t : Shape) → IsGraph g → IsDerivation g s → IsDerivation g t → (maps : List PlainLeafMap) × IsPairing g (leaves g.order s) (leaves g.order t) maps
+pairing_law g s t is ds dt =
+    let st = singles_stage g is ds.covered in let fs = rising-derivation_at g (singles g.order) s ds.derives in
+    let r = compare_law g (singles g.order) s t st fs ds.derives (rising-derivation_at g (singles g.order) t dt.derives) dt.derives in
+    (script_maps g.order s r.0, script_pairs g s t r.0 st fs ds.derives r.1)

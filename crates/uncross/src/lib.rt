@@ -1,7 +1,4 @@
-//! Comparing derivations.
+//! The comparison of two derivations of a graph.
 #![tactic(auto)]
 
-/// One function, so that there is a library.
-pub fn one() -> u32 {
-    1
-}
+pub mod laws;
