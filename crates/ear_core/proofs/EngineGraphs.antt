@@ -1,57 +1,21 @@
 -- The edges of a stage in a graph of their own. The degree by rank is the degree in g, so a perfect matching of the listed edges is one of
 -- the graph of the stage; and an edge lies in one where its two ends may be left out.
-use Rattle.std.proofs.Common.{◌≡◌, ℕ, suc, zero, ◌+◌, ◌*◌, ◌-◌, ◌≤◌, ◌<◌, ◌≢◌, Bool, true, false, cond, ◌==◌, refl, sym, ap, ◌∙◌, arith, ◌&&◌, not, eq-eqb, ne_eqb, eqb-true, inl, inr, [], ◌∷◌, ◌++◌, List, length, slice_index_or, ◌↔◌}
+use Rattle.std.proofs.Common.{◌≡◌, ℕ, suc, zero, ◌+◌, ◌*◌, ◌≤◌, ◌<◌, ◌≢◌, Bool, true, false, cond, ◌==◌, refl, sym, ap, ◌∙◌, arith, ◌&&◌, not, eq-eqb, ne_eqb, eqb-true, inl, inr, [], ◌∷◌, ◌++◌, length, ◌↔◌}
 use Rattle.std.proofs.lemmas.Bool.{cases_eq, or_right, cases_Bool, cases_order, and_parts, true_from_ne_false, and_from, both_ways, false_from_ne_true, not-true, or_left, or_cases, or_parts, or_from}
-use Rattle.std.proofs.lemmas.List.{length-append, get_or_append_left, get_or-append-add}
-use Rattle.counting.proofs.Counts.{count_congr}
 use Rattle.counting.proofs.RisingLists.{same_answers}
 use Rattle.counting.proofs.Tests.{some_true, true_some}
 use Rattle.counting.specs.Counts.{bit, count, Within}
 use Rattle.counting.specs.Sets.{Set, union, put, pair_set, complement}
 use Rattle.counting.specs.Tests.{some}
 use Rattle.ear_core.proofs.Growth.{some-met, unmet, degree_le}
-use Rattle.ear_core.specs.StageGraphs.{over, listed}
+use Rattle.ear_core.specs.StageGraphs.{listed}
+use Rattle.two_ears.specs.AddedEdges.{over}
+use Rattle.two_ears.proofs.AddedEdges.{size-added, degree-added}
 use Rattle.ear_core.specs.Stages.{is_met, IsPerfectOff, IsPerfectOf}
 use Rattle.graph_core.proofs.Decide.{degree_congr}
 use Rattle.graph_core.proofs.Edits.{ends_of, ends_le_degree, degree_put}
 use Rattle.graph_core.specs.Graph.{Graph, size, first_end, second_end, degree, IsGraph}
 use Rattle.graph_core.specs.Matchings.{IsPerfect, HasPerfect}
-
-module _ (g : Graph) (es : List (ℕ × ℕ)) (p : ℕ × ℕ) where
-  pub size_added : length (es ++ (p ∷ [])) ≡ suc (length es)
-  size_added = let l : length (es ++ (p ∷ [])) ≡ length es + length (p ∷ []) = length-append es (p ∷ []) in omega arith
-
-  read_old : (e : ℕ) → Within (length es) e → slice_index_or (es ++ (p ∷ [])) (e - 1) (0, 0) ≡ slice_index_or es (e - 1) (0, 0)
-  read_old e w = get_or_append_left es (p ∷ []) (0, 0) (e - 1) (omega arith)
-
-  read_new : slice_index_or (es ++ (p ∷ [])) (suc (length es) - 1) (0, 0) ≡ p
-  read_new = let i : suc (length es) - 1 ≡ length es + 0 = omega arith in ap (λ k. slice_index_or (es ++ (p ∷ [])) k (0, 0)) i ∙ get_or-append-add es (p ∷ []) 0 (0, 0)
-
-  pub near_old : (e : ℕ) → Within (length es) e → first_end (over g (es ++ (p ∷ []))) e ≡ first_end (over g es) e
-  near_old e w = ap (λ q. q.0) (read_old e w)
-
-  pub far_old : (e : ℕ) → Within (length es) e → second_end (over g (es ++ (p ∷ []))) e ≡ second_end (over g es) e
-  far_old e w = ap (λ q. q.1) (read_old e w)
-
-  pub near_new : first_end (over g (es ++ (p ∷ []))) (suc (length es)) ≡ p.0
-  near_new = ap (λ q. q.0) read_new
-
-  pub far_new : second_end (over g (es ++ (p ∷ []))) (suc (length es)) ≡ p.1
-  far_new = ap (λ q. q.1) read_new
-
-  pub degree_added : (m : Set) (v : ℕ) → degree (over g (es ++ (p ∷ []))) m v ≡ degree (over g es) m v + bit (m (suc (length es))) * (bit (p.0 == v) + bit (p.1 == v))
-  degree_added m v =
-      ap (λ k. count k (λ e. m e && (first_end (over g (es ++ (p ∷ []))) e == v)) + count k (λ e. m e && (second_end (over g (es ++ (p ∷ []))) e == v))) size_added
-      ∙ sum (count (length es) (λ e. m e && (first_end (over g (es ++ (p ∷ []))) e == v))) (count (length es) (λ e. m e && (first_end (over g es) e == v)))
-      (count (length es) (λ e. m e && (second_end (over g (es ++ (p ∷ []))) e == v))) (count (length es) (λ e. m e && (second_end (over g es) e == v)))
-      (m (suc (length es))) (first_end (over g (es ++ (p ∷ []))) (suc (length es)) == v) (second_end (over g (es ++ (p ∷ []))) (suc (length es)) == v) (p.0 == v) (p.1 == v)
-      (count_congr (length es) _ _ (λ e w. ap (λ k. m e && (k == v)) (near_old e w)))
-      (count_congr (length es) _ _ (λ e w. ap (λ k. m e && (k == v)) (far_old e w)))
-      (ap (λ k. k == v) near_new) (ap (λ k. k == v) far_new)
-    where
-      sum : (a a' b b' : ℕ) (x y z y' z' : Bool) → a ≡ a' → b ≡ b' → y ≡ y' → z ≡ z' → (a + bit (x && y)) + (b + bit (x && z)) ≡ (a' + b') + bit x * (bit y' + bit z')
-      sum a a' b b' true y z y' z' e f h k = let i = ap bit h in let j = ap bit k in omega arith
-      sum a a' b b' false y z y' z' e f h k = omega arith
 
 -- ranks
 pub rank_le : (t : Set) (u n : ℕ) → u ≤ n → count u t ≤ count n t
@@ -88,7 +52,7 @@ listed_size g f zero = refl
 listed_size g f (suc k) = go (f (suc k)) (listed_size g f k)
   where
     go : (b : Bool) → length (listed g f k) ≡ count k f → length (cond b (listed g f k ++ ((first_end g (suc k), second_end g (suc k)) ∷ [])) (listed g f k)) ≡ count k f + bit b
-    go true e = let s = size_added g (listed g f k) (first_end g (suc k), second_end g (suc k)) in omega arith
+    go true e = let s = size-added g (listed g f k) (first_end g (suc k), second_end g (suc k)) in omega arith
     go false e = omega arith
 
 -- the edges of f that m has by rank
@@ -108,7 +72,7 @@ listed_degree g f m v (suc k) = go (f (suc k)) refl (listed_degree g f m v k)
         degree (over g (cond b (listed g f k ++ ((first_end g (suc k), second_end g (suc k)) ∷ [])) (listed g f k))) m v
         ≡ (count k (λ e. by_rank f m e && (first_end g e == v)) + bit ((b && m (count k f + bit b)) && (first_end g (suc k) == v))) + (count k (λ e. by_rank f m e && (second_end g e == v)) + bit ((b && m (count k f + bit b)) && (second_end g (suc k) == v)))
     go true q e =
-        let d = degree_added g (listed g f k) (first_end g (suc k), second_end g (suc k)) m v in
+        let d = degree-added g (listed g f k) (first_end g (suc k), second_end g (suc k)) m v in
         let s : suc (length (listed g f k)) ≡ count k f + bit true = (let l = listed_size g f k in omega arith) in
         let t = ap (λ i. bit (m i) * (bit (first_end g (suc k) == v) + bit (second_end g (suc k) == v))) s in
         let x = bits (m (count k f + bit true)) (first_end g (suc k) == v) in

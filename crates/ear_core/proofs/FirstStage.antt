@@ -31,7 +31,7 @@ module _ (g : Graph) (is : IsMultigraph g) (e1 : ℕ) (w1 : Within (size g) e1) 
       le_one true = omega arith
       le_one false = omega arith
 
-  one-ends : (v : ℕ) → is_met g (singleton e1) v ≡ true → (first_end g e1 ≡ v) ⊎ (second_end g e1 ≡ v)
+  pub one-ends : (v : ℕ) → is_met g (singleton e1) v ≡ true → (first_end g e1 ≡ v) ⊎ (second_end g e1 ≡ v)
   one-ends v t = let a = met-some g (singleton e1) v t in let b = one-degree v in elim (cases_eq (first_end g e1) v) [
     | inl i ↦ inl i
     | inr i ↦ elim (cases_eq (second_end g e1) v) [

@@ -1,12 +1,12 @@
 -- A stage with an ear. The odd edges of an ear meet each of its vertices once, and the even ones each but its two ends; so a perfect
 -- matching of the stage with the even edges is one of the new stage, and only the odd edges are left to ask.
 use Rattle.std.proofs.Common.{◌≡◌, ℕ, suc, zero, ◌+◌, ◌*◌, ◌≤◌, Bool, true, false, cond, ◌==◌, refl, sym, ap, ap₂, ◌∙◌, arith, ◌&&◌, ◌||◌, not, eq-eqb, ne_eqb, eqb-true, ◌⊎◌, inl, inr, subst, [], ◌∷◌, ◌++◌, List, length}
-use Rattle.std.proofs.lemmas.Bool.{cases_eq, cases_Bool, and_parts, and_from, both_ways, true≢false, false_from_ne_true, not-false, or_left, or_right, or_parts, or_cases}
+use Rattle.std.proofs.lemmas.Bool.{cases_eq, cases_Bool, and_parts, and_from, both_ways, true≢false, false_from_ne_true, not-false, or_left, or_right, or_parts, or_cases, or_from}
 use Rattle.counting.proofs.Tests.{true_some, some_true}
 use Rattle.counting.proofs.Totals.{total_congr, total_add, total_le, total_none}
 use Rattle.counting.specs.Counts.{bit, Within, is_odd}
 use Rattle.counting.specs.Lists.{mem}
-use Rattle.counting.specs.Sets.{Set, none, put}
+use Rattle.counting.specs.Sets.{Set, none, put, pair_set, union}
 use Rattle.ear_core.specs.Ears.{other_end, Follow, trail, last_vertex, times, IsEar}
 use Rattle.ear_core.specs.NearlyStages.{odds, evens, IsNearlyStage}
 use Rattle.ear_core.specs.Stages.{is_met, adjacent_by, IsPerfectOf, IsPerfectOff, with_edges}
@@ -289,6 +289,56 @@ module _ (g : Graph) (f : Set) (v : ℕ) (es : List ℕ) (ear : IsEar g f v es) 
 
       away : (w : ℕ) → Within g.order w → r w ≡ true → degree g (with_edges q (evens es)) w ≡ 0
       away w ww o = let s = sum w in let a = p.away w ww o in let b = none_even w (r_in w ww o) in omega arith
+
+  -- a perfect matching of f, but for the ends of the ear and r, with the odd edges
+  pub odd_on : (r q : Set) → ((w : ℕ) → Within g.order w → r w ≡ true → is_met g f w ≡ true) → r v ≡ false → r (last_vertex g v es) ≡ false → IsPerfectOff g f (union (pair_set v (last_vertex g v es)) r) q → IsPerfectOff g (with_edges f es) r (with_edges q (odds es))
+  odd_on r q r_in r0 r1 p = record { part = part; once = once; away = away }
+    where
+      part : (e : ℕ) → Within (size g) e → with_edges q (odds es) e ≡ true → with_edges f es e ≡ true
+      part e w t = elim (or_cases (q e) (mem (odds es) e) t) [
+        | inl x ↦ or_left (f e) (mem es e) (p.part e w x)
+        | inr x ↦ or_right (f e) (mem es e) (mem_odds es e x)
+      ]
+
+      sum : (w : ℕ) → degree g (with_edges q (odds es)) w ≡ degree g q w + degree g (mem (odds es)) w
+      sum w = degree_or g q (mem (odds es)) w (λ e we t. false_from_ne_true (mem (odds es) e) (λ m. both_ways (mem es e) (not_new q p.part e we t) (mem_odds es e m)))
+
+      end_of : (w : ℕ) → Within g.order w → pair_set v (last_vertex g v es) w ≡ true → (degree g q w ≡ 0) × (times (trail g v es) w ≡ 1)
+      end_of w ww t = (
+        p.away w ww (or_left (pair_set v (last_vertex g v es) w) (r w) t),
+        let a = evens_at w in let b = one_trail w in let c = or_one (v == w) (last_vertex g v es == w) t in omega arith,
+      )
+        where
+          or_one : (a b : Bool) → (a || b) ≡ true → 1 ≤ bit a + bit b
+          or_one true b h = omega arith
+          or_one false true h = omega arith
+          or_one false false h = absurd (true≢false (sym h))
+
+      off : (w : ℕ) → is_met g f w ≡ true → pair_set v (last_vertex g v es) w ≡ false → times (trail g v es) w ≡ 0
+      off w t o = elim (on_f w t) [
+        | inl z ↦ z
+        | inr z ↦ elim z [
+          | inl e ↦ absurd (both_ways (pair_set v (last_vertex g v es) w) o (or_left (v == w) (last_vertex g v es == w) (eq-eqb v w e)))
+          | inr e ↦ absurd (both_ways (pair_set v (last_vertex g v es) w) o (or_right (v == w) (last_vertex g v es == w) (eq-eqb (last_vertex g v es) w e)))
+        ]
+      ]
+
+      once : (w : ℕ) → Within g.order w → is_met g (with_edges f es) w ≡ true → r w ≡ false → degree g (with_edges q (odds es)) w ≡ 1
+      once w ww t o = let s = sum w in let d = odds_at w in elim (cases_Bool (is_met g f w)) [
+        | inl x ↦ elim (cases_Bool (pair_set v (last_vertex g v es) w)) [
+          | inl y ↦ let a = end_of w ww y in let a0 = a.0 in let a1 = a.1 in omega arith
+          | inr y ↦ let a = p.once w ww x (or_from (pair_set v (last_vertex g v es) w) (r w) y o) in let b = off w x y in omega arith
+        ]
+        | inr x ↦ let a = no_old q p.part w x in let b = off_f w x t in let b0 = b.0 in omega arith
+      ]
+
+      away : (w : ℕ) → Within g.order w → r w ≡ true → degree g (with_edges q (odds es)) w ≡ 0
+      away w ww o =
+          let s = sum w in
+          let d = odds_at w in
+          let a = p.away w ww (or_right (pair_set v (last_vertex g v es) w) (r w) o) in
+          let n = or_from (v == w) (last_vertex g v es == w) (ne_eqb v w (λ e. both_ways (r w) (subst (λ k. r k ≡ false) e r0) o)) (ne_eqb (last_vertex g v es) w (λ e. both_ways (r w) (subst (λ k. r k ≡ false) e r1) o)) in
+          let b = off w (r_in w ww o) n in omega arith
 
 pub but_none : (g : Graph) (f m : Set) → IsPerfectOf g f m → IsGraph g → IsPerfectOff g f none m
 but_none g f m p is = record { part = p.part; once = λ w ww t o. p.once w ww t; away = λ w ww o. absurd (true≢false (sym o)) }

@@ -10,3 +10,13 @@ pub mod Marking
 pub mod Taking
 pub mod FirstStage
 pub mod Judging
+pub mod RankedStages
+pub mod ServingEars
+pub mod Mates
+pub mod MatedPaths
+pub mod Rounds
+pub mod ServingPairs
+pub mod Searching
+pub mod BipartiteStages
+pub mod Stepping
+pub mod Following

@@ -7,7 +7,8 @@ use Rattle.counting.specs.Sets.{Set, union, complement, pair_set, none}
 use Rattle.graph_core.specs.Graph.{Graph, size, IsGraph, first_end, second_end, with_edge}
 use Rattle.graph_core.specs.Matchings.{HasPerfect}
 use Rattle.ear_core.specs.Stages.{is_met, AllowedBy, with_edges}
-use Rattle.ear_core.specs.StageGraphs.{over, listed, Settled, asked_too}
+use Rattle.ear_core.specs.StageGraphs.{listed, Settled, asked_too}
+use Rattle.two_ears.specs.AddedEdges.{over}
 use Rattle.ear_core.proofs.EngineGraphs.{served_listed, edge_serves}
 
 -- one marked edge more, or none

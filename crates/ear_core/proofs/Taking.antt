@@ -16,7 +16,7 @@ use Rattle.ear_core.specs.declared.ears.Ear.{Ear}
 use Rattle.ear_core.proofs.Growth.{mem_odds}
 use Rattle.ear_core.proofs.Refusing.{step-none, step_odds, step-nearly, fine-stage}
 
-mem_at : (es : List ℕ) (k d : ℕ) → k < length es → mem es (get_or es k d) ≡ true
+pub mem_at : (es : List ℕ) (k d : ℕ) → k < length es → mem es (get_or es k d) ≡ true
 mem_at [] k d less = absurd (omega arith)
 mem_at (e ∷ es) zero d less = or_left (e == e) (mem es e) (eq-eqb e e refl)
 mem_at (e ∷ es) (suc k) d less = or_right (e == get_or es k d) (mem es (get_or es k d)) (mem_at es k d (omega arith))

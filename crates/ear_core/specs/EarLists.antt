@@ -44,6 +44,11 @@ pub record IsEarList (g : Graph) (list : PlainEars) : Type 0 where
   pub first_stage : IsStage g (singleton list.start)
   pub steps : AreSteps g (singleton list.start) list.steps
 
+-- a step of one ear
+abbrev pub IsSingle : PlainStep → Type 0
+IsSingle (one a) = Unit {0}
+IsSingle (two a b) = ⊥
+
 -- the numbers of an ear are a vertex of 1 to n and edges of 1 to m
 abbrev pub FitsEar : ℕ → ℕ → PlainEar → Type 0
 FitsEar n m a = Within n a.begin × All (Within m) a.edges

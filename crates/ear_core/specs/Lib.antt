@@ -6,3 +6,5 @@ pub mod NearlyStages
 pub mod EarTests
 pub mod Refusals
 pub mod StageGraphs
+pub mod AlternatingEars
+pub mod Asking

@@ -6,10 +6,6 @@ use Rattle.counting.specs.Sets.{Set}
 use Rattle.graph_core.specs.Graph.{Graph, size, first_end, second_end}
 use Rattle.ear_core.specs.Stages.{AllowedBy}
 
--- the vertices of g with other edges
-abbrev pub over : Graph → List (ℕ × ℕ) → Graph
-over g xs = record { order = g.order; ends = xs }
-
 -- the ends of the edges of f among the first k
 abbrev pub listed : Graph → Set → ℕ → List (ℕ × ℕ)
 listed g f zero = []

@@ -13,7 +13,9 @@
 //! Stands on `match_core`. Source: Lovász and Plummer, "Matching Theory", chapter 5.
 #![tactic(auto)]
 
+mod building;
 mod checking;
+mod choosing;
 mod ears;
 mod faults;
 mod judgement;
@@ -21,7 +23,9 @@ pub mod laws;
 mod paths;
 mod stages;
 mod steps;
+mod tracing;
 
+pub use building::build_ears;
 pub use checking::check_ears;
 pub use ears::{Ear, EarList, Step, Steps};
 pub use judgement::{EarJudgement, EarWhy};

@@ -6,7 +6,8 @@ ghost use Rattle.counting.specs.Lists.{mem};
 ghost use Rattle.graph_core.specs.Graph.{size, with_edge};
 ghost use Rattle.match_core.specs.Rows.{marks};
 ghost use Rattle.ear_core.specs.Stages.{is_met, AllowedBy, with_edges};
-ghost use Rattle.ear_core.specs.StageGraphs.{over, listed, Settled, asked_too};
+ghost use Rattle.ear_core.specs.StageGraphs.{listed, Settled, asked_too};
+ghost use Rattle.two_ears.specs.AddedEdges.{over};
 
 use graph_core::{AddFault, Ends, MOST_EDGES, MultiGraph};
 use match_core::perfect_without;
@@ -30,8 +31,8 @@ fn add(graph: &mut MultiGraph, edge: Ends) -> Result<(), Memory>
     }
 }
 
-// The graph of the marked edges, on all vertices.
-fn marked_graph(alloc: Global, g: &MultiGraph, mark: &[bool]) -> Result<MultiGraph, Memory>
+/// The graph of the marked edges, on all vertices.
+pub fn marked_graph(alloc: Global, g: &MultiGraph, mark: &[bool]) -> Result<MultiGraph, Memory>
     requires { length mark.now ≡ size g.now + 1 }
     ensures { IfOk result (λ stage. stage ≡ over g.now (listed g.now (marks mark.now) (size g.now))) }
 {

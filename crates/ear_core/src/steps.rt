@@ -56,9 +56,9 @@ fn mark_edges(mark: &mut Vec<bool>, edges: &[u32])
     }
 }
 
-// Marks the edges of a step.
+/// Marks the edges of a step.
 #[tactic(auto, using(crate::proofs::Marking::below_marks))]
-fn mark_step(mark: &mut Vec<bool>, size: u32, step: &Step)
+pub fn mark_step(mark: &mut Vec<bool>, size: u32, step: &Step)
     requires long { length mark.old.items ≡ size + 1 }
     requires first { All (Within size) step.now.first.edges }
     requires second { IfSome step.now.second (λ ear. All (Within size) ear.edges) }

@@ -1,7 +1,8 @@
 use Rattle.std.proofs.Common.{◌≡◌, ◌≤◌}
 use Rattle.graph_core.specs.Graph.{size}
 use Rattle.match_core.specs.Rows.{marks}
-use Rattle.ear_core.specs.StageGraphs.{over, listed}
+use Rattle.ear_core.specs.StageGraphs.{listed}
+use Rattle.two_ears.specs.AddedEdges.{over}
 use Rattle.ear_core.proofs.stages.marked_graph.Given as goal
 
 -- the marked edges so far

@@ -1,0 +1,195 @@
+-- The search for ears that serve: what is found or not among the ears behind the first one and what of that one make what is found or not
+-- among all. Behind the search one ear serves or two do.
+use Rattle.std.proofs.Common.{◌≡◌, ℕ, ◌+◌, ◌≤◌, Bool, true, false, ◌==◌, ◌||◌, ◌⊎◌, ◌↔◌, inl, inr, refl, sym, ap, ◌∙◌, arith, subst, eq-eqb, List, [], ◌∷◌, Option, Some, None, Result, Ok, Err, IfOk, IfSome, IfNone, All, get_or}
+use Rattle.std.specs.List.{AllByRecursion}
+use Rattle.counting.specs.Counts.{bit, Within}
+use Rattle.counting.specs.Lists.{mem}
+use Rattle.counting.specs.Sets.{Set, union, complement}
+use Rattle.barrier_kit.proofs.Matched.{perfect_congr}
+use Rattle.graph_core.specs.Graph.{Graph, size, IsGraph}
+use Rattle.graph_core.specs.Matchings.{HasPerfect}
+use Rattle.two_ears.specs.AddedEdges.{over}
+use Rattle.two_ears.specs.VertexPairs.{pairs_at}
+use Rattle.ear_core.specs.AlternatingEars.{IsAmong, AreCandidates, Serves, ends_of_ear, ends_of_ears, IsChosen}
+use Rattle.ear_core.specs.Asking.{IsAsked, IsBefore, FindsOne, FindsWith, FindsTwo, NoneServes, NoneServesWith, NoTwoServe}
+use Rattle.ear_core.specs.EarLists.{PlainEar, PlainStep, one, two, FitsEar, IsStep, next_stage}
+use Rattle.ear_core.specs.Ears.{last_vertex, trail, IsEar}
+use Rattle.ear_core.specs.StageGraphs.{listed}
+use Rattle.ear_core.specs.Stages.{is_met, IsStage}
+use Rattle.ear_core.specs.declared.choosing.Asked.{Asked}
+use Rattle.ear_core.proofs.EngineGraphs.{served_listed}
+use Rattle.ear_core.proofs.Growth.{edges-within}
+use Rattle.ear_core.proofs.Taking.{mem_at}
+use Rattle.ear_core.proofs.NextStages.{met-within}
+use Rattle.ear_core.proofs.ServingEars.{off-same}
+use Rattle.ear_core.proofs.ServingPairs.{apart-pair, serving-one, serving-two, some-serve, serve-twice}
+
+-- what the engine answers
+pub asked-serves : (g : Graph) (f : Set) (asked : Asked) → IsAsked g f asked → (ends removed : List ℕ) → ((v : ℕ) → mem removed v ≡ (mem asked.outside v || mem ends v)) → HasPerfect asked.stage (mem removed) ↔ Serves g f (mem ends)
+asked-serves g f asked is ends removed joined =
+    let listed_serves = served_listed g f (mem ends) in
+    let h = over g (listed g f (size g)) in
+    let x = union (complement (is_met g f)) (mem ends) in
+    let same : (v : ℕ) → Within g.order v → mem removed v ≡ x v = λ v w. joined v ∙ ap (λ b. b || mem ends v) (is.outside v w) in (
+      λ m. let k : HasPerfect h (mem removed) = subst (λ (s : Graph). HasPerfect s (mem removed)) is.stage m in listed_serves.1 (k.0, perfect_congr h (mem removed) x k.0 same k.1),
+      λ q. let k = listed_serves.0 q in subst (λ (s : Graph). HasPerfect s (mem removed)) (sym is.stage) (k.0, perfect_congr h x (mem removed) k.0 (λ v w. sym (same v w)) k.1),
+    )
+
+-- sets that agree serve alike
+pub serves-same : (g : Graph) (f x y : Set) → ((v : ℕ) → x v ≡ y v) → Serves g f x → Serves g f y
+serves-same g f x y same q = (q.0, off-same g f x y q.0 same q.1)
+
+-- answers carried over
+pub some-carried : {A Fault : Type 0} (result : Result (Option A) Fault) (P Q : A → Type 0) → ((a : A) → P a → Q a) → IfOk result (λ o. IfSome o P) → IfOk result (λ o. IfSome o Q)
+some-carried (Ok (Some a)) P Q h p = h a p
+some-carried (Ok None) P Q h p = tt
+some-carried (Err e) P Q h p = tt
+
+pub none-carried : {A Fault : Type 0} (result : Result (Option A) Fault) (P Q : Type 0) → (P → Q) → IfOk result (λ o. IfNone o P) → IfOk result (λ o. IfNone o Q)
+none-carried (Ok (Some a)) P Q h p = tt
+none-carried (Ok None) P Q h p = h p
+none-carried (Err e) P Q h p = tt
+
+module _ (g : Graph) (f : Set) (a : PlainEar) (ears others : List PlainEar) (begins : ears ≡ a ∷ others) where
+  pub one-found : (s : PlainStep) → FindsOne g f (a ∷ others) s → FindsOne g f ears s
+  one-found s found = subst (λ (xs : List PlainEar). FindsOne g f xs s) (sym begins) found
+
+  pub one-here : (s : PlainStep) → s ≡ one a → Serves g f (ends_of_ear g a) → FindsOne g f ears s
+  one-here s is q = one-found s (a, inl refl, is, q)
+
+  pub one-later : (s : PlainStep) → FindsOne g f others s → FindsOne g f ears s
+  one-later s found = one-found s (found.0, inr found.1, found.2, found.3)
+
+  pub none-later : (Serves g f (ends_of_ear g a) → ⊥) → NoneServes g f others → NoneServes g f ears
+  none-later here later b i q = elim (subst (IsAmong b) begins i) [
+    | inl e ↦ here (subst (λ (c : PlainEar). Serves g f (ends_of_ear g c)) e q)
+    | inr j ↦ later b j q
+  ]
+
+  pub with-here : (x : PlainEar) (s : PlainStep) → s ≡ two x a → Serves g f (union (ends_of_ear g x) (ends_of_ear g a)) → FindsWith g f x ears s
+  with-here x s is q = subst (λ (xs : List PlainEar). FindsWith g f x xs s) (sym begins) (a, inl refl, is, q)
+
+  pub with-later : (x : PlainEar) (s : PlainStep) → FindsWith g f x others s → FindsWith g f x ears s
+  with-later x s found = subst (λ (xs : List PlainEar). FindsWith g f x xs s) (sym begins) (found.0, inr found.1, found.2, found.3)
+
+  pub none-with-later : (x : PlainEar) → (Serves g f (union (ends_of_ear g x) (ends_of_ear g a)) → ⊥) → NoneServesWith g f x others → NoneServesWith g f x ears
+  none-with-later x here later b i q = elim (subst (IsAmong b) begins i) [
+    | inl e ↦ here (subst (λ (c : PlainEar). Serves g f (union (ends_of_ear g x) (ends_of_ear g c))) e q)
+    | inr j ↦ later b j q
+  ]
+
+  pub two-here : (s : PlainStep) → FindsWith g f a others s → FindsTwo g f ears s
+  two-here s found = subst (λ (xs : List PlainEar). FindsTwo g f xs s) (sym begins) (a, found.0, inl (refl, found.1), found.2, found.3)
+
+  pub two-later : (s : PlainStep) → FindsTwo g f others s → FindsTwo g f ears s
+  two-later s found = subst (λ (xs : List PlainEar). FindsTwo g f xs s) (sym begins) (found.0, found.1, inr found.2, found.3, found.4)
+
+  pub no-two-later : NoneServesWith g f a others → NoTwoServe g f others → NoTwoServe g f ears
+  no-two-later here later b c i q = elim (subst (IsBefore b c) begins i) [
+    | inl p ↦ here c p.1 (subst (λ (x : PlainEar). Serves g f (union (ends_of_ear g x) (ends_of_ear g c))) p.0 q)
+    | inr j ↦ later b c j q
+  ]
+
+  pub first-ear-fits : (n m : ℕ) → AllByRecursion (FitsEar n m) ears → FitsEar n m a × AllByRecursion (FitsEar n m) others
+  first-ear-fits n m fits = let all = subst (AllByRecursion (FitsEar n m)) begins fits in (all.0, all.1)
+
+pub none-of-none : (g : Graph) (f : Set) → NoneServes g f []
+none-of-none g f a i q = i
+
+-- two ears of a list are one, or one stands before the other
+ordered : (a b : PlainEar) (ears : List PlainEar) → IsAmong a ears → IsAmong b ears → (a ≡ b) ⊎ (IsBefore a b ears ⊎ IsBefore b a ears)
+ordered a b [] i j = absurd i
+ordered a b (c ∷ ears) i j = elim i [
+  | inl x ↦ elim j [ inl y ↦ inl (x ∙ sym y) | inr y ↦ inr (inl (inl (x, y))) ]
+  | inr x ↦ elim j [
+    | inl y ↦ inr (inr (inl (y, x)))
+    | inr y ↦ elim (ordered a b ears x y) [ inl e ↦ inl e | inr o ↦ elim o [ inl k ↦ inr (inl (inr k)) | inr k ↦ inr (inr (inr k)) ] ]
+  ]
+]
+
+before-among : (a b : PlainEar) (ears : List PlainEar) → IsBefore a b ears → IsAmong a ears × IsAmong b ears
+before-among a b [] i = absurd i
+before-among a b (c ∷ ears) i = elim i [ inl p ↦ (inl p.0, inr p.1) | inr j ↦ let r = before-among a b ears j in (inr r.0, inr r.1) ]
+
+-- the ends of an ear of the list are counted
+ends-among : (g : Graph) (a : PlainEar) (ears : List PlainEar) (w : ℕ) → IsAmong a ears → bit (a.begin == w) + bit (last_vertex g a.begin a.edges == w) ≤ pairs_at (ends_of_ears g ears) w
+ends-among g a [] w i = absurd i
+ends-among g a (c ∷ ears) w i = elim i [
+  | inl e ↦ let x = ap (λ (b : PlainEar). bit (b.begin == w) + bit (last_vertex g b.begin b.edges == w)) e in omega arith
+  | inr j ↦ let x = ends-among g a ears w j in omega arith
+]
+
+ends-before : (g : Graph) (a b : PlainEar) (ears : List PlainEar) (w : ℕ) → IsBefore a b ears →
+    (bit (a.begin == w) + bit (last_vertex g a.begin a.edges == w)) + (bit (b.begin == w) + bit (last_vertex g b.begin b.edges == w)) ≤ pairs_at (ends_of_ears g ears) w
+ends-before g a b [] w i = absurd i
+ends-before g a b (c ∷ ears) w i = elim i [
+  | inl p ↦ let x = ap (λ (d : PlainEar). bit (d.begin == w) + bit (last_vertex g d.begin d.edges == w)) p.0 in let y = ends-among g b ears w p.1 in omega arith
+  | inr j ↦ let x = ends-before g a b ears w j in omega arith
+]
+
+module _ (g : Graph) (is : IsGraph g) (f : Set) (stage : IsStage g f) (ears : List PlainEar) (c : AreCandidates g f ears) where
+  -- what a step that is found is
+  pub found-one : (s : PlainStep) → FindsOne g f ears s → IsChosen ears s × IsStep g f s × IsStage g (next_stage f s)
+  found-one s found =
+      let a = found.0 in
+      subst (λ (s : PlainStep). IsChosen ears s × IsStep g f s × IsStage g (next_stage f s)) (sym found.2)
+      (found.1, c.each a found.1, serving-one g is f stage a (c.each a found.1) found.3)
+
+  apart-before : (a b : PlainEar) → IsBefore a b ears → (w : ℕ) → mem (trail g a.begin a.edges) w ≡ true → mem (trail g b.begin b.edges) w ≡ true → ⊥
+  apart-before a b i =
+      let r = before-among a b ears i in
+      elim (c.apart a b r.0 r.1) [
+        | inr d ↦ d
+        | inl e ↦
+            let x = ends-before g a b ears a.begin i in
+            let y = c.once a.begin in
+            let z = ap bit (eq-eqb a.begin a.begin refl) in
+            let u = ap bit (eq-eqb b.begin a.begin (ap (λ (d : PlainEar). d.begin) (sym e))) in absurd (omega arith)
+      ]
+
+  pub found-two : (s : PlainStep) → FindsTwo g f ears s → IsChosen ears s × IsStep g f s × IsStage g (next_stage f s)
+  found-two s found =
+      let a = found.0 in
+      let b = found.1 in
+      let r = before-among a b ears found.2 in
+      let ea = c.each a r.0 in
+      let eb = c.each b r.1 in
+      let d = apart-before a b found.2 in
+      subst (λ (s : PlainStep). IsChosen ears s × IsStep g f s × IsStage g (next_stage f s)) (sym found.3)
+      (r, apart-pair g is f stage a b ea eb d, serving-two g is f stage a b ea eb d found.4)
+
+  turned : (a b : PlainEar) → Serves g f (union (ends_of_ear g a) (ends_of_ear g b)) → Serves g f (union (ends_of_ear g b) (ends_of_ear g a))
+  turned a b q = serves-same g f (union (ends_of_ear g a) (ends_of_ear g b)) (union (ends_of_ear g b) (ends_of_ear g a)) (λ v. swap (ends_of_ear g a v) (ends_of_ear g b v)) q
+    where
+      swap : (x y : Bool) → (x || y) ≡ (y || x)
+      swap true true = refl
+      swap true false = refl
+      swap false true = refl
+      swap false false = refl
+
+  -- one serves, or two do
+  pub never-none : NoneServes g f ears → NoTwoServe g f ears → ⊥
+  never-none no_one no_two =
+      let x = some-serve g is f stage ears c in
+      elim (ordered x.0 x.1 ears x.2 x.3) [
+        | inl e ↦ no_one x.0 x.2 (serve-twice g is f stage x.0 (subst (λ (b : PlainEar). Serves g f (union (ends_of_ear g x.0) (ends_of_ear g b))) (sym e) x.4))
+        | inr o ↦ elim o [ inl i ↦ no_two x.0 x.1 i x.4 | inr i ↦ no_two x.1 x.0 i (turned x.0 x.1 x.4) ]
+      ]
+
+-- the numbers of an ear are in range
+all-edges : (m : ℕ) (es : List ℕ) → ((e : ℕ) → mem es e ≡ true → Within m e) → All (Within m) es
+all-edges m es h k d less = h (get_or es k d) (mem_at es k d less)
+
+pub ear-fits : (g : Graph) → IsGraph g → (f : Set) (a : PlainEar) → IsEar g f a.begin a.edges → FitsEar g.order (size g) a
+ear-fits g is f a ear = (met-within g is f a.begin ear.start, all-edges (size g) a.edges (λ e i. edges-within g a.begin a.edges ear.follow e i))
+
+pub ears-fit : (g : Graph) → IsGraph g → (f : Set) (ears : List PlainEar) → ((a : PlainEar) → IsAmong a ears → IsEar g f a.begin a.edges) → AllByRecursion (FitsEar g.order (size g)) ears
+ears-fit g is f [] each = tt
+ears-fit g is f (a ∷ ears) each = (ear-fits g is f a (each a (inl refl)), ears-fit g is f ears (λ b i. each b (inr i)))
+
+-- what holds where nothing is found
+pub at-none : {A : Type 0} (o : Option A) (P : Type 0) → o ≡ None → IfNone o P → P
+at-none {A} o P is p = subst (λ (x : Option A). IfNone x P) is p
+
+pub at-some : {A : Type 0} (o : Option A) (a : A) (P : A → Type 0) → o ≡ Some a → IfSome o P → P a
+at-some {A} o a P is p = subst (λ (x : Option A). IfSome x P) is p

@@ -1,0 +1,63 @@
+-- Ears whose ends serve. Where the stage has a perfect matching without the ends of an ear, the odd edges of the ear complete it to one of
+-- the new stage, so each of its edges lies in one; two ears whose ends serve together are added one after the other.
+use Rattle.std.proofs.Common.{◌≡◌, ℕ, Bool, true, false, ◌==◌, refl, sym, ◌∙◌, ◌||◌, eqb-true, inl, inr, subst, List}
+use Rattle.std.proofs.lemmas.Bool.{cases_Bool, true≢false, or_left, or_right, or_cases}
+use Rattle.counting.specs.Lists.{mem}
+use Rattle.counting.specs.Sets.{Set, none, union, pair_set}
+use Rattle.graph_core.specs.Graph.{Graph, IsGraph}
+use Rattle.ear_core.specs.Stages.{is_met, IsPerfectOf, IsPerfectOff, IsStage, with_edges}
+use Rattle.ear_core.specs.Ears.{last_vertex, IsEar, IsEarPair}
+use Rattle.ear_core.specs.NearlyStages.{odds, IsNearlyStage}
+use Rattle.ear_core.proofs.Growth.{odd_on, none_but, grow}
+use Rattle.ear_core.proofs.NextStages.{nearly, met-within, second_ear}
+
+-- a perfect matching that holds all edges that are left to ask makes a stage
+with-perfect : (g : Graph) (f o m : Set) → IsNearlyStage g f o → IsPerfectOf g f m → ((e : ℕ) → o e ≡ true → m e ≡ true) → IsStage g f
+with-perfect g f o m near perfect holds = record {
+  some_edge = near.some_edge;
+  connected = near.connected;
+  allowed = λ e w t. elim (cases_Bool (o e)) [ inl x ↦ (m, perfect, holds e x) | inr x ↦ near.allowed e w t x ];
+}
+
+pub off-same : (g : Graph) (f r k m : Set) → ((v : ℕ) → r v ≡ k v) → IsPerfectOff g f r m → IsPerfectOff g f k m
+off-same g f r k m e p = record { part = p.part; once = λ v w t o. p.once v w t (e v ∙ o); away = λ v w o. p.away v w (e v ∙ o) }
+
+add_none : (b : Bool) → b ≡ (b || false)
+add_none true = refl
+add_none false = refl
+
+-- an ear whose ends serve may be added
+pub one-serves : (g : Graph) → IsGraph g → (f : Set) (v : ℕ) (es : List ℕ) → IsStage g f → IsEar g f v es → (q : Set) → IsPerfectOff g f (pair_set v (last_vertex g v es)) q → IsStage g (with_edges f es)
+one-serves g is f v es stage ear q p =
+    with-perfect g (with_edges f es) (λ e. none e || mem (odds es) e) (with_edges q (odds es)) (grow g is f none v es ear (met-within g is f v ear.start) (nearly g f stage))
+    (none_but g (with_edges f es) (with_edges q (odds es)) (odd_on g f v es ear none q (λ w ww t. absurd (true≢false (sym t))) refl refl
+    (off-same g f (pair_set v (last_vertex g v es)) (union (pair_set v (last_vertex g v es)) none) q (λ w. add_none (pair_set v (last_vertex g v es) w)) p)))
+    (λ e t. or_right (q e) (mem (odds es) e) t)
+
+-- two ears whose ends differ and serve together may be added
+pub two-serve : (g : Graph) → IsGraph g → (f : Set) (v : ℕ) (es : List ℕ) (w : ℕ) (ds : List ℕ) → IsStage g f → IsEarPair g f v es w ds → pair_set w (last_vertex g w ds) v ≡ false → pair_set w (last_vertex g w ds) (last_vertex g v es) ≡ false →
+    (q : Set) → IsPerfectOff g f (union (pair_set v (last_vertex g v es)) (pair_set w (last_vertex g w ds))) q → IsStage g (with_edges (with_edges f es) ds)
+two-serve g is f v es w ds stage pair d0 d1 q p =
+    with-perfect g (with_edges (with_edges f es) ds) (λ e. (none e || mem (odds es) e) || mem (odds ds) e) (with_edges (with_edges q (odds es)) (odds ds))
+    (grow g is (with_edges f es) (λ e. none e || mem (odds es) e) w ds second (met-within g is (with_edges f es) w second.start) (grow g is f none v es pair.first (met-within g is f v pair.first.start) (nearly g f stage)))
+    (none_but g (with_edges (with_edges f es) ds) (with_edges (with_edges q (odds es)) (odds ds)) both_odd)
+    (λ e t. elim (or_cases (mem (odds es) e) (mem (odds ds) e) t) [
+      | inl i ↦ or_left (with_edges q (odds es) e) (mem (odds ds) e) (or_right (q e) (mem (odds es) e) i)
+      | inr i ↦ or_right (with_edges q (odds es) e) (mem (odds ds) e) i
+    ])
+  where
+    second : IsEar g (with_edges f es) w ds
+    second = second_ear g f v es w ds pair
+
+    ends_in : (x : ℕ) → pair_set w (last_vertex g w ds) x ≡ true → is_met g f x ≡ true
+    ends_in x t = elim (or_cases (w == x) (last_vertex g w ds == x) t) [
+      | inl i ↦ subst (λ k. is_met g f k ≡ true) (eqb-true w x i) pair.second.start
+      | inr i ↦ subst (λ k. is_met g f k ≡ true) (eqb-true (last_vertex g w ds) x i) pair.second.end
+    ]
+
+    first_odd : IsPerfectOff g (with_edges f es) (pair_set w (last_vertex g w ds)) (with_edges q (odds es))
+    first_odd = odd_on g f v es pair.first (pair_set w (last_vertex g w ds)) q (λ x wx t. ends_in x t) d0 d1 p
+
+    both_odd : IsPerfectOff g (with_edges (with_edges f es) ds) none (with_edges (with_edges q (odds es)) (odds ds))
+    both_odd = odd_on g (with_edges f es) w ds second none (with_edges q (odds es)) (λ x wx t. absurd (true≢false (sym t))) refl refl
+        (off-same g (with_edges f es) (pair_set w (last_vertex g w ds)) (union (pair_set w (last_vertex g w ds)) none) (with_edges q (odds es)) (λ x. add_none (pair_set w (last_vertex g w ds) x)) first_odd)

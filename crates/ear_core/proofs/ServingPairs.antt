@@ -1,0 +1,78 @@
+-- Of the candidates for a step one serves or two do, by the two-ear theorem on the graph of the stage, and then it is a step to a stage.
+use Rattle.std.proofs.Common.{◌≡◌, ◌≢◌, ℕ, ◌+◌, ◌≤◌, Bool, true, false, ◌==◌, refl, sym, ap, ap₂, arith, ◌||◌, eq-eqb, eqb-true, inl, inr, subst, [], ◌∷◌, List}
+use Rattle.std.proofs.lemmas.Bool.{false_from_ne_true, or_left, or_right, or_cases}
+use Rattle.counting.specs.Counts.{bit}
+use Rattle.counting.specs.Lists.{mem}
+use Rattle.counting.specs.Sets.{Set, union}
+use Rattle.graph_core.proofs.Edits.{ends_of}
+use Rattle.graph_core.specs.Graph.{Graph, first_end, IsGraph}
+use Rattle.two_ears.specs.VertexPairs.{IsIn, pairs_at, vertices_of}
+use Rattle.ear_core.specs.AlternatingEars.{IsAmong, ends_of_ears, AreCandidates, Serves, ends_of_ear}
+use Rattle.ear_core.specs.EarLists.{PlainEar}
+use Rattle.ear_core.specs.Ears.{other_end, trail, last_vertex, IsEar, IsEarPair}
+use Rattle.ear_core.specs.Stages.{is_met, IsStage, with_edges}
+use Rattle.ear_core.proofs.Growth.{start_mem, trail_has}
+use Rattle.ear_core.proofs.RankedStages.{pairs_serve}
+use Rattle.ear_core.proofs.ServingEars.{one-serves, two-serve, off-same}
+
+among-pairs : (g : Graph) (ears : List PlainEar) (p : ℕ × ℕ) → IsIn p (ends_of_ears g ears) → (a : PlainEar) × IsAmong a ears × (p ≡ (a.begin, last_vertex g a.begin a.edges))
+among-pairs g [] p i = absurd i
+among-pairs g (a ∷ ears) p i = elim i [
+  | inl j ↦ (a, inl refl, j)
+  | inr j ↦ let r = among-pairs g ears p j in (r.0, inr r.1, r.2)
+]
+
+end_mem : (g : Graph) (v : ℕ) (es : List ℕ) → mem (trail g v es) (last_vertex g v es) ≡ true
+end_mem g v [] = or_left (v == v) false (eq-eqb v v refl)
+end_mem g v (e ∷ es) = or_right (v == last_vertex g (other_end g e v) es) _ (end_mem g (other_end g e v) es)
+
+module _ (g : Graph) (is : IsGraph g) (f : Set) (stage : IsStage g f) where
+  -- one ear that serves
+  pub serving-one : (a : PlainEar) → IsEar g f a.begin a.edges → Serves g f (ends_of_ear g a) → IsStage g (with_edges f a.edges)
+  serving-one a ear q = one-serves g is f a.begin a.edges stage ear q.0 q.1
+
+  -- two ears apart
+  pub apart-pair : (a b : PlainEar) → IsEar g f a.begin a.edges → IsEar g f b.begin b.edges → ((w : ℕ) → mem (trail g a.begin a.edges) w ≡ true → mem (trail g b.begin b.edges) w ≡ true → ⊥) → IsEarPair g f a.begin a.edges b.begin b.edges
+  unfolding ends_of
+  apart-pair a b ea eb d = record {
+    first = ea;
+    second = eb;
+    vertices = λ w i j. absurd (d w i j);
+    edges = λ e i. false_from_ne_true (mem b.edges e) (λ j. let one : 1 ≤ ends_of g e (first_end g e) = (let x = ap bit (eq-eqb (first_end g e) (first_end g e) refl) in omega arith) in
+        d (first_end g e) (trail_has g a.begin a.edges ea.follow e (first_end g e) i one) (trail_has g b.begin b.edges eb.follow e (first_end g e) j one));
+  }
+
+  pub serving-two : (a b : PlainEar) → IsEar g f a.begin a.edges → IsEar g f b.begin b.edges → ((w : ℕ) → mem (trail g a.begin a.edges) w ≡ true → mem (trail g b.begin b.edges) w ≡ true → ⊥) → Serves g f (union (ends_of_ear g a) (ends_of_ear g b)) → IsStage g (with_edges (with_edges f a.edges) b.edges)
+  serving-two a b ea eb d q =
+      two-serve g is f a.begin a.edges b.begin b.edges stage (apart-pair a b ea eb d) (differ a.begin (start_mem g a.begin a.edges)) (differ (last_vertex g a.begin a.edges) (end_mem g a.begin a.edges)) q.0 q.1
+    where
+      differ : (w : ℕ) → mem (trail g a.begin a.edges) w ≡ true → ends_of_ear g b w ≡ false
+      differ w i = false_from_ne_true (ends_of_ear g b w) (λ t. elim (or_cases (b.begin == w) (last_vertex g b.begin b.edges == w) t) [
+        | inl j ↦ d w i (subst (λ k. mem (trail g b.begin b.edges) k ≡ true) (eqb-true b.begin w j) (start_mem g b.begin b.edges))
+        | inr j ↦ d w i (subst (λ k. mem (trail g b.begin b.edges) k ≡ true) (eqb-true (last_vertex g b.begin b.edges) w j) (end_mem g b.begin b.edges))
+      ])
+
+  -- of candidates two serve, or one does
+  pub some-serve : (ears : List PlainEar) → AreCandidates g f ears → (a b : PlainEar) × IsAmong a ears × IsAmong b ears × Serves g f (union (ends_of_ear g a) (ends_of_ear g b))
+  some-serve ears c =
+      let x = pairs_serve g is f stage (ends_of_ears g ears) (filled ears c.some) (λ q i. let r = among-pairs g ears q i in let h = c.each r.0 r.1 in
+      (subst (λ (z : ℕ × ℕ). is_met g f z.0 ≡ true) (sym r.2) h.start, subst (λ (z : ℕ × ℕ). is_met g f z.1 ≡ true) (sym r.2) h.end))
+      (λ w ww. c.once w) c.serve.0 c.serve.1 in
+      let a = among-pairs g ears x.0 x.2 in
+      let b = among-pairs g ears x.1 x.3 in
+      (a.0, b.0, a.1, b.1, (x.4.0, off-same g f (union (vertices_of x.0) (vertices_of x.1)) (union (ends_of_ear g a.0) (ends_of_ear g b.0)) x.4.0 (λ w. ap₂ (λ (c d : ℕ × ℕ). union (vertices_of c) (vertices_of d) w) a.2 b.2) x.4.1))
+    where
+      filled : (ears : List PlainEar) → ears ≢ [] → ends_of_ears g ears ≢ []
+      filled [] d = λ e. d refl
+      filled (a ∷ ears) d = λ e. absurd (not_empty (ap (λ (ps : List (ℕ × ℕ)). pairs_at ps a.begin) e))
+        where
+          not_empty : (bit (a.begin == a.begin) + bit (last_vertex g a.begin a.edges == a.begin)) + pairs_at (ends_of_ears g ears) a.begin ≡ 0 → ⊥
+          not_empty e = let x = ap bit (eq-eqb a.begin a.begin refl) in omega arith
+
+  -- one serves twice
+  pub serve-twice : (a : PlainEar) → Serves g f (union (ends_of_ear g a) (ends_of_ear g a)) → Serves g f (ends_of_ear g a)
+  serve-twice a q = (q.0, off-same g f (union (ends_of_ear g a) (ends_of_ear g a)) (ends_of_ear g a) q.0 (λ w. same (ends_of_ear g a w)) q.1)
+    where
+      same : (x : Bool) → (x || x) ≡ x
+      same true = refl
+      same false = refl

@@ -1,0 +1,171 @@
+-- The builder step by step. An edge off the stage leads out of it as long as one is left; a step of ears that hold the mates of their
+-- vertices keeps this of the stage; and steps that go on from a stage make a list with those before.
+use Rattle.std.proofs.Common.{◌≡◌, ℕ, ◌+◌, ◌≤◌, Bool, true, false, cond, ◌==◌, refl, sym, ap, ◌∙◌, arith, ◌&&◌, ◌||◌, not, eq-eqb, inl, inr, subst, [], ◌∷◌, ◌++◌, List, Result, Ok, Err, IfOk}
+use Rattle.std.proofs.Math.Path.{fun_ext}
+use Rattle.std.proofs.lemmas.List.{append_assoc}
+use Rattle.std.proofs.lemmas.Bool.{cases_Bool, both_ways, true≢false, false_from_ne_true, true_from_ne_false, or_left, or_right, or_cases}
+use Rattle.barrier_kit.proofs.Matched.{cut_edge}
+use Rattle.std.specs.List.{AllByRecursion}
+use Rattle.counting.proofs.Counts.{count_complement}
+use Rattle.counting.specs.Counts.{count, Within}
+use Rattle.counting.specs.Lists.{mem}
+use Rattle.counting.specs.Sets.{Set, none, singleton, complement}
+use Rattle.graph_core.specs.Covered.{IsCovered}
+use Rattle.graph_core.specs.Graph.{Graph, size, first_end, second_end, IsGraph, IsMultigraph}
+use Rattle.graph_core.specs.Matchings.{HasPerfect, Allowed}
+use Rattle.match_core.specs.MatchingRows.{MatchingValue, edges_of}
+use Rattle.ear_core.specs.AlternatingEars.{mate, IsPerfectRows, row_edge, KeepsMates, IsMatedEar, IsAmong, AreMatedEars, AreCandidates, IsChosen}
+use Rattle.ear_core.specs.EarLists.{PlainEar, PlainStep, one, two, next_stage, IsStep, AreSteps, IsSingle, FitsStep}
+use Rattle.ear_core.specs.Ears.{other_end, trail, IsEar}
+use Rattle.ear_core.specs.NearlyStages.{odds}
+use Rattle.ear_core.specs.Stages.{is_met, IsStage, with_edges}
+use Rattle.ear_core.proofs.EngineGraphs.{ends-met}
+use Rattle.ear_core.proofs.FirstStage.{one-ends, step-adds}
+use Rattle.ear_core.proofs.Growth.{odds_at, mem_times, mem_odds, degree_le, met-some, some-met, new-met}
+use Rattle.ear_core.proofs.Mates.{row-found, row-is, rows-mates}
+use Rattle.ear_core.proofs.NextStages.{second_ear}
+use Rattle.ear_core.proofs.Rounds.{mated-candidates}
+use Rattle.ear_core.proofs.Searching.{ear-fits}
+use Rattle.ear_core.proofs.Walking.{joins}
+
+-- an edge leads out of the stage
+abbrev leads_out_of : Graph → Set → Set
+leads_out_of g f e = not (f e) && (is_met g f (first_end g e) || is_met g f (second_end g e))
+
+-- where no edge leads out, all edges are on the stage
+pub all-on : (g : Graph) → IsGraph g → IsCovered g → (f : Set) → IsStage g f → ((e : ℕ) → Within (size g) e → (not (f e) && (is_met g f (first_end g e) || is_met g f (second_end g e))) ≡ false) → (e : ℕ) → Within (size g) e → f e ≡ true
+all-on g is cov f stage nothing e w = true_from_ne_false (f e) (λ off. elim (cases_Bool (is_met g f (first_end g e))) [
+  | inl t ↦ both_ways (leads_out_of g f e) (nothing e w) (out (f e) (is_met g f (first_end g e)) (is_met g f (second_end g e)) off t)
+  | inr t ↦
+      let s = stage.some_edge in
+      let h = (ends-met g f s.0 s.1 s.2).0 in
+      let c = cut_edge g (is_met g f) (first_end g s.0) (first_end g e) is cov (is s.0 s.1).0 (is e w).0 h t in
+      crossing c.0 c.1 (is_met g f (first_end g c.0)) (is_met g f (second_end g c.0)) refl refl c.2
+])
+  where
+    out : (x y z : Bool) → x ≡ false → y ≡ true → (not x && (y || z)) ≡ true
+    out x y z p q = grind arith
+
+    out_back : (x y z : Bool) → x ≡ false → z ≡ true → (not x && (y || z)) ≡ true
+    out_back x y z p q = grind arith
+
+    crossing : (d : ℕ) → Within (size g) d → (x y : Bool) → is_met g f (first_end g d) ≡ x → is_met g f (second_end g d) ≡ y → ((x && not y) || (not x && y)) ≡ true → ⊥
+    crossing d wd true true p q h = true≢false (sym h)
+    crossing d wd false false p q h = true≢false (sym h)
+    crossing d wd true false p q h = both_ways (leads_out_of g f d) (nothing d wd)
+        (out (f d) (is_met g f (first_end g d)) (is_met g f (second_end g d)) (false_from_ne_true (f d) (λ t. both_ways (is_met g f (second_end g d)) q (ends-met g f d wd t).1)) p)
+    crossing d wd false true p q h = both_ways (leads_out_of g f d) (nothing d wd)
+        (out_back (f d) (is_met g f (first_end g d)) (is_met g f (second_end g d)) (false_from_ne_true (f d) (λ t. both_ways (is_met g f (first_end g d)) p (ends-met g f d wd t).0)) q)
+
+trail-met : (g : Graph) (f : Set) (v : ℕ) (es : List ℕ) → IsEar g f v es → (w : ℕ) → mem (trail g v es) w ≡ true → is_met g (with_edges f es) w ≡ true
+trail-met g f v es ear w h =
+    let a = odds_at g f v es ear w in
+    let b = mem_times (trail g v es) w h in
+    let c = degree_le g (mem (odds es)) (with_edges f es) w (λ e we i. or_right (f e) _ (mem_odds es e i)) in
+    some-met g (with_edges f es) w (omega arith)
+
+still-met : (g : Graph) (f : Set) (es : List ℕ) (w : ℕ) → is_met g f w ≡ true → is_met g (with_edges f es) w ≡ true
+still-met g f es w t =
+    let a = met-some g f w t in
+    let c = degree_le g f (with_edges f es) w (λ e we i. or_left (f e) _ i) in some-met g (with_edges f es) w (omega arith)
+
+ear-keeps : (g : Graph) (f : Set) (n : ℕ → ℕ) (v : ℕ) (es : List ℕ) → IsEar g f v es → ((w : ℕ) → mem (trail g v es) w ≡ true → is_met g f w ≡ false → mem (trail g v es) (mate g n w) ≡ true) → KeepsMates g n (is_met g f) → KeepsMates g n (is_met g (with_edges f es))
+ear-keeps g f n v es ear by_n keeps w ww t = elim (cases_Bool (is_met g f w)) [
+  | inl x ↦ still-met g f es (mate g n w) (keeps w ww x)
+  | inr x ↦ elim (new-met g f v es ear w t) [
+    | inl y ↦ absurd (both_ways (is_met g f w) x y)
+    | inr y ↦ trail-met g f v es ear (mate g n w) (by_n w y x)
+  ]
+]
+
+-- a step of mated ears keeps the mates
+pub step-keeps : (g : Graph) (f : Set) (m n : ℕ → ℕ) (ears : List PlainEar) → ((a : PlainEar) → IsAmong a ears → IsMatedEar g f m n a) → (s : PlainStep) → IsChosen ears s → IsStep g f s → KeepsMates g n (is_met g f) → KeepsMates g n (is_met g (next_stage f s))
+step-keeps g f m n ears each (one a) chosen step keeps = ear-keeps g f n a.begin a.edges step (each a chosen).by_n keeps
+step-keeps g f m n ears each (two a b) chosen step keeps =
+    let second = second_ear g f a.begin a.edges b.begin b.edges step in
+    ear-keeps g (with_edges f a.edges) n b.begin b.edges second
+    (λ w h o. (each b chosen.1).by_n w h (false_from_ne_true (is_met g f w) (λ i. both_ways (is_met g (with_edges f a.edges) w) o (still-met g f a.edges w i))))
+    (ear-keeps g f n a.begin a.edges step.first (each a chosen.0).by_n keeps)
+
+-- the first stage keeps them, where its edge is one of the matching
+pub first-keeps : (g : Graph) → IsMultigraph g → (n : MatchingValue) → IsPerfectRows g n → (e : ℕ) → Within (size g) e → mem (edges_of n) e ≡ true → KeepsMates g (row_edge n.rows) (is_met g (singleton e))
+first-keeps g is n rows e we holds w ww t =
+    let h : joins g e w ≡ true = elim (one-ends g is e we w t) [
+      | inl i ↦ or_left (first_end g e == w) (second_end g e == w) (eq-eqb (first_end g e) w i)
+      | inr i ↦ or_right (first_end g e == w) (second_end g e == w) (eq-eqb (second_end g e) w i)
+    ] in
+    let a = row-is g is.ends n rows w e ww we holds h in
+    let m = ends-met g (singleton e) e we (eq-eqb e e refl) in
+    ap (λ d. is_met g (singleton e) (other_end g d w)) (sym a) ∙ end_met m (first_end g e == w)
+  where
+    end_met : (is_met g (singleton e) (first_end g e) ≡ true) × (is_met g (singleton e) (second_end g e) ≡ true) → (b : Bool) → is_met g (singleton e) (cond b (second_end g e) (first_end g e)) ≡ true
+    end_met m true = m.1
+    end_met m false = m.0
+
+-- the numbers of a step are in range
+pub step-fits : (g : Graph) → IsGraph g → (f : Set) (s : PlainStep) → IsStep g f s → FitsStep g.order (size g) s
+step-fits g is f (one a) ear = ear-fits g is f a ear
+step-fits g is f (two a b) pair = (ear-fits g is f a pair.first, ear-fits g is f b pair.second)
+
+-- a covered graph has edges and perfect matchings
+pub covered-edge : (g : Graph) → IsMultigraph g → IsCovered g → Within (size g) 1
+covered-edge g is cov = let t = cov.two in let e = cut_edge g (singleton 1) 1 2 is.ends cov (omega arith) (omega arith) refl refl in let w = e.1 in omega arith
+
+pub covered-allowed : (g : Graph) → IsMultigraph g → IsCovered g → (e : ℕ) → Within (size g) e → Allowed g e
+covered-allowed g is cov e w = cov.allowed e w (is.no_loop e w)
+
+pub covered-perfect : (g : Graph) → IsMultigraph g → IsCovered g → HasPerfect g none
+covered-perfect g is cov = let m = covered-allowed g is cov 1 (covered-edge g is cov) in (m.0, m.1)
+
+-- the edge that leads out is that of the matching at a vertex of the stage
+pub led-out : (g : Graph) → IsGraph g → (f : Set) (m : MatchingValue) → IsPerfectRows g m → (e : ℕ) → Within (size g) e → mem (edges_of m) e ≡ true → f e ≡ false → (is_met g f (first_end g e) || is_met g f (second_end g e)) ≡ true →
+    (v : ℕ) × Within g.order v × (is_met g f v ≡ true) × (f (row_edge m.rows v) ≡ false)
+led-out g is f m rows e w holds off t = elim (or_cases (is_met g f (first_end g e)) (is_met g f (second_end g e)) t) [
+  | inl i ↦ (first_end g e, (is e w).0, i, ap f (sym (row-is g is m rows (first_end g e) e (is e w).0 w holds (or_left (first_end g e == first_end g e) _ (eq-eqb (first_end g e) (first_end g e) refl)))) ∙ off)
+  | inr i ↦ (second_end g e, (is e w).1, i, ap f (sym (row-is g is m rows (second_end g e) e (is e w).1 w holds (or_right (first_end g e == second_end g e) _ (eq-eqb (second_end g e) (second_end g e) refl)))) ∙ off)
+]
+
+-- steps that go on
+pub steps-go_on : (g : Graph) (first f new : Set) (before : List PlainStep) (s : PlainStep) → IsStep g f s → IsStage g (next_stage f s) → ((i : ℕ) → new i ≡ next_stage f s i) →
+    ((others : List PlainStep) → AreSteps g f others → AreSteps g first (before ++ others)) → (others : List PlainStep) → AreSteps g new others → AreSteps g first ((before ++ s ∷ []) ++ others)
+steps-go_on g first f new before s step stage same so_far others goes =
+    subst (λ (xs : List PlainStep). AreSteps g first xs) (sym (append_assoc before (s ∷ []) others))
+    (so_far (s ∷ others) (step, stage, subst (λ (h : Set). AreSteps g h others) (fun_ext same) goes))
+
+-- two facts of one answer
+pub both-ok : {A Fault : Type 0} (result : Result A Fault) (P Q : A → Type 0) → IfOk result P → IfOk result Q → IfOk result (λ a. P a × Q a)
+both-ok (Ok a) P Q p q = (p, q)
+both-ok (Err e) P Q p q = tt
+
+-- the ears collected, from no used vertices on
+pub round-ears : (g : Graph) (f : Set) (m n : ℕ → ℕ) (used : List ℕ) → used ≡ [] → (old ears : List PlainEar) → old ≡ [] → (more : List PlainEar) × (ears ≡ old ++ more) × AreMatedEars g f m n (mem used) more → AreMatedEars g f m n none ears
+round-ears g f m n used unused old ears empty x =
+    let is : ears ≡ x.0 = x.1 ∙ ap (λ (xs : List PlainEar). xs ++ x.0) empty in
+    subst (λ (xs : List PlainEar). AreMatedEars g f m n none xs) (sym is) (subst (λ (us : List ℕ). AreMatedEars g f m n (mem us) x.0) unused x.2)
+
+-- they are candidates for a step
+pub round-candidates : (g : Graph) → IsGraph g → (f : Set) (m : MatchingValue) → IsPerfectRows g m → (n : ℕ → ℕ) (e : ℕ) → Within (size g) e → mem (edges_of m) e ≡ true → f e ≡ false → (is_met g f (first_end g e) || is_met g f (second_end g e)) ≡ true →
+    (ears : List PlainEar) → AreMatedEars g f (row_edge m.rows) n none ears → AreCandidates g f ears
+round-candidates g is f m rows n e w holds off leads ears mated =
+    let v = led-out g is f m rows e w holds off leads in
+    mated-candidates g f (row_edge m.rows) n (mem (edges_of m)) rows.perfect (rows-mates g is m rows) (λ v wv. (row-found g is m rows v wv).1) (λ v d wv wd md h. row-is g is m rows v d wv wd md h) ears mated v.0 v.1 v.2 v.3
+
+module _ (g : Graph) (f new : Set) (s : PlainStep) (same : (i : ℕ) → new i ≡ next_stage f s i) where
+  pub stage-there : IsStage g (next_stage f s) → IsStage g new
+  stage-there stage = subst (IsStage g) (sym (fun_ext same)) stage
+
+  pub mates-there : (n : ℕ → ℕ) → KeepsMates g n (is_met g (next_stage f s)) → KeepsMates g n (is_met g new)
+  mates-there n keeps = subst (λ (h : Set). KeepsMates g n (is_met g h)) (sym (fun_ext same)) keeps
+
+  -- fewer edges are off the stage
+  pub fewer-off : IsStep g f s → count (size g) (complement new) + 1 ≤ count (size g) (complement f)
+  fewer-off step =
+      let a = step-adds g f s step in
+      let b = subst (λ (h : Set). count (size g) f + 1 ≤ count (size g) h) (sym (fun_ext same)) a in
+      let c = count_complement (size g) f in
+      let d = count_complement (size g) new in omega arith
+
+-- behind a single step
+pub all-single : (before : List PlainStep) (s : PlainStep) → AllByRecursion IsSingle before → IsSingle s → AllByRecursion IsSingle (before ++ s ∷ [])
+all-single [] s singles single = (single, tt)
+all-single (x ∷ before) s singles single = (singles.0, all-single before s singles.1 single)

@@ -1,0 +1,10 @@
+use Rattle.std.proofs.Common.{◌≡◌, ◌&&◌, ◌||◌, ℕ, false, not}
+use Rattle.counting.specs.Counts.{Within}
+use Rattle.graph_core.specs.Graph.{first_end, second_end}
+use Rattle.match_core.specs.Rows.{marks}
+use Rattle.ear_core.specs.Stages.{is_met}
+use Rattle.ear_core.proofs.building.leaving_edge.Given as goal
+
+-- no edge so far leads out
+abbrev pub invariant-loop-k : goal.invariant-loop-k
+invariant-loop-k l = (e : ℕ) → Within l.k e → (not (marks l.mark e) && (is_met l.g (marks l.mark) (first_end l.g e) || is_met l.g (marks l.mark) (second_end l.g e))) ≡ false

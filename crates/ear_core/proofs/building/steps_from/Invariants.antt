@@ -1,0 +1,24 @@
+use Rattle.std.proofs.Common.{◌≡◌, ◌+◌, ◌++◌, List, map, length}
+use Rattle.std.specs.List.{AllByRecursion}
+use Rattle.counting.specs.Counts.{count}
+use Rattle.counting.specs.Sets.{complement}
+use Rattle.graph_core.specs.Graph.{size, IsBipartite}
+use Rattle.match_core.specs.Rows.{marks}
+use Rattle.ear_core.specs.AlternatingEars.{KeepsMates, row_edge}
+use Rattle.ear_core.specs.EarLists.{PlainStep, AreSteps, IsSingle}
+use Rattle.ear_core.specs.Stages.{is_met, IsStage}
+use Rattle.ear_core.specs.View.{step_of}
+use Rattle.ear_core.proofs.building.steps_from.Given as goal
+
+-- steps that go on from the stage make an ear list together with those so far
+abbrev pub invariant-stages : goal.invariant-stages
+invariant-stages l = record {
+  long : length l.mark.items ≡ size l.g + 1;
+  stage : IsStage l.g (marks l.mark.items);
+  mates : KeepsMates l.g (row_edge l.kept.rows) (is_met l.g (marks l.mark.items));
+  so_far : (others : List PlainStep) → AreSteps l.g (marks l.mark.items) others → AreSteps l.g (marks l.initial.mark.items) (map step_of l.steps ++ others);
+  single : IsBipartite l.g → AllByRecursion IsSingle (map step_of l.steps);
+}
+
+abbrev pub decreases-stages : goal.decreases-stages
+decreases-stages l = count (size l.g) (complement (marks l.mark.items))

@@ -1,0 +1,20 @@
+use Rattle.std.proofs.Common.{◌∙◌, sym, ap, arith, subst, All}
+use Rattle.counting.specs.Counts.{Within}
+use Rattle.graph_core.specs.Graph.{size}
+use Rattle.ear_core.specs.Ears.{last_vertex}
+use Rattle.ear_core.proofs.Mates.{other_end-within}
+use Rattle.ear_core.proofs.Walking.{all-behind}
+use Rattle.ear_core.proofs.choosing.ends_of.Goals as goal
+
+pub edges-preserved : goal.edges-preserved
+edges-preserved c =
+    let g = c.args.g.now in
+    let e = c.in-Some.e.now in
+    let others = c.in-Some.others.now in
+    let begins = c.in-Some.ensures.cases.0 in
+    let all = subst (All (Within (size g))) begins c.edges.invariant.edges in
+    record {
+      last = c.edges.invariant.last ∙ ap (last_vertex g c.edges.last) begins ∙ ap (λ w. last_vertex g w others) (sym c.across-last.ensures);
+      at = subst (Within g.order) (sym c.across-last.ensures) (other_end-within g c.keeps_limits.ensures.multigraph.ends e c.edges.last (all 0 0 (omega arith)));
+      edges = all-behind (size g) e others all;
+    }

@@ -1,0 +1,53 @@
+use Rattle.std.proofs.Common.{rules, ◌≡◌, ◌∙◌, ◌++◌, ◌∷◌, [], ap, arith, sym, subst, true, false, map, List, ℕ, append-nil}
+use Rattle.std.proofs.lemmas.Result.{IfOk-weaker}
+use Rattle.std.proofs.lemmas.List.{map-append}
+use Rattle.counting.specs.Counts.{Within}
+use Rattle.counting.specs.Lists.{mem}
+use Rattle.match_core.specs.Rows.{marks}
+use Rattle.ear_core.specs.AlternatingEars.{row_edge, is_left, AreMatedEars, IsTraced}
+use Rattle.ear_core.specs.EarLists.{PlainEar}
+use Rattle.ear_core.specs.View.{ear_of}
+use Rattle.ear_core.proofs.Following.{collected-none, collected-more, after-holds, after-fewer, ears-more}
+use Rattle.ear_core.proofs.tracing.+collect.Goals as goal
+
+pub returns-in_default : goal.returns-in_default
+returns-in_default t c =
+    let g = c.args.g.now in
+    let f = marks c.args.mark.now in
+    let m = row_edge c.args.m.now.rows in
+    let nothing : (v : ℕ) → Within g.order v → is_left (mem c.args.met) f m (mem c.args.used) v ≡ false = search rules in
+    ([], sym (append-nil (map ear_of c.args.ears.now.items)), collected-none g c.keeps_limits.ensures.multigraph.ends f m (row_edge c.args.n.now.rows) (mem c.args.met) c.requires.met (mem c.args.used) nothing)
+
+pub collect-requires : goal.collect-requires
+collect-requires t c =
+    let g = c.args.g.now in
+    let is = c.keeps_limits.ensures.multigraph.ends in
+    let f = marks c.args.mark.now in
+    let m = row_edge c.args.m.now.rows in
+    let n = row_edge c.args.n.now.rows in
+    let left : is_left (mem c.args.met) f m (mem c.args.used) c.in-Some.v ≡ true = search rules in
+    let traced : IsTraced g (mem c.args.met) m n (mem c.args.used) c.in-Some.v [] c.trace.new.edges (mem c.in_ok-after.after) = subst (λ (old : List ℕ). IsTraced g (mem c.args.met) m n (mem c.args.used) c.in-Some.v old c.trace.new.edges (mem c.in_ok-after.after)) c.new-edges.ensures c.in_ok-after.ensures in
+    let fewer = after-fewer g is f m n (mem c.args.met) c.requires.met (mem c.args.used) c.requires.holds c.in-Some.v left c.trace.new.edges (mem c.in_ok-after.after) traced in
+    let holds = after-holds g is f m n (mem c.args.met) c.requires.met (mem c.args.used) c.requires.holds c.in-Some.v left c.trace.new.edges (mem c.in_ok-after.after) traced in
+    let falls = c.decreases in
+    (first_of (omega arith, search rules), (c.requires.long, (c.requires.met, (c.requires.leading, (c.requires.kept, (c.requires.mates, holds))))))
+
+pub returns : goal.returns
+returns t c =
+    let g = c.args.g.now in
+    let is = c.keeps_limits.ensures.multigraph.ends in
+    let f = marks c.args.mark.now in
+    let m = row_edge c.args.m.now.rows in
+    let n = row_edge c.args.n.now.rows in
+    let left : is_left (mem c.args.met) f m (mem c.args.used) c.in-Some.v ≡ true = search rules in
+    let traced : IsTraced g (mem c.args.met) m n (mem c.args.used) c.in-Some.v [] c.trace.new.edges (mem c.in_ok-after.after) = subst (λ (old : List ℕ). IsTraced g (mem c.args.met) m n (mem c.args.used) c.in-Some.v old c.trace.new.edges (mem c.in_ok-after.after)) c.new-edges.ensures c.in_ok-after.ensures in
+    let ear : PlainEar = record { begin = c.in-Some.v; edges = c.trace.new.edges } in
+    let old = map ear_of c.args.ears.now.items in
+    let mid : map ear_of c.push.new.self.items ≡ old ++ ear ∷ [] = ap (map ear_of) c.in_ok-push.ensures.items ∙ map-append ear_of c.args.ears.now.items _ in
+    IfOk-weaker c.collect.result (λ _. (more : List PlainEar) × (map ear_of c.collect.new.ears.items ≡ map ear_of c.push.new.self.items ++ more) × AreMatedEars g f m n (mem c.in_ok-after.after) more)
+    (λ _. (more : List PlainEar) × (map ear_of c.collect.new.ears.items ≡ old ++ more) × AreMatedEars g f m n (mem c.args.used) more)
+    (λ _ x. (
+      ear ∷ x.0,
+      ears-more old (map ear_of c.push.new.self.items) (map ear_of c.collect.new.ears.items) ear x.0 mid x.1,
+      collected-more g is f m n (mem c.args.met) c.requires.met (mem c.args.used) c.requires.holds c.in-Some.v left c.trace.new.edges (mem c.in_ok-after.after) traced x.0 x.2,
+    )) c.collect.ensures

@@ -1,0 +1,144 @@
+//! The builder of ear lists.
+ghost use Rattle.std.specs.Prelude.{◌≡◌, ◌+◌, ◌&&◌, ◌||◌, ℕ, true, false, not, length, map, IfOk, IfSome, IfNone};
+ghost use Rattle.std.specs.List.{AllByRecursion};
+ghost use Rattle.counting.specs.Counts.{Within};
+ghost use Rattle.counting.specs.Lists.{mem};
+ghost use Rattle.graph_core.specs.Covered.{IsCovered};
+ghost use Rattle.graph_core.specs.Graph.{size, first_end, second_end, IsBipartite};
+ghost use Rattle.match_core.specs.MatchingRows.{edges_of};
+ghost use Rattle.match_core.specs.Rows.{marks};
+ghost use Rattle.ear_core.specs.AlternatingEars.{IsPerfectRows, KeepsMates, row_edge};
+ghost use Rattle.ear_core.specs.EarLists.{AreSteps, IsEarList, IsSingle, IsStep, next_stage, FitsStep};
+ghost use Rattle.ear_core.specs.Stages.{is_met, IsStage};
+ghost use Rattle.ear_core.specs.View.{ears_of, step_of};
+
+use crate::choosing::choose;
+use crate::ears::{EarList, Step, Steps};
+use crate::faults::met_by;
+use crate::steps::mark_step;
+use crate::tracing::collect;
+use allowed_edges::perfect_with_edge;
+use graph_core::MultiGraph;
+use match_core::{Matching, perfect_without};
+use std::alloc::{AllocError as Memory, Global};
+use vset_core::VSet;
+
+/// An ear list of a matching covered graph, from its edge 1; each step has one ear where the graph is bipartite. One perfect matching
+/// is kept. At each stage another one that holds an edge leading out of it makes ears together with the kept one, of which one is
+/// added that keeps the stage matching covered, else two. `Memory` is want of memory alone.
+pub fn build_ears(alloc: Global, g: &MultiGraph) -> Result<EarList, Memory>
+    requires { IsCovered g.now }
+    ensures list { IfOk result (λ list. IsEarList g.now (ears_of list)) }
+    ensures start { IfOk result (λ list. list.start ≡ 1) }
+    ensures single { IfOk result (λ list. IsBipartite g.now → AllByRecursion IsSingle (ears_of list).steps) }
+{
+    g.keeps_limits();
+    let kept = matching_with_first(alloc, g)?;
+    let mut mark = vec![in alloc; false; g.size() as usize + 1]?;
+    mark[1] = true;
+    let steps = steps_from(alloc, g, &mut mark, &kept)?;
+    Ok(EarList { start: 1, steps })
+}
+
+// Steps from the stage of the marked edges to all edges. The stage holds the mates of its vertices by the kept matching.
+fn steps_from(
+    alloc: Global,
+    g: &MultiGraph,
+    mark: &mut Vec<bool>,
+    kept: &Matching,
+) -> Result<Steps, Memory>
+    requires covered { IsCovered g.now }
+    requires long { length mark.old.items ≡ size g.now + 1 }
+    requires stage { IsStage g.now (marks mark.old.items) }
+    requires kept { IsPerfectRows g.now kept.now }
+    requires mates { KeepsMates g.now (row_edge kept.now.rows) (is_met g.now (marks mark.old.items)) }
+    ensures steps { IfOk result (λ steps. AreSteps g.now (marks mark.old.items) (map step_of steps)) }
+    ensures single { IfOk result (λ steps. IsBipartite g.now → AllByRecursion IsSingle (map step_of steps)) }
+{
+    g.keeps_limits();
+    let mut steps = Steps::new(alloc);
+    'stages: while let Some(edge) = leaving_edge(g, mark) {
+        let step = next_step(alloc, g, mark, kept, edge)?;
+        mark_step(mark, g.size(), &step);
+        steps.push(step)?;
+    }
+    Ok(steps)
+}
+
+// A perfect matching that holds edge 1.
+fn matching_with_first(alloc: Global, g: &MultiGraph) -> Result<Matching, Memory>
+    requires { IsCovered g.now }
+    ensures edge { IfOk result (λ m. Within (size g.now) 1) }
+    ensures perfect { IfOk result (IsPerfectRows g.now) }
+    ensures holds { IfOk result (λ m. mem (edges_of m) 1 ≡ true) }
+{
+    g.keeps_limits();
+    let Some(any) = perfect_without(alloc, g, VSet::empty())? else {
+        unreachable!()
+    };
+    match perfect_with_edge(alloc, g, &any, 1)? {
+        Some(m) => Ok(m),
+        None => unreachable!(),
+    }
+}
+
+// The least edge off the stage of the marked edges with an end on it.
+fn leaving_edge(g: &MultiGraph, mark: &[bool]) -> Option<u32>
+    requires { length mark.now ≡ size g.now + 1 }
+    ensures some { IfSome result (λ e. Within (size g.now) e × (marks mark.now e ≡ false)
+        × ((is_met g.now (marks mark.now) (first_end g.now e) || is_met g.now (marks mark.now) (second_end g.now e)) ≡ true)) }
+    ensures none { IfNone result ((e : ℕ) → Within (size g.now) e
+        → (not (marks mark.now e) && (is_met g.now (marks mark.now) (first_end g.now e) || is_met g.now (marks mark.now) (second_end g.now e))) ≡ false) }
+{
+    g.keeps_limits();
+    let met = met_by(g, mark);
+    for k in 0..g.size() {
+        let e = k + 1;
+        let ends = g.ends(e);
+        if !mark[e as usize] && (met.contains(ends.a) || met.contains(ends.b)) {
+            return Some(e);
+        }
+    }
+    None
+}
+
+// A step from the stage of the marked edges, which holds the mates of its vertices by the kept matching. An edge leads out of it.
+fn next_step(
+    alloc: Global,
+    g: &MultiGraph,
+    mark: &[bool],
+    kept: &Matching,
+    edge: u32,
+) -> Result<Step, Memory>
+    requires covered { IsCovered g.now }
+    requires long { length mark.now ≡ size g.now + 1 }
+    requires stage { IsStage g.now (marks mark.now) }
+    requires kept { IsPerfectRows g.now kept.now }
+    requires mates { KeepsMates g.now (row_edge kept.now.rows) (is_met g.now (marks mark.now)) }
+    requires edge { Within (size g.now) edge }
+    requires off { marks mark.now edge ≡ false }
+    requires leads { (is_met g.now (marks mark.now) (first_end g.now edge) || is_met g.now (marks mark.now) (second_end g.now edge)) ≡ true }
+    ensures fits { IfOk result (λ step. FitsStep g.now.order (size g.now) (step_of step)) }
+    ensures step { IfOk result (λ step. IsStep g.now (marks mark.now) (step_of step)) }
+    ensures stage { IfOk result (λ step. IsStage g.now (next_stage (marks mark.now) (step_of step))) }
+    ensures mates { IfOk result (λ step. KeepsMates g.now (row_edge kept.now.rows) (is_met g.now (next_stage (marks mark.now) (step_of step)))) }
+    ensures single { IfOk result (λ step. IsBipartite g.now → IsSingle (step_of step)) }
+{
+    g.keeps_limits();
+    let met = met_by(g, mark);
+    let Some(leading) = perfect_with_edge(alloc, g, kept, edge)? else {
+        unreachable!()
+    };
+    let mut ears = Vec::new(alloc);
+    collect(
+        alloc,
+        g,
+        mark,
+        met,
+        &leading,
+        kept,
+        VSet::empty(),
+        &mut ears,
+    )?;
+    choose(alloc, g, mark, met, &ears)
+}

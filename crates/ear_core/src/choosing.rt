@@ -1,0 +1,183 @@
+//! The choice of a step among ears that two perfect matchings make.
+ghost use Rattle.std.specs.Prelude.{◌≡◌, ◌+◌, ℕ, true, false, length, map, IfOk, IfSome, IfNone};
+ghost use Rattle.std.specs.List.{AllByRecursion};
+ghost use Rattle.counting.specs.Lists.{mem};
+ghost use Rattle.counting.specs.Sets.{Set};
+ghost use Rattle.graph_core.specs.Graph.{Graph, size, IsBipartite};
+ghost use Rattle.match_core.specs.Rows.{marks};
+ghost use Rattle.ear_core.specs.AlternatingEars.{Serves, ends_of_ear, AreCandidates, IsChosen};
+ghost use Rattle.ear_core.specs.Asking.{IsAsked, FindsOne, FindsWith, FindsTwo, NoneServes, NoneServesWith, NoTwoServe};
+ghost use Rattle.ear_core.specs.EarLists.{next_stage, IsStep, IsSingle, FitsEar};
+ghost use Rattle.ear_core.specs.Stages.{is_met, IsStage};
+ghost use Rattle.ear_core.specs.View.{ear_of, step_of};
+
+use crate::ears::{Ear, Step};
+use crate::stages::marked_graph;
+use crate::tracing::across;
+use graph_core::{MultiGraph, Numbers};
+use match_core::perfect_without;
+use std::alloc::{AllocError as Memory, Global};
+use vset_core::VSet;
+
+/// The graph of a stage as the matching engine is asked about it: on all vertices, beside those off the stage.
+#[derive(Drop)]
+pub struct Asked {
+    pub stage: MultiGraph,
+    pub outside: VSet,
+}
+
+// The graph of the marked edges, which meet the vertices `met`.
+fn asked_about(alloc: Global, g: &MultiGraph, mark: &[bool], met: VSet) -> Result<Asked, Memory>
+    requires long { length mark.now ≡ size g.now + 1 }
+    requires met { (v : ℕ) → mem met v ≡ is_met g.now (marks mark.now) v }
+    ensures { IfOk result (IsAsked g.now (marks mark.now)) }
+{
+    g.keeps_limits();
+    Ok(Asked {
+        stage: marked_graph(alloc, g, mark)?,
+        outside: VSet::full(g.order()).minus(met),
+    })
+}
+
+// Whether the stage has a perfect matching without the vertices of a set.
+fn serves(alloc: Global, asked: &Asked, ends: VSet) -> Result<bool, Memory>
+    ensures yes { (g : Graph) (f : Set) → IsAsked g f asked.now → IfOk result (λ b. b ≡ true → Serves g f (mem ends)) }
+    ensures no { (g : Graph) (f : Set) → IsAsked g f asked.now → IfOk result (λ b. b ≡ false → Serves g f (mem ends) → ⊥) }
+{
+    let Some(_) = perfect_without(alloc, &asked.stage, asked.outside.union(ends))? else {
+        return Ok(false);
+    };
+    Ok(true)
+}
+
+// A copy of an ear.
+fn copy_of(alloc: Global, ear: &Ear) -> Result<Ear, Memory>
+    ensures { IfOk result (λ copy. ear_of copy ≡ ear_of ear.now) }
+{
+    let mut edges = Numbers::new(alloc);
+    let mut rest = ear.edges.as_slice();
+    'edges: while let Some((e, others)) = rest.split_first() {
+        edges.push(*e)?;
+        rest = others;
+    }
+    Ok(Ear {
+        from: ear.from,
+        edges,
+    })
+}
+
+// The two ends of an ear.
+fn ends_of(g: &MultiGraph, ear: &Ear) -> VSet
+    requires { FitsEar g.now.order (size g.now) (ear_of ear.now) }
+    ensures { (w : ℕ) → mem result w ≡ ends_of_ear g.now (ear_of ear.now) w }
+{
+    g.keeps_limits();
+    let mut last = ear.from;
+    let mut rest = ear.edges.as_slice();
+    'edges: while let Some((e, others)) = rest.split_first() {
+        last = across(g, *e, last);
+        rest = others;
+    }
+    VSet::one(ear.from).with(last)
+}
+
+// The step of the first ear that serves.
+fn single_step(
+    alloc: Global,
+    g: &MultiGraph,
+    asked: &Asked,
+    ears: &[Ear],
+) -> Result<Option<Step>, Memory>
+    requires { AllByRecursion (FitsEar g.now.order (size g.now)) (map ear_of ears.now) }
+    ensures some { (f : Set) → IsAsked g.now f asked.now → IfOk result (λ o. IfSome o (λ step. FindsOne g.now f (map ear_of ears.now) (step_of step))) }
+    ensures none { (f : Set) → IsAsked g.now f asked.now → IfOk result (λ o. IfNone o (NoneServes g.now f (map ear_of ears.now))) }
+{
+    let Some((ear, others)) = ears.split_first() else {
+        return Ok(None);
+    };
+    if serves(alloc, asked, ends_of(g, ear))? {
+        let first = copy_of(alloc, ear)?;
+        return Ok(Some(Step {
+            first,
+            second: None,
+        }));
+    }
+    single_step(alloc, g, asked, others)
+}
+
+// The step of an ear and the first other one that serves with it.
+fn step_with(
+    alloc: Global,
+    g: &MultiGraph,
+    asked: &Asked,
+    first: &Ear,
+    ears: &[Ear],
+) -> Result<Option<Step>, Memory>
+    requires first { FitsEar g.now.order (size g.now) (ear_of first.now) }
+    requires others { AllByRecursion (FitsEar g.now.order (size g.now)) (map ear_of ears.now) }
+    ensures some { (f : Set) → IsAsked g.now f asked.now → IfOk result (λ o. IfSome o (λ step. FindsWith g.now f (ear_of first.now) (map ear_of ears.now) (step_of step))) }
+    ensures none { (f : Set) → IsAsked g.now f asked.now → IfOk result (λ o. IfNone o (NoneServesWith g.now f (ear_of first.now) (map ear_of ears.now))) }
+{
+    let Some((ear, others)) = ears.split_first() else {
+        return Ok(None);
+    };
+    let ends = ends_of(g, first).union(ends_of(g, ear));
+    if serves(alloc, asked, ends)? {
+        let copy = copy_of(alloc, first)?;
+        let other = copy_of(alloc, ear)?;
+        return Ok(Some(Step {
+            first: copy,
+            second: Some(other),
+        }));
+    }
+    step_with(alloc, g, asked, first, others)
+}
+
+// The step of the first two ears, in lexicographic order, that serve together.
+fn double_step(
+    alloc: Global,
+    g: &MultiGraph,
+    asked: &Asked,
+    ears: &[Ear],
+) -> Result<Option<Step>, Memory>
+    requires { AllByRecursion (FitsEar g.now.order (size g.now)) (map ear_of ears.now) }
+    ensures some { (f : Set) → IsAsked g.now f asked.now → IfOk result (λ o. IfSome o (λ step. FindsTwo g.now f (map ear_of ears.now) (step_of step))) }
+    ensures none { (f : Set) → IsAsked g.now f asked.now → IfOk result (λ o. IfNone o (NoTwoServe g.now f (map ear_of ears.now))) }
+{
+    let Some((first, others)) = ears.split_first() else {
+        return Ok(None);
+    };
+    if let Some(step) = step_with(alloc, g, asked, first, others)? {
+        return Ok(Some(step));
+    }
+    double_step(alloc, g, asked, others)
+}
+
+/// A step of candidates on the stage of the marked edges, which meets the vertices `met`: the first ear that serves alone, else the
+/// first two that serve together. One or two do, by the two-ear theorem.
+pub fn choose(
+    alloc: Global,
+    g: &MultiGraph,
+    mark: &[bool],
+    met: VSet,
+    ears: &[Ear],
+) -> Result<Step, Memory>
+    requires long { length mark.now ≡ size g.now + 1 }
+    requires met { (v : ℕ) → mem met v ≡ is_met g.now (marks mark.now) v }
+    requires stage { IsStage g.now (marks mark.now) }
+    requires candidates { AreCandidates g.now (marks mark.now) (map ear_of ears.now) }
+    ensures chosen { IfOk result (λ step. IsChosen (map ear_of ears.now) (step_of step)) }
+    ensures step { IfOk result (λ step. IsStep g.now (marks mark.now) (step_of step)) }
+    ensures stage { IfOk result (λ step. IsStage g.now (next_stage (marks mark.now) (step_of step))) }
+    ensures single { IfOk result (λ step. IsBipartite g.now → IsSingle (step_of step)) }
+{
+    g.keeps_limits();
+    let asked = asked_about(alloc, g, mark, met)?;
+    if let Some(step) = single_step(alloc, g, &asked, ears)? {
+        return Ok(step);
+    }
+    match double_step(alloc, g, &asked, ears)? {
+        Some(step) => Ok(step),
+        None => unreachable!(),
+    }
+}
