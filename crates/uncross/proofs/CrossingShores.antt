@@ -1,5 +1,6 @@
 -- Exposing a shore that crosses the root shore: the inner and the outer corner are exposed first where they are no single blocks,
 -- a Switch exchanges them, and Rotate brings the shore back over both.
+use Rattle.uncross.specs.Walks.{AreRising, Walk}
 use Rattle.std.proofs.Common.{Bool, List, None, Some, [], ap, ap₂, arith, cond, false, if◌then◌else◌, inl, inr, length, map, not, refl, subst, sym, true, ℕ, ◌&&◌, ◌*◌, ◌++◌, ◌+◌, ◌||◌, ◌∙◌, ◌∷◌, ◌≡◌, ◌≤◌, ◌⊎◌}
 use Rattle.std.proofs.lemmas.Bool.{both_ways, cases_Bool}
 use Rattle.counting.proofs.Odd.{odd-add}
@@ -14,16 +15,16 @@ use Rattle.graph_core.specs.Graph.{Graph}
 use Rattle.graph_core.specs.Partitions.{complement_of, contracted, merged}
 use Rattle.graph_core.specs.Shores.{block_count}
 use Rattle.tree_core.specs.Derivations.{IsDerivationAt, kept_at, merged_at}
-use Rattle.tree_core.specs.Moves.{IsBlockOf, PlainMove, inner_rest, is_proper, kept_if_in_q, kept_if_in_v, merged_if_in_q, merged_if_in_v, outer_rest, rotate_at, rotate_result_at, switch_at, switch_result_at, union_list}
+use Rattle.tree_core.specs.Moves.{IsBlockOf, PlainMove, below, inner_rest, is_proper, kept_if_in_q, kept_if_in_v, merged_if_in_q, merged_if_in_v, outer_rest, rotate_at, rotate_result_at, switch_at, switch_result_at, union_list}
 use Rattle.tree_core.specs.Shapes.{Shape, cut, cut_count, leaf}
 use Rattle.tree_core.specs.declared.path.Side.{Side}
 use Rattle.tree_core.specs.declared.path.Side.TheVariants.{Kept, Merged}
 use Rattle.uncross.proofs.BigShores.{Big, Stage, big_rest, big_some, cut_big, rest_rest, stage_merged}
 use Rattle.uncross.proofs.Corners.{Corners, corner_of, inner_mem, inner_single_or_big, inner_of, merged_inner, merged_outer, outer_mem, outer_single_or_big, outer_of}
 use Rattle.uncross.proofs.NestedShores.{Crossed, Exposed, Exposes, stays_big}
-use Rattle.uncross.proofs.Rising.{AreRising, bounds}
+use Rattle.uncross.proofs.Rising.{bounds}
 use Rattle.uncross.proofs.Rotations.{says_subset, subset_says}
-use Rattle.uncross.proofs.Scripts.{Walk, below, length_below, length_join, walk_end, walk_join, walk_kept, walk_merged, walk_rotate}
+use Rattle.uncross.proofs.Scripts.{length_below, length_join, walk_end, walk_join, walk_kept, walk_merged, walk_rotate}
 use Rattle.uncross.proofs.Switches.{each_of, kept_in_q, kept_in_v, map_a, map_b, merged_in_q, merged_in_v, inner_rest-mem, outer_rest-mem, switch_in_q, switch_in_v}
 use Rattle.uncross.specs.Exchange.{Corner}
 use Rattle.uncross.specs.Isomorphisms.{carry, carry_cut}

@@ -2,3 +2,4 @@ pub mod Isomorphisms
 pub mod Exchange
 pub mod SameLeaf
 pub mod Pairings
+pub mod Walks
