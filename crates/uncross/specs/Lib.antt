@@ -3,3 +3,4 @@ pub mod Exchange
 pub mod SameLeaf
 pub mod Pairings
 pub mod Walks
+pub mod Turning
