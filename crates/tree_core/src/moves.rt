@@ -115,6 +115,13 @@ impl Moves {
         &self.items[i]
     }
 
+    /// The moves as a slice. Takes no memory.
+    pub fn as_slice(&self) -> &[Move]
+        ensures { result.now ≡ self.now }
+    {
+        &self.items
+    }
+
     /// Appends a move. After `Memory` the list is unchanged, and the move is given up.
     pub fn push(&mut self, item: Move) -> Result<(), Memory>
         ensures ok { OnOk result (self.new ≡ self.old ++ item ∷ []) }

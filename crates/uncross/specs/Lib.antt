@@ -4,3 +4,4 @@ pub mod SameLeaf
 pub mod Pairings
 pub mod Walks
 pub mod Turning
+pub mod TurnedView
