@@ -58,6 +58,11 @@ abbrev pub rotate_result : List Side → Shape → Option Shape
 rotate_result [] t = None
 rotate_result (side ∷ path) t = result_at (rotate_result_at (last_step side path)) (parent_path side path) t
 
+-- a move one step further down
+abbrev pub below : Side → PlainMove → PlainMove
+below side (rotate_at path) = rotate_at (side ∷ path)
+below side (switch_at path u v) = switch_at (side ∷ path) u v
+
 -- the union of two sets as a rising list
 abbrev pub union_list : ℕ → List ℕ → List ℕ → List ℕ
 union_list n x y = rising_list n (union (mem x) (mem y))

@@ -1,11 +1,11 @@
 //! Moves on trees of cuts.
 ghost use Rattle.std.specs.Prelude.{◌≡◌, ◌<◌, ◌++◌, ◌∷◌, [], ◌==◌, Some, None, IfOk, IfErr, OnOk, OnErr, length, slice_get};
 ghost use Rattle.tree_core.specs.MoveView.{move_of};
-ghost use Rattle.tree_core.specs.Moves.{move_result};
+ghost use Rattle.tree_core.specs.Moves.{below, move_result};
 ghost use Rattle.tree_core.specs.Shapes.{Fits};
 ghost use Rattle.tree_core.specs.View.{shape_of};
 
-use crate::path::Path;
+use crate::path::{Path, Side};
 use crate::rotation::rotate;
 use crate::switching::switch;
 use crate::tree::Tree;
@@ -30,6 +30,24 @@ pub enum Move {
         /// The set that comes in its place.
         v: VSet,
     },
+}
+
+impl Move {
+    /// The move one step further down.
+    pub fn below(&self, alloc: Global, side: Side) -> Result<Move, Memory>
+        ensures { IfOk result (λ m. move_of m ≡ below side (move_of self.now)) }
+    {
+        match self {
+            Move::Rotate { path } => Ok(Move::Rotate {
+                path: path.below(alloc, side)?,
+            }),
+            Move::Switch { path, u, v } => Ok(Move::Switch {
+                path: path.below(alloc, side)?,
+                u: *u,
+                v: *v,
+            }),
+        }
+    }
 }
 
 /// The answer where a move does not fit the tree.
@@ -95,6 +113,13 @@ impl Moves {
         ensures { slice_get self.now i ≡ Some result.now }
     {
         &self.items[i]
+    }
+
+    /// The moves as a slice. Takes no memory.
+    pub fn as_slice(&self) -> &[Move]
+        ensures { result.now ≡ self.now }
+    {
+        &self.items
     }
 
     /// Appends a move. After `Memory` the list is unchanged, and the move is given up.

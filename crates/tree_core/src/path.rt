@@ -1,5 +1,5 @@
 //! Paths in trees.
-ghost use Rattle.std.specs.Prelude.{◌≡◌, ◌<◌, ◌++◌, ◌∷◌, [], ◌==◌, OnOk, OnErr, length, slice_get, Some};
+ghost use Rattle.std.specs.Prelude.{◌≡◌, ◌<◌, ◌++◌, ◌∷◌, [], ◌==◌, IfOk, OnOk, OnErr, length, slice_get, Some};
 
 use std::alloc::{AllocError as Memory, Global};
 use std::marker::Model;
@@ -67,6 +67,16 @@ impl Path {
     {
         self.sides.push(side)?;
         Ok(())
+    }
+
+    /// The path with one step before it.
+    pub fn below(&self, alloc: Global, side: Side) -> Result<Path, Memory>
+        ensures { IfOk result (λ path. path ≡ side ∷ self.now) }
+    {
+        let mut sides = Vec::new(alloc);
+        sides.push(side)?;
+        sides.extend_from_slice(&self.sides)?;
+        Ok(Path { sides })
     }
 
     /// The steps as a slice. Takes no memory.

@@ -1,5 +1,6 @@
 -- The leaves of a carried tree: they are those of the tree, as same leaves by the names of the images of blocks, and two parts change
 -- their places where the complement of an image is taken.
+use Rattle.uncross.specs.Walks.{AreRising}
 use Rattle.std.proofs.Common.{Bool, List, ap, arith, cond, false, length, map, not, refl, subst, sym, true, ℕ, ◌+◌, ◌-◌, ◌∙◌, ◌≡◌}
 use Rattle.std.proofs.lemmas.List.{get_or-map, length-map, map-append}
 use Rattle.std.specs.Prelude.{[], ◌++◌}
@@ -24,7 +25,7 @@ use Rattle.tree_core.specs.Shapes.{Shape, cut, leaf, leaf_count}
 use Rattle.uncross.proofs.CarriedTrees.{inner, iso_merged, nontrivial_congr, nontrivial_rest, outer, rest_tight}
 use Rattle.uncross.proofs.Images.{image_covered, image_nontrivial, image_tight, move_is}
 use Rattle.uncross.proofs.Parts.{Part, part-join, part-one, part-turn}
-use Rattle.uncross.proofs.Rising.{AreRising, bounds}
+use Rattle.uncross.proofs.Rising.{bounds}
 use Rattle.uncross.proofs.SameBlocks.{Finer}
 use Rattle.uncross.proofs.SameLeaves.{iso_same_leaf}
 use Rattle.uncross.specs.Isomorphisms.{Isomorphism, carry, carry_cut, pre}

@@ -1,5 +1,6 @@
 -- The law of carrying: an isomorphism of blocks goes down to the merged partitions, so that a derivation at one partition is carried
 -- to a derivation at the other.
+use Rattle.uncross.specs.Walks.{AreRising}
 use Rattle.std.proofs.Common.{Bool, List, ap, arith, false, inl, inr, length, not, refl, sym, true, ℕ, ◌∙◌, ◌≡◌, ◌≤◌}
 use Rattle.counting.proofs.Counts.{bit_true}
 use Rattle.counting.proofs.RisingLists.{mem-rising_list, rising_list-rises}
@@ -18,7 +19,7 @@ use Rattle.graph_core.specs.Tight.{IsNontrivial}
 use Rattle.tree_core.specs.Derivations.{IsCutAt, IsDerivationAt, IsLeafAt, kept_at, merged_at}
 use Rattle.tree_core.specs.Shapes.{Shape, cut, leaf}
 use Rattle.uncross.proofs.Images.{image_at, image_covered, image_nontrivial, image_tight, turned}
-use Rattle.uncross.proofs.Rising.{AreRising, bounds}
+use Rattle.uncross.proofs.Rising.{bounds}
 use Rattle.uncross.specs.Isomorphisms.{Isomorphism, OneWay, carry, carry_cut, pre}
 
 -- one way of an isomorphism after merging x on one side and y, its image, on the other

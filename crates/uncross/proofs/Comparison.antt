@@ -1,5 +1,7 @@
 -- Two derivations at one partition are turned into one another: the root shore of the second is exposed in the first, and then the
 -- same below it on both sides.
+use Rattle.tree_core.specs.Moves.{below}
+use Rattle.uncross.specs.Walks.{AreRising}
 use Rattle.std.proofs.Common.{List, [], ap, arith, map, mul-add, mul_comm, refl, sym, ℕ, ◌*◌, ◌++◌, ◌+◌, ◌≡◌, ◌≤◌}
 use Rattle.graph_core.specs.Graph.{Graph}
 use Rattle.graph_core.specs.Partitions.{complement_of}
@@ -8,8 +10,7 @@ use Rattle.tree_core.specs.Shapes.{Shape, cut, cut_count, leaf}
 use Rattle.tree_core.specs.declared.path.Side.TheVariants.{Kept, Merged}
 use Rattle.uncross.proofs.BigShores.{Stage, big_rest, cut_big, stage_merged}
 use Rattle.uncross.proofs.NestedShores.{Compared, Crossed, expose, leaf_not}
-use Rattle.uncross.proofs.Rising.{AreRising}
-use Rattle.uncross.proofs.Scripts.{below, length_below, length_join, walk_end, walk_join, walk_kept, walk_merged}
+use Rattle.uncross.proofs.Scripts.{length_below, length_join, walk_end, walk_join, walk_kept, walk_merged}
 
 square : (k r c : ℕ) → c ≡ 1 + k + r → k * k + r * r + c ≤ c * c
 square k r c e =

@@ -1,5 +1,6 @@
 -- The leaves under a move, down its path: below the node they are those that the move gives, and elsewhere they stay. So the maps of a
 -- proper move pair the leaves of a derivation with those of the next.
+use Rattle.uncross.specs.Walks.{AreRising}
 use Rattle.std.proofs.Common.{◌≡◌, ℕ, ◌+◌, Bool, true, false, ◌&&◌, not, List, [], ◌∷◌, ◌++◌, length, map, Option, Some, None, option_map, if◌then◌else◌, refl, sym, ap, ◌∙◌, arith, subst, subst₂}
 use Rattle.std.proofs.lemmas.List.{length-append, map-append}
 use Rattle.counting.specs.Lists.{is_apart, is_subset, mem}
@@ -17,7 +18,7 @@ use Rattle.tree_core.specs.declared.path.Side.{Side}
 use Rattle.tree_core.specs.declared.path.Side.TheVariants.{Kept, Merged}
 use Rattle.uncross.proofs.BigShores.{Stage, big_rest, cut_big, stage_merged}
 use Rattle.uncross.proofs.Parts.{Part, part-join, part-own, part-pairing, part-turn}
-use Rattle.uncross.proofs.Rising.{AreRising, rising-derivation_at}
+use Rattle.uncross.proofs.Rising.{rising-derivation_at}
 use Rattle.uncross.proofs.Rotations.{append_join, row_apart, row_inside, row_kept, subset_says}
 use Rattle.uncross.proofs.SwitchParts.{switch_derives, switch_part}
 use Rattle.graph_core.specs.Covered.{IsCovered}

@@ -1,5 +1,6 @@
 -- Exposing a shore that is nested with the root shore or apart from it: it is exposed in the child that holds it, and Rotate brings it
 -- over the root shore.
+use Rattle.uncross.specs.Walks.{AreRising, Walk}
 use Rattle.std.proofs.Common.{Bool, List, None, Some, [], ap, arith, cond, false, if◌then◌else◌, inl, inr, length, map, not, refl, subst, suc, sym, true, zero, ℕ, ◌&&◌, ◌*◌, ◌++◌, ◌+◌, ◌∙◌, ◌∷◌, ◌≡◌, ◌≤◌, ◌⊎◌}
 use Rattle.std.proofs.lemmas.Bool.{and_parts, both_ways, cases_Bool}
 use Rattle.counting.proofs.Odd.{odd-add}
@@ -16,13 +17,13 @@ use Rattle.graph_core.specs.Graph.{Graph}
 use Rattle.graph_core.specs.Partitions.{complement_of, contracted, merged}
 use Rattle.graph_core.specs.Shores.{block_count}
 use Rattle.tree_core.specs.Derivations.{IsDerivationAt, IsLeafAt, kept_at, merged_at}
-use Rattle.tree_core.specs.Moves.{PlainMove, rotate_at, rotate_result_at}
+use Rattle.tree_core.specs.Moves.{PlainMove, below, rotate_at, rotate_result_at}
 use Rattle.tree_core.specs.Shapes.{Shape, cut, cut_count, leaf}
 use Rattle.tree_core.specs.declared.path.Side.TheVariants.{Kept, Merged}
 use Rattle.uncross.proofs.BigShores.{Big, Stage, big_cut, big_rest, big_some, closed_y, cut_big, gap, gap_is, rest_after, rest_rest, same_number, stage_merged}
-use Rattle.uncross.proofs.Rising.{AreRising, bounds}
+use Rattle.uncross.proofs.Rising.{bounds}
 use Rattle.uncross.proofs.Rotations.{says_subset, subset_says}
-use Rattle.uncross.proofs.Scripts.{Walk, below, length_below, length_join, walk_end, walk_join, walk_kept, walk_merged, walk_rotate}
+use Rattle.uncross.proofs.Scripts.{length_below, length_join, walk_end, walk_join, walk_kept, walk_merged, walk_rotate}
 
 abbrev pub Exposed : Graph → List (List ℕ) → Shape → List ℕ → Type 0
 Exposed g p t y = (ms : List PlainMove) × (a : Shape) × (b : Shape) × Walk g p t ms (cut y a b) × (length ms + 2 ≤ 3 * cut_count t)

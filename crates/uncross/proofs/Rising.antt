@@ -1,4 +1,5 @@
 -- Shores as rising lists within 1 to n, at each node of a tree. A derivation has no others.
+use Rattle.uncross.specs.Walks.{AreRising}
 use Rattle.std.proofs.Common.{List, true, ℕ, ◌≡◌}
 use Rattle.counting.proofs.Lists.{mem-within}
 use Rattle.counting.specs.Counts.{Within}
@@ -6,11 +7,6 @@ use Rattle.counting.specs.Lists.{IsRisingIn, mem}
 use Rattle.graph_core.specs.Graph.{Graph}
 use Rattle.tree_core.specs.Derivations.{IsDerivationAt, kept_at, merged_at}
 use Rattle.tree_core.specs.Shapes.{Shape, cut, leaf}
-
--- the shore of each node is a rising list within 1 to n
-abbrev pub AreRising : ℕ → Shape → Type 0
-AreRising n leaf = Unit {0}
-AreRising n (cut x a b) = IsRisingIn n x × AreRising n a × AreRising n b
 
 -- its numbers are 1 to n
 pub bounds : {n : ℕ} {x : List ℕ} → IsRisingIn n x → (v : ℕ) → mem x v ≡ true → Within n v

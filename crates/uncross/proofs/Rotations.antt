@@ -1,4 +1,5 @@
 -- Rotate keeps derivations and their leaves, in each of its three rows and along a path.
+use Rattle.uncross.specs.Walks.{AreRising}
 use Rattle.std.proofs.Common.{Bool, List, None, Option, Some, [], ap, ap₂, arith, eq-eqb, eqb-true, false, if◌then◌else◌, inl, inr, not, option_map, refl, subst, sym, true, ℕ, ◌&&◌, ◌++◌, ◌==◌, ◌||◌, ◌∙◌, ◌∷◌, ◌≡◌}
 use Rattle.std.proofs.lemmas.Bool.{and_parts, both_ways, cases_Bool, or_cases}
 use Rattle.counting.specs.Counts.{Within}
@@ -15,7 +16,6 @@ use Rattle.tree_core.specs.Shapes.{Shape, cut, cut_count, leaf}
 use Rattle.tree_core.specs.declared.path.Side.{Side}
 use Rattle.tree_core.specs.declared.path.Side.TheVariants.{Kept, Merged}
 use Rattle.uncross.proofs.BigShores.{Big, Stage, big_cut, big_merge, big_rest, big_some, big_x, big_y, commuted, cut_big, rest_rest, stage_merged, swallowed}
-use Rattle.uncross.proofs.Rising.{AreRising}
 
 -- two apart shores can change their order
 pub record Swap (g : Graph) (p : List (List ℕ)) (x y : List ℕ) : Type 0 where

@@ -1,4 +1,5 @@
 -- The maps of a script pair the leaves: those of no move do, and a pairing followed by the pairing of a move is a pairing.
+use Rattle.uncross.specs.Walks.{AreRising, Walk}
 use Rattle.std.proofs.Common.{◌≡◌, ℕ, ◌-◌, ◌<◌, Bool, true, ◌==◌, List, [], ◌∷◌, length, map, unwrap_or, sym, ap, ap₂, ◌∙◌, arith, eq-eqb, ne_eqb, eqb-true, subst}
 use Rattle.std.proofs.lemmas.List.{get_or-map, length-map}
 use Rattle.counting.proofs.Counts.{bit_true, count_congr, only_one}
@@ -16,8 +17,6 @@ use Rattle.tree_core.specs.Shapes.{Shape, leaf_count}
 use Rattle.uncross.proofs.BigShores.{Stage}
 use Rattle.uncross.proofs.MoveParts.{move_pairs, own_part}
 use Rattle.uncross.proofs.Parts.{part-pairing}
-use Rattle.uncross.proofs.Rising.{AreRising}
-use Rattle.uncross.proofs.Scripts.{Walk}
 use Rattle.uncross.specs.Pairings.{IsPairing}
 use Rattle.uncross.specs.SameLeaf.{IsSameLeaf, image}
 

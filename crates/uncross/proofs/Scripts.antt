@@ -1,19 +1,14 @@
 -- Walks: scripts of proper moves through derivations at a partition, one after the other, and below a side of a cut.
+use Rattle.uncross.specs.Walks.{AreRising, Walk}
 use Rattle.std.proofs.Common.{List, None, Some, [], ap, arith, length, map, option_map, refl, subst, sym, ℕ, ◌++◌, ◌+◌, ◌∙◌, ◌∷◌, ◌≡◌}
 use Rattle.graph_core.specs.Graph.{Graph}
 use Rattle.tree_core.specs.Derivations.{IsDerivationAt, kept_at, merged_at}
-use Rattle.tree_core.specs.Moves.{IsProper, PlainMove, move_result, rotate_at, rotate_result_at, switch_at}
+use Rattle.tree_core.specs.Moves.{below, IsProper, PlainMove, move_result, rotate_at, rotate_result_at, switch_at}
 use Rattle.tree_core.specs.Shapes.{Shape, cut, cut_count}
 use Rattle.tree_core.specs.declared.path.Side.{Side}
 use Rattle.tree_core.specs.declared.path.Side.TheVariants.{Kept, Merged}
 use Rattle.uncross.proofs.BigShores.{Stage}
-use Rattle.uncross.proofs.Rising.{AreRising}
 use Rattle.uncross.proofs.Rotations.{rotate_keeps}
-
--- the script leads from s to t through derivations at p, and each Switch is proper
-abbrev pub Walk : Graph → List (List ℕ) → Shape → List PlainMove → Shape → Type 0
-Walk g p s [] t = s ≡ t
-Walk g p s (m ∷ ms) t = (r : Shape) × (move_result g.order s m ≡ Some r) × IsProper g.order p s m × IsDerivationAt g p r × AreRising g.order r × (cut_count r ≡ cut_count s) × Walk g p r ms t
 
 pub walk_end : (g : Graph) (p : List (List ℕ)) (s : Shape) (ms : List PlainMove) (t : Shape) → IsDerivationAt g p s → AreRising g.order s → Walk g p s ms t → IsDerivationAt g p t × AreRising g.order t × (cut_count t ≡ cut_count s)
 walk_end g p s [] t d f w = subst (λ r. IsDerivationAt g p r × AreRising g.order r × (cut_count r ≡ cut_count s)) w (d, f, refl)
@@ -22,11 +17,6 @@ walk_end g p s (m ∷ ms) t d f w = let q = walk_end g p w.0 ms t w.3 w.4 w.6 in
 pub walk_join : (g : Graph) (p : List (List ℕ)) (s : Shape) (ms ns : List PlainMove) (t r : Shape) → Walk g p s ms t → Walk g p t ns r → Walk g p s (ms ++ ns) r
 walk_join g p s [] ns t r w v = subst (λ z. Walk g p z ns r) (sym w) v
 walk_join g p s (m ∷ ms) ns t r w v = (w.0, w.1, w.2, w.3, w.4, w.5, walk_join g p w.0 ms ns t r w.6 v)
-
--- a move one step further down
-abbrev pub below : Side → PlainMove → PlainMove
-below side (rotate_at path) = rotate_at (side ∷ path)
-below side (switch_at path u v) = switch_at (side ∷ path) u v
 
 none_some : {b : Shape} → None ≡ Some b → ⊥
 none_some h = grind arith

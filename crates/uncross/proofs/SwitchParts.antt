@@ -1,4 +1,5 @@
 -- The leaves under a Switch, at its node: those of the two trees, in the order and by the names that the maps give.
+use Rattle.uncross.specs.Walks.{AreRising}
 use Rattle.std.proofs.Common.{◌≡◌, ℕ, ◌+◌, Bool, true, false, cond, ◌||◌, ◌&&◌, not, List, [], ◌++◌, map, if◌then◌else◌, refl, sym, ap, ap₂, ◌∙◌, arith, subst}
 use Rattle.std.proofs.lemmas.Bool.{and_parts}
 use Rattle.counting.proofs.RisingLists.{mem-rising_list}
@@ -20,7 +21,7 @@ use Rattle.uncross.proofs.Alignments.{numbers-split}
 use Rattle.uncross.proofs.BigShores.{Big, Stage, big_merge, big_rest, cut_big, stage_merged}
 use Rattle.uncross.proofs.CarriedLeaves.{carried_parts, carry_order}
 use Rattle.uncross.proofs.Parts.{Part, part-join, part-turn}
-use Rattle.uncross.proofs.Rising.{AreRising, bounds}
+use Rattle.uncross.proofs.Rising.{bounds}
 use Rattle.uncross.proofs.Rotations.{subset_says}
 use Rattle.uncross.proofs.SwitchImages.{kept_names, merged_names, u_alike}
 use Rattle.uncross.proofs.Switches.{Each, each_of, in_inner_rest, in_outer_rest, inner_rest-mem, iso_a, iso_b, kept_in_q, kept_in_v, map_a, map_b, merge_congr, merged_in_q, merged_in_v, outer_rest-mem, subset_test, switch_in_q, switch_in_v}

@@ -1,4 +1,5 @@
 -- A proper Switch keeps derivations: its four rules for the shores below are the carrying of trees by the maps of the exchange law.
+use Rattle.uncross.specs.Walks.{AreRising}
 use Rattle.std.proofs.Common.{Bool, List, ap, ap₂, arith, cond, false, if◌then◌else◌, inl, inr, not, refl, subst, sym, true, ℕ, ◌&&◌, ◌||◌, ◌∙◌, ◌≡◌}
 use Rattle.std.proofs.lemmas.Bool.{both_ways, cases_Bool}
 use Rattle.counting.proofs.RisingLists.{mem-rising_list, rising_list-rises, same_rising_list}
@@ -16,7 +17,7 @@ use Rattle.tree_core.specs.Shapes.{Shape, cut, leaf}
 use Rattle.uncross.proofs.BigShores.{Big, Stage, big_cut, big_merge, big_rest, big_some, cut_big, stage_merged}
 use Rattle.uncross.proofs.CarriedTrees.{carried_derives}
 use Rattle.uncross.proofs.Exchange.{exchange_kept, exchange_merged}
-use Rattle.uncross.proofs.Rising.{AreRising, bounds}
+use Rattle.uncross.proofs.Rising.{bounds}
 use Rattle.uncross.proofs.Rotations.{says_subset, subset_says}
 use Rattle.uncross.specs.Exchange.{Corner}
 use Rattle.uncross.specs.Isomorphisms.{Isomorphism, carry, carry_cut}

@@ -1,5 +1,6 @@
 -- The laws in their last form: what a same leaf carries along, and that any two derivations of a graph are joined by few moves
 -- (Lovász 1987).
+use Rattle.uncross.specs.Walks.{AreRising, Walk}
 use Rattle.std.proofs.Common.{List, [], length, sym, ℕ, ◌*◌, ◌+◌, ◌∷◌, ◌≡◌, ◌≤◌}
 use Rattle.counting.specs.Counts.{Within}
 use Rattle.counting.specs.Lists.{IsRisingIn, mem}
@@ -20,7 +21,6 @@ use Rattle.uncross.proofs.Comparison.{compare}
 use Rattle.uncross.proofs.CrossingShores.{crossed}
 use Rattle.uncross.proofs.Images.{image_nontrivial, image_tight}
 use Rattle.uncross.proofs.NestedShores.{Compared, Exposes, expose}
-use Rattle.uncross.proofs.Rising.{AreRising}
 use Rattle.std.proofs.Common.{Some as Just, None, arith}
 use Rattle.tree_core.specs.LeafMaps.{PlainLeafMap, move_maps, script_maps}
 use Rattle.tree_core.specs.Leaves.{leaves}
@@ -32,7 +32,6 @@ use Rattle.uncross.proofs.Rotations.{path_keeps, rotate_keeps}
 use Rattle.uncross.proofs.ScriptPairs.{script_pairs}
 use Rattle.uncross.specs.Pairings.{IsPairing}
 use Rattle.uncross.proofs.SameLeaves.{same_leaf_iso}
-use Rattle.uncross.proofs.Scripts.{Walk}
 use Rattle.uncross.proofs.SingleVertices.{singles_stage}
 use Rattle.uncross.specs.Isomorphisms.{Isomorphism, carry, pre}
 use Rattle.uncross.specs.SameLeaf.{IsSameLeaf, from_name, to_name}

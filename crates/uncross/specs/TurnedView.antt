@@ -1,0 +1,16 @@
+-- How the code's turned trees are seen, as plain data.
+use Rattle.std.specs.Prelude.{◌≡◌, ◌++◌, List}
+use Rattle.tree_core.specs.Moves.{PlainMove}
+use Rattle.tree_core.specs.MoveView.{moves_of}
+use Rattle.tree_core.specs.Shapes.{Shape}
+use Rattle.tree_core.specs.View.{shape_of}
+use Rattle.uncross.specs.Turning.{PlainTurned}
+use Rattle.uncross.specs.declared.turning.Turned.{Turned}
+
+-- the tree and the moves
+abbrev pub turned_of : Turned → PlainTurned
+turned_of t = record { tree = shape_of t.tree; moves = moves_of t.moves }
+
+-- the tree is the turned one, and its moves stand behind those before
+abbrev pub IsMade : Shape → (after before : List PlainMove) → PlainTurned → Type 0
+IsMade tree after before s = (tree ≡ s.tree) × (after ≡ before ++ s.moves)
