@@ -1,12 +1,13 @@
 -- The builder step by step. An edge off the stage leads out of it as long as one is left; a step of ears that hold the mates of their
 -- vertices keeps this of the stage; and steps that go on from a stage make a list with those before.
-use Rattle.std.proofs.Common.{◌≡◌, ℕ, ◌+◌, ◌≤◌, Bool, true, false, cond, ◌==◌, refl, sym, ap, ◌∙◌, arith, ◌&&◌, ◌||◌, not, eq-eqb, inl, inr, subst, [], ◌∷◌, ◌++◌, List, Result, Ok, Err, IfOk}
+use Rattle.std.proofs.Common.{◌≡◌, ℕ, ◌+◌, ◌≤◌, Bool, true, false, cond, ◌==◌, refl, sym, ap, ◌∙◌, arith, ◌&&◌, ◌||◌, not, eq-eqb, inl, inr, subst, [], ◌∷◌, ◌++◌, List, Result, Ok, Err, IfOk, length}
 use Rattle.std.proofs.Math.Path.{fun_ext}
 use Rattle.std.proofs.lemmas.List.{append_assoc}
 use Rattle.std.proofs.lemmas.Bool.{cases_Bool, both_ways, true≢false, false_from_ne_true, true_from_ne_false, or_left, or_right, or_cases}
 use Rattle.barrier_kit.proofs.Matched.{cut_edge}
 use Rattle.std.specs.List.{AllByRecursion}
 use Rattle.counting.proofs.Counts.{count_complement}
+use Rattle.counting.proofs.Odd.{odd_pos}
 use Rattle.counting.specs.Counts.{count, Within}
 use Rattle.counting.specs.Lists.{mem}
 use Rattle.counting.specs.Sets.{Set, none, singleton, complement}
@@ -15,7 +16,7 @@ use Rattle.graph_core.specs.Graph.{Graph, size, first_end, second_end, IsGraph, 
 use Rattle.graph_core.specs.Matchings.{HasPerfect, Allowed}
 use Rattle.match_core.specs.MatchingRows.{MatchingValue, edges_of}
 use Rattle.ear_core.specs.AlternatingEars.{mate, IsPerfectRows, row_edge, KeepsMates, IsMatedEar, IsAmong, AreMatedEars, AreCandidates, IsChosen}
-use Rattle.ear_core.specs.EarLists.{PlainEar, PlainStep, one, two, next_stage, IsStep, AreSteps, IsSingle, FitsStep}
+use Rattle.ear_core.specs.EarLists.{PlainEar, PlainStep, one, two, next_stage, IsStep, AreSteps, IsSingle, FitsStep, PlainEars, FitsEars, HasEdges, IsEarList}
 use Rattle.ear_core.specs.Ears.{other_end, trail, IsEar}
 use Rattle.ear_core.specs.NearlyStages.{odds}
 use Rattle.ear_core.specs.Stages.{is_met, IsStage, with_edges}
@@ -169,3 +170,22 @@ module _ (g : Graph) (f new : Set) (s : PlainStep) (same : (i : ℕ) → new i �
 pub all-single : (before : List PlainStep) (s : PlainStep) → AllByRecursion IsSingle before → IsSingle s → AllByRecursion IsSingle (before ++ s ∷ [])
 all-single [] s singles single = (single, tt)
 all-single (x ∷ before) s singles single = (singles.0, all-single before s singles.1 single)
+
+-- the numbers of an ear list are in range, and no ear is empty
+steps-fit : (g : Graph) → IsGraph g → (f : Set) (steps : List PlainStep) → AreSteps g f steps → AllByRecursion (FitsStep g.order (size g)) steps
+steps-fit g is f [] goes = tt
+steps-fit g is f (s ∷ steps) goes = (step-fits g is f s goes.0, steps-fit g is (next_stage f s) steps goes.2)
+
+pub list-fits : (g : Graph) → IsGraph g → (list : PlainEars) → IsEarList g list → FitsEars g.order (size g) list
+list-fits g is list ears = record { start = ears.start; steps = steps-fit g is (singleton list.start) list.steps ears.steps }
+
+step-filled : (g : Graph) (f : Set) (s : PlainStep) → IsStep g f s → HasEdges s
+step-filled g f (one a) ear = odd_pos (length a.edges) ear.odd
+step-filled g f (two a b) pair = (odd_pos (length a.edges) pair.first.odd, odd_pos (length b.edges) pair.second.odd)
+
+steps-filled : (g : Graph) (f : Set) (steps : List PlainStep) → AreSteps g f steps → AllByRecursion HasEdges steps
+steps-filled g f [] goes = tt
+steps-filled g f (s ∷ steps) goes = (step-filled g f s goes.0, steps-filled g (next_stage f s) steps goes.2)
+
+pub list-filled : (g : Graph) (list : PlainEars) → IsEarList g list → AllByRecursion HasEdges list.steps
+list-filled g list ears = steps-filled g (singleton list.start) list.steps ears.steps

@@ -1,6 +1,6 @@
 -- Ear lists (Lovász and Plummer, "Matching Theory"), over plain data: the first stage is one edge, each step adds one ear or two
 -- to a matching covered stage so that the next is matching covered, and the last stage holds all edges.
-use Rattle.std.specs.Prelude.{◌≡◌, ℕ, true, List, [], ◌∷◌, All}
+use Rattle.std.specs.Prelude.{◌≡◌, ◌<◌, ℕ, true, List, [], ◌∷◌, All, length}
 use Rattle.std.specs.List.{AllByRecursion}
 use Rattle.counting.specs.Counts.{Within}
 use Rattle.counting.specs.Sets.{Set, singleton}
@@ -48,6 +48,11 @@ pub record IsEarList (g : Graph) (list : PlainEars) : Type 0 where
 abbrev pub IsSingle : PlainStep → Type 0
 IsSingle (one a) = Unit {0}
 IsSingle (two a b) = ⊥
+
+-- no ear of a step is empty
+abbrev pub HasEdges : PlainStep → Type 0
+HasEdges (one a) = 0 < length a.edges
+HasEdges (two a b) = (0 < length a.edges) × (0 < length b.edges)
 
 -- the numbers of an ear are a vertex of 1 to n and edges of 1 to m
 abbrev pub FitsEar : ℕ → ℕ → PlainEar → Type 0

@@ -8,7 +8,7 @@ ghost use Rattle.graph_core.specs.Graph.{size, first_end, second_end, IsBipartit
 ghost use Rattle.match_core.specs.MatchingRows.{edges_of};
 ghost use Rattle.match_core.specs.Rows.{marks};
 ghost use Rattle.ear_core.specs.AlternatingEars.{IsPerfectRows, KeepsMates, row_edge};
-ghost use Rattle.ear_core.specs.EarLists.{AreSteps, IsEarList, IsSingle, IsStep, next_stage, FitsStep};
+ghost use Rattle.ear_core.specs.EarLists.{AreSteps, IsEarList, IsSingle, IsStep, next_stage, FitsEars, FitsStep, HasEdges};
 ghost use Rattle.ear_core.specs.Stages.{is_met, IsStage};
 ghost use Rattle.ear_core.specs.View.{ears_of, step_of};
 
@@ -25,11 +25,14 @@ use vset_core::VSet;
 
 /// An ear list of a matching covered graph, from its edge 1; each step has one ear where the graph is bipartite. One perfect matching
 /// is kept. At each stage another one that holds an edge leading out of it makes ears together with the kept one, of which one is
-/// added that keeps the stage matching covered, else two. `Memory` is want of memory alone.
+/// added that keeps the stage matching covered, else two. The numbers of the list are in range and no ear is empty. `Memory` is want of
+/// memory alone. Lovász and Plummer, "Matching Theory", section 5.4.
 pub fn build_ears(alloc: Global, g: &MultiGraph) -> Result<EarList, Memory>
     requires { IsCovered g.now }
     ensures list { IfOk result (λ list. IsEarList g.now (ears_of list)) }
     ensures start { IfOk result (λ list. list.start ≡ 1) }
+    ensures fits { IfOk result (λ list. FitsEars g.now.order (size g.now) (ears_of list)) }
+    ensures filled { IfOk result (λ list. AllByRecursion HasEdges (ears_of list).steps) }
     ensures single { IfOk result (λ list. IsBipartite g.now → AllByRecursion IsSingle (ears_of list).steps) }
 {
     g.keeps_limits();

@@ -5,12 +5,16 @@
 //! (`IsStage`), and the last one holds all edges. `IsRefused` of `specs/Refusals` is the first refusal of a list: the five tests of a
 //! step's ears, then the least edge of the new stage in no perfect matching of it, and at the end the least edge on no stage.
 //!
-//! `check_ears` accepts exactly the ear lists of a graph, and of another list it names the first refusal. `laws::ear_tests_law`: the
-//! tests say that an ear is one. `laws::new_stage_law`: behind them a new stage can fail by an edge in no perfect matching alone.
-//! `laws::first_refusal_law`: an ear list has no refusal, and another list one at most. Inside, a step is taken on a row of marks, and
-//! the edges of its ears are asked of the matching engine one by one.
+//! `check_ears` accepts exactly the ear lists of a graph, and of another list it names the first refusal. `build_ears` makes an ear list
+//! of each matching covered graph, of single ears alone where the graph is bipartite.
 //!
-//! Stands on `match_core`. Source: Lovász and Plummer, "Matching Theory", chapter 5.
+//! `laws::ear_tests_law`: the tests say that an ear is one. `laws::new_stage_law`: behind them a new stage can fail by an edge in no
+//! perfect matching alone. `laws::first_refusal_law`: an ear list has no refusal, and another list one at most. Inside, a step is taken
+//! on a row of marks, and the edges of its ears are asked of the matching engine one by one. The builder keeps one perfect matching;
+//! at each stage another one leads out and makes ears together with it (`AreMatedEars` of `specs/AlternatingEars`), of which one serves
+//! or two do by the two-ear theorem.
+//!
+//! Stands on `match_core`, `allowed_edges` and `two_ears`. Source: Lovász and Plummer, "Matching Theory", chapter 5.
 #![tactic(auto)]
 
 mod building;
@@ -29,3 +33,6 @@ pub use building::build_ears;
 pub use checking::check_ears;
 pub use ears::{Ear, EarList, Step, Steps};
 pub use judgement::{EarJudgement, EarWhy};
+
+#[cfg(test)]
+mod tests;

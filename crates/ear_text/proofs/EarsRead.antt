@@ -11,10 +11,9 @@ use Rattle.line_text.proofs.Tables.{all_passed, holds, no_value, value_or}
 use Rattle.text_faults.proofs.InRange.{all-in_range, in_range}
 use Rattle.graph_core.specs.declared.faults.FaultKind.{FaultKind}
 use Rattle.graph_core.specs.declared.faults.FaultKind.TheVariants as kind
-use Rattle.ear_core.specs.EarLists.{PlainEar, PlainStep, one, two, PlainEars, FitsEar, FitsStep, FitsEars}
+use Rattle.ear_core.specs.EarLists.{PlainEar, PlainStep, one, two, PlainEars, FitsEar, FitsStep, FitsEars, HasEdges}
 use Rattle.text_faults.specs.Ranges.{is_out_of_range}
 use Rattle.ear_text.specs.EarFormat.{EarsSoFar, headed, started, ear_format, ear_line, line_behind, ears_end, behind_two, is_ear_line, is_with_line, ear_at, closed, paired}
-use Rattle.ear_text.specs.Writing.{HasEdges}
 
 -- the numbers of an ear are in range, and it is not empty
 abbrev KeepsEar : ℕ → ℕ → PlainEar → Type 0

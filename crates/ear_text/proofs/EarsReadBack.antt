@@ -13,9 +13,9 @@ use Rattle.line_text.proofs.Decimals.{number_of-decimal, is_word-decimal, value-
 use Rattle.text_faults.proofs.InRange.{in_range-test, in_range-tests}
 use Rattle.line_text.proofs.ExactlyOne.{exactly_one}
 use Rattle.line_text.proofs.ReadBack.{Stands-written}
-use Rattle.ear_core.specs.EarLists.{PlainEar, PlainStep, one, two, PlainEars, FitsEar, FitsStep}
+use Rattle.ear_core.specs.EarLists.{PlainEar, PlainStep, one, two, PlainEars, FitsEar, FitsStep, HasEdges}
 use Rattle.ear_text.specs.EarFormat.{EarsSoFar, headed, started, ear_format, is_ear_line, is_with_line, closed, ears_end}
-use Rattle.ear_text.specs.Writing.{header_words, start_words, ear_words, step_words, ears_text, HasEdges, IsWritable}
+use Rattle.ear_text.specs.Writing.{header_words, start_words, ear_words, step_words, ears_text, IsWritable}
 
 -- the header line
 header-taken : (n m : ℕ) → n < 10 ^ 9 → m < 10 ^ 9 → (ear_format n m).header (header_words n m) ≡ Ok headed

@@ -1,9 +1,9 @@
 -- The text that is written of an ear list.
-use Rattle.std.specs.Prelude.{ℕ, ◌<◌, ◌^◌, List, [], ◌∷◌, codes, length, map}
+use Rattle.std.specs.Prelude.{ℕ, ◌<◌, ◌^◌, List, [], ◌∷◌, codes, map}
 use Rattle.std.specs.Fmt.{decimal}
 use Rattle.std.specs.List.{AllByRecursion}
 use Rattle.line_text.specs.Words.{written}
-use Rattle.ear_core.specs.EarLists.{PlainEar, PlainStep, one, two, PlainEars, FitsEars}
+use Rattle.ear_core.specs.EarLists.{PlainEar, PlainStep, one, two, PlainEars, FitsEars, HasEdges}
 
 -- the words of the header
 abbrev pub header_words : ℕ → ℕ → List (List ℕ)
@@ -27,11 +27,6 @@ step_words (two a b ∷ steps) = ear_words (codes "ear") a ∷ ear_words (codes 
 -- decimal
 unfoldable pub ears_text : ℕ → ℕ → PlainEars → List ℕ
 ears_text n m list = written (header_words n m ∷ start_words list.start ∷ step_words list.steps)
-
--- no ear of a step is empty
-abbrev pub HasEdges : PlainStep → Type 0
-HasEdges (one a) = 0 < length a.edges
-HasEdges (two a b) = (0 < length a.edges) × (0 < length b.edges)
 
 -- a list that can be written: the numbers are in range, and no ear is empty
 pub record IsWritable (n m : ℕ) (list : PlainEars) : Type 0 where

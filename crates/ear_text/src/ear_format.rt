@@ -6,11 +6,10 @@ ghost use Rattle.line_text.specs.Format.{Stands, FirstFault};
 ghost use Rattle.line_text.specs.Words.{texts_of};
 ghost use Rattle.text_faults.specs.Readings.{IsFirstFault, ReadsText};
 ghost use Rattle.graph_core.specs.declared.faults.FaultKind.{FaultKind};
-ghost use Rattle.ear_core.specs.EarLists.{PlainEars, FitsEars};
+ghost use Rattle.ear_core.specs.EarLists.{PlainEars, FitsEars, HasEdges};
 ghost use Rattle.ear_core.specs.View.{ear_of, step_of, ears_of};
 ghost use Rattle.text_faults.specs.Ranges.{is_out_of_range};
 ghost use Rattle.ear_text.specs.EarFormat.{EarsSoFar, ears_header, start_line, ear_line, ear_format, behind_two, is_ear_line, is_with_line};
-ghost use Rattle.ear_text.specs.Writing.{HasEdges};
 ghost use Rattle.ear_text.specs.SoFar.{ears_so_far};
 
 use crate::ears_read::{EarsRead, close_last, pair_last};

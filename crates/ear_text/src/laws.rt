@@ -2,9 +2,9 @@
 ghost use Rattle.std.specs.Prelude.{ℕ, List};
 ghost use Rattle.std.specs.List.{AllByRecursion};
 ghost use Rattle.line_text.specs.Format.{Stands, StandsAlone};
-ghost use Rattle.ear_core.specs.EarLists.{PlainEars, FitsEars};
+ghost use Rattle.ear_core.specs.EarLists.{PlainEars, FitsEars, HasEdges};
 ghost use Rattle.ear_text.specs.EarFormat.{ear_format};
-ghost use Rattle.ear_text.specs.Writing.{ears_text, HasEdges, IsWritable};
+ghost use Rattle.ear_text.specs.Writing.{ears_text, IsWritable};
 
 /// What is written of an ear list stands for this list, for no other, and has no fault.
 pub fn written_ears_stand()

@@ -3,10 +3,10 @@ ghost use Rattle.std.specs.Prelude.{◌≡◌, ◌≤◌, ◌++◌, [], ◌∷�
 ghost use Rattle.std.specs.List.{AllByRecursion};
 ghost use Rattle.line_text.specs.Format.{Stands, StandsAlone};
 ghost use Rattle.line_text.specs.Words.{written};
-ghost use Rattle.ear_core.specs.EarLists.{FitsEars};
+ghost use Rattle.ear_core.specs.EarLists.{FitsEars, HasEdges};
 ghost use Rattle.ear_core.specs.View.{ear_of, step_of, ears_of};
 ghost use Rattle.ear_text.specs.EarFormat.{ear_format};
-ghost use Rattle.ear_text.specs.Writing.{ear_words, step_words, ears_text, HasEdges};
+ghost use Rattle.ear_text.specs.Writing.{ear_words, step_words, ears_text};
 
 use ear_core::{Ear, EarList, Step};
 use std::alloc::{AllocError as Memory, Global};

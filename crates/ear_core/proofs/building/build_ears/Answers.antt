@@ -7,10 +7,10 @@ use Rattle.std.proofs.Common.{true}
 use Rattle.ear_core.specs.AlternatingEars.{row_edge, KeepsMates}
 use Rattle.ear_core.specs.EarLists.{AreSteps}
 use Rattle.ear_core.specs.Stages.{is_met}
-use Rattle.ear_core.specs.View.{step_of}
+use Rattle.ear_core.specs.View.{ears_of, step_of}
 use Rattle.ear_core.proofs.FirstStage.{first-stage}
 use Rattle.ear_core.proofs.Judging.{one-marked, one-stage}
-use Rattle.ear_core.proofs.Stepping.{first-keeps}
+use Rattle.ear_core.proofs.Stepping.{first-keeps, list-fits, list-filled}
 use Rattle.ear_core.proofs.building.build_ears.Goals as goal
 
 pub steps_from-requires-clause-stage : goal.steps_from-requires-clause-stage
@@ -40,3 +40,9 @@ returns-clause-list c =
       first_stage = first-stage g c.keeps_limits.ensures.multigraph 1 c.in_ok-kept.ensures.edge;
       steps = subst (λ (f : Set). AreSteps g f (map step_of c.in_ok-steps.steps)) (fun_ext same) c.in_ok-steps.ensures.steps;
     }
+
+pub returns-clause-fits : goal.returns-clause-fits
+returns-clause-fits c = list-fits c.args.g.now c.keeps_limits.ensures.multigraph.ends (ears_of (record { start = 1; steps = c.in_ok-steps.steps })) (returns-clause-list c)
+
+pub returns-clause-filled : goal.returns-clause-filled
+returns-clause-filled c = list-filled c.args.g.now (ears_of (record { start = 1; steps = c.in_ok-steps.steps })) (returns-clause-list c)
