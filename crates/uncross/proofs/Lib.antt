@@ -25,3 +25,4 @@ pub mod ScriptPairs
 pub mod ExchangedNames
 pub mod RotateFits
 pub mod TurningSteps
+pub mod Planned
