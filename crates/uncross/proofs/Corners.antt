@@ -19,12 +19,7 @@ use Rattle.uncross.proofs.BigShores.{Big, Stage, big_merge, big_rest, big_some, 
 use Rattle.uncross.proofs.CarriedTrees.{some_of}
 use Rattle.uncross.proofs.NestedShores.{stays_big}
 use Rattle.uncross.specs.Exchange.{Corner}
-
-abbrev pub inner_of : ℕ → (x z : List ℕ) → List ℕ
-inner_of n x z = rising_list n (meet (mem x) (mem z))
-
-abbrev pub outer_of : ℕ → (x z : List ℕ) → List ℕ
-outer_of n x z = rising_list n (complement (union (mem x) (mem z)))
+use Rattle.uncross.specs.Plans.{inner_of, outer_of}
 
 pub record Corners (g : Graph) (p : List (List ℕ)) (x z : List ℕ) : Type 0 where
   pub stage : Stage g p

@@ -20,13 +20,14 @@ use Rattle.tree_core.specs.Shapes.{Shape, cut, cut_count, leaf}
 use Rattle.tree_core.specs.declared.path.Side.{Side}
 use Rattle.tree_core.specs.declared.path.Side.TheVariants.{Kept, Merged}
 use Rattle.uncross.proofs.BigShores.{Big, Stage, big_rest, big_some, cut_big, rest_rest, stage_merged}
-use Rattle.uncross.proofs.Corners.{Corners, corner_of, inner_mem, inner_single_or_big, inner_of, merged_inner, merged_outer, outer_mem, outer_single_or_big, outer_of}
-use Rattle.uncross.proofs.NestedShores.{Crossed, Exposed, Exposes, stays_big}
+use Rattle.uncross.proofs.Corners.{Corners, corner_of, inner_mem, inner_single_or_big, merged_inner, merged_outer, outer_mem, outer_single_or_big}
+use Rattle.uncross.proofs.NestedShores.{Cross, Crossed, Exposed, Exposes, stays_big}
 use Rattle.uncross.proofs.Rising.{bounds}
 use Rattle.uncross.proofs.Rotations.{says_subset, subset_says}
 use Rattle.uncross.proofs.Scripts.{length_below, length_join, walk_end, walk_join, walk_kept, walk_merged, walk_rotate}
 use Rattle.uncross.proofs.Switches.{each_of, kept_in_q, kept_in_v, map_a, map_b, merged_in_q, merged_in_v, inner_rest-mem, outer_rest-mem, switch_in_q, switch_in_v}
 use Rattle.uncross.specs.Exchange.{Corner}
+use Rattle.uncross.specs.Plans.{inner_of, outer_of, outer_shore, partner}
 use Rattle.uncross.specs.Isomorphisms.{carry, carry_cut}
 use Rattle.uncross.specs.Turning.{PlainTurned, followed, over_inner, over_outer, raised_kept, raised_merged, switched as switched_to, switched_below}
 use Rattle.uncross.proofs.Corners.{o_tight}
@@ -189,10 +190,6 @@ module _ (g : Graph) (p : List (List ℕ)) (x z y : List ℕ) (c : Corners g p x
 walk_then : (g : Graph) (p : List (List ℕ)) (s : Shape) (ms : List PlainMove) (t : Shape) (side : Side) (r : Shape) → Stage g p → IsDerivationAt g p s → AreRising g.order s → Walk g p s ms t → rotate_result_at side t ≡ Some r → Walk g p s (ms ++ rotate_at (side ∷ []) ∷ []) r
 walk_then g p s ms t side r st d f w e = let q = walk_end g p s ms t d f w in walk_join g p s ms (rotate_at (side ∷ []) ∷ []) t r w (walk_rotate g p side t r st q.0 q.1 e)
 
--- the canonical shore of the outer corner
-abbrev pub outer_shore : ℕ → List ℕ → List ℕ
-outer_shore n o = if mem o n then complement_of n o else o
-
 -- the outer corner is one block, or was brought to the root of `merged`
 abbrev pub OuterTurned : Graph → List (List ℕ) → (x z : List ℕ) → Shape → Shape → Option (List PlainMove) → Type 0
 OuterTurned g p x z b c None = (c ≡ b) × ((t : ℕ) × IsBlockOf g.order p (mem (outer_of g.order x z)) t)
@@ -203,7 +200,7 @@ abbrev pub TurnedTo : Graph → List (List ℕ) → Shape → List ℕ → ℕ �
 TurnedTo g p t y n made = (ms : List PlainMove) × (k : Shape) × (l : Shape) × (made ≡ Some (record { tree = cut y k l; moves = ms })) × Walk g p t ms (cut y k l) × (length ms ≤ n)
 
 -- a child turned, and its root brought up
-raised_merged_is : (x : List ℕ) (a c r : Shape) (ms : List PlainMove) → rotate_result_at Merged (cut x a c) ≡ Some r → raised_merged x a (record { tree = c; moves = ms }) ≡ Some (record { tree = r; moves = map (below Merged) ms ++ rotate_at (Merged ∷ []) ∷ [] })
+pub raised_merged_is : (x : List ℕ) (a c r : Shape) (ms : List PlainMove) → rotate_result_at Merged (cut x a c) ≡ Some r → raised_merged x a (record { tree = c; moves = ms }) ≡ Some (record { tree = r; moves = map (below Merged) ms ++ rotate_at (Merged ∷ []) ∷ [] })
 raised_merged_is x a c r ms e = ap (λ q. followed (map (below Merged) ms) (option_map (λ r. record { tree = r; moves = rotate_at (Merged ∷ []) ∷ [] }) q)) e
 
 switched_is : (n : ℕ) (u v : List ℕ) (t r : Shape) → switch_result_at n u v t ≡ Some r → switched_to n u v t ≡ Some (record { tree = r; moves = switch_at [] u v ∷ [] })
@@ -496,34 +493,36 @@ over_inner_found g p x z y c sy nx ny kind a b f d ia ib =
           (cut (outer_shore g.order (outer_of g.order x z)) e.1 e.2, Some e.0, (bo, e.1, e.2, refl, e.3, e.4))
     ]
 
-pub crossed : (g : Graph) → Crossed g
+-- the corners of two crossing shores
+pub corners_of : (g : Graph) (p : List (List ℕ)) (st : Stage g p) (x y : List ℕ) → Big g p x → Big g p y → mem x g.order ≡ false → mem y g.order ≡ false → Cross g.order (mem x) (mem y) → Corners g p x (partner g.order p x y) × Kind g.order y (partner g.order p x y)
 unfolding contracted
-crossed g p st x a b f d y by ny cross ia ib = go (is_odd (block_count p (meet (mem x) (mem y)))) refl
+corners_of g p st x y bx by nx ny cross = go (is_odd (block_count p (meet (mem x) (mem y)))) refl
   where
-    bx : Big g p x
-    bx = cut_big g p st x f.0 d.0
-
     lastn : Within g.order g.order
     lastn = let r = big_some g p st x bx in let w = r.1 in (omega arith, omega arith)
 
-    ry : Big g p (complement_of g.order y)
-    ry = big_rest g p st y by
-
-    go : (k : Bool) → is_odd (block_count p (meet (mem x) (mem y))) ≡ k → Exposed g p (cut x a b) y
-    go true h = over_inner_found g p x y y (record { stage = st; first = bx; second = by; odd = h; left = cross.left; right = cross.right }) by.shore d.0.canonical ny (inl (λ v w. refl)) a b f d ia ib
+    go : (k : Bool) → is_odd (block_count p (meet (mem x) (mem y))) ≡ k → Corners g p x (if k then y else complement_of g.order y) × Kind g.order y (if k then y else complement_of g.order y)
+    go true h = (record { stage = st; first = bx; second = by; odd = h; left = cross.left; right = cross.right }, inl (λ v w. refl))
     go false h =
         let m = cross.meet in
         let n = block_count_parts g.order p st.list.partition (mem x) (mem y) bx.tight.union by.tight.union in
         let e = block_count_congr g.order p st.list.partition (minus (mem x) (mem y)) (meet (mem x) (mem (complement_of g.order y))) (λ v w. ap (λ k. mem x v && k) (sym (mem-complement_of g.order y v w))) (union_minus g.order p st.list.partition (mem x) (mem y) bx.tight.union by.tight.union) in
-        let o = bits (is_odd (block_count p (meet (mem x) (mem y)))) (is_odd (block_count p (minus (mem x) (mem y)))) h (sym (odd-add (block_count p (meet (mem x) (mem y))) (block_count p (minus (mem x) (mem y)))) ∙ ap is_odd (sym n) ∙ bx.tight.tight.odd) in
-        over_inner_found g p x (complement_of g.order y) y (record {
-          stage = st;
-          first = bx;
-          second = ry;
-          odd = ap is_odd (sym e) ∙ o;
-          left = (m.0, m.1, m.2, mem-complement_of g.order y m.0 m.1 ∙ ap not m.3);
-          right = (g.order, lastn, d.0.canonical, mem-complement_of g.order y g.order lastn ∙ ap not ny);
-        }) by.shore d.0.canonical ny (inr (λ v w. mem-complement_of g.order y v w)) a b f d ia ib
+        let o = bits (is_odd (block_count p (meet (mem x) (mem y)))) (is_odd (block_count p (minus (mem x) (mem y)))) h (sym (odd-add (block_count p (meet (mem x) (mem y))) (block_count p (minus (mem x) (mem y)))) ∙ ap is_odd (sym n) ∙ bx.tight.tight.odd) in (
+          record {
+            stage = st;
+            first = bx;
+            second = big_rest g p st y by;
+            odd = ap is_odd (sym e) ∙ o;
+            left = (m.0, m.1, m.2, mem-complement_of g.order y m.0 m.1 ∙ ap not m.3);
+            right = (g.order, lastn, nx, mem-complement_of g.order y g.order lastn ∙ ap not ny);
+          },
+          inr (λ v w. mem-complement_of g.order y v w),
+        )
       where
         bits : (a b : Bool) → a ≡ false → cond a (not b) b ≡ true → b ≡ true
         bits a b h k = grind arith
+
+pub crossed : (g : Graph) → Crossed g
+crossed g p st x a b f d y by ny cross ia ib =
+    let c = corners_of g p st x y (cut_big g p st x f.0 d.0) by d.0.canonical ny cross in
+    over_inner_found g p x (partner g.order p x y) y c.0 by.shore d.0.canonical ny c.1 a b f d ia ib

@@ -73,7 +73,7 @@ module _ (g : Graph) (p : List (List ℕ)) (st : Stage g p) (x : List ℕ) (a b 
       (map (below Kept) e.0 ++ rotate_at (Kept ∷ []) ∷ [], e.1, cut x e.2 b, walk_join g p (cut x a b) (map (below Kept) e.0) (rotate_at (Kept ∷ []) ∷ []) (cut x (cut y e.1 e.2) b) (cut y e.1 (cut x e.2 b)) w r, omega arith)
 
   -- Rotate below `merged` has a result
-  raised : (c d : Shape) → Below g.order (mem x) (mem y) ⊎ Apart g.order (mem x) (mem y) → (c' : Shape) × (d' : Shape) × (rotate_result_at Merged (cut x a (cut y c d)) ≡ Some (cut y c' d'))
+  pub raised : (c d : Shape) → Below g.order (mem x) (mem y) ⊎ Apart g.order (mem x) (mem y) → (c' : Shape) × (d' : Shape) × (rotate_result_at Merged (cut x a (cut y c d)) ≡ Some (cut y c' d'))
   raised c d (inl h) = (cut x a c, d, ap (λ k. if k then Some (cut y (cut x a c) d) else (if is_apart x y then Some (cut y c (cut x a d)) else None)) (says_subset x (mem y) (λ v m. h v ((bounds bx.shore) v m) m)))
   raised c d (inr h) = (
     c,

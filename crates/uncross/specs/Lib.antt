@@ -4,4 +4,5 @@ pub mod SameLeaf
 pub mod Pairings
 pub mod Walks
 pub mod Turning
+pub mod Plans
 pub mod TurnedView

@@ -1,5 +1,6 @@
 //! Turned trees: a tree that moves have made, with the moves.
-ghost use Rattle.std.specs.Prelude.{◌≡◌, ◌++◌, ◌∷◌, [], Some, IfOk, OnOk, map};
+ghost use Rattle.std.specs.Prelude.{◌≡◌, ◌++◌, ◌∷◌, ◌-◌, ℕ, [], Some, IfOk, OnOk, map, option_map, All};
+ghost use Rattle.counting.specs.Counts.{Within};
 ghost use Rattle.tree_core.specs.Moves.{below, switch_at};
 ghost use Rattle.tree_core.specs.MoveView.{moves_of};
 ghost use Rattle.tree_core.specs.Shapes.{Fits, cut};
@@ -22,12 +23,7 @@ pub struct Turned {
 }
 
 // Appends moves, each one step further down.
-fn append_below(
-    alloc: Global,
-    side: Side,
-    moves: &[Move],
-    into: &mut Moves,
-) -> Result<(), Memory>
+fn append_below(alloc: Global, side: Side, moves: &[Move], into: &mut Moves) -> Result<(), Memory>
     ensures { OnOk result (moves_of into.new ≡ moves_of into.old ++ map (below side) (moves_of moves.now)) }
 {
     let mut rest = moves;
@@ -46,7 +42,8 @@ fn raise(
     made: &Moves,
     into: &mut Moves,
 ) -> Result<Tree, Memory>
-    ensures { OnOk result ((s : PlainTurned) → followed (map (below side) (moves_of made.now)) (raised side (shape_of tree)) ≡ Some s → IfOk result (λ r. IsMade (shape_of r) (moves_of into.new) (moves_of into.old) s)) }
+    ensures made { (s : PlainTurned) → followed (map (below side) (moves_of made.now)) (raised side (shape_of tree)) ≡ Some s → IfOk result (λ r. IsMade (shape_of r) (moves_of into.new) (moves_of into.old) s) }
+    ensures fits { (n : ℕ) → Fits n (shape_of tree) → IfOk result (λ r. Fits n (shape_of r)) }
 {
     let mut path = Path::new(alloc);
     path.push(side)?;
@@ -73,5 +70,171 @@ fn switch_root(alloc: Global, n: u32, tree: Tree, u: VSet, v: VSet) -> Result<Tu
             Ok(Turned { tree, moves })
         }
         Err((tree, _)) => Ok(Turned { tree, moves }),
+    }
+}
+
+// With the outer corner, or its complement, at the root: u and v are exchanged in the child that holds x, and its new root is brought
+// up. The moves made so far come first.
+fn switch_below(
+    alloc: Global,
+    n: u32,
+    x: VSet,
+    u: VSet,
+    v: VSet,
+    tree: Tree,
+    moves: Moves,
+) -> Result<Turned, Memory>
+    requires { Fits n (shape_of tree) }
+    ensures { IfOk result (λ r. (s : PlainTurned) → followed (moves_of moves) (switched_below n x u v (shape_of tree)) ≡ Some s → turned_of r ≡ s) }
+{
+    let mut moves = moves;
+    match tree {
+        Tree::Leaf => Ok(Turned {
+            tree: Tree::Leaf,
+            moves,
+        }),
+        Tree::Cut {
+            shore,
+            mut kept,
+            mut merged,
+        } => {
+            if x.is_subset(shore) {
+                let below = mem::replace(&mut *kept, Tree::Leaf);
+                let Turned { tree, moves: made } = switch_root(alloc, n, below, u, v)?;
+                *kept = tree;
+                let cut = Tree::Cut {
+                    shore,
+                    kept,
+                    merged,
+                };
+                let tree = raise(alloc, Side::Kept, cut, &made, &mut moves)?;
+                Ok(Turned { tree, moves })
+            } else {
+                let below = mem::replace(&mut *merged, Tree::Leaf);
+                let Turned { tree, moves: made } = switch_root(alloc, n, below, u, v)?;
+                *merged = tree;
+                let cut = Tree::Cut {
+                    shore,
+                    kept,
+                    merged,
+                };
+                let tree = raise(alloc, Side::Merged, cut, &made, &mut moves)?;
+                Ok(Turned { tree, moves })
+            }
+        }
+    }
+}
+
+// The shore of u and v is brought to the root x: at once, or after moves in `merged` that brought the outer corner to its root.
+fn turn_over_outer(
+    alloc: Global,
+    n: u32,
+    x: VSet,
+    kept: Box<Tree>,
+    merged: Box<Tree>,
+    u: VSet,
+    v: VSet,
+    outer: &Option<Moves>,
+) -> Result<Turned, Memory>
+    requires { Fits n (cut x (shape_of kept.value) (shape_of merged.value)) }
+    ensures { IfOk result (λ r. (s : PlainTurned) → over_outer n x u v (shape_of kept.value) (shape_of merged.value) (option_map moves_of outer.now) ≡ Some s → turned_of r ≡ s) }
+{
+    let tree = Tree::Cut {
+        shore: x,
+        kept,
+        merged,
+    };
+    match outer {
+        None => switch_root(alloc, n, tree, u, v),
+        Some(made) => {
+            let mut moves = Moves::new(alloc);
+            let up = raise(alloc, Side::Merged, tree, made, &mut moves)?;
+            let turned = switch_below(alloc, n, x, u, v, up, moves)?;
+            Ok(turned)
+        }
+    }
+}
+
+// With the inner corner at the root: the shore of u and v is brought to the root of the child that holds x, and then up. The moves
+// made so far come first.
+fn turn_below_inner(
+    alloc: Global,
+    n: u32,
+    x: VSet,
+    u: VSet,
+    v: VSet,
+    tree: Tree,
+    moves: Moves,
+    outer: &Option<Moves>,
+) -> Result<Turned, Memory>
+    requires shore { All (Within (n - 1)) x }
+    requires fits { Fits n (shape_of tree) }
+    ensures { IfOk result (λ r. (s : PlainTurned) → followed (moves_of moves) (outer_below n x u v (option_map moves_of outer.now) (shape_of tree)) ≡ Some s → turned_of r ≡ s) }
+{
+    let mut moves = moves;
+    match tree {
+        Tree::Leaf => Ok(Turned {
+            tree: Tree::Leaf,
+            moves,
+        }),
+        Tree::Cut {
+            shore,
+            kept,
+            mut merged,
+        } => match mem::replace(&mut *merged, Tree::Leaf) {
+            Tree::Leaf => Ok(Turned {
+                tree: Tree::Leaf,
+                moves,
+            }),
+            Tree::Cut {
+                kept: first,
+                merged: second,
+                ..
+            } => {
+                let Turned { tree, moves: made } = turn_over_outer(
+                    alloc, n, x, first, second, u, v, outer,
+                )?;
+                *merged = tree;
+                let cut = Tree::Cut {
+                    shore,
+                    kept,
+                    merged,
+                };
+                let tree = raise(alloc, Side::Merged, cut, &made, &mut moves)?;
+                Ok(Turned { tree, moves })
+            }
+        },
+    }
+}
+
+/// The shore of u and v is brought to the root x, after moves in `kept` that brought the inner corner to its root, if any, and moves in
+/// `merged` that brought the outer corner to its root, if any.
+pub fn turn_over_inner(
+    alloc: Global,
+    n: u32,
+    x: VSet,
+    kept: Box<Tree>,
+    merged: Box<Tree>,
+    u: VSet,
+    v: VSet,
+    inner: &Option<Moves>,
+    outer: &Option<Moves>,
+) -> Result<Turned, Memory>
+    requires { Fits n (cut x (shape_of kept.value) (shape_of merged.value)) }
+    ensures { IfOk result (λ r. (s : PlainTurned) → over_inner n x u v (shape_of kept.value) (shape_of merged.value) (option_map moves_of inner.now) (option_map moves_of outer.now) ≡ Some s → turned_of r ≡ s) }
+{
+    match inner {
+        None => turn_over_outer(alloc, n, x, kept, merged, u, v, outer),
+        Some(made) => {
+            let tree = Tree::Cut {
+                shore: x,
+                kept,
+                merged,
+            };
+            let mut moves = Moves::new(alloc);
+            let up = raise(alloc, Side::Kept, tree, made, &mut moves)?;
+            let turned = turn_below_inner(alloc, n, x, u, v, up, moves, outer)?;
+            Ok(turned)
+        }
     }
 }

@@ -1,0 +1,232 @@
+-- The plan for exposing a shore is carried out: what is exposed first in the two trees is a cut there, and then the root is the shore.
+use Rattle.std.proofs.Common.{◌≡◌, ℕ, ◌+◌, ◌*◌, ◌≤◌, ◌<◌, Bool, true, false, not, ◌&&◌, cond, List, [], ◌∷◌, ◌++◌, length, map, Option, Some, None, ◌⊎◌, inl, inr, if◌then◌else◌, nat_lt, refl, sym, ap, ap₂, ◌∙◌, arith, subst}
+use Rattle.std.proofs.lemmas.Bool.{and_parts, both_ways, cases_Bool}
+use Rattle.std.proofs.lemmas.Bool.Decides.{nat_tests}
+use Rattle.counting.proofs.RisingLists.{same_rising_list}
+use Rattle.counting.proofs.Tests.{some_none, some_true}
+use Rattle.counting.specs.Counts.{Within, is_odd}
+use Rattle.counting.specs.Lists.{is_apart, is_subset, mem}
+use Rattle.counting.specs.Sets.{everything, meet, minus, union}
+use Rattle.counting.specs.Tests.{some}
+use Rattle.graph_core.proofs.Complements.{mem-complement_of}
+use Rattle.graph_core.specs.Graph.{Graph}
+use Rattle.graph_core.specs.Partitions.{complement_of, contracted, merged}
+use Rattle.graph_core.specs.Shores.{block_count}
+use Rattle.tree_core.specs.Derivations.{IsCutAt, IsDerivationAt, kept_at, merged_at}
+use Rattle.tree_core.specs.Moves.{IsBlockOf, PlainMove, below, rotate_at, rotate_result_at}
+use Rattle.tree_core.specs.Shapes.{Shape, cut, cut_count}
+use Rattle.tree_core.specs.declared.path.Side.TheVariants.{Kept, Merged}
+use Rattle.uncross.proofs.BigShores.{Big, Stage, big_cut, big_rest, big_some, cut_big, stage_merged}
+use Rattle.uncross.proofs.Exchange.{block_count-one}
+use Rattle.uncross.proofs.Corners.{Corners, inner_single_or_big, outer_single_or_big}
+use Rattle.uncross.proofs.CrossingShores.{InnerTurned, raised_merged_is, Kind, OuterTurned, corners_of, inner_below, inner_canonical, outer_shore_big, over_inner_to}
+use Rattle.uncross.proofs.NestedShores.{Cross, raised, stays_big}
+use Rattle.uncross.proofs.BigShores.{rest_rest}
+use Rattle.uncross.proofs.Scripts.{length_below, length_join, walk_end, walk_join, walk_kept, walk_merged, walk_rotate}
+use Rattle.graph_core.proofs.MergedShores.{Apart, Below}
+use Rattle.counting.proofs.RisingLists.{false_all_in}
+use Rattle.uncross.proofs.Rising.{bounds}
+use Rattle.uncross.proofs.Rotations.{says_subset, subset_says}
+use Rattle.uncross.specs.Plans.{CutIf, IsExposed, IsPlan, PlainPlan, crossing, first_shore, here, if_big, in_kept, in_merged, inner_of, outer_of, outer_shore, partner, plan_result, second_shore}
+use Rattle.uncross.specs.Turning.{PlainTurned, over_inner}
+use Rattle.uncross.specs.Walks.{AreRising, Walk}
+
+-- a root shore and another, at a stage
+module _ (g : Graph) (p : List (List ℕ)) (st : Stage g p) (x y : List ℕ) (bx : Big g p x) (by : Big g p y) (nx : mem x g.order ≡ false) (ny : mem y g.order ≡ false) where
+  greatest : Within g.order g.order
+  greatest = let z = big_some g p st x bx in let w = z.1 in (omega arith, omega arith)
+
+  negated : (b : Bool) → not b ≡ true → b ≡ false
+  negated b h = grind arith
+
+  -- y inside x is a cut in `kept`
+  pub cut_in_kept : is_subset y x ≡ true → is_subset x y ≡ false → IsCutAt g (kept_at g.order p x) y
+  cut_in_kept h k =
+      let rx = big_rest g p st x bx in
+      let o = false_all_in x (mem y) k in let wo = bounds bx.shore o.0 o.1 in
+      big_cut g (kept_at g.order p x) (stage_merged g p st (complement_of g.order x) rx) y
+      (stays_big g p st (complement_of g.order x) y rx by (λ w ww m. out (mem x w) (mem y w) (subset_says y (mem x) h w) (negated (mem x w) (sym (mem-complement_of g.order x w ww) ∙ m))) (o.0, wo, mem-complement_of g.order x o.0 wo ∙ ap not o.1, o.2)) ny
+    where
+      out : (a b : Bool) → (b ≡ true → a ≡ true) → a ≡ false → b ≡ false
+      out a b h k = grind arith
+
+  apart_says : is_apart x y ≡ true → Apart g.order (mem x) (mem y)
+  apart_says h w ww m = negated (mem y w) (subset_says x (minus everything (mem y)) h w m)
+
+  -- x inside y, or the two apart: y is a cut in `merged`
+  pub cut_in_merged : is_subset y x ≡ false → (is_subset x y ≡ true) ⊎ (is_apart x y ≡ true) → IsCutAt g (merged_at g.order p x) y
+  cut_in_merged h (inl k) =
+      let ry = big_rest g p st y by in let sx = stage_merged g p st x bx in
+      let o = false_all_in y (mem x) h in let wo = bounds by.shore o.0 o.1 in
+      let big = stays_big g p st x (complement_of g.order y) bx ry (λ w ww m. mem-complement_of g.order y w ww ∙ ap not (subset_says x (mem y) k w m)) (o.0, wo, o.2, mem-complement_of g.order y o.0 wo ∙ ap not o.1) in
+      big_cut g (merged p x) sx y (subst (Big g (merged p x)) (rest_rest g.order y by.shore) (big_rest g (merged p x) sx (complement_of g.order y) big)) ny
+  cut_in_merged h (inr k) = big_cut g (merged p x) (stage_merged g p st x bx) y (stays_big g p st x y bx by (apart_says k) (g.order, greatest, nx, ny)) ny
+
+  -- the two cross
+  pub cross_of : is_subset y x ≡ false → is_subset x y ≡ false → is_apart x y ≡ false → Cross g.order (mem x) (mem y)
+  cross_of h k a =
+      let r = false_all_in y (mem x) h in let l = false_all_in x (mem y) k in let m = false_all_in x (minus everything (mem y)) a in
+      record {
+        meet = (m.0, bounds bx.shore m.0 m.1, m.1, held (mem y m.0) m.2);
+        left = (l.0, bounds bx.shore l.0 l.1, l.1, l.2);
+        right = (r.0, bounds by.shore r.0 r.1, r.2, r.1);
+      }
+    where
+      held : (b : Bool) → (true && not b) ≡ false → b ≡ true
+      held b h = grind arith
+
+-- a shore has three blocks or more, or fewer
+big_or_none : (p : List (List ℕ)) (u shore : List ℕ) → ((block_count p (mem u) < 3) × (if_big p u shore ≡ None)) ⊎ ((3 ≤ block_count p (mem u)) × (if_big p u shore ≡ Some shore))
+big_or_none p u shore = go (nat_lt (block_count p (mem u)) 3) refl
+  where
+    go : (b : Bool) → nat_lt (block_count p (mem u)) 3 ≡ b → ((block_count p (mem u) < 3) × ((if b then None else Some shore) ≡ None)) ⊎ ((3 ≤ block_count p (mem u)) × ((if b then None else Some shore) ≡ Some shore))
+    go true h = inl (grind (arith, nat_tests, h), refl)
+    go false h = inr (grind (arith, nat_tests, h), refl)
+
+-- what the plan exposes first is a cut where it is exposed
+module _ (g : Graph) (p : List (List ℕ)) (st : Stage g p) (x y : List ℕ) (bx : Big g p x) (by : Big g p y) (nx : mem x g.order ≡ false) (ny : mem y g.order ≡ false) where
+  crossing_corners : is_subset y x ≡ false → is_subset x y ≡ false → is_apart x y ≡ false → Corners g p x (partner g.order p x y) × Kind g.order y (partner g.order p x y)
+  crossing_corners h k a = corners_of g p st x y bx by nx ny (cross_of g p st x y bx by nx ny h k a)
+
+  inner_case : (c : Corners g p x (partner g.order p x y)) → ((if_big p (inner_of g.order x (partner g.order p x y)) (inner_of g.order x (partner g.order p x y)) ≡ None) × ((t : ℕ) × IsBlockOf g.order p (mem (inner_of g.order x (partner g.order p x y))) t)) ⊎
+      ((if_big p (inner_of g.order x (partner g.order p x y)) (inner_of g.order x (partner g.order p x y)) ≡ Some (inner_of g.order x (partner g.order p x y))) × Big g p (inner_of g.order x (partner g.order p x y)))
+  inner_case c = elim (big_or_none p (inner_of g.order x (partner g.order p x y)) (inner_of g.order x (partner g.order p x y))) [
+    | inl s ↦ inl (s.1, elim (inner_single_or_big g p x (partner g.order p x y) c) [ inl b ↦ b | inr b ↦ let i = b.inside in let j = s.0 in absurd (omega arith) ])
+    | inr s ↦ inr (s.1, elim (inner_single_or_big g p x (partner g.order p x y) c) [ inr b ↦ b | inl b ↦ let i = block_count-one g.order p st.list.partition (mem (inner_of g.order x (partner g.order p x y))) b.0 b.1 in let j = s.0 in absurd (omega arith) ])
+  ]
+
+  outer_case : (c : Corners g p x (partner g.order p x y)) → ((if_big p (outer_of g.order x (partner g.order p x y)) (outer_shore g.order (outer_of g.order x (partner g.order p x y))) ≡ None) × ((t : ℕ) × IsBlockOf g.order p (mem (outer_of g.order x (partner g.order p x y))) t)) ⊎
+      ((if_big p (outer_of g.order x (partner g.order p x y)) (outer_shore g.order (outer_of g.order x (partner g.order p x y))) ≡ Some (outer_shore g.order (outer_of g.order x (partner g.order p x y)))) × Big g p (outer_of g.order x (partner g.order p x y)))
+  outer_case c = elim (big_or_none p (outer_of g.order x (partner g.order p x y)) (outer_shore g.order (outer_of g.order x (partner g.order p x y)))) [
+    | inl s ↦ inl (s.1, elim (outer_single_or_big g p x (partner g.order p x y) c) [ inl b ↦ b | inr b ↦ let i = b.inside in let j = s.0 in absurd (omega arith) ])
+    | inr s ↦ inr (s.1, elim (outer_single_or_big g p x (partner g.order p x y) c) [ inr b ↦ b | inl b ↦ let i = block_count-one g.order p st.list.partition (mem (outer_of g.order x (partner g.order p x y))) b.0 b.1 in let j = s.0 in absurd (omega arith) ])
+  ]
+
+  kept_stage : Stage g (kept_at g.order p x)
+  kept_stage = stage_merged g p st (complement_of g.order x) (big_rest g p st x bx)
+
+  merged_stage : Stage g (merged_at g.order p x)
+  merged_stage = stage_merged g p st x bx
+
+  -- what is exposed first in `kept` is a cut there
+  pub first_is_cut : (plan : PlainPlan) → IsPlan g.order p x y plan → CutIf g (kept_at g.order p x) (first_shore y plan)
+  first_is_cut here is = tt
+  first_is_cut in_kept is = cut_in_kept g p st x y bx by nx ny is.0 is.1
+  first_is_cut in_merged is = tt
+  first_is_cut (crossing u v i o) is =
+      let c = (crossing_corners is.0 is.1 is.2).0 in let z = partner g.order p x y in
+      subst (CutIf g (kept_at g.order p x)) (sym (is.5 ∙ ap (λ (u : List ℕ). if_big p u u) is.3)) (elim (inner_case c) [
+        | inl s ↦ subst (CutIf g (kept_at g.order p x)) (sym s.0) tt
+        | inr s ↦ subst (CutIf g (kept_at g.order p x)) (sym s.0) (big_cut g (kept_at g.order p x) kept_stage (inner_of g.order x z) (inner_below g p x z c nx s.1) (inner_canonical g p x z c nx))
+      ])
+
+  -- and in `merged`
+  pub second_is_cut : (plan : PlainPlan) → IsPlan g.order p x y plan → CutIf g (merged_at g.order p x) (second_shore y plan)
+  second_is_cut here is = tt
+  second_is_cut in_kept is = tt
+  second_is_cut in_merged is = cut_in_merged g p st x y bx by nx ny is.0 is.1
+  second_is_cut (crossing u v i o) is =
+      let c = (crossing_corners is.0 is.1 is.2).0 in let z = partner g.order p x y in
+      subst (CutIf g (merged_at g.order p x)) (sym (is.6 ∙ ap (λ (v : List ℕ). if_big p v (outer_shore g.order v)) is.4)) (elim (outer_case c) [
+        | inl s ↦ subst (CutIf g (merged_at g.order p x)) (sym s.0) tt
+        | inr s ↦ subst (CutIf g (merged_at g.order p x)) (sym s.0) (let q = outer_shore_big g p x z c nx s.1 in big_cut g (merged_at g.order p x) merged_stage (outer_shore g.order (outer_of g.order x z)) q.0 q.1)
+      ])
+
+  -- the two trees with their corners exposed
+  inner_turned : (c : Corners g p x (partner g.order p x y)) (a ta : Shape) (mi : Option (List PlainMove)) → IsExposed g (kept_at g.order p x) a (if_big p (inner_of g.order x (partner g.order p x y)) (inner_of g.order x (partner g.order p x y))) ta mi → InnerTurned g p x (partner g.order p x y) a ta mi
+  inner_turned c a ta mi e = elim (inner_case c) [
+    | inl s ↦ single (subst (λ o. IsExposed g (kept_at g.order p x) a o ta mi) s.0 e) mi refl s.1
+    | inr s ↦ big (subst (λ o. IsExposed g (kept_at g.order p x) a o ta mi) s.0 e) mi refl s.1
+  ]
+    where
+      single : IsExposed g (kept_at g.order p x) a None ta mi → (m : Option (List PlainMove)) → mi ≡ m → ((t : ℕ) × IsBlockOf g.order p (mem (inner_of g.order x (partner g.order p x y))) t) → InnerTurned g p x (partner g.order p x y) a ta mi
+      single e None h b = subst (InnerTurned g p x (partner g.order p x y) a ta) (sym h) (subst (IsExposed g (kept_at g.order p x) a None ta) h e, b)
+      single e (Some ms) h b = absurd (subst (IsExposed g (kept_at g.order p x) a None ta) h e)
+
+      big : IsExposed g (kept_at g.order p x) a (Some (inner_of g.order x (partner g.order p x y))) ta mi → (m : Option (List PlainMove)) → mi ≡ m → Big g p (inner_of g.order x (partner g.order p x y)) → InnerTurned g p x (partner g.order p x y) a ta mi
+      big e None h b = absurd (subst (IsExposed g (kept_at g.order p x) a (Some (inner_of g.order x (partner g.order p x y))) ta) h e)
+      big e (Some ms) h b = let q = subst (IsExposed g (kept_at g.order p x) a (Some (inner_of g.order x (partner g.order p x y))) ta) h e in subst (InnerTurned g p x (partner g.order p x y) a ta) (sym h) (b, q.0, q.1, q.2, q.3, q.4)
+
+  outer_turned : (c : Corners g p x (partner g.order p x y)) (b tb : Shape) (mo : Option (List PlainMove)) → IsExposed g (merged_at g.order p x) b (if_big p (outer_of g.order x (partner g.order p x y)) (outer_shore g.order (outer_of g.order x (partner g.order p x y)))) tb mo → OuterTurned g p x (partner g.order p x y) b tb mo
+  outer_turned c b tb mo e = elim (outer_case c) [
+    | inl s ↦ single (subst (λ o. IsExposed g (merged_at g.order p x) b o tb mo) s.0 e) mo refl s.1
+    | inr s ↦ big (subst (λ o. IsExposed g (merged_at g.order p x) b o tb mo) s.0 e) mo refl s.1
+  ]
+    where
+      single : IsExposed g (merged_at g.order p x) b None tb mo → (m : Option (List PlainMove)) → mo ≡ m → ((t : ℕ) × IsBlockOf g.order p (mem (outer_of g.order x (partner g.order p x y))) t) → OuterTurned g p x (partner g.order p x y) b tb mo
+      single e None h k = subst (OuterTurned g p x (partner g.order p x y) b tb) (sym h) (subst (IsExposed g (merged_at g.order p x) b None tb) h e, k)
+      single e (Some ms) h k = absurd (subst (IsExposed g (merged_at g.order p x) b None tb) h e)
+
+      big : IsExposed g (merged_at g.order p x) b (Some (outer_shore g.order (outer_of g.order x (partner g.order p x y)))) tb mo → (m : Option (List PlainMove)) → mo ≡ m → Big g p (outer_of g.order x (partner g.order p x y)) → OuterTurned g p x (partner g.order p x y) b tb mo
+      big e None h k = absurd (subst (IsExposed g (merged_at g.order p x) b (Some (outer_shore g.order (outer_of g.order x (partner g.order p x y)))) tb) h e)
+      big e (Some ms) h k = let q = subst (IsExposed g (merged_at g.order p x) b (Some (outer_shore g.order (outer_of g.order x (partner g.order p x y)))) tb) h e in subst (OuterTurned g p x (partner g.order p x y) b tb) (sym h) (k, q.0, q.1, q.2, q.3, q.4)
+
+  -- the plan carried out
+  abbrev Done : Shape → Option PlainTurned → Type 0
+  Done t made = (s : PlainTurned) × (made ≡ Some s) × IsExposed g p t (Some y) s.tree (Some s.moves)
+
+  module _ (a b : Shape) (f : AreRising g.order (cut x a b)) (d : IsDerivationAt g p (cut x a b)) where
+    at_here : x ≡ y → (ta tb : Shape) → ta ≡ a → tb ≡ b → Done (cut x a b) (Some (record { tree = cut x ta tb; moves = [] }))
+    at_here e ta tb ea eb = (record { tree = cut x ta tb; moves = [] }, refl, (a, b, ap₂ (cut x) ea eb ∙ ap (λ z. cut z a b) e, ap (λ z. cut z a b) e, omega arith))
+
+    at_kept : (ta tb : Shape) (ms : List PlainMove) → IsExposed g (kept_at g.order p x) a (Some y) ta (Some ms) → tb ≡ b → Done (cut x a b) (plan_result g.order x in_kept ta tb (Some ms) None)
+    at_kept ta tb ms e eb =
+        let k = e.0 in let l = e.1 in
+        let w = walk_kept g p x a b ms (cut y k l) d f e.3 in
+        let q = walk_end g p (cut x a b) (map (below Kept) ms) (cut x (cut y k l) b) d f w in
+        let r = walk_rotate g p Kept (cut x (cut y k l) b) (cut y k (cut x l b)) st q.0 q.1 refl in
+        let n = length_join (map (below Kept) ms) (rotate_at (Kept ∷ []) ∷ []) in let m = length_below Kept ms in let z = e.4 in (
+          record { tree = cut y k (cut x l b); moves = map (below Kept) ms ++ rotate_at (Kept ∷ []) ∷ [] },
+          ap₂ (λ (t u : Shape). plan_result g.order x in_kept t u (Some ms) None) e.2 eb,
+          (k,
+          cut x l b,
+          refl,
+          walk_join g p (cut x a b) (map (below Kept) ms) (rotate_at (Kept ∷ []) ∷ []) (cut x (cut y k l) b) (cut y k (cut x l b)) w r,
+          omega arith),
+        )
+
+    at_merged : Below g.order (mem x) (mem y) ⊎ Apart g.order (mem x) (mem y) → (ta tb : Shape) (ms : List PlainMove) → IsExposed g (merged_at g.order p x) b (Some y) tb (Some ms) → ta ≡ a → Done (cut x a b) (plan_result g.order x in_merged ta tb None (Some ms))
+    at_merged how ta tb ms e ea =
+        let k = e.0 in let l = e.1 in
+        let w = walk_merged g p x a b ms (cut y k l) d f e.3 in
+        let q = walk_end g p (cut x a b) (map (below Merged) ms) (cut x a (cut y k l)) d f w in
+        let s = raised g p st x a b f d y ny k l how in
+        let r = walk_rotate g p Merged (cut x a (cut y k l)) (cut y s.0 s.1) st q.0 q.1 s.2 in
+        let n = length_join (map (below Merged) ms) (rotate_at (Merged ∷ []) ∷ []) in let m = length_below Merged ms in let z = e.4 in (
+          record { tree = cut y s.0 s.1; moves = map (below Merged) ms ++ rotate_at (Merged ∷ []) ∷ [] },
+          ap₂ (λ (t u : Shape). plan_result g.order x in_merged t u None (Some ms)) ea e.2 ∙ raised_merged_is x a (cut y k l) (cut y s.0 s.1) ms s.2,
+          (s.0,
+          s.1,
+          refl,
+          walk_join g p (cut x a b) (map (below Merged) ms) (rotate_at (Merged ∷ []) ∷ []) (cut x a (cut y k l)) (cut y s.0 s.1) w r,
+          omega arith),
+        )
+
+    pub plan_done : (plan : PlainPlan) → IsPlan g.order p x y plan → (ta tb : Shape) (mi mo : Option (List PlainMove)) → IsExposed g (kept_at g.order p x) a (first_shore y plan) ta mi → IsExposed g (merged_at g.order p x) b (second_shore y plan) tb mo →
+        (s : PlainTurned) × (plan_result g.order x plan ta tb mi mo ≡ Some s) × IsExposed g p (cut x a b) (Some y) s.tree (Some s.moves)
+    plan_done here is ta tb None None ea eb = at_here is ta tb ea eb
+    plan_done here is ta tb None (Some ms) ea eb = absurd eb
+    plan_done here is ta tb (Some ms) mo ea eb = absurd ea
+    plan_done in_kept is ta tb (Some ms) None ea eb = at_kept ta tb ms ea eb
+    plan_done in_kept is ta tb (Some ms) (Some ns) ea eb = absurd eb
+    plan_done in_kept is ta tb None mo ea eb = absurd ea
+    plan_done in_merged is ta tb None (Some ms) ea eb = at_merged (how is.1) ta tb ms eb ea
+      where
+        how : (is_subset x y ≡ true) ⊎ (is_apart x y ≡ true) → Below g.order (mem x) (mem y) ⊎ Apart g.order (mem x) (mem y)
+        how (inl k) = inl (λ w ww m. subset_says x (mem y) k w m)
+        how (inr k) = inr (apart_says g p st x y bx by nx ny k)
+    plan_done in_merged is ta tb None None ea eb = absurd eb
+    plan_done in_merged is ta tb (Some ms) mo ea eb = absurd ea
+    plan_done (crossing u v i o) is ta tb mi mo ea eb =
+        let c = crossing_corners is.0 is.1 is.2 in let z = partner g.order p x y in
+        let ia = inner_turned c.0 a ta mi (subst (λ o. IsExposed g (kept_at g.order p x) a o ta mi) (is.5 ∙ ap (λ (u : List ℕ). if_big p u u) is.3) ea) in
+        let ob = outer_turned c.0 b tb mo (subst (λ o. IsExposed g (merged_at g.order p x) b o tb mo) (is.6 ∙ ap (λ (v : List ℕ). if_big p v (outer_shore g.order v)) is.4) eb) in
+        let r = over_inner_to g p x z y c.0 by.shore nx ny c.1 a b ta tb f d mi mo ia ob in let l = r.5 in (
+          record { tree = cut y r.1 r.2; moves = r.0 },
+          ap₂ (λ (u v : List ℕ). over_inner g.order x u v ta tb mi mo) is.3 is.4 ∙ r.3,
+          (r.1,
+          r.2,
+          refl,
+          r.4,
+          omega arith),
+        )
