@@ -11,6 +11,8 @@
 
 mod command;
 mod decomposing;
+#[cfg(test)]
+mod decomposition_tests;
 mod emit;
 mod formats;
 mod gather;
