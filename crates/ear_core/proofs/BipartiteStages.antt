@@ -11,7 +11,7 @@ use Rattle.counting.specs.Tests.{some}
 use Rattle.ear_core.proofs.EngineGraphs.{ends-met, rank_same}
 use Rattle.ear_core.proofs.Growth.{two_less_odd}
 use Rattle.ear_core.proofs.NextStages.{met-within}
-use Rattle.ear_core.proofs.RankedStages.{far_k, from_stage, near_k, near_loop, rank_test, rank_within, size_k, stage_graph, stage_is_covered, stage_is_graph}
+use Rattle.ear_core.proofs.RankedStages.{second_end-ranked, ranked-off, first_end-ranked, off-loop, rank-test, rank-within, size-ranked, stage_graph, ranked-covered, ranked-graph}
 use Rattle.ear_core.specs.AlternatingEars.{Serves, AreCandidates}
 use Rattle.ear_core.specs.Asking.{NoneServes}
 use Rattle.ear_core.specs.EarLists.{PlainEar}
@@ -71,14 +71,14 @@ module _ (g : Graph) (is : IsGraph g) (a : Set) (sides : (e : ℕ) → Within (s
 
   stage_sides : IsSide (stage_graph g f) by_rank
   stage_sides e we d =
-      let l = size_k g is f in
+      let l = size-ranked g is f in
       let w : Within (size g) e = omega arith in
       elim (cases_Bool (f e)) [
-        | inr h ↦ let u = near_loop g is f e w h in absurd (d (u.0 ∙ sym u.1))
+        | inr h ↦ let u = off-loop g is f e w h in absurd (d (u.0 ∙ sym u.1))
         | inl h ↦
             let u = ends-met g f e w h in
-            let x = ap by_rank (near_k g is f e w h) ∙ rank_side (first_end g e) (is e w).0 u.0 in
-            let y = ap by_rank (far_k g is f e w h) ∙ rank_side (second_end g e) (is e w).1 u.1 in
+            let x = ap by_rank (first_end-ranked g is f e w h) ∙ rank_side (first_end g e) (is e w).0 u.0 in
+            let y = ap by_rank (second_end-ranked g is f e w h) ∙ rank_side (second_end g e) (is e w).1 u.1 in
             ap₂ (λ c d. (c && not d) || (not c && d)) x y ∙ sides e w
       ]
 
@@ -89,17 +89,17 @@ module _ (g : Graph) (is : IsGraph g) (a : Set) (sides : (e : ℕ) → Within (s
       let wv = met-within g is f v ear.start in
       let wz = met-within g is f z ear.end in
       let m = served v z wv wz ear.start ear.end (last_vertex-side g a sides v es ear.follow ear.odd) (a v) refl in
-      (m.0, from_stage g is f (pair_set v z) (pair_set (count v t) (count z t)) (λ w ww tw. ap₂ ◌||◌ (rank_test t v w ear.start tw) (rank_test t z w ear.end tw)) (stage_is_graph g is f s) m.0 m.1)
+      (m.0, ranked-off g is f (pair_set v z) (pair_set (count v t) (count z t)) (λ w ww tw. ap₂ ◌||◌ (rank-test t v w ear.start tw) (rank-test t z w ear.end tw)) (ranked-graph g is f s) m.0 m.1)
     where
       turn : (x y : Bool) → (x || y) ≡ (y || x)
       turn x y = grind arith
 
       served : (v z : ℕ) → Within g.order v → Within g.order z → t v ≡ true → t z ≡ true → a z ≡ not (a v) → (b : Bool) → a v ≡ b → HasPerfect (stage_graph g f) (pair_set (count v t) (count z t))
       served v z wv wz tv tz e true h =
-          opposite (stage_graph g f) (stage_is_graph g is f s) (stage_is_covered g is f s) by_rank stage_sides (count v t) (count z t) (rank_within g.order t v wv tv) (rank_within g.order t z wz tz)
+          opposite (stage_graph g f) (ranked-graph g is f s) (ranked-covered g is f s) by_rank stage_sides (count v t) (count z t) (rank-within g.order t v wv tv) (rank-within g.order t z wz tz)
           (rank_side v wv tv ∙ h) (rank_side z wz tz ∙ e ∙ ap not h)
       served v z wv wz tv tz e false h =
-          let m = opposite (stage_graph g f) (stage_is_graph g is f s) (stage_is_covered g is f s) by_rank stage_sides (count z t) (count v t) (rank_within g.order t z wz tz) (rank_within g.order t v wv tv)
+          let m = opposite (stage_graph g f) (ranked-graph g is f s) (ranked-covered g is f s) by_rank stage_sides (count z t) (count v t) (rank-within g.order t z wz tz) (rank-within g.order t v wv tv)
           (rank_side z wz tz ∙ e ∙ ap not h) (rank_side v wv tv ∙ h) in
           (m.0, perfect_congr (stage_graph g f) (pair_set (count z t) (count v t)) (pair_set (count v t) (count z t)) m.0 (λ w ww. turn (count z t == w) (count v t == w)) m.1)
 

@@ -17,7 +17,7 @@ use Rattle.ear_core.specs.Stages.{is_met}
 use Rattle.ear_core.proofs.Growth.{start_mem}
 use Rattle.ear_core.proofs.NextStages.{met-within}
 use Rattle.ear_core.proofs.Mates.{AreMates}
-use Rattle.ear_core.proofs.MatedPaths.{short, longer, z2, clear2, fewer, w2}
+use Rattle.ear_core.proofs.MatedPaths.{path_ends, path_goes_on, passed_too, next_is_clear, fewer_left}
 use Rattle.ear_core.proofs.Rounds.{with_trail, one-more, none-left, passed-too, left-clear, path-mated}
 
 -- the row at place i decides, or those behind it
@@ -44,7 +44,7 @@ module _ (g : Graph) (is : IsGraph g) (met : Set) (m : ℕ → ℕ) (pm : AreMat
   traced-short t old new appended = (
     m v ∷ [],
     appended ∙ ap (λ d. old ++ d ∷ []) edge,
-    short g is met m pm n pn keeps z v wv clear (ap met (sym other) ∙ t),
+    path_ends g is met m pm n pn keeps z v wv clear (ap met (sym other) ∙ t),
     λ u. joined u ∙ ap (λ x. z u || (v == u || x == u)) other ∙ ap (λ b. z u || (v == u || b)) (no_more (mate g m v == u)),
   )
     where
@@ -56,32 +56,29 @@ module _ (g : Graph) (is : IsGraph g) (met : Set) (m : ℕ → ℕ) (pm : AreMat
     out : met (mate g m v) ≡ false
     out = ap met (sym other) ∙ off
 
-    passed-is : passed ≡ z2 g is met m pm n pn keeps z v wv clear out
-    unfolding z2
+    passed-is : passed ≡ passed_too g is met m pm n pn keeps z v wv clear out
+    unfolding passed_too
     passed-is = fun_ext (λ u. joined u ∙ ap (λ x. z u || (v == u || x == u)) other)
 
     module _ (d x : ℕ) (back : d ≡ n w) (next : x ≡ mate g n w) where
       next-is : x ≡ mate g n (mate g m v)
       next-is = next ∙ ap (mate g n) other
 
-      -- it goes on: from the next vertex, with fewer vertices that are not used
-      pub next-within : Within g.order x
-      next-within = subst (Within g.order) (sym next-is) (w2 g is met m pm n pn keeps z v wv clear out)
-
+      -- it goes on from the next vertex, with fewer vertices that are not used
       pub next-clear : IsClear g met m n passed x
-      next-clear = subst (λ (y : Set). IsClear g met m n y x) (sym passed-is) (subst (λ u. IsClear g met m n (z2 g is met m pm n pn keeps z v wv clear out) u) (sym next-is) (clear2 g is met m pm n pn keeps z v wv clear out))
+      next-clear = subst (λ (y : Set). IsClear g met m n y x) (sym passed-is) (subst (λ u. IsClear g met m n (passed_too g is met m pm n pn keeps z v wv clear out) u) (sym next-is) (next_is_clear g is met m pm n pn keeps z v wv clear out))
 
       pub next-fewer : count g.order (complement passed) + 1 ≤ count g.order (complement z)
-      next-fewer = subst (λ (y : Set). count g.order (complement y) + 1 ≤ count g.order (complement z)) (sym passed-is) (fewer g is met m pm n pn keeps z v wv clear out)
+      next-fewer = subst (λ (y : Set). count g.order (complement y) + 1 ≤ count g.order (complement z)) (sym passed-is) (fewer_left g is met m pm n pn keeps z v wv clear out)
 
       pub traced-longer : (old mid new : List ℕ) → mid ≡ (old ++ e ∷ []) ++ d ∷ [] → (after : Set) → IsTraced g met m n passed x mid new after → IsTraced g met m n z v old new after
       traced-longer old mid new appended after traced =
           let es = traced.0 in
-          let p : IsAlternating g met m n (z2 g is met m pm n pn keeps z v wv clear out) (mate g n (mate g m v)) es =
-          subst (λ u. IsAlternating g met m n (z2 g is met m pm n pn keeps z v wv clear out) u es) next-is (subst (λ (y : Set). IsAlternating g met m n y x es) passed-is traced.2) in (
+          let p : IsAlternating g met m n (passed_too g is met m pm n pn keeps z v wv clear out) (mate g n (mate g m v)) es =
+          subst (λ u. IsAlternating g met m n (passed_too g is met m pm n pn keeps z v wv clear out) u es) next-is (subst (λ (y : Set). IsAlternating g met m n y x es) passed-is traced.2) in (
             m v ∷ n (mate g m v) ∷ es,
             traced.1 ∙ ap (λ (xs : List ℕ). xs ++ es) appended ∙ append_assoc (old ++ e ∷ []) (d ∷ []) es ∙ append_assoc old (e ∷ []) (d ∷ es) ∙ ap (λ k. old ++ k ∷ d ∷ es) edge ∙ ap (λ k. old ++ m v ∷ k ∷ es) (back ∙ ap n other),
-            longer g is met m pm n pn keeps z v wv clear out es p,
+            path_goes_on g is met m pm n pn keeps z v wv clear out es p,
             λ u. traced.3 u ∙ ap (λ b. b || mem (trail g x es) u) (joined u) ∙ three (z u) (v == u) (w == u) (mem (trail g x es) u) ∙ ap (λ k. z u || (v == u || (k == u || mem (trail g x es) u))) other ∙ ap (λ k. z u || (v == u || (mate g m v == u || mem (trail g k es) u))) next-is,
           )
         where

@@ -16,8 +16,8 @@ module _ (g : Graph) (is : IsGraph g) (met : Set) (m : ℕ → ℕ) (pm : AreMat
   out_n : (w : ℕ) → Within g.order w → met w ≡ false → met (mate g n w) ≡ false
   out_n w ww o = false_from_ne_true (met (mate g n w)) (λ t. both_ways (met w) o (ap met (sym (mate_back g is n pn w ww)) ∙ inv (mate g n w) (mate_within g is n pn w ww) t))
 
-  pub short : (z : Set) (v : ℕ) → Within g.order v → IsClear g met m n z v → met (mate g m v) ≡ true → IsAlternating g met m n z v (m v ∷ [])
-  short z v wv c t = record {
+  pub path_ends : (z : Set) (v : ℕ) → Within g.order v → IsClear g met m n z v → met (mate g m v) ≡ true → IsAlternating g met m n z v (m v ∷ [])
+  path_ends z v wv c t = record {
     follow = ((pm.within v wv, pm.at v wv), tt);
     odd = refl;
     once = λ w. one w;
@@ -52,86 +52,86 @@ module _ (g : Graph) (is : IsGraph g) (met : Set) (m : ℕ → ℕ) (pm : AreMat
     abbrev w : ℕ
     w = mate g m v
 
-    abbrev v2 : ℕ
-    v2 = mate g n w
+    abbrev next : ℕ
+    next = mate g n w
 
-    unfoldable pub z2 : Set
-    z2 u = z u || (v == u || w == u)
+    unfoldable pub passed_too : Set
+    passed_too u = z u || (v == u || w == u)
 
     ww : Within g.order w
     ww = mate_within g is m pm v wv
 
-    pub w2 : Within g.order v2
-    w2 = mate_within g is n pn w ww
+    pub next_within : Within g.order next
+    next_within = mate_within g is n pn w ww
 
-    new_w : z w ≡ false
-    new_w = false_from_ne_true (z w) (λ i. both_ways (z v) c.fresh (ap z (sym (mate_back g is m pm v wv)) ∙ c.closed_m w ww i))
+    mate_fresh : z w ≡ false
+    mate_fresh = false_from_ne_true (z w) (λ i. both_ways (z v) c.fresh (ap z (sym (mate_back g is m pm v wv)) ∙ c.closed_m w ww i))
 
-    back2 : mate g n v2 ≡ w
-    back2 = mate_back g is n pn w ww
+    next_back : mate g n next ≡ w
+    next_back = mate_back g is n pn w ww
 
-    out2 : met v2 ≡ false
-    out2 = out_n w ww o
+    next_off : met next ≡ false
+    next_off = out_n w ww o
 
-    v2_v : v2 ≢ v
-    v2_v i = elim (cases_Bool (met v)) [
-      | inl t ↦ both_ways (met v) (ap met (sym i) ∙ out2) t
-      | inr t ↦ both_ways (z w) new_w (ap z (sym back2) ∙ ap (λ k. z (mate g n k)) i ∙ c.back t)
+    next_other : next ≢ v
+    next_other i = elim (cases_Bool (met v)) [
+      | inl t ↦ both_ways (met v) (ap met (sym i) ∙ next_off) t
+      | inr t ↦ both_ways (z w) mate_fresh (ap z (sym next_back) ∙ ap (λ k. z (mate g n k)) i ∙ c.back t)
     ]
 
-    new_v2 : z v2 ≡ false
-    new_v2 = false_from_ne_true (z v2) (λ i. elim (c.closed_n v2 w2 i out2) [
-      | inl j ↦ both_ways (z w) new_w (ap z (sym back2) ∙ j)
-      | inr j ↦ pm.other v wv (sym back2 ∙ j)
+    next_fresh : z next ≡ false
+    next_fresh = false_from_ne_true (z next) (λ i. elim (c.closed_n next next_within i next_off) [
+      | inl j ↦ both_ways (z w) mate_fresh (ap z (sym next_back) ∙ j)
+      | inr j ↦ pm.other v wv (sym next_back ∙ j)
     ])
 
-    in_z2 : (u : ℕ) → z2 u ≡ true → (z u ≡ true) ⊎ ((v ≡ u) ⊎ (w ≡ u))
-    unfolding z2
-    in_z2 u h = elim (or_cases (z u) (v == u || w == u) h) [
+    in_passed : (u : ℕ) → passed_too u ≡ true → (z u ≡ true) ⊎ ((v ≡ u) ⊎ (w ≡ u))
+    unfolding passed_too
+    in_passed u h = elim (or_cases (z u) (v == u || w == u) h) [
       | inl i ↦ inl i
       | inr i ↦ elim (or_cases (v == u) (w == u) i) [ inl j ↦ inr (inl (eqb-true v u j)) | inr j ↦ inr (inr (eqb-true w u j)) ]
     ]
 
-    z_z2 : (u : ℕ) → z u ≡ true → z2 u ≡ true
-    unfolding z2
-    z_z2 u h = or_left (z u) _ h
+    was_passed : (u : ℕ) → z u ≡ true → passed_too u ≡ true
+    unfolding passed_too
+    was_passed u h = or_left (z u) _ h
 
-    v_z2 : (u : ℕ) → v ≡ u → z2 u ≡ true
-    unfolding z2
-    v_z2 u h = or_right (z u) _ (or_left (v == u) (w == u) (eq-eqb v u h))
+    begin_passed : (u : ℕ) → v ≡ u → passed_too u ≡ true
+    unfolding passed_too
+    begin_passed u h = or_right (z u) _ (or_left (v == u) (w == u) (eq-eqb v u h))
 
-    w_z2 : (u : ℕ) → w ≡ u → z2 u ≡ true
-    unfolding z2
-    w_z2 u h = or_right (z u) _ (or_right (v == u) (w == u) (eq-eqb w u h))
+    mate_passed : (u : ℕ) → w ≡ u → passed_too u ≡ true
+    unfolding passed_too
+    mate_passed u h = or_right (z u) _ (or_right (v == u) (w == u) (eq-eqb w u h))
 
-    pub clear2 : IsClear g met m n z2 v2
-    clear2 = record {
-      closed_m = λ u wu h. elim (in_z2 u h) [
-        | inl i ↦ z_z2 (mate g m u) (c.closed_m u wu i)
+    pub next_is_clear : IsClear g met m n passed_too next
+    next_is_clear = record {
+      closed_m = λ u wu h. elim (in_passed u h) [
+        | inl i ↦ was_passed (mate g m u) (c.closed_m u wu i)
         | inr i ↦ elim i [
-          | inl j ↦ w_z2 (mate g m u) (ap (mate g m) j)
-          | inr j ↦ v_z2 (mate g m u) (sym (ap (mate g m) (sym j) ∙ mate_back g is m pm v wv))
+          | inl j ↦ mate_passed (mate g m u) (ap (mate g m) j)
+          | inr j ↦ begin_passed (mate g m u) (sym (ap (mate g m) (sym j) ∙ mate_back g is m pm v wv))
         ]
       ];
-      fresh = false_from_ne_true (z2 v2) (λ h. elim (in_z2 v2 h) [
-        | inl i ↦ both_ways (z v2) new_v2 i
-        | inr i ↦ elim i [ inl j ↦ v2_v (sym j) | inr j ↦ pn.other w ww (sym j) ]
+      fresh = false_from_ne_true (passed_too next) (λ h. elim (in_passed next h) [
+        | inl i ↦ both_ways (z next) next_fresh i
+        | inr i ↦ elim i [ inl j ↦ next_other (sym j) | inr j ↦ pn.other w ww (sym j) ]
       ]);
-      closed_n = λ u wu h t. elim (in_z2 u h) [
-        | inl i ↦ elim (c.closed_n u wu i t) [ inl j ↦ inl (z_z2 (mate g n u) j) | inr j ↦ inl (v_z2 (mate g n u) (sym j)) ]
+      closed_n = λ u wu h t. elim (in_passed u h) [
+        | inl i ↦ elim (c.closed_n u wu i t) [ inl j ↦ inl (was_passed (mate g n u) j) | inr j ↦ inl (begin_passed (mate g n u) (sym j)) ]
         | inr i ↦ elim i [
-          | inl j ↦ inl (z_z2 (mate g n u) (ap (λ k. z (mate g n k)) (sym j) ∙ c.back (ap met j ∙ t)))
+          | inl j ↦ inl (was_passed (mate g n u) (ap (λ k. z (mate g n k)) (sym j) ∙ c.back (ap met j ∙ t)))
           | inr j ↦ inr (ap (mate g n) (sym j))
         ]
       ];
-      back = λ t. w_z2 (mate g n v2) (sym back2);
+      back = λ t. mate_passed (mate g n next) (sym next_back);
     }
 
-    pub fewer : count g.order (complement z2) + 1 ≤ count g.order (complement z)
-    fewer = count_more g.order (complement z2) (complement z) (λ u h. ap not (false_from_ne_true (z u) (λ i. both_ways (z2 u) (not-true (z2 u) h) (z_z2 u i)))) v wv (ap not (v_z2 v refl)) (ap not c.fresh)
+    pub fewer_left : count g.order (complement passed_too) + 1 ≤ count g.order (complement z)
+    fewer_left = count_more g.order (complement passed_too) (complement z) (λ u h. ap not (false_from_ne_true (z u) (λ i. both_ways (passed_too u) (not-true (passed_too u) h) (was_passed u i)))) v wv (ap not (begin_passed v refl)) (ap not c.fresh)
 
-    pub longer : (es : List ℕ) → IsAlternating g met m n z2 v2 es → IsAlternating g met m n z v (m v ∷ n w ∷ es)
-    longer es p = record {
+    pub path_goes_on : (es : List ℕ) → IsAlternating g met m n passed_too next es → IsAlternating g met m n z v (m v ∷ n w ∷ es)
+    path_goes_on es p = record {
       follow = ((pm.within v wv, pm.at v wv), ((pn.within w ww, pn.at w ww), p.follow));
       odd = twice (is_odd (length es)) p.odd;
       once = once;
@@ -140,7 +140,7 @@ module _ (g : Graph) (is : IsGraph g) (met : Set) (m : ℕ → ℕ) (pm : AreMat
         | inl j ↦ absurd (d (sym j))
         | inr j ↦ elim j [
           | inl k ↦ subst (λ k. met k ≡ false) k o
-          | inr k ↦ elim (cases_eq u v2) [ inl x ↦ subst (λ k. met k ≡ false) (sym x) out2 | inr x ↦ p.inner u k x e ]
+          | inr k ↦ elim (cases_eq u next) [ inl x ↦ subst (λ k. met k ≡ false) (sym x) next_off | inr x ↦ p.inner u k x e ]
         ]
       ];
       new = λ e i. elim (or_cases (m v == e) (mem (n w ∷ es) e) i) [
@@ -148,7 +148,7 @@ module _ (g : Graph) (is : IsGraph g) (met : Set) (m : ℕ → ℕ) (pm : AreMat
         | inr j ↦ elim (or_cases (n w == e) (mem es e) j) [
           | inl k ↦ inr (w, subst (λ d. (first_end g d == w || second_end g d == w) ≡ true) (eqb-true (n w) e k) (pn.at w ww), o)
           | inr k ↦ elim (p.new e k) [
-            | inl x ↦ inr (v2, subst (λ d. (first_end g d == v2 || second_end g d == v2) ≡ true) (sym x) (pm.at v2 w2), out2)
+            | inl x ↦ inr (next, subst (λ d. (first_end g d == next || second_end g d == next) ≡ true) (sym x) (pm.at next next_within), next_off)
             | inr x ↦ inr x
           ]
         ]
@@ -156,8 +156,8 @@ module _ (g : Graph) (is : IsGraph g) (met : Set) (m : ℕ → ℕ) (pm : AreMat
       avoid = λ u i. elim (three u i) [
         | inl j ↦ subst (λ k. z k ≡ false) j c.fresh
         | inr j ↦ elim j [
-          | inl k ↦ subst (λ k. z k ≡ false) k new_w
-          | inr k ↦ false_from_ne_true (z u) (λ t. both_ways (z2 u) (p.avoid u k) (z_z2 u t))
+          | inl k ↦ subst (λ k. z k ≡ false) k mate_fresh
+          | inr k ↦ false_from_ne_true (z u) (λ t. both_ways (passed_too u) (p.avoid u k) (was_passed u t))
         ]
       ];
       by_m = λ u i. elim (three u i) [
@@ -170,36 +170,36 @@ module _ (g : Graph) (is : IsGraph g) (met : Set) (m : ℕ → ℕ) (pm : AreMat
       by_n = λ u i t d. elim (three u i) [
         | inl j ↦ absurd (d (sym j))
         | inr j ↦ elim j [
-          | inl k ↦ or_right (v == mate g n u) _ (or_right (w == mate g n u) _ (subst (λ k. mem (trail g v2 es) (mate g n k) ≡ true) k (start_mem g v2 es)))
-          | inr k ↦ elim (cases_eq u v2) [
-            | inl x ↦ or_right (v == mate g n u) _ (or_left (w == mate g n u) _ (eq-eqb w (mate g n u) (sym (ap (mate g n) x ∙ back2))))
+          | inl k ↦ or_right (v == mate g n u) _ (or_right (w == mate g n u) _ (subst (λ k. mem (trail g next es) (mate g n k) ≡ true) k (start_mem g next es)))
+          | inr k ↦ elim (cases_eq u next) [
+            | inl x ↦ or_right (v == mate g n u) _ (or_left (w == mate g n u) _ (eq-eqb w (mate g n u) (sym (ap (mate g n) x ∙ next_back))))
             | inr x ↦ or_right (v == mate g n u) _ (or_right (w == mate g n u) _ (p.by_n u k t x))
           ]
         ]
       ];
-      last = or_right (m v == m (last_vertex g v2 es)) _ (or_right (n w == m (last_vertex g v2 es)) _ p.last);
+      last = or_right (m v == m (last_vertex g next es)) _ (or_right (n w == m (last_vertex g next es)) _ p.last);
     }
       where
         twice : (x : Bool) → x ≡ true → not (not x) ≡ true
         twice x h = grind arith
 
-        three : (u : ℕ) → mem (v ∷ w ∷ trail g v2 es) u ≡ true → (v ≡ u) ⊎ ((w ≡ u) ⊎ (mem (trail g v2 es) u ≡ true))
-        three u i = elim (or_cases (v == u) (mem (w ∷ trail g v2 es) u) i) [
+        three : (u : ℕ) → mem (v ∷ w ∷ trail g next es) u ≡ true → (v ≡ u) ⊎ ((w ≡ u) ⊎ (mem (trail g next es) u ≡ true))
+        three u i = elim (or_cases (v == u) (mem (w ∷ trail g next es) u) i) [
           | inl j ↦ inl (eqb-true v u j)
-          | inr j ↦ elim (or_cases (w == u) (mem (trail g v2 es) u) j) [ inl k ↦ inr (inl (eqb-true w u k)) | inr k ↦ inr (inr k) ]
+          | inr j ↦ elim (or_cases (w == u) (mem (trail g next es) u) j) [ inl k ↦ inr (inl (eqb-true w u k)) | inr k ↦ inr (inr k) ]
         ]
 
-        off : (u : ℕ) → z2 u ≡ true → times (trail g v2 es) u ≡ 0
-        off u h = elim (cases_eq (times (trail g v2 es) u) 0) [
+        off : (u : ℕ) → passed_too u ≡ true → times (trail g next es) u ≡ 0
+        off u h = elim (cases_eq (times (trail g next es) u) 0) [
           | inl i ↦ i
-          | inr i ↦ absurd (both_ways (z2 u) (p.avoid u (times_mem (trail g v2 es) u (omega arith))) h)
+          | inr i ↦ absurd (both_ways (passed_too u) (p.avoid u (times_mem (trail g next es) u (omega arith))) h)
         ]
 
-        once : (u : ℕ) → bit (v == u) + (bit (w == u) + times (trail g v2 es) u) ≤ 1
+        once : (u : ℕ) → bit (v == u) + (bit (w == u) + times (trail g next es) u) ≤ 1
         once u = elim (cases_eq v u) [
-          | inl j ↦ let x = ap bit (ne_eqb w u (λ k. pm.other v wv (k ∙ sym j))) in let y = ap bit (eq-eqb v u j) in let q = off u (v_z2 u j) in omega arith
+          | inl j ↦ let x = ap bit (ne_eqb w u (λ k. pm.other v wv (k ∙ sym j))) in let y = ap bit (eq-eqb v u j) in let q = off u (begin_passed u j) in omega arith
           | inr j ↦ let y = ap bit (ne_eqb v u j) in (elim (cases_eq w u) [
-            | inl k ↦ let x = ap bit (eq-eqb w u k) in let q = off u (w_z2 u k) in omega arith
+            | inl k ↦ let x = ap bit (eq-eqb w u k) in let q = off u (mate_passed u k) in omega arith
             | inr k ↦ let x = ap bit (ne_eqb w u k) in let q = p.once u in omega arith
           ])
         ]

@@ -88,10 +88,7 @@ module _ (g : Graph) (f : Set) (m n : ℕ → ℕ) where
       left : (x y c : Bool) → x ≡ true → y ≡ false → (x && (not y && not c)) ≡ false → c ≡ true
       left x y c p q r = grind arith
 
-  -- no vertex is passed yet, and those of an ear hold their mates
-  pub nothing-passed : HoldsMates g (is_met g f) m n none
-  nothing-passed = record { by_m = λ w ww h. absurd (true≢false (sym h)); by_n = λ w ww h. absurd (true≢false (sym h)) }
-
+  -- the vertices of an ear hold their mates too
   pub passed-too : (z : Set) (a : PlainEar) → HoldsMates g (is_met g f) m n z → IsMatedEar g f m n a → HoldsMates g (is_met g f) m n (with_trail g z a)
   passed-too z a c good = record {
     by_m = λ w ww h. elim (or_cases (z w) (mem (trail g a.begin a.edges) w) h) [ inl i ↦ or_left (z (mate g m w)) _ (c.by_m w ww i) | inr i ↦ or_right (z (mate g m w)) _ (good.by_m w i) ];

@@ -78,23 +78,11 @@ module _ (g : Graph) (f : Set) (a : PlainEar) (ears others : List PlainEar) (beg
     | inr j ↦ later b j q
   ]
 
-  pub two-here : (s : PlainStep) → FindsWith g f a others s → FindsTwo g f ears s
-  two-here s found = subst (λ (xs : List PlainEar). FindsTwo g f xs s) (sym begins) (a, found.0, inl (refl, found.1), found.2, found.3)
-
-  pub two-later : (s : PlainStep) → FindsTwo g f others s → FindsTwo g f ears s
-  two-later s found = subst (λ (xs : List PlainEar). FindsTwo g f xs s) (sym begins) (found.0, found.1, inr found.2, found.3, found.4)
-
   pub no-two-later : NoneServesWith g f a others → NoTwoServe g f others → NoTwoServe g f ears
   no-two-later here later b c i q = elim (subst (IsBefore b c) begins i) [
     | inl p ↦ here c p.1 (subst (λ (x : PlainEar). Serves g f (union (ends_of_ear g x) (ends_of_ear g c))) p.0 q)
     | inr j ↦ later b c j q
   ]
-
-  pub first-ear-fits : (n m : ℕ) → AllByRecursion (FitsEar n m) ears → FitsEar n m a × AllByRecursion (FitsEar n m) others
-  first-ear-fits n m fits = let all = subst (AllByRecursion (FitsEar n m)) begins fits in (all.0, all.1)
-
-pub none-of-none : (g : Graph) (f : Set) → NoneServes g f []
-none-of-none g f a i q = i
 
 -- two ears of a list are one, or one stands before the other
 ordered : (a b : PlainEar) (ears : List PlainEar) → IsAmong a ears → IsAmong b ears → (a ≡ b) ⊎ (IsBefore a b ears ⊎ IsBefore b a ears)

@@ -12,7 +12,7 @@ use Rattle.ear_core.specs.EarLists.{PlainEar}
 use Rattle.ear_core.specs.Ears.{other_end, trail, last_vertex, IsEar, IsEarPair}
 use Rattle.ear_core.specs.Stages.{is_met, IsStage, with_edges}
 use Rattle.ear_core.proofs.Growth.{start_mem, trail_has}
-use Rattle.ear_core.proofs.RankedStages.{pairs_serve}
+use Rattle.ear_core.proofs.RankedStages.{pairs-serve}
 use Rattle.ear_core.proofs.ServingEars.{one-serves, two-serve, off-same}
 
 among-pairs : (g : Graph) (ears : List PlainEar) (p : ℕ × ℕ) → IsIn p (ends_of_ears g ears) → (a : PlainEar) × IsAmong a ears × (p ≡ (a.begin, last_vertex g a.begin a.edges))
@@ -55,7 +55,7 @@ module _ (g : Graph) (is : IsGraph g) (f : Set) (stage : IsStage g f) where
   -- of candidates two serve, or one does
   pub some-serve : (ears : List PlainEar) → AreCandidates g f ears → (a b : PlainEar) × IsAmong a ears × IsAmong b ears × Serves g f (union (ends_of_ear g a) (ends_of_ear g b))
   some-serve ears c =
-      let x = pairs_serve g is f stage (ends_of_ears g ears) (filled ears c.some) (λ q i. let r = among-pairs g ears q i in let h = c.each r.0 r.1 in
+      let x = pairs-serve g is f stage (ends_of_ears g ears) (filled ears c.some) (λ q i. let r = among-pairs g ears q i in let h = c.each r.0 r.1 in
       (subst (λ (z : ℕ × ℕ). is_met g f z.0 ≡ true) (sym r.2) h.start, subst (λ (z : ℕ × ℕ). is_met g f z.1 ≡ true) (sym r.2) h.end))
       (λ w ww. c.once w) c.serve.0 c.serve.1 in
       let a = among-pairs g ears x.0 x.2 in
