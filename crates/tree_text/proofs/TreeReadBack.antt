@@ -43,7 +43,7 @@ leaf-taken n nodes place few = grind (arith, nat_tests)
 shore-in_range : (n : ℕ) (x : List ℕ) → All (Within (n - 1)) x → list_any (is_out_of_range n) x ≡ false
 shore-in_range n x within = in_range-tests n x (λ k d less. let in_order = within k d less in (in_order.0, (let high = in_order.1 in omega arith)))
 
-rising-tests : (x : List ℕ) → IsStrictlyIncreasing x → is_rising x ≡ true
+pub rising-tests : (x : List ℕ) → IsStrictlyIncreasing x → is_rising x ≡ true
 rising-tests [] rising = refl
 rising-tests (v ∷ []) rising = refl
 rising-tests (v ∷ w ∷ x) rising =

@@ -4,7 +4,8 @@
 //! preorder, `leaf` or `cut` with the vertices of the shore. It stands for a list of picks by those of `specs/PickFormat`: a header
 //! `s mcg K` and K lines `pick P`. `read_tree` and `read_picks` answer what a text stands for, or its first fault, each exactly
 //! where the rules say so. `write_tree` writes the canonical text of `specs/Writing`, and reading it gives the tree again:
-//! `laws::written_tree_stands`. What a text stands for fits n, and its shores are nonempty and rise: `laws::read_tree_fits`.
+//! `laws::written_tree_stands`. What a text stands for fits n, and its shores are nonempty and rise: `laws::read_tree_fits`. `shores`
+//! has the tests of lists of vertices, which the format of moves shares.
 //!
 //! Stands on `line_text` for what a format is, on `text_faults` for the reader and on `tree_core` for trees. The manner of the
 //! formats is that of the graph files of the DIMACS challenges (1990 to 1993).
@@ -14,7 +15,7 @@ pub mod laws;
 mod nodes_read;
 mod pick_format;
 mod place;
-mod shores;
+pub mod shores;
 mod tree_format;
 mod writing;
 

@@ -1,0 +1,4 @@
+pub mod MoveWords
+pub mod MovesReadBack
+pub mod MovesRead
+pub mod TextSoFar

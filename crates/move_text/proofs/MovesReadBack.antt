@@ -1,0 +1,119 @@
+-- What is written of moves is read as these moves. The header leads to no moves, and the line of a move adds it to the moves before,
+-- since no test of the table applies.
+use Rattle.std.proofs.Common.{◌≡◌, ◌+◌, ◌≤◌, ◌<◌, ◌^◌, codes, nat_le, ℕ, List, [], ◌∷◌, ◌++◌, All, length, map, true, false, Some, Ok, inl, inr, refl, ◌∙◌, ap, subst, arith, append_assoc}
+use Rattle.std.specs.List.{AllByRecursion, list_all, list_any}
+use Rattle.std.proofs.lemmas.Bool.Decides.{nat_tests}
+use Rattle.std.proofs.lemmas.List.{append-nil, length-append}
+use Rattle.counting.specs.Counts.{Within}
+use Rattle.line_text.specs.Format.{Begins, Stands, StandsAlone}
+use Rattle.line_text.specs.Words.{has_form, is_word, IsSignificant}
+use Rattle.line_text.specs.Numerals.{is_number, value_of}
+use Rattle.line_text.proofs.Decimals.{number_of-decimal, is_word-decimal, numbers-decimal, values-decimal}
+use Rattle.line_text.proofs.ExactlyOne.{exactly_one}
+use Rattle.line_text.proofs.ReadBack.{Stands-written}
+use Rattle.text_faults.specs.Ranges.{is_out_of_range}
+use Rattle.text_faults.proofs.InRange.{in_range-tests}
+use Rattle.tree_core.specs.Moves.{PlainMove, rotate_at, switch_at}
+use Rattle.tree_core.specs.declared.path.Side.{Side}
+use Rattle.tree_text.proofs.TreeReadBack.{rising-tests}
+use Rattle.move_text.specs.MoveFormat.{move_format, is_rotate_line, is_switch_line, is_path, path_of, are_numbers, vertices_of, most_moves, most_steps}
+use Rattle.move_text.specs.Writing.{header_words, path_word, set_word, move_words, moves_text, HasShortPath, HasSets, SetsRise, IsWritable}
+use Rattle.move_text.proofs.MoveWords.{is_path-path_word, path_of-path_word, is_word-path_word, parts_of-set_word, is_word-set_word}
+
+-- the header line
+header-taken : (n : ℕ) → n < 10 ^ 9 → (move_format n).header (header_words n) ≡ Ok []
+unfolding has_form
+header-taken n small = rw (number_of-decimal n small) (grind (arith, nat_tests))
+
+-- which line it is
+is-rotate : (path : List ℕ) → is_path path ≡ true → is_rotate_line (codes "rotate" ∷ path ∷ []) ≡ true
+unfolding has_form
+is-rotate path is = is
+
+not-rotate : (path u v : List ℕ) → is_rotate_line (codes "switch" ∷ path ∷ u ∷ v ∷ []) ≡ false
+unfolding has_form
+not-rotate path u v = refl
+
+is-switch : (path u v : List ℕ) → is_path path ≡ true → is_switch_line (codes "switch" ∷ path ∷ u ∷ v ∷ []) ≡ true
+unfolding has_form
+is-switch path u v is = is
+
+few_moves : (moves : List PlainMove) → length moves < most_moves → nat_le most_moves (length moves) ≡ false
+few_moves moves few = grind (arith, nat_tests)
+
+-- the line of a Rotate
+rotate-taken : (n : ℕ) (moves : List PlainMove) (path : List Side) → length moves < most_moves → length path ≤ most_steps → (move_format n).line moves (move_words (rotate_at path)) ≡ Ok (moves ++ rotate_at path ∷ [])
+rotate-taken n moves path few short =
+    taken (path_word path) (is-rotate (path_word path) (is_path-path_word path short)) (path_of-path_word path)
+  where
+    taken : (word : List ℕ) → is_rotate_line (codes "rotate" ∷ word ∷ []) ≡ true → path_of word ≡ path → (move_format n).line moves (codes "rotate" ∷ word ∷ []) ≡ Ok (moves ++ rotate_at path ∷ [])
+    taken word is same = rw (few_moves moves few, is, same) refl
+
+-- the word of a nonempty set of vertices is read as this set
+below : (n : ℕ) (x : List ℕ) → n < 10 ^ 9 → All (Within n) x → All (λ v. v < 10 ^ 9) x
+below n x small within k d less = let in_order = within k d less in omega arith
+
+pub vertices_of-set_word : (n : ℕ) (x : List ℕ) → n < 10 ^ 9 → 0 < length x → All (Within n) x → (vertices_of (set_word x) ≡ x) × (are_numbers (set_word x) ≡ true)
+vertices_of-set_word n [] small some within = absurd (omega arith)
+vertices_of-set_word n (v ∷ x) small some within =
+    let less = below n (v ∷ x) small within in
+    let parts = parts_of-set_word v x less in
+    (ap (map value_of) parts ∙ values-decimal (v ∷ x) less, ap (list_all is_number) parts ∙ numbers-decimal (v ∷ x) less)
+
+word-set : (n : ℕ) (x : List ℕ) → n < 10 ^ 9 → 0 < length x → All (Within n) x → is_word (set_word x) ≡ true
+word-set n [] small some within = absurd (omega arith)
+word-set n (v ∷ x) small some within = is_word-set_word v x (below n (v ∷ x) small within)
+
+-- the line of a Switch
+switch-taken : (n : ℕ) (moves : List PlainMove) (path : List Side) (u v : List ℕ) → n < 10 ^ 9 → length moves < most_moves → length path ≤ most_steps → HasSets n (switch_at path u v) → SetsRise (switch_at path u v) → (move_format n).line moves (move_words (switch_at path u v)) ≡ Ok (moves ++ switch_at path u v ∷ [])
+switch-taken n moves path u v small few short sets rising =
+    let first = sets.0 in let second = sets.1 in
+    let read_u = vertices_of-set_word n u small first.0 first.1 in
+    let read_v = vertices_of-set_word n v small second.0 second.1 in
+    taken (path_word path) (set_word u) (set_word v) (not-rotate (path_word path) (set_word u) (set_word v)) (is-switch (path_word path) (set_word u) (set_word v) (is_path-path_word path short)) (path_of-path_word path) read_u.1 read_v.1 read_u.0 read_v.0 (in_range-tests n u first.1) (in_range-tests n v second.1)
+  where
+    taken : (word x y : List ℕ) → is_rotate_line (codes "switch" ∷ word ∷ x ∷ y ∷ []) ≡ false → is_switch_line (codes "switch" ∷ word ∷ x ∷ y ∷ []) ≡ true → path_of word ≡ path → are_numbers x ≡ true → are_numbers y ≡ true → vertices_of x ≡ u → vertices_of y ≡ v → list_any (is_out_of_range n) u ≡ false → list_any (is_out_of_range n) v ≡ false → (move_format n).line moves (codes "switch" ∷ word ∷ x ∷ y ∷ []) ≡ Ok (moves ++ switch_at path u v ∷ [])
+    taken word x y other is same numbers_x numbers_y vertices_x vertices_y range_u range_v =
+        rw (few_moves moves few, other, is, numbers_x, numbers_y, vertices_x, vertices_y, range_u, range_v, rising-tests u rising.0, rising-tests v rising.1, same) refl
+
+-- the lines of moves
+move-taken : (n : ℕ) (moves : List PlainMove) (m : PlainMove) → n < 10 ^ 9 → length moves < most_moves → HasShortPath m → HasSets n m → SetsRise m → (move_format n).line moves (move_words m) ≡ Ok (moves ++ m ∷ [])
+move-taken n moves (rotate_at path) small few short sets rising = rotate-taken n moves path few short
+move-taken n moves (switch_at path u v) small few short sets rising = switch-taken n moves path u v small few short sets rising
+
+moves-taken : (n : ℕ) (before moves : List PlainMove) → n < 10 ^ 9 → length before + length moves ≤ most_moves → AllByRecursion HasShortPath moves → AllByRecursion (HasSets n) moves → AllByRecursion SetsRise moves → Begins (move_format n) (Some before) (map move_words moves) (Some (before ++ moves))
+moves-taken n before [] small few paths sets rising = ap (λ (ms : List PlainMove). Some ms) (append-nil before)
+moves-taken n before (m ∷ moves) small few paths sets rising = (
+  before ++ m ∷ [],
+  move-taken n before m small (omega arith) paths.0 sets.0 rising.0,
+  subst (λ (ms : List PlainMove). Begins (move_format n) (Some (before ++ m ∷ [])) (map move_words moves) (Some ms)) (append_assoc before (m ∷ []) moves)
+      (moves-taken n (before ++ m ∷ []) moves small (omega (arith, length-append before (m ∷ []))) paths.1 sets.1 rising.1),
+)
+
+-- each line is significant
+move-significant : (n : ℕ) (m : PlainMove) → n < 10 ^ 9 → HasSets n m → IsSignificant (move_words m)
+move-significant n (rotate_at path) small sets = record { kept = refl; each = (refl, (is_word-path_word path, tt)) }
+move-significant n (switch_at path u v) small sets =
+    let first = sets.0 in let second = sets.1 in
+    record { kept = refl; each = (refl, (is_word-path_word path, (word-set n u small first.0 first.1, (word-set n v small second.0 second.1, tt)))) }
+
+moves-significant : (n : ℕ) (moves : List PlainMove) → n < 10 ^ 9 → AllByRecursion (HasSets n) moves → AllByRecursion IsSignificant (map move_words moves)
+moves-significant n [] small sets = tt
+moves-significant n (m ∷ moves) small sets = (move-significant n m small sets.0, moves-significant n moves small sets.1)
+
+-- the text of moves stands for them
+pub Stands-moves_text : (n : ℕ) (moves : List PlainMove) → IsWritable n moves → Stands (move_format n) (moves_text n moves) moves
+unfolding moves_text
+Stands-moves_text n moves is =
+    let few = is.few in
+    Stands-written (move_format n) (header_words n ∷ map move_words moves) (Some moves) moves
+    (record { kept = refl; each = (refl, (refl, (is_word-decimal n is.order, tt))) }, moves-significant n moves is.order is.sets)
+    ([], header-taken n is.order, moves-taken n [] moves is.order (omega arith) is.paths is.sets is.rising)
+    refl
+
+-- and for no others
+pub StandsAlone-moves_text : (n : ℕ) (moves : List PlainMove) → IsWritable n moves → StandsAlone (move_format n) (moves_text n moves)
+StandsAlone-moves_text n moves is = elim (exactly_one (move_format n) (moves_text n moves)) [
+  | inl alone ↦ alone
+  | inr broken ↦ absurd (broken.valueless moves (Stands-moves_text n moves is))
+]

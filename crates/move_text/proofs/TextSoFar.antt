@@ -1,0 +1,43 @@
+-- The text of moves grows by the line of the next move.
+use Rattle.std.proofs.Common.{◌≡◌, ◌+◌, ◌≤◌, ◌<◌, ℕ, zero, suc, List, [], ◌∷◌, ◌++◌, codes, get_or, length, map, take, take_all, refl, sym, ◌∙◌, ap, subst, arith, append_assoc}
+use Rattle.std.specs.List.{AllByRecursion}
+use Rattle.line_text.specs.Words.{written}
+use Rattle.tree_core.specs.declared.moves.Move.{Move}
+use Rattle.tree_core.specs.declared.path.Side.{Side}
+use Rattle.tree_core.specs.Moves.{PlainMove, rotate_at, switch_at}
+use Rattle.tree_core.specs.MoveView.{move_of, moves_of}
+use Rattle.move_text.specs.Writing.{path_word, set_word, move_words, header_words, moves_text}
+
+-- the line of a Rotate
+pub rotate_line-text : (old first second third : List ℕ) (path : List Side) → first ≡ old ++ codes "rotate " → second ≡ first ++ path_word path → third ≡ second ++ 10 ∷ [] → third ≡ old ++ written (move_words (rotate_at path) ∷ [])
+rotate_line-text old first second third path is_first is_second is_third =
+    is_third ∙ ap (λ t. t ++ 10 ∷ []) (is_second ∙ ap (λ t. t ++ path_word path) is_first) ∙ simp append_assoc
+
+-- the line of a Switch
+pub switch_line-text : (old first second third fourth fifth sixth last : List ℕ) (path : List Side) (u v : List ℕ) → first ≡ old ++ codes "switch " → second ≡ first ++ path_word path → third ≡ second ++ 32 ∷ [] → fourth ≡ third ++ set_word u → fifth ≡ fourth ++ 32 ∷ [] → sixth ≡ fifth ++ set_word v → last ≡ sixth ++ 10 ∷ [] → last ≡ old ++ written (move_words (switch_at path u v) ∷ [])
+switch_line-text old first second third fourth fifth sixth last path u v is_first is_second is_third is_fourth is_fifth is_sixth is_last =
+    is_last
+    ∙ ap (λ t. t ++ 10 ∷ []) (is_sixth ∙ ap (λ t. t ++ set_word v) (is_fifth ∙ ap (λ t. t ++ 32 ∷ []) (is_fourth ∙ ap (λ t. t ++ set_word u) (is_third ∙ ap (λ t. t ++ 32 ∷ []) (is_second ∙ ap (λ t. t ++ path_word path) is_first)))))
+    ∙ simp append_assoc
+
+-- all moves
+map-moves : (moves : List Move) → map (λ m. move_words (move_of m)) moves ≡ map move_words (moves_of moves)
+map-moves [] = refl
+map-moves (m ∷ moves) = ap (λ (lines : List (List (List ℕ))). move_words (move_of m) ∷ lines) (map-moves moves)
+
+pub moves_text-by_moves : (n : ℕ) (moves : List Move) (i : ℕ) → length moves ≤ i → written (header_words n ∷ map (λ m. move_words (move_of m)) (take i moves)) ≡ moves_text n (moves_of moves)
+unfolding moves_text
+moves_text-by_moves n moves i done =
+    ap (λ (ms : List Move). written (header_words n ∷ map (λ m. move_words (move_of m)) ms)) (take_all i moves (omega arith))
+    ∙ ap (λ (lines : List (List (List ℕ))). written (header_words n ∷ lines)) (map-moves moves)
+
+-- what holds of the first moves and of the next
+all-suc : (P : PlainMove → Type 0) (moves : List Move) (i : ℕ) (m : Move) → i < length moves → get_or moves i m ≡ m → AllByRecursion P (moves_of (take i moves)) → P (move_of m) → AllByRecursion P (moves_of (take (suc i) moves))
+all-suc P [] i m less is each last = absurd (omega arith)
+all-suc P (x ∷ moves) zero m less is each last = (subst (λ (y : Move). P (move_of y)) (sym is) last, tt)
+all-suc P (x ∷ moves) (suc i) m less is each last = (each.0, all-suc P moves i m (omega arith) is each.1 last)
+
+pub all-next : (P : PlainMove → Type 0) (moves : List Move) (i : ℕ) (m : Move) → i < length moves → get_or moves i m ≡ m → AllByRecursion P (moves_of (take i moves)) → P (move_of m) → AllByRecursion P (moves_of (take (i + 1) moves))
+all-next P moves i m less is each last =
+    let next : suc i ≡ i + 1 = omega arith in
+    subst (λ k. AllByRecursion P (moves_of (take k moves))) next (all-suc P moves i m less is each last)

@@ -1,0 +1,64 @@
+use Rattle.std.proofs.Common.{◌≡◌, ◌<◌, ◌≤◌, ◌^◌, [], ◌∷◌, ◌++◌, ℕ, List, length, get_or, take, take_all, subst, sym, ◌∙◌, ap, ap₂, arith, Vec, Global}
+use Rattle.std.specs.List.{AllByRecursion}
+use Rattle.std.proofs.lemmas.List.{length-map}
+use Rattle.std.proofs.lemmas.Option.{get_or_from_slice_get}
+use Rattle.line_text.specs.Format.{Stands, StandsAlone}
+use Rattle.line_text.specs.Words.{written}
+use Rattle.line_text.proofs.WrittenLines.{written-more}
+use Rattle.tree_core.specs.declared.moves.Move.{Move}
+use Rattle.tree_core.specs.MoveView.{move_of, moves_of}
+use Rattle.move_text.specs.MoveFormat.{move_format, most_moves}
+use Rattle.move_text.specs.Writing.{header_words, move_words, HasShortPath, HasSets, SetsRise, IsWritable}
+use Rattle.move_text.proofs.MovesReadBack.{Stands-moves_text, StandsAlone-moves_text}
+use Rattle.move_text.proofs.TextSoFar.{all-next, moves_text-by_moves}
+use Rattle.move_text.proofs.writing.write_moves.Goals as goal
+
+-- moves all of which have been written
+writable : (n : ℕ) (moves : List Move) (i : ℕ) → n < 10 ^ 9 → length moves ≤ most_moves → AllByRecursion HasShortPath (moves_of moves) → AllByRecursion (HasSets n) (moves_of moves) → take i moves ≡ moves → AllByRecursion SetsRise (moves_of (take i moves)) → IsWritable n (moves_of moves)
+writable n moves i order few paths sets all rising = record {
+  order = order;
+  few = subst (λ k. k ≤ most_moves) (sym (length-map moves move_of)) few;
+  paths = paths;
+  sets = sets;
+  rising = subst (λ (ms : List Move). AllByRecursion SetsRise (moves_of ms)) all rising;
+}
+
+pub loop-i-preserved : goal.loop-i-preserved
+loop-i-preserved c =
+    let moves = c.args.moves.now in
+    let i = c.loop-i.i in
+    let item = c.get.result.now in
+    let less : i < length moves = let all = c.len-i-end.ensures in let test = c.loop-i-test.true in omega arith in
+    let same : get_or moves i item ≡ item = get_or_from_slice_get moves i item item c.get.ensures in
+    record {
+      text =
+          c.in_ok-push_move.ensures.text
+          ∙ ap₂ (λ t (line : List ℕ). t ++ line) c.loop-i.invariant.text (ap (λ (m : Move). written (move_words (move_of m) ∷ [])) (sym same))
+          ∙ sym (written-more (λ (m : Move). move_words (move_of m)) (header_words c.args.n ∷ []) moves i item less);
+      rising = all-next SetsRise moves i item less same c.loop-i.invariant.rising c.push_move.ensures.rising;
+    }
+
+pub returns-clause-text : goal.returns-clause-text
+returns-clause-text c =
+    ap (λ (v : Vec ℕ Global). v.items) c.into_bytes.ensures.value ∙ c.loop-i.invariant.text
+    ∙ moves_text-by_moves c.args.n c.args.moves.now c.loop-i.i (let all = c.len-i-end.ensures in let test = c.loop-i-test.false in omega arith)
+
+pub returns-clause-stands : goal.returns-clause-stands
+returns-clause-stands c =
+    let n = c.args.n in
+    let moves = moves_of c.args.moves.now in
+    let order = c.requires.order in
+    let all = take_all c.loop-i.i c.args.moves.now (let end = c.len-i-end.ensures in let test = c.loop-i-test.false in omega arith) in
+    let is : IsWritable n moves = writable n c.args.moves.now c.loop-i.i (omega arith) c.requires.few c.requires.paths c.requires.sets all c.loop-i.invariant.rising in
+    let text = ap (λ (v : Vec ℕ Global). v.items) c.into_bytes.ensures.value ∙ c.loop-i.invariant.text ∙ moves_text-by_moves n c.args.moves.now c.loop-i.i (let end = c.len-i-end.ensures in let test = c.loop-i-test.false in omega arith) in
+    subst (λ bytes. Stands (move_format n) bytes moves) (sym text) (Stands-moves_text n moves is)
+
+pub returns-clause-alone : goal.returns-clause-alone
+returns-clause-alone c =
+    let n = c.args.n in
+    let moves = moves_of c.args.moves.now in
+    let order = c.requires.order in
+    let all = take_all c.loop-i.i c.args.moves.now (let end = c.len-i-end.ensures in let test = c.loop-i-test.false in omega arith) in
+    let is : IsWritable n moves = writable n c.args.moves.now c.loop-i.i (omega arith) c.requires.few c.requires.paths c.requires.sets all c.loop-i.invariant.rising in
+    let text = ap (λ (v : Vec ℕ Global). v.items) c.into_bytes.ensures.value ∙ c.loop-i.invariant.text ∙ moves_text-by_moves n c.args.moves.now c.loop-i.i (let end = c.len-i-end.ensures in let test = c.loop-i-test.false in omega arith) in
+    subst (λ bytes. StandsAlone (move_format n) bytes) (sym text) (StandsAlone-moves_text n moves is)

@@ -1,0 +1,13 @@
+use Rattle.std.proofs.Common.{◌≡◌, ◌∷◌, map, take, string_bytes}
+use Rattle.std.specs.List.{AllByRecursion}
+use Rattle.line_text.specs.Words.{written}
+use Rattle.tree_core.specs.MoveView.{move_of, moves_of}
+use Rattle.move_text.specs.Writing.{header_words, move_words, SetsRise}
+use Rattle.move_text.proofs.writing.write_moves.Given as goal
+
+-- the header and the lines of the first moves are written, and the sets of these moves rise
+abbrev pub invariant-loop-i : goal.invariant-loop-i
+invariant-loop-i l = record {
+  text : string_bytes l.text ≡ written (header_words l.fn.n ∷ map (λ m. move_words (move_of m)) (take l.i l.moves));
+  rising : AllByRecursion SetsRise (moves_of (take l.i l.moves));
+}

@@ -1,0 +1,2 @@
+pub mod MoveFormat
+pub mod Writing

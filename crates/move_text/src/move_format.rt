@@ -1,0 +1,152 @@
+//! The move format.
+ghost use Rattle.std.specs.Prelude.{◌≡◌, ◌<◌, ◌≤◌, ◌-◌, ◌^◌, ℕ, List, length, IfOk, IfErr, Ok, Err};
+ghost use Rattle.line_text.specs.Reading.{Gives};
+ghost use Rattle.line_text.specs.Format.{Stands, FirstFault};
+ghost use Rattle.line_text.specs.Words.{texts_of};
+ghost use Rattle.text_faults.specs.Readings.{IsFirstFault, ReadsText};
+ghost use Rattle.graph_core.specs.declared.faults.FaultKind.{FaultKind};
+ghost use Rattle.tree_core.specs.Moves.{PlainMove};
+ghost use Rattle.tree_core.specs.MoveView.{moves_of};
+ghost use Rattle.move_text.specs.MoveFormat.{move_format, moves_header, move_line, switch_line};
+ghost use Rattle.move_text.specs.Writing.{IsWritable};
+
+use crate::move_words::{is_rotate, is_switch, read_path, read_vertices};
+use graph_core::{FaultKind, TextFault};
+use line_text::{LineFormat, Refusal, has_form, number, word};
+use std::alloc::Global;
+use text_faults::{has_out_of_range, read_text};
+use tree_core::{Move, Moves};
+use tree_text::shores::{rise, shore_of};
+use vset_core::MOST_VERTICES;
+
+const MOST_MOVES: usize = 20_000;
+
+// The format, for graphs of this order.
+#[derive(Drop)]
+struct MoveFormat {
+    alloc: Global,
+    order: u32,
+    ghost few: { order ≤ 128 },
+}
+
+fn read_header(alloc: Global, n: u32, words: &[&[u8]]) -> Result<Moves, Refusal<FaultKind>>
+    ensures { Gives moves_of result (moves_header n (texts_of words.now)) }
+{
+    if !has_form(words, 3, &["m", "mcg"]) {
+        return Err(Refusal::Fault(FaultKind::Header));
+    }
+    let Some(order) = number(word(words, 2)) else {
+        return Err(Refusal::Fault(FaultKind::Number));
+    };
+    if order != n {
+        return Err(Refusal::Fault(FaultKind::Header));
+    }
+    Ok(Moves::new(alloc))
+}
+
+// The line of a Switch, by the words of its path and of its sets.
+#[tactic(auto, using(tree_text::proofs::ShoreLists::rising_shore))]
+fn read_switch(
+    format: &MoveFormat,
+    moves: Moves,
+    path: &[u8],
+    u: &[u8],
+    v: &[u8],
+) -> Result<Moves, Refusal<FaultKind>>
+    requires { format.now.order ≤ MOST_VERTICES }
+    ensures { Gives moves_of result (switch_line format.now.order (moves_of moves) path.now u.now v.now) }
+{
+    let first = read_vertices(format.alloc, u)?;
+    let second = read_vertices(format.alloc, v)?;
+    let (Some(u), Some(v)) = (first, second) else {
+        return Err(Refusal::Fault(FaultKind::Number));
+    };
+    if has_out_of_range(format.order, &u) || has_out_of_range(format.order, &v) {
+        return Err(Refusal::Fault(FaultKind::Range));
+    }
+    if !rise(&u) || !rise(&v) {
+        return Err(Refusal::Fault(FaultKind::NotRising));
+    }
+    let path = read_path(format.alloc, path)?;
+    let mut longer = moves;
+    longer.push(Move::Switch {
+        path,
+        u: shore_of(&u),
+        v: shore_of(&v),
+    })?;
+    Ok(longer)
+}
+
+// The line of a move.
+fn read_move(
+    format: &MoveFormat,
+    moves: Moves,
+    words: &[&[u8]],
+) -> Result<Moves, Refusal<FaultKind>>
+    requires { format.now.order ≤ MOST_VERTICES }
+    ensures { Gives moves_of result (move_line format.now.order (moves_of moves) (texts_of words.now)) }
+{
+    if moves.len() >= MOST_MOVES {
+        return Err(Refusal::Fault(FaultKind::Limit));
+    }
+    if is_rotate(words) {
+        let path = read_path(format.alloc, word(words, 1))?;
+        let mut longer = moves;
+        longer.push(Move::Rotate { path })?;
+        return Ok(longer);
+    }
+    if is_switch(words) {
+        let (path, u, v) = (word(words, 1), word(words, 2), word(words, 3));
+        return read_switch(format, moves, path, u, v);
+    }
+    Err(Refusal::Fault(FaultKind::Word))
+}
+
+impl LineFormat for MoveFormat {
+    type Body = Moves;
+
+    type Value = Moves;
+
+    type Kind = FaultKind;
+
+    ghost State = { List PlainMove };
+
+    ghost Meaning = { List PlainMove };
+
+    ghost state = { moves_of };
+
+    ghost meaning = { moves_of };
+
+    ghost rules = { λ format. move_format format.order };
+
+    fn header(&self, words: &[&[u8]]) -> Result<Moves, Refusal<FaultKind>> {
+        read_header(self.alloc, self.order, words)
+    }
+
+    fn line(&self, body: Moves, words: &[&[u8]]) -> Result<Moves, Refusal<FaultKind>> {
+        read_move(self, body, words)
+    }
+
+    fn close(&self, body: Moves) -> Result<Moves, Refusal<FaultKind>> {
+        Ok(body)
+    }
+
+    fn headless(&self) -> FaultKind {
+        FaultKind::Header
+    }
+}
+
+/// Reads moves on trees of cuts over 1 to `n`: the moves that the bytes stand for, or the first line outside the format with the kind
+/// of its fault. There are at most 20,000 moves, each path has at most 127 steps, and the sets are not empty and lie within 1 to `n`.
+/// Want of memory may come at any time.
+pub fn read_moves(alloc: Global, bytes: &[u8], n: u32) -> Result<Moves, TextFault>
+    requires order { n ≤ MOST_VERTICES }
+    requires length { length bytes.now < 2 ^ 32 - 1 }
+    ensures writable { IfOk result (λ moves. IsWritable n (moves_of moves)) }
+    ensures value { IfOk result (λ moves. Stands (move_format n) bytes.now (moves_of moves)) }
+    ensures fault { IfErr result (IsFirstFault (move_format n) bytes.now) }
+    ensures stands { (moves : List PlainMove) → Stands (move_format n) bytes.now moves → ReadsText moves_of result (Ok moves) }
+    ensures breaks { (line : ℕ) (kind : FaultKind) → FirstFault (move_format n) bytes.now line kind → ReadsText moves_of result (Err (line, kind)) }
+{
+    read_text(alloc, &MoveFormat { alloc, order: n }, bytes)
+}
