@@ -26,3 +26,5 @@ pub mod ExchangedNames
 pub mod RotateFits
 pub mod TurningSteps
 pub mod Planned
+pub mod PlanSets
+pub mod ExposeSteps

@@ -178,11 +178,13 @@ module _ (g : Graph) (p : List (List ℕ)) (st : Stage g p) (x y : List ℕ) (bx
         let n = length_join (map (below Kept) ms) (rotate_at (Kept ∷ []) ∷ []) in let m = length_below Kept ms in let z = e.4 in (
           record { tree = cut y k (cut x l b); moves = map (below Kept) ms ++ rotate_at (Kept ∷ []) ∷ [] },
           ap₂ (λ (t u : Shape). plan_result g.order x in_kept t u (Some ms) None) e.2 eb,
-          (k,
-          cut x l b,
-          refl,
-          walk_join g p (cut x a b) (map (below Kept) ms) (rotate_at (Kept ∷ []) ∷ []) (cut x (cut y k l) b) (cut y k (cut x l b)) w r,
-          omega arith),
+          (
+            k,
+            cut x l b,
+            refl,
+            walk_join g p (cut x a b) (map (below Kept) ms) (rotate_at (Kept ∷ []) ∷ []) (cut x (cut y k l) b) (cut y k (cut x l b)) w r,
+            omega arith,
+          ),
         )
 
     at_merged : Below g.order (mem x) (mem y) ⊎ Apart g.order (mem x) (mem y) → (ta tb : Shape) (ms : List PlainMove) → IsExposed g (merged_at g.order p x) b (Some y) tb (Some ms) → ta ≡ a → Done (cut x a b) (plan_result g.order x in_merged ta tb None (Some ms))
@@ -195,11 +197,13 @@ module _ (g : Graph) (p : List (List ℕ)) (st : Stage g p) (x y : List ℕ) (bx
         let n = length_join (map (below Merged) ms) (rotate_at (Merged ∷ []) ∷ []) in let m = length_below Merged ms in let z = e.4 in (
           record { tree = cut y s.0 s.1; moves = map (below Merged) ms ++ rotate_at (Merged ∷ []) ∷ [] },
           ap₂ (λ (t u : Shape). plan_result g.order x in_merged t u None (Some ms)) ea e.2 ∙ raised_merged_is x a (cut y k l) (cut y s.0 s.1) ms s.2,
-          (s.0,
-          s.1,
-          refl,
-          walk_join g p (cut x a b) (map (below Merged) ms) (rotate_at (Merged ∷ []) ∷ []) (cut x a (cut y k l)) (cut y s.0 s.1) w r,
-          omega arith),
+          (
+            s.0,
+            s.1,
+            refl,
+            walk_join g p (cut x a b) (map (below Merged) ms) (rotate_at (Merged ∷ []) ∷ []) (cut x a (cut y k l)) (cut y s.0 s.1) w r,
+            omega arith,
+          ),
         )
 
     pub plan_done : (plan : PlainPlan) → IsPlan g.order p x y plan → (ta tb : Shape) (mi mo : Option (List PlainMove)) → IsExposed g (kept_at g.order p x) a (first_shore y plan) ta mi → IsExposed g (merged_at g.order p x) b (second_shore y plan) tb mo →
@@ -224,9 +228,11 @@ module _ (g : Graph) (p : List (List ℕ)) (st : Stage g p) (x y : List ℕ) (bx
         let r = over_inner_to g p x z y c.0 by.shore nx ny c.1 a b ta tb f d mi mo ia ob in let l = r.5 in (
           record { tree = cut y r.1 r.2; moves = r.0 },
           ap₂ (λ (u v : List ℕ). over_inner g.order x u v ta tb mi mo) is.3 is.4 ∙ r.3,
-          (r.1,
-          r.2,
-          refl,
-          r.4,
-          omega arith),
+          (
+            r.1,
+            r.2,
+            refl,
+            r.4,
+            omega arith,
+          ),
         )

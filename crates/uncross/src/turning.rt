@@ -34,8 +34,8 @@ fn append_below(alloc: Global, side: Side, moves: &[Move], into: &mut Moves) -> 
     Ok(())
 }
 
-// The root of the child on a side, which moves have made, is brought over the root.
-fn raise(
+/// The root of the child on a side, which moves have made, is brought over the root.
+pub fn raise(
     alloc: Global,
     side: Side,
     tree: Tree,
