@@ -28,3 +28,4 @@ pub mod TurningSteps
 pub mod Planned
 pub mod PlanSets
 pub mod ExposeSteps
+pub mod CompareSteps
