@@ -1,6 +1,6 @@
 -- The steps of turning a derivation into another, as the code takes them: what its two calls below the root may ask, and that the whole
 -- is a walk of few moves.
-use Rattle.std.proofs.Common.{◌≡◌, ℕ, ◌+◌, ◌*◌, ◌≤◌, List, [], ◌∷◌, ◌++◌, length, map, Option, Some, None, refl, sym, ap, ◌∙◌, arith, subst}
+use Rattle.std.proofs.Common.{◌≡◌, ℕ, ◌+◌, ◌*◌, ◌≤◌, List, ◌++◌, length, map, Some, sym, ap, ◌∙◌, arith, subst}
 use Rattle.graph_core.specs.Covered.{IsCovered}
 use Rattle.graph_core.specs.Graph.{Graph, IsGraph}
 use Rattle.graph_core.specs.Partitions.{IsPartition}
@@ -9,7 +9,7 @@ use Rattle.tree_core.specs.Derivations.{IsDerivationAt, kept_at, merged_at}
 use Rattle.tree_core.specs.Moves.{PlainMove, below}
 use Rattle.tree_core.specs.Shapes.{Shape, cut, cut_count, leaf}
 use Rattle.tree_core.specs.declared.path.Side.TheVariants.{Kept, Merged}
-use Rattle.uncross.proofs.BigShores.{Stage, cut_big}
+use Rattle.uncross.proofs.BigShores.{cut_big}
 use Rattle.uncross.proofs.Comparison.{square}
 use Rattle.uncross.proofs.ExposeSteps.{stage_of}
 use Rattle.uncross.proofs.NestedShores.{leaf_not}

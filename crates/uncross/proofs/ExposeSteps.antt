@@ -1,7 +1,6 @@
 -- The steps of exposing a shore in a tree, as the code takes them: what its two calls below the root may ask, that what comes back fits,
 -- and that the whole is exposed.
-use Rattle.std.proofs.Common.{◌≡◌, ℕ, ◌-◌, List, Option, Some, None, All, refl, sym, ap, ◌∙◌, arith, subst}
-use Rattle.counting.specs.Counts.{Within}
+use Rattle.std.proofs.Common.{◌≡◌, ℕ, List, Option, Some, None, sym, ap, ◌∙◌, subst}
 use Rattle.contraction.proofs.QuotientLaws.{covered_down}
 use Rattle.graph_core.specs.Covered.{IsCovered}
 use Rattle.graph_core.specs.Graph.{Graph, IsGraph}

@@ -1,14 +1,11 @@
 -- The sets of a plan as lists: corners, complements, and equal shores.
-use Rattle.std.proofs.Common.{◌≡◌, ◌↔◌, ℕ, ◌≤◌, Bool, true, false, ◌&&◌, ◌||◌, not, List, refl, sym, ap, ap₂, ◌∙◌, arith}
+use Rattle.std.proofs.Common.{◌≡◌, ◌↔◌, ℕ, true, ◌&&◌, ◌||◌, not, List, sym, ap₂, ◌∙◌}
 use Rattle.std.proofs.lemmas.Bool.{and_parts}
 use Rattle.counting.proofs.Lists.{mem-within}
 use Rattle.counting.proofs.RisingLists.{all_in_true, list-from_test, same_answers, same_rising_list, set-narrower}
 use Rattle.counting.specs.Counts.{Within}
-use Rattle.counting.specs.Lists.{IsRisingIn, is_subset, mem, rising_list}
-use Rattle.counting.specs.Sets.{complement, everything, meet, union}
-use Rattle.graph_core.proofs.Complements.{complement_of-rises}
-use Rattle.graph_core.specs.Partitions.{complement_of}
-use Rattle.tree_core.proofs.Shores.{is-complement}
+use Rattle.counting.specs.Lists.{IsRisingIn, is_subset, mem}
+use Rattle.counting.specs.Sets.{complement, meet, union}
 use Rattle.tree_core.proofs.SwitchSets.{list-of}
 use Rattle.uncross.specs.Plans.{inner_of, outer_of}
 

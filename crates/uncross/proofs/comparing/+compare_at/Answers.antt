@@ -1,4 +1,4 @@
-use Rattle.std.proofs.Common.{◌≡◌, ◌∙◌, ◌++◌, ◌*◌, ◌≤◌, List, Some, ap, ap₂, arith, length, map, option_map, subst, sym}
+use Rattle.std.proofs.Common.{◌∙◌, ◌++◌, ◌*◌, ◌≤◌, List, Some, ap, ap₂, arith, length, map, option_map, subst, sym}
 use Rattle.tree_core.specs.MoveView.{moves_of}
 use Rattle.tree_core.specs.Moves.{PlainMove, below}
 use Rattle.tree_core.specs.Shapes.{cut_count, node_count}
