@@ -4,3 +4,6 @@ pub mod PlacesInside
 pub mod FirstRefusals
 pub mod ThreeAnswers
 pub mod Walking
+pub mod MovesFit
+pub mod ReplaySteps
+pub mod ReplayAnswers

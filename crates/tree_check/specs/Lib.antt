@@ -1,3 +1,4 @@
 pub mod Refusals
 pub mod Judgements
 pub mod Walks
+pub mod Replays

@@ -5,8 +5,13 @@
 //! `specs/Refusals`): a perfect matching at the node's partition with at least two edges in a cut that is not tight, or a nontrivial
 //! tight cut where a leaf stands. Of a graph that is not matching covered it gives the first reason.
 //!
+//! `replay` makes a script of moves on a derivation and judges each tree on the way: it gives the last tree exactly where all are
+//! derivations, and else names the first failing move, with what `check` answers where its result is no derivation (`IsReplay` of
+//! `specs/Replays`).
+//!
 //! `laws::first_refusal_law`: a derivation has no refusal, and each other tree of a matching covered graph has exactly one, up to the
-//! perfect matching that it shows. `laws::judgement_law`: the three answers exclude one another.
+//! perfect matching that it shows. `laws::judgement_law`: the three answers exclude one another, and by
+//! `laws::replay_law` so do those of `replay`.
 //!
 //! Stands on `allowed_edges` for the verdict, on `contraction` for quotients, on `tight_cuts` for the test of a cut and for the
 //! candidates at a partition, and on `tree_core` for trees. Source: Lovász, "Matching structure and the matching lattice" (1987);
@@ -15,10 +20,12 @@
 
 mod judgement;
 pub mod laws;
+mod replaying;
 mod rules;
 mod walk;
 
 pub use judgement::{Judgement, Why};
+pub use replaying::{Replayed, replay};
 pub use walk::check;
 
 #[cfg(test)]

@@ -1,11 +1,11 @@
 //! Worked trees, each answer once.
-ghost use Rattle.std.specs.Prelude.{◌≤◌};
+ghost use Rattle.std.specs.Prelude.{◌≤◌, length};
 
-use crate::{Judgement, Why, check};
+use crate::{Judgement, Replayed, Why, check, replay};
 use graph_core::{MultiGraph, Reason};
 use std::alloc::{AllocError as Memory, Global};
 use std::test::Fail;
-use tree_core::{Tree, fits};
+use tree_core::{Move, Moves, Path, Tree, fits};
 use vset_core::{MOST_VERTICES, VSet};
 
 const HEXAGON: [(u32, u32); 6] = [(1, 2), (2, 3), (3, 4), (4, 5), (5, 6), (6, 1)];
@@ -183,5 +183,95 @@ fn accepted_and_not_covered(rt: HostRuntime) -> Result<(), Fail> {
         Some(Judgement::NotCovered(Reason::Parted { a, b })) => assert!(rt; a == 1 && b == 3),
         _ => assert!(rt; false),
     }
+    Ok(())
+}
+
+// A Switch at the root.
+fn switch_root(alloc: Global, u: VSet, v: VSet) -> Move {
+    let path = Path::new(alloc);
+    Move::Switch { path, u, v }
+}
+
+// The answer to moves on the cut of a hexagon with the shore 1 2 3, and none where it is no derivation.
+fn replayed_hexagon(alloc: Global, moves: &Moves) -> Result<Option<Replayed>, Fail>
+    requires { length moves.now ≤ 3 }
+{
+    let hexagon = made(alloc, 6, &HEXAGON)?;
+    let tree = cut(alloc, VSet::full(3), Tree::Leaf, Tree::Leaf)?;
+    if !fits(&tree, hexagon.order()) {
+        return Ok(None);
+    }
+    match check(alloc, &hexagon, &tree)? {
+        Judgement::Accepted => Ok(Some(replay(alloc, &hexagon, tree, moves)?)),
+        _ => Ok(None),
+    }
+}
+
+// Whether the last tree is a cut with that shore.
+fn is_done_with(answer: &Option<Replayed>, expected: VSet) -> bool {
+    match answer {
+        Some(
+            Replayed::Done {
+                tree: Tree::Cut { shore, .. },
+            },
+        ) => *shore == expected,
+        _ => false,
+    }
+}
+
+// Whether the move of that number has no result.
+fn is_stuck(answer: &Option<Replayed>, number: u32) -> bool {
+    match answer {
+        Some(Replayed::Stuck { at }) => *at == number,
+        _ => false,
+    }
+}
+
+// Whether the result of the move of that number has a root that is not tight, by a matching of these edges.
+fn is_refused_move(answer: &Option<Replayed>, number: u32, edges: &[u32]) -> bool {
+    match answer {
+        Some(
+            Replayed::Refused {
+                at,
+                node,
+                why: Why::NotTight { matching },
+            },
+        ) => *at == number && *node == 1 && matching.as_slice() == edges,
+        _ => false,
+    }
+}
+
+#[test]
+fn a_script_replayed(rt: HostRuntime) -> Result<(), Fail> {
+    let mut moves = Moves::new(rt.alloc());
+    moves.push(switch_root(rt.alloc(), VSet::one(1), VSet::one(4)))?;
+    let answer = replayed_hexagon(rt.alloc(), &moves)?;
+    assert!(rt; is_done_with(&answer, VSet::one(2).with(3).with(4)));
+    moves.push(Move::Rotate {
+        path: Path::new(rt.alloc()),
+    })?;
+    let answer = replayed_hexagon(rt.alloc(), &moves)?;
+    assert!(rt; is_stuck(&answer, 2));
+    Ok(())
+}
+
+#[test]
+fn a_move_without_result(rt: HostRuntime) -> Result<(), Fail> {
+    let mut moves = Moves::new(rt.alloc());
+    moves.push(Move::Rotate {
+        path: Path::new(rt.alloc()),
+    })?;
+    let answer = replayed_hexagon(rt.alloc(), &moves)?;
+    assert!(rt; is_stuck(&answer, 1));
+    Ok(())
+}
+
+#[test]
+fn a_tree_on_the_way_refused(rt: HostRuntime) -> Result<(), Fail> {
+    let mut moves = Moves::new(rt.alloc());
+    moves.push(switch_root(rt.alloc(), VSet::one(2), VSet::one(4)))?;
+    moves.push(switch_root(rt.alloc(), VSet::one(4), VSet::one(2)))?;
+    let answer = replayed_hexagon(rt.alloc(), &moves)?;
+    assert!(rt; is_refused_move(&answer, 1, &[2, 4, 6]));
     Ok(())
 }

@@ -35,11 +35,20 @@ fn check_covered(alloc: Global, g: &MultiGraph, tree: &Tree) -> Result<Judgement
     requires fits { Fits g.now.order (shape_of tree.now) }
     ensures { IfOk result (IsJudgement g.now (shape_of tree.now)) }
 {
-    let root = root_partition(alloc, g)?;
-    match walk_at(alloc, g, tree, &root, 1)? {
+    match walk_covered(alloc, g, tree)? {
         Walked::Passed { .. } => Ok(Judgement::Accepted),
         Walked::Refused { node, why } => Ok(Judgement::Refused { node, why }),
     }
+}
+
+/// Walks over a tree of a covered graph.
+pub(crate) fn walk_covered(alloc: Global, g: &MultiGraph, tree: &Tree) -> Result<Walked, Memory>
+    requires covered { IsCovered g.now }
+    requires fits { Fits g.now.order (shape_of tree.now) }
+    ensures { IfOk result (IsWalked g.now (singles g.now.order) (shape_of tree.now) 1) }
+{
+    let root = root_partition(alloc, g)?;
+    walk_at(alloc, g, tree, &root, 1)
 }
 
 // The single vertices of a covered graph.
@@ -55,12 +64,12 @@ fn root_partition(alloc: Global, g: &MultiGraph) -> Result<Partition, Memory>
     Ok(root)
 }
 
-// What a walk over a tree finds.
+/// What a walk over a tree finds.
 #[derive(Drop)]
-enum Walked {
-    // Each node keeps its rules; `next` is the number of the node that follows the tree in preorder.
+pub(crate) enum Walked {
+    /// Each node keeps its rules; `next` is the number of the node that follows the tree in preorder.
     Passed { next: u32 },
-    // The first node that breaks a rule, and the first rule that it breaks.
+    /// The first node that breaks a rule, and the first rule that it breaks.
     Refused { node: u32, why: Why },
 }
 

@@ -1,0 +1,158 @@
+-- A move on a tree that fits makes a tree that fits: each new shore is put together from numbers below n. Where the greatest vertex is
+-- in v, the rest of the outer side does not hold it; else v does not.
+use Rattle.std.proofs.Common.{◌≡◌, ℕ, ◌-◌, Bool, true, false, not, ◌&&◌, List, [], ◌∷◌, All, get_or, Option, Some, None, option_map, if◌then◌else◌, inl, inr, refl, sym, subst, arith}
+use Rattle.std.proofs.lemmas.Bool.{and_parts, both_ways, not-true, or_cases}
+use Rattle.counting.proofs.Lists.{rising_only}
+use Rattle.counting.proofs.RisingLists.{mem-item}
+use Rattle.counting.specs.Counts.{Within}
+use Rattle.counting.specs.Lists.{is_apart, is_subset, mem}
+use Rattle.counting.specs.Sets.{minus, union}
+use Rattle.graph_core.specs.Partitions.{complement_of}
+use Rattle.tree_core.proofs.SwitchSets.{each-member, proper-within, proper_outside-within}
+use Rattle.tree_core.specs.Moves.{PlainMove, rotate_at, switch_at, inner_rest, is_proper, kept_if_in_q, kept_if_in_v, last_step, list_if, merged_if_in_q, merged_if_in_v, minus_list, move_result, outer_rest, parent_path, result_at, rotate_result_at, switch_result_at, union_list}
+use Rattle.tree_core.specs.Shapes.{Shape, leaf, cut, Fits}
+use Rattle.tree_core.specs.declared.path.Side.{Side}
+use Rattle.tree_core.specs.declared.path.Side.TheVariants.{Kept, Merged}
+
+pub none_some : {X : Type 0} {r : X} → None ≡ Some r → ⊥
+none_some e = grind (arith, e)
+
+pub some_same : {X : Type 0} {a b : X} → Some a ≡ Some b → a ≡ b
+some_same e = grind (arith, e)
+
+-- all numbers lie below n
+abbrev IsBelow : ℕ → List ℕ → Type 0
+IsBelow n xs = All (Within (n - 1)) xs
+
+below : (n : ℕ) (xs : List ℕ) → ((v : ℕ) → mem xs v ≡ true → Within (n - 1) v) → IsBelow n xs
+below n xs each k d less = each (get_or xs k d) (mem-item xs k d less)
+
+union-below : (n : ℕ) (x y : List ℕ) → IsBelow n x → IsBelow n y → IsBelow n (union_list n x y)
+union-below n x y first second =
+    below n (union_list n x y) (λ v m. elim (or_cases (mem x v) (mem y v) (rising_only n (union (mem x) (mem y)) v m).1) [
+      | inl t ↦ each-member (Within (n - 1)) x first v t
+      | inr t ↦ each-member (Within (n - 1)) y second v t
+    ])
+
+minus-below : (n : ℕ) (x y : List ℕ) → IsBelow n x → IsBelow n (minus_list n x y)
+minus-below n x y first =
+    below n (minus_list n x y) (λ v m. each-member (Within (n - 1)) x first v (and_parts (mem x v) (not (mem y v)) (rising_only n (minus (mem x) (mem y)) v m).1).0)
+
+list_if-below : (n : ℕ) (t : Bool) (x : List ℕ) → IsBelow n x → IsBelow n (list_if t x)
+list_if-below n true x all = all
+list_if-below n false x all = λ k d less. absurd (omega arith)
+
+-- a vertex other than the greatest
+without-greatest : (n v : ℕ) → Within n v → (v ≡ n → ⊥) → Within (n - 1) v
+without-greatest n v within other = let low = within.0 in let high = within.1 in (omega arith, omega (arith, other))
+
+outer-below : (n : ℕ) (x v : List ℕ) → mem v n ≡ true → IsBelow n (outer_rest n x v)
+outer-below n x v greatest =
+    below n (outer_rest n x v) (λ w m.
+    let is = rising_only n (minus (mem (complement_of n x)) (mem v)) w m in
+    let apart = (and_parts (mem (complement_of n x) w) (not (mem v w)) is.1).1 in
+    without-greatest n w is.0 (λ same. both_ways (mem v w) (not-true _ apart) (subst (λ j. mem v j ≡ true) (sym same) greatest)))
+
+part-below : (n : ℕ) (u x : List ℕ) → is_proper u x ≡ true → IsBelow n x → IsBelow n u
+part-below n u x is all = proper-within (n - 1) u x is (each-member (Within (n - 1)) x all)
+
+other-below : (n : ℕ) (v x : List ℕ) → is_proper v (complement_of n x) ≡ true → mem v n ≡ false → IsBelow n v
+other-below n v x is out =
+    below n v (λ w m. without-greatest n w (each-member (Within n) v (proper_outside-within n v x is) w m) (λ same. both_ways (mem v w) (subst (λ j. mem v j ≡ false) (sym same) out) m))
+
+-- the trees below a Switch
+kept_in_v-fits : (n : ℕ) (x u v : List ℕ) (t : Shape) → mem v n ≡ true → Fits n t → Fits n (kept_if_in_v n x u v t)
+kept_in_v-fits n x u v leaf greatest fits = tt
+kept_in_v-fits n x u v (cut s a b) greatest fits = (go (is_subset u s), kept_in_v-fits n x u v a greatest fits.1, kept_in_v-fits n x u v b greatest fits.2)
+  where
+    go : (t : Bool) → IsBelow n (if t then union_list n s (outer_rest n x v) else s)
+    go true = union-below n s (outer_rest n x v) fits.0 (outer-below n x v greatest)
+    go false = fits.0
+
+merged_in_v-fits : (n : ℕ) (x u : List ℕ) (t : Shape) → IsBelow n u → Fits n t → Fits n (merged_if_in_v n x u t)
+merged_in_v-fits n x u leaf part fits = tt
+merged_in_v-fits n x u (cut s a b) part fits = (go (is_subset x s), merged_in_v-fits n x u a part fits.1, merged_in_v-fits n x u b part fits.2)
+  where
+    go : (t : Bool) → IsBelow n (if t then union_list n (minus_list n s x) u else s)
+    go true = union-below n (minus_list n s x) u (minus-below n s x fits.0) part
+    go false = fits.0
+
+kept_in_q-fits : (n : ℕ) (x u v : List ℕ) (t : Shape) → IsBelow n x → IsBelow n v → Fits n t → Fits n (kept_if_in_q n x u v t)
+kept_in_q-fits n x u v leaf whole other fits = tt
+kept_in_q-fits n x u v (cut s a b) whole other fits = go (is_subset u s) (kept_in_q-fits n x u v a whole other fits.1) (kept_in_q-fits n x u v b whole other fits.2)
+  where
+    go : (t : Bool) → Fits n (kept_if_in_q n x u v a) → Fits n (kept_if_in_q n x u v b) → Fits n (if t then cut (union_list n (minus_list n x s) v) (kept_if_in_q n x u v b) (kept_if_in_q n x u v a) else cut s (kept_if_in_q n x u v a) (kept_if_in_q n x u v b))
+    go true first second = (union-below n (minus_list n x s) v (minus-below n x s whole) other, second, first)
+    go false first second = (fits.0, first, second)
+
+merged_in_q-fits : (n : ℕ) (x u v : List ℕ) (t : Shape) → IsBelow n x → IsBelow n u → IsBelow n v → Fits n t → Fits n (merged_if_in_q n x u v t)
+merged_in_q-fits n x u v leaf whole part other fits = tt
+merged_in_q-fits n x u v (cut s a b) whole part other fits = (
+  union-below n (minus_list n (minus_list n s x) v) (union_list n (list_if (is_subset x s) u) (list_if (is_subset v s) (union_list n (inner_rest n x u) v))) (minus-below n (minus_list n s x) v (minus-below n s x fits.0))
+      (union-below n (list_if (is_subset x s) u) (list_if (is_subset v s) (union_list n (inner_rest n x u) v)) (list_if-below n (is_subset x s) u part) (list_if-below n (is_subset v s) (union_list n (inner_rest n x u) v) (union-below n (inner_rest n x u) v (minus-below n x u whole) other))),
+  merged_in_q-fits n x u v a whole part other fits.1,
+  merged_in_q-fits n x u v b whole part other fits.2,
+)
+
+-- Switch at its node
+abbrev switched : ℕ → (u v x : List ℕ) → (a b : Shape) → Bool → Shape
+switched n u v x a b t =
+    if t
+    then cut (union_list n (outer_rest n x v) u) (merged_if_in_v n x u b) (kept_if_in_v n x u v a)
+    else cut (union_list n (inner_rest n x u) v) (kept_if_in_q n x u v a) (merged_if_in_q n x u v b)
+
+switch-fits : (n : ℕ) (u v : List ℕ) (t r : Shape) → Fits n t → switch_result_at n u v t ≡ Some r → Fits n r
+switch-fits n u v leaf r fits e = absurd (none_some e)
+switch-fits n u v (cut x a b) r fits e = go (is_proper u x && is_proper v (complement_of n x)) refl e
+  where
+    which : (t : Bool) → mem v n ≡ t → is_proper u x ≡ true → is_proper v (complement_of n x) ≡ true → Fits n (switched n u v x a b t)
+    which true greatest inner outer =
+        let part = part-below n u x inner fits.0 in
+        (union-below n (outer_rest n x v) u (outer-below n x v greatest) part, merged_in_v-fits n x u b part fits.2, kept_in_v-fits n x u v a greatest fits.1)
+    which false greatest inner outer =
+        let part = part-below n u x inner fits.0 in
+        let other = other-below n v x outer greatest in
+        (union-below n (inner_rest n x u) v (minus-below n x u fits.0) other, kept_in_q-fits n x u v a fits.0 other fits.1, merged_in_q-fits n x u v b fits.0 part other fits.2)
+
+    go : (t : Bool) → (is_proper u x && is_proper v (complement_of n x)) ≡ t → (if t then Some (switched n u v x a b (mem v n)) else None) ≡ Some r → Fits n r
+    go false is e = absurd (none_some e)
+    go true is e =
+        let proper = and_parts (is_proper u x) (is_proper v (complement_of n x)) is in
+        subst (Fits n) (some_same e) (which (mem v n) refl proper.0 proper.1)
+
+-- Rotate at the parent of its node
+rotate-fits : (n : ℕ) (side : Side) (t r : Shape) → Fits n t → rotate_result_at side t ≡ Some r → Fits n r
+rotate-fits n Kept leaf r fits e = absurd (none_some e)
+rotate-fits n Merged leaf r fits e = absurd (none_some e)
+rotate-fits n Kept (cut x leaf c) r fits e = absurd (none_some e)
+rotate-fits n Kept (cut x (cut y a b) c) r fits e =
+    let lower = fits.1 in
+    subst (Fits n) (some_same e) (lower.0, lower.1, (fits.0, lower.2, fits.2))
+rotate-fits n Merged (cut x a leaf) r fits e = absurd (none_some e)
+rotate-fits n Merged (cut x a (cut y b c)) r fits e = go (is_subset x y) (is_apart x y) e
+  where
+    go : (inside apart : Bool) → (if inside then Some (cut y (cut x a b) c) else (if apart then Some (cut y b (cut x a c)) else None)) ≡ Some r → Fits n r
+    go true apart e = let lower = fits.2 in subst (Fits n) (some_same e) (lower.0, (fits.0, fits.1, lower.1), lower.2)
+    go false true e = let lower = fits.2 in subst (Fits n) (some_same e) (lower.0, lower.1, (fits.0, fits.1, lower.2))
+    go false false e = absurd (none_some e)
+
+-- along a path
+path-fits : (n : ℕ) (f : Shape → Option Shape) → ((t r : Shape) → Fits n t → f t ≡ Some r → Fits n r) → (path : List Side) (t r : Shape) → Fits n t → result_at f path t ≡ Some r → Fits n r
+path-fits n f keeps [] t r fits e = keeps t r fits e
+path-fits n f keeps (side ∷ path) leaf r fits e = absurd (none_some e)
+path-fits n f keeps (Kept ∷ path) (cut x a b) r fits e = go (result_at f path a) refl e (path-fits n f keeps path a)
+  where
+    go : (o : Option Shape) → result_at f path a ≡ o → option_map (λ c. cut x c b) o ≡ Some r → ((c : Shape) → Fits n a → result_at f path a ≡ Some c → Fits n c) → Fits n r
+    go None is e below = absurd (none_some e)
+    go (Some c) is e below = subst (Fits n) (some_same e) (fits.0, below c fits.1 is, fits.2)
+path-fits n f keeps (Merged ∷ path) (cut x a b) r fits e = go (result_at f path b) refl e (path-fits n f keeps path b)
+  where
+    go : (o : Option Shape) → result_at f path b ≡ o → option_map (λ c. cut x a c) o ≡ Some r → ((c : Shape) → Fits n b → result_at f path b ≡ Some c → Fits n c) → Fits n r
+    go None is e below = absurd (none_some e)
+    go (Some c) is e below = subst (Fits n) (some_same e) (fits.0, fits.1, below c fits.2 is)
+
+-- a move
+pub move-fits : (n : ℕ) (t r : Shape) (m : PlainMove) → Fits n t → move_result n t m ≡ Some r → Fits n r
+move-fits n t r (rotate_at []) fits e = absurd (none_some e)
+move-fits n t r (rotate_at (side ∷ path)) fits e = path-fits n (rotate_result_at (last_step side path)) (rotate-fits n (last_step side path)) (parent_path side path) t r fits e
+move-fits n t r (switch_at path u v) fits e = path-fits n (switch_result_at n u v) (switch-fits n u v) path t r fits e

@@ -1,0 +1,9 @@
+use Rattle.std.proofs.Common.{take}
+use Rattle.tree_core.specs.Moves.{TurnsThrough}
+use Rattle.tree_core.specs.MoveView.{moves_of}
+use Rattle.tree_core.specs.View.{shape_of}
+use Rattle.tree_check.proofs.replaying.replay.Given as goal
+
+-- the first moves turn the tree through derivations into the one that is reached
+abbrev pub invariant-loop-i : goal.invariant-loop-i
+invariant-loop-i l = TurnsThrough l.g (shape_of l.fn.tree) (moves_of (take l.i l.moves)) (shape_of l.reached)

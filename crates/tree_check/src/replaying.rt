@@ -1,0 +1,74 @@
+//! The replay of a script of moves, with each tree on the way judged.
+ghost use Rattle.std.specs.Prelude.{◌≡◌, ◌<◌, ◌-◌, ◌^◌, length, IfOk};
+ghost use Rattle.tree_core.specs.Derivations.{IsDerivation};
+ghost use Rattle.tree_core.specs.MoveView.{move_of, moves_of};
+ghost use Rattle.tree_core.specs.View.{shape_of};
+ghost use Rattle.tree_check.specs.Replays.{IsReplay, IsMoved};
+
+use crate::judgement::Why;
+use crate::walk::{Walked, walk_covered};
+use graph_core::MultiGraph;
+use std::alloc::{AllocError as Memory, Global};
+use tree_core::{Move, Moves, Tree, apply};
+
+/// The answer to a script of moves. Moves are counted from 1.
+#[derive(Drop)]
+pub enum Replayed {
+    /// Each move in order has a result that is a derivation of the graph; `tree` is the last one.
+    Done { tree: Tree },
+    /// The first failing move has no result.
+    Stuck { at: u32 },
+    /// The first failing move has a result that is no derivation of the graph: `node` is the first node in preorder, counted from 1,
+    /// that breaks a rule.
+    Refused { at: u32, node: u32, why: Why },
+}
+
+// What one move makes.
+#[derive(Drop)]
+enum Moved {
+    // A derivation.
+    Passed { tree: Tree },
+    // Nothing.
+    Stuck,
+    // A tree that is no derivation, with the first node that breaks a rule.
+    Refused { node: u32, why: Why },
+}
+
+// Makes one move on a derivation, and judges the result.
+fn step(alloc: Global, g: &MultiGraph, tree: Tree, item: &Move) -> Result<Moved, Memory>
+    requires { IsDerivation g.now (shape_of tree) }
+    ensures { IfOk result (IsMoved g.now (shape_of tree) (move_of item.now)) }
+{
+    let Ok(made) = apply(tree, g.order(), item) else {
+        return Ok(Moved::Stuck);
+    };
+    match walk_covered(alloc, g, &made)? {
+        Walked::Passed { .. } => Ok(Moved::Passed { tree: made }),
+        Walked::Refused { node, why } => Ok(Moved::Refused { node, why }),
+    }
+}
+
+/// Makes the moves in order on `tree`, a derivation of `g`. `Done` comes exactly where each move has a result that is a derivation of
+/// `g`, with the last tree. `Stuck` names the first failing move where it has no result, and `Refused` where its result is no
+/// derivation, with what `check` answers of it. After `Memory` the tree is given up.
+pub fn replay(alloc: Global, g: &MultiGraph, tree: Tree, moves: &Moves) -> Result<Replayed, Memory>
+    requires derivation { IsDerivation g.now (shape_of tree) }
+    requires few { length moves.now < 2 ^ 32 - 1 }
+    ensures { IfOk result (IsReplay g.now (shape_of tree) (moves_of moves.now)) }
+{
+    let mut reached = tree;
+    for i in 0..moves.len() {
+        match step(alloc, g, reached, moves.get(i))? {
+            Moved::Passed { tree } => reached = tree,
+            Moved::Stuck => return Ok(Replayed::Stuck { at: i as u32 + 1 }),
+            Moved::Refused { node, why } => {
+                return Ok(Replayed::Refused {
+                    at: i as u32 + 1,
+                    node,
+                    why,
+                });
+            }
+        }
+    }
+    Ok(Replayed::Done { tree: reached })
+}
