@@ -23,7 +23,6 @@ pub mod SwitchParts
 pub mod MoveParts
 pub mod ScriptPairs
 pub mod ExchangedNames
-pub mod RotateFits
 pub mod TurningSteps
 pub mod Planned
 pub mod PlanSets
