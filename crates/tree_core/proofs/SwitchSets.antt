@@ -26,7 +26,7 @@ pub all_wider : (n : ℕ) (xs : List ℕ) → All (Within (n - 1)) xs → All (W
 all_wider n xs all k d l = let w = all k d l in (omega arith, omega arith)
 
 -- a set of numbers 1 to n is the list of its test
-list-of : (n : ℕ) (r : List ℕ) (x : Set) → IsRisingIn 128 r → ((v : ℕ) → mem r v ≡ x v) → ((v : ℕ) → mem r v ≡ true → v ≤ n) → r ≡ rising_list n x
+pub list-of : (n : ℕ) (r : List ℕ) (x : Set) → IsRisingIn 128 r → ((v : ℕ) → mem r v ≡ x v) → ((v : ℕ) → mem r v ≡ true → v ≤ n) → r ≡ rising_list n x
 list-of n r x rises tells low = list-from_test n r x (set-narrower 128 n r rises low) (λ v w. tells v)
 
 all-of : (n : ℕ) (r : List ℕ) → IsRisingIn 128 r → ((v : ℕ) → mem r v ≡ true → v ≤ n) → All (Within n) r

@@ -33,7 +33,7 @@ pub use leaf_partitions::leaves;
 pub use moves::{Move, Moves, Stuck, apply};
 pub use partitions::Partitions;
 pub use path::{Path, Side};
-pub use rotation::rotate;
+pub use rotation::{are_apart, rotate};
 pub use switching::switch;
 pub use tree::{Tree, copy, depth, fits, nodes};
 

@@ -11,8 +11,8 @@ use crate::tree::Tree;
 use std::mem;
 use vset_core::VSet;
 
-// Whether two sets have no common vertex.
-fn are_apart(x: VSet, y: VSet) -> bool
+/// Whether two sets have no common vertex. Takes no memory.
+pub fn are_apart(x: VSet, y: VSet) -> bool
     ensures { result ≡ is_apart x y }
 {
     x.is_subset(x.minus(y))

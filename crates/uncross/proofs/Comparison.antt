@@ -12,7 +12,7 @@ use Rattle.uncross.proofs.BigShores.{Stage, big_rest, cut_big, stage_merged}
 use Rattle.uncross.proofs.NestedShores.{Compared, Crossed, expose, leaf_not}
 use Rattle.uncross.proofs.Scripts.{length_below, length_join, walk_end, walk_join, walk_kept, walk_merged}
 
-square : (k r c : ℕ) → c ≡ 1 + k + r → k * k + r * r + c ≤ c * c
+pub square : (k r c : ℕ) → c ≡ 1 + k + r → k * k + r * r + c ≤ c * c
 square k r c e =
     let a : c * c ≡ c * (1 + (k + r)) = ap (λ z. c * z) (let q : c ≡ 1 + (k + r) = omega arith in q) in
     let b = mul-add c 1 (k + r) in

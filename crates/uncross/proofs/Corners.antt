@@ -5,7 +5,7 @@ use Rattle.std.proofs.lemmas.Bool.{true≢false}
 use Rattle.counting.proofs.Counts.{only_one}
 use Rattle.counting.proofs.RisingLists.{mem-rising_list, rising_list-rises}
 use Rattle.counting.specs.Counts.{Within, is_odd}
-use Rattle.counting.specs.Lists.{IsRisingIn, mem, rising_list}
+use Rattle.counting.specs.Lists.{IsRisingIn, mem}
 use Rattle.counting.specs.Sets.{complement, meet, minus, union}
 use Rattle.graph_core.proofs.BlockSets.{at_place, block_count_congr, block_count_parts, meet_tight_at, tight_congr, tight_rest, union_congr, union_meet, union_rest, union_tight_at}
 use Rattle.graph_core.proofs.Blocks.{place_in}

@@ -26,3 +26,6 @@ pub mod ExchangedNames
 pub mod RotateFits
 pub mod TurningSteps
 pub mod Planned
+pub mod PlanSets
+pub mod ExposeSteps
+pub mod CompareSteps

@@ -1,22 +1,18 @@
 -- The plan for exposing a shore is carried out: what is exposed first in the two trees is a cut there, and then the root is the shore.
-use Rattle.std.proofs.Common.{◌≡◌, ℕ, ◌+◌, ◌*◌, ◌≤◌, ◌<◌, Bool, true, false, not, ◌&&◌, cond, List, [], ◌∷◌, ◌++◌, length, map, Option, Some, None, ◌⊎◌, inl, inr, if◌then◌else◌, nat_lt, refl, sym, ap, ap₂, ◌∙◌, arith, subst}
-use Rattle.std.proofs.lemmas.Bool.{and_parts, both_ways, cases_Bool}
+use Rattle.std.proofs.Common.{◌≡◌, ℕ, ◌≤◌, ◌<◌, Bool, true, false, not, ◌&&◌, List, [], ◌∷◌, ◌++◌, map, Option, Some, None, ◌⊎◌, inl, inr, if◌then◌else◌, nat_lt, refl, sym, ap, ap₂, ◌∙◌, arith, subst}
 use Rattle.std.proofs.lemmas.Bool.Decides.{nat_tests}
-use Rattle.counting.proofs.RisingLists.{same_rising_list}
-use Rattle.counting.proofs.Tests.{some_none, some_true}
-use Rattle.counting.specs.Counts.{Within, is_odd}
+use Rattle.counting.specs.Counts.{Within}
 use Rattle.counting.specs.Lists.{is_apart, is_subset, mem}
-use Rattle.counting.specs.Sets.{everything, meet, minus, union}
-use Rattle.counting.specs.Tests.{some}
+use Rattle.counting.specs.Sets.{everything, minus}
 use Rattle.graph_core.proofs.Complements.{mem-complement_of}
 use Rattle.graph_core.specs.Graph.{Graph}
-use Rattle.graph_core.specs.Partitions.{complement_of, contracted, merged}
+use Rattle.graph_core.specs.Partitions.{complement_of, merged}
 use Rattle.graph_core.specs.Shores.{block_count}
 use Rattle.tree_core.specs.Derivations.{IsCutAt, IsDerivationAt, kept_at, merged_at}
-use Rattle.tree_core.specs.Moves.{IsBlockOf, PlainMove, below, rotate_at, rotate_result_at}
-use Rattle.tree_core.specs.Shapes.{Shape, cut, cut_count}
+use Rattle.tree_core.specs.Moves.{IsBlockOf, PlainMove, below, rotate_at}
+use Rattle.tree_core.specs.Shapes.{Shape, cut}
 use Rattle.tree_core.specs.declared.path.Side.TheVariants.{Kept, Merged}
-use Rattle.uncross.proofs.BigShores.{Big, Stage, big_cut, big_rest, big_some, cut_big, stage_merged}
+use Rattle.uncross.proofs.BigShores.{Big, Stage, big_cut, big_rest, big_some, stage_merged}
 use Rattle.uncross.proofs.Exchange.{block_count-one}
 use Rattle.uncross.proofs.Corners.{Corners, inner_single_or_big, outer_single_or_big}
 use Rattle.uncross.proofs.CrossingShores.{InnerTurned, raised_merged_is, Kind, OuterTurned, corners_of, inner_below, inner_canonical, outer_shore_big, over_inner_to}
@@ -26,10 +22,10 @@ use Rattle.uncross.proofs.Scripts.{length_below, length_join, walk_end, walk_joi
 use Rattle.graph_core.proofs.MergedShores.{Apart, Below}
 use Rattle.counting.proofs.RisingLists.{false_all_in}
 use Rattle.uncross.proofs.Rising.{bounds}
-use Rattle.uncross.proofs.Rotations.{says_subset, subset_says}
+use Rattle.uncross.proofs.Rotations.{subset_says}
 use Rattle.uncross.specs.Plans.{CutIf, IsExposed, IsPlan, PlainPlan, crossing, first_shore, here, if_big, in_kept, in_merged, inner_of, outer_of, outer_shore, partner, plan_result, second_shore}
 use Rattle.uncross.specs.Turning.{PlainTurned, over_inner}
-use Rattle.uncross.specs.Walks.{AreRising, Walk}
+use Rattle.uncross.specs.Walks.{AreRising}
 
 -- a root shore and another, at a stage
 module _ (g : Graph) (p : List (List ℕ)) (st : Stage g p) (x y : List ℕ) (bx : Big g p x) (by : Big g p y) (nx : mem x g.order ≡ false) (ny : mem y g.order ≡ false) where

@@ -1,5 +1,5 @@
 -- Rotate makes no new shores, so that its result fits where the tree does.
-use Rattle.std.proofs.Common.{◌≡◌, ℕ, Bool, true, false, List, Some, None, if◌then◌else◌, subst, arith, refl}
+use Rattle.std.proofs.Common.{◌≡◌, ℕ, Bool, true, false, Some, None, if◌then◌else◌, subst, arith}
 use Rattle.counting.specs.Lists.{is_apart, is_subset}
 use Rattle.tree_core.specs.Moves.{rotate_result_at}
 use Rattle.tree_core.specs.Shapes.{Fits, Shape, cut, leaf}

@@ -1,8 +1,8 @@
 -- Steps of the turning of trees: what the code has made is what the partial functions give.
-use Rattle.std.proofs.Common.{◌≡◌, ℕ, List, [], ◌∷◌, ◌++◌, map, Option, Some, None, option_and_then, refl, sym, ap, ap₂, ◌∙◌, arith, subst, subst₂}
+use Rattle.std.proofs.Common.{◌≡◌, ℕ, List, [], ◌++◌, map, Option, Some, None, option_and_then, refl, ap, ap₂, ◌∙◌, arith}
 use Rattle.tree_core.specs.Moves.{PlainMove, below}
 use Rattle.tree_core.specs.Shapes.{Shape, cut}
-use Rattle.tree_core.specs.declared.path.Side.TheVariants.{Kept, Merged}
+use Rattle.tree_core.specs.declared.path.Side.TheVariants.{Merged}
 use Rattle.uncross.specs.Turning.{PlainTurned, followed, raised, raised_merged}
 use Rattle.uncross.specs.TurnedView.{IsMade}
 

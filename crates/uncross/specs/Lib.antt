@@ -6,3 +6,4 @@ pub mod Walks
 pub mod Turning
 pub mod Plans
 pub mod TurnedView
+pub mod PlanView

@@ -22,8 +22,13 @@ pub struct Turned {
     pub moves: Moves,
 }
 
-// Appends moves, each one step further down.
-fn append_below(alloc: Global, side: Side, moves: &[Move], into: &mut Moves) -> Result<(), Memory>
+/// Appends moves, each one step further down.
+pub fn append_below(
+    alloc: Global,
+    side: Side,
+    moves: &[Move],
+    into: &mut Moves,
+) -> Result<(), Memory>
     ensures { OnOk result (moves_of into.new ≡ moves_of into.old ++ map (below side) (moves_of moves.now)) }
 {
     let mut rest = moves;
@@ -34,8 +39,8 @@ fn append_below(alloc: Global, side: Side, moves: &[Move], into: &mut Moves) -> 
     Ok(())
 }
 
-// The root of the child on a side, which moves have made, is brought over the root.
-fn raise(
+/// The root of the child on a side, which moves have made, is brought over the root.
+pub fn raise(
     alloc: Global,
     side: Side,
     tree: Tree,

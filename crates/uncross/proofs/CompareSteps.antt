@@ -1,0 +1,99 @@
+-- The steps of turning a derivation into another, as the code takes them: what its two calls below the root may ask, and that the whole
+-- is a walk of few moves.
+use Rattle.std.proofs.Common.{◌≡◌, ℕ, ◌+◌, ◌*◌, ◌≤◌, List, ◌++◌, length, map, Some, sym, ap, ◌∙◌, arith, subst}
+use Rattle.graph_core.specs.Covered.{IsCovered}
+use Rattle.graph_core.specs.Graph.{Graph, IsGraph}
+use Rattle.graph_core.specs.Partitions.{IsPartition}
+use Rattle.graph_core.specs.Quotients.{quotient}
+use Rattle.tree_core.specs.Derivations.{IsDerivationAt, kept_at, merged_at}
+use Rattle.tree_core.specs.Moves.{PlainMove, below}
+use Rattle.tree_core.specs.Shapes.{Shape, cut, cut_count, leaf}
+use Rattle.tree_core.specs.declared.path.Side.TheVariants.{Kept, Merged}
+use Rattle.uncross.proofs.BigShores.{cut_big}
+use Rattle.uncross.proofs.Comparison.{square}
+use Rattle.uncross.proofs.ExposeSteps.{stage_of}
+use Rattle.uncross.proofs.NestedShores.{leaf_not}
+use Rattle.uncross.proofs.Rising.{rising-derivation_at}
+use Rattle.uncross.proofs.Scripts.{length_below, length_join, walk_end, walk_join, walk_kept, walk_merged}
+use Rattle.uncross.specs.Plans.{CutIf, IsExposed}
+use Rattle.uncross.specs.Walks.{AreRising, Walk}
+
+-- a derivation where another is a leaf is a leaf
+pub both_leaves : (g : Graph) (n : ℕ) (p : List (List ℕ)) (s t : Shape) → IsGraph g → n ≡ g.order → IsPartition n p → IsCovered (quotient g p) → t ≡ leaf → IsDerivationAt g p s → IsDerivationAt g p t → s ≡ t
+both_leaves g n p leaf t is e list cov l ds dt = sym l
+both_leaves g n p (cut x a b) t is e list cov l ds dt =
+    let st = stage_of g n p is e list cov in
+    absurd (leaf_not g p x st (subst (IsDerivationAt g p) l dt) (cut_big g p st x ds.0.set ds.0) ds.0.canonical)
+
+module _ (g : Graph) (n : ℕ) (p : List (List ℕ)) (s t : Shape) (y : List ℕ) (k2 r2 : Shape) (is : IsGraph g) (e : n ≡ g.order) (list : IsPartition n p) (cov : IsCovered (quotient g p)) (w : t ≡ cut y k2 r2) (ds : IsDerivationAt g p s) (dt : IsDerivationAt g p t) where
+  second : IsDerivationAt g p (cut y k2 r2)
+  second = subst (IsDerivationAt g p) w dt
+
+  -- what may be asked of exposing
+  pub asks_exposing : CutIf g p (Some y)
+  asks_exposing = second.0
+
+  module _ (made : Shape) (x : List ℕ) (k1 r1 : Shape) (ms : List PlainMove) (is_made : made ≡ cut x k1 r1) (ex : IsExposed g p s (Some y) made (Some ms)) where
+    shapes : cut x k1 r1 ≡ cut y ex.0 ex.1
+    shapes = sym is_made ∙ ex.2
+
+    left_of : Shape → Shape
+    left_of leaf = leaf
+    left_of (cut x a b) = a
+
+    right_of : Shape → Shape
+    right_of leaf = leaf
+    right_of (cut x a b) = b
+
+    -- the tree that exposing made
+    at_y : cut y k1 r1 ≡ cut y ex.0 ex.1
+    unfolding left_of right_of
+    at_y = ap (λ t. cut y (left_of t) (right_of t)) shapes
+
+    walk : Walk g p s ms (cut y k1 r1)
+    walk = subst (Walk g p s ms) (sym at_y) ex.3
+
+    ended : IsDerivationAt g p (cut y k1 r1) × AreRising g.order (cut y k1 r1) × (cut_count (cut y k1 r1) ≡ cut_count s)
+    ended = walk_end g p s ms (cut y k1 r1) ds (rising-derivation_at g p s ds) walk
+
+    pub asks_kept_both : (q : List (List ℕ)) (a b : Shape) → q ≡ kept_at g.order p y → a ≡ k1 → b ≡ k2 → IsDerivationAt g q a × IsDerivationAt g q b
+    asks_kept_both q a b eq ea eb = (
+      subst (λ q. IsDerivationAt g q a) (sym eq) (subst (IsDerivationAt g (kept_at g.order p y)) (sym ea) ended.0.1),
+      subst (λ q. IsDerivationAt g q b) (sym eq) (subst (IsDerivationAt g (kept_at g.order p y)) (sym eb) second.1),
+    )
+
+    pub asks_merged_both : (q : List (List ℕ)) (a b : Shape) → q ≡ merged_at g.order p y → a ≡ r1 → b ≡ r2 → IsDerivationAt g q a × IsDerivationAt g q b
+    asks_merged_both q a b eq ea eb = (
+      subst (λ q. IsDerivationAt g q a) (sym eq) (subst (IsDerivationAt g (merged_at g.order p y)) (sym ea) ended.0.2),
+      subst (λ q. IsDerivationAt g q b) (sym eq) (subst (IsDerivationAt g (merged_at g.order p y)) (sym eb) second.2),
+    )
+
+    module _ (q r : List (List ℕ)) (ks ns : List PlainMove) (k1' k2' r1' r2' : Shape) (eq : q ≡ kept_at g.order p y) (er : r ≡ merged_at g.order p y) (e1 : k1' ≡ k1) (e2 : k2' ≡ k2) (e3 : r1' ≡ r1) (e4 : r2' ≡ r2)
+        (wk : Walk g q k1' ks k2') (wr : Walk g r r1' ns r2') (bk : length ks ≤ 5 * (cut_count k1' * cut_count k1')) (br : length ns ≤ 5 * (cut_count r1' * cut_count r1')) where
+      at_kept : Walk g (kept_at g.order p y) k1 ks k2
+      at_kept = subst (λ q. Walk g q k1 ks k2) eq (subst (λ a. Walk g q a ks k2) e1 (subst (Walk g q k1' ks) e2 wk))
+
+      at_merged : Walk g (merged_at g.order p y) r1 ns r2
+      at_merged = subst (λ q. Walk g q r1 ns r2) er (subst (λ a. Walk g r a ns r2) e3 (subst (Walk g r r1' ns) e4 wr))
+
+      whole : List PlainMove
+      whole = (ms ++ map (below Kept) ks) ++ map (below Merged) ns
+
+      pub whole_walk : Walk g p s ((ms ++ map (below Kept) ks) ++ map (below Merged) ns) t
+      whole_walk =
+          let w1 = walk_kept g p y k1 r1 ks k2 ended.0 ended.1 at_kept in
+          let w2 = walk_join g p s ms (map (below Kept) ks) (cut y k1 r1) (cut y k2 r1) walk w1 in
+          let q2 = walk_end g p (cut y k1 r1) (map (below Kept) ks) (cut y k2 r1) ended.0 ended.1 w1 in
+          let w3 = walk_merged g p y k2 r1 ns r2 q2.0 q2.1 at_merged in
+          subst (Walk g p s ((ms ++ map (below Kept) ks) ++ map (below Merged) ns)) (sym w) (walk_join g p s (ms ++ map (below Kept) ks) (map (below Merged) ns) (cut y k2 r1) (cut y k2 r2) w2 w3)
+
+      pub whole_few : length ((ms ++ map (below Kept) ks) ++ map (below Merged) ns) ≤ 5 * (cut_count s * cut_count s)
+      whole_few =
+          let l1 = length_join (ms ++ map (below Kept) ks) (map (below Merged) ns) in let l2 = length_join ms (map (below Kept) ks) in
+          let l3 = length_below Kept ks in let l4 = length_below Merged ns in
+          let c : cut_count s ≡ 1 + cut_count k1 + cut_count r1 = sym ended.2 in
+          let sq = square (cut_count k1) (cut_count r1) (cut_count s) c in
+          let b0 = ex.4 in
+          let b1 : length ks ≤ 5 * (cut_count k1 * cut_count k1) = subst (λ a. length ks ≤ 5 * (cut_count a * cut_count a)) e1 bk in
+          let b2 : length ns ≤ 5 * (cut_count r1 * cut_count r1) = subst (λ a. length ns ≤ 5 * (cut_count a * cut_count a)) e3 br in
+          omega arith

@@ -1,0 +1,95 @@
+-- The steps of exposing a shore in a tree, as the code takes them: what its two calls below the root may ask, that what comes back fits,
+-- and that the whole is exposed.
+use Rattle.std.proofs.Common.{◌≡◌, ℕ, List, Option, Some, None, sym, ap, ◌∙◌, subst}
+use Rattle.contraction.proofs.QuotientLaws.{covered_down}
+use Rattle.graph_core.specs.Covered.{IsCovered}
+use Rattle.graph_core.specs.Graph.{Graph, IsGraph}
+use Rattle.graph_core.specs.Partitions.{IsPartition, complement_of}
+use Rattle.graph_core.specs.Quotients.{quotient}
+use Rattle.tree_core.proofs.DerivationStands.{cut-below, stands-derivation_at}
+use Rattle.tree_core.specs.Derivations.{IsCutAt, IsDerivationAt, kept_at, merged_at}
+use Rattle.tree_core.specs.Moves.{PlainMove}
+use Rattle.tree_core.specs.Shapes.{Fits, Shape, cut, leaf}
+use Rattle.uncross.proofs.BigShores.{Big, Stage, big_rest, cut_big, stage_merged}
+use Rattle.uncross.proofs.NestedShores.{leaf_not}
+use Rattle.uncross.proofs.Planned.{first_is_cut, plan_done, second_is_cut}
+use Rattle.uncross.proofs.Rising.{rising-derivation_at}
+use Rattle.uncross.proofs.Scripts.{walk_end}
+use Rattle.uncross.specs.Plans.{CutIf, IsExposed, IsPlan, PlainPlan, first_shore, plan_result, second_shore}
+use Rattle.uncross.specs.Turning.{PlainTurned}
+
+-- a partition of the graph whose quotient is covered
+pub stage_of : (g : Graph) (n : ℕ) (p : List (List ℕ)) → IsGraph g → n ≡ g.order → IsPartition n p → IsCovered (quotient g p) → Stage g p
+stage_of g n p is e list cov =
+    let at = subst (λ n. IsPartition n p) e list in
+    record { graph = is; list = at; covered = covered_down g p is at.partition cov }
+
+-- a derivation at the root of which there is a shore to expose is no leaf
+pub leaf_exposes : (g : Graph) (n : ℕ) (p : List (List ℕ)) (y : List ℕ) (s : Shape) (t : Shape) (o : Option (List ℕ)) → IsGraph g → n ≡ g.order → IsPartition n p → IsCovered (quotient g p) → s ≡ leaf → IsDerivationAt g p s → o ≡ Some y → CutIf g p o → IsExposed g p s o t None
+leaf_exposes g n p y s t o is e list cov l d so c =
+    let st = stage_of g n p is e list cov in
+    let cy = subst (CutIf g p) so c in
+    absurd (leaf_not g p y st (subst (IsDerivationAt g p) l d) (cut_big g p st y cy.set cy) cy.canonical)
+
+-- an exposed tree is a derivation, so it fits
+exposed_derives : (g : Graph) (p : List (List ℕ)) (s t : Shape) (o : Option (List ℕ)) (ms : Option (List PlainMove)) → IsDerivationAt g p s → IsExposed g p s o t ms → IsDerivationAt g p t
+exposed_derives g p s t None None d e = subst (IsDerivationAt g p) (sym e) d
+exposed_derives g p s t None (Some ms) d e = absurd e
+exposed_derives g p s t (Some y) None d e = absurd e
+exposed_derives g p s t (Some y) (Some ms) d e = subst (IsDerivationAt g p) (sym e.2) (walk_end g p s ms (cut y e.0 e.1) d (rising-derivation_at g p s d) e.3).0
+
+module _ (g : Graph) (n : ℕ) (p : List (List ℕ)) (x y : List ℕ) (a b whole : Shape) (plan : PlainPlan) (o : Option (List ℕ)) (is : IsGraph g) (e : n ≡ g.order) (list : IsPartition n p) (cov : IsCovered (quotient g p))
+    (w : whole ≡ cut x a b) (derives : IsDerivationAt g p whole) (so : o ≡ Some y) (shore : CutIf g p o) (planned : IsPlan n p x y plan) where
+  st : Stage g p
+  st = stage_of g n p is e list cov
+
+  d : IsDerivationAt g p (cut x a b)
+  d = subst (IsDerivationAt g p) w derives
+
+  cy : IsCutAt g p y
+  cy = subst (CutIf g p) so shore
+
+  bx : Big g p x
+  bx = cut_big g p st x d.0.set d.0
+
+  by : Big g p y
+  by = cut_big g p st y cy.set cy
+
+  is_plan : IsPlan g.order p x y plan
+  is_plan = subst (λ n. IsPlan n p x y plan) e planned
+
+  pub asks_kept : (q : List (List ℕ)) (t : Shape) (first : Option (List ℕ)) → q ≡ kept_at g.order p x → t ≡ a → first ≡ first_shore y plan → IsDerivationAt g q t × CutIf g q first
+  asks_kept q t first eq et ef = (
+    subst (λ q. IsDerivationAt g q t) (sym eq) (subst (IsDerivationAt g (kept_at g.order p x)) (sym et) d.1),
+    subst (λ q. CutIf g q first) (sym eq) (subst (CutIf g (kept_at g.order p x)) (sym ef) (first_is_cut g p st x y bx by d.0.canonical cy.canonical plan is_plan)),
+  )
+
+  pub asks_merged : (q : List (List ℕ)) (t : Shape) (second : Option (List ℕ)) → q ≡ merged_at g.order p x → t ≡ b → second ≡ second_shore y plan → IsDerivationAt g q t × CutIf g q second
+  asks_merged q t second eq et ef = (
+    subst (λ q. IsDerivationAt g q t) (sym eq) (subst (IsDerivationAt g (merged_at g.order p x)) (sym et) d.2),
+    subst (λ q. CutIf g q second) (sym eq) (subst (CutIf g (merged_at g.order p x)) (sym ef) (second_is_cut g p st x y bx by d.0.canonical cy.canonical plan is_plan)),
+  )
+
+  -- what came back from the two trees
+  module _ (q r : List (List ℕ)) (s t ta tb : Shape) (first second : Option (List ℕ)) (mi mo : Option (List PlainMove)) (eq : q ≡ kept_at g.order p x) (er : r ≡ merged_at g.order p x) (es : s ≡ a) (et : t ≡ b) (ef : first ≡ first_shore y plan) (ec : second ≡ second_shore y plan)
+      (ea : IsExposed g q s first ta mi) (eb : IsExposed g r t second tb mo) where
+    at_a : IsExposed g (kept_at g.order p x) a (first_shore y plan) ta mi
+    at_a = subst (λ q. IsExposed g q a (first_shore y plan) ta mi) eq (subst (λ s. IsExposed g q s (first_shore y plan) ta mi) es (subst (λ o. IsExposed g q s o ta mi) ef ea))
+
+    at_b : IsExposed g (merged_at g.order p x) b (second_shore y plan) tb mo
+    at_b = subst (λ q. IsExposed g q b (second_shore y plan) tb mo) er (subst (λ s. IsExposed g r s (second_shore y plan) tb mo) et (subst (λ o. IsExposed g r t o tb mo) ec eb))
+
+    pub both_fit : (m : ℕ) → m ≡ g.order → Fits m (cut x ta tb)
+    both_fit m em =
+        let sk = stage_merged g p st (complement_of g.order x) (big_rest g p st x bx) in
+        subst (λ m. Fits m (cut x ta tb)) (sym em) (
+          cut-below g p x d.0,
+          (stands-derivation_at g (kept_at g.order p x) ta sk.list (exposed_derives g (kept_at g.order p x) a ta (first_shore y plan) mi d.1 at_a)).0,
+          (stands-derivation_at g (merged_at g.order p x) tb (stage_merged g p st x bx).list (exposed_derives g (merged_at g.order p x) b tb (second_shore y plan) mo d.2 at_b)).0,
+        )
+
+    pub whole_exposed : (m : ℕ) → m ≡ g.order → (turned : PlainTurned) → ((s : PlainTurned) → plan_result m x plan ta tb mi mo ≡ Some s → turned ≡ s) → IsExposed g p whole o turned.tree (Some turned.moves)
+    whole_exposed m em turned h =
+        let r = plan_done g p st x y bx by d.0.canonical cy.canonical a b (rising-derivation_at g p (cut x a b) d) d plan is_plan ta tb mi mo at_a at_b in
+        let same = h r.0 (ap (λ m. plan_result m x plan ta tb mi mo) em ∙ r.1) in
+        subst (λ o. IsExposed g p whole o turned.tree (Some turned.moves)) (sym so) (subst (λ w. IsExposed g p w (Some y) turned.tree (Some turned.moves)) (sym w) (subst (λ (t : PlainTurned). IsExposed g p (cut x a b) (Some y) t.tree (Some t.moves)) (sym same) r.2))

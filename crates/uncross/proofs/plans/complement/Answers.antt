@@ -1,0 +1,12 @@
+use Rattle.std.proofs.Common.{refl, subst, sym}
+use Rattle.counting.specs.Lists.{IsRisingIn}
+use Rattle.graph_core.proofs.Complements.{complement_of-rises}
+use Rattle.tree_core.proofs.Shores.{is-complement}
+use Rattle.uncross.proofs.plans.complement.Goals as goal
+
+pub returns-clause-list : goal.returns-clause-list
+returns-clause-list c = is-complement 128 c.args.n c.args.n c.full.result c.args.x c.minus-outside.result c.requires refl c.full.ensures.list c.rises.ensures c.minus-outside.ensures
+
+pub returns-clause-rising : goal.returns-clause-rising
+returns-clause-rising c =
+    subst (IsRisingIn c.args.n) (sym (is-complement 128 c.args.n c.args.n c.full.result c.args.x c.minus-outside.result c.requires refl c.full.ensures.list c.rises.ensures c.minus-outside.ensures)) (complement_of-rises c.args.n c.args.x)

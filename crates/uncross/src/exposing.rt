@@ -1,0 +1,166 @@
+//! Exposing: a shore is brought to the root of a derivation.
+ghost use Rattle.std.specs.Prelude.{◌≡◌, List, Some, IfOk, map, option_map};
+ghost use Rattle.graph_core.specs.Covered.{IsCovered};
+ghost use Rattle.graph_core.specs.Quotients.{quotient};
+ghost use Rattle.tree_core.specs.Derivations.{IsDerivationAt};
+ghost use Rattle.tree_core.specs.Moves.{PlainMove, below};
+ghost use Rattle.tree_core.specs.MoveView.{moves_of};
+ghost use Rattle.tree_core.specs.Shapes.{Fits, cut};
+ghost use Rattle.tree_core.specs.View.{shape_of};
+ghost use Rattle.uncross.specs.PlanView.{plan_of};
+ghost use Rattle.uncross.specs.Plans.{CutIf, IsExposed, plan_result};
+ghost use Rattle.uncross.specs.Turning.{PlainTurned, followed, raised};
+ghost use Rattle.uncross.specs.TurnedView.{turned_of};
+
+use crate::plans::{Plan, plan_at};
+use crate::turning::{Turned, raise, turn_over_inner};
+use contraction::Partition;
+use graph_core::MultiGraph;
+use std::alloc::{AllocError as Memory, Global};
+use std::mem;
+use tree_core::{Moves, Side, Tree, kept_partition, merged_partition};
+use vset_core::VSet;
+
+// The root of a child that moves have made is brought over the root.
+fn raise_child(
+    alloc: Global,
+    side: Side,
+    tree: Tree,
+    made: &Option<Moves>,
+) -> Result<Turned, Memory>
+    ensures { IfOk result (λ r. (ms : List PlainMove) (s : PlainTurned) → option_map moves_of made.now ≡ Some ms → followed (map (below side) ms) (raised side (shape_of tree)) ≡ Some s → turned_of r ≡ s) }
+{
+    let mut moves = Moves::new(alloc);
+    match made {
+        None => Ok(Turned { tree, moves }),
+        Some(made) => {
+            let tree = raise(alloc, side, tree, made, &mut moves)?;
+            Ok(Turned { tree, moves })
+        }
+    }
+}
+
+// The plan is carried out at the root x, after moves in its two trees.
+fn carry_out(
+    alloc: Global,
+    n: u32,
+    x: VSet,
+    plan: &Plan,
+    kept: Box<Tree>,
+    merged: Box<Tree>,
+    inner: &Option<Moves>,
+    outer: &Option<Moves>,
+) -> Result<Turned, Memory>
+    requires { Fits n (cut x (shape_of kept.value) (shape_of merged.value)) }
+    ensures { IfOk result (λ r. (s : PlainTurned) → plan_result n x (plan_of plan.now) (shape_of kept.value) (shape_of merged.value) (option_map moves_of inner.now) (option_map moves_of outer.now) ≡ Some s → turned_of r ≡ s) }
+{
+    match plan {
+        Plan::Here => Ok(Turned {
+            tree: Tree::Cut {
+                shore: x,
+                kept,
+                merged,
+            },
+            moves: Moves::new(alloc),
+        }),
+        Plan::InKept => {
+            let tree = Tree::Cut {
+                shore: x,
+                kept,
+                merged,
+            };
+            let turned = raise_child(alloc, Side::Kept, tree, inner)?;
+            Ok(turned)
+        }
+        Plan::InMerged => {
+            let tree = Tree::Cut {
+                shore: x,
+                kept,
+                merged,
+            };
+            let turned = raise_child(alloc, Side::Merged, tree, outer)?;
+            Ok(turned)
+        }
+        Plan::Crossing { u, v, .. } => {
+            let turned = turn_over_inner(alloc, n, x, kept, merged, *u, *v, inner, outer)?;
+            Ok(turned)
+        }
+    }
+}
+
+/// A tree in which a shore was brought to the root by moves, or the tree as it was and no moves.
+#[derive(Drop)]
+pub struct Exposure {
+    /// The tree.
+    pub tree: Tree,
+    /// The moves, if a shore was to be exposed.
+    pub moves: Option<Moves>,
+}
+
+/// Brings a shore, if there is one, to the root of a derivation at p, through derivations at p.
+pub fn expose_at(
+    alloc: Global,
+    g: &MultiGraph,
+    p: &Partition,
+    tree: Tree,
+    shore: Option<VSet>,
+) -> Result<Exposure, Memory>
+    requires order { p.now.order ≡ g.now.order }
+    requires covered { IsCovered (quotient g.now p.now.blocks) }
+    requires derives { IsDerivationAt g.now p.now.blocks (shape_of tree) }
+    requires shore { CutIf g.now p.now.blocks shore }
+    ensures { IfOk result (λ r. IsExposed g.now p.now.blocks (shape_of tree) shore (shape_of r.tree) (option_map moves_of r.moves)) }
+{
+    let Some(y) = shore else {
+        return Ok(Exposure { tree, moves: None });
+    };
+    g.keeps_limits();
+    p.keeps_partition();
+    match tree {
+        Tree::Leaf => Ok(Exposure {
+            tree: Tree::Leaf,
+            moves: None,
+        }),
+        Tree::Cut {
+            shore: x,
+            mut kept,
+            mut merged,
+        } => {
+            let plan = plan_at(p, x, y);
+            let kept_at = kept_partition(alloc, g, p, x)?;
+            let below = mem::replace(&mut *kept, Tree::Leaf);
+            let Exposure { tree, moves: inner } = expose_at(
+                alloc,
+                g,
+                &kept_at,
+                below,
+                plan.first(y),
+            )?;
+            *kept = tree;
+            let merged_at = merged_partition(alloc, g, p, x)?;
+            let below = mem::replace(&mut *merged, Tree::Leaf);
+            let Exposure { tree, moves: outer } = expose_at(
+                alloc,
+                g,
+                &merged_at,
+                below,
+                plan.second(y),
+            )?;
+            *merged = tree;
+            let Turned { tree, moves } = carry_out(
+                alloc,
+                g.order(),
+                x,
+                &plan,
+                kept,
+                merged,
+                &inner,
+                &outer,
+            )?;
+            Ok(Exposure {
+                tree,
+                moves: Some(moves),
+            })
+        }
+    }
+}
