@@ -4,3 +4,4 @@ pub mod Analyses
 pub mod Tallies
 pub mod Derivations
 pub mod Judgements
+pub mod EarReports
