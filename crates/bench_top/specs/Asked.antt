@@ -1,5 +1,5 @@
 -- How the code's command is seen.
-use Rattle.bench_top.specs.Commands.{Command, Analyse, Convert, Analyse6}
+use Rattle.bench_top.specs.Commands.{Command, Analyse, Convert, Analyse6, Decompose, DecomposeBy}
 use Rattle.bench_top.specs.declared.order.Command.TheVariants as code
 
 -- the command with the names' bytes
@@ -7,3 +7,5 @@ abbrev pub asked : code.the_data → Command
 asked (code.Analyse graph) = Analyse graph.now
 asked (code.Convert graph) = Convert graph.now
 asked (code.Analyse6 graph) = Analyse6 graph.now
+asked (code.Decompose graph order) = Decompose graph.now order
+asked (code.DecomposeBy graph picks) = DecomposeBy graph.now picks.now

@@ -2,13 +2,18 @@
 use Rattle.std.specs.Prelude.{List, [], ◌∷◌, ℕ, if◌then◌else◌, codes}
 use Rattle.std.specs.declared.option.Option.{Option}
 use Rattle.std.specs.declared.option.Option.TheVariants.{Some, None}
+use Rattle.std.specs.Option.{option_map}
 use Rattle.std.specs.Str.{bytes_eq}
+use Rattle.bench_top.specs.declared.order.NamedOrder.{NamedOrder}
+use Rattle.bench_top.specs.declared.order.NamedOrder.TheVariants.{First, Last, Balanced}
 
 -- a command with the names of its files and its numbers
 pub data Command : Type 0 where
   Analyse : (graph : List ℕ) → Command
   Convert : (graph : List ℕ) → Command
   Analyse6 : (graph : List ℕ) → Command
+  Decompose : (graph : List ℕ) (order : NamedOrder) → Command
+  DecomposeBy : (graph picks : List ℕ) → Command
 
 -- the command that a word and the name of a file ask for
 abbrev pub graph_command : List ℕ → List ℕ → Option Command
@@ -17,9 +22,27 @@ graph_command word graph =
     if bytes_eq word (codes "convert") then Some (Convert graph) else
     if bytes_eq word (codes "analyse6") then Some (Analyse6 graph) else None
 
+-- the order of choice that a word names, if it names one
+abbrev pub order_named : List ℕ → Option NamedOrder
+order_named word =
+    if bytes_eq word (codes "first") then Some First else
+    if bytes_eq word (codes "last") then Some Last else
+    if bytes_eq word (codes "balanced") then Some Balanced else None
+
+-- the command that a word, the name of a file and the word of an order ask for
+abbrev pub order_command : List ℕ → List ℕ → List ℕ → Option Command
+order_command word graph order = if bytes_eq word (codes "decompose") then option_map (Decompose graph) (order_named order) else None
+
+-- the command that a word, the name of a file, the word `script` and the name of a further file ask for
+abbrev pub script_command : List ℕ → List ℕ → List ℕ → List ℕ → Option Command
+script_command word graph script picks =
+    if bytes_eq word (codes "decompose") then (if bytes_eq script (codes "script") then Some (DecomposeBy graph picks) else None) else None
+
 -- the command that the words ask for; none where they match no row
 abbrev pub command_of : List (List ℕ) → Option Command
 command_of [] = None
 command_of (word ∷ []) = None
 command_of (word ∷ first ∷ []) = graph_command word first
-command_of (word ∷ first ∷ second ∷ words) = None
+command_of (word ∷ first ∷ second ∷ []) = order_command word first second
+command_of (word ∷ first ∷ second ∷ third ∷ []) = script_command word first second third
+command_of (word ∷ first ∷ second ∷ third ∷ fourth ∷ words) = None

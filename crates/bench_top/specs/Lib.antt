@@ -1,6 +1,7 @@
 pub mod Commands
 pub mod Asked
 pub mod Codes
+pub mod Orders
 pub mod Tasks
 pub mod Loading
 pub mod Facts

@@ -12,7 +12,8 @@ use Rattle.graph_core.specs.Kinds.{kind_number}
 use Rattle.graph_core.specs.declared.faults.FaultKind.{FaultKind}
 use Rattle.graph_text.specs.EitherVersion.{NamedGraph, either_version}
 use Rattle.graph6_text.specs.Reading.{outcome_of}
-use Rattle.bench_top.specs.Commands.{Command, Analyse, Convert, Analyse6}
+use Rattle.tree_text.specs.PickFormat.{pick_format}
+use Rattle.bench_top.specs.Commands.{Command, Analyse, Convert, Analyse6, Decompose, DecomposeBy}
 use Rattle.bench_top.specs.Tasks.{Task}
 use Rattle.bench_top.specs.Tasks as task
 
@@ -43,6 +44,12 @@ loaded_as make (All value) = All (make value)
 loaded_as make (Bad file line kind) = Bad file line kind
 loaded_as make Absent = Absent
 
+-- what is loaded where a further file is asked only if those before it are held and good
+abbrev pub and_then : {A B : Type 0} → Loaded A → (A → Loaded B) → Loaded B
+and_then (All value) next = next value
+and_then (Bad file line kind) next = Bad file line kind
+and_then Absent next = Absent
+
 -- the graph of the file of that name, in either version of the graph format; or in graph6
 abbrev pub graph_file : List Named → List ℕ → Loaded NamedGraph
 graph_file files name = file_read 1 (reading_of either_version) (file_named name files)
@@ -50,8 +57,14 @@ graph_file files name = file_read 1 (reading_of either_version) (file_named name
 abbrev pub graph6_file : List Named → List ℕ → Loaded Graph
 graph6_file files name = file_read 1 outcome_of (file_named name files)
 
+-- the list of picks of the file of that name, which is the second
+abbrev pub pick_file : List Named → List ℕ → Loaded (List ℕ)
+pick_file files name = file_read 2 (reading_of pick_format) (file_named name files)
+
 -- what the files of a command hold
 abbrev pub loaded : List Named → Command → Loaded Task
 loaded files (Analyse graph) = loaded_as task.Analyse (graph_file files graph)
 loaded files (Convert graph) = loaded_as task.Convert (graph_file files graph)
 loaded files (Analyse6 graph) = loaded_as task.Analyse6 (graph6_file files graph)
+loaded files (Decompose graph order) = loaded_as (λ named. task.Decompose named order) (graph_file files graph)
+loaded files (DecomposeBy graph picks) = and_then (graph_file files graph) (λ named. loaded_as (task.DecomposeBy named) (pick_file files picks))

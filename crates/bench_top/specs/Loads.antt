@@ -25,6 +25,8 @@ abbrev pub task_of : code.the_data → Task
 task_of (code.Analyse named) = task.Analyse (named_graph named)
 task_of (code.Convert named) = task.Convert (named_graph named)
 task_of (code.Analyse6 simple) = task.Analyse6 (graph_in simple)
+task_of (code.Decompose named order) = task.Decompose (named_graph named) order
+task_of (code.DecomposeBy named picks) = task.DecomposeBy (named_graph named) picks
 
 -- a stop names the first bad file; nothing is said of a failed read or of want of memory
 abbrev pub StopsAs : {A : Type 0} → Stop → Loaded A → Type 0

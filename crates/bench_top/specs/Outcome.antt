@@ -1,21 +1,35 @@
 -- Which status and which output the words and the files stand for. A named file that is not held fits no case.
-use Rattle.std.specs.Prelude.{◌≡◌, ℕ, ◌<◌, ◌⊎◌, List, length, take, false}
+use Rattle.std.specs.Prelude.{◌≡◌, ℕ, ◌<◌, ◌⊎◌, List, length, take, Bool, true, false}
 use Rattle.std.specs.declared.option.Option.{Option}
 use Rattle.std.specs.declared.option.Option.TheVariants.{Some, None}
 use Rattle.std.specs.declared.result.Result.{Result}
 use Rattle.std.specs.declared.result.Result.TheVariants.{Ok, Err}
 use Rattle.outside.specs.Shelf.{Named}
 use Rattle.outside.specs.Sink.{appended}
+use Rattle.graph_core.specs.Covered.{IsCovered, IsReason}
 use Rattle.graph_core.specs.Graph.{Graph}
+use Rattle.graph_core.specs.Verdicts.{reason_of}
+use Rattle.graph_core.specs.declared.verdict.Reason.{Reason}
+use Rattle.graph_core.specs.declared.verdict.Verdict.TheVariants.{NotCovered}
 use Rattle.line_text.specs.Format.{Stands}
 use Rattle.graph_text.specs.EitherVersion.{NamedGraph, either_version}
 use Rattle.graph_text.specs.Names.{plain_names}
 use Rattle.graph_text.specs.Writing.{named_text}
 use Rattle.graph6_text.specs.Writing.{graph6_of}
+use Rattle.tight_cuts.specs.Candidates.{Candidate}
+use Rattle.tree_core.specs.Derivations.{IsDerivation}
+use Rattle.tree_core.specs.Leaves.{leaves}
+use Rattle.tree_core.specs.Shapes.{Shape}
+use Rattle.tree_text.specs.Writing.{tree_text}
+use Rattle.decomposer.specs.Picked.{IsPicked}
 use Rattle.report_text.specs.Analyses.{analysis_text}
-use Rattle.report_text.specs.Reports.{bad_input_text, with_names_text, graph6_line}
+use Rattle.report_text.specs.Derivations.{derivation_text}
+use Rattle.report_text.specs.Reports.{bad_input_text, with_names_text, graph6_line, verdict_text}
+use Rattle.report_text.specs.Tallies.{AreLeafKinds}
 use Rattle.report_text.specs.declared.analyses.AnalysisLines.{AnalysisLines}
-use Rattle.bench_top.specs.Commands.{Command, Analyse, Convert, Analyse6, command_of}
+use Rattle.report_text.specs.declared.tallies.LeafKind.{LeafKind}
+use Rattle.bench_top.specs.Commands.{Command, Analyse, Convert, Analyse6, Decompose, DecomposeBy, command_of}
+use Rattle.bench_top.specs.Orders.{NamedPicks, ScriptPicks}
 use Rattle.bench_top.specs.Tasks.{Task}
 use Rattle.bench_top.specs.Tasks as task
 use Rattle.bench_top.specs.Loading.{Loaded, All, Bad, Absent, loaded}
@@ -26,10 +40,10 @@ use Rattle.bench_top.specs.Facts.{IsAnalysis}
 use Rattle.bench_top.specs.declared.status.Status.{Status}
 use Rattle.bench_top.specs.declared.status.Status.TheVariants.{Done, Negative, BadInput}
 
--- a report, and then the names of the vertices where the graph has names
-abbrev pub with_given_names : List ℕ → Option (List (List ℕ)) → List ℕ
-with_given_names report None = report
-with_given_names report (Some names) = with_names_text report names false
+-- a report, and then the names of the vertices where the graph has names; each may be a comment
+abbrev pub with_given_names : List ℕ → Option (List (List ℕ)) → (comments : Bool) → List ℕ
+with_given_names report None comments = report
+with_given_names report (Some names) comments = with_names_text report names comments
 
 -- the names of the vertices of a graph of that order, or the plain ones where it has none
 abbrev pub given_or_plain : ℕ → Option (List (List ℕ)) → List (List ℕ)
@@ -41,7 +55,7 @@ pub record Analysed (named : NamedGraph) (status : Status) (output : List ℕ) :
   pub lines : AnalysisLines
   pub right : IsAnalysis named.graph lines
   pub done : status ≡ Done
-  pub text : output ≡ with_given_names (analysis_text lines) named.names
+  pub text : output ≡ with_given_names (analysis_text lines) named.names false
 
 -- the canonical text of a graph with its names or the plain ones; it stands for the graph with these names
 pub record Converted (named : NamedGraph) (status : Status) (output : List ℕ) : Type 0 where
@@ -56,11 +70,40 @@ pub record Analysed6 (g : Graph) (status : Status) (output : List ℕ) : Type 0 
   pub done : status ≡ Done
   pub text : output ≡ graph6_line (analysis_text lines) (graph6_of g)
 
+-- the tree is a derivation of the graph, and the output is its text, and then as comments its leaves, each with its right kind, and the
+-- names of the vertices where the graph has names
+pub record TellsDerivation (named : NamedGraph) (tree : Shape) (status : Status) (output : List ℕ) : Type 0 where
+  pub derivation : IsDerivation named.graph tree
+  pub kinds : List LeafKind
+  pub right : AreLeafKinds named.graph (leaves named.graph.order tree) kinds
+  pub done : status ≡ Done
+  pub text : output ≡ with_given_names (derivation_text (tree_text named.graph.order tree) named.graph (leaves named.graph.order tree) kinds) named.names true
+
+-- the decomposition of a covered graph by tight cuts: a derivation of it is told, which is the tree that the order picks
+pub record Decomposed (picks : List Candidate → ℕ → ℕ → Type 0) (named : NamedGraph) (status : Status) (output : List ℕ) : Type 0 where
+  pub tree : Shape
+  pub picked : IsPicked picks named.graph tree
+  pub told : TellsDerivation named tree status output
+
+-- a graph that is not covered: the output is the line of the first reason
+pub record Uncovered (g : Graph) (status : Status) (output : List ℕ) : Type 0 where
+  pub reason : Reason
+  pub first : IsReason g (reason_of reason)
+  pub uncovered : ¬ IsCovered g
+  pub negative : status ≡ Negative
+  pub text : output ≡ verdict_text (NotCovered reason)
+
+-- what `decompose` gives by an order that picks so: of a covered graph a derivation, and of any other the reason
+abbrev pub DecomposeGives : (List Candidate → ℕ → ℕ → Type 0) → NamedGraph → Status → List ℕ → Type 0
+DecomposeGives picks named status output = Decomposed picks named status output ⊎ Uncovered named.graph status output
+
 -- what a command gives for what it works on: one case for each row of the table of words
 abbrev pub ResultOf : Task → Status → List ℕ → Type 0
 ResultOf (task.Analyse named) status output = Analysed named status output
 ResultOf (task.Convert named) status output = Converted named status output
 ResultOf (task.Analyse6 g) status output = Analysed6 g status output
+ResultOf (task.Decompose named order) status output = DecomposeGives (NamedPicks order) named status output
+ResultOf (task.DecomposeBy named picks) status output = DecomposeGives (ScriptPicks picks) named status output
 
 -- what a command gives for what its files hold
 abbrev pub LoadedGives : Loaded Task → Status → List ℕ → Type 0
@@ -106,12 +149,16 @@ MayRefuse None = ⊥
 MayRefuse (Some (Analyse name)) = ⊥
 MayRefuse (Some (Convert name)) = ⊥
 MayRefuse (Some (Analyse6 name)) = ⊥
+MayRefuse (Some (Decompose name order)) = Unit {0}
+MayRefuse (Some (DecomposeBy name picks)) = Unit {0}
 
 -- the same of what a command works on
 abbrev pub TaskMayRefuse : Task → Type 0
 TaskMayRefuse (task.Analyse named) = ⊥
 TaskMayRefuse (task.Convert named) = ⊥
 TaskMayRefuse (task.Analyse6 g) = ⊥
+TaskMayRefuse (task.Decompose named order) = Unit {0}
+TaskMayRefuse (task.DecomposeBy named picks) = Unit {0}
 
 -- the same of what was loaded, if it was
 abbrev pub GatheredMayRefuse : Result code.the_data Stop → Type 0

@@ -1,8 +1,12 @@
 -- What a command works on: the command with what its files hold in place of their names.
+use Rattle.std.specs.Prelude.{ℕ, List}
 use Rattle.graph_core.specs.Graph.{Graph}
 use Rattle.graph_text.specs.EitherVersion.{NamedGraph}
+use Rattle.bench_top.specs.declared.order.NamedOrder.{NamedOrder}
 
 pub data Task : Type 0 where
   Analyse : (named : NamedGraph) → Task
   Convert : (named : NamedGraph) → Task
   Analyse6 : (graph : Graph) → Task
+  Decompose : (named : NamedGraph) (order : NamedOrder) → Task
+  DecomposeBy : (named : NamedGraph) (picks : List ℕ) → Task

@@ -7,13 +7,15 @@ ghost use Rattle.graph_core.specs.declared.faults.FaultKind.{FaultKind};
 ghost use Rattle.graph_text.specs.EitherVersion.{NamedGraph, either_version};
 ghost use Rattle.graph_text.specs.SoFar.{named_graph};
 ghost use Rattle.graph6_text.specs.Reading.{outcome_of};
+ghost use Rattle.tree_text.specs.PickFormat.{pick_format};
 ghost use Rattle.bench_top.specs.Loads.{graph_in};
 
 use crate::tasks::SimpleGraph;
-use graph_core::TextFault;
+use graph_core::{Numbers, TextFault};
 use graph_text::{Named, read_any};
 use graph6_text::read_graph6;
 use std::alloc::Global;
+use tree_text::read_picks;
 
 /// A format of files. The ghost member `reading` says what a text stands for, or its first fault.
 pub trait FileFormat {
@@ -74,5 +76,23 @@ impl FileFormat for Graph6File {
             Ok(graph) => Ok(SimpleGraph { graph }),
             Err(fault) => Err(fault),
         }
+    }
+}
+
+/// A list of picks.
+#[derive(Clone, Copy, Drop)]
+pub struct PickFile;
+
+impl FileFormat for PickFile {
+    type Value = Numbers;
+
+    ghost Meaning = { List ℕ };
+
+    ghost meaning = { λ picks. picks };
+
+    ghost reading = { λ _. reading_of pick_format };
+
+    fn read(&self, alloc: Global, bytes: &[u8]) -> Result<Numbers, TextFault> {
+        read_picks(alloc, bytes)
     }
 }

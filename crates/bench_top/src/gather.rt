@@ -7,7 +7,7 @@ ghost use Rattle.bench_top.specs.Loading.{Loaded, Absent, file_read, loaded};
 ghost use Rattle.bench_top.specs.Loads.{LoadsAs, task_of};
 ghost use Rattle.bench_top.specs.Outcome.{MayRefuse, GatheredMayRefuse};
 
-use crate::formats::{FileFormat, Graph6File, GraphFile};
+use crate::formats::{FileFormat, Graph6File, GraphFile, PickFile};
 use crate::order::Command;
 use crate::stop::Stop;
 use crate::tasks::Task;
@@ -74,5 +74,14 @@ pub fn gather<S: Shelf>(alloc: Global, command: Command<'_>, shelf: &mut S) -> R
         Command::Analyse6 { graph } => Ok(Task::Analyse6 {
             simple: load(alloc, &Graph6File, graph, 1, shelf)?,
         }),
+        Command::Decompose { graph, order } => Ok(Task::Decompose {
+            named: load(alloc, &GraphFile, graph, 1, shelf)?,
+            order,
+        }),
+        Command::DecomposeBy { graph, picks } => {
+            let named = load(alloc, &GraphFile, graph, 1, shelf)?;
+            let picks = load(alloc, &PickFile, picks, 2, shelf)?;
+            Ok(Task::DecomposeBy { named, picks })
+        }
     }
 }

@@ -1,12 +1,13 @@
 //! What a command makes of its inputs.
-ghost use Rattle.std.specs.Prelude.{◌≡◌, ◌↔◌, IfOk, IsTrue, length};
-ghost use Rattle.std.specs.Option.{ForSome};
+ghost use Rattle.std.specs.Prelude.{◌≡◌, ◌↔◌, IfOk, IsTrue};
 ghost use Rattle.graph_core.specs.Graph.{IsBipartite};
 ghost use Rattle.graph_text.specs.SoFar.{named_graph};
 ghost use Rattle.bench_top.specs.Loads.{graph_in, task_of};
 ghost use Rattle.bench_top.specs.Facts.{HasMaximum, IsAnalysis};
-ghost use Rattle.bench_top.specs.Outcome.{Analysed, Converted, Analysed6, ResultOf, IsReported, TaskMayRefuse, with_given_names, given_or_plain};
+ghost use Rattle.bench_top.specs.Outcome.{Analysed, Converted, Analysed6, ResultOf, IsReported, TaskMayRefuse};
 
+use crate::decomposing::{decomposed, decomposed_by};
+use crate::naming::{given_or_plain, with_given_names};
 use crate::report::Report;
 use crate::status::Status;
 use crate::structures::structure_where_covered;
@@ -14,10 +15,10 @@ use crate::tasks::{SimpleGraph, Task};
 use allowed_edges::{allowed, covered};
 use gallai_edmonds::sets;
 use graph_core::{MultiGraph, Sides};
-use graph_text::{Named, Names, plain_names, write_named};
+use graph_text::{Named, write_named};
 use graph6_text::write_graph6;
 use match_core::maximum;
-use report_text::{AnalysisLines, analysis, graph6_line, with_names};
+use report_text::{AnalysisLines, analysis, graph6_line};
 use std::alloc::{AllocError as Memory, Global};
 
 // Whether some vertex set has all edges in its cut.
@@ -74,38 +75,11 @@ fn analysed(alloc: Global, named: &Named) -> Result<Report, Memory>
 {
     let lines = analysis_lines(alloc, &named.graph)?;
     let text = analysis(alloc, &lines)?;
-    let bytes = with_given_names(alloc, text, &named.names)?;
+    let bytes = with_given_names(alloc, text, &named.names, false)?;
     Ok(Report {
         status: Status::Done,
         bytes,
     })
-}
-
-// The report, and then the names where the graph has names.
-fn with_given_names(
-    alloc: Global,
-    report: Vec<u8>,
-    names: &Option<Names>,
-) -> Result<Vec<u8>, Memory>
-    ensures { IfOk result (λ bytes. bytes.items ≡ with_given_names report.items names.now) }
-{
-    match names {
-        Some(names) => with_names(alloc, &report, names, false),
-        None => Ok(report),
-    }
-}
-
-// The names of the vertices: those that are given, or else the plain ones.
-fn given_or_plain(alloc: Global, graph: &MultiGraph, names: Option<Names>) -> Result<Names, Memory>
-    requires { ForSome names (λ given. length given ≡ graph.now.order) }
-    ensures names { IfOk result (λ all. all ≡ given_or_plain graph.now.order names) }
-    ensures one_each { IfOk result (λ all. length all ≡ graph.now.order) }
-{
-    graph.keeps_limits();
-    match names {
-        Some(names) => Ok(names),
-        None => plain_names(alloc, graph.order()),
-    }
 }
 
 // The report of `convert`.
@@ -144,5 +118,7 @@ pub fn judge(alloc: Global, task: Task) -> Result<Report, Memory>
         Task::Analyse { named } => analysed(alloc, &named),
         Task::Convert { named } => converted(alloc, named),
         Task::Analyse6 { simple } => analysed6(alloc, simple),
+        Task::Decompose { named, order } => decomposed(alloc, &named, order),
+        Task::DecomposeBy { named, picks } => decomposed_by(alloc, &named, &picks),
     }
 }

@@ -10,11 +10,13 @@
 #![tactic(auto)]
 
 mod command;
+mod decomposing;
 mod emit;
 mod formats;
 mod gather;
 mod judge;
 pub mod laws;
+mod naming;
 mod order;
 mod performing;
 mod report;

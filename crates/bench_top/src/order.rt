@@ -1,5 +1,14 @@
 //! What the words ask for.
 
+/// A named order of choice: at each node the first candidate is picked, the last, or the first of those whose sides differ least in
+/// size.
+#[derive(Clone, Copy, Debug, PartialEq, Eq)]
+pub enum NamedOrder {
+    First,
+    Last,
+    Balanced,
+}
+
 /// A command with the names of its files.
 #[derive(Clone, Copy, Drop)]
 pub enum Command<'a> {
@@ -9,4 +18,8 @@ pub enum Command<'a> {
     Convert { graph: &'a str },
     /// The structure of the graph of a graph6 file.
     Analyse6 { graph: &'a str },
+    /// A decomposition of the graph of a file, in a named order.
+    Decompose { graph: &'a str, order: NamedOrder },
+    /// A decomposition of the graph of a file, in the order of a pick file.
+    DecomposeBy { graph: &'a str, picks: &'a str },
 }

@@ -1,7 +1,8 @@
 //! What a command works on.
 ghost use Rattle.graph_core.specs.Simple.{IsSimple};
 
-use graph_core::MultiGraph;
+use crate::order::NamedOrder;
+use graph_core::{MultiGraph, Numbers};
 use graph_text::Named;
 
 /// A simple graph.
@@ -20,4 +21,8 @@ pub enum Task {
     Convert { named: Named },
     /// The structure and the graph6 text of a simple graph.
     Analyse6 { simple: SimpleGraph },
+    /// A decomposition of a graph, in a named order.
+    Decompose { named: Named, order: NamedOrder },
+    /// A decomposition of a graph, in the order of a list of picks.
+    DecomposeBy { named: Named, picks: Numbers },
 }

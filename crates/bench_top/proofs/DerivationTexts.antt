@@ -1,0 +1,83 @@
+-- A derivation of a graph within the limits may be written: no shore is empty, and there are at most 127 nodes, since there are few
+-- leaves where the graph has at least four vertices, and no cut where it has fewer. Its leaves are partitions of the graph's vertices.
+use Rattle.std.proofs.Common.{◌≡◌, ℕ, ◌+◌, ◌*◌, ◌≤◌, ◌<◌, List, [], ◌∷◌, length, map, All, ap, sym, subst, true, refl, ◌∙◌, arith, zero, suc, inl, inr}
+use Rattle.std.proofs.lemmas.Bool.{cases_lt}
+use Rattle.counting.specs.Lists.{mem}
+use Rattle.counting.proofs.Counts.{count_complement}
+use Rattle.graph_core.specs.Graph.{Graph, IsGraph}
+use Rattle.graph_core.specs.Partitions.{singles}
+use Rattle.graph_core.specs.Shores.{blocks_in}
+use Rattle.graph_core.proofs.Singles.{length-singles}
+use Rattle.contraction.specs.Partition.{PartitionValue}
+use Rattle.tree_core.specs.Derivations.{IsDerivation, IsDerivationAt, kept_at, merged_at}
+use Rattle.tree_core.specs.Leaves.{StandsAt, leaves, partitions_of}
+use Rattle.tree_core.specs.Shapes.{Shape, leaf, cut, cut_count, leaf_count, node_count}
+use Rattle.tree_core.proofs.CutsBelow.{few-leaves}
+use Rattle.tree_core.proofs.Sizes.{leaf_count-cuts, node_count-cuts, length-leaves_at}
+use Rattle.tree_text.specs.Writing.{HasVertices, tree_text}
+use Rattle.graph_text.specs.EitherVersion.{NamedGraph}
+use Rattle.report_text.specs.Derivations.{derivation_text}
+use Rattle.report_text.specs.Tallies.{AreLeafKinds}
+use Rattle.report_text.specs.declared.tallies.LeafKind.{LeafKind}
+use Rattle.bench_top.specs.Outcome.{TellsDerivation, with_given_names}
+use Rattle.bench_top.specs.declared.status.Status.TheVariants.{Done}
+
+-- a shore that stands is not empty
+pub has-vertices : (n : ℕ) (p : List (List ℕ)) (t : Shape) → StandsAt n p t → HasVertices t
+has-vertices n p leaf stands = tt
+has-vertices n p (cut x k m) stands = (stands.1, has-vertices n (kept_at n p x) k stands.3, has-vertices n (merged_at n p x) m stands.4)
+
+-- a cut has at least three blocks on either side
+few-without_cut : (g : Graph) (t : Shape) → g.order < 4 → IsDerivationAt g (singles g.order) t → node_count t ≤ 127
+few-without_cut g leaf small is = omega arith
+few-without_cut g (cut x k m) small is =
+    let inside = is.0.nontrivial.inside in
+    let outside = is.0.nontrivial.outside in
+    let all = count_complement (length (singles g.order)) (blocks_in (singles g.order) (mem x)) in
+    let so_many = length-singles g.order in
+    absurd (omega arith)
+
+pub few-nodes : (g : Graph) (t : Shape) → IsGraph g → g.order ≤ 128 → IsDerivation g t → node_count t ≤ 127
+few-nodes g t is few derived = elim (cases_lt g.order 4) [
+  | inl small ↦ few-without_cut g t small derived.derives
+  | inr four ↦ let leaves = few-leaves g t is derived four in let cuts = leaf_count-cuts t in let nodes = node_count-cuts t in omega arith
+]
+
+-- and so there are few leaves
+pub few-leaves_listed : (n : ℕ) (t : Shape) → node_count t ≤ 127 → length (partitions_of n (leaves n t)) ≤ 127
+few-leaves_listed n t few =
+    let listed = length-leaves_at n (singles n) t in let cuts = leaf_count-cuts t in let nodes = node_count-cuts t in
+    let same = length-partitions n (leaves n t) in omega arith
+  where
+    length-partitions : (n : ℕ) (ps : List (List (List ℕ))) → length (partitions_of n ps) ≡ length ps
+    length-partitions n [] = refl
+    length-partitions n (p ∷ ps) = ap suc (length-partitions n ps)
+
+-- each is a partition of 1 to n
+pub orders-of_leaves : (n : ℕ) (ps : List (List (List ℕ))) → All (λ (p : PartitionValue). p.order ≡ n) (partitions_of n ps)
+orders-of_leaves n [] k d l = absurd (omega arith)
+orders-of_leaves n (p ∷ ps) zero d l = refl
+orders-of_leaves n (p ∷ ps) (suc k) d l = orders-of_leaves n ps k d (omega arith)
+
+-- and has the blocks of the leaf
+pub blocks-of_leaves : (n : ℕ) (ps : List (List (List ℕ))) → map (λ (p : PartitionValue). p.blocks) (partitions_of n ps) ≡ ps
+blocks-of_leaves n [] = refl
+blocks-of_leaves n (p ∷ ps) = ap (λ (qs : List (List (List ℕ))). p ∷ qs) (blocks-of_leaves n ps)
+
+-- the text with the leaves and the names tells the derivation
+pub told : (named : NamedGraph) (t : Shape) (n : ℕ) (found : List PartitionValue) (text shown report bytes : List ℕ) (kinds : List LeafKind) →
+    IsDerivation named.graph t → n ≡ named.graph.order → found ≡ partitions_of n (leaves n t) → text ≡ tree_text n t → shown ≡ text →
+    AreLeafKinds named.graph (map (λ (p : PartitionValue). p.blocks) found) kinds → report ≡ derivation_text shown named.graph (map (λ (p : PartitionValue). p.blocks) found) kinds →
+    bytes ≡ with_given_names report named.names true → TellsDerivation named t Done bytes
+told named t n found text shown report bytes kinds derived n_is found_are text_is shown_is right report_is bytes_are = record {
+  derivation = derived;
+  kinds = kinds;
+  right = subst (λ (ps : List (List (List ℕ))). AreLeafKinds named.graph ps kinds) blocks_are right;
+  done = refl;
+  text = bytes_are ∙ ap (λ (r : List ℕ). with_given_names r named.names true) (report_is
+      ∙ ap (λ (x : List ℕ). derivation_text x named.graph (map (λ (p : PartitionValue). p.blocks) found) kinds) (shown_is ∙ text_is ∙ ap (λ (k : ℕ). tree_text k t) n_is)
+      ∙ ap (λ (ps : List (List (List ℕ))). derivation_text (tree_text named.graph.order t) named.graph ps kinds) blocks_are);
+}
+  where
+    blocks_are : map (λ (p : PartitionValue). p.blocks) found ≡ leaves named.graph.order t
+    blocks_are = ap (map (λ (p : PartitionValue). p.blocks)) found_are ∙ blocks-of_leaves n (leaves n t) ∙ ap (λ (k : ℕ). leaves k t) n_is

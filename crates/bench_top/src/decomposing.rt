@@ -1,0 +1,126 @@
+//! The decomposition of a graph by tight cuts, as `decompose` tells it.
+ghost use Rattle.std.specs.Prelude.{◌≡◌, ◌<◌, ◌≤◌, IfOk, length};
+ghost use Rattle.graph_core.specs.Covered.{IsCovered, IsReason};
+ghost use Rattle.graph_core.specs.Verdicts.{reason_of};
+ghost use Rattle.graph_text.specs.SoFar.{named_graph};
+ghost use Rattle.tree_core.specs.Derivations.{IsDerivation};
+ghost use Rattle.tree_core.specs.View.{shape_of};
+ghost use Rattle.decomposer.specs.Choices.{FnPicks, PicksInRange};
+ghost use Rattle.decomposer.specs.Picked.{IsPicked};
+ghost use Rattle.bench_top.specs.Orders.{NamedPicks, ScriptPicks, scripted_place};
+ghost use Rattle.bench_top.specs.Outcome.{DecomposeGives, TellsDerivation, Uncovered};
+
+use crate::naming::with_given_names;
+use crate::order::NamedOrder;
+use crate::report::Report;
+use crate::status::Status;
+use decomposer::{Order, Refused, balanced_place, decompose, first_place, last_place};
+use graph_core::{MultiGraph, Numbers, Reason, Verdict};
+use graph_text::Named;
+use report_text::{derivation, verdict_line};
+use std::alloc::{AllocError as Memory, Global};
+use tight_cuts::Candidate;
+use tree_core::{Tree, leaves};
+use tree_text::write_tree;
+
+// The text of a derivation, and then its leaves and the names as comments.
+fn derivation_report(alloc: Global, named: &Named, tree: &Tree) -> Result<Report, Memory>
+    requires { IsDerivation named.now.graph (shape_of tree.now) }
+    ensures { IfOk result (λ report. TellsDerivation (named_graph named.now) (shape_of tree.now) report.status report.bytes.items) }
+{
+    let g = &named.graph;
+    g.keeps_limits();
+    let n = g.order();
+    let text = write_tree(alloc, tree, n)?;
+    let found = leaves(alloc, tree, n)?;
+    let report = derivation(alloc, &text, g, &found)?;
+    Ok(Report {
+        status: Status::Done,
+        bytes: with_given_names(alloc, report, &named.names, true)?,
+    })
+}
+
+// The line of the reason why a graph is not covered.
+fn uncovered_report(alloc: Global, g: &MultiGraph, reason: Reason) -> Result<Report, Memory>
+    requires first { IsReason g.now (reason_of reason) }
+    requires uncovered { ¬ IsCovered g.now }
+    ensures { IfOk result (λ report. Uncovered g.now report.status report.bytes.items) }
+{
+    Ok(Report {
+        status: Status::Negative,
+        bytes: verdict_line(alloc, &Verdict::NotCovered(reason))?,
+    })
+}
+
+// The report of a decomposition in any order.
+fn decomposed_in<F: Fn(&[Candidate], usize) -> usize>(
+    alloc: Global,
+    named: &Named,
+    order: &Order<F>,
+) -> Result<Report, Memory>
+    requires { PicksInRange F.Fn order.now.f }
+    ensures { IfOk result (λ report. DecomposeGives (FnPicks F.Fn order.now.f) (named_graph named.now) report.status report.bytes.items) }
+{
+    match decompose(alloc, &named.graph, order) {
+        Ok(tree) => derivation_report(alloc, named, &tree),
+        Err(Refused::NotCovered(reason)) => uncovered_report(alloc, &named.graph, reason),
+        Err(Refused::Memory) => Err(Memory),
+    }
+}
+
+// The report of a decomposition in which the first candidate is picked.
+fn decomposed_first(alloc: Global, named: &Named) -> Result<Report, Memory>
+    ensures { IfOk result (λ report. DecomposeGives (NamedPicks NamedOrder.First) (named_graph named.now) report.status report.bytes.items) }
+{
+    let order = Order::new(|list: &[Candidate], cuts: usize| first_place(list, cuts));
+    let report = decomposed_in(alloc, named, &order)?;
+    Ok(report)
+}
+
+// The same with the last candidate.
+fn decomposed_last(alloc: Global, named: &Named) -> Result<Report, Memory>
+    ensures { IfOk result (λ report. DecomposeGives (NamedPicks NamedOrder.Last) (named_graph named.now) report.status report.bytes.items) }
+{
+    let order = Order::new(|list: &[Candidate], cuts: usize| last_place(list, cuts));
+    let report = decomposed_in(alloc, named, &order)?;
+    Ok(report)
+}
+
+// The same with the first candidate whose sides differ least in size.
+fn decomposed_balanced(alloc: Global, named: &Named) -> Result<Report, Memory>
+    ensures { IfOk result (λ report. DecomposeGives (NamedPicks NamedOrder.Balanced) (named_graph named.now) report.status report.bytes.items) }
+{
+    let order = Order::new(|list: &[Candidate], cuts: usize| balanced_place(list, cuts));
+    let report = decomposed_in(alloc, named, &order)?;
+    Ok(report)
+}
+
+/// The report of a decomposition in a named order.
+pub fn decomposed(alloc: Global, named: &Named, order: NamedOrder) -> Result<Report, Memory>
+    ensures { IfOk result (λ report. DecomposeGives (NamedPicks order) (named_graph named.now) report.status report.bytes.items) }
+{
+    match order {
+        NamedOrder::First => decomposed_first(alloc, named),
+        NamedOrder::Last => decomposed_last(alloc, named),
+        NamedOrder::Balanced => decomposed_balanced(alloc, named),
+    }
+}
+
+// The place that a list of picks has for the node behind so many cuts.
+fn scripted_place(picks: &[u32], list: &[Candidate], cuts: usize) -> usize
+    requires { 0 < length list.now }
+    ensures { result ≡ scripted_place picks.now cuts (length list.now) }
+{
+    let pick = picks.get(cuts).copied().unwrap_or(0);
+    pick as usize % list.len()
+}
+
+/// The report of a decomposition in the order of a list of picks.
+pub fn decomposed_by(alloc: Global, named: &Named, picks: &Numbers) -> Result<Report, Memory>
+    ensures { IfOk result (λ report. DecomposeGives (ScriptPicks picks.now) (named_graph named.now) report.status report.bytes.items) }
+{
+    let picks = picks.as_slice();
+    let order = Order::new(|list: &[Candidate], cuts: usize| scripted_place(picks, list, cuts));
+    let report = decomposed_in(alloc, named, &order)?;
+    Ok(report)
+}
