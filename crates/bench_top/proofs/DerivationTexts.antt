@@ -1,6 +1,6 @@
 -- A derivation of a graph within the limits may be written: no shore is empty, and there are at most 127 nodes, since there are few
 -- leaves where the graph has at least four vertices, and no cut where it has fewer. Its leaves are partitions of the graph's vertices.
-use Rattle.std.proofs.Common.{◌≡◌, ℕ, ◌+◌, ◌*◌, ◌≤◌, ◌<◌, List, [], ◌∷◌, length, map, All, ap, sym, subst, true, refl, ◌∙◌, arith, zero, suc, inl, inr}
+use Rattle.std.proofs.Common.{◌≡◌, ℕ, ◌≤◌, ◌<◌, List, [], ◌∷◌, length, map, All, ap, subst, true, refl, ◌∙◌, arith, zero, suc, inl, inr}
 use Rattle.std.proofs.lemmas.Bool.{cases_lt}
 use Rattle.counting.specs.Lists.{mem}
 use Rattle.counting.proofs.Counts.{count_complement}
@@ -11,7 +11,7 @@ use Rattle.graph_core.proofs.Singles.{length-singles}
 use Rattle.contraction.specs.Partition.{PartitionValue}
 use Rattle.tree_core.specs.Derivations.{IsDerivation, IsDerivationAt, kept_at, merged_at}
 use Rattle.tree_core.specs.Leaves.{StandsAt, leaves, partitions_of}
-use Rattle.tree_core.specs.Shapes.{Shape, leaf, cut, cut_count, leaf_count, node_count}
+use Rattle.tree_core.specs.Shapes.{Shape, leaf, cut, node_count}
 use Rattle.tree_core.proofs.CutsBelow.{few-leaves}
 use Rattle.tree_core.proofs.Sizes.{leaf_count-cuts, node_count-cuts, length-leaves_at}
 use Rattle.tree_text.specs.Writing.{HasVertices, tree_text}

@@ -7,7 +7,7 @@ use Rattle.tight_cuts.specs.Candidates.{Candidate}
 use Rattle.tight_cuts.specs.CandidatesAt.{candidates_at}
 use Rattle.tree_core.specs.Derivations.{kept_at, merged_at}
 use Rattle.tree_core.specs.Shapes.{Shape, leaf, cut, cut_count}
-use Rattle.decomposer.specs.Picked.{IsPicked, IsPickedAt, PicksShore}
+use Rattle.decomposer.specs.Picked.{IsPickedAt, PicksShore}
 use Rattle.bench_top.specs.Outcome.{DecomposeGives, Decomposed, Uncovered}
 use Rattle.bench_top.specs.declared.status.Status.{Status}
 

@@ -1,4 +1,4 @@
-use Rattle.std.proofs.Common.{ℕ, List, All, ◌≡◌, ap, sym, subst, arith, length}
+use Rattle.std.proofs.Common.{ℕ, All, ◌≡◌, ap, sym, subst, arith, length}
 use Rattle.contraction.specs.Partition.{PartitionValue}
 use Rattle.graph_text.specs.SoFar.{named_graph}
 use Rattle.tree_core.specs.Leaves.{StandsAt, leaves, partitions_of}
