@@ -5,3 +5,4 @@ pub mod Tallies
 pub mod Derivations
 pub mod Judgements
 pub mod Comparisons
+pub mod EarReports

@@ -1,7 +1,7 @@
 //! Lines behind a report, the leaves of a decomposition, judgements, and comparisons.
 use crate::{
     EarLine, MapLine, MapLines, Shown, Tally, TreeLine, count_leaves, derivation, ear_judgement,
-    graph6_line, judgement, pairing, with_names,
+    ears_report, graph6_line, judgement, pairing, with_names,
 };
 use contraction::Partition;
 use graph_core::{MultiGraph, Numbers};
@@ -135,6 +135,17 @@ fn judgements_of_ear_lists(rt: HostRuntime) -> Result<(), Fail> {
             text.as_bytes()
         );
     }
+    Ok(())
+}
+
+#[test]
+fn steps_behind_an_ear_list(rt: HostRuntime) -> Result<(), Fail> {
+    let text = "r mcg 4 6\nstart 1\near 2 4 6 3\near 1 2\nwith 2 5\n";
+    let report = ears_report(rt.alloc(), text.as_bytes(), 2, 1, 1)?;
+    assert_eq!(rt;
+        report.as_slice(),
+        b"r mcg 4 6\nstart 1\near 2 4 6 3\near 1 2\nwith 2 5\nc steps 2 single 1 double 1\n".as_slice()
+    );
     Ok(())
 }
 
