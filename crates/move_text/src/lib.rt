@@ -16,7 +16,7 @@ mod move_words;
 mod writing;
 
 pub use move_format::read_moves;
-pub use writing::write_moves;
+pub use writing::{push_move, write_moves};
 
 #[cfg(test)]
 mod tests;

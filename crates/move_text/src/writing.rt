@@ -59,8 +59,9 @@ fn push_set(text: &mut String, set: VSet) -> Result<(), Memory>
     Ok(())
 }
 
-// The line of a move.
-fn push_move(text: &mut String, item: &Move) -> Result<(), Memory>
+/// Appends the line that a text of moves has for a move: `rotate PATH`, or `switch PATH U V` where the sets are those of the move,
+/// whatever they are.
+pub fn push_move(text: &mut String, item: &Move) -> Result<(), Memory>
     ensures text { OnOk result (string_bytes text.new ≡ string_bytes text.old ++ written (move_words (move_of item.now) ∷ [])) }
     ensures rising { SetsRise (move_of item.now) }
 {

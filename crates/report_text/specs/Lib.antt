@@ -4,3 +4,5 @@ pub mod Analyses
 pub mod Tallies
 pub mod Derivations
 pub mod Judgements
+pub mod Comparisons
+pub mod EarReports

@@ -2,18 +2,20 @@
 //!
 //! Each call writes the lines of one report from plain values and promises that the bytes are a stated function of them
 //! (`analysis_text` with `structure_text` for a covered graph, `derivation_text`, `judgement_text`, `ear_judgement_text`,
-//! `bad_input_text`, in specs/). `with_names` and `graph6_line` put further lines behind a report. What the values mean is said
-//! where they are computed: this crate knows no theory. It reads one thing itself: whether the quotient at a leaf is bipartite,
-//! which makes the leaf a brace or a brick (`IsTally`). Words of a line stand with one space between them, a list of numbers has
+//! `ears_report_text`, `pairing_text`, `bad_input_text`, in specs/). `with_names` and `graph6_line` put further lines behind a report.
+//! What the values mean is said where they are computed: this crate knows no theory. It reads one thing itself: whether the quotient at
+//! a leaf is bipartite, which makes the leaf a brace or a brick (`IsTally`). Words of a line stand with one space between them, a list of numbers has
 //! one space before each, and each line ends with one line feed.
 //!
-//! Stands on the types of `graph_core`, on `graph_text` for the names of vertices, and on `contraction` and `tree_core` for the
-//! leaves of a decomposition.
+//! Stands on the types of `graph_core`, on `graph_text` for the names of vertices, on `contraction` and `tree_core` for the leaves of
+//! a decomposition and for moves, and on `move_text` for the words of a move.
 #![tactic(auto)]
 
 mod analyses;
+mod comparisons;
 mod derivations;
 mod ear_judgements;
+mod ear_reports;
 mod faults;
 mod graph6;
 mod judgements;
@@ -24,8 +26,10 @@ mod tallies;
 mod verdicts;
 
 pub use analyses::{AnalysisLines, analysis};
+pub use comparisons::{MapLine, MapLines, pairing};
 pub use derivations::derivation;
 pub use ear_judgements::{EarLine, ear_judgement};
+pub use ear_reports::ears_report;
 pub use faults::bad_input;
 pub use graph6::graph6_line;
 pub use judgements::{Shown, TreeLine, judgement};

@@ -1,13 +1,14 @@
-//! Lines behind a report, the leaves of a decomposition, and judgements.
+//! Lines behind a report, the leaves of a decomposition, judgements, and comparisons.
 use crate::{
-    EarLine, Shown, Tally, TreeLine, count_leaves, derivation, ear_judgement, graph6_line,
-    judgement, with_names,
+    EarLine, MapLine, MapLines, Shown, Tally, TreeLine, count_leaves, derivation, ear_judgement,
+    ears_report, graph6_line, judgement, pairing, with_names,
 };
 use contraction::Partition;
 use graph_core::{MultiGraph, Numbers};
 use graph_text::plain_names;
+use std::alloc::Global;
 use std::test::Fail;
-use tree_core::Partitions;
+use tree_core::{Move, Moves, Partitions, Path, Side};
 use vset_core::VSet;
 
 #[test]
@@ -134,5 +135,59 @@ fn judgements_of_ear_lists(rt: HostRuntime) -> Result<(), Fail> {
             text.as_bytes()
         );
     }
+    Ok(())
+}
+
+#[test]
+fn steps_behind_an_ear_list(rt: HostRuntime) -> Result<(), Fail> {
+    let text = "r mcg 4 6\nstart 1\near 2 4 6 3\near 1 2\nwith 2 5\n";
+    let report = ears_report(rt.alloc(), text.as_bytes(), 2, 1, 1)?;
+    assert_eq!(rt;
+        report.as_slice(),
+        b"r mcg 4 6\nstart 1\near 2 4 6 3\near 1 2\nwith 2 5\nc steps 2 single 1 double 1\n".as_slice()
+    );
+    Ok(())
+}
+
+fn numbers(alloc: Global, items: &[u32]) -> Result<Numbers, Fail> {
+    let mut numbers = Numbers::new(alloc);
+    for item in items {
+        numbers.push(*item)?;
+    }
+    Ok(numbers)
+}
+
+#[test]
+fn comparison_of_leaves(rt: HostRuntime) -> Result<(), Fail> {
+    let alloc = rt.alloc();
+    let mut moves = Moves::new(alloc);
+    moves.push(Move::Switch {
+        path: Path::new(alloc),
+        u: VSet::one(1),
+        v: VSet::one(4).with(5),
+    })?;
+    let mut path = Path::new(alloc);
+    path.push(Side::Merged)?;
+    path.push(Side::Kept)?;
+    moves.push(Move::Rotate { path })?;
+    let mut maps = MapLines::new(alloc);
+    maps.push(MapLine {
+        leaf: 1,
+        partner: 2,
+        names: numbers(alloc, &[1, 2, 6])?,
+        images: numbers(alloc, &[6, 2, 4])?,
+    })?;
+    maps.push(MapLine {
+        leaf: 2,
+        partner: 1,
+        names: numbers(alloc, &[3])?,
+        images: numbers(alloc, &[5])?,
+    })?;
+    let report = pairing(alloc, &moves, &maps)?;
+    assert_eq!(rt;
+        report.as_slice(),
+        b"same leaves 2 moves 2\nmove switch . 1 4,5\nmove rotate mk\nleaf 1 with 2\nmap 1 to 6\nmap 2 to 2\nmap 6 to 4\nleaf 2 with 1\nmap 3 to 5\n".as_slice()
+    );
+    assert!(rt; !maps.is_empty());
     Ok(())
 }
