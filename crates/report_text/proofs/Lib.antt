@@ -1,1 +1,2 @@
 pub mod WrittenLines
+mod BlockNames

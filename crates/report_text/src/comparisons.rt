@@ -1,8 +1,11 @@
 //! The report of a comparison of two derivations.
 ghost use Rattle.std.specs.Prelude.{◌≡◌, ◌<◌, ◌++◌, ◌∷◌, [], ◌==◌, OnOk, OnErr, IfOk, Some, length, slice_get, string_bytes};
+ghost use Rattle.graph_core.specs.Partitions.{names_of};
 ghost use Rattle.tree_core.specs.MoveView.{move_of, moves_of};
 ghost use Rattle.report_text.specs.Comparisons.{image_line, image_lines, map_text, map_texts, move_line, move_lines, pairing_text, partner_line, same_line};
 
+use crate::derivations::name_of;
+use contraction::Partition;
 use graph_core::Numbers;
 use move_text::push_move;
 use std::alloc::{AllocError as Memory, Global};
@@ -76,6 +79,17 @@ impl MapLines {
         self.items.push(item)?;
         Ok(())
     }
+}
+
+/// The names of the blocks of a partition, in order: the greatest vertex of each.
+pub fn block_names(alloc: Global, p: &Partition) -> Result<Numbers, Memory>
+    ensures { IfOk result (λ names. names ≡ names_of p.now.blocks) }
+{
+    let mut names = Numbers::new(alloc);
+    for i in 0..p.len() {
+        names.push(name_of(p.block(i)))?;
+    }
+    Ok(names)
 }
 
 fn push_same(text: &mut String, leaves: usize, moves: usize) -> Result<(), Memory>

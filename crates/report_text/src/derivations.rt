@@ -42,8 +42,8 @@ fn push_blocks(text: &mut String, p: &Partition) -> Result<(), Memory>
     Ok(())
 }
 
-// The name of a block: its greatest vertex.
-fn name_of(block: VSet) -> u32
+/// The name of a block: its greatest vertex.
+pub fn name_of(block: VSet) -> u32
     ensures { result ≡ last_of block }
 {
     block.rises();

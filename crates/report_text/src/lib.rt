@@ -26,7 +26,7 @@ mod tallies;
 mod verdicts;
 
 pub use analyses::{AnalysisLines, analysis};
-pub use comparisons::{MapLine, MapLines, pairing};
+pub use comparisons::{MapLine, MapLines, block_names, pairing};
 pub use derivations::derivation;
 pub use ear_judgements::{EarLine, ear_judgement};
 pub use ear_reports::ears_report;
