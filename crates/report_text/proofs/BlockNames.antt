@@ -11,8 +11,8 @@ names-next p i n b now next is before name after =
     let one : i + 1 ≡ suc i = omega arith in
     after ∙ ap (λ (ns : List ℕ). ns ++ n ∷ []) before ∙ ap (λ (v : ℕ). names_of (take i p) ++ v ∷ []) name
     ∙ sym (
-        ap (λ (k : ℕ). names_of (take k p)) one
-        ∙ ap names_of (take-suc p i b (slice_get_within p i b is))
-        ∙ map-append last_of (take i p) (_ ∷ [])
-        ∙ ap (λ (c : List ℕ). names_of (take i p) ++ last_of c ∷ []) (get_or_from_slice_get p i b b is)
+    ap (λ (k : ℕ). names_of (take k p)) one
+    ∙ ap names_of (take-suc p i b (slice_get_within p i b is))
+    ∙ map-append last_of (take i p) (_ ∷ [])
+    ∙ ap (λ (c : List ℕ). names_of (take i p) ++ last_of c ∷ []) (get_or_from_slice_get p i b b is)
     )
