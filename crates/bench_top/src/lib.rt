@@ -9,8 +9,10 @@
 //! Stands on all crates below: the texts, the engine, the reports, and `outside` for the shelf and the sink.
 #![tactic(auto)]
 
+mod checking;
 mod command;
 mod decomposing;
+mod ear_checking;
 mod emit;
 mod formats;
 mod gather;
@@ -27,6 +29,7 @@ mod structures;
 mod tasks;
 #[cfg(test)]
 mod tests;
+mod uncovered;
 
 pub use running::run;
 pub use status::Status;
