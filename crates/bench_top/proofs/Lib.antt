@@ -5,3 +5,5 @@ pub mod Sizes
 pub mod Conversions
 pub mod PickedTrees
 pub mod DerivationTexts
+pub mod EarSteps
+pub mod GivenFacts

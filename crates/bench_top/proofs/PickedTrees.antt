@@ -8,7 +8,8 @@ use Rattle.tight_cuts.specs.CandidatesAt.{candidates_at}
 use Rattle.tree_core.specs.Derivations.{kept_at, merged_at}
 use Rattle.tree_core.specs.Shapes.{Shape, leaf, cut, cut_count}
 use Rattle.decomposer.specs.Picked.{IsPickedAt, PicksShore}
-use Rattle.bench_top.specs.Outcome.{DecomposeGives, Decomposed, Uncovered}
+use Rattle.bench_top.specs.Outcome.{DecomposeGives, Decomposed}
+use Rattle.bench_top.specs.Uncovered.{Uncovered}
 use Rattle.bench_top.specs.declared.status.Status.{Status}
 
 module _ (picks others : List Candidate → ℕ → ℕ → Type 0) (wider : (list : List Candidate) (k place : ℕ) → picks list k place → others list k place) where

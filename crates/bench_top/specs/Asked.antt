@@ -1,5 +1,5 @@
 -- How the code's command is seen.
-use Rattle.bench_top.specs.Commands.{Command, Analyse, Convert, Analyse6, Decompose, DecomposeBy}
+use Rattle.bench_top.specs.Commands.{Command, Analyse, Convert, Analyse6, Decompose, DecomposeBy, Check, CheckEars, Ears}
 use Rattle.bench_top.specs.declared.order.Command.TheVariants as code
 
 -- the command with the names' bytes
@@ -9,3 +9,6 @@ asked (code.Convert graph) = Convert graph.now
 asked (code.Analyse6 graph) = Analyse6 graph.now
 asked (code.Decompose graph order) = Decompose graph.now order
 asked (code.DecomposeBy graph picks) = DecomposeBy graph.now picks.now
+asked (code.Check graph tree) = Check graph.now tree.now
+asked (code.CheckEars graph ears) = CheckEars graph.now ears.now
+asked (code.Ears graph) = Ears graph.now

@@ -14,13 +14,17 @@ pub data Command : Type 0 where
   Analyse6 : (graph : List ℕ) → Command
   Decompose : (graph : List ℕ) (order : NamedOrder) → Command
   DecomposeBy : (graph picks : List ℕ) → Command
+  Check : (graph tree : List ℕ) → Command
+  CheckEars : (graph ears : List ℕ) → Command
+  Ears : (graph : List ℕ) → Command
 
 -- the command that a word and the name of a file ask for
 abbrev pub graph_command : List ℕ → List ℕ → Option Command
 graph_command word graph =
     if bytes_eq word (codes "analyse") then Some (Analyse graph) else
     if bytes_eq word (codes "convert") then Some (Convert graph) else
-    if bytes_eq word (codes "analyse6") then Some (Analyse6 graph) else None
+    if bytes_eq word (codes "analyse6") then Some (Analyse6 graph) else
+    if bytes_eq word (codes "ears") then Some (Ears graph) else None
 
 -- the order of choice that a word names, if it names one
 abbrev pub order_named : List ℕ → Option NamedOrder
@@ -33,6 +37,12 @@ order_named word =
 abbrev pub order_command : List ℕ → List ℕ → List ℕ → Option Command
 order_command word graph order = if bytes_eq word (codes "decompose") then option_map (Decompose graph) (order_named order) else None
 
+-- the command that a word, the name of a file, and a second name or the word of an order ask for
+abbrev pub pair_command : List ℕ → List ℕ → List ℕ → Option Command
+pair_command word graph second =
+    if bytes_eq word (codes "check") then Some (Check graph second) else
+    if bytes_eq word (codes "checkears") then Some (CheckEars graph second) else order_command word graph second
+
 -- the command that a word, the name of a file, the word `script` and the name of a further file ask for
 abbrev pub script_command : List ℕ → List ℕ → List ℕ → List ℕ → Option Command
 script_command word graph script picks =
@@ -43,6 +53,6 @@ abbrev pub command_of : List (List ℕ) → Option Command
 command_of [] = None
 command_of (word ∷ []) = None
 command_of (word ∷ first ∷ []) = graph_command word first
-command_of (word ∷ first ∷ second ∷ []) = order_command word first second
+command_of (word ∷ first ∷ second ∷ []) = pair_command word first second
 command_of (word ∷ first ∷ second ∷ third ∷ []) = script_command word first second third
 command_of (word ∷ first ∷ second ∷ third ∷ fourth ∷ words) = None

@@ -5,6 +5,9 @@ pub mod Orders
 pub mod Tasks
 pub mod Loading
 pub mod Facts
+pub mod Uncovered
+pub mod Checks
+pub mod EarChecks
 pub mod Outcome
 pub mod Loads
 pub mod Calm

@@ -7,13 +7,17 @@ use Rattle.std.specs.declared.result.Result.{Result}
 use Rattle.std.specs.declared.result.Result.TheVariants.{Ok, Err}
 use Rattle.outside.specs.Shelf.{Named, file_named}
 use Rattle.line_text.specs.Reading.{reading_of}
-use Rattle.graph_core.specs.Graph.{Graph}
+use Rattle.graph_core.specs.Graph.{Graph, size}
 use Rattle.graph_core.specs.Kinds.{kind_number}
 use Rattle.graph_core.specs.declared.faults.FaultKind.{FaultKind}
 use Rattle.graph_text.specs.EitherVersion.{NamedGraph, either_version}
 use Rattle.graph6_text.specs.Reading.{outcome_of}
+use Rattle.tree_core.specs.Shapes.{Shape}
 use Rattle.tree_text.specs.PickFormat.{pick_format}
-use Rattle.bench_top.specs.Commands.{Command, Analyse, Convert, Analyse6, Decompose, DecomposeBy}
+use Rattle.tree_text.specs.TreeFormat.{tree_format}
+use Rattle.ear_core.specs.EarLists.{PlainEars}
+use Rattle.ear_text.specs.EarFormat.{ear_format}
+use Rattle.bench_top.specs.Commands.{Command, Analyse, Convert, Analyse6, Decompose, DecomposeBy, Check, CheckEars, Ears}
 use Rattle.bench_top.specs.Tasks.{Task}
 use Rattle.bench_top.specs.Tasks as task
 
@@ -61,6 +65,14 @@ graph6_file files name = file_read 1 outcome_of (file_named name files)
 abbrev pub pick_file : List Named → List ℕ → Loaded (List ℕ)
 pick_file files name = file_read 2 (reading_of pick_format) (file_named name files)
 
+-- the tree of the file of that name, which has this place among the named files, for a graph of that order
+abbrev pub tree_file : List Named → (place : ℕ) → List ℕ → (order : ℕ) → Loaded Shape
+tree_file files place name order = file_read place (reading_of (tree_format order)) (file_named name files)
+
+-- the ear list of the file of that name, which is the second, for that graph
+abbrev pub ear_file : List Named → List ℕ → Graph → Loaded PlainEars
+ear_file files name g = file_read 2 (reading_of (ear_format g.order (size g))) (file_named name files)
+
 -- what the files of a command hold
 abbrev pub loaded : List Named → Command → Loaded Task
 loaded files (Analyse graph) = loaded_as task.Analyse (graph_file files graph)
@@ -68,3 +80,6 @@ loaded files (Convert graph) = loaded_as task.Convert (graph_file files graph)
 loaded files (Analyse6 graph) = loaded_as task.Analyse6 (graph6_file files graph)
 loaded files (Decompose graph order) = loaded_as (λ named. task.Decompose named order) (graph_file files graph)
 loaded files (DecomposeBy graph picks) = and_then (graph_file files graph) (λ named. loaded_as (task.DecomposeBy named) (pick_file files picks))
+loaded files (Check graph tree) = and_then (graph_file files graph) (λ named. loaded_as (task.Check named) (tree_file files 2 tree named.graph.order))
+loaded files (CheckEars graph ears) = and_then (graph_file files graph) (λ named. loaded_as (task.CheckEars named) (ear_file files ears named.graph))
+loaded files (Ears graph) = loaded_as task.Ears (graph_file files graph)

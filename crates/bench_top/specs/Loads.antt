@@ -4,6 +4,8 @@ use Rattle.std.specs.declared.result.Result.{Result}
 use Rattle.std.specs.declared.result.Result.TheVariants.{Ok, Err}
 use Rattle.graph_core.specs.Graph.{Graph}
 use Rattle.graph_text.specs.SoFar.{named_graph}
+use Rattle.tree_core.specs.View.{shape_of}
+use Rattle.ear_core.specs.View.{ears_of}
 use Rattle.bench_top.specs.Loading.{Loaded, All, Bad}
 use Rattle.bench_top.specs.Tasks.{Task}
 use Rattle.bench_top.specs.Tasks as task
@@ -27,6 +29,9 @@ task_of (code.Convert named) = task.Convert (named_graph named)
 task_of (code.Analyse6 simple) = task.Analyse6 (graph_in simple)
 task_of (code.Decompose named order) = task.Decompose (named_graph named) order
 task_of (code.DecomposeBy named picks) = task.DecomposeBy (named_graph named) picks
+task_of (code.Check given) = task.Check (named_graph given.named) (shape_of given.tree)
+task_of (code.CheckEars given) = task.CheckEars (named_graph given.named) (ears_of given.list)
+task_of (code.Ears named) = task.Ears (named_graph named)
 
 -- a stop names the first bad file; nothing is said of a failed read or of want of memory
 abbrev pub StopsAs : {A : Type 0} → Stop → Loaded A → Type 0

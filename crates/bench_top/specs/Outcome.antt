@@ -6,11 +6,7 @@ use Rattle.std.specs.declared.result.Result.{Result}
 use Rattle.std.specs.declared.result.Result.TheVariants.{Ok, Err}
 use Rattle.outside.specs.Shelf.{Named}
 use Rattle.outside.specs.Sink.{appended}
-use Rattle.graph_core.specs.Covered.{IsCovered, IsReason}
 use Rattle.graph_core.specs.Graph.{Graph}
-use Rattle.graph_core.specs.Verdicts.{reason_of}
-use Rattle.graph_core.specs.declared.verdict.Reason.{Reason}
-use Rattle.graph_core.specs.declared.verdict.Verdict.TheVariants.{NotCovered}
 use Rattle.line_text.specs.Format.{Stands}
 use Rattle.graph_text.specs.EitherVersion.{NamedGraph, either_version}
 use Rattle.graph_text.specs.Names.{plain_names}
@@ -24,12 +20,15 @@ use Rattle.tree_text.specs.Writing.{tree_text}
 use Rattle.decomposer.specs.Picked.{IsPicked}
 use Rattle.report_text.specs.Analyses.{analysis_text}
 use Rattle.report_text.specs.Derivations.{derivation_text}
-use Rattle.report_text.specs.Reports.{bad_input_text, with_names_text, graph6_line, verdict_text}
+use Rattle.report_text.specs.Reports.{bad_input_text, with_names_text, graph6_line}
 use Rattle.report_text.specs.Tallies.{AreLeafKinds}
 use Rattle.report_text.specs.declared.analyses.AnalysisLines.{AnalysisLines}
 use Rattle.report_text.specs.declared.tallies.LeafKind.{LeafKind}
-use Rattle.bench_top.specs.Commands.{Command, Analyse, Convert, Analyse6, Decompose, DecomposeBy, command_of}
+use Rattle.bench_top.specs.Commands.{Command, Analyse, Convert, Analyse6, Decompose, DecomposeBy, Check, CheckEars, Ears, command_of}
 use Rattle.bench_top.specs.Orders.{NamedPicks, ScriptPicks}
+use Rattle.bench_top.specs.Uncovered.{Uncovered}
+use Rattle.bench_top.specs.Checks.{CheckGives}
+use Rattle.bench_top.specs.EarChecks.{EarCheckGives, EarsGives}
 use Rattle.bench_top.specs.Tasks.{Task}
 use Rattle.bench_top.specs.Tasks as task
 use Rattle.bench_top.specs.Loading.{Loaded, All, Bad, Absent, loaded}
@@ -85,14 +84,6 @@ pub record Decomposed (picks : List Candidate → ℕ → ℕ → Type 0) (named
   pub picked : IsPicked picks named.graph tree
   pub told : TellsDerivation named tree status output
 
--- a graph that is not covered: the output is the line of the first reason
-pub record Uncovered (g : Graph) (status : Status) (output : List ℕ) : Type 0 where
-  pub reason : Reason
-  pub first : IsReason g (reason_of reason)
-  pub uncovered : ¬ IsCovered g
-  pub negative : status ≡ Negative
-  pub text : output ≡ verdict_text (NotCovered reason)
-
 -- what `decompose` gives by an order that picks so: of a covered graph a derivation, and of any other the reason
 abbrev pub DecomposeGives : (List Candidate → ℕ → ℕ → Type 0) → NamedGraph → Status → List ℕ → Type 0
 DecomposeGives picks named status output = Decomposed picks named status output ⊎ Uncovered named.graph status output
@@ -104,6 +95,9 @@ ResultOf (task.Convert named) status output = Converted named status output
 ResultOf (task.Analyse6 g) status output = Analysed6 g status output
 ResultOf (task.Decompose named order) status output = DecomposeGives (NamedPicks order) named status output
 ResultOf (task.DecomposeBy named picks) status output = DecomposeGives (ScriptPicks picks) named status output
+ResultOf (task.Check named tree) status output = CheckGives named.graph tree status output
+ResultOf (task.CheckEars named list) status output = EarCheckGives named.graph list status output
+ResultOf (task.Ears named) status output = EarsGives named.graph status output
 
 -- what a command gives for what its files hold
 abbrev pub LoadedGives : Loaded Task → Status → List ℕ → Type 0
@@ -151,6 +145,9 @@ MayRefuse (Some (Convert name)) = ⊥
 MayRefuse (Some (Analyse6 name)) = ⊥
 MayRefuse (Some (Decompose name order)) = Unit {0}
 MayRefuse (Some (DecomposeBy name picks)) = Unit {0}
+MayRefuse (Some (Check name tree)) = Unit {0}
+MayRefuse (Some (CheckEars name ears)) = Unit {0}
+MayRefuse (Some (Ears name)) = Unit {0}
 
 -- the same of what a command works on
 abbrev pub TaskMayRefuse : Task → Type 0
@@ -159,6 +156,9 @@ TaskMayRefuse (task.Convert named) = ⊥
 TaskMayRefuse (task.Analyse6 g) = ⊥
 TaskMayRefuse (task.Decompose named order) = Unit {0}
 TaskMayRefuse (task.DecomposeBy named picks) = Unit {0}
+TaskMayRefuse (task.Check named tree) = Unit {0}
+TaskMayRefuse (task.CheckEars named list) = Unit {0}
+TaskMayRefuse (task.Ears named) = Unit {0}
 
 -- the same of what was loaded, if it was
 abbrev pub GatheredMayRefuse : Result code.the_data Stop → Type 0

@@ -2,6 +2,8 @@
 use Rattle.std.specs.Prelude.{ℕ, List}
 use Rattle.graph_core.specs.Graph.{Graph}
 use Rattle.graph_text.specs.EitherVersion.{NamedGraph}
+use Rattle.tree_core.specs.Shapes.{Shape}
+use Rattle.ear_core.specs.EarLists.{PlainEars}
 use Rattle.bench_top.specs.declared.order.NamedOrder.{NamedOrder}
 
 pub data Task : Type 0 where
@@ -10,3 +12,6 @@ pub data Task : Type 0 where
   Analyse6 : (graph : Graph) → Task
   Decompose : (named : NamedGraph) (order : NamedOrder) → Task
   DecomposeBy : (named : NamedGraph) (picks : List ℕ) → Task
+  Check : (named : NamedGraph) (tree : Shape) → Task
+  CheckEars : (named : NamedGraph) (list : PlainEars) → Task
+  Ears : (named : NamedGraph) → Task

@@ -32,6 +32,17 @@ pub fn plan(words: &[String]) -> Option<Command<'_>>
         [command, graph] if command.as_str() == "analyse6" => Some(Command::Analyse6 {
             graph: graph.as_str(),
         }),
+        [command, graph] if command.as_str() == "ears" => Some(Command::Ears {
+            graph: graph.as_str(),
+        }),
+        [command, graph, tree] if command.as_str() == "check" => Some(Command::Check {
+            graph: graph.as_str(),
+            tree: tree.as_str(),
+        }),
+        [command, graph, ears] if command.as_str() == "checkears" => Some(Command::CheckEars {
+            graph: graph.as_str(),
+            ears: ears.as_str(),
+        }),
         [command, graph, order] if command.as_str() == "decompose" => {
             match order_named(order.as_str()) {
                 Some(order) => Some(Command::Decompose {

@@ -1,23 +1,22 @@
 //! The decomposition of a graph by tight cuts, as `decompose` tells it.
 ghost use Rattle.std.specs.Prelude.{◌≡◌, ◌<◌, ◌≤◌, IfOk, length};
-ghost use Rattle.graph_core.specs.Covered.{IsCovered, IsReason};
-ghost use Rattle.graph_core.specs.Verdicts.{reason_of};
 ghost use Rattle.graph_text.specs.SoFar.{named_graph};
 ghost use Rattle.tree_core.specs.Derivations.{IsDerivation};
 ghost use Rattle.tree_core.specs.View.{shape_of};
 ghost use Rattle.decomposer.specs.Choices.{FnPicks, PicksInRange};
 ghost use Rattle.decomposer.specs.Picked.{IsPicked};
 ghost use Rattle.bench_top.specs.Orders.{NamedPicks, ScriptPicks, scripted_place};
-ghost use Rattle.bench_top.specs.Outcome.{DecomposeGives, TellsDerivation, Uncovered};
+ghost use Rattle.bench_top.specs.Outcome.{DecomposeGives, TellsDerivation};
 
 use crate::naming::with_given_names;
 use crate::order::NamedOrder;
 use crate::report::Report;
 use crate::status::Status;
+use crate::uncovered::uncovered_report;
 use decomposer::{Order, Refused, balanced_place, decompose, first_place, last_place};
-use graph_core::{MultiGraph, Numbers, Reason, Verdict};
+use graph_core::Numbers;
 use graph_text::Named;
-use report_text::{derivation, verdict_line};
+use report_text::derivation;
 use std::alloc::{AllocError as Memory, Global};
 use tight_cuts::Candidate;
 use tree_core::{Tree, leaves};
@@ -37,18 +36,6 @@ fn derivation_report(alloc: Global, named: &Named, tree: &Tree) -> Result<Report
     Ok(Report {
         status: Status::Done,
         bytes: with_given_names(alloc, report, &named.names, true)?,
-    })
-}
-
-// The line of the reason why a graph is not covered.
-fn uncovered_report(alloc: Global, g: &MultiGraph, reason: Reason) -> Result<Report, Memory>
-    requires first { IsReason g.now (reason_of reason) }
-    requires uncovered { ¬ IsCovered g.now }
-    ensures { IfOk result (λ report. Uncovered g.now report.status report.bytes.items) }
-{
-    Ok(Report {
-        status: Status::Negative,
-        bytes: verdict_line(alloc, &Verdict::NotCovered(reason))?,
     })
 }
 

@@ -7,10 +7,10 @@ ghost use Rattle.bench_top.specs.Loading.{Loaded, Absent, file_read, loaded};
 ghost use Rattle.bench_top.specs.Loads.{LoadsAs, task_of};
 ghost use Rattle.bench_top.specs.Outcome.{MayRefuse, GatheredMayRefuse};
 
-use crate::formats::{FileFormat, Graph6File, GraphFile, PickFile};
+use crate::formats::{EarFile, FileFormat, Graph6File, GraphFile, PickFile, TreeFile};
 use crate::order::Command;
 use crate::stop::Stop;
-use crate::tasks::Task;
+use crate::tasks::{GivenEars, GivenTree, Task};
 use graph_core::TextFault;
 use outside::{Shelf, ShelfFault};
 use std::alloc::Global;
@@ -32,6 +32,7 @@ fn load<S: Shelf, F: FileFormat>(
     ensures failed { IsErrOf result Stop.ReadFault → Rose (S.faults shelf.old) (S.faults shelf.new) }
     ensures loads { (files : List Named) → S.files shelf.old ≡ Some files → LoadsAs F.meaning result (file_read place (F.reading format.now) (file_named name.now files)) }
     ensures absent { (files : List Named) → S.files shelf.old ≡ Some files → IsErrOf result Stop.ReadFault → IsTrue (S.steady shelf.old) → file_read place (F.reading format.now) (file_named name.now files) ≡ Absent }
+    ensures keeps { IfOk result (F.keeps format.now) }
 {
     let bytes = match shelf.read(alloc, name, MOST_BYTES) {
         Ok(bytes) => bytes,
@@ -83,5 +84,28 @@ pub fn gather<S: Shelf>(alloc: Global, command: Command<'_>, shelf: &mut S) -> R
             let picks = load(alloc, &PickFile, picks, 2, shelf)?;
             Ok(Task::DecomposeBy { named, picks })
         }
+        Command::Check { graph, tree } => {
+            let named = load(alloc, &GraphFile, graph, 1, shelf)?;
+            let format = TreeFile {
+                graph: &named.graph,
+            };
+            let tree = load(alloc, &format, tree, 2, shelf)?;
+            Ok(Task::Check {
+                given: GivenTree { named, tree },
+            })
+        }
+        Command::CheckEars { graph, ears } => {
+            let named = load(alloc, &GraphFile, graph, 1, shelf)?;
+            let format = EarFile {
+                graph: &named.graph,
+            };
+            let list = load(alloc, &format, ears, 2, shelf)?;
+            Ok(Task::CheckEars {
+                given: GivenEars { named, list },
+            })
+        }
+        Command::Ears { graph } => Ok(Task::Ears {
+            named: load(alloc, &GraphFile, graph, 1, shelf)?,
+        }),
     }
 }

@@ -6,7 +6,9 @@ ghost use Rattle.bench_top.specs.Loads.{graph_in, task_of};
 ghost use Rattle.bench_top.specs.Facts.{HasMaximum, IsAnalysis};
 ghost use Rattle.bench_top.specs.Outcome.{Analysed, Converted, Analysed6, ResultOf, IsReported, TaskMayRefuse};
 
+use crate::checking::checked;
 use crate::decomposing::{decomposed, decomposed_by};
+use crate::ear_checking::{ears_built, ears_checked};
 use crate::naming::{given_or_plain, with_given_names};
 use crate::report::Report;
 use crate::status::Status;
@@ -120,5 +122,8 @@ pub fn judge(alloc: Global, task: Task) -> Result<Report, Memory>
         Task::Analyse6 { simple } => analysed6(alloc, simple),
         Task::Decompose { named, order } => decomposed(alloc, &named, order),
         Task::DecomposeBy { named, picks } => decomposed_by(alloc, &named, &picks),
+        Task::Check { given } => checked(alloc, &given.named.graph, &given.tree),
+        Task::CheckEars { given } => ears_checked(alloc, &given.named.graph, &given.list),
+        Task::Ears { named } => ears_built(alloc, &named.graph),
     }
 }

@@ -9,10 +9,12 @@
 //! Stands on all crates below: the texts, the engine, the reports, and `outside` for the shelf and the sink.
 #![tactic(auto)]
 
+mod checking;
 mod command;
 mod decomposing;
 #[cfg(test)]
 mod decomposition_tests;
+mod ear_checking;
 mod emit;
 mod formats;
 mod gather;
@@ -29,6 +31,7 @@ mod structures;
 mod tasks;
 #[cfg(test)]
 mod tests;
+mod uncovered;
 
 pub use running::run;
 pub use status::Status;

@@ -22,4 +22,10 @@ pub enum Command<'a> {
     Decompose { graph: &'a str, order: NamedOrder },
     /// A decomposition of the graph of a file, in the order of a pick file.
     DecomposeBy { graph: &'a str, picks: &'a str },
+    /// Whether the tree of a file is a derivation of the graph of a file.
+    Check { graph: &'a str, tree: &'a str },
+    /// Whether the list of a file is an ear list of the graph of a file.
+    CheckEars { graph: &'a str, ears: &'a str },
+    /// An ear list of the graph of a file.
+    Ears { graph: &'a str },
 }

@@ -1,15 +1,38 @@
 //! What a command works on.
+ghost use Rattle.graph_core.specs.Graph.{size};
 ghost use Rattle.graph_core.specs.Simple.{IsSimple};
+ghost use Rattle.tree_core.specs.Shapes.{Fits};
+ghost use Rattle.tree_core.specs.View.{shape_of};
+ghost use Rattle.ear_core.specs.EarLists.{FitsEars};
+ghost use Rattle.ear_core.specs.View.{ears_of};
 
 use crate::order::NamedOrder;
+use ear_core::EarList;
 use graph_core::{MultiGraph, Numbers};
 use graph_text::Named;
+use tree_core::Tree;
 
 /// A simple graph.
 #[derive(Drop)]
 pub struct SimpleGraph {
     pub graph: MultiGraph,
     ghost simple: { IsSimple graph },
+}
+
+/// A graph, and a tree whose shores lie below its order.
+#[derive(Drop)]
+pub struct GivenTree {
+    pub named: Named,
+    pub tree: Tree,
+    ghost fits: { ∥ Fits named.graph.order (shape_of tree) ∥₁ },
+}
+
+/// A graph, and a list of ears with the numbers of vertices and edges of it.
+#[derive(Drop)]
+pub struct GivenEars {
+    pub named: Named,
+    pub list: EarList,
+    ghost fits: { ∥ FitsEars named.graph.order (size named.graph) (ears_of list) ∥₁ },
 }
 
 /// A command with what its files hold in place of their names.
@@ -25,4 +48,10 @@ pub enum Task {
     Decompose { named: Named, order: NamedOrder },
     /// A decomposition of a graph, in the order of a list of picks.
     DecomposeBy { named: Named, picks: Numbers },
+    /// Whether a tree is a derivation of a graph.
+    Check { given: GivenTree },
+    /// Whether a list is an ear list of a graph.
+    CheckEars { given: GivenEars },
+    /// An ear list of a graph.
+    Ears { named: Named },
 }
