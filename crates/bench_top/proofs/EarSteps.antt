@@ -1,6 +1,6 @@
 -- An ear list of a graph has few steps, since each adds an edge to the stage before it. Its numbers are those of vertices and edges of the
 -- graph, and no ear is empty, so that it may be written.
-use Rattle.std.proofs.Common.{◌≡◌, ℕ, ◌+◌, ◌≤◌, ◌<◌, List, [], ◌∷◌, length, true, false, arith, sym}
+use Rattle.std.proofs.Common.{◌≡◌, ℕ, ◌+◌, ◌≤◌, ◌<◌, List, [], ◌∷◌, length, true, arith, sym}
 use Rattle.std.proofs.lemmas.Bool.{true≢false}
 use Rattle.std.specs.List.{AllByRecursion}
 use Rattle.counting.specs.Counts.{count, is_odd}

@@ -9,6 +9,8 @@
 //! Stands on all crates below: the texts, the engine, the reports, and `outside` for the shelf and the sink.
 #![tactic(auto)]
 
+#[cfg(test)]
+mod check_tests;
 mod checking;
 mod command;
 mod decomposing;

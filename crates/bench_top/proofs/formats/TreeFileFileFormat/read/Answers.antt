@@ -1,4 +1,4 @@
-use Rattle.std.proofs.Common.{ℕ, IfOk, subst}
+use Rattle.std.proofs.Common.{ℕ, subst}
 use Rattle.text_faults.specs.Readings.{ReadsText}
 use Rattle.line_text.specs.Reading.{reading_of}
 use Rattle.tree_core.specs.View.{shape_of}
