@@ -7,10 +7,9 @@ use Rattle.counting.specs.Counts.{count, is_odd}
 use Rattle.counting.specs.Sets.{Set, singleton}
 use Rattle.counting.proofs.Counts.{count_le}
 use Rattle.graph_core.specs.Graph.{Graph, IsGraph, size}
-use Rattle.ear_core.specs.EarLists.{PlainEars, PlainStep, one, two, next_stage, AreSteps, IsStep, IsEarList, FitsEars, FitsStep}
+use Rattle.ear_core.specs.EarLists.{PlainEars, PlainStep, one, two, next_stage, AreSteps, IsStep, IsEarList, FitsEars, FitsStep, HasEdges}
 use Rattle.ear_core.proofs.FirstStage.{step-adds}
 use Rattle.ear_core.proofs.Stepping.{step-fits}
-use Rattle.ear_text.specs.Writing.{HasEdges}
 
 -- the edges of the first stage and the steps are no more than the edges of the graph
 few-from : (g : Graph) (f : Set) (steps : List PlainStep) → AreSteps g f steps → count (size g) f + length steps ≤ size g
