@@ -1,4 +1,4 @@
-//! Generated graphs and the leaves of their decomposition: the quick tests beside the complete finder.
+//! Generated graphs and the leaves of their decomposition: the quick tests beside the complete finder, and their ear lists.
 ghost use Rattle.std.specs.Prelude.{◌≡◌, ◌↔◌, IsTrue, IfOk};
 ghost use Rattle.graph_core.specs.Covered.{IsCovered};
 ghost use Rattle.graph_core.specs.Graph.{IsBipartite};
@@ -6,6 +6,7 @@ ghost use Rattle.graph_core.specs.Graph.{IsBipartite};
 use allowed_edges::{covered, together};
 use contraction::{Partition, quotient};
 use decomposer::{Order, Refused, decompose};
+use ear_core::{EarJudgement, build_ears, check_ears};
 use graph_core::{MultiGraph, Reason, Sides, Verdict};
 use grow_gen::grow;
 use quick_kinds::{quick_brace, quick_brick};
@@ -94,6 +95,26 @@ fn quick_tests_agree_with_the_finder(rt: HostRuntime) -> Result<(), Memory> {
         agree = agree && number_agrees(rt.alloc(), number)?;
     }
     assert!(rt; agree);
+    Ok(())
+}
+
+// Whether the ear list that is built of a grown graph is accepted.
+fn ears_are_accepted(alloc: Global, number: u64) -> Result<bool, Memory> {
+    let g = grow(alloc, number, 6)?;
+    let list = build_ears(alloc, &g)?;
+    match check_ears(alloc, &g, &list)? {
+        EarJudgement::Accepted => Ok(true),
+        EarJudgement::Refused { .. } => Ok(false),
+    }
+}
+
+#[test]
+fn ear_lists_of_grown_graphs_are_accepted(rt: HostRuntime) -> Result<(), Memory> {
+    let mut accepted = true;
+    for number in 1..11u64 {
+        accepted = accepted && ears_are_accepted(rt.alloc(), number)?;
+    }
+    assert!(rt; accepted);
     Ok(())
 }
 

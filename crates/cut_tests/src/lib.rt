@@ -10,7 +10,7 @@
 //! out by hand.
 //!
 //! `grown`: on generated graphs and on the leaves of their decomposition the quick tests of `quick_kinds` agree with the complete
-//! finder, and the table of pairs of a large graph ends.
+//! finder, the ear lists that are built are accepted, and the table of pairs of a large graph ends.
 //!
 //! The crate has no items but these tests; they stand here since most calls ask for a covered graph, which `allowed_edges` decides.
 //! Source of the graphs: Lovász and Plummer, "Matching Theory".
