@@ -17,7 +17,10 @@ mod between;
 mod comparing;
 mod exposing;
 pub mod laws;
+mod leaf_maps;
+mod move_maps;
 mod plans;
 mod turning;
 
 pub use between::moves_between;
+pub use leaf_maps::{LeafMap, LeafMaps};
