@@ -1,0 +1,124 @@
+-- The first pair that a search through the pairs a < b finds is the first in lexicographic order.
+-- The list rises row by row, so every pair before the one found comes earlier in the list.
+use Rattle.std.proofs.Common.{◌≡◌, ℕ, ◌<◌, ◌≤◌, Bool, true, false, cond, List, [], ◌∷◌, ◌++◌, map, flat_map, Option, Some, None, refl, sym, ap, ap₂, ◌∙◌, arith, ◌⊎◌, inl, inr, ◌==◌, not, eq-eqb, nat_lt, nat_le, lt-ltb, ltb-true, leb-true, subst}
+use Rattle.std.proofs.lemmas.Bool.{both_ways, leb-false}
+use Rattle.std.specs.Prelude.{find}
+use Rattle.counting.proofs.Choice.{not_false, not_true}
+use Rattle.counting.proofs.Lists.{or_back, or_front}
+use Rattle.counting.proofs.Pairs.{HasPair, rows_hold, rows_only}
+use Rattle.counting.proofs.RisingLists.{above_first, mem-all, rising-tail, rising_list-rises}
+use Rattle.counting.specs.Counts.{Within}
+use Rattle.counting.specs.Lists.{IsRisingIn, mem, pair_with, rising_list, rising_pairs}
+use Rattle.counting.specs.Sets.{everything, pair_set}
+use Rattle.graph_core.proofs.Decide.{has_perfect_found, has_perfect_says}
+use Rattle.graph_core.specs.Components.{component_count}
+use Rattle.graph_core.specs.Graph.{Graph}
+use Rattle.graph_core.specs.Matchings.{HasPerfect, has_perfect}
+use Rattle.graph_core.specs.Structure.{cut_pair, unlike_pair}
+use Rattle.definition_laws.specs.Words.{ComesBefore, IsFirstPair}
+
+-- each pair is before all later ones
+abbrev Rising : List (ℕ × ℕ) → Type 0
+Rising [] = Unit {0}
+Rising (k ∷ ks) = ((i j : ℕ) → HasPair ks i j → ComesBefore k (i, j)) × Rising ks
+
+-- a pair of two lists in a row is in one of them
+in_parts : (ks ls : List (ℕ × ℕ)) (i j : ℕ) → HasPair (ks ++ ls) i j → HasPair ks i j ⊎ HasPair ls i j
+in_parts [] ls i j h = inr h
+in_parts (k ∷ ks) ls i j (inl h) = inl (inl h)
+in_parts (k ∷ ks) ls i j (inr h) = elim (in_parts ks ls i j h) [ inl a ↦ inl (inr a) | inr b ↦ inr b ]
+
+-- two rising lists in a row rise where the first is before the second
+parts_rise : (ks ls : List (ℕ × ℕ)) → Rising ks → Rising ls → ((i j a b : ℕ) → HasPair ks i j → HasPair ls a b → ComesBefore (i, j) (a, b)) → Rising (ks ++ ls)
+parts_rise [] ls r s h = s
+parts_rise (k ∷ ks) ls r s h = (
+  λ i j m. elim (in_parts ks ls i j m) [ inl a ↦ r.0 i j a | inr b ↦ h k.0 k.1 i j (inl (refl, refl)) b ],
+  parts_rise ks ls r.1 s (λ i j a b m. h i j a b (inr m)),
+)
+
+-- a pair of a row begins with a
+in_row : (a : ℕ) (xs : List ℕ) (i j : ℕ) → HasPair (map (pair_with a) xs) i j → (a ≡ i) × (mem xs j ≡ true)
+in_row a [] i j h = absurd h
+in_row a (x ∷ xs) i j (inl h) = (h.0, or_front (x == j) (mem xs j) (eq-eqb x j h.1))
+in_row a (x ∷ xs) i j (inr h) = let r = in_row a xs i j h in (r.0, or_back (x == j) (mem xs j) r.1)
+
+-- a row rises
+row_rises : (a n : ℕ) (xs : List ℕ) → IsRisingIn n xs → Rising (map (pair_with a) xs)
+row_rises a n [] r = tt
+row_rises a n (x ∷ xs) r = (λ i j m. let q = in_row a xs i j m in inr (q.0, above_first n x xs r j q.1), row_rises a n xs (rising-tail n x xs r))
+
+-- the rows one after the other rise
+rows_rise : (n : ℕ) (xs : List ℕ) → IsRisingIn n xs → Rising (flat_map (λ a. map (pair_with a) (rising_list n (nat_lt a))) xs)
+rows_rise n [] r = tt
+rows_rise n (x ∷ xs) r =
+    parts_rise (map (pair_with x) (rising_list n (nat_lt x))) (flat_map (λ a. map (pair_with a) (rising_list n (nat_lt a))) xs)
+    (row_rises x n (rising_list n (nat_lt x)) (rising_list-rises n (nat_lt x))) (rows_rise n xs (rising-tail n x xs r))
+    (λ i j a b m h. let q = in_row x (rising_list n (nat_lt x)) i j m in let s = rows_only n a b xs h in inl (subst (λ z. z < a) q.0 (above_first n x xs r a s.0)))
+
+-- no pair is before one that is it or is before it
+not_both : (i j a b : ℕ) → ComesBefore (i, j) (a, b) → ((a ≡ i) × (b ≡ j)) ⊎ ComesBefore (a, b) (i, j) → ⊥
+not_both i j a b (inl l) (inl e) = let q = e.0 in absurd (omega arith)
+not_both i j a b (inl l) (inr (inl k)) = absurd (omega arith)
+not_both i j a b (inl l) (inr (inr k)) = let q = k.0 in absurd (omega arith)
+not_both i j a b (inr l) (inl e) = let q = e.1 in let w = l.1 in absurd (omega arith)
+not_both i j a b (inr l) (inr (inl k)) = let q = l.0 in absurd (omega arith)
+not_both i j a b (inr l) (inr (inr k)) = let q = k.1 in let w = l.1 in absurd (omega arith)
+
+-- what an answer holds
+value : ℕ × ℕ → Option (ℕ × ℕ) → ℕ × ℕ
+value d None = d
+value d (Some k) = k
+
+-- the first of a rising list that passes: it passes, and none before it does
+found_first : (t : ℕ → ℕ → Bool) (ks : List (ℕ × ℕ)) (k : ℕ × ℕ) → Rising ks → find (λ l. t l.0 l.1) ks ≡ Some k →
+    HasPair ks k.0 k.1 × (t k.0 k.1 ≡ true) × ((i j : ℕ) → HasPair ks i j → ComesBefore (i, j) k → t i j ≡ false)
+unfolding value
+found_first t [] k r h = let z : None ≡ Some k = h in absurd cc
+found_first t (l ∷ ks) k r h = go (t l.0 l.1) refl (found_first t ks k r.1)
+  where
+    go : (b : Bool) → t l.0 l.1 ≡ b →
+        (find (λ l. t l.0 l.1) ks ≡ Some k → HasPair ks k.0 k.1 × (t k.0 k.1 ≡ true) × ((i j : ℕ) → HasPair ks i j → ComesBefore (i, j) k → t i j ≡ false)) →
+        HasPair (l ∷ ks) k.0 k.1 × (t k.0 k.1 ≡ true) × ((i j : ℕ) → HasPair (l ∷ ks) i j → ComesBefore (i, j) k → t i j ≡ false)
+    go true e ih =
+        let s : Some l ≡ Some k = ap (λ b. cond b (Some l) (find (λ l. t l.0 l.1) ks)) (sym e) ∙ h in
+        let q : l ≡ k = ap (value l) s in
+        let x : l.0 ≡ k.0 = ap (λ (z : ℕ × ℕ). z.0) q in
+        let y : l.1 ≡ k.1 = ap (λ (z : ℕ × ℕ). z.1) q in (
+          inl (x, y),
+          ap₂ t (sym x) (sym y) ∙ e,
+          λ i j m b. absurd (not_both i j l.0 l.1 (subst (λ z. ComesBefore (i, j) z) (sym q) b) (elim m [ inl z ↦ inl z | inr z ↦ inr (r.0 i j z) ])),
+        )
+    go false e ih =
+        let f = ih (ap (λ b. cond b (Some l) (find (λ l. t l.0 l.1) ks)) (sym e) ∙ h) in
+        (inr f.0, f.1, λ i j m b. elim m [ inl z ↦ ap₂ t (sym z.0) (sym z.1) ∙ e | inr z ↦ f.2 i j z b ])
+
+-- the same for the pairs a < b of 1 to n
+first_pair : (n : ℕ) (t : ℕ → ℕ → Bool) (k : ℕ × ℕ) → find (λ l. t l.0 l.1) (rising_pairs n) ≡ Some k →
+    (Within n k.0 × Within n k.1 × (k.0 < k.1)) × (t k.0 k.1 ≡ true) × ((a b : ℕ) → Within n a → Within n b → a < b → ComesBefore (a, b) k → t a b ≡ false)
+first_pair n t k h =
+    let f = found_first t (rising_pairs n) k (rows_rise n (rising_list n everything) (rising_list-rises n everything)) h in
+    let q = rows_only n k.0 k.1 (rising_list n everything) f.0 in (
+      ((mem-all n k.0).0 q.0, q.1, ltb-true k.0 k.1 q.2),
+      f.1,
+      λ a b wa wb l before. f.2 a b (rows_hold n a b (rising_list n everything) ((mem-all n a).1 wa) wb (lt-ltb a b l)) before,
+    )
+
+-- the pair that `unlike_pair` finds
+pub unlike-first : (g : Graph) (k : ℕ × ℕ) → unlike_pair g ≡ Some k → IsFirstPair g.order (λ a b. HasPerfect g (pair_set a b) → ⊥) k
+unfolding unlike_pair
+unlike-first g k h =
+    let f = first_pair g.order (λ a b. not (has_perfect g (pair_set a b))) k h in (
+      f.0,
+      λ p. both_ways (has_perfect g (pair_set k.0 k.1)) (not_true (has_perfect g (pair_set k.0 k.1)) f.1) (has_perfect_found g (pair_set k.0 k.1) p),
+      λ a b wa wb l before alone. alone (has_perfect_says g (pair_set a b) (not_false (has_perfect g (pair_set a b)) (f.2 a b wa wb l before))),
+    )
+
+-- the pair that `cut_pair` finds
+pub cut-first : (g : Graph) (k : ℕ × ℕ) → cut_pair g ≡ Some k → IsFirstPair g.order (λ a b. 2 ≤ component_count g (pair_set a b)) k
+unfolding cut_pair
+cut-first g k h =
+    let f = first_pair g.order (λ a b. nat_le 2 (component_count g (pair_set a b))) k h in (
+      f.0,
+      leb-true 2 (component_count g (pair_set k.0 k.1)) f.1,
+      λ a b wa wb l before two. let c = leb-false 2 (component_count g (pair_set a b)) (f.2 a b wa wb l before) in absurd (omega arith),
+    )

@@ -1,0 +1,24 @@
+-- The test for a matching with so many edges is true exactly where there is one.
+-- Like the tests for perfect matchings it searches through all edge sets, and its condition goes by the edge numbers alone.
+use Rattle.std.proofs.Common.{◌≡◌, ℕ, true, ◌==◌, ap, ap₂, ◌&&◌, eq-eqb, eqb-true}
+use Rattle.std.proofs.lemmas.Bool.{and_from, and_parts}
+use Rattle.counting.proofs.Choice.{set_found, some_set_found}
+use Rattle.counting.proofs.Counts.{count_congr}
+use Rattle.counting.specs.Counts.{count}
+use Rattle.counting.specs.Sets.{Set}
+use Rattle.graph_core.proofs.Decide.{is_matching_congr, is_matching_true, true_is_matching}
+use Rattle.graph_core.specs.Graph.{Graph, size}
+use Rattle.graph_core.specs.Matchings.{IsMatching, has_matching_of, is_matching}
+
+-- some matching has k edges where the test says so
+pub has_matching_says : (g : Graph) (r : Set) (k : ℕ) → has_matching_of g r k ≡ true → (m : Set) × IsMatching g r m × (count (size g) m ≡ k)
+has_matching_says g r k h =
+    let q = some_set_found (size g) (λ m. is_matching g r m && (count (size g) m == k)) h in
+    let b = and_parts (is_matching g r q.0) (count (size g) q.0 == k) q.1 in
+    (q.0, is_matching_true g r q.0 b.0, eqb-true (count (size g) q.0) k b.1)
+
+-- and the other way round
+pub has_matching_found : (g : Graph) (r : Set) (k : ℕ) → ((m : Set) × IsMatching g r m × (count (size g) m ≡ k)) → has_matching_of g r k ≡ true
+has_matching_found g r k f = set_found (size g) (λ m. is_matching g r m && (count (size g) m == k))
+    (record { same = λ m n e. ap₂ ◌&&◌ (is_matching_congr g r m n e) (ap (λ c. c == k) (count_congr (size g) m n e)) })
+    f.0 (and_from (is_matching g r f.0) (count (size g) f.0 == k) (true_is_matching g r f.0 f.1) (eq-eqb (count (size g) f.0) k f.2))

@@ -1,0 +1,103 @@
+-- A graph is matching covered or there is a reason why not, never both, and no two reasons.
+-- Each reason denies a part of being covered and asserts the parts before it; each part is decided.
+use Rattle.std.proofs.Common.{◌≡◌, ℕ, suc, zero, ◌≤◌, ◌⊎◌, inl, inr, refl, sym, ap, ap₂, ◌∙◌, arith, List, nat_le, leb-true, subst}
+use Rattle.std.proofs.lemmas.Bool.{both_ways, cases_Bool, cases_eq, cases_order, leb-false}
+use Rattle.counting.specs.Counts.{Within}
+use Rattle.counting.specs.Lists.{IsRisingIn, mem}
+use Rattle.counting.specs.Sets.{none}
+use Rattle.counting.specs.Tests.{IsLeastWithout}
+use Rattle.graph_core.proofs.Decide.{allowed_or_not, covered_perfect, has_perfect_found, has_perfect_says}
+use Rattle.graph_core.proofs.Walks.{joined_back, joined_on, joined_or_not}
+use Rattle.graph_core.specs.BergeSets.{IsBergeSet}
+use Rattle.graph_core.specs.Components.{IsConnected}
+use Rattle.graph_core.specs.Covered.{IsCovered, IsReason, Reason, Small, Parted, Unmatched, Unallowed}
+use Rattle.graph_core.specs.Graph.{Graph, IsGraph, IsMultigraph, size}
+use Rattle.graph_core.specs.Matchings.{Allowed, HasPerfect, has_perfect}
+use Rattle.definition_laws.specs.Words.{without_berge}
+use Rattle.graph_core.specs.Walks.{Joined}
+
+-- a graph with a reason is not covered
+pub reason-uncovered : (g : Graph) (r : Reason) → IsMultigraph g → IsReason g r → IsCovered g → ⊥
+reason-uncovered g Small is small cov = let two = cov.two in absurd (omega arith)
+reason-uncovered g (Parted a b) is why cov = let two = cov.two in why.2.without (cov.connected 1 b (omega arith) why.2.within)
+reason-uncovered g (Unmatched s) is why cov = why.2 (covered_perfect g is.ends cov)
+reason-uncovered g (Unallowed e) is why cov = why.3.without (cov.allowed e why.3.within (is.no_loop e why.3.within))
+
+-- of 1 to n all have a decided property, or there is a least that has it not
+all_or_least : (n : ℕ) (P : ℕ → Type 0) → ((v : ℕ) → Within n v → P v ⊎ (P v → ⊥)) → ((v : ℕ) → Within n v → P v) ⊎ ((v : ℕ) × IsLeastWithout n P v)
+all_or_least n P decided = go n (omega arith)
+  where
+    go : (k : ℕ) → k ≤ n → ((v : ℕ) → Within k v → P v) ⊎ ((v : ℕ) × IsLeastWithout n P v)
+    go zero l = inl (λ v w. absurd (omega arith))
+    go (suc k) l = elim (go k (omega arith)) [
+      | inr f ↦ inr f
+      | inl all ↦ elim (decided (suc k) (omega arith)) [
+        | inl p ↦ inl (λ v w. elim (cases_eq v (suc k)) [ inl e ↦ subst P (sym e) p | inr d ↦ all v (omega arith) ])
+        | inr p ↦ inr (suc k, record { within = omega arith; without = p; before = λ v w b. all v (omega arith) })
+      ]
+    ]
+
+-- two least numbers without a property are one
+least-one : (n : ℕ) (P : ℕ → Type 0) (d e : ℕ) → IsLeastWithout n P d → IsLeastWithout n P e → d ≡ e
+least-one n P d e a b = elim (cases_order d e) [
+  | inl q ↦ q
+  | inr q ↦ elim q [
+    | inl l ↦ absurd (a.without (b.before d a.within l))
+    | inr l ↦ absurd (b.without (a.before e b.within l))
+  ]
+]
+
+-- where vertex 1 is joined to each vertex, each is joined to each
+connected_from_one : (g : Graph) → ((v : ℕ) → Within g.order v → Joined g none 1 v) → IsConnected g
+connected_from_one g all u v wu wv = joined_on g none u 1 v (joined_back g none 1 u (all u wu)) (all v wv)
+
+-- there is a perfect matching or there is none
+perfect_or_not : (g : Graph) → (HasPerfect g none) ⊎ (HasPerfect g none → ⊥)
+perfect_or_not g = elim (cases_Bool (has_perfect g none)) [
+  | inl t ↦ inl (has_perfect_says g none t)
+  | inr f ↦ inr (λ h. both_ways (has_perfect g none) f (has_perfect_found g none h))
+]
+
+-- covered, or a reason; the Berge set is the one given
+pub covered_or_reason : (g : Graph) (s : List ℕ) → IsGraph g → IsRisingIn g.order s → IsBergeSet g none (mem s) → (IsCovered g) ⊎ ((r : Reason) × IsReason g r)
+covered_or_reason g s is rises berge = elim (cases_Bool (nat_le 2 g.order)) [
+  | inr f ↦ inr (Small, leb-false 2 g.order f)
+  | inl t ↦ big (leb-true 2 g.order t)
+]
+  where
+    matched : 2 ≤ g.order → IsConnected g → HasPerfect g none → (IsCovered g) ⊎ ((r : Reason) × IsReason g r)
+    matched two con per = elim (all_or_least (size g) (Allowed g) (allowed_or_not g)) [
+      | inl all ↦ inl (record { two = two; connected = con; allowed = λ e w d. all e w })
+      | inr f ↦ inr (Unallowed f.0, (two, con, per, f.1))
+    ]
+
+    connected : 2 ≤ g.order → IsConnected g → (IsCovered g) ⊎ ((r : Reason) × IsReason g r)
+    connected two con = elim (perfect_or_not g) [
+      | inl per ↦ matched two con per
+      | inr alone ↦ inr (Unmatched s, (two, con, alone, rises, berge))
+    ]
+
+    big : 2 ≤ g.order → (IsCovered g) ⊎ ((r : Reason) × IsReason g r)
+    big two = elim (all_or_least g.order (Joined g none 1) (λ v w. joined_or_not g none is 1 v (omega arith))) [
+      | inl all ↦ connected two (connected_from_one g all)
+      | inr f ↦ inr (Parted 1 f.0, (two, refl, f.1))
+    ]
+
+-- two reasons of one graph are equal but for the Berge set
+pub reason-one : (g : Graph) (q r : Reason) → IsReason g q → IsReason g r → without_berge q ≡ without_berge r
+reason-one g Small Small a b = refl
+reason-one g Small (Parted c d) a b = let two = b.0 in absurd (omega arith)
+reason-one g Small (Unmatched t) a b = let two = b.0 in absurd (omega arith)
+reason-one g Small (Unallowed f) a b = let two = b.0 in absurd (omega arith)
+reason-one g (Parted c d) Small a b = let two = a.0 in absurd (omega arith)
+reason-one g (Parted c d) (Parted i j) a b = ap₂ Parted (a.1 ∙ sym b.1) (least-one g.order (Joined g none 1) d j a.2 b.2)
+reason-one g (Parted c d) (Unmatched t) a b = let two = a.0 in absurd (a.2.without (b.1 1 d (omega arith) a.2.within))
+reason-one g (Parted c d) (Unallowed f) a b = let two = a.0 in absurd (a.2.without (b.1 1 d (omega arith) a.2.within))
+reason-one g (Unmatched s) Small a b = let two = a.0 in absurd (omega arith)
+reason-one g (Unmatched s) (Parted i j) a b = let two = b.0 in absurd (b.2.without (a.1 1 j (omega arith) b.2.within))
+reason-one g (Unmatched s) (Unmatched t) a b = refl
+reason-one g (Unmatched s) (Unallowed f) a b = absurd (a.2 b.2)
+reason-one g (Unallowed e) Small a b = let two = a.0 in absurd (omega arith)
+reason-one g (Unallowed e) (Parted i j) a b = let two = b.0 in absurd (b.2.without (a.1 1 j (omega arith) b.2.within))
+reason-one g (Unallowed e) (Unmatched t) a b = absurd (b.2 a.2)
+reason-one g (Unallowed e) (Unallowed f) a b = ap Unallowed (least-one (size g) (Allowed g) e f a.3 b.3)

@@ -1,0 +1,13 @@
+use Rattle.graph_core.proofs.Decide.{is_equivalent_found, is_equivalent_says}
+use Rattle.definition_laws.proofs.Covering.{classes-cover}
+use Rattle.definition_laws.proofs.Leaders.{classes-are}
+use Rattle.definition_laws.proofs.covered.canonical_partition_law.Goals as goal
+
+pub returns-clause-test : goal.returns-clause-test
+returns-clause-test c g a b = (is_equivalent_says g a b, is_equivalent_found g a b)
+
+pub returns-clause-lists : goal.returns-clause-lists
+returns-clause-lists c g = classes-are g
+
+pub returns-clause-cover : goal.returns-clause-cover
+returns-clause-cover c g on a w = classes-cover g on a w

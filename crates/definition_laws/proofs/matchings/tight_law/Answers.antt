@@ -1,0 +1,18 @@
+use Rattle.std.proofs.Common.{le-leb, leb-true, nat_le}
+use Rattle.std.proofs.lemmas.Bool.{and_from, and_parts}
+use Rattle.counting.specs.Counts.{count}
+use Rattle.counting.specs.Sets.{complement}
+use Rattle.graph_core.proofs.Decide.{is_allowed_found, is_allowed_says, is_tight_found, is_tight_says}
+use Rattle.definition_laws.proofs.matchings.tight_law.Goals as goal
+
+pub returns-clause-allowed : goal.returns-clause-allowed
+returns-clause-allowed c g e w = (is_allowed_says g e, is_allowed_found g e w)
+
+pub returns-clause-tight : goal.returns-clause-tight
+returns-clause-tight c g x = (is_tight_says g x, is_tight_found g x)
+
+pub returns-clause-nontrivial : goal.returns-clause-nontrivial
+returns-clause-nontrivial c n x = (
+  λ h. let b = and_parts (nat_le 3 (count n x)) (nat_le 3 (count n (complement x))) h in record { inside = leb-true 3 (count n x) b.0; outside = leb-true 3 (count n (complement x)) b.1 },
+  λ t. and_from (nat_le 3 (count n x)) (nat_le 3 (count n (complement x))) (le-leb 3 (count n x) t.inside) (le-leb 3 (count n (complement x)) t.outside),
+)

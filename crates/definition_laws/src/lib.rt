@@ -1,0 +1,24 @@
+//! Do the definitions of the field mean what a textbook says?
+//!
+//! Many definitions of `graph_core` are degrees, counts or tests that compute, since proofs and code want them so. Each law here
+//! ties one of them to what it means: a test is true exactly where its relation holds, and a relation holds exactly where the
+//! words of a textbook do (`specs/Words.antt`). No other crate stands on this one.
+//!
+//! Matchings: `perfect_law` and `matching_without_law` (`IsPerfect`, `IsMatching`, `has_matching_of`), `tight_law` (`is_allowed`,
+//! `is_tight`), `three_sets_law` (`InD`, `InA`, `InC`). Components: `adjacency_law` (`adjacent`), `component_law` (`is_least`,
+//! `component_count`, `components`). Partitions: `blocks_law` (`IsPartition`), `perfect_at_law` and `tight_at_law` (`IsPerfectAt`,
+//! `IsTightAt`). Covered graphs: `reason_law` (`IsCovered`, `IsReason`), `canonical_partition_law` (`classes`), `first_pair_law`
+//! (`unlike_pair`, `cut_pair`).
+//!
+//! Stands on `graph_core`. Source: Lovász and Plummer, "Matching Theory".
+#![tactic(auto)]
+
+mod components;
+mod covered;
+mod matchings;
+mod partitions;
+
+pub use components::{adjacency_law, component_law};
+pub use covered::{canonical_partition_law, first_pair_law, reason_law};
+pub use matchings::{matching_without_law, perfect_law, three_sets_law, tight_law};
+pub use partitions::{blocks_law, perfect_at_law, tight_at_law};
