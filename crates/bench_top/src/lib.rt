@@ -9,17 +9,14 @@
 //! Stands on all crates below: the texts, the engine, the reports, and `outside` for the shelf and the sink.
 #![tactic(auto)]
 
-#[cfg(test)]
-mod check_tests;
 mod checking;
 mod command;
 mod decomposing;
-#[cfg(test)]
-mod decomposition_tests;
 mod ear_checking;
 mod emit;
 mod formats;
 mod gather;
+mod in_memory;
 mod judge;
 pub mod laws;
 mod naming;
@@ -31,9 +28,8 @@ mod status;
 mod stop;
 mod structures;
 mod tasks;
-#[cfg(test)]
-mod tests;
 mod uncovered;
 
+pub use in_memory::run_in_memory;
 pub use running::run;
 pub use status::Status;

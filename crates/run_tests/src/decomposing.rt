@@ -1,38 +1,12 @@
 // Worked decompositions, in named orders and in those of pick files, and their refusals.
-use crate::{Status, run};
-use outside::{MemShelf, MemSink};
+use crate::graphs::{HEXAGON, TRIANGLE_IN_K33, TWO_K4};
+use crate::trial::ran;
+use bench_top::Status;
 use std::alloc::Global;
 use std::str;
 use std::test::Fail;
 
-const HEXAGON: &str = "p mcg 6 6\ne 1 2\ne 2 3\ne 3 4\ne 4 5\ne 5 6\ne 6 1\n";
-
-// The complete bipartite graph of three and three vertices with a triangle for one vertex.
-const TRIANGLE_IN_K33: &str =
-    "p mcg 8 12\ne 1 2\ne 1 3\ne 2 3\ne 1 4\ne 2 5\ne 3 6\ne 7 4\ne 7 5\ne 7 6\ne 8 4\ne 8 5\ne 8 6\n";
-
-// Two complete graphs of four vertices that share an edge.
-const TWO_K4: &str =
-    "p mcg 6 11\ne 1 2\ne 1 3\ne 1 4\ne 2 3\ne 2 4\ne 3 4\ne 1 5\ne 1 6\ne 2 5\ne 2 6\ne 5 6\n";
-
 const ORDERS: [&str; 3] = ["first", "last", "balanced"];
-
-// What `decompose` answers and writes with these words behind it, where the file `g` has this graph and the file `s` these picks.
-fn ran(alloc: Global, words: &[&str], graph: &str, picks: &str) -> Result<(Status, Vec<u8>), Fail> {
-    let mut shelf = MemShelf::new(alloc);
-    shelf.put("g", graph.as_bytes())?;
-    shelf.put("s", picks.as_bytes())?;
-    let mut sink = MemSink::new(alloc, 65_536, 65_536)?;
-    let mut all = Vec::new(alloc);
-    all.push(String::from_str(alloc, "decompose")?)?;
-    for word in words {
-        all.push(String::from_str(alloc, word)?)?;
-    }
-    let status = run(alloc, &all, &mut shelf, &mut sink);
-    let mut written = Vec::new(alloc);
-    written.extend_from_slice(sink.bytes())?;
-    Ok((status, written))
-}
 
 #[test]
 fn whole_reports(rt: HostRuntime) -> Result<(), Fail> {
@@ -52,8 +26,8 @@ fn whole_reports(rt: HostRuntime) -> Result<(), Fail> {
             "t mcg 4\nleaf\nc leaf 1 brace\nc block 1\nc block 2\nc block 3\nc block 4\nc edge 1 2 by 1\nc edge 1 4 by 4\nc edge 2 3 by 2\nc edge 3 4 by 3\nc leaves 1 bricks 0 braces 1\nc name 1 a\nc name 2 b\nc name 3 c\nc name 4 d\n",
         ),
     ];
-    for (graph, report) in &table {
-        let (status, written) = ran(rt.alloc(), &["g", "first"], graph, "")?;
+    for (graph, report) in table {
+        let (status, written) = ran(rt.alloc(), &["decompose", "g", "first"], &[graph])?;
         assert_eq!(rt; status, Status::Done);
         assert_eq!(rt; written.as_slice(), report.as_bytes());
     }
@@ -65,7 +39,7 @@ fn triangle_in_k33_in_three_orders(rt: HostRuntime) -> Result<(), Fail> {
     let report =
         "t mcg 8\ncut 1 2 3\nleaf\nleaf\nc leaf 1 brick\nc block 1\nc block 2\nc block 3\nc block 4 5 6 7 8\nc edge 1 2 by 1\nc edge 1 3 by 2\nc edge 1 8 by 4\nc edge 2 3 by 3\nc edge 2 8 by 5\nc edge 3 8 by 6\nc leaf 2 brace\nc block 1 2 3\nc block 4\nc block 5\nc block 6\nc block 7\nc block 8\nc edge 3 4 by 4\nc edge 3 5 by 5\nc edge 3 6 by 6\nc edge 4 7 by 7\nc edge 4 8 by 10\nc edge 5 7 by 8\nc edge 5 8 by 11\nc edge 6 7 by 9\nc edge 6 8 by 12\nc leaves 2 bricks 1 braces 1\n";
     for order in ORDERS {
-        let (status, written) = ran(rt.alloc(), &["g", order], TRIANGLE_IN_K33, "")?;
+        let (status, written) = ran(rt.alloc(), &["decompose", "g", order], &[TRIANGLE_IN_K33])?;
         assert_eq!(rt; status, Status::Done);
         assert_eq!(rt; written.as_slice(), report.as_bytes());
     }
@@ -77,41 +51,41 @@ fn first_cuts(rt: HostRuntime) -> Result<(), Fail> {
     let braces = "\nc leaves 2 bricks 0 braces 2\n";
     let bricks = "\nc leaves 2 bricks 2 braces 0\n";
     let table: [(&str, &[&str], &str, &str, &str); 8] = [
-        (HEXAGON, &["g", "first"], "", "t mcg 6\ncut 2 3 4\n", braces),
-        (HEXAGON, &["g", "last"], "", "t mcg 6\ncut 1 2 3\n", braces),
+        (HEXAGON, &["decompose", "g", "first"], "", "t mcg 6\ncut 2 3 4\n", braces),
+        (HEXAGON, &["decompose", "g", "last"], "", "t mcg 6\ncut 1 2 3\n", braces),
         (
             HEXAGON,
-            &["g", "balanced"],
+            &["decompose", "g", "balanced"],
             "",
             "t mcg 6\ncut 2 3 4\n",
             braces,
         ),
         (
             HEXAGON,
-            &["g", "script", "s"],
+            &["decompose", "g", "script", "s"],
             "s mcg 1\npick 2\n",
             "t mcg 6\ncut 1 2 3\n",
             braces,
         ),
         (
             HEXAGON,
-            &["g", "script", "s"],
+            &["decompose", "g", "script", "s"],
             "s mcg 1\npick 4\n",
             "t mcg 6\ncut 3 4 5\n",
             braces,
         ),
         (
             HEXAGON,
-            &["g", "script", "s"],
+            &["decompose", "g", "script", "s"],
             "s mcg 0\n",
             "t mcg 6\ncut 2 3 4\n",
             braces,
         ),
-        (TWO_K4, &["g", "first"], "", "t mcg 6\ncut 1 3 4\n", bricks),
-        (TWO_K4, &["g", "last"], "", "t mcg 6\ncut 2 3 4\n", bricks),
+        (TWO_K4, &["decompose", "g", "first"], "", "t mcg 6\ncut 1 3 4\n", bricks),
+        (TWO_K4, &["decompose", "g", "last"], "", "t mcg 6\ncut 2 3 4\n", bricks),
     ];
     for (graph, words, picks, start, end) in table {
-        let (status, written) = ran(rt.alloc(), words, graph, picks)?;
+        let (status, written) = ran(rt.alloc(), words, &[graph, picks])?;
         assert_eq!(rt; status, Status::Done);
         let report = str::from_utf8(&written)?;
         assert!(rt; report.starts_with(start));
@@ -135,7 +109,7 @@ fn cycle(alloc: Global, n: u32) -> Result<String, Fail> {
 fn cycle_of_16_in_three_orders(rt: HostRuntime) -> Result<(), Fail> {
     let graph = cycle(rt.alloc(), 16)?;
     for order in ORDERS {
-        let (status, written) = ran(rt.alloc(), &["g", order], &graph, "")?;
+        let (status, written) = ran(rt.alloc(), &["decompose", "g", order], &[&graph])?;
         assert_eq!(rt; status, Status::Done);
         assert!(rt; str::from_utf8(&written)?.ends_with("\nc leaves 7 bricks 0 braces 7\n"));
     }
@@ -145,7 +119,7 @@ fn cycle_of_16_in_three_orders(rt: HostRuntime) -> Result<(), Fail> {
 #[test]
 fn cycle_of_64(rt: HostRuntime) -> Result<(), Fail> {
     let graph = cycle(rt.alloc(), 64)?;
-    let (status, written) = ran(rt.alloc(), &["g", "first"], &graph, "")?;
+    let (status, written) = ran(rt.alloc(), &["decompose", "g", "first"], &[&graph])?;
     assert_eq!(rt; status, Status::Done);
     assert!(rt; str::from_utf8(&written)?.ends_with("\nc leaves 31 bricks 0 braces 31\n"));
     Ok(())
@@ -159,59 +133,12 @@ fn graphs_that_are_not_covered(rt: HostRuntime) -> Result<(), Fail> {
         ("p mcg 4 3\ne 1 2\ne 1 3\ne 1 4\n", "covered no berge 1\n"),
         ("p mcg 4 3\ne 1 2\ne 2 3\ne 3 4\n", "covered no edge 2\n"),
     ];
-    for (graph, report) in &table {
+    for (graph, report) in table {
         for order in ORDERS {
-            let (status, written) = ran(rt.alloc(), &["g", order], graph, "")?;
+            let (status, written) = ran(rt.alloc(), &["decompose", "g", order], &[graph])?;
             assert_eq!(rt; status, Status::Negative);
             assert_eq!(rt; written.as_slice(), report.as_bytes());
         }
-    }
-    Ok(())
-}
-
-#[test]
-fn refused_pick_files(rt: HostRuntime) -> Result<(), Fail> {
-    let table = [
-        (HEXAGON, "s mcg 128\n", "file 2 line 1 kind 6\n"),
-        (HEXAGON, "s mcg 1\n", "file 2 line 2 kind 7\n"),
-        (HEXAGON, "s mcg 1\npick -1\n", "file 2 line 2 kind 3\n"),
-        // the graph comes first, and a graph that is not covered is told of only where the picks are good
-        ("p mcg 2 1\n", "s mcg 1\n", "file 1 line 2 kind 7\n"),
-        ("p mcg 0 0\n", "s mcg 1\n", "file 2 line 2 kind 7\n"),
-    ];
-    for (graph, picks, report) in &table {
-        let (status, written) = ran(rt.alloc(), &["g", "script", "s"], graph, picks)?;
-        assert_eq!(rt; status, Status::BadInput);
-        assert_eq!(rt; written.as_slice(), report.as_bytes());
-    }
-    let (status, written) = ran(
-        rt.alloc(),
-        &["g", "script", "s"],
-        "p mcg 0 0\n",
-        "s mcg 0\n",
-    )?;
-    assert_eq!(rt; status, Status::Negative);
-    assert_eq!(rt; written.as_slice(), b"covered no order\n".as_slice());
-    let (status, written) = ran(rt.alloc(), &["g", "script", "t"], HEXAGON, "s mcg 0\n")?;
-    assert_eq!(rt; status, Status::ReadFault);
-    assert_eq!(rt; written.as_slice(), b"".as_slice());
-    Ok(())
-}
-
-#[test]
-fn words_that_name_no_order(rt: HostRuntime) -> Result<(), Fail> {
-    let table: [&[&str]; 6] = [
-        &[],
-        &["g"],
-        &["g", "middle"],
-        &["g", "script"],
-        &["g", "first", "s"],
-        &["g", "script", "s", "s"],
-    ];
-    for words in &table {
-        let (status, written) = ran(rt.alloc(), words, HEXAGON, "s mcg 0\n")?;
-        assert_eq!(rt; status, Status::Usage);
-        assert_eq!(rt; written.as_slice(), b"".as_slice());
     }
     Ok(())
 }

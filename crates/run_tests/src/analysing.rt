@@ -1,35 +1,10 @@
-// The worked examples of the commands, their refusals, and faults of the outside.
-use crate::{Status, run};
-use outside::{CountSink, MemShelf, MemSink};
+// The worked reports of `analyse`, `convert` and `analyse6`.
+use crate::graphs::{K4, K4_REPORT, NAMED_CYCLE};
+use crate::trial::ran;
+use bench_top::Status;
 use std::alloc::Global;
 use std::str;
 use std::test::Fail;
-
-const K4: &str = "p mcg 4 6\ne 1 2\ne 1 3\ne 1 4\ne 2 3\ne 2 4\ne 3 4\n";
-
-const K4_REPORT: &str =
-    "graph 4 6\ncomponents 1\nbipartite no\nmatching 2\ndeficiency 0\nD\nA\nC 1 2 3 4\nallowed 1 2 3 4 5 6\ncovered yes\nclasses 4\nclass 1\nclass 2\nclass 3\nclass 4\nbicritical yes\ncutpair none\nkind brick\n";
-
-// The words of a command.
-fn words_of(alloc: Global, words: &[&str]) -> Result<Vec<String>, Fail> {
-    let mut list = Vec::new(alloc);
-    for word in words {
-        list.push(String::from_str(alloc, word)?)?;
-    }
-    Ok(list)
-}
-
-// What a command answers and writes on a file with these bytes.
-fn ran(alloc: Global, command: &str, bytes: &[u8]) -> Result<(Status, Vec<u8>), Fail> {
-    let mut shelf = MemShelf::new(alloc);
-    shelf.put("g", bytes)?;
-    let mut sink = MemSink::new(alloc, 8192, 8192)?;
-    let words = words_of(alloc, &[command, "g"])?;
-    let status = run(alloc, &words, &mut shelf, &mut sink);
-    let mut written = Vec::new(alloc);
-    written.extend_from_slice(sink.bytes())?;
-    Ok((status, written))
-}
 
 #[test]
 fn reports(rt: HostRuntime) -> Result<(), Fail> {
@@ -69,8 +44,8 @@ fn reports(rt: HostRuntime) -> Result<(), Fail> {
             K4_REPORT,
         ),
     ];
-    for (text, report) in &table {
-        let (status, written) = ran(rt.alloc(), "analyse", text.as_bytes())?;
+    for (text, report) in table {
+        let (status, written) = ran(rt.alloc(), &["analyse", "g"], &[text])?;
         assert_eq!(rt; status, Status::Done);
         assert_eq!(rt; written.as_slice(), report.as_bytes());
     }
@@ -106,20 +81,17 @@ fn reports_of_covered_graphs(rt: HostRuntime) -> Result<(), Fail> {
             "graph 6 11\ncomponents 1\nbipartite no\nmatching 3\ndeficiency 0\nD\nA\nC 1 2 3 4 5 6\nallowed 1 2 3 4 5 6 7 8 9 10 11\ncovered yes\nclasses 6\nclass 1\nclass 2\nclass 3\nclass 4\nclass 5\nclass 6\nbicritical yes\ncutpair 1 2\nkind composite 1 3 4\n",
         ),
     ];
-    for (text, report) in &table {
-        let (status, written) = ran(rt.alloc(), "analyse", text.as_bytes())?;
+    for (text, report) in table {
+        let (status, written) = ran(rt.alloc(), &["analyse", "g"], &[text])?;
         assert_eq!(rt; status, Status::Done);
         assert_eq!(rt; written.as_slice(), report.as_bytes());
     }
     Ok(())
 }
 
-// The cycle of four with names.
-const NAMED_CYCLE: &str = "p mcg2 4 4\nv a\nv b\nv c\nv d\ne a b\ne b c\ne c d\ne d a\n";
-
 #[test]
 fn reports_with_names(rt: HostRuntime) -> Result<(), Fail> {
-    let (status, written) = ran(rt.alloc(), "analyse", NAMED_CYCLE.as_bytes())?;
+    let (status, written) = ran(rt.alloc(), &["analyse", "g"], &[NAMED_CYCLE])?;
     let report =
         "graph 4 4\ncomponents 1\nbipartite yes\nmatching 2\ndeficiency 0\nD\nA\nC 1 2 3 4\nallowed 1 2 3 4\ncovered yes\nclasses 2\nclass 1 3\nclass 2 4\nbicritical no 1 3\ncutpair 1 3\nkind brace\nname 1 a\nname 2 b\nname 3 c\nname 4 d\n";
     assert_eq!(rt; status, Status::Done);
@@ -156,7 +128,7 @@ fn named_cycle(alloc: Global, n: u32) -> Result<String, Fail> {
 #[test]
 fn cycle_of_128(rt: HostRuntime) -> Result<(), Fail> {
     let text = named_cycle(rt.alloc(), 128)?;
-    let (status, written) = ran(rt.alloc(), "analyse", text.as_bytes())?;
+    let (status, written) = ran(rt.alloc(), &["analyse", "g"], &[&text])?;
     assert_eq!(rt; status, Status::Done);
     let report = str::from_utf8(&written)?;
     assert!(rt;
@@ -193,34 +165,19 @@ fn conversions(rt: HostRuntime) -> Result<(), Fail> {
             "p mcg2 2 1\nv x.1\nv -_\ne -_ x.1\n",
         ),
     ];
-    for (text, canonical) in &table {
-        let (status, written) = ran(rt.alloc(), "convert", text.as_bytes())?;
+    for (text, canonical) in table {
+        let (status, written) = ran(rt.alloc(), &["convert", "g"], &[text])?;
         assert_eq!(rt; status, Status::Done);
         assert_eq!(rt; written.as_slice(), canonical.as_bytes());
-        let (status, again) = ran(rt.alloc(), "convert", &written)?;
+        let again = str::from_utf8(&written)?;
+        let (status, again) = ran(rt.alloc(), &["convert", "g"], &[again])?;
         assert_eq!(rt; status, Status::Done);
         assert_eq!(rt; again.as_slice(), canonical.as_bytes());
     }
     let plain = plain_cycle(rt.alloc(), 64)?;
     let named = named_cycle(rt.alloc(), 64)?;
-    let (_, written) = ran(rt.alloc(), "convert", plain.as_bytes())?;
+    let (_, written) = ran(rt.alloc(), &["convert", "g"], &[&plain])?;
     assert_eq!(rt; written.as_slice(), named.as_bytes());
-    Ok(())
-}
-
-#[test]
-fn refused_conversions(rt: HostRuntime) -> Result<(), Fail> {
-    let table = [
-        ("", "file 1 line 1 kind 1\n"),
-        ("p mcg 65 65\n", "file 1 line 1 kind 6\n"),
-        ("p mcg2 2 1\nv a\n", "file 1 line 3 kind 7\n"),
-        ("p mcg2 2 1\nv a\nv b\ne 1 2\n", "file 1 line 4 kind 11\n"),
-    ];
-    for (text, report) in &table {
-        let (status, written) = ran(rt.alloc(), "convert", text.as_bytes())?;
-        assert_eq!(rt; status, Status::BadInput);
-        assert_eq!(rt; written.as_slice(), report.as_bytes());
-    }
     Ok(())
 }
 
@@ -250,80 +207,9 @@ fn reports_of_graph6(rt: HostRuntime) -> Result<(), Fail> {
             "graph 10 15\ncomponents 1\nbipartite no\nmatching 5\ndeficiency 0\nD\nA\nC 1 2 3 4 5 6 7 8 9 10\nallowed 1 2 3 4 5 6 7 8 9 10 11 12 13 14 15\ncovered yes\nclasses 10\nclass 1\nclass 2\nclass 3\nclass 4\nclass 5\nclass 6\nclass 7\nclass 8\nclass 9\nclass 10\nbicritical yes\ncutpair none\nkind brick\ngraph6 IheA@GUAo\n",
         ),
     ];
-    for (text, report) in &table {
-        let (status, written) = ran(rt.alloc(), "analyse6", text.as_bytes())?;
+    for (text, report) in table {
+        let (status, written) = ran(rt.alloc(), &["analyse6", "g"], &[text])?;
         assert_eq!(rt; status, Status::Done);
-        assert_eq!(rt; written.as_slice(), report.as_bytes());
-    }
-    Ok(())
-}
-
-#[test]
-fn refused_graph6_files(rt: HostRuntime) -> Result<(), Fail> {
-    let table = [
-        ("", "file 1 line 1 kind 7\n"),
-        ("C~\nC~", "file 1 line 2 kind 8\n"),
-        (":Bc", "file 1 line 1 kind 4\n"),
-        ("~?A", "file 1 line 1 kind 7\n"),
-        ("~~??????", "file 1 line 1 kind 6\n"),
-        ("~??C~", "file 1 line 1 kind 15\n"),
-        ("~?A@", "file 1 line 1 kind 6\n"),
-        ("C", "file 1 line 1 kind 7\n"),
-        ("C~~", "file 1 line 1 kind 8\n"),
-        ("B~", "file 1 line 1 kind 14\n"),
-        (K4, "file 1 line 2 kind 8\n"),
-    ];
-    for (text, report) in &table {
-        let (status, written) = ran(rt.alloc(), "analyse6", text.as_bytes())?;
-        assert_eq!(rt; status, Status::BadInput);
-        assert_eq!(rt; written.as_slice(), report.as_bytes());
-    }
-    Ok(())
-}
-
-#[test]
-fn refused_files(rt: HostRuntime) -> Result<(), Fail> {
-    let table = [
-        ("p mcg 3 2\ne 1 2\ne 3 3\n", "file 1 line 3 kind 5\n"),
-        ("p mcg 3 2\ne 1 2\n", "file 1 line 3 kind 7\n"),
-        ("p mcg 2 1\ne 1 2\ne 1 2\n", "file 1 line 3 kind 8\n"),
-        ("p mcg 2 1\ne 1 3\n", "file 1 line 2 kind 4\n"),
-        ("p mcg 2 1\ne 1 x\n", "file 1 line 2 kind 3\n"),
-        ("p mcg 2 1\nf 1 2\n", "file 1 line 2 kind 2\n"),
-        ("", "file 1 line 1 kind 1\n"),
-        ("p mcg 65 65\n", "file 1 line 1 kind 6\n"),
-        ("p mcg x 1\n", "file 1 line 1 kind 3\n"),
-        ("c nothing else\n", "file 1 line 2 kind 1\n"),
-        ("p mcg2 2 1\ne 1 2\n", "file 1 line 2 kind 2\n"),
-        ("p mcg2 2 1\nv a\nv a\n", "file 1 line 3 kind 12\n"),
-        ("p mcg2 2 1\nv a\nv b!\n", "file 1 line 3 kind 13\n"),
-        ("p mcg2 2 1\nv a\nv b\ne a c\n", "file 1 line 4 kind 11\n"),
-        ("p mcg2 2 1\nv a\nv b\ne a a\n", "file 1 line 4 kind 5\n"),
-        (
-            "p mcg2 2 1\nv a\nv b\ne a b\ne a b\n",
-            "file 1 line 5 kind 8\n",
-        ),
-        ("p mcg2 129 129\n", "file 1 line 1 kind 6\n"),
-    ];
-    for (text, report) in &table {
-        let (status, written) = ran(rt.alloc(), "analyse", text.as_bytes())?;
-        assert_eq!(rt; status, Status::BadInput);
-        assert_eq!(rt; written.as_slice(), report.as_bytes());
-    }
-    Ok(())
-}
-
-#[test]
-fn files_of_spaces(rt: HostRuntime) -> Result<(), Fail> {
-    let table = [
-        (131_073, "file 1 line 2 kind 1\n"),
-        (1_048_576, "file 1 line 2 kind 1\n"),
-        (1_048_577, "file 1 line 0 kind 6\n"),
-    ];
-    for (size, report) in &table {
-        let spaces = vec![in rt.alloc(); b' '; *size]?;
-        let (status, written) = ran(rt.alloc(), "analyse", &spaces)?;
-        assert_eq!(rt; status, Status::BadInput);
         assert_eq!(rt; written.as_slice(), report.as_bytes());
     }
     Ok(())
@@ -340,79 +226,10 @@ fn prefixes_of_a_file(rt: HostRuntime) -> Result<(), Fail> {
         (44, "file 1 line 7 kind 2\n"),
         (45, K4_REPORT),
     ];
-    for (kept, report) in &table {
-        let (_, written) = ran(rt.alloc(), "analyse", &K4.as_bytes()[..*kept])?;
+    for (kept, report) in table {
+        let prefix = str::from_utf8(&K4.as_bytes()[..kept])?;
+        let (_, written) = ran(rt.alloc(), &["analyse", "g"], &[prefix])?;
         assert_eq!(rt; written.as_slice(), report.as_bytes());
     }
-    Ok(())
-}
-
-#[test]
-fn words_that_match_no_command(rt: HostRuntime) -> Result<(), Fail> {
-    let table: [&[&str]; 7] = [
-        &[],
-        &["analyse"],
-        &["analyse", "g", "g"],
-        &["--help"],
-        &["convert"],
-        &["convert", "g", "g"],
-        &["analyse7", "g"],
-    ];
-    for words in &table {
-        let mut shelf = MemShelf::new(rt.alloc());
-        shelf.put("g", K4.as_bytes())?;
-        let mut sink = MemSink::new(rt.alloc(), 100, 100)?;
-        let words = words_of(rt.alloc(), words)?;
-        assert_eq!(rt;
-            run(rt.alloc(), &words, &mut shelf, &mut sink),
-            Status::Usage
-        );
-        assert_eq!(rt; sink.bytes(), b"".as_slice());
-    }
-    Ok(())
-}
-
-#[test]
-fn faults_of_the_outside(rt: HostRuntime) -> Result<(), Fail> {
-    let words = words_of(rt.alloc(), &["analyse", "g"])?;
-    let mut sink = MemSink::new(rt.alloc(), 100, 16)?;
-
-    let mut empty = MemShelf::new(rt.alloc());
-    assert_eq!(rt;
-        run(rt.alloc(), &words, &mut empty, &mut sink),
-        Status::ReadFault
-    );
-
-    let mut failing = MemShelf::new(rt.alloc());
-    failing.put("g", K4.as_bytes())?;
-    failing.fail_read(1)?;
-    assert_eq!(rt;
-        run(rt.alloc(), &words, &mut failing, &mut sink),
-        Status::ReadFault
-    );
-    assert_eq!(rt; sink.bytes(), b"".as_slice());
-
-    let mut shelf = MemShelf::new(rt.alloc());
-    shelf.put("g", K4.as_bytes())?;
-    sink.fail_write(2)?;
-    assert_eq!(rt;
-        run(rt.alloc(), &words, &mut shelf, &mut sink),
-        Status::WriteFault
-    );
-    assert_eq!(rt; sink.bytes(), b"graph 4 6\ncompon".as_slice());
-
-    let mut small = MemSink::new(rt.alloc(), 20, 16)?;
-    assert_eq!(rt;
-        run(rt.alloc(), &words, &mut shelf, &mut small),
-        Status::WriteFault
-    );
-    assert_eq!(rt; small.bytes().len(), 20);
-
-    let mut counting = CountSink::new();
-    assert_eq!(rt;
-        run(rt.alloc(), &words, &mut shelf, &mut counting),
-        Status::Done
-    );
-    assert_eq!(rt; counting.count(), K4_REPORT.len() as u64);
     Ok(())
 }
