@@ -16,7 +16,8 @@ use Rattle.barrier_kit.proofs.ClassLaw.{equivalent_back, equivalent_on}
 use Rattle.counting.proofs.Choice.{not_true}
 use Rattle.graph_core.proofs.Components.{joined_walk, walk_joined}
 use Rattle.graph_core.proofs.Decide.{is_equivalent_found, is_equivalent_says}
-use Rattle.definition_laws.proofs.Leaders.{leader, leaders_apart}
+use Rattle.definition_laws.proofs.Leaders.{leader}
+use Rattle.graph_core.proofs.Trees.{least_same}
 use Rattle.graph_core.proofs.Walks.{joined_back, joined_on}
 use Rattle.graph_core.specs.Components.{components, is_least}
 use Rattle.graph_core.specs.Covered.{IsCovered}
@@ -98,7 +99,7 @@ pub components-once : (g : Graph) (s : Set) → IsGraph g → (i j v : ℕ) → 
     mem (item (components g s) i) v ≡ true → mem (item (components g s) j) v ≡ true → i ≡ j
 unfolding components
 components-once g s is = listed-once g.order (joined g s) (is_least g s) (λ u w v wu wv _ lu lw hu hw.
-    leaders_apart g s is u w wu wv lu lw (joined_on g s u v w (joined_walk g s u v hu) (joined_back g s w v (joined_walk g s w v hw))))
+    least_same g s is u w wu wv lu lw (joined_on g s u v w (joined_walk g s u v hu) (joined_back g s w v (joined_walk g s w v hw))))
 
 -- the least vertex of a class has no equivalent vertex below it
 least-none_below : (g : Graph) (u w : ℕ) → Within g.order u → is_least_of_class g w ≡ true → u < w → Equivalent g u w → ⊥

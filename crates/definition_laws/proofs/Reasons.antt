@@ -42,7 +42,7 @@ all_or_least n P decided = go n (omega arith)
       ]
     ]
 
--- two least numbers without a property are one
+-- two least numbers without a property are one; ear_core, on which this crate does not stand, has the lemma too
 least-one : (n : ℕ) (P : ℕ → Type 0) (d e : ℕ) → IsLeastWithout n P d → IsLeastWithout n P e → d ≡ e
 least-one n P d e a b = elim (cases_order d e) [
   | inl q ↦ q
