@@ -1,7 +1,7 @@
--- Each vertex outside the removed set is in exactly one listed component, and in a listed class where being equivalent is transitive.
+-- Each vertex outside the removed set is in exactly one listed component, and each vertex of a covered graph in exactly one listed class.
 -- The list of the least vertices holds the one that stands for it, and holds it once.
-use Rattle.std.proofs.Common.{◌≡◌, ℕ, suc, ◌<◌, true, false, List, [], ◌∷◌, length, map, refl, sym, ap, ◌∙◌, arith, inl, inr, ◌&&◌, ◌==◌, not, eqb-true, nat_lt, ltb-true}
-use Rattle.std.proofs.lemmas.Bool.{and_parts, both_ways, cases_order, false_from_ne_true, or_cases, true≢false}
+use Rattle.std.proofs.Common.{◌≡◌, ℕ, suc, ◌<◌, true, false, List, [], ◌∷◌, length, map, refl, sym, ap, ◌∙◌, arith, inl, inr, ◌&&◌, ◌==◌, not, eqb-true, nat_lt, lt-ltb, ltb-true}
+use Rattle.std.proofs.lemmas.Bool.{and_from, and_parts, both_ways, cases_order, false_from_ne_true, or_cases, true≢false}
 use Rattle.std.proofs.lemmas.List.{get_or-map, length-map}
 use Rattle.std.proofs.lemmas.List.Kept.{AllPairs-from_increasing}
 use Rattle.std.specs.Prelude.{Any, ◌-◌, slice_index_or}
@@ -12,14 +12,18 @@ use Rattle.counting.specs.Counts.{Within}
 use Rattle.counting.specs.Lists.{IsRisingIn, item, mem, rising_list}
 use Rattle.counting.specs.Sets.{Set}
 use Rattle.counting.specs.Tests.{some}
+use Rattle.barrier_kit.proofs.ClassLaw.{equivalent_back, equivalent_on}
+use Rattle.counting.proofs.Choice.{not_true}
 use Rattle.graph_core.proofs.Components.{joined_walk, walk_joined}
 use Rattle.graph_core.proofs.Decide.{is_equivalent_found, is_equivalent_says}
-use Rattle.definition_laws.proofs.Leaders.{leader, leaders_apart}
+use Rattle.definition_laws.proofs.Leaders.{leader}
+use Rattle.graph_core.proofs.Trees.{least_same}
 use Rattle.graph_core.proofs.Walks.{joined_back, joined_on}
 use Rattle.graph_core.specs.Components.{components, is_least}
+use Rattle.graph_core.specs.Covered.{IsCovered}
 use Rattle.graph_core.specs.Graph.{Graph, IsGraph}
 use Rattle.graph_core.specs.Structure.{Equivalent, classes, is_equivalent, is_least_of_class}
-use Rattle.graph_core.specs.Walks.{Joined, joined}
+use Rattle.graph_core.specs.Walks.{joined}
 
 -- a number of a list stands at some place
 item_at : (xs : List ℕ) (u : ℕ) → mem xs u ≡ true → (k : ℕ) × (k < length xs) × ((d : ℕ) → slice_index_or xs k d ≡ u)
@@ -42,17 +46,16 @@ components-cover g s is v w out =
     let l = leader g s is v w out in
     any_mapped (λ u. rising_list g.order (joined g s u)) (rising_list g.order (is_least g s)) l.0 v (rising_holds g.order (is_least g s) l.0 l.1 l.2) (rising_holds g.order (joined g s l.0) v w (walk_joined g s is l.0 v l.1 l.3))
 
--- each vertex is in a class of the list, where being equivalent is transitive
-pub classes-cover : (g : Graph) → ((a b c : ℕ) → Within g.order a → Within g.order b → Within g.order c → Equivalent g a b → Equivalent g b c → Equivalent g a c) →
-    (a : ℕ) → Within g.order a → Any (λ (c : List ℕ). mem c a ≡ true) (classes g)
+-- each vertex of a covered graph is in a class of the list: the least vertex equivalent to it is the least of its class
+pub classes-cover : (g : Graph) → IsGraph g → IsCovered g → (a : ℕ) → Within g.order a → Any (λ (c : List ℕ). mem c a ≡ true) (classes g)
 unfolding classes
-classes-cover g on a w =
+classes-cover g is cov a w =
     let l = least_true g.order (λ b. is_equivalent g b a) (true_some g.order (λ b. is_equivalent g b a) a w (is_equivalent_found g a a (inl refl))) in
     let first : is_least_of_class g l.0 ≡ true = ap not (false_from_ne_true (some g.order (λ b. nat_lt b l.0 && is_equivalent g b l.0)) (λ t.
     let r = some_true g.order (λ b. nat_lt b l.0 && is_equivalent g b l.0) t in
     let b = and_parts (nat_lt r.0 l.0) (is_equivalent g r.0 l.0) r.2 in
     both_ways (is_equivalent g r.0 a) (l.3 r.0 r.1 (ltb-true r.0 l.0 b.0))
-    (is_equivalent_found g r.0 a (on r.0 l.0 a r.1 l.1 w (is_equivalent_says g r.0 l.0 b.1) (is_equivalent_says g l.0 a l.2))))) in
+    (is_equivalent_found g r.0 a (equivalent_on g r.0 l.0 a is cov r.1 l.1 w (is_equivalent_says g r.0 l.0 b.1) (is_equivalent_says g l.0 a l.2))))) in
     any_mapped (λ b. rising_list g.order (is_equivalent g b)) (rising_list g.order (is_least_of_class g)) l.0 a
     (rising_holds g.order (is_least_of_class g) l.0 l.1 first) (rising_holds g.order (is_equivalent g l.0) a w l.2)
 
@@ -66,25 +69,53 @@ place_one n xs i j r li lj e = elim (cases_order i j) [
   ]
 ]
 
+-- the lists of the sets f u, for u in the set `first`, of which no two have a number in common
+module _ (n : ℕ) (f : ℕ → Set) (first : Set)
+    (apart : (u w v : ℕ) → Within n u → Within n w → Within n v → first u ≡ true → first w ≡ true → f u v ≡ true → f w v ≡ true → u ≡ w) where
+  -- what the number at place k of the list of `first` is
+  leader_at : (v k : ℕ) → k < length (rising_list n first) → mem (slice_index_or (map (λ u. rising_list n (f u)) (rising_list n first)) k []) v ≡ true →
+      Within n (slice_index_or (rising_list n first) k 0) × (first (slice_index_or (rising_list n first) k 0) ≡ true) × Within n v × (f (slice_index_or (rising_list n first) k 0) v ≡ true)
+  leader_at v k l h =
+      let m = rising_only n first (slice_index_or (rising_list n first) k 0) (mem-item (rising_list n first) k 0 l) in
+      let q = get_or-map (λ u. rising_list n (f u)) (rising_list n first) k 0 [] l in
+      let j = rising_only n (f (slice_index_or (rising_list n first) k 0)) v (ap (λ (c : List ℕ). mem c v) (sym q) ∙ h) in
+      (m.0, m.1, j.0, j.1)
+
+  -- no number is in two of the lists
+  listed-once : (i j v : ℕ) → Within (length (map (λ u. rising_list n (f u)) (rising_list n first))) i → Within (length (map (λ u. rising_list n (f u)) (rising_list n first))) j →
+      mem (item (map (λ u. rising_list n (f u)) (rising_list n first)) i) v ≡ true → mem (item (map (λ u. rising_list n (f u)) (rising_list n first)) j) v ≡ true → i ≡ j
+  listed-once i j v wi wj hi hj =
+      let e = length-map (rising_list n first) (λ u. rising_list n (f u)) in
+      let li : i - 1 < length (rising_list n first) = omega arith in
+      let lj : j - 1 < length (rising_list n first) = omega arith in
+      let u = leader_at v (i - 1) li hi in
+      let w = leader_at v (j - 1) lj hj in
+      let same = apart (slice_index_or (rising_list n first) (i - 1) 0) (slice_index_or (rising_list n first) (j - 1) 0) v u.0 w.0 u.2 u.1 w.1 u.3 w.3 in
+      let p = place_one n (rising_list n first) (i - 1) (j - 1) (rising_list-rises n first) li lj same in
+      omega arith
+
 -- no vertex is in two components of the list
 pub components-once : (g : Graph) (s : Set) → IsGraph g → (i j v : ℕ) → Within (length (components g s)) i → Within (length (components g s)) j →
     mem (item (components g s) i) v ≡ true → mem (item (components g s) j) v ≡ true → i ≡ j
 unfolding components
-components-once g s is i j v wi wj hi hj =
-    let e = length-map (rising_list g.order (is_least g s)) (λ u. rising_list g.order (joined g s u)) in
-    let li : i - 1 < length (rising_list g.order (is_least g s)) = omega arith in
-    let lj : j - 1 < length (rising_list g.order (is_least g s)) = omega arith in
-    let u = leader_at i li hi in
-    let w = leader_at j lj hj in
-    let same = leaders_apart g s is (slice_index_or (rising_list g.order (is_least g s)) (i - 1) 0) (slice_index_or (rising_list g.order (is_least g s)) (j - 1) 0) u.0 w.0 u.1 w.1
-    (joined_on g s (slice_index_or (rising_list g.order (is_least g s)) (i - 1) 0) v (slice_index_or (rising_list g.order (is_least g s)) (j - 1) 0) u.2 (joined_back g s (slice_index_or (rising_list g.order (is_least g s)) (j - 1) 0) v w.2)) in
-    let p = place_one g.order (rising_list g.order (is_least g s)) (i - 1) (j - 1) (rising_list-rises g.order (is_least g s)) li lj same in
-    omega arith
-  where
-    leader_at : (k : ℕ) → k - 1 < length (rising_list g.order (is_least g s)) → mem (item (map (λ u. rising_list g.order (joined g s u)) (rising_list g.order (is_least g s))) k) v ≡ true →
-        Within g.order (slice_index_or (rising_list g.order (is_least g s)) (k - 1) 0) × (is_least g s (slice_index_or (rising_list g.order (is_least g s)) (k - 1) 0) ≡ true) × Joined g s (slice_index_or (rising_list g.order (is_least g s)) (k - 1) 0) v
-    leader_at k l h =
-        let m = rising_only g.order (is_least g s) (slice_index_or (rising_list g.order (is_least g s)) (k - 1) 0) (mem-item (rising_list g.order (is_least g s)) (k - 1) 0 l) in
-        let q = get_or-map (λ u. rising_list g.order (joined g s u)) (rising_list g.order (is_least g s)) (k - 1) 0 [] l in
-        let j = rising_only g.order (joined g s (slice_index_or (rising_list g.order (is_least g s)) (k - 1) 0)) v (ap (λ (c : List ℕ). mem c v) (sym q) ∙ h) in
-        (m.0, m.1, joined_walk g s (slice_index_or (rising_list g.order (is_least g s)) (k - 1) 0) v j.1)
+components-once g s is = listed-once g.order (joined g s) (is_least g s) (λ u w v wu wv _ lu lw hu hw.
+    least_same g s is u w wu wv lu lw (joined_on g s u v w (joined_walk g s u v hu) (joined_back g s w v (joined_walk g s w v hw))))
+
+-- the least vertex of a class has no equivalent vertex below it
+least-none_below : (g : Graph) (u w : ℕ) → Within g.order u → is_least_of_class g w ≡ true → u < w → Equivalent g u w → ⊥
+least-none_below g u w wu lw l e = both_ways (some g.order (λ b. nat_lt b w && is_equivalent g b w)) (not_true (some g.order (λ b. nat_lt b w && is_equivalent g b w)) lw)
+    (true_some g.order (λ b. nat_lt b w && is_equivalent g b w) u wu (and_from (nat_lt u w) (is_equivalent g u w) (lt-ltb u w l) (is_equivalent_found g u w e)))
+
+-- no vertex of a covered graph is in two classes of the list
+pub classes-once : (g : Graph) → IsGraph g → IsCovered g → (i j v : ℕ) → Within (length (classes g)) i → Within (length (classes g)) j →
+    mem (item (classes g) i) v ≡ true → mem (item (classes g) j) v ≡ true → i ≡ j
+unfolding classes
+classes-once g is cov = listed-once g.order (is_equivalent g) (is_least_of_class g) (λ u w v wu ww wv lu lw hu hw.
+    let q : Equivalent g u w = equivalent_on g u v w is cov wu wv ww (is_equivalent_says g u v hu) (equivalent_back g w v (is_equivalent_says g w v hw)) in
+    elim (cases_order u w) [
+      | inl e ↦ e
+      | inr o ↦ elim o [
+        | inl l ↦ absurd (least-none_below g u w wu lw l q)
+        | inr l ↦ absurd (least-none_below g w u ww lu l (equivalent_back g u w q))
+      ]
+    ])

@@ -61,12 +61,6 @@ leader g s is v wv out =
     let p = and_parts (is_least g s f.0) (joined g s f.0 v) t in
     (f.0, f.1, p.0, joined_walk g s f.0 v p.1, λ w ww l j. only_one g.order (λ u. is_least g s u && joined g s u v) one w f.0 ww f.1 (and_from (is_least g s w) (joined g s w v) l (walk_joined g s is w v ww j)) t)
 
--- two least vertices that a walk joins are one
-pub leaders_apart : (g : Graph) (s : Set) → IsGraph g → (u v : ℕ) → Within g.order u → Within g.order v → is_least g s u ≡ true → is_least g s v ≡ true → Joined g s u v → u ≡ v
-leaders_apart g s is u v wu wv lu lv j =
-    let l = leader g s is v wv (least_says g s is v wv lv).0 in
-    l.4 u wu lu j ∙ sym (l.4 v wv lv (joined_self g s v))
-
 -- the number of components counts the least vertices
 pub count-leaders : (g : Graph) (s : Set) → component_count g s ≡ count g.order (is_least g s)
 unfolding component_count

@@ -1,20 +1,25 @@
 -- A graph is matching covered or there is a reason why not, never both, and no two reasons.
--- Each reason denies a part of being covered and asserts the parts before it; each part is decided.
-use Rattle.std.proofs.Common.{◌≡◌, ℕ, suc, zero, ◌≤◌, ◌⊎◌, inl, inr, refl, sym, ap, ap₂, ◌∙◌, arith, List, nat_le, leb-true, subst}
-use Rattle.std.proofs.lemmas.Bool.{both_ways, cases_Bool, cases_eq, cases_order, leb-false}
+-- Each reason denies a part of being covered and asserts the parts before it; each part is decided, and each graph has a Berge set.
+use Rattle.std.proofs.Common.{◌≡◌, ℕ, suc, zero, ◌+◌, ◌≤◌, ◌⊎◌, ◌||◌, inl, inr, refl, sym, ap, ap₂, ◌∙◌, arith, List, nat_le, leb-true, subst}
+use Rattle.std.proofs.lemmas.Bool.{cases_Bool, cases_eq, cases_order, leb-false}
+use Rattle.barrier_kit.proofs.ClassLaw.{perfect_or_not}
+use Rattle.barrier_kit.proofs.Enlarging.{odd_component_count-congr}
+use Rattle.counting.proofs.Counts.{count_congr}
+use Rattle.counting.proofs.RisingLists.{mem-rising_list, rising_list-rises}
 use Rattle.counting.specs.Counts.{Within}
-use Rattle.counting.specs.Lists.{IsRisingIn, mem}
-use Rattle.counting.specs.Sets.{none}
+use Rattle.counting.specs.Lists.{IsRisingIn, mem, rising_list}
+use Rattle.counting.specs.Sets.{none, union}
 use Rattle.counting.specs.Tests.{IsLeastWithout}
-use Rattle.graph_core.proofs.Decide.{allowed_or_not, covered_perfect, has_perfect_found, has_perfect_says}
+use Rattle.graph_core.proofs.Decide.{allowed_or_not, covered_perfect}
 use Rattle.graph_core.proofs.Walks.{joined_back, joined_on, joined_or_not}
 use Rattle.graph_core.specs.BergeSets.{IsBergeSet}
 use Rattle.graph_core.specs.Components.{IsConnected}
 use Rattle.graph_core.specs.Covered.{IsCovered, IsReason, Reason, Small, Parted, Unmatched, Unallowed}
 use Rattle.graph_core.specs.Graph.{Graph, IsGraph, IsMultigraph, size}
-use Rattle.graph_core.specs.Matchings.{Allowed, HasPerfect, has_perfect}
+use Rattle.graph_core.specs.Matchings.{Allowed, HasPerfect, missed_count}
 use Rattle.definition_laws.specs.Words.{without_berge}
 use Rattle.graph_core.specs.Walks.{Joined}
+use Rattle.match_core.proofs.TutteBerge.{tutte_berge}
 
 -- a graph with a reason is not covered
 pub reason-uncovered : (g : Graph) (r : Reason) → IsMultigraph g → IsReason g r → IsCovered g → ⊥
@@ -37,7 +42,7 @@ all_or_least n P decided = go n (omega arith)
       ]
     ]
 
--- two least numbers without a property are one
+-- two least numbers without a property are one; ear_core, on which this crate does not stand, has the lemma too
 least-one : (n : ℕ) (P : ℕ → Type 0) (d e : ℕ) → IsLeastWithout n P d → IsLeastWithout n P e → d ≡ e
 least-one n P d e a b = elim (cases_order d e) [
   | inl q ↦ q
@@ -51,16 +56,19 @@ least-one n P d e a b = elim (cases_order d e) [
 connected_from_one : (g : Graph) → ((v : ℕ) → Within g.order v → Joined g none 1 v) → IsConnected g
 connected_from_one g all u v wu wv = joined_on g none u 1 v (joined_back g none 1 u (all u wu)) (all v wv)
 
--- there is a perfect matching or there is none
-perfect_or_not : (g : Graph) → (HasPerfect g none) ⊎ (HasPerfect g none → ⊥)
-perfect_or_not g = elim (cases_Bool (has_perfect g none)) [
-  | inl t ↦ inl (has_perfect_says g none t)
-  | inr f ↦ inr (λ h. both_ways (has_perfect g none) f (has_perfect_found g none h))
-]
+-- each graph has a Berge set, as a rising list
+berge_list : (g : Graph) → IsGraph g → (s : List ℕ) × IsRisingIn g.order s × IsBergeSet g none (mem s)
+berge_list g is =
+    let t = tutte_berge g none is in
+    let s = rising_list g.order t.s in
+    let same : (v : ℕ) → Within g.order v → mem s v ≡ t.s v = mem-rising_list g.order t.s in
+    let sizes = count_congr g.order (mem s) t.s same in
+    let parts = odd_component_count-congr g (union none (mem s)) (union none t.s) is (λ v w. ap (λ b. none v || b) (same v w)) in
+    (s, rising_list-rises g.order t.s, (t.m, t.is, ap (λ c. missed_count g none t.m + c) sizes ∙ t.equal ∙ sym parts))
 
--- covered, or a reason; the Berge set is the one given
-pub covered_or_reason : (g : Graph) (s : List ℕ) → IsGraph g → IsRisingIn g.order s → IsBergeSet g none (mem s) → (IsCovered g) ⊎ ((r : Reason) × IsReason g r)
-covered_or_reason g s is rises berge = elim (cases_Bool (nat_le 2 g.order)) [
+-- covered, or a reason
+pub covered_or_reason : (g : Graph) → IsGraph g → (IsCovered g) ⊎ ((r : Reason) × IsReason g r)
+covered_or_reason g is = elim (cases_Bool (nat_le 2 g.order)) [
   | inr f ↦ inr (Small, leb-false 2 g.order f)
   | inl t ↦ big (leb-true 2 g.order t)
 ]
@@ -72,9 +80,9 @@ covered_or_reason g s is rises berge = elim (cases_Bool (nat_le 2 g.order)) [
     ]
 
     connected : 2 ≤ g.order → IsConnected g → (IsCovered g) ⊎ ((r : Reason) × IsReason g r)
-    connected two con = elim (perfect_or_not g) [
+    connected two con = elim (perfect_or_not g none) [
       | inl per ↦ matched two con per
-      | inr alone ↦ inr (Unmatched s, (two, con, alone, rises, berge))
+      | inr alone ↦ let b = berge_list g is in inr (Unmatched b.0, (two, con, λ h. alone h.0 h.1, b.1, b.2))
     ]
 
     big : 2 ≤ g.order → (IsCovered g) ⊎ ((r : Reason) × IsReason g r)

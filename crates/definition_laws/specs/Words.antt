@@ -1,5 +1,5 @@
--- The words of a textbook for what the other files define by degrees, counts and tests. The laws in `definition_laws` say that
--- they agree. Any textbook (Lovász and Plummer, "Matching Theory").
+-- The words of a textbook for what graph_core defines by degrees, counts and tests. The laws of this crate say that they agree.
+-- Any textbook (Lovász and Plummer, "Matching Theory").
 use Rattle.std.specs.Prelude.{◌≡◌, ◌≢◌, ◌<◌, ◌⊎◌, ◌↔◌, ℕ, true, false, List, [], length}
 use Rattle.counting.specs.Counts.{Within}
 use Rattle.counting.specs.Lists.{mem, IsRisingIn}

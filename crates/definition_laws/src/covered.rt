@@ -1,11 +1,10 @@
 //! Matching covered graphs, the reasons why a graph is not one, the canonical partition and the pairs, in the words of a textbook.
 //!
 //! Each law here is the contract of a function that does nothing.
-ghost use Rattle.std.specs.Prelude.{◌≡◌, ℕ, List, ◌≤◌, ◌⊎◌, true, ◌↔◌, All, Any, Some};
+ghost use Rattle.std.specs.Prelude.{◌≡◌, ℕ, List, ◌≤◌, ◌⊎◌, true, length, ◌↔◌, All, Any, Some};
 ghost use Rattle.counting.specs.Counts.{Within};
-ghost use Rattle.counting.specs.Lists.{mem, IsRisingIn};
-ghost use Rattle.counting.specs.Sets.{none, pair_set};
-ghost use Rattle.graph_core.specs.BergeSets.{IsBergeSet};
+ghost use Rattle.counting.specs.Lists.{item, mem};
+ghost use Rattle.counting.specs.Sets.{pair_set};
 ghost use Rattle.graph_core.specs.Components.{component_count};
 ghost use Rattle.graph_core.specs.Covered.{IsCovered, IsReason, Reason};
 ghost use Rattle.graph_core.specs.Graph.{Graph, IsGraph, IsMultigraph};
@@ -13,23 +12,22 @@ ghost use Rattle.graph_core.specs.Matchings.{HasPerfect};
 ghost use Rattle.graph_core.specs.Structure.{Equivalent, classes, cut_pair, is_equivalent, unlike_pair};
 ghost use Rattle.definition_laws.specs.Words.{IsFirstPair, IsListOfClass, without_berge};
 
-/// A multigraph with a reason is not matching covered, and two reasons are equal but for the Berge set. A graph of which some
-/// Berge set is known (there is one of each graph) is matching covered or has a reason.
+/// Each graph is matching covered or has a reason, and a multigraph never both. Two reasons of a graph are equal but for the
+/// Berge set, of which there may be many.
 pub fn reason_law()
     ensures uncovered { (g : Graph) (r : Reason) → IsMultigraph g → IsReason g r → IsCovered g → ⊥ }
     ensures one { (g : Graph) (q r : Reason) → IsReason g q → IsReason g r → without_berge q ≡ without_berge r }
-    ensures some { (g : Graph) (s : List ℕ) → IsGraph g → IsRisingIn g.order s → IsBergeSet g none (mem s) →
-        (IsCovered g) ⊎ ((r : Reason) × IsReason g r) }
+    ensures some { (g : Graph) → IsGraph g → (IsCovered g) ⊎ ((r : Reason) × IsReason g r) }
 {}
 
 /// The test `is_equivalent` says that two vertices are equal or leave no perfect matching, and each list of the canonical
-/// partition is the class of one of its vertices. Where the relation is transitive, as it is in a covered graph
-/// (`equivalence_law` of `barrier_kit`), each vertex is in one of the lists.
+/// partition is the class of one of its vertices. In a covered graph each vertex is in exactly one of the lists.
 pub fn canonical_partition_law()
     ensures test { (g : Graph) (a b : ℕ) → ((is_equivalent g a b ≡ true) ↔ Equivalent g a b) }
     ensures lists { (g : Graph) → All (IsListOfClass g) (classes g) }
-    ensures cover { (g : Graph) → ((a b c : ℕ) → Within g.order a → Within g.order b → Within g.order c → Equivalent g a b → Equivalent g b c → Equivalent g a c) →
-        (a : ℕ) → Within g.order a → Any (λ (c : List ℕ). mem c a ≡ true) (classes g) }
+    ensures cover { (g : Graph) (a : ℕ) → IsGraph g → IsCovered g → Within g.order a → Any (λ (c : List ℕ). mem c a ≡ true) (classes g) }
+    ensures once { (g : Graph) (i j a : ℕ) → IsGraph g → IsCovered g → Within (length (classes g)) i → Within (length (classes g)) j →
+        mem (item (classes g) i) a ≡ true → mem (item (classes g) j) a ≡ true → i ≡ j }
 {}
 
 /// The pairs that `unlike_pair` and `cut_pair` answer are the first in lexicographic order: the first a < b without which there

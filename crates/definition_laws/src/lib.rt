@@ -10,7 +10,8 @@
 //! `IsTightAt`). Covered graphs: `reason_law` (`IsCovered`, `IsReason`), `canonical_partition_law` (`classes`), `first_pair_law`
 //! (`unlike_pair`, `cut_pair`).
 //!
-//! Stands on `graph_core`. Source: Lovász and Plummer, "Matching Theory".
+//! Stands on `graph_core`, and for the Berge set of each graph and the classes of a covered graph on `match_core` and
+//! `barrier_kit`. Source: Lovász and Plummer, "Matching Theory".
 #![tactic(auto)]
 
 mod components;

@@ -1,6 +1,7 @@
 use Rattle.graph_core.proofs.Components.{length-components}
 use Rattle.definition_laws.proofs.Covering.{components-cover, components-once}
-use Rattle.definition_laws.proofs.Leaders.{components-are, count-leaders, count-odd_leaders, leader, leaders_apart, least_found, least_says}
+use Rattle.definition_laws.proofs.Leaders.{components-are, count-leaders, count-odd_leaders, leader, least_found, least_says}
+use Rattle.graph_core.proofs.Trees.{least_same}
 use Rattle.graph_core.proofs.Walks.{joined_back, joined_on, joined_self}
 use Rattle.definition_laws.proofs.components.component_law.Goals as goal
 
@@ -14,7 +15,7 @@ pub returns-clause-one : goal.returns-clause-one
 returns-clause-one c g s v is w out = leader g s is v w out
 
 pub returns-clause-apart : goal.returns-clause-apart
-returns-clause-apart c g s u v is wu wv lu lv j = leaders_apart g s is u v wu wv lu lv j
+returns-clause-apart c g s u v is wu wv lu lv j = least_same g s is u v wu wv lu lv j
 
 pub returns-clause-count : goal.returns-clause-count
 returns-clause-count c g s = count-leaders g s

@@ -1,5 +1,5 @@
 use Rattle.graph_core.proofs.Decide.{is_equivalent_found, is_equivalent_says}
-use Rattle.definition_laws.proofs.Covering.{classes-cover}
+use Rattle.definition_laws.proofs.Covering.{classes-cover, classes-once}
 use Rattle.definition_laws.proofs.Leaders.{classes-are}
 use Rattle.definition_laws.proofs.covered.canonical_partition_law.Goals as goal
 
@@ -10,4 +10,7 @@ pub returns-clause-lists : goal.returns-clause-lists
 returns-clause-lists c g = classes-are g
 
 pub returns-clause-cover : goal.returns-clause-cover
-returns-clause-cover c g on a w = classes-cover g on a w
+returns-clause-cover c g a is cov w = classes-cover g is cov a w
+
+pub returns-clause-once : goal.returns-clause-once
+returns-clause-once c g i j a is cov wi wj hi hj = classes-once g is cov i j a wi wj hi hj

@@ -8,4 +8,4 @@ pub returns-clause-one : goal.returns-clause-one
 returns-clause-one c g q r a b = reason-one g q r a b
 
 pub returns-clause-some : goal.returns-clause-some
-returns-clause-some c g s is rises berge = covered_or_reason g s is rises berge
+returns-clause-some c g is = covered_or_reason g is
