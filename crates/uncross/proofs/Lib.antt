@@ -28,3 +28,5 @@ pub mod Planned
 pub mod PlanSets
 pub mod ExposeSteps
 pub mod CompareSteps
+pub mod MappedSteps
+pub mod PlaceSteps

@@ -15,6 +15,7 @@
 
 mod between;
 mod comparing;
+mod composing;
 mod exposing;
 pub mod laws;
 mod leaf_maps;
