@@ -30,3 +30,5 @@ pub mod ExposeSteps
 pub mod CompareSteps
 pub mod MappedSteps
 pub mod PlaceSteps
+pub mod MapLists
+pub mod BlockImages

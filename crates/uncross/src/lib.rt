@@ -14,14 +14,19 @@
 #![tactic(auto)]
 
 mod between;
+mod block_images;
 mod comparing;
 mod composing;
 mod exposing;
 pub mod laws;
 mod leaf_maps;
+mod leaf_orders;
 mod move_maps;
 mod plans;
 mod turning;
 
 pub use between::moves_between;
 pub use leaf_maps::{LeafMap, LeafMaps};
+
+#[cfg(test)]
+mod tests;
