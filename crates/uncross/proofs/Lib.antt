@@ -32,3 +32,6 @@ pub mod MappedSteps
 pub mod PlaceSteps
 pub mod MapLists
 pub mod BlockImages
+pub mod FollowedMaps
+pub mod ScriptSteps
+pub mod ExposedShores
