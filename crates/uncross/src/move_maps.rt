@@ -3,7 +3,7 @@ ghost use Rattle.std.specs.Prelude.{◌≡◌, ◌≤◌, ◌<◌, ◌+◌, ◌-
 ghost use Rattle.counting.specs.Counts.{Within};
 ghost use Rattle.graph_core.specs.Partitions.{complement_of, singles};
 ghost use Rattle.contraction.specs.Partition.{IsUnionAt};
-ghost use Rattle.tree_core.specs.Derivations.{kept_at, merged_at};
+ghost use Rattle.tree_core.specs.Derivations.{kept_at};
 ghost use Rattle.tree_core.specs.LeafMaps.{maps_from, move_maps, names_at, own_maps, position, switch_names};
 ghost use Rattle.tree_core.specs.Leaves.{StandsAt, leaves_at};
 ghost use Rattle.tree_core.specs.Moves.{move_result};
