@@ -1,6 +1,6 @@
 -- Two pairings, one after the other, can be composed: each map of the first leads to a leaf of the second, by names of blocks that have a
 -- place there.
-use Rattle.std.proofs.Common.{All, List, [], ◌∷◌, ap, arith, get_or, length, refl, subst, sym, ℕ, ◌+◌, ◌-◌, ◌<◌, ◌≡◌, ◌≤◌}
+use Rattle.std.proofs.Common.{All, List, [], ◌∷◌, ap, arith, get_or, length, refl, subst, sym, ℕ, ◌+◌, ◌-◌, ◌≡◌, ◌≤◌}
 use Rattle.std.proofs.lemmas.List.Elements.{All-from_get_or}
 use Rattle.counting.specs.Counts.{Within}
 use Rattle.graph_core.specs.Graph.{Graph}

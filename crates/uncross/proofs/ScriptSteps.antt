@@ -1,5 +1,5 @@
 -- The maps of a script, move by move: what holds where some of its moves are made.
-use Rattle.std.proofs.Common.{All, List, Some, ap, ap₂, arith, length, map, refl, subst, subst₂, sym, unwrap_or, ℕ, ◌+◌, ◌∙◌, ◌∷◌, ◌≡◌, ◌≤◌}
+use Rattle.std.proofs.Common.{All, List, Some, ap, ap₂, arith, length, map, refl, subst, subst₂, sym, unwrap_or, ℕ, ◌∙◌, ◌∷◌, ◌≡◌, ◌≤◌}
 use Rattle.std.proofs.lemmas.List.{length-map}
 use Rattle.counting.proofs.Counts.{count_complement}
 use Rattle.graph_core.proofs.Singles.{length-singles}
@@ -11,7 +11,6 @@ use Rattle.contraction.specs.Partition.{PartitionValue}
 use Rattle.tree_core.proofs.CutsBelow.{few-leaves}
 use Rattle.tree_core.proofs.DerivationLeaves.{partitions-leaves}
 use Rattle.tree_core.proofs.DerivationStands.{fits-derivation, stands-derivation}
-use Rattle.tree_core.proofs.Sizes.{length-leaves_at}
 use Rattle.tree_core.specs.Derivations.{IsDerivation}
 use Rattle.tree_core.specs.LeafMaps.{PlainLeafMap, maps_after, move_maps, own_maps, script_maps, then_map}
 use Rattle.tree_core.specs.Leaves.{StandsAt, leaves, partitions_of}
@@ -54,10 +53,11 @@ pub record Remains (g : Graph) (first current : Shape) (ms left : List PlainMove
   pub value : maps_after g.order current maps left ≡ script_maps g.order first ms
 
 module _ (g : Graph) (is : IsGraph g) (few : g.order ≤ 128) (n : ℕ) (same : n ≡ g.order) where
-  -- what is asked where the maps of moves on a derivation are computed
+  -- a derivation fits where its leaves and the maps of moves on it are asked for
   pub fits : (t : Shape) → IsDerivation g t → Fits n t
   fits t d = subst (λ k. Fits k t) (sym same) (fits-derivation g t d)
 
+  -- and that its shores stand where they should
   pub stands : (t : Shape) → IsDerivation g t → StandsAt n (singles n) t
   stands t d = subst (λ k. StandsAt k (singles k) t) (sym same) (stands-derivation g t d)
 
@@ -70,19 +70,23 @@ module _ (g : Graph) (is : IsGraph g) (few : g.order ≤ 128) (n : ℕ) (same : 
 
   -- at the next move
   module _ (first current : Shape) (ms left others : List PlainMove) (m : PlainMove) (maps : List PlainLeafMap) (r : Remains g first current ms left maps) (e : left ≡ m ∷ others) where
+    -- the moves from here
     road : (t : Shape) × Walk g (singles g.order) current (m ∷ others) t
     road = subst (λ (ls : List PlainMove). (t : Shape) × Walk g (singles g.order) current ls t) e r.walk
 
+    -- the first of them has a result
     result : move_result n current m ≡ Some road.1.0
     result = ap (λ k. move_result k current m) same ∙ road.1.1
 
-    -- it has a result
+    -- the same, with the result left open
     pub made : (t : Shape) × (move_result n current m ≡ Some t)
     made = (road.1.0, result)
 
+    -- its maps pair the leaves
     next_pairs : IsPairing g (leaves g.order current) (leaves g.order road.1.0) (move_maps g.order current m)
     next_pairs = move_pairs g current road.1.0 m (singles_stage g is r.derives.covered) (rising-derivation_at g (singles g.order) current r.derives.derives) r.derives.derives road.1.2 road.1.1 road.1.3
 
+    -- after it the same holds
     next_remains : Remains g first road.1.0 ms others (map (then_map (leaves g.order current) (move_maps g.order current m)) maps)
     next_remains =
         let next : unwrap_or (move_result g.order current m) current ≡ road.1.0 = ap (λ o. unwrap_or o current) road.1.1 in
@@ -93,24 +97,26 @@ module _ (g : Graph) (is : IsGraph g) (few : g.order ≤ 128) (n : ℕ) (same : 
           value = sym (ap (λ s. maps_after g.order s (map (then_map (leaves g.order current) (move_maps g.order current m)) maps) others) next) ∙ sym (ap (maps_after g.order current maps) e) ∙ r.value;
         }
 
-    -- its maps, seconds, at the leaves ps
+    -- with its maps, `seconds`, and the leaves ps, as the code has them
     module _ (seconds : List LeafMap) (ps : List PartitionValue) (are_maps : maps_of seconds ≡ move_maps n current m) (are_leaves : ps ≡ partitions_of n (leaves n current)) where
+      -- the maps, at the graph's order
       second_maps : maps_of seconds ≡ move_maps g.order current m
       second_maps = are_maps ∙ ap (λ k. move_maps k current m) same
 
+      -- the leaves, at the graph's order
       its_leaves : blocks_of ps ≡ leaves g.order current
       its_leaves = ap blocks_of are_leaves ∙ blocks-partitions n (leaves n current) ∙ ap (λ k. leaves k current) same
 
-      -- are as many as the leaves
+      -- there are as many maps as leaves
       pub as_many : length seconds ≡ length ps
       as_many = sym (length-map seconds map_of) ∙ ap length second_maps ∙ next_pairs.one_each ∙ sym (ap length its_leaves) ∙ length-map ps (λ (p : PartitionValue). p.blocks)
 
-      -- the maps so far may be followed by them
+      -- the maps so far may be followed by these
       pub follows : All (IsFollowed (blocks_of ps) (maps_of seconds)) maps
       follows = subst₂ (λ (qs : List (List (List ℕ))) (ns : List PlainLeafMap). All (IsFollowed qs ns) maps) (sym its_leaves) (sym second_maps)
           (followed g (leaves g.order first) (leaves g.order current) (leaves g.order road.1.0) maps (move_maps g.order current m) few (partitions-leaves g current r.derives) r.pairs next_pairs)
 
-      -- and then the same holds again
+      -- and where they are, the same holds again
       pub step : (next : Shape) (after : List PlainLeafMap) → after ≡ map (then_map (blocks_of ps) (maps_of seconds)) maps → ((t : Shape) → move_result n current m ≡ Some t → next ≡ t) → Remains g first next ms others after
       step next after composed moved =
           let new : next ≡ road.1.0 = moved road.1.0 result in

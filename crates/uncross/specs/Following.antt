@@ -3,7 +3,7 @@ use Rattle.std.specs.Prelude.{ℕ, List, All, length, map}
 use Rattle.contraction.specs.Partition.{PartitionValue}
 use Rattle.counting.specs.Counts.{Within}
 use Rattle.graph_core.specs.Partitions.{place}
-use Rattle.tree_core.specs.LeafMaps.{PlainLeafMap, leaf_at, map_at, name}
+use Rattle.tree_core.specs.LeafMaps.{PlainLeafMap, leaf_at, map_at}
 
 -- the blocks of each partition
 abbrev pub blocks_of : List PartitionValue → List (List (List ℕ))

@@ -1,6 +1,6 @@
 -- The maps so far, followed by those of the rest, are all of them; and the rest may be followed.
 use Rattle.std.proofs.Common.{◌≡◌, ◌++◌, All, length, map}
-use Rattle.tree_core.specs.LeafMaps.{PlainLeafMap, then_map}
+use Rattle.tree_core.specs.LeafMaps.{then_map}
 use Rattle.uncross.specs.Following.{IsFollowed, blocks_of}
 use Rattle.uncross.specs.MapView.{maps_of}
 use Rattle.uncross.proofs.composing.followed_by.Given as goal
