@@ -1,5 +1,5 @@
 // The worked reports of `analyse`, `convert` and `analyse6`.
-use crate::graphs::{K4, K4_REPORT, NAMED_CYCLE};
+use crate::graphs::{K4, K4_REPORT, NAMED_CYCLE, cycle};
 use crate::trial::ran;
 use bench_top::Status;
 use std::alloc::Global;
@@ -99,18 +99,7 @@ fn reports_with_names(rt: HostRuntime) -> Result<(), Fail> {
     Ok(())
 }
 
-// The cycle of so many vertices in version 1 of the graph format.
-fn plain_cycle(alloc: Global, n: u32) -> Result<String, Fail> {
-    let mut text = format!(in alloc; "p mcg {n} {n}\n")?;
-    for k in 1..n {
-        let next = k + 1;
-        write!(text, "e {k} {next}\n")?;
-    }
-    write!(text, "e {n} 1\n")?;
-    Ok(text)
-}
-
-// The same with the plain names in version 2.
+// The cycle of so many vertices with the plain names.
 fn named_cycle(alloc: Global, n: u32) -> Result<String, Fail> {
     let mut text = format!(in alloc; "p mcg2 {n} {n}\n")?;
     for k in 0..n {
@@ -174,7 +163,7 @@ fn conversions(rt: HostRuntime) -> Result<(), Fail> {
         assert_eq!(rt; status, Status::Done);
         assert_eq!(rt; again.as_slice(), canonical.as_bytes());
     }
-    let plain = plain_cycle(rt.alloc(), 64)?;
+    let plain = cycle(rt.alloc(), 64)?;
     let named = named_cycle(rt.alloc(), 64)?;
     let (_, written) = ran(rt.alloc(), &["convert", "g"], &[&plain])?;
     assert_eq!(rt; written.as_slice(), named.as_bytes());

@@ -1,8 +1,7 @@
 // Worked decompositions, in named orders and in those of pick files, and their refusals.
-use crate::graphs::{HEXAGON, TRIANGLE_IN_K33, TWO_K4};
+use crate::graphs::{HEXAGON, TRIANGLE_IN_K33, TWO_K4, cycle};
 use crate::trial::ran;
 use bench_top::Status;
-use std::alloc::Global;
 use std::str;
 use std::test::Fail;
 
@@ -92,17 +91,6 @@ fn first_cuts(rt: HostRuntime) -> Result<(), Fail> {
         assert!(rt; report.ends_with(end));
     }
     Ok(())
-}
-
-// The cycle of so many vertices.
-fn cycle(alloc: Global, n: u32) -> Result<String, Fail> {
-    let mut text = format!(in alloc; "p mcg {n} {n}\n")?;
-    for k in 1..n {
-        let next = k + 1;
-        write!(text, "e {k} {next}\n")?;
-    }
-    write!(text, "e {n} 1\n")?;
-    Ok(text)
 }
 
 #[test]

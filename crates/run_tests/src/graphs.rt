@@ -1,4 +1,6 @@
 // The graphs of the tests, as files.
+use std::alloc::Global;
+use std::test::Fail;
 
 pub const K4: &str = "p mcg 4 6\ne 1 2\ne 1 3\ne 1 4\ne 2 3\ne 2 4\ne 3 4\n";
 
@@ -6,6 +8,10 @@ pub const K4_REPORT: &str =
     "graph 4 6\ncomponents 1\nbipartite no\nmatching 2\ndeficiency 0\nD\nA\nC 1 2 3 4\nallowed 1 2 3 4 5 6\ncovered yes\nclasses 4\nclass 1\nclass 2\nclass 3\nclass 4\nbicritical yes\ncutpair none\nkind brick\n";
 
 pub const HEXAGON: &str = "p mcg 6 6\ne 1 2\ne 2 3\ne 3 4\ne 4 5\ne 5 6\ne 6 1\n";
+
+// The cycle of eight vertices.
+pub const OCTAGON: &str =
+    "p mcg 8 8\ne 1 2\ne 2 3\ne 3 4\ne 4 5\ne 5 6\ne 6 7\ne 7 8\ne 8 1\n";
 
 // Two derivations of the hexagon, whose cuts cross.
 pub const HEXAGON_TREE: &str = "t mcg 6\ncut 1 2 3\nleaf\nleaf\n";
@@ -36,3 +42,14 @@ pub const PATH: &str = "p mcg 4 3\ne 1 2\ne 2 3\ne 3 4\n";
 
 // Two edges without a common vertex.
 pub const TWO_EDGES: &str = "p mcg 4 2\ne 1 2\ne 3 4\n";
+
+// The cycle of so many vertices.
+pub fn cycle(alloc: Global, n: u32) -> Result<String, Fail> {
+    let mut text = format!(in alloc; "p mcg {n} {n}\n")?;
+    for k in 1..n {
+        let next = k + 1;
+        write!(text, "e {k} {next}\n")?;
+    }
+    write!(text, "e {n} 1\n")?;
+    Ok(text)
+}

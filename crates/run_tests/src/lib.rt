@@ -1,6 +1,6 @@
 //! Tests of the top call `bench_top::run`: what each command answers and writes.
 //!
-//! `analysing`, `decomposing`, `checking`: the worked reports of the commands. `words`: words that match no row. `malformed`: one table
+//! `analysing`, `decomposing`, `checking`, `comparing`, `replaying`, `growing`: the worked reports of the commands. `words`: words that match no row. `malformed`: one table
 //! for each text format, with each row of its table of faults. `faults`: over all commands each read and each write fails in turn, and
 //! the room of the sink is too small; and over a sink that only counts nothing fails.
 //!
@@ -14,13 +14,19 @@ mod analysing;
 #[cfg(test)]
 mod checking;
 #[cfg(test)]
+mod comparing;
+#[cfg(test)]
 mod decomposing;
 #[cfg(test)]
 mod faults;
 #[cfg(test)]
 mod graphs;
 #[cfg(test)]
+mod growing;
+#[cfg(test)]
 mod malformed;
+#[cfg(test)]
+mod replaying;
 #[cfg(test)]
 mod trial;
 #[cfg(test)]
