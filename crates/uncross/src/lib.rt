@@ -29,6 +29,7 @@ mod plans;
 mod script_maps;
 mod turning;
 
+pub use between::moves_between;
 pub use exposed::{Exposed, expose};
 pub use leaf_maps::{LeafMap, LeafMaps};
 pub use pairing::{Pairing, compare};
