@@ -7,3 +7,4 @@ pub mod Turning
 pub mod Plans
 pub mod TurnedView
 pub mod PlanView
+pub mod MapView
