@@ -7,4 +7,3 @@ pub mod Turning
 pub mod Plans
 pub mod TurnedView
 pub mod PlanView
-pub mod MapView

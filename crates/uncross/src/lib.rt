@@ -17,11 +17,7 @@ mod between;
 mod comparing;
 mod exposing;
 pub mod laws;
-mod leaf_maps;
-mod pairing;
 mod plans;
 mod turning;
 
 pub use between::moves_between;
-pub use leaf_maps::{LeafMap, LeafMaps};
-pub use pairing::{Pairing, compare};
