@@ -7,3 +7,5 @@ pub mod Turning
 pub mod Plans
 pub mod TurnedView
 pub mod PlanView
+pub mod MapView
+pub mod Following
