@@ -24,15 +24,15 @@ accepted_line tally = codes "accepted leaves " ++ decimal tally.leaves ++ codes 
 unfoldable pub numbered : List ℕ → ℕ → List ℕ
 numbered words number = words ++ decimal number
 
--- the line on a tree that is refused: which of the trees, the node, the reason, and what shows it
-abbrev pub refused_line : (tree node why : ℕ) → Shown → List ℕ
-refused_line tree node why what =
-    (((numbered (codes "tree ") tree ++ numbered (codes " refused node ") node) ++ numbered (codes " why ") why) ++ shown_text what) ++ codes "\n"
+-- a line that words and a number begin, and that tells the refusal of a tree: the node, the reason, and what shows it
+abbrev pub refused_line : (words : List ℕ) (number node why : ℕ) → Shown → List ℕ
+refused_line words number node why what =
+    (((numbered words number ++ numbered (codes " refused node ") node) ++ numbered (codes " why ") why) ++ shown_text what) ++ codes "\n"
 
 -- the line on a tree
 unfoldable pub judgement_text : TreeLine → List ℕ
 judgement_text (tree.Accepted tally) = accepted_line tally
-judgement_text (tree.Refused number node why what) = refused_line number node why what
+judgement_text (tree.Refused number node why what) = refused_line (codes "tree ") number node why what
 
 -- the edge that a refusal names, if it names one
 abbrev pub edge_text : Option ℕ → List ℕ

@@ -6,3 +6,5 @@ pub mod Derivations
 pub mod Judgements
 pub mod Comparisons
 pub mod EarReports
+pub mod Scripts
+pub mod Growths

@@ -57,16 +57,18 @@ fn push_numbered(text: &mut String, words: &str, number: u32) -> Result<(), Memo
     write!(text, "{words}{number}")
 }
 
-fn push_refused(
+/// Appends the line on a tree that is refused, which begins with the words and the number.
+pub fn push_refused(
     text: &mut String,
-    tree: u32,
+    words: &str,
+    number: u32,
     node: u32,
     why: u32,
     shown: &Shown,
 ) -> Result<(), Memory>
-    ensures { OnOk result (string_bytes text.new ≡ string_bytes text.old ++ refused_line tree node why shown.now) }
+    ensures { OnOk result (string_bytes text.new ≡ string_bytes text.old ++ refused_line words.now number node why shown.now) }
 {
-    push_numbered(text, "tree ", tree)?;
+    push_numbered(text, words, number)?;
     push_numbered(text, " refused node ", node)?;
     push_numbered(text, " why ", why)?;
     push_shown(text, shown)?;
@@ -95,7 +97,7 @@ fn push_judgement(text: &mut String, line: &TreeLine) -> Result<(), Memory>
             node,
             why,
             shown,
-        } => push_refused(text, *tree, *node, *why, shown),
+        } => push_refused(text, "tree ", *tree, *node, *why, shown),
     }
 }
 

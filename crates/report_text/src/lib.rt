@@ -2,7 +2,8 @@
 //!
 //! Each call writes the lines of one report from plain values and promises that the bytes are a stated function of them
 //! (`analysis_text` with `structure_text` for a covered graph, `derivation_text`, `judgement_text`, `ear_judgement_text`,
-//! `ears_report_text`, `pairing_text`, `bad_input_text`, in specs/). `with_names` and `graph6_line` put further lines behind a report.
+//! `ears_report_text`, `pairing_text`, `script_report_text`, `replayed_text`, `stuck_text`, `refused_move_text`, `grown_text`,
+//! `bad_input_text`, in specs/). `with_names` and `graph6_line` put further lines behind a report.
 //! What the values mean is said where they are computed: this crate knows no theory. It reads one thing itself: whether the quotient at
 //! a leaf is bipartite, which makes the leaf a brace or a brick (`IsTally`). Words of a line stand with one space between them, a list of numbers has
 //! one space before each, and each line ends with one line feed.
@@ -18,9 +19,11 @@ mod ear_judgements;
 mod ear_reports;
 mod faults;
 mod graph6;
+mod growths;
 mod judgements;
 mod names;
 mod numbers;
+mod scripts;
 mod structures;
 mod tallies;
 mod verdicts;
@@ -32,8 +35,10 @@ pub use ear_judgements::{EarLine, ear_judgement};
 pub use ear_reports::ears_report;
 pub use faults::bad_input;
 pub use graph6::graph6_line;
+pub use growths::grown;
 pub use judgements::{Shown, TreeLine, judgement};
 pub use names::with_names;
+pub use scripts::{replay_refused, replay_stuck, replayed, script_report};
 pub use structures::Structure;
 pub use tallies::{LeafKind, Tally, count_leaves};
 pub use verdicts::verdict_line;

@@ -1,7 +1,8 @@
 //! Lines behind a report, the leaves of a decomposition, judgements, and comparisons.
 use crate::{
     EarLine, MapLine, MapLines, Shown, Tally, TreeLine, count_leaves, derivation, ear_judgement,
-    ears_report, graph6_line, judgement, pairing, with_names,
+    ears_report, graph6_line, grown, judgement, pairing, replay_refused, replay_stuck, replayed,
+    script_report, with_names,
 };
 use contraction::Partition;
 use graph_core::{MultiGraph, Numbers};
@@ -189,5 +190,45 @@ fn comparison_of_leaves(rt: HostRuntime) -> Result<(), Fail> {
         b"same leaves 2 moves 2\nmove switch . 1 4,5\nmove rotate mk\nleaf 1 with 2\nmap 1 to 6\nmap 2 to 2\nmap 6 to 4\nleaf 2 with 1\nmap 3 to 5\n".as_slice()
     );
     assert!(rt; !maps.is_empty());
+    Ok(())
+}
+
+#[test]
+fn scripts_made_and_replayed(rt: HostRuntime) -> Result<(), Fail> {
+    let alloc = rt.alloc();
+    assert_eq!(rt;
+        script_report(alloc, b"m mcg 6\nrotate k\n", 3, 1)?.as_slice(),
+        b"m mcg 6\nrotate k\nc leaves 3 moves 1\n".as_slice()
+    );
+    assert_eq!(rt;
+        replayed(alloc, b"t mcg 4\nleaf\n", 0)?.as_slice(),
+        b"t mcg 4\nleaf\nc moves 0\n".as_slice()
+    );
+    assert_eq!(rt;
+        replay_stuck(alloc, 2)?.as_slice(),
+        b"move 2 stuck\n".as_slice()
+    );
+    let shown = Shown::Matching {
+        edges: numbers(alloc, &[2, 4, 6])?,
+    };
+    assert_eq!(rt;
+        replay_refused(alloc, 1, 1, 4, &shown)?.as_slice(),
+        b"move 1 refused node 1 why 4 matching 2 4 6\n".as_slice()
+    );
+    Ok(())
+}
+
+#[test]
+fn graph_that_grew(rt: HostRuntime) -> Result<(), Fail> {
+    let first = Tally {
+        leaves: 2,
+        bricks: 1,
+        braces: 1,
+    };
+    let report = grown(rt.alloc(), b"p mcg 0 0\n", first, first, 2)?;
+    assert_eq!(rt;
+        report.as_slice(),
+        b"p mcg 0 0\nc first leaves 2 bricks 1 braces 1\nc last leaves 2 bricks 1 braces 1\nc pairs 2\n".as_slice()
+    );
     Ok(())
 }

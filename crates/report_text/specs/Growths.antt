@@ -1,0 +1,22 @@
+-- The report of `grow`, as a function of the values that it tells: a text, which is that of the graph, and behind it as comments the
+-- leaves of two of its decompositions, counted, and how many leaves their comparison pairs.
+use Rattle.std.specs.Prelude.{ℕ, List, ◌++◌, codes}
+use Rattle.std.specs.Fmt.{decimal}
+use Rattle.report_text.specs.declared.tallies.Tally.{Tally}
+
+-- the line of the leaves of the decomposition by the order of this name
+abbrev pub order_line : (order : List ℕ) → Tally → List ℕ
+order_line order tally =
+    codes "c " ++ order ++ codes " leaves " ++ decimal tally.leaves ++ codes " bricks " ++ decimal tally.bricks ++ codes " braces " ++ decimal tally.braces ++ codes "\n"
+
+-- the line of the number of pairs
+abbrev pub pairs_line : ℕ → List ℕ
+pairs_line pairs = codes "c pairs " ++ decimal pairs ++ codes "\n"
+
+-- the comments
+abbrev pub growth_lines : (first last : Tally) → (pairs : ℕ) → List ℕ
+growth_lines first last pairs = (order_line (codes "first") first ++ order_line (codes "last") last) ++ pairs_line pairs
+
+-- a text, and behind it the comments
+unfoldable pub grown_text : List ℕ → (first last : Tally) → (pairs : ℕ) → List ℕ
+grown_text text first last pairs = text ++ growth_lines first last pairs

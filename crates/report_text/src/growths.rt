@@ -1,0 +1,55 @@
+//! The report of a graph that was grown.
+ghost use Rattle.std.specs.Prelude.{◌≡◌, ◌++◌, OnOk, IfOk, string_bytes};
+ghost use Rattle.report_text.specs.Growths.{grown_text, growth_lines, order_line, pairs_line};
+
+use crate::tallies::Tally;
+use std::alloc::{AllocError as Memory, Global};
+
+fn push_order(text: &mut String, order: &str, tally: Tally) -> Result<(), Memory>
+    ensures { OnOk result (string_bytes text.new ≡ string_bytes text.old ++ order_line order.now tally) }
+{
+    let Tally {
+        leaves,
+        bricks,
+        braces,
+    } = tally;
+    write!(
+        text,
+        "c {order} leaves {leaves} bricks {bricks} braces {braces}\n"
+    )
+}
+
+fn push_pairs(text: &mut String, pairs: u32) -> Result<(), Memory>
+    ensures { OnOk result (string_bytes text.new ≡ string_bytes text.old ++ pairs_line pairs) }
+{
+    write!(text, "c pairs {pairs}\n")
+}
+
+// The comments behind the graph.
+fn growth_comments(alloc: Global, first: Tally, last: Tally, pairs: u32) -> Result<String, Memory>
+    ensures { IfOk result (λ comments. string_bytes comments ≡ growth_lines first last pairs) }
+{
+    let mut comments = String::new(alloc);
+    push_order(&mut comments, "first", first)?;
+    push_order(&mut comments, "last", last)?;
+    push_pairs(&mut comments, pairs)?;
+    Ok(comments)
+}
+
+/// Writes the text and then, as comments, the numbers of the leaves of a first and of a last decomposition, and how many leaves their
+/// comparison pairs.
+#[tactic(auto, unfolding(crate::specs::Growths::grown_text))]
+pub fn grown(
+    alloc: Global,
+    text: &[u8],
+    first: Tally,
+    last: Tally,
+    pairs: u32,
+) -> Result<Vec<u8>, Memory>
+    ensures { IfOk result (λ report. report.items ≡ grown_text text.now first last pairs) }
+{
+    let comments = growth_comments(alloc, first, last, pairs)?;
+    let mut report = Vec::from_slice(alloc, text)?;
+    report.extend_from_slice(comments.as_bytes())?;
+    Ok(report)
+}

@@ -1,0 +1,84 @@
+//! The reports on scripts of moves, made and replayed.
+ghost use Rattle.std.specs.Prelude.{◌≡◌, ◌++◌, OnOk, IfOk, string_bytes};
+ghost use Rattle.report_text.specs.Scripts.{moves_line, refused_move_text, replayed_text, script_line, script_report_text, stuck_text};
+
+use crate::judgements::{Shown, push_refused};
+use std::alloc::{AllocError as Memory, Global};
+
+fn push_script(text: &mut String, leaves: u32, moves: u32) -> Result<(), Memory>
+    ensures { OnOk result (string_bytes text.new ≡ string_bytes text.old ++ script_line leaves moves) }
+{
+    write!(text, "c leaves {leaves} moves {moves}\n")
+}
+
+// The line of the numbers of leaves and of moves.
+fn line_of_script(alloc: Global, leaves: u32, moves: u32) -> Result<String, Memory>
+    ensures { IfOk result (λ line. string_bytes line ≡ script_line leaves moves) }
+{
+    let mut line = String::new(alloc);
+    push_script(&mut line, leaves, moves)?;
+    Ok(line)
+}
+
+/// Writes the text and then, as a comment, how many leaves and how many moves there are.
+#[tactic(auto, unfolding(crate::specs::Scripts::script_report_text))]
+pub fn script_report(alloc: Global, text: &[u8], leaves: u32, moves: u32) -> Result<Vec<u8>, Memory>
+    ensures { IfOk result (λ report. report.items ≡ script_report_text text.now leaves moves) }
+{
+    let line = line_of_script(alloc, leaves, moves)?;
+    let mut report = Vec::from_slice(alloc, text)?;
+    report.extend_from_slice(line.as_bytes())?;
+    Ok(report)
+}
+
+fn push_number_of_moves(text: &mut String, moves: u32) -> Result<(), Memory>
+    ensures { OnOk result (string_bytes text.new ≡ string_bytes text.old ++ moves_line moves) }
+{
+    write!(text, "c moves {moves}\n")
+}
+
+// The line of the number of moves.
+fn line_of_moves(alloc: Global, moves: u32) -> Result<String, Memory>
+    ensures { IfOk result (λ line. string_bytes line ≡ moves_line moves) }
+{
+    let mut line = String::new(alloc);
+    push_number_of_moves(&mut line, moves)?;
+    Ok(line)
+}
+
+/// Writes the text and then, as a comment, how many moves there are.
+#[tactic(auto, unfolding(crate::specs::Scripts::replayed_text))]
+pub fn replayed(alloc: Global, text: &[u8], moves: u32) -> Result<Vec<u8>, Memory>
+    ensures { IfOk result (λ report. report.items ≡ replayed_text text.now moves) }
+{
+    let line = line_of_moves(alloc, moves)?;
+    let mut report = Vec::from_slice(alloc, text)?;
+    report.extend_from_slice(line.as_bytes())?;
+    Ok(report)
+}
+
+/// Writes the line on a move, by its number counted from 1, that has no result.
+#[tactic(auto, unfolding(crate::specs::Scripts::stuck_text))]
+pub fn replay_stuck(alloc: Global, at: u32) -> Result<Vec<u8>, Memory>
+    ensures { IfOk result (λ text. text.items ≡ stuck_text at) }
+{
+    let text = format!(in alloc; "move {at} stuck\n")?;
+    Ok(text.into_bytes())
+}
+
+/// Writes the line on a move, by its number counted from 1, whose result is refused: at which node, counted from 1 in preorder, for
+/// the reason of which number, and what shows it.
+#[tactic(auto, unfolding(crate::specs::Scripts::refused_move_text))]
+pub fn replay_refused(
+    alloc: Global,
+    at: u32,
+    node: u32,
+    why: u32,
+    shown: &Shown,
+) -> Result<Vec<u8>, Memory>
+    ensures { IfOk result (λ text. text.items ≡ refused_move_text at node why shown.now) }
+{
+    let mut text = String::new(alloc);
+    push_refused(&mut text, "move ", at, node, why, shown)?;
+    Ok(text.into_bytes())
+}
