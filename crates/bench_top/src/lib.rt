@@ -11,17 +11,20 @@
 
 mod checking;
 mod command;
+mod comparing;
 mod decomposing;
 mod ear_checking;
 mod emit;
 mod formats;
 mod gather;
+mod growing;
 mod in_memory;
 mod judge;
 pub mod laws;
 mod naming;
 mod order;
 mod performing;
+mod replaying;
 mod report;
 mod running;
 mod status;
