@@ -12,10 +12,14 @@
 //! `grown`: on generated graphs and on the leaves of their decomposition the quick tests of `quick_kinds` agree with the complete
 //! finder, the ear lists that are built are accepted, and the table of pairs of a large graph ends.
 //!
+//! `compared`: two derivations of the cycle of eight are compared, the moves lead from the one to the other, and a shore is exposed.
+//!
 //! The crate has no items but these tests; they stand here since most calls ask for a covered graph, which `allowed_edges` decides.
 //! Source of the graphs: Lovász and Plummer, "Matching Theory".
 #![tactic(auto)]
 
+#[cfg(test)]
+mod compared;
 #[cfg(test)]
 mod cuts;
 #[cfg(test)]
