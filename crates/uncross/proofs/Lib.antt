@@ -28,3 +28,10 @@ pub mod Planned
 pub mod PlanSets
 pub mod ExposeSteps
 pub mod CompareSteps
+pub mod MappedSteps
+pub mod PlaceSteps
+pub mod MapLists
+pub mod BlockImages
+pub mod FollowedMaps
+pub mod ScriptSteps
+pub mod ExposedShores

@@ -8,3 +8,4 @@ pub mod Plans
 pub mod TurnedView
 pub mod PlanView
 pub mod MapView
+pub mod Following

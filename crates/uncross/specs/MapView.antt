@@ -1,7 +1,6 @@
 -- How the code's leaf maps and images of blocks are seen, as plain data.
 use Rattle.std.specs.Prelude.{ℕ, List, map}
 use Rattle.counting.specs.Lists.{is_subset, last_of}
-use Rattle.graph_core.specs.Partitions.{complement_of}
 use Rattle.tree_core.specs.LeafMaps.{PlainLeafMap}
 use Rattle.tree_core.specs.Moves.{inner_rest, list_if, meet_list, outer_rest, union_list}
 use Rattle.uncross.specs.declared.block_images.Images.{Images}
@@ -23,8 +22,8 @@ moved_image n staying leaving gained far coming t =
 
 -- the name of a block's image
 abbrev pub image_name : ℕ → Images → List ℕ → ℕ
-image_name n Own t = last_of t
-image_name n (Moved staying leaving gained far coming) t = last_of (moved_image n staying leaving gained far coming t)
+image_name n Own = last_of
+image_name n (Moved staying leaving gained far coming) = λ t. last_of (moved_image n staying leaving gained far coming t)
 
 -- the images of blocks below `kept` of x, where u and v are exchanged
 abbrev pub kept_images : ℕ → (x u v : List ℕ) → Images

@@ -1,0 +1,50 @@
+-- Two pairings, one after the other, can be composed: each map of the first leads to a leaf of the second, by names of blocks that have a
+-- place there.
+use Rattle.std.proofs.Common.{All, List, [], ◌∷◌, ap, arith, get_or, length, refl, subst, sym, ℕ, ◌+◌, ◌-◌, ◌≡◌, ◌≤◌}
+use Rattle.std.proofs.lemmas.List.Elements.{All-from_get_or}
+use Rattle.counting.specs.Counts.{Within}
+use Rattle.graph_core.specs.Graph.{Graph}
+use Rattle.graph_core.specs.Partitions.{IsPartition, place}
+use Rattle.tree_core.specs.LeafMaps.{PlainLeafMap, leaf_at, map_at, name}
+use Rattle.tree_core.specs.Leaves.{partitions_of}
+use Rattle.uncross.proofs.SameLeaves.{name_within}
+use Rattle.uncross.specs.Following.{IsFollowed, IsNamed, blocks_of}
+use Rattle.uncross.specs.Pairings.{IsPairing}
+use Rattle.uncross.specs.SameLeaf.{IsSameLeaf, image}
+
+-- a place counted from 0, counted from 1 and back
+back : (k : ℕ) → k + 1 - 1 ≡ k
+back k = omega arith
+
+-- a name of a block of q, which the names give a block of p
+named_by : (g : Graph) (p q : List (List ℕ)) (names given : List ℕ) → g.order ≤ 128 → IsPartition g.order q → IsSameLeaf g p q names → length given ≡ length q → (i : ℕ) → Within (length p) i → IsNamed q given (name names i)
+named_by g p q names given few qq same long i w =
+    let n = same.named i w in
+    let v = subst (Within g.order) n.1 (name_within g.order q qq.partition (image q names i) n.0) in
+    record { within = (v.0, omega arith); given = subst (λ k. Within k (place q (name names i))) (sym long) n.0 }
+
+-- and so of all names
+all_named : (g : Graph) (p q : List (List ℕ)) (names given : List ℕ) → g.order ≤ 128 → IsPartition g.order q → IsSameLeaf g p q names → length given ≡ length q → All (IsNamed q given) names
+all_named g p q names given few qq same long = All-from_get_or (IsNamed q given) names 0 (λ k l.
+    let one = same.one_each in let w : Within (length p) (k + 1) = (omega arith, omega arith) in
+    subst (λ j. IsNamed q given (get_or names j 0)) (back k) (named_by g p q names given few qq same long (k + 1) w))
+
+-- a map of the first pairing
+followed_at : (g : Graph) (ps qs rs : List (List (List ℕ))) (first second : List PlainLeafMap) → g.order ≤ 128 → All (IsPartition g.order) qs → IsPairing g ps qs first → IsPairing g qs rs second → (i : ℕ) → Within (length ps) i → IsFollowed qs second (map_at first i)
+followed_at g ps qs rs first second few parts one two i w =
+    let j = (map_at first i).to in let wj = one.within i w in
+    record {
+      within = wj;
+      named = all_named g (leaf_at ps i) (leaf_at qs j) (map_at first i).images (map_at second j).images few (parts (j - 1) [] (omega arith)) (one.same i w) (two.same j wj).one_each;
+    }
+
+-- two pairings can be composed
+pub followed : (g : Graph) (ps qs rs : List (List (List ℕ))) (first second : List PlainLeafMap) → g.order ≤ 128 → All (IsPartition g.order) qs → IsPairing g ps qs first → IsPairing g qs rs second → All (IsFollowed qs second) first
+followed g ps qs rs first second few parts one two = All-from_get_or (IsFollowed qs second) first (record { to = 0; images = [] }) (λ k l.
+    let each = one.one_each in let w : Within (length ps) (k + 1) = (omega arith, omega arith) in
+    subst (λ j. IsFollowed qs second (get_or first j (record { to = 0; images = [] }))) (back k) (followed_at g ps qs rs first second few parts one two (k + 1) w))
+
+-- the blocks of partitions with these blocks
+pub blocks-partitions : (n : ℕ) (ps : List (List (List ℕ))) → blocks_of (partitions_of n ps) ≡ ps
+blocks-partitions n [] = refl
+blocks-partitions n (p ∷ ps) = ap (λ qs. p ∷ qs) (blocks-partitions n ps)

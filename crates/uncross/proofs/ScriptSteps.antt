@@ -1,0 +1,124 @@
+-- The maps of a script, move by move: what holds where some of its moves are made.
+use Rattle.std.proofs.Common.{All, List, Some, ap, ap₂, arith, length, map, refl, subst, subst₂, sym, unwrap_or, ℕ, ◌∙◌, ◌∷◌, ◌≡◌, ◌≤◌}
+use Rattle.std.proofs.lemmas.List.{length-map}
+use Rattle.counting.proofs.Counts.{count_complement}
+use Rattle.graph_core.proofs.Singles.{length-singles}
+use Rattle.graph_core.specs.Graph.{Graph, IsGraph}
+use Rattle.graph_core.specs.Partitions.{singles}
+use Rattle.graph_core.specs.Shores.{blocks_in}
+use Rattle.counting.specs.Lists.{mem}
+use Rattle.contraction.specs.Partition.{PartitionValue}
+use Rattle.tree_core.proofs.CutsBelow.{few-leaves}
+use Rattle.tree_core.proofs.DerivationLeaves.{partitions-leaves}
+use Rattle.tree_core.proofs.DerivationStands.{fits-derivation, stands-derivation}
+use Rattle.tree_core.specs.Derivations.{IsDerivation}
+use Rattle.tree_core.specs.LeafMaps.{PlainLeafMap, maps_after, move_maps, own_maps, script_maps, then_map}
+use Rattle.tree_core.specs.Leaves.{StandsAt, leaves, partitions_of}
+use Rattle.tree_core.specs.Moves.{PlainMove, move_result}
+use Rattle.tree_core.specs.Shapes.{Fits, Shape, cut, leaf, leaf_count}
+use Rattle.uncross.proofs.FollowedMaps.{blocks-partitions, followed}
+use Rattle.uncross.proofs.MoveParts.{move_pairs}
+use Rattle.uncross.proofs.Rising.{rising-derivation_at}
+use Rattle.uncross.proofs.ScriptPairs.{own_pairs, pairing-then, script_pairs}
+use Rattle.uncross.proofs.Scripts.{walk_end}
+use Rattle.uncross.proofs.SingleVertices.{singles_stage}
+use Rattle.uncross.specs.Following.{IsFollowed, blocks_of}
+use Rattle.uncross.specs.MapView.{map_of, maps_of}
+use Rattle.uncross.specs.Pairings.{IsPairing}
+use Rattle.uncross.specs.Walks.{Walk}
+use Rattle.uncross.specs.declared.leaf_maps.LeafMap.{LeafMap}
+
+-- a derivation of a graph of at most 128 vertices has few leaves
+pub leaves-few : (g : Graph) (t : Shape) → IsGraph g → g.order ≤ 128 → IsDerivation g t → leaf_count t ≤ 255
+leaves-few g leaf is few d = omega arith
+leaves-few g (cut x a b) is few d =
+    let cuts = d.derives.0 in let inside = cuts.nontrivial.inside in let outside = cuts.nontrivial.outside in
+    let both = count_complement (length (singles g.order)) (blocks_in (singles g.order) (mem x)) in let long = length-singles g.order in
+    let small = few-leaves g (cut x a b) is d (omega arith) in omega arith
+
+-- the maps of a walk between derivations of a graph pair their leaves
+pub walk_pairs : (g : Graph) (s t : Shape) (ms : List PlainMove) → IsGraph g → IsDerivation g s → Walk g (singles g.order) s ms t → IsPairing g (leaves g.order s) (leaves g.order t) (script_maps g.order s ms)
+walk_pairs g s t ms is d w = script_pairs g s t ms (singles_stage g is d.covered) (rising-derivation_at g (singles g.order) s d.derives) d.derives w
+
+-- and where it begins with a derivation it ends with one
+pub walk_derives : (g : Graph) (s t : Shape) (ms : List PlainMove) → IsDerivation g s → Walk g (singles g.order) s ms t → IsDerivation g t
+walk_derives g s t ms d w = record { covered = d.covered; derives = (walk_end g (singles g.order) s ms t d.derives (rising-derivation_at g (singles g.order) s d.derives) w).0 }
+
+-- after some moves of a script on the tree `first`: the tree `current` is a derivation, the moves left lead on from it, the maps pair
+-- the leaves of the first tree with its leaves, and followed by the maps of the moves left they are those of the script
+pub record Remains (g : Graph) (first current : Shape) (ms left : List PlainMove) (maps : List PlainLeafMap) : Type 0 where
+  pub derives : IsDerivation g current
+  pub walk : (t : Shape) × Walk g (singles g.order) current left t
+  pub pairs : IsPairing g (leaves g.order first) (leaves g.order current) maps
+  pub value : maps_after g.order current maps left ≡ script_maps g.order first ms
+
+module _ (g : Graph) (is : IsGraph g) (few : g.order ≤ 128) (n : ℕ) (same : n ≡ g.order) where
+  -- a derivation fits where its leaves and the maps of moves on it are asked for
+  pub fits : (t : Shape) → IsDerivation g t → Fits n t
+  fits t d = subst (λ k. Fits k t) (sym same) (fits-derivation g t d)
+
+  -- and that its shores stand where they should
+  pub stands : (t : Shape) → IsDerivation g t → StandsAt n (singles n) t
+  stands t d = subst (λ k. StandsAt k (singles k) t) (sym same) (stands-derivation g t d)
+
+  -- before the first move
+  pub start : (first current : Shape) (ms left : List PlainMove) (maps : List PlainLeafMap) → IsDerivation g first → ((t : Shape) × Walk g (singles g.order) first ms t) → current ≡ first → left ≡ ms → maps ≡ own_maps n first → Remains g first current ms left maps
+  start first current ms left maps d w here all own =
+      let value : own_maps g.order first ≡ maps = sym (own ∙ ap (λ (k : ℕ). own_maps k first) same) in
+      subst₂ (λ (s : Shape) (ls : List PlainMove). Remains g first s ms ls maps) (sym here) (sym all) (subst (Remains g first first ms ms) value
+      (record { derives = d; walk = w; pairs = own_pairs g first (singles_stage g is d.covered) d.derives; value = refl }))
+
+  -- at the next move
+  module _ (first current : Shape) (ms left others : List PlainMove) (m : PlainMove) (maps : List PlainLeafMap) (r : Remains g first current ms left maps) (e : left ≡ m ∷ others) where
+    -- the moves from here
+    road : (t : Shape) × Walk g (singles g.order) current (m ∷ others) t
+    road = subst (λ (ls : List PlainMove). (t : Shape) × Walk g (singles g.order) current ls t) e r.walk
+
+    -- the first of them has a result
+    result : move_result n current m ≡ Some road.1.0
+    result = ap (λ k. move_result k current m) same ∙ road.1.1
+
+    -- the same, with the result left open
+    pub made : (t : Shape) × (move_result n current m ≡ Some t)
+    made = (road.1.0, result)
+
+    -- its maps pair the leaves
+    next_pairs : IsPairing g (leaves g.order current) (leaves g.order road.1.0) (move_maps g.order current m)
+    next_pairs = move_pairs g current road.1.0 m (singles_stage g is r.derives.covered) (rising-derivation_at g (singles g.order) current r.derives.derives) r.derives.derives road.1.2 road.1.1 road.1.3
+
+    -- after it the same holds
+    next_remains : Remains g first road.1.0 ms others (map (then_map (leaves g.order current) (move_maps g.order current m)) maps)
+    next_remains =
+        let next : unwrap_or (move_result g.order current m) current ≡ road.1.0 = ap (λ o. unwrap_or o current) road.1.1 in
+        record {
+          derives = record { covered = r.derives.covered; derives = road.1.3 };
+          walk = (road.0, road.1.6);
+          pairs = pairing-then g (leaves g.order first) (leaves g.order current) (leaves g.order road.1.0) maps (move_maps g.order current m) r.pairs next_pairs;
+          value = sym (ap (λ s. maps_after g.order s (map (then_map (leaves g.order current) (move_maps g.order current m)) maps) others) next) ∙ sym (ap (maps_after g.order current maps) e) ∙ r.value;
+        }
+
+    -- with its maps, `seconds`, and the leaves ps, as the code has them
+    module _ (seconds : List LeafMap) (ps : List PartitionValue) (are_maps : maps_of seconds ≡ move_maps n current m) (are_leaves : ps ≡ partitions_of n (leaves n current)) where
+      -- the maps, at the graph's order
+      second_maps : maps_of seconds ≡ move_maps g.order current m
+      second_maps = are_maps ∙ ap (λ k. move_maps k current m) same
+
+      -- the leaves, at the graph's order
+      its_leaves : blocks_of ps ≡ leaves g.order current
+      its_leaves = ap blocks_of are_leaves ∙ blocks-partitions n (leaves n current) ∙ ap (λ k. leaves k current) same
+
+      -- there are as many maps as leaves
+      pub as_many : length seconds ≡ length ps
+      as_many = sym (length-map seconds map_of) ∙ ap length second_maps ∙ next_pairs.one_each ∙ sym (ap length its_leaves) ∙ length-map ps (λ (p : PartitionValue). p.blocks)
+
+      -- the maps so far may be followed by these
+      pub follows : All (IsFollowed (blocks_of ps) (maps_of seconds)) maps
+      follows = subst₂ (λ (qs : List (List (List ℕ))) (ns : List PlainLeafMap). All (IsFollowed qs ns) maps) (sym its_leaves) (sym second_maps)
+          (followed g (leaves g.order first) (leaves g.order current) (leaves g.order road.1.0) maps (move_maps g.order current m) few (partitions-leaves g current r.derives) r.pairs next_pairs)
+
+      -- and where they are, the same holds again
+      pub step : (next : Shape) (after : List PlainLeafMap) → after ≡ map (then_map (blocks_of ps) (maps_of seconds)) maps → ((t : Shape) → move_result n current m ≡ Some t → next ≡ t) → Remains g first next ms others after
+      step next after composed moved =
+          let new : next ≡ road.1.0 = moved road.1.0 result in
+          let both : after ≡ map (then_map (leaves g.order current) (move_maps g.order current m)) maps = composed ∙ ap₂ (λ (qs : List (List (List ℕ))) (ns : List PlainLeafMap). map (then_map qs ns) maps) its_leaves second_maps in
+          subst₂ (λ (s : Shape) (ls : List PlainLeafMap). Remains g first s ms others ls) (sym new) (sym both) next_remains

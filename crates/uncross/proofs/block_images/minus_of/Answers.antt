@@ -1,0 +1,7 @@
+use mathlib.Core.Path.{fun_ext}
+use Rattle.std.proofs.Common.{ap, ◌∙◌}
+use Rattle.counting.specs.Lists.{rising_list}
+use Rattle.uncross.proofs.block_images.minus_of.Goals as goal
+
+pub returns : goal.returns
+returns c = c.part_within.ensures ∙ ap (rising_list c.args.n) (fun_ext c.minus.ensures)

@@ -1,0 +1,15 @@
+use Rattle.std.proofs.Common.{ℕ, ap, ◌∙◌}
+use Rattle.tree_core.specs.View.{shape_of}
+use Rattle.uncross.proofs.MapLists.{cut-switch_names, joined, same-names}
+use Rattle.uncross.specs.MapView.{kept_images, merged_images}
+use Rattle.uncross.proofs.move_maps.push_switched_leaves.Goals as goal
+
+pub returns-clause-maps : goal.returns-clause-maps
+returns-clause-maps c =
+    joined c.push_leaves-in-Cut.result c.args.order.now c.args.maps.now c.push_leaves.new.maps c.push_leaves-in-Cut.new.maps _ _ _ _ _
+    c.in_ok-push_leaves-in-Cut.ensures.maps c.push_leaves-in-Cut.ensures.maps
+    (same-names _ c.args.p.order _ (kept_images c.args.p.order c.in-Cut.shore c.args.u c.args.v) _ _ _ (shape_of c.in-Cut.kept.value) c.in_ok-below-in-Cut.ensures.order
+    (c.kept_images-images.ensures ∙ ap (λ (n : ℕ). kept_images n c.in-Cut.shore c.args.u c.args.v) c.order-n.ensures) c.in_ok-below-in-Cut.ensures.blocks (ap shape_of c.deref.ensures))
+    (same-names _ c.args.p.order _ (merged_images c.args.p.order c.in-Cut.shore c.args.u c.args.v) _ _ _ (shape_of c.in-Cut.merged.value) c.in_ok-below-in-Cut-2.ensures.order
+    (c.merged_images-images.ensures ∙ ap (λ (n : ℕ). merged_images n c.in-Cut.shore c.args.u c.args.v) c.order-n.ensures) c.in_ok-below-in-Cut-2.ensures.blocks (ap shape_of c.deref-in-Cut.ensures))
+    (cut-switch_names c.args.p.order c.args.u c.args.v c.args.p.blocks c.in-Cut.shore (shape_of c.in-Cut.kept.value) (shape_of c.in-Cut.merged.value) (shape_of c.args.tree.now) (ap shape_of c.in-Cut.is))

@@ -1,0 +1,153 @@
+//! The images of blocks: the names that the blocks of a leaf get by a Switch above it.
+ghost use Rattle.std.specs.Prelude.{◌≡◌, ◌≤◌, IfOk, map};
+ghost use Rattle.counting.specs.Lists.{last_of, mem, rising_list};
+ghost use Rattle.graph_core.specs.Partitions.{complement_of};
+ghost use Rattle.tree_core.specs.Moves.{list_if, meet_list, minus_list, union_list};
+ghost use Rattle.uncross.specs.MapView.{image_name, kept_images, merged_images};
+
+use contraction::Partition;
+use graph_core::Numbers;
+use std::alloc::{AllocError as Memory, Global};
+use vset_core::{MOST_VERTICES, VSet};
+
+/// How the blocks of a leaf go over to blocks of its partner.
+#[derive(Drop)]
+pub enum Images {
+    /// Each block is its own image.
+    Own,
+    /// The leaf stands on one side of a cut at which a Switch exchanges two sets.
+    Moved {
+        /// What of this side stays.
+        staying: VSet,
+        /// What leaves this side.
+        leaving: VSet,
+        /// What the block becomes that holds what leaves: this with the rest of the other side.
+        gained: VSet,
+        /// The other side.
+        far: VSet,
+        /// What comes to this side, and stands for the other side.
+        coming: VSet,
+    },
+}
+
+// What of 1 to n is in the set.
+fn part_within(x: VSet, n: u32) -> VSet
+    requires { n ≤ MOST_VERTICES }
+    ensures { result ≡ rising_list n (mem x) }
+{
+    let part = x.meet(VSet::full(n));
+    part.rises();
+    part
+}
+
+// The union of two sets.
+fn union_of(x: VSet, y: VSet, n: u32) -> VSet
+    requires { n ≤ MOST_VERTICES }
+    ensures { result ≡ union_list n x y }
+{
+    part_within(x.union(y), n)
+}
+
+// What two sets share.
+fn meet_of(x: VSet, y: VSet, n: u32) -> VSet
+    requires { n ≤ MOST_VERTICES }
+    ensures { result ≡ meet_list n x y }
+{
+    part_within(x.meet(y), n)
+}
+
+// What of a set is not in another.
+fn minus_of(x: VSet, y: VSet, n: u32) -> VSet
+    requires { n ≤ MOST_VERTICES }
+    ensures { result ≡ minus_list n x y }
+{
+    part_within(x.minus(y), n)
+}
+
+// The complement of a shore.
+fn outside_of(x: VSet, n: u32) -> VSet
+    requires { n ≤ MOST_VERTICES }
+    ensures { result ≡ complement_of n x }
+{
+    let outside = VSet::full(n).minus(x);
+    outside.rises();
+    outside
+}
+
+/// The images of the blocks below `kept` of a cut with the shore x, where u leaves the shore and v comes in its place.
+pub fn kept_images(n: u32, x: VSet, u: VSet, v: VSet) -> Images
+    requires { n ≤ MOST_VERTICES }
+    ensures { result ≡ kept_images n x u v }
+{
+    let rest = minus_of(outside_of(x, n), v, n);
+    Images::Moved {
+        staying: minus_of(x, u, n),
+        leaving: u,
+        gained: union_of(rest, u, n),
+        far: union_of(rest, v, n),
+        coming: v,
+    }
+}
+
+/// The images of the blocks below `merged` of a cut with the shore x, where u leaves the shore and v comes in its place.
+pub fn merged_images(n: u32, x: VSet, u: VSet, v: VSet) -> Images
+    requires { n ≤ MOST_VERTICES }
+    ensures { result ≡ merged_images n x u v }
+{
+    Images::Moved {
+        staying: minus_of(outside_of(x, n), v, n),
+        leaving: v,
+        gained: union_of(minus_of(x, u, n), v, n),
+        far: x,
+        coming: u,
+    }
+}
+
+// The name of a block: its greatest vertex, and 0 where it is empty.
+fn name_of(block: VSet) -> u32
+    ensures { result ≡ last_of block }
+{
+    block.rises();
+    block.last().unwrap_or(0)
+}
+
+// A set where a test holds, and the empty set else.
+fn set_if(test: bool, x: VSet) -> VSet
+    ensures { result ≡ list_if test x }
+{
+    if test { x } else { VSet::empty() }
+}
+
+// The name of a block's image.
+fn image_name(images: &Images, n: u32, block: VSet) -> u32
+    requires { n ≤ MOST_VERTICES }
+    ensures { result ≡ image_name n images.now block }
+{
+    match images {
+        Images::Own => name_of(block),
+        Images::Moved {
+            staying,
+            leaving,
+            gained,
+            far,
+            coming,
+        } => {
+            let stays = meet_of(block, *staying, n);
+            let inner = set_if(leaving.is_subset(block), *gained);
+            let outer = set_if(far.is_subset(block), *coming);
+            name_of(union_of(stays, union_of(inner, outer, n), n))
+        }
+    }
+}
+
+/// The names of the images of the blocks of a leaf, in the order of the blocks.
+pub fn image_names(alloc: Global, images: &Images, p: &Partition) -> Result<Numbers, Memory>
+    ensures { IfOk result (λ names. names ≡ map (image_name p.now.order images.now) p.now.blocks) }
+{
+    p.keeps_partition();
+    let mut names = Numbers::new(alloc);
+    for i in 0..p.len() {
+        names.push(image_name(images, p.order(), p.block(i)))?;
+    }
+    Ok(names)
+}

@@ -1,0 +1,242 @@
+//! The order of the leaves under a move: the old numbers of the leaves in the order of the new tree.
+ghost use Rattle.std.specs.Prelude.{◌≡◌, ◌≤◌, ◌+◌, ◌++◌, IfOk, OnOk, length};
+ghost use Rattle.counting.specs.Lists.{mem};
+ghost use Rattle.tree_core.specs.LeafMaps.{kept_order_if_in_q, move_order, numbers, order_at, rotate_order, switch_order};
+ghost use Rattle.tree_core.specs.Moves.{last_step, parent_path};
+ghost use Rattle.tree_core.specs.MoveView.{move_of};
+ghost use Rattle.tree_core.specs.Shapes.{cut, leaf_count};
+ghost use Rattle.tree_core.specs.View.{shape_of};
+ghost use Rattle.tree_core.specs.declared.path.Side.TheVariants.{Merged};
+
+use graph_core::Numbers;
+use std::alloc::{AllocError as Memory, Global};
+use tree_core::{Move, Side, Tree};
+use vset_core::{MOST_VERTICES, VSet};
+
+/// The number of leaves of a tree. Takes no memory.
+pub fn count_leaves(tree: &Tree) -> u32
+    requires { leaf_count (shape_of tree.now) ≤ 255 }
+    ensures { result ≡ leaf_count (shape_of tree.now) }
+{
+    match tree {
+        Tree::Leaf => 1,
+        Tree::Cut { kept, merged, .. } => count_leaves(kept) + count_leaves(merged),
+    }
+}
+
+/// Appends the numbers k + 1 to k + `count`.
+pub fn push_numbers(order: &mut Numbers, k: u32, count: u32) -> Result<(), Memory>
+    requires { k + count ≤ 255 }
+    ensures order { OnOk result (order.new ≡ order.old ++ numbers k count) }
+    ensures count { OnOk result (length order.new ≡ length order.old + count) }
+{
+    for i in 0..count {
+        order.push(k + i + 1)?;
+    }
+    Ok(())
+}
+
+// Appends the order below `kept` where the greatest vertex is outside v: where a shore contains u the two trees change places. k leaves
+// stand before the tree.
+fn push_kept_order(order: &mut Numbers, u: VSet, k: u32, tree: &Tree) -> Result<(), Memory>
+    requires { k + leaf_count (shape_of tree.now) ≤ 255 }
+    ensures order { OnOk result (order.new ≡ order.old ++ kept_order_if_in_q u k (shape_of tree.now)) }
+    ensures count { OnOk result (length order.new ≡ length order.old + leaf_count (shape_of tree.now)) }
+{
+    match tree {
+        Tree::Leaf => push_numbers(order, k, 1),
+        Tree::Cut {
+            shore,
+            kept,
+            merged,
+        } => {
+            let before = k + count_leaves(kept);
+            if u.is_subset(*shore) {
+                push_kept_order(order, u, before, merged)?;
+                push_kept_order(order, u, k, kept)
+            } else {
+                push_kept_order(order, u, k, kept)?;
+                push_kept_order(order, u, before, merged)
+            }
+        }
+    }
+}
+
+// Whether the greatest vertex is in the set.
+fn holds_greatest(v: VSet, n: u32) -> bool
+    requires { n ≤ MOST_VERTICES }
+    ensures { result ≡ mem v n }
+{
+    v.rises();
+    n > 0 && v.contains(n)
+}
+
+// Appends the order of a Switch at the root of the tree.
+fn push_switch_order(
+    order: &mut Numbers,
+    n: u32,
+    u: VSet,
+    v: VSet,
+    k: u32,
+    tree: &Tree,
+) -> Result<(), Memory>
+    requires order { n ≤ MOST_VERTICES }
+    requires few { k + leaf_count (shape_of tree.now) ≤ 255 }
+    ensures order { OnOk result (order.new ≡ order.old ++ switch_order n u v k (shape_of tree.now)) }
+    ensures count { OnOk result (length order.new ≡ length order.old + leaf_count (shape_of tree.now)) }
+{
+    match tree {
+        Tree::Leaf => push_numbers(order, k, 1),
+        Tree::Cut { kept, merged, .. } => {
+            let inside = count_leaves(kept);
+            let outside = count_leaves(merged);
+            if holds_greatest(v, n) {
+                push_numbers(order, k + inside, outside)?;
+                push_numbers(order, k, inside)
+            } else {
+                push_kept_order(order, u, k, kept)?;
+                push_numbers(order, k + inside, outside)
+            }
+        }
+    }
+}
+
+// Appends the order of a Rotate at the parent of the lower cut, which is its child on the side.
+fn push_rotate_order(order: &mut Numbers, side: Side, k: u32, tree: &Tree) -> Result<(), Memory>
+    requires { k + leaf_count (shape_of tree.now) ≤ 255 }
+    ensures order { OnOk result (order.new ≡ order.old ++ rotate_order side k (shape_of tree.now)) }
+    ensures count { OnOk result (length order.new ≡ length order.old + leaf_count (shape_of tree.now)) }
+{
+    match side {
+        Side::Kept => push_numbers(order, k, count_leaves(tree)),
+        Side::Merged => match tree {
+            Tree::Leaf => push_numbers(order, k, 1),
+            Tree::Cut {
+                shore,
+                kept,
+                merged,
+            } => push_merged_order(order, k, *shore, kept, merged),
+        },
+    }
+}
+
+// Appends the order of a Rotate at a cut with the lower cut in `merged`.
+fn push_merged_order(
+    order: &mut Numbers,
+    k: u32,
+    shore: VSet,
+    kept: &Tree,
+    merged: &Tree,
+) -> Result<(), Memory>
+    requires { k + leaf_count (shape_of kept.now) + leaf_count (shape_of merged.now) ≤ 255 }
+    ensures order { OnOk result (order.new ≡ order.old ++ rotate_order Merged k (cut shore (shape_of kept.now) (shape_of merged.now))) }
+    ensures count { OnOk result (length order.new ≡ length order.old + leaf_count (shape_of kept.now) + leaf_count (shape_of merged.now)) }
+{
+    let first = count_leaves(kept);
+    match merged {
+        Tree::Leaf => push_numbers(order, k, first + 1),
+        Tree::Cut {
+            shore: lower,
+            kept: middle,
+            merged: last,
+        } => {
+            let second = count_leaves(middle);
+            let third = count_leaves(last);
+            if shore.is_subset(*lower) {
+                return push_numbers(order, k, first + second + third);
+            }
+            push_numbers(order, k + first, second)?;
+            push_numbers(order, k, first)?;
+            push_numbers(order, k + first + second, third)
+        }
+    }
+}
+
+// Appends the order of a Switch at the end of the path.
+fn push_switch_along(
+    order: &mut Numbers,
+    n: u32,
+    path: &[Side],
+    u: VSet,
+    v: VSet,
+    k: u32,
+    tree: &Tree,
+) -> Result<(), Memory>
+    requires order { n ≤ MOST_VERTICES }
+    requires few { k + leaf_count (shape_of tree.now) ≤ 255 }
+    ensures order { OnOk result (order.new ≡ order.old ++ order_at (switch_order n u v) path.now k (shape_of tree.now)) }
+    ensures count { OnOk result (length order.new ≡ length order.old + leaf_count (shape_of tree.now)) }
+{
+    let Some((side, rest)) = path.split_first() else {
+        return push_switch_order(order, n, u, v, k, tree);
+    };
+    match tree {
+        Tree::Leaf => push_numbers(order, k, 1),
+        Tree::Cut { kept, merged, .. } => {
+            let first = count_leaves(kept);
+            match side {
+                Side::Kept => {
+                    push_switch_along(order, n, rest, u, v, k, kept)?;
+                    push_numbers(order, k + first, count_leaves(merged))
+                }
+                Side::Merged => {
+                    push_numbers(order, k, first)?;
+                    push_switch_along(order, n, rest, u, v, k + first, merged)
+                }
+            }
+        }
+    }
+}
+
+// Appends the order of a Rotate whose path begins with the side.
+fn push_rotate_along(
+    order: &mut Numbers,
+    side: Side,
+    rest: &[Side],
+    k: u32,
+    tree: &Tree,
+) -> Result<(), Memory>
+    requires { k + leaf_count (shape_of tree.now) ≤ 255 }
+    ensures order { OnOk result (order.new ≡ order.old ++ order_at (rotate_order (last_step side rest.now)) (parent_path side rest.now) k (shape_of tree.now)) }
+    ensures count { OnOk result (length order.new ≡ length order.old + leaf_count (shape_of tree.now)) }
+{
+    let Some((next, others)) = rest.split_first() else {
+        return push_rotate_order(order, side, k, tree);
+    };
+    match tree {
+        Tree::Leaf => push_numbers(order, k, 1),
+        Tree::Cut { kept, merged, .. } => {
+            let first = count_leaves(kept);
+            match side {
+                Side::Kept => {
+                    push_rotate_along(order, *next, others, k, kept)?;
+                    push_numbers(order, k + first, count_leaves(merged))
+                }
+                Side::Merged => {
+                    push_numbers(order, k, first)?;
+                    push_rotate_along(order, *next, others, k + first, merged)
+                }
+            }
+        }
+    }
+}
+
+/// The old numbers of the leaves, in the order of the tree that the move makes.
+pub fn move_order(alloc: Global, n: u32, tree: &Tree, m: &Move) -> Result<Numbers, Memory>
+    requires order { n ≤ MOST_VERTICES }
+    requires few { leaf_count (shape_of tree.now) ≤ 255 }
+    ensures order { IfOk result (λ order. order ≡ move_order n (move_of m.now) (shape_of tree.now)) }
+    ensures count { IfOk result (λ order. length order ≡ leaf_count (shape_of tree.now)) }
+{
+    let mut order = Numbers::new(alloc);
+    match m {
+        Move::Rotate { path } => match path.as_slice().split_first() {
+            None => push_numbers(&mut order, 0, count_leaves(tree))?,
+            Some((side, rest)) => push_rotate_along(&mut order, *side, rest, 0, tree)?,
+        },
+        Move::Switch { path, u, v } => {
+            push_switch_along(&mut order, n, path.as_slice(), *u, *v, 0, tree)?;
+        }
+    }
+    Ok(order)
+}

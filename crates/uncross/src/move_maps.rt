@@ -1,0 +1,235 @@
+//! The maps of moves: where a move takes each leaf of a tree, and its blocks.
+ghost use Rattle.std.specs.Prelude.{◌≡◌, ◌≤◌, ◌<◌, ◌+◌, ◌-◌, ◌++◌, ◌∷◌, [], Some, IfOk, OnOk, All, length, map};
+ghost use Rattle.counting.specs.Counts.{Within};
+ghost use Rattle.graph_core.specs.Partitions.{complement_of, singles};
+ghost use Rattle.contraction.specs.Partition.{IsUnionAt};
+ghost use Rattle.tree_core.specs.Derivations.{kept_at};
+ghost use Rattle.tree_core.specs.LeafMaps.{maps_from, move_maps, names_at, own_maps, position, switch_names};
+ghost use Rattle.tree_core.specs.Leaves.{StandsAt, leaves_at};
+ghost use Rattle.tree_core.specs.Moves.{move_result};
+ghost use Rattle.tree_core.specs.MoveView.{move_of};
+ghost use Rattle.tree_core.specs.Shapes.{Fits, Shape, leaf_count};
+ghost use Rattle.tree_core.specs.View.{shape_of};
+ghost use Rattle.uncross.specs.MapView.{image_name, maps_of};
+
+use crate::block_images::{Images, image_names, kept_images, merged_images};
+use crate::leaf_maps::{LeafMap, LeafMaps};
+use crate::leaf_orders::{count_leaves, move_order, push_numbers};
+use contraction::Partition;
+use graph_core::Numbers;
+use std::alloc::{AllocError as Memory, Global};
+use tree_core::{Move, Side, Tree};
+use vset_core::{MOST_VERTICES, VSet};
+
+// The place of a number in a list, counted from 1, and one past the end if it is not there.
+fn position_of(order: &[u32], i: u32) -> u32
+    requires { length order.now ≤ 255 }
+    ensures place { result ≡ position order.now i }
+    ensures within { result ≤ length order.now + 1 }
+{
+    match order.split_first() {
+        None => 1,
+        Some((j, rest)) => { if *j == i { 1 } else { position_of(rest, i) + 1 } }
+    }
+}
+
+// Appends the map of the next leaf, whose blocks have images with these names.
+fn push_leaf(order: &[u32], names: Numbers, maps: &mut LeafMaps) -> Result<(), Memory>
+    requires few { length maps.old < 255 }
+    requires short { length order.now ≤ 255 }
+    ensures maps { OnOk result (maps_of maps.new ≡ maps_of maps.old ++ maps_from order.now (length maps.old) (names ∷ [])) }
+    ensures count { OnOk result (length maps.new ≡ length maps.old + 1) }
+{
+    let to = position_of(order, maps.len() as u32 + 1);
+    maps.push(LeafMap { to, images: names })
+}
+
+// The complement of a shore.
+fn complement_in(p: &Partition, shore: VSet) -> VSet
+    requires fits { All (Within (p.now.order - 1)) shore }
+    requires nonempty { 0 < length shore }
+    requires union { IsUnionAt p.now shore }
+    ensures list { result ≡ complement_of p.now.order shore }
+    ensures union { IsUnionAt p.now result }
+    ensures nonempty { 0 < length result }
+{
+    p.keeps_partition();
+    let complement = VSet::full(p.order()).minus(shore);
+    complement.rises();
+    complement
+}
+
+// The partition with the complement of a shore made one block.
+fn keep(alloc: Global, p: &Partition, shore: VSet) -> Result<Partition, Memory>
+    requires fits { All (Within (p.now.order - 1)) shore }
+    requires nonempty { 0 < length shore }
+    requires union { IsUnionAt p.now shore }
+    ensures order { IfOk result (λ q. q.order ≡ p.now.order) }
+    ensures blocks { IfOk result (λ q. q.blocks ≡ kept_at p.now.order p.now.blocks shore) }
+{
+    let complement = complement_in(p, shore);
+    p.merge(alloc, complement)
+}
+
+// Appends the maps of the leaves of the tree at p.
+fn push_leaves(
+    alloc: Global,
+    tree: &Tree,
+    p: Partition,
+    images: &Images,
+    order: &[u32],
+    maps: &mut LeafMaps,
+) -> Result<(), Memory>
+    requires few { length maps.old + leaf_count (shape_of tree.now) ≤ 255 }
+    requires short { length order.now ≤ 255 }
+    requires fits { Fits p.order (shape_of tree.now) }
+    requires stands { StandsAt p.order p.blocks (shape_of tree.now) }
+    ensures maps { OnOk result (maps_of maps.new ≡ maps_of maps.old ++ maps_from order.now (length maps.old) (map (λ q. map (image_name p.order images.now) q) (leaves_at p.order p.blocks (shape_of tree.now)))) }
+    ensures count { OnOk result (length maps.new ≡ length maps.old + leaf_count (shape_of tree.now)) }
+{
+    match tree {
+        Tree::Leaf => push_leaf(order, image_names(alloc, images, &p)?, maps),
+        Tree::Cut {
+            shore,
+            kept,
+            merged,
+        } => {
+            let below = keep(alloc, &p, *shore)?;
+            push_leaves(alloc, kept, below, images, order, maps)?;
+            let below = p.merge(alloc, *shore)?;
+            push_leaves(alloc, merged, below, images, order, maps)
+        }
+    }
+}
+
+// Appends the maps of the leaves of the tree at p, at whose root u and v are exchanged.
+fn push_switched_leaves(
+    alloc: Global,
+    tree: &Tree,
+    p: Partition,
+    u: VSet,
+    v: VSet,
+    order: &[u32],
+    maps: &mut LeafMaps,
+) -> Result<(), Memory>
+    requires few { length maps.old + leaf_count (shape_of tree.now) ≤ 255 }
+    requires short { length order.now ≤ 255 }
+    requires fits { Fits p.order (shape_of tree.now) }
+    requires stands { StandsAt p.order p.blocks (shape_of tree.now) }
+    ensures maps { OnOk result (maps_of maps.new ≡ maps_of maps.old ++ maps_from order.now (length maps.old) (switch_names p.order u v p.blocks (shape_of tree.now))) }
+    ensures count { OnOk result (length maps.new ≡ length maps.old + leaf_count (shape_of tree.now)) }
+{
+    p.keeps_partition();
+    match tree {
+        Tree::Leaf => push_leaf(order, image_names(alloc, &Images::Own, &p)?, maps),
+        Tree::Cut {
+            shore,
+            kept,
+            merged,
+        } => {
+            let n = p.order();
+            let below = keep(alloc, &p, *shore)?;
+            let images = kept_images(n, *shore, u, v);
+            push_leaves(alloc, kept, below, &images, order, maps)?;
+            let below = p.merge(alloc, *shore)?;
+            let images = merged_images(n, *shore, u, v);
+            push_leaves(alloc, merged, below, &images, order, maps)
+        }
+    }
+}
+
+// Appends the maps of the leaves of the tree at p, where u and v are exchanged at the end of the path.
+fn push_leaves_along(
+    alloc: Global,
+    tree: &Tree,
+    p: Partition,
+    path: &[Side],
+    u: VSet,
+    v: VSet,
+    order: &[u32],
+    maps: &mut LeafMaps,
+) -> Result<(), Memory>
+    requires few { length maps.old + leaf_count (shape_of tree.now) ≤ 255 }
+    requires short { length order.now ≤ 255 }
+    requires fits { Fits p.order (shape_of tree.now) }
+    requires stands { StandsAt p.order p.blocks (shape_of tree.now) }
+    ensures maps { OnOk result (maps_of maps.new ≡ maps_of maps.old ++ maps_from order.now (length maps.old) (names_at p.order u v path.now p.blocks (shape_of tree.now))) }
+    ensures count { OnOk result (length maps.new ≡ length maps.old + leaf_count (shape_of tree.now)) }
+{
+    let Some((side, rest)) = path.split_first() else {
+        return push_switched_leaves(alloc, tree, p, u, v, order, maps);
+    };
+    match tree {
+        Tree::Leaf => push_leaf(order, image_names(alloc, &Images::Own, &p)?, maps),
+        Tree::Cut {
+            shore,
+            kept,
+            merged,
+        } => {
+            let below_kept = keep(alloc, &p, *shore)?;
+            let below_merged = p.merge(alloc, *shore)?;
+            match side {
+                Side::Kept => {
+                    push_leaves_along(alloc, kept, below_kept, rest, u, v, order, maps)?;
+                    push_leaves(alloc, merged, below_merged, &Images::Own, order, maps)
+                }
+                Side::Merged => {
+                    push_leaves(alloc, kept, below_kept, &Images::Own, order, maps)?;
+                    push_leaves_along(alloc, merged, below_merged, rest, u, v, order, maps)
+                }
+            }
+        }
+    }
+}
+
+/// The maps of no move: each leaf and each block to itself.
+pub fn own_maps(alloc: Global, n: u32, tree: &Tree) -> Result<LeafMaps, Memory>
+    requires order { n ≤ MOST_VERTICES }
+    requires fits { Fits n (shape_of tree.now) }
+    requires stands { StandsAt n (singles n) (shape_of tree.now) }
+    requires few { leaf_count (shape_of tree.now) ≤ 255 }
+    ensures { IfOk result (λ maps. maps_of maps ≡ own_maps n (shape_of tree.now)) }
+{
+    let mut order = Numbers::new(alloc);
+    push_numbers(&mut order, 0, count_leaves(tree))?;
+    let root = Partition::singles(alloc, n)?;
+    let mut maps = LeafMaps::new(alloc);
+    push_leaves(alloc, tree, root, &Images::Own, order.as_slice(), &mut maps)?;
+    Ok(maps)
+}
+
+/// The maps of a move that has a result on the tree: for each leaf, in preorder, its place among the leaves of the result and the
+/// names of the images of its blocks.
+#[tactic(auto, unfolding(tree_core::specs::LeafMaps::move_maps))]
+pub fn move_maps(alloc: Global, n: u32, tree: &Tree, m: &Move) -> Result<LeafMaps, Memory>
+    requires order { n ≤ MOST_VERTICES }
+    requires fits { Fits n (shape_of tree.now) }
+    requires stands { StandsAt n (singles n) (shape_of tree.now) }
+    requires few { leaf_count (shape_of tree.now) ≤ 255 }
+    requires made { (t : Shape) × (move_result n (shape_of tree.now) (move_of m.now) ≡ Some t) }
+    ensures { IfOk result (λ maps. maps_of maps ≡ move_maps n (shape_of tree.now) (move_of m.now)) }
+{
+    let order = move_order(alloc, n, tree, m)?;
+    let root = Partition::singles(alloc, n)?;
+    let mut maps = LeafMaps::new(alloc);
+    match m {
+        Move::Rotate { .. } => {
+            push_leaves(alloc, tree, root, &Images::Own, order.as_slice(), &mut maps)?;
+            Ok(maps)
+        }
+        Move::Switch { path, u, v } => {
+            let steps = path.as_slice();
+            push_leaves_along(
+                alloc,
+                tree,
+                root,
+                steps,
+                *u,
+                *v,
+                order.as_slice(),
+                &mut maps,
+            )?;
+            Ok(maps)
+        }
+    }
+}
