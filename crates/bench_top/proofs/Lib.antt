@@ -7,3 +7,7 @@ pub mod PickedTrees
 pub mod DerivationTexts
 pub mod EarSteps
 pub mod GivenFacts
+pub mod ScriptMoves
+pub mod ScriptTexts
+pub mod PairLines
+pub mod GrownSizes

@@ -9,6 +9,8 @@ use Rattle.tree_core.specs.Derivations.{kept_at, merged_at}
 use Rattle.tree_core.specs.Shapes.{Shape, leaf, cut, cut_count}
 use Rattle.decomposer.specs.Picked.{IsPickedAt, PicksShore}
 use Rattle.bench_top.specs.Outcome.{DecomposeGives, Decomposed}
+use Rattle.report_text.specs.declared.tallies.Tally.{Tally}
+use Rattle.bench_top.specs.Growths.{IsCounted}
 use Rattle.bench_top.specs.Uncovered.{Uncovered}
 use Rattle.bench_top.specs.declared.status.Status.{Status}
 
@@ -29,3 +31,9 @@ pub gives-wider : {picks : List Candidate → ℕ → ℕ → Type 0} (others : 
     ((list : List Candidate) (k place : ℕ) → picks list k place → others list k place) → DecomposeGives others named status output
 gives-wider {picks} others named status output (inl decomposed) wider = inl (decomposed-wider picks others wider named status output decomposed)
 gives-wider {picks} others named status output (inr uncovered) wider = inr uncovered
+
+-- and so for a tree with its leaves counted
+pub counted-wider : {picks : List Candidate → ℕ → ℕ → Type 0} (others : List Candidate → ℕ → ℕ → Type 0) (g : Graph) (t : Shape) (tally : Tally) → IsCounted picks g t tally →
+    ((list : List Candidate) (k place : ℕ) → picks list k place → others list k place) → IsCounted others g t tally
+counted-wider {picks} others g t tally counted wider =
+    record { derivation = counted.derivation; picked = picked-at picks others wider g (singles g.order) 0 t counted.picked; counts = counted.counts }

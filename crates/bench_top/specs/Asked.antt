@@ -1,5 +1,5 @@
 -- How the code's command is seen.
-use Rattle.bench_top.specs.Commands.{Command, Analyse, Convert, Analyse6, Decompose, DecomposeBy, Check, CheckEars, Ears}
+use Rattle.bench_top.specs.Commands.{Command, Analyse, Convert, Analyse6, Decompose, DecomposeBy, Check, CheckEars, Ears, Replay, Compare, Script, Grow}
 use Rattle.bench_top.specs.declared.order.Command.TheVariants as code
 
 -- the command with the names' bytes
@@ -12,3 +12,7 @@ asked (code.DecomposeBy graph picks) = DecomposeBy graph.now picks.now
 asked (code.Check graph tree) = Check graph.now tree.now
 asked (code.CheckEars graph ears) = CheckEars graph.now ears.now
 asked (code.Ears graph) = Ears graph.now
+asked (code.Replay graph tree moves) = Replay graph.now tree.now moves.now
+asked (code.Compare graph first second) = Compare graph.now first.now second.now
+asked (code.Script graph first second) = Script graph.now first.now second.now
+asked (code.Grow growth) = Grow growth.seed growth.pieces

@@ -8,6 +8,9 @@ pub mod Facts
 pub mod Uncovered
 pub mod Checks
 pub mod EarChecks
+pub mod Replays
+pub mod Comparisons
+pub mod Growths
 pub mod Outcome
 pub mod Loads
 pub mod Calm

@@ -13,11 +13,13 @@ use Rattle.graph_core.specs.declared.faults.FaultKind.{FaultKind}
 use Rattle.graph_text.specs.EitherVersion.{NamedGraph, either_version}
 use Rattle.graph6_text.specs.Reading.{outcome_of}
 use Rattle.tree_core.specs.Shapes.{Shape}
+use Rattle.tree_core.specs.Moves.{PlainMove}
 use Rattle.tree_text.specs.PickFormat.{pick_format}
 use Rattle.tree_text.specs.TreeFormat.{tree_format}
+use Rattle.move_text.specs.MoveFormat.{move_format}
 use Rattle.ear_core.specs.EarLists.{PlainEars}
 use Rattle.ear_text.specs.EarFormat.{ear_format}
-use Rattle.bench_top.specs.Commands.{Command, Analyse, Convert, Analyse6, Decompose, DecomposeBy, Check, CheckEars, Ears}
+use Rattle.bench_top.specs.Commands.{Command, Analyse, Convert, Analyse6, Decompose, DecomposeBy, Check, CheckEars, Ears, Replay, Compare, Script, Grow}
 use Rattle.bench_top.specs.Tasks.{Task}
 use Rattle.bench_top.specs.Tasks as task
 
@@ -42,8 +44,8 @@ abbrev pub file_read : {A : Type 0} → ℕ → (List ℕ → Result A (ℕ × F
 file_read place reading None = Absent
 file_read place reading (Some bytes) = if nat_lt most_bytes (length bytes) then Bad place 0 6 else from_reading place (reading bytes)
 
--- the task of what a file holds
-abbrev pub loaded_as : {A : Type 0} → (A → Task) → Loaded A → Loaded Task
+-- what is made of what files hold
+abbrev pub loaded_as : {A B : Type 0} → (A → B) → Loaded A → Loaded B
 loaded_as make (All value) = All (make value)
 loaded_as make (Bad file line kind) = Bad file line kind
 loaded_as make Absent = Absent
@@ -73,6 +75,24 @@ tree_file files place name order = file_read place (reading_of (tree_format orde
 abbrev pub ear_file : List Named → List ℕ → Graph → Loaded PlainEars
 ear_file files name g = file_read 2 (reading_of (ear_format g.order (size g))) (file_named name files)
 
+-- the moves of the file of that name, which is the third, on trees for a graph of that order
+abbrev pub move_file : List Named → List ℕ → (order : ℕ) → Loaded (List PlainMove)
+move_file files name order = file_read 3 (reading_of (move_format order)) (file_named name files)
+
+-- a graph, and a tree for it
+abbrev pub tree_given : List Named → (graph tree : List ℕ) → Loaded (NamedGraph × Shape)
+tree_given files graph tree = and_then (graph_file files graph) (λ named. loaded_as (λ t. (named, t)) (tree_file files 2 tree named.graph.order))
+
+-- the same with a second tree
+abbrev pub trees_given : List Named → (graph first second : List ℕ) → Loaded (NamedGraph × (Shape × Shape))
+trees_given files graph first second =
+    and_then (tree_given files graph first) (λ given. loaded_as (λ t. (given.0, (given.1, t))) (tree_file files 3 second given.0.graph.order))
+
+-- the same with moves
+abbrev pub moves_given : List Named → (graph tree moves : List ℕ) → Loaded (NamedGraph × (Shape × List PlainMove))
+moves_given files graph tree moves =
+    and_then (tree_given files graph tree) (λ given. loaded_as (λ ms. (given.0, (given.1, ms))) (move_file files moves given.0.graph.order))
+
 -- what the files of a command hold
 abbrev pub loaded : List Named → Command → Loaded Task
 loaded files (Analyse graph) = loaded_as task.Analyse (graph_file files graph)
@@ -80,6 +100,10 @@ loaded files (Convert graph) = loaded_as task.Convert (graph_file files graph)
 loaded files (Analyse6 graph) = loaded_as task.Analyse6 (graph6_file files graph)
 loaded files (Decompose graph order) = loaded_as (λ named. task.Decompose named order) (graph_file files graph)
 loaded files (DecomposeBy graph picks) = and_then (graph_file files graph) (λ named. loaded_as (task.DecomposeBy named) (pick_file files picks))
-loaded files (Check graph tree) = and_then (graph_file files graph) (λ named. loaded_as (task.Check named) (tree_file files 2 tree named.graph.order))
+loaded files (Check graph tree) = loaded_as (λ given. task.Check given.0 given.1) (tree_given files graph tree)
 loaded files (CheckEars graph ears) = and_then (graph_file files graph) (λ named. loaded_as (task.CheckEars named) (ear_file files ears named.graph))
 loaded files (Ears graph) = loaded_as task.Ears (graph_file files graph)
+loaded files (Replay graph tree moves) = loaded_as (λ given. task.Replay given.0 given.1.0 given.1.1) (moves_given files graph tree moves)
+loaded files (Compare graph first second) = loaded_as (λ given. task.Compare given.0 given.1.0 given.1.1) (trees_given files graph first second)
+loaded files (Script graph first second) = loaded_as (λ given. task.Script given.0 given.1.0 given.1.1) (trees_given files graph first second)
+loaded files (Grow seed pieces) = All (task.Grow seed pieces)

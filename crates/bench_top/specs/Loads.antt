@@ -1,10 +1,14 @@
 -- What loading a file, or the files of a command, answers.
-use Rattle.std.specs.Prelude.{◌≡◌}
+use Rattle.std.specs.Prelude.{◌≡◌, List}
 use Rattle.std.specs.declared.result.Result.{Result}
 use Rattle.std.specs.declared.result.Result.TheVariants.{Ok, Err}
 use Rattle.graph_core.specs.Graph.{Graph}
+use Rattle.graph_text.specs.EitherVersion.{NamedGraph}
 use Rattle.graph_text.specs.SoFar.{named_graph}
 use Rattle.tree_core.specs.View.{shape_of}
+use Rattle.tree_core.specs.MoveView.{moves_of}
+use Rattle.tree_core.specs.Moves.{PlainMove}
+use Rattle.tree_core.specs.Shapes.{Shape}
 use Rattle.ear_core.specs.View.{ears_of}
 use Rattle.bench_top.specs.Loading.{Loaded, All, Bad}
 use Rattle.bench_top.specs.Tasks.{Task}
@@ -12,6 +16,9 @@ use Rattle.bench_top.specs.Tasks as task
 use Rattle.bench_top.specs.declared.stop.Stop.{Stop}
 use Rattle.bench_top.specs.declared.stop.Stop.TheVariants as stop
 use Rattle.bench_top.specs.declared.tasks.SimpleGraph.{SimpleGraph}
+use Rattle.bench_top.specs.declared.tasks.GivenTree.{GivenTree}
+use Rattle.bench_top.specs.declared.tasks.GivenTrees.{GivenTrees}
+use Rattle.bench_top.specs.declared.tasks.GivenMoves.{GivenMoves}
 use Rattle.bench_top.specs.declared.tasks.Task.TheVariants as code
 
 -- what the files of a command hold
@@ -21,6 +28,16 @@ Held = Loaded Task
 -- the graph of a value that is kept simple
 abbrev pub graph_in : SimpleGraph → Graph
 graph_in simple = simple.graph
+
+-- a graph with a tree, with two trees, and with a tree and moves, as they are seen
+abbrev pub given_tree : GivenTree → NamedGraph × Shape
+given_tree given = (named_graph given.named, shape_of given.tree)
+
+abbrev pub given_trees : GivenTrees → NamedGraph × (Shape × Shape)
+given_trees given = (named_graph given.named, (shape_of given.first, shape_of given.second))
+
+abbrev pub given_moves : GivenMoves → NamedGraph × (Shape × List PlainMove)
+given_moves given = (named_graph given.named, (shape_of given.tree, moves_of given.moves))
 
 -- the task as it is seen
 abbrev pub task_of : code.the_data → Task
@@ -32,6 +49,10 @@ task_of (code.DecomposeBy named picks) = task.DecomposeBy (named_graph named) pi
 task_of (code.Check given) = task.Check (named_graph given.named) (shape_of given.tree)
 task_of (code.CheckEars given) = task.CheckEars (named_graph given.named) (ears_of given.list)
 task_of (code.Ears named) = task.Ears (named_graph named)
+task_of (code.Replay given) = task.Replay (named_graph given.named) (shape_of given.tree) (moves_of given.moves)
+task_of (code.Compare given) = task.Compare (named_graph given.named) (shape_of given.first) (shape_of given.second)
+task_of (code.Script given) = task.Script (named_graph given.named) (shape_of given.first) (shape_of given.second)
+task_of (code.Grow growth) = task.Grow growth.seed growth.pieces
 
 -- a stop names the first bad file; nothing is said of a failed read or of want of memory
 abbrev pub StopsAs : {A : Type 0} → Stop → Loaded A → Type 0

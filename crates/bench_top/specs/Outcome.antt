@@ -25,11 +25,14 @@ use Rattle.report_text.specs.Reports.{bad_input_text, with_names_text, graph6_li
 use Rattle.report_text.specs.Tallies.{AreLeafKinds}
 use Rattle.report_text.specs.declared.analyses.AnalysisLines.{AnalysisLines}
 use Rattle.report_text.specs.declared.tallies.LeafKind.{LeafKind}
-use Rattle.bench_top.specs.Commands.{Command, Analyse, Convert, Analyse6, Decompose, DecomposeBy, Check, CheckEars, Ears, command_of}
+use Rattle.bench_top.specs.Commands.{Command, Analyse, Convert, Analyse6, Decompose, DecomposeBy, Check, CheckEars, Ears, Replay, Compare, Script, Grow, command_of}
 use Rattle.bench_top.specs.Orders.{NamedPicks, ScriptPicks}
 use Rattle.bench_top.specs.Uncovered.{Uncovered}
 use Rattle.bench_top.specs.Checks.{CheckGives}
 use Rattle.bench_top.specs.EarChecks.{EarCheckGives, EarsGives}
+use Rattle.bench_top.specs.Replays.{ReplayGives}
+use Rattle.bench_top.specs.Comparisons.{CompareGives, ScriptGives}
+use Rattle.bench_top.specs.Growths.{Grown}
 use Rattle.bench_top.specs.Tasks.{Task}
 use Rattle.bench_top.specs.Tasks as task
 use Rattle.bench_top.specs.Loading.{Loaded, All, Bad, Absent, loaded}
@@ -100,6 +103,10 @@ ResultOf (task.DecomposeBy named picks) status output = DecomposeGives (ScriptPi
 ResultOf (task.Check named tree) status output = CheckGives named.graph tree status output
 ResultOf (task.CheckEars named list) status output = EarCheckGives named.graph list status output
 ResultOf (task.Ears named) status output = EarsGives named.graph status output
+ResultOf (task.Replay named tree moves) status output = ReplayGives named.graph tree moves status output
+ResultOf (task.Compare named first second) status output = CompareGives named.graph first second status output
+ResultOf (task.Script named first second) status output = ScriptGives named.graph first second status output
+ResultOf (task.Grow seed pieces) status output = Grown seed pieces status output
 
 -- what a command gives for what its files hold
 abbrev pub LoadedGives : Loaded Task → Status → List ℕ → Type 0
@@ -150,6 +157,10 @@ MayRefuse (Some (DecomposeBy name picks)) = Unit {0}
 MayRefuse (Some (Check name tree)) = Unit {0}
 MayRefuse (Some (CheckEars name ears)) = Unit {0}
 MayRefuse (Some (Ears name)) = Unit {0}
+MayRefuse (Some (Replay name tree moves)) = Unit {0}
+MayRefuse (Some (Compare name first second)) = Unit {0}
+MayRefuse (Some (Script name first second)) = Unit {0}
+MayRefuse (Some (Grow seed pieces)) = ⊥
 
 -- the same of what a command works on
 abbrev pub TaskMayRefuse : Task → Type 0
@@ -161,6 +172,10 @@ TaskMayRefuse (task.DecomposeBy named picks) = Unit {0}
 TaskMayRefuse (task.Check named tree) = Unit {0}
 TaskMayRefuse (task.CheckEars named list) = Unit {0}
 TaskMayRefuse (task.Ears named) = Unit {0}
+TaskMayRefuse (task.Replay named tree moves) = Unit {0}
+TaskMayRefuse (task.Compare named first second) = Unit {0}
+TaskMayRefuse (task.Script named first second) = Unit {0}
+TaskMayRefuse (task.Grow seed pieces) = ⊥
 
 -- the same of what was loaded, if it was
 abbrev pub GatheredMayRefuse : Result code.the_data Stop → Type 0

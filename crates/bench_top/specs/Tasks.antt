@@ -3,6 +3,7 @@ use Rattle.std.specs.Prelude.{ℕ, List}
 use Rattle.graph_core.specs.Graph.{Graph}
 use Rattle.graph_text.specs.EitherVersion.{NamedGraph}
 use Rattle.tree_core.specs.Shapes.{Shape}
+use Rattle.tree_core.specs.Moves.{PlainMove}
 use Rattle.ear_core.specs.EarLists.{PlainEars}
 use Rattle.bench_top.specs.declared.order.NamedOrder.{NamedOrder}
 
@@ -15,3 +16,7 @@ pub data Task : Type 0 where
   Check : (named : NamedGraph) (tree : Shape) → Task
   CheckEars : (named : NamedGraph) (list : PlainEars) → Task
   Ears : (named : NamedGraph) → Task
+  Replay : (named : NamedGraph) (tree : Shape) (moves : List PlainMove) → Task
+  Compare : (named : NamedGraph) (first second : Shape) → Task
+  Script : (named : NamedGraph) (first second : Shape) → Task
+  Grow : (seed pieces : ℕ) → Task

@@ -18,8 +18,8 @@ use std::alloc::{AllocError as Memory, Global};
 use tree_check::{Judgement, Why, check};
 use tree_core::{Tree, leaves};
 
-// The number of a reason.
-fn number_of(why: &Why) -> u32
+/// The number of a reason.
+pub fn number_of(why: &Why) -> u32
     ensures { result ≡ why_number (why_of why.now) }
 {
     match why {
@@ -31,8 +31,8 @@ fn number_of(why: &Why) -> u32
     }
 }
 
-// What is shown of a reason.
-fn shown_by(why: Why) -> Shown
+/// What is shown of a reason.
+pub fn shown_by(why: Why) -> Shown
     ensures { result ≡ shown_of (why_of why) }
 {
     match why {

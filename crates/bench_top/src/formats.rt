@@ -1,5 +1,5 @@
 //! The formats of the files that commands name.
-ghost use Rattle.std.specs.Prelude.{◌<◌, ◌-◌, ◌^◌, ℕ, List, length, Result, IfOk};
+ghost use Rattle.std.specs.Prelude.{◌<◌, ◌≤◌, ◌-◌, ◌^◌, ℕ, List, length, Result, IfOk};
 ghost use Rattle.line_text.specs.Reading.{reading_of};
 ghost use Rattle.text_faults.specs.Readings.{ReadsText};
 ghost use Rattle.graph_core.specs.Graph.{Graph, size};
@@ -9,8 +9,11 @@ ghost use Rattle.graph_text.specs.SoFar.{named_graph};
 ghost use Rattle.graph6_text.specs.Reading.{outcome_of};
 ghost use Rattle.tree_core.specs.Shapes.{Fits, Shape};
 ghost use Rattle.tree_core.specs.View.{shape_of};
+ghost use Rattle.tree_core.specs.Moves.{PlainMove};
+ghost use Rattle.tree_core.specs.MoveView.{moves_of};
 ghost use Rattle.tree_text.specs.PickFormat.{pick_format};
 ghost use Rattle.tree_text.specs.TreeFormat.{tree_format};
+ghost use Rattle.move_text.specs.MoveFormat.{most_moves, move_format};
 ghost use Rattle.ear_core.specs.EarLists.{FitsEars, PlainEars};
 ghost use Rattle.ear_core.specs.View.{ears_of};
 ghost use Rattle.ear_text.specs.EarFormat.{ear_format};
@@ -22,8 +25,9 @@ use ear_text::read_ears;
 use graph_core::{MultiGraph, Numbers, TextFault};
 use graph_text::{Named, read_any};
 use graph6_text::read_graph6;
+use move_text::read_moves;
 use std::alloc::Global;
-use tree_core::Tree;
+use tree_core::{Moves, Tree};
 use tree_text::{read_picks, read_tree};
 
 /// A format of files. The ghost member `reading` says what a text stands for, or its first fault.
@@ -140,6 +144,29 @@ impl<'a> FileFormat for EarFile<'a> {
         let n = self.graph.order();
         let m = self.graph.size();
         read_ears(alloc, bytes, n, m)
+    }
+}
+
+/// Moves on trees for this graph.
+#[derive(Clone, Copy, Drop)]
+pub struct MoveFile<'a> {
+    pub graph: &'a MultiGraph,
+}
+
+impl<'a> FileFormat for MoveFile<'a> {
+    type Value = Moves;
+
+    ghost Meaning = { List PlainMove };
+
+    ghost meaning = { moves_of };
+
+    ghost reading = { λ format. reading_of (move_format format.graph.now.order) };
+
+    ghost keeps = { λ _ moves. length moves ≤ most_moves };
+
+    fn read(&self, alloc: Global, bytes: &[u8]) -> Result<Moves, TextFault> {
+        let n = self.graph.order();
+        read_moves(alloc, bytes, n)
     }
 }
 

@@ -3,14 +3,14 @@ ghost use Rattle.std.specs.Prelude.{◌≡◌, ◌≤◌, ◌<◌, ◌-◌, ◌^
 ghost use Rattle.outside.specs.Faults.{Rose};
 ghost use Rattle.outside.specs.Shelf.{Named, TellsFile, file_named};
 ghost use Rattle.bench_top.specs.Asked.{asked};
-ghost use Rattle.bench_top.specs.Loading.{Loaded, Absent, file_read, loaded};
-ghost use Rattle.bench_top.specs.Loads.{LoadsAs, task_of};
+ghost use Rattle.bench_top.specs.Loading.{Loaded, Absent, file_read, loaded, tree_given, trees_given, moves_given};
+ghost use Rattle.bench_top.specs.Loads.{LoadsAs, given_tree, given_trees, given_moves, task_of};
 ghost use Rattle.bench_top.specs.Outcome.{MayRefuse, GatheredMayRefuse};
 
-use crate::formats::{EarFile, FileFormat, Graph6File, GraphFile, PickFile, TreeFile};
+use crate::formats::{EarFile, FileFormat, Graph6File, GraphFile, MoveFile, PickFile, TreeFile};
 use crate::order::Command;
 use crate::stop::Stop;
-use crate::tasks::{GivenEars, GivenTree, Task};
+use crate::tasks::{GivenEars, GivenMoves, GivenTree, GivenTrees, Task};
 use graph_core::TextFault;
 use outside::{Shelf, ShelfFault};
 use std::alloc::Global;
@@ -57,6 +57,78 @@ fn load<S: Shelf, F: FileFormat>(
     }
 }
 
+// What the files of a graph and of a tree for it hold.
+fn load_tree<S: Shelf>(
+    alloc: Global,
+    graph: &str,
+    tree: &str,
+    shelf: &mut S,
+) -> Result<GivenTree, Stop>
+    ensures files { S.files shelf.new ≡ S.files shelf.old }
+    ensures steady { S.steady shelf.new ≡ S.steady shelf.old }
+    ensures later { S.faults shelf.old ≤ S.faults shelf.new }
+    ensures failed { IsErrOf result Stop.ReadFault → Rose (S.faults shelf.old) (S.faults shelf.new) }
+    ensures loads { (files : List Named) → S.files shelf.old ≡ Some files → LoadsAs given_tree result (tree_given files graph.now tree.now) }
+    ensures absent { (files : List Named) → S.files shelf.old ≡ Some files → IsErrOf result Stop.ReadFault → IsTrue (S.steady shelf.old) → tree_given files graph.now tree.now ≡ Absent }
+{
+    let named = load(alloc, &GraphFile, graph, 1, shelf)?;
+    let format = TreeFile {
+        graph: &named.graph,
+    };
+    let tree = load(alloc, &format, tree, 2, shelf)?;
+    Ok(GivenTree { named, tree })
+}
+
+// The same with a second tree.
+fn load_trees<S: Shelf>(
+    alloc: Global,
+    graph: &str,
+    first: &str,
+    second: &str,
+    shelf: &mut S,
+) -> Result<GivenTrees, Stop>
+    ensures files { S.files shelf.new ≡ S.files shelf.old }
+    ensures steady { S.steady shelf.new ≡ S.steady shelf.old }
+    ensures later { S.faults shelf.old ≤ S.faults shelf.new }
+    ensures failed { IsErrOf result Stop.ReadFault → Rose (S.faults shelf.old) (S.faults shelf.new) }
+    ensures loads { (files : List Named) → S.files shelf.old ≡ Some files → LoadsAs given_trees result (trees_given files graph.now first.now second.now) }
+    ensures absent { (files : List Named) → S.files shelf.old ≡ Some files → IsErrOf result Stop.ReadFault → IsTrue (S.steady shelf.old) → trees_given files graph.now first.now second.now ≡ Absent }
+{
+    let GivenTree { named, tree } = load_tree(alloc, graph, first, shelf)?;
+    let format = TreeFile {
+        graph: &named.graph,
+    };
+    let second = load(alloc, &format, second, 3, shelf)?;
+    Ok(GivenTrees {
+        named,
+        first: tree,
+        second,
+    })
+}
+
+// The same with moves.
+fn load_moves<S: Shelf>(
+    alloc: Global,
+    graph: &str,
+    tree: &str,
+    moves: &str,
+    shelf: &mut S,
+) -> Result<GivenMoves, Stop>
+    ensures files { S.files shelf.new ≡ S.files shelf.old }
+    ensures steady { S.steady shelf.new ≡ S.steady shelf.old }
+    ensures later { S.faults shelf.old ≤ S.faults shelf.new }
+    ensures failed { IsErrOf result Stop.ReadFault → Rose (S.faults shelf.old) (S.faults shelf.new) }
+    ensures loads { (files : List Named) → S.files shelf.old ≡ Some files → LoadsAs given_moves result (moves_given files graph.now tree.now moves.now) }
+    ensures absent { (files : List Named) → S.files shelf.old ≡ Some files → IsErrOf result Stop.ReadFault → IsTrue (S.steady shelf.old) → moves_given files graph.now tree.now moves.now ≡ Absent }
+{
+    let GivenTree { named, tree } = load_tree(alloc, graph, tree, shelf)?;
+    let format = MoveFile {
+        graph: &named.graph,
+    };
+    let moves = load(alloc, &format, moves, 3, shelf)?;
+    Ok(GivenMoves { named, tree, moves })
+}
+
 /// Reads and parses the files of the command, in the order of the words, up to the first that stops it.
 pub fn gather<S: Shelf>(alloc: Global, command: Command<'_>, shelf: &mut S) -> Result<Task, Stop>
     ensures later { S.faults shelf.old ≤ S.faults shelf.new }
@@ -84,16 +156,9 @@ pub fn gather<S: Shelf>(alloc: Global, command: Command<'_>, shelf: &mut S) -> R
             let picks = load(alloc, &PickFile, picks, 2, shelf)?;
             Ok(Task::DecomposeBy { named, picks })
         }
-        Command::Check { graph, tree } => {
-            let named = load(alloc, &GraphFile, graph, 1, shelf)?;
-            let format = TreeFile {
-                graph: &named.graph,
-            };
-            let tree = load(alloc, &format, tree, 2, shelf)?;
-            Ok(Task::Check {
-                given: GivenTree { named, tree },
-            })
-        }
+        Command::Check { graph, tree } => Ok(Task::Check {
+            given: load_tree(alloc, graph, tree, shelf)?,
+        }),
         Command::CheckEars { graph, ears } => {
             let named = load(alloc, &GraphFile, graph, 1, shelf)?;
             let format = EarFile {
@@ -107,5 +172,23 @@ pub fn gather<S: Shelf>(alloc: Global, command: Command<'_>, shelf: &mut S) -> R
         Command::Ears { graph } => Ok(Task::Ears {
             named: load(alloc, &GraphFile, graph, 1, shelf)?,
         }),
+        Command::Replay { graph, tree, moves } => Ok(Task::Replay {
+            given: load_moves(alloc, graph, tree, moves, shelf)?,
+        }),
+        Command::Compare {
+            graph,
+            first,
+            second,
+        } => Ok(Task::Compare {
+            given: load_trees(alloc, graph, first, second, shelf)?,
+        }),
+        Command::Script {
+            graph,
+            first,
+            second,
+        } => Ok(Task::Script {
+            given: load_trees(alloc, graph, first, second, shelf)?,
+        }),
+        Command::Grow { growth } => Ok(Task::Grow { growth }),
     }
 }

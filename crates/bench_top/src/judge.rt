@@ -7,13 +7,16 @@ ghost use Rattle.bench_top.specs.Facts.{HasMaximum, IsAnalysis};
 ghost use Rattle.bench_top.specs.Outcome.{Analysed, Converted, Analysed6, ResultOf, IsReported, TaskMayRefuse};
 
 use crate::checking::checked;
+use crate::comparing::{compared, scripted};
 use crate::decomposing::{decomposed, decomposed_by};
 use crate::ear_checking::{ears_built, ears_checked};
+use crate::growing::grown_report;
 use crate::naming::{given_or_plain, with_given_names};
+use crate::replaying::replay_report;
 use crate::report::Report;
 use crate::status::Status;
 use crate::structures::structure_where_covered;
-use crate::tasks::{SimpleGraph, Task};
+use crate::tasks::{GivenMoves, SimpleGraph, Task};
 use allowed_edges::{allowed, covered};
 use gallai_edmonds::sets;
 use graph_core::{MultiGraph, Sides};
@@ -125,5 +128,12 @@ pub fn judge(alloc: Global, task: Task) -> Result<Report, Memory>
         Task::Check { given } => checked(alloc, &given.named.graph, &given.tree),
         Task::CheckEars { given } => ears_checked(alloc, &given.named.graph, &given.list),
         Task::Ears { named } => ears_built(alloc, &named.graph),
+        Task::Replay { given } => {
+            let GivenMoves { named, tree, moves } = given;
+            replay_report(alloc, &named.graph, tree, &moves)
+        }
+        Task::Compare { given } => compared(alloc, &given.named.graph, &given.first, &given.second),
+        Task::Script { given } => scripted(alloc, &given.named.graph, &given.first, &given.second),
+        Task::Grow { growth } => grown_report(alloc, growth),
     }
 }

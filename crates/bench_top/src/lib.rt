@@ -13,6 +13,9 @@
 mod check_tests;
 mod checking;
 mod command;
+mod comparing;
+#[cfg(test)]
+mod comparison_tests;
 mod decomposing;
 #[cfg(test)]
 mod decomposition_tests;
@@ -20,11 +23,17 @@ mod ear_checking;
 mod emit;
 mod formats;
 mod gather;
+mod growing;
+#[cfg(test)]
+mod growth_tests;
 mod judge;
 pub mod laws;
 mod naming;
 mod order;
 mod performing;
+#[cfg(test)]
+mod replay_tests;
+mod replaying;
 mod report;
 mod running;
 mod status;

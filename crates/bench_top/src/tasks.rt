@@ -1,16 +1,18 @@
 //! What a command works on.
+ghost use Rattle.std.specs.Prelude.{◌≤◌, length};
 ghost use Rattle.graph_core.specs.Graph.{size};
 ghost use Rattle.graph_core.specs.Simple.{IsSimple};
 ghost use Rattle.tree_core.specs.Shapes.{Fits};
 ghost use Rattle.tree_core.specs.View.{shape_of};
+ghost use Rattle.move_text.specs.MoveFormat.{most_moves};
 ghost use Rattle.ear_core.specs.EarLists.{FitsEars};
 ghost use Rattle.ear_core.specs.View.{ears_of};
 
-use crate::order::NamedOrder;
+use crate::order::{Growth, NamedOrder};
 use ear_core::EarList;
 use graph_core::{MultiGraph, Numbers};
 use graph_text::Named;
-use tree_core::Tree;
+use tree_core::{Moves, Tree};
 
 /// A simple graph.
 #[derive(Drop)]
@@ -25,6 +27,26 @@ pub struct GivenTree {
     pub named: Named,
     pub tree: Tree,
     ghost fits: { ∥ Fits named.graph.order (shape_of tree) ∥₁ },
+}
+
+/// A graph, and two trees whose shores lie below its order.
+#[derive(Drop)]
+pub struct GivenTrees {
+    pub named: Named,
+    pub first: Tree,
+    pub second: Tree,
+    ghost first_fits: { ∥ Fits named.graph.order (shape_of first) ∥₁ },
+    ghost second_fits: { ∥ Fits named.graph.order (shape_of second) ∥₁ },
+}
+
+/// A graph, a tree whose shores lie below its order, and moves, which are not too many.
+#[derive(Drop)]
+pub struct GivenMoves {
+    pub named: Named,
+    pub tree: Tree,
+    pub moves: Moves,
+    ghost fits: { ∥ Fits named.graph.order (shape_of tree) ∥₁ },
+    ghost few: { length moves ≤ most_moves },
 }
 
 /// A graph, and a list of ears with the numbers of vertices and edges of it.
@@ -54,4 +76,12 @@ pub enum Task {
     CheckEars { given: GivenEars },
     /// An ear list of a graph.
     Ears { named: Named },
+    /// What moves make of a tree, a derivation of a graph.
+    Replay { given: GivenMoves },
+    /// How the leaves of two trees, derivations of a graph, are paired.
+    Compare { given: GivenTrees },
+    /// The moves that turn the first of two trees into the second, both derivations of a graph.
+    Script { given: GivenTrees },
+    /// A graph that grows.
+    Grow { growth: Growth },
 }
