@@ -11,3 +11,4 @@ pub mod ScriptMoves
 pub mod ScriptTexts
 pub mod PairLines
 pub mod GrownSizes
+pub mod ScriptReplays

@@ -14,3 +14,4 @@ pub mod Growths
 pub mod Outcome
 pub mod Loads
 pub mod Calm
+pub mod RoundTrips

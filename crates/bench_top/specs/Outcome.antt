@@ -16,6 +16,7 @@ use Rattle.tight_cuts.specs.Candidates.{Candidate}
 use Rattle.tree_core.specs.Derivations.{IsDerivation}
 use Rattle.tree_core.specs.Leaves.{leaves}
 use Rattle.tree_core.specs.Shapes.{Shape}
+use Rattle.tree_text.specs.TreeFormat.{tree_format}
 use Rattle.tree_text.specs.Writing.{tree_text}
 use Rattle.decomposer.specs.Picked.{IsPicked}
 use Rattle.report_text.specs.Analyses.{analysis_text}
@@ -73,13 +74,14 @@ pub record Analysed6 (g : Graph) (status : Status) (output : List ℕ) : Type 0 
   pub text : output ≡ graph6_line (analysis_text lines) (graph6_of g)
 
 -- the tree is a derivation of the graph, and the output is its text, and then as comments its leaves, each with its right kind, and the
--- names of the vertices where the graph has names
+-- names of the vertices where the graph has names; as a text of a derivation it stands for the tree
 pub record TellsDerivation (named : NamedGraph) (tree : Shape) (status : Status) (output : List ℕ) : Type 0 where
   pub derivation : IsDerivation named.graph tree
   pub kinds : List LeafKind
   pub right : AreLeafKinds named.graph (leaves named.graph.order tree) kinds
   pub done : status ≡ Done
   pub text : output ≡ with_given_names (derivation_text (tree_text named.graph.order tree) named.graph (leaves named.graph.order tree) kinds) named.names true
+  pub stands : Stands (tree_format named.graph.order) output tree
 
 -- the decomposition of a covered graph by tight cuts: a derivation of it is told, which is the tree that the order picks
 pub record Decomposed (picks : List Candidate → ℕ → ℕ → Type 0) (named : NamedGraph) (status : Status) (output : List ℕ) : Type 0 where

@@ -3,6 +3,7 @@ ghost use Rattle.std.specs.Prelude.{◌≡◌, ◌≤◌, ℕ, List, [], ◌∷�
 ghost use Rattle.outside.specs.Shelf.{Named, file_named};
 ghost use Rattle.bench_top.specs.Loading.{most_bytes};
 ghost use Rattle.bench_top.specs.Outcome.{Outcome};
+ghost use Rattle.bench_top.specs.RoundTrips.{ReplaysScript};
 ghost use Rattle.bench_top.specs.declared.status.Status.TheVariants.{Done};
 
 /// What `convert` writes is canonical: where a file holds it and keeps the limit of bytes, `convert` of that file gives the same
@@ -12,4 +13,14 @@ pub fn convert_law()
         → Outcome (codes "convert" ∷ name ∷ []) files Done output
         → file_named other again ≡ Some output → length output ≤ most_bytes
         → Outcome (codes "convert" ∷ other ∷ []) again Done output }
+{}
+
+/// What `script` writes is replayed: over files that hold the same graph and first tree and, within the limit of bytes, this output,
+/// `replay` of the three is done and tells the second tree.
+pub fn replayed_script_law()
+    ensures { (files again : List Named) (graph first second script : List ℕ) (output : List ℕ)
+        → Outcome (codes "script" ∷ graph ∷ first ∷ second ∷ []) files Done output
+        → file_named graph again ≡ file_named graph files → file_named first again ≡ file_named first files
+        → file_named script again ≡ Some output → length output ≤ most_bytes
+        → ReplaysScript files again graph first second script output }
 {}

@@ -1,6 +1,7 @@
 //! The names of vertices in reports.
-ghost use Rattle.std.specs.Prelude.{◌≡◌, IfOk, length};
+ghost use Rattle.std.specs.Prelude.{◌≡◌, IfOk, length, true};
 ghost use Rattle.std.specs.Option.{ForSome};
+ghost use Rattle.report_text.specs.Comments.{IsCommented};
 ghost use Rattle.bench_top.specs.Outcome.{with_given_names, given_or_plain};
 
 use graph_core::MultiGraph;
@@ -15,7 +16,8 @@ pub fn with_given_names(
     names: &Option<Names>,
     comments: bool,
 ) -> Result<Vec<u8>, Memory>
-    ensures { IfOk result (λ bytes. bytes.items ≡ with_given_names report.items names.now comments) }
+    ensures text { IfOk result (λ bytes. bytes.items ≡ with_given_names report.items names.now comments) }
+    ensures comments { comments ≡ true → IfOk result (λ bytes. IsCommented report.items bytes.items) }
 {
     match names {
         Some(names) => with_names(alloc, &report, names, comments),

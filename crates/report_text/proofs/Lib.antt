@@ -1,2 +1,4 @@
 pub mod WrittenLines
 mod BlockNames
+pub mod Comments
+pub mod CommentLines

@@ -8,3 +8,4 @@ pub mod Comparisons
 pub mod EarReports
 pub mod Scripts
 pub mod Growths
+pub mod Comments

@@ -3,7 +3,8 @@
 //! Each call writes the lines of one report from plain values and promises that the bytes are a stated function of them
 //! (`analysis_text` with `structure_text` for a covered graph, `derivation_text`, `judgement_text`, `ear_judgement_text`,
 //! `ears_report_text`, `pairing_text`, `script_report_text`, `replayed_text`, `stuck_text`, `refused_move_text`, `grown_text`,
-//! `bad_input_text`, in specs/). `with_names` and `graph6_line` put further lines behind a report.
+//! `bad_input_text`, in specs/). `with_names` and `graph6_line` put further lines behind a report. What stands behind the text of
+//! a decomposition, and the names behind it, are comments (`IsCommented`): `laws::derivation_comments_law`, `with_names`.
 //! What the values mean is said where they are computed: this crate knows no theory. It reads one thing itself: whether the quotient at
 //! a leaf is bipartite, which makes the leaf a brace or a brick (`IsTally`). Words of a line stand with one space between them, a list of numbers has
 //! one space before each, and each line ends with one line feed.
@@ -21,6 +22,7 @@ mod faults;
 mod graph6;
 mod growths;
 mod judgements;
+pub mod laws;
 mod names;
 mod numbers;
 mod scripts;

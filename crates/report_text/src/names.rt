@@ -1,5 +1,6 @@
 //! Reports that tell the names of vertices.
-ghost use Rattle.std.specs.Prelude.{◌≡◌, ◌++◌, OnOk, IfOk};
+ghost use Rattle.std.specs.Prelude.{◌≡◌, ◌++◌, OnOk, IfOk, true};
+ghost use Rattle.report_text.specs.Comments.{IsCommented};
 ghost use Rattle.report_text.specs.Reports.{name_line, with_names_text};
 
 use graph_text::Names;
@@ -21,7 +22,8 @@ fn push_name(
 }
 
 /// Writes the report and then one line `name K NAME` for each name, in order, K being the number of the vertex. Where
-/// `comments` is true each of these lines begins with `c` and a space, so that a report that is a text of some format stays one.
+/// `comments` is true each of these lines begins with `c` and a space and is a comment, so that a report that is a text of some
+/// format stays one.
 #[tactic(auto, unfolding(crate::specs::Reports::with_names_text))]
 pub fn with_names(
     alloc: Global,
@@ -29,7 +31,8 @@ pub fn with_names(
     names: &Names,
     comments: bool,
 ) -> Result<Vec<u8>, Memory>
-    ensures { IfOk result (λ text. text.items ≡ with_names_text report.now names.now comments) }
+    ensures text { IfOk result (λ text. text.items ≡ with_names_text report.now names.now comments) }
+    ensures comments { comments ≡ true → IfOk result (λ text. IsCommented report.now text.items) }
 {
     names.are_names();
     let mut text = Vec::from_slice(alloc, report)?;

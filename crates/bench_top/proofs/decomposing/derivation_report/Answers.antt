@@ -1,4 +1,4 @@
-use Rattle.std.proofs.Common.{ℕ, All, ◌≡◌, ap, sym, subst, arith, length}
+use Rattle.std.proofs.Common.{ℕ, All, ◌≡◌, ap, refl, sym, subst, arith, length}
 use Rattle.contraction.specs.Partition.{PartitionValue}
 use Rattle.graph_text.specs.SoFar.{named_graph}
 use Rattle.tree_core.specs.Leaves.{StandsAt, leaves, partitions_of}
@@ -44,4 +44,5 @@ derivation-requires-clause-few c =
 pub returns : goal.returns
 returns c =
     told (named_graph c.args.named.now) (shape_of c.args.tree.now) c.order-n.result c.in_ok-found.found c.in_ok-text.text.items c.deref.result.now c.in_ok-report.report.items c.in_ok-with_given_names.field-0.items c.in_ok-report.ensures.0
-    c.requires c.order-n.ensures.is c.in_ok-found.ensures c.in_ok-text.ensures.text c.deref.ensures.value c.in_ok-report.ensures.1 c.in_ok-report.ensures.2 c.in_ok-with_given_names.ensures
+    c.keeps_limits.ensures c.requires c.order-n.ensures.is c.in_ok-found.ensures c.in_ok-text.ensures.text c.in_ok-text.ensures.stands c.deref.ensures.value c.in_ok-report.ensures.1 c.in_ok-report.ensures.2 c.in_ok-with_given_names.ensures.text
+    (c.in_ok-with_given_names.ensures.comments refl)

@@ -1,0 +1,94 @@
+-- What `script` writes stands for a script from the first tree to the second. So a file that holds it is read as this script, and its
+-- replay on the first tree is done and tells the second.
+use Rattle.std.proofs.Common.{◌≡◌, ◌∙◌, ℕ, ◌≤◌, List, length, Option, Some, refl, sym, ap, ap₂, subst, inl, inr}
+use Rattle.outside.specs.Shelf.{Named, file_named}
+use Rattle.line_text.specs.Reading.{reading_of}
+use Rattle.line_text.proofs.ExactlyOne.{Stands-reading_of}
+use Rattle.graph_text.specs.EitherVersion.{NamedGraph, either_version}
+use Rattle.tree_core.specs.Moves.{PlainMove}
+use Rattle.tree_core.specs.Shapes.{Shape}
+use Rattle.tree_text.specs.TreeFormat.{tree_format}
+use Rattle.tree_text.specs.Writing.{tree_text}
+use Rattle.move_text.specs.MoveFormat.{move_format}
+use Rattle.report_text.specs.Scripts.{replayed_text}
+use Rattle.bench_top.specs.Comparisons.{ScriptGives, Scripted}
+use Rattle.bench_top.specs.Loading.{Loaded, All, Bad, Absent, and_then, file_read, loaded_as, most_bytes, move_file, moves_given, tree_file, tree_given, trees_given}
+use Rattle.bench_top.specs.Outcome.{LoadedGives}
+use Rattle.bench_top.specs.RoundTrips.{ReplaysScript}
+use Rattle.bench_top.specs.Tasks.{Task}
+use Rattle.bench_top.specs.Tasks as task
+use Rattle.bench_top.specs.declared.status.Status.TheVariants.{Done}
+use Rattle.bench_top.proofs.FileReads.{file_read-value}
+
+-- the graph and the tree that two texts are read as
+abbrev tree_read : (graph tree : Option (List ℕ)) → Loaded (NamedGraph × Shape)
+tree_read graph tree =
+    and_then (file_read 1 (reading_of either_version) graph)
+    (λ named. loaded_as (λ t. (named, t)) (file_read 2 (reading_of (tree_format named.graph.order)) tree))
+
+-- other files that hold the same of both names
+tree_given-same : (files again : List Named) (graph tree : List ℕ) → file_named graph again ≡ file_named graph files → file_named tree again ≡ file_named tree files → tree_given again graph tree ≡ tree_given files graph tree
+tree_given-same files again graph tree one two = ap₂ tree_read one two
+
+-- the task of a script, and that of a replay
+abbrev script_task : NamedGraph × (Shape × Shape) → Task
+script_task given = task.Script given.0 given.1.0 given.1.1
+
+abbrev replay_task : NamedGraph × (Shape × List PlainMove) → Task
+replay_task given = task.Replay given.0 given.1.0 given.1.1
+
+module _ (files again : List Named) (graph first second script output : List ℕ) (held : file_named script again ≡ Some output) (within : length output ≤ most_bytes) where
+  -- a script that was told
+  replays : (named : NamedGraph) (s t : Shape) → tree_given again graph first ≡ All (named, s) → trees_given files graph first second ≡ All (named, (s, t)) → Scripted named.graph s t Done output → ReplaysScript files again graph first second script output
+  replays named s t given both told = record {
+    named = named;
+    source = s;
+    target = t;
+    held = both;
+    moves = told.moves;
+    told = told.text;
+    replayed = subst (λ (h : Loaded (NamedGraph × (Shape × List PlainMove))). LoadedGives (loaded_as replay_task h) Done (replayed_text (tree_text named.graph.order t) (length told.moves)))
+        (sym read)
+        (inl (inl (record { derivation = told.script.first; reached = t; turns = told.script.turns; done = refl; text = refl })));
+  }
+    where
+      moves_are : move_file again script named.graph.order ≡ All told.moves
+      moves_are =
+          file_read-value 3 (reading_of (move_format named.graph.order)) (file_named script again) output told.moves held within
+          (Stands-reading_of (move_format named.graph.order) output told.moves told.stands)
+
+      read : moves_given again graph first script ≡ All (named, (s, told.moves))
+      read =
+          ap (λ (h : Loaded (NamedGraph × Shape)). and_then h (λ given. loaded_as (λ ms. (given.0, (given.1, ms))) (move_file again script given.0.graph.order))) given
+          ∙ ap (loaded_as (λ (ms : List PlainMove). (named, (s, ms)))) moves_are
+
+  -- what `script` gives where it is done
+  gives : (named : NamedGraph) (s t : Shape) → tree_given again graph first ≡ All (named, s) → trees_given files graph first second ≡ All (named, (s, t)) → ScriptGives named.graph s t Done output → ReplaysScript files again graph first second script output
+  gives named s t given both (inl told) = replays named s t given both told
+  gives named s t given both (inr (inl first_refused)) = let no = first_refused.negative in cc no
+  gives named s t given both (inr (inr (inl second_refused))) = let no = second_refused.1.negative in cc no
+  gives named s t given both (inr (inr (inr uncovered))) = let no = uncovered.negative in cc no
+
+  -- by what the file of the second tree is read as
+  second_read : (named : NamedGraph) (s : Shape) (h : Loaded Shape) → tree_file files 3 second named.graph.order ≡ h → tree_given again graph first ≡ All (named, s) → tree_given files graph first ≡ All (named, s) →
+      LoadedGives (loaded_as script_task (loaded_as (λ t. (named, (s, t))) h)) Done output → ReplaysScript files again graph first second script output
+  second_read named s (All t) is given before done =
+      gives named s t given
+      (ap (λ (h : Loaded (NamedGraph × Shape)). and_then h (λ given. loaded_as (λ t. (given.0, (given.1, t))) (tree_file files 3 second given.0.graph.order))) before
+      ∙ ap (loaded_as (λ (t : Shape). (named, (s, t)))) is)
+      done
+  second_read named s (Bad file line kind) is given before done = let no = done.0 in cc no
+  second_read named s Absent is given before done = absurd done
+
+  -- by what the files of the graph and of the first tree are read as
+  first_read : (h : Loaded (NamedGraph × Shape)) → tree_given files graph first ≡ h → tree_given again graph first ≡ h →
+      LoadedGives (loaded_as script_task (and_then h (λ given. loaded_as (λ t. (given.0, (given.1, t))) (tree_file files 3 second given.0.graph.order)))) Done output → ReplaysScript files again graph first second script output
+  first_read (All given) before now done = second_read given.0 given.1 (tree_file files 3 second given.0.graph.order) refl now before done
+  first_read (Bad file line kind) before now done = let no = done.0 in cc no
+  first_read Absent before now done = absurd done
+
+-- what was written is replayed
+pub script-replayed : (files again : List Named) (graph first second script output : List ℕ) → LoadedGives (loaded_as script_task (trees_given files graph first second)) Done output →
+    file_named graph again ≡ file_named graph files → file_named first again ≡ file_named first files → file_named script again ≡ Some output → length output ≤ most_bytes → ReplaysScript files again graph first second script output
+script-replayed files again graph first second script output done one two held within =
+    first_read files again graph first second script output held within (tree_given files graph first) refl (tree_given-same files again graph first one two) done
