@@ -167,7 +167,11 @@ fn grown_graphs_in_all_orders(rt: HostRuntime) -> Result<(), Fail> {
 #[test]
 fn picks_of_the_hexagon(rt: HostRuntime) -> Result<(), Fail> {
     let mut trees = Vec::new(rt.alloc());
-    for picks in ["s mcg 1\npick 1\n", "s mcg 1\npick 2\n", "s mcg 1\npick 4\n"] {
+    for picks in [
+        "s mcg 1\npick 1\n",
+        "s mcg 1\npick 2\n",
+        "s mcg 1\npick 4\n",
+    ] {
         let words = ["decompose", "g", "script", "s"];
         let (_, tree) = ran(rt.alloc(), &words, &[HEXAGON, picks])?;
         trees.push(tree)?;

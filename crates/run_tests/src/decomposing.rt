@@ -50,8 +50,20 @@ fn first_cuts(rt: HostRuntime) -> Result<(), Fail> {
     let braces = "\nc leaves 2 bricks 0 braces 2\n";
     let bricks = "\nc leaves 2 bricks 2 braces 0\n";
     let table: [(&str, &[&str], &str, &str, &str); 8] = [
-        (HEXAGON, &["decompose", "g", "first"], "", "t mcg 6\ncut 2 3 4\n", braces),
-        (HEXAGON, &["decompose", "g", "last"], "", "t mcg 6\ncut 1 2 3\n", braces),
+        (
+            HEXAGON,
+            &["decompose", "g", "first"],
+            "",
+            "t mcg 6\ncut 2 3 4\n",
+            braces,
+        ),
+        (
+            HEXAGON,
+            &["decompose", "g", "last"],
+            "",
+            "t mcg 6\ncut 1 2 3\n",
+            braces,
+        ),
         (
             HEXAGON,
             &["decompose", "g", "balanced"],
@@ -80,8 +92,20 @@ fn first_cuts(rt: HostRuntime) -> Result<(), Fail> {
             "t mcg 6\ncut 2 3 4\n",
             braces,
         ),
-        (TWO_K4, &["decompose", "g", "first"], "", "t mcg 6\ncut 1 3 4\n", bricks),
-        (TWO_K4, &["decompose", "g", "last"], "", "t mcg 6\ncut 2 3 4\n", bricks),
+        (
+            TWO_K4,
+            &["decompose", "g", "first"],
+            "",
+            "t mcg 6\ncut 1 3 4\n",
+            bricks,
+        ),
+        (
+            TWO_K4,
+            &["decompose", "g", "last"],
+            "",
+            "t mcg 6\ncut 2 3 4\n",
+            bricks,
+        ),
     ];
     for (graph, words, picks, start, end) in table {
         let (status, written) = ran(rt.alloc(), words, &[graph, picks])?;

@@ -17,19 +17,59 @@ const RUNS: [(&[&str], &[&str], bool); 22] = [
     (&["decompose", "g", "first"], &[HEXAGON], true),
     (&["decompose", "g", "last"], &[PATH], false),
     (&["decompose", "g", "balanced"], &[NAMED_CYCLE], true),
-    (&["decompose", "g", "script", "s"], &[HEXAGON, "s mcg 1\npick 2\n"], true),
+    (
+        &["decompose", "g", "script", "s"],
+        &[HEXAGON, "s mcg 1\npick 2\n"],
+        true,
+    ),
     (&["check", "g", "s"], &[HEXAGON, HEXAGON_TREE], true),
-    (&["check", "g", "s"], &[PRISM, "t mcg 6\ncut 1 2 3\nleaf\nleaf\n"], false),
-    (&["checkears", "g", "s"], &[K4, "r mcg 4 6\nstart 1\near 2 4 6 3\near 1 2\nwith 2 5\n"], true),
-    (&["checkears", "g", "s"], &[K4, "r mcg 4 6\nstart 1\near 2 4 3\n"], false),
+    (
+        &["check", "g", "s"],
+        &[PRISM, "t mcg 6\ncut 1 2 3\nleaf\nleaf\n"],
+        false,
+    ),
+    (
+        &["checkears", "g", "s"],
+        &[K4, "r mcg 4 6\nstart 1\near 2 4 6 3\near 1 2\nwith 2 5\n"],
+        true,
+    ),
+    (
+        &["checkears", "g", "s"],
+        &[K4, "r mcg 4 6\nstart 1\near 2 4 3\n"],
+        false,
+    ),
     (&["ears", "g"], &[CUBE], true),
     (&["ears", "g"], &[PATH], false),
-    (&["compare", "g", "s", "t"], &[HEXAGON, HEXAGON_TREE, OTHER_HEXAGON_TREE], true),
-    (&["compare", "g", "s", "t"], &[HEXAGON, HEXAGON_TREE, "t mcg 6\nleaf\n"], false),
-    (&["script", "g", "s", "t"], &[HEXAGON, HEXAGON_TREE, OTHER_HEXAGON_TREE], true),
-    (&["script", "g", "s", "t"], &[HEXAGON, "t mcg 6\nleaf\n", HEXAGON_TREE], false),
-    (&["replay", "g", "s", "t"], &[HEXAGON, HEXAGON_TREE, "m mcg 6\nswitch . 1 4\n"], true),
-    (&["replay", "g", "s", "t"], &[HEXAGON, "t mcg 6\ncut 1 2\nleaf\nleaf\n", "m mcg 6\n"], false),
+    (
+        &["compare", "g", "s", "t"],
+        &[HEXAGON, HEXAGON_TREE, OTHER_HEXAGON_TREE],
+        true,
+    ),
+    (
+        &["compare", "g", "s", "t"],
+        &[HEXAGON, HEXAGON_TREE, "t mcg 6\nleaf\n"],
+        false,
+    ),
+    (
+        &["script", "g", "s", "t"],
+        &[HEXAGON, HEXAGON_TREE, OTHER_HEXAGON_TREE],
+        true,
+    ),
+    (
+        &["script", "g", "s", "t"],
+        &[HEXAGON, "t mcg 6\nleaf\n", HEXAGON_TREE],
+        false,
+    ),
+    (
+        &["replay", "g", "s", "t"],
+        &[HEXAGON, HEXAGON_TREE, "m mcg 6\nswitch . 1 4\n"],
+        true,
+    ),
+    (
+        &["replay", "g", "s", "t"],
+        &[HEXAGON, "t mcg 6\ncut 1 2\nleaf\nleaf\n", "m mcg 6\n"],
+        false,
+    ),
     (&["grow", "7", "1"], &[], true),
     (&["grow", "7", "3"], &[], true),
 ];
@@ -54,7 +94,12 @@ fn nothing_fails(rt: HostRuntime) -> Result<(), Fail> {
 }
 
 // What the words answer and write where the read call of this number fails.
-fn ran_to_read(alloc: Global, words: &[&str], files: &[&str], call: u32) -> Result<(Status, Vec<u8>), Fail> {
+fn ran_to_read(
+    alloc: Global,
+    words: &[&str],
+    files: &[&str],
+    call: u32,
+) -> Result<(Status, Vec<u8>), Fail> {
     let mut shelf = shelf_of(alloc, files)?;
     shelf.fail_read(call)?;
     let mut sink = MemSink::new(alloc, 100, 16)?;

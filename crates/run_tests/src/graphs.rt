@@ -10,8 +10,7 @@ pub const K4_REPORT: &str =
 pub const HEXAGON: &str = "p mcg 6 6\ne 1 2\ne 2 3\ne 3 4\ne 4 5\ne 5 6\ne 6 1\n";
 
 // The cycle of eight vertices.
-pub const OCTAGON: &str =
-    "p mcg 8 8\ne 1 2\ne 2 3\ne 3 4\ne 4 5\ne 5 6\ne 6 7\ne 7 8\ne 8 1\n";
+pub const OCTAGON: &str = "p mcg 8 8\ne 1 2\ne 2 3\ne 3 4\ne 4 5\ne 5 6\ne 6 7\ne 7 8\ne 8 1\n";
 
 // Two derivations of the hexagon, whose cuts cross.
 pub const HEXAGON_TREE: &str = "t mcg 6\ncut 1 2 3\nleaf\nleaf\n";

@@ -44,7 +44,10 @@ fn graph_files_of_version_one(rt: HostRuntime) -> Result<(), Fail> {
     for (text, line, kind) in table {
         let (status, written) = ran(rt.alloc(), &["analyse", "g"], &[text])?;
         assert_eq!(rt; status, Status::BadInput);
-        assert_eq!(rt; written.as_slice(), report_of(rt.alloc(), 1, line, kind)?.as_bytes());
+        assert_eq!(rt;
+            written.as_slice(),
+            report_of(rt.alloc(), 1, line, kind)?.as_bytes()
+        );
     }
     Ok(())
 }
@@ -80,7 +83,10 @@ fn graph_files_of_version_two(rt: HostRuntime) -> Result<(), Fail> {
     for (text, line, kind) in table {
         let (status, written) = ran(rt.alloc(), &["convert", "g"], &[text])?;
         assert_eq!(rt; status, Status::BadInput);
-        assert_eq!(rt; written.as_slice(), report_of(rt.alloc(), 1, line, kind)?.as_bytes());
+        assert_eq!(rt;
+            written.as_slice(),
+            report_of(rt.alloc(), 1, line, kind)?.as_bytes()
+        );
     }
     Ok(())
 }
@@ -106,7 +112,10 @@ fn graph6_files(rt: HostRuntime) -> Result<(), Fail> {
     for (text, line, kind) in table {
         let (status, written) = ran(rt.alloc(), &["analyse6", "g"], &[text])?;
         assert_eq!(rt; status, Status::BadInput);
-        assert_eq!(rt; written.as_slice(), report_of(rt.alloc(), 1, line, kind)?.as_bytes());
+        assert_eq!(rt;
+            written.as_slice(),
+            report_of(rt.alloc(), 1, line, kind)?.as_bytes()
+        );
     }
     Ok(())
 }
@@ -119,7 +128,10 @@ fn files_of_spaces(rt: HostRuntime) -> Result<(), Fail> {
         let text = str::from_utf8(&spaces)?;
         let (status, written) = ran(rt.alloc(), &["analyse", "g"], &[text])?;
         assert_eq!(rt; status, Status::BadInput);
-        assert_eq!(rt; written.as_slice(), report_of(rt.alloc(), 1, line, kind)?.as_bytes());
+        assert_eq!(rt;
+            written.as_slice(),
+            report_of(rt.alloc(), 1, line, kind)?.as_bytes()
+        );
     }
     Ok(())
 }
@@ -153,7 +165,10 @@ fn derivation_files(rt: HostRuntime) -> Result<(), Fail> {
     for (text, line, kind) in table {
         let (status, written) = ran(rt.alloc(), &["check", "g", "s"], &[HEXAGON, text])?;
         assert_eq!(rt; status, Status::BadInput);
-        assert_eq!(rt; written.as_slice(), report_of(rt.alloc(), 2, line, kind)?.as_bytes());
+        assert_eq!(rt;
+            written.as_slice(),
+            report_of(rt.alloc(), 2, line, kind)?.as_bytes()
+        );
     }
     Ok(())
 }
@@ -193,7 +208,10 @@ fn pick_files(rt: HostRuntime) -> Result<(), Fail> {
         let words = ["decompose", "g", "script", "s"];
         let (status, written) = ran(rt.alloc(), &words, &[HEXAGON, text])?;
         assert_eq!(rt; status, Status::BadInput);
-        assert_eq!(rt; written.as_slice(), report_of(rt.alloc(), 2, line, kind)?.as_bytes());
+        assert_eq!(rt;
+            written.as_slice(),
+            report_of(rt.alloc(), 2, line, kind)?.as_bytes()
+        );
     }
     Ok(())
 }
@@ -229,7 +247,10 @@ fn ear_files(rt: HostRuntime) -> Result<(), Fail> {
     for (text, line, kind) in table {
         let (status, written) = ran(rt.alloc(), &["checkears", "g", "s"], &[K4, text])?;
         assert_eq!(rt; status, Status::BadInput);
-        assert_eq!(rt; written.as_slice(), report_of(rt.alloc(), 2, line, kind)?.as_bytes());
+        assert_eq!(rt;
+            written.as_slice(),
+            report_of(rt.alloc(), 2, line, kind)?.as_bytes()
+        );
     }
     Ok(())
 }
@@ -263,7 +284,10 @@ fn move_files(rt: HostRuntime) -> Result<(), Fail> {
         let words = ["replay", "g", "s", "t"];
         let (status, written) = ran(rt.alloc(), &words, &[HEXAGON, HEXAGON_TREE, text])?;
         assert_eq!(rt; status, Status::BadInput);
-        assert_eq!(rt; written.as_slice(), report_of(rt.alloc(), 3, line, kind)?.as_bytes());
+        assert_eq!(rt;
+            written.as_slice(),
+            report_of(rt.alloc(), 3, line, kind)?.as_bytes()
+        );
     }
     Ok(())
 }
@@ -277,7 +301,10 @@ fn move_file_of_20001_moves(rt: HostRuntime) -> Result<(), Fail> {
     let words = ["replay", "g", "s", "t"];
     let (status, written) = ran(rt.alloc(), &words, &[HEXAGON, HEXAGON_TREE, &moves])?;
     assert_eq!(rt; status, Status::BadInput);
-    assert_eq!(rt; written.as_slice(), b"file 3 line 20002 kind 6\n".as_slice());
+    assert_eq!(rt;
+        written.as_slice(),
+        b"file 3 line 20002 kind 6\n".as_slice()
+    );
     Ok(())
 }
 
@@ -302,8 +329,18 @@ fn the_first_bad_file(rt: HostRuntime) -> Result<(), Fail> {
         (&["check", "g", "s"], TWO_EDGES, "t mcg 4\n", 2),
         (&["checkears", "g", "s"], "p mcg 2 1\n", "r mcg 4 2\n", 1),
         (&["checkears", "g", "s"], TWO_EDGES, "r mcg 4 2\n", 2),
-        (&["decompose", "g", "script", "s"], "p mcg 2 1\n", "s mcg 1\n", 1),
-        (&["decompose", "g", "script", "s"], "p mcg 0 0\n", "s mcg 1\n", 2),
+        (
+            &["decompose", "g", "script", "s"],
+            "p mcg 2 1\n",
+            "s mcg 1\n",
+            1,
+        ),
+        (
+            &["decompose", "g", "script", "s"],
+            "p mcg 0 0\n",
+            "s mcg 1\n",
+            2,
+        ),
         (&["ears", "g"], "p mcg 2 1\n", "", 1),
         (&["compare", "g", "s", "t"], TWO_EDGES, "t mcg 4\n", 2),
         (&["script", "g", "s", "t"], TWO_EDGES, "t mcg 4\n", 2),
@@ -313,7 +350,10 @@ fn the_first_bad_file(rt: HostRuntime) -> Result<(), Fail> {
     for (words, graph, text, file) in table {
         let (status, written) = ran(rt.alloc(), words, &[graph, text, "t mcg 4\n"])?;
         assert_eq!(rt; status, Status::BadInput);
-        assert_eq!(rt; written.as_slice(), report_of(rt.alloc(), file, 2, 7)?.as_bytes());
+        assert_eq!(rt;
+            written.as_slice(),
+            report_of(rt.alloc(), file, 2, 7)?.as_bytes()
+        );
     }
     Ok(())
 }

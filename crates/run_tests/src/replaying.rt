@@ -47,7 +47,11 @@ fn moves_on_a_derivation(rt: HostRuntime) -> Result<(), Fail> {
 
 #[test]
 fn moves_on_a_tree_that_is_refused(rt: HostRuntime) -> Result<(), Fail> {
-    let (status, written) = ran(rt.alloc(), &REPLAY, &[HEXAGON, "t mcg 6\nleaf\n", "m mcg 6\n"])?;
+    let (status, written) = ran(
+        rt.alloc(),
+        &REPLAY,
+        &[HEXAGON, "t mcg 6\nleaf\n", "m mcg 6\n"],
+    )?;
     assert_eq!(rt; status, Status::Negative);
     assert_eq!(rt;
         written.as_slice(),
@@ -58,13 +62,21 @@ fn moves_on_a_tree_that_is_refused(rt: HostRuntime) -> Result<(), Fail> {
 
 #[test]
 fn a_script_is_replayed(rt: HostRuntime) -> Result<(), Fail> {
-    let (status, script) = ran(rt.alloc(), &["script", "g", "s", "t"], &[HEXAGON, HEXAGON_TREE, OTHER_HEXAGON_TREE])?;
+    let (status, script) = ran(
+        rt.alloc(),
+        &["script", "g", "s", "t"],
+        &[HEXAGON, HEXAGON_TREE, OTHER_HEXAGON_TREE],
+    )?;
     assert_eq!(rt; status, Status::Done);
     assert_eq!(rt;
         script.as_slice(),
         b"m mcg 6\nswitch . 1 4\nc leaves 2 moves 1\n".as_slice()
     );
-    let (status, written) = ran(rt.alloc(), &REPLAY, &[HEXAGON, HEXAGON_TREE, str::from_utf8(&script)?])?;
+    let (status, written) = ran(
+        rt.alloc(),
+        &REPLAY,
+        &[HEXAGON, HEXAGON_TREE, str::from_utf8(&script)?],
+    )?;
     assert_eq!(rt; status, Status::Done);
     assert_eq!(rt;
         written.as_slice(),
