@@ -2,6 +2,7 @@
 use crate::graphs::{CUBE, HEXAGON, K4, PATH, PETERSEN, PRISM, TRIANGLE_IN_K33, TWO_EDGES};
 use crate::trial::ran;
 use bench_top::Status;
+use std::alloc::Global;
 use std::str;
 use std::test::Fail;
 
@@ -48,6 +49,16 @@ fn trees_that_are_refused(rt: HostRuntime) -> Result<(), Fail> {
     Ok(())
 }
 
+// What `check` answers and writes of this tree.
+fn checked(alloc: Global, graph: &str, tree: &str) -> Result<(Status, Vec<u8>), Fail> {
+    ran(alloc, &["check", "g", "s"], &[graph, tree])
+}
+
+// What `decompose` answers and writes in the order `last`.
+fn decomposed(alloc: Global, graph: &str) -> Result<(Status, Vec<u8>), Fail> {
+    ran(alloc, &["decompose", "g", "last"], &[graph])
+}
+
 #[test]
 fn decompositions_are_accepted(rt: HostRuntime) -> Result<(), Fail> {
     let table = [
@@ -56,10 +67,9 @@ fn decompositions_are_accepted(rt: HostRuntime) -> Result<(), Fail> {
         (K4, "accepted leaves 1 bricks 1 braces 0\n"),
     ];
     for (graph, report) in table {
-        let (status, tree) = ran(rt.alloc(), &["decompose", "g", "last"], &[graph])?;
+        let (status, tree) = decomposed(rt.alloc(), graph)?;
         assert_eq!(rt; status, Status::Done);
-        let tree = str::from_utf8(&tree)?;
-        let (status, written) = ran(rt.alloc(), &["check", "g", "s"], &[graph, tree])?;
+        let (status, written) = checked(rt.alloc(), graph, str::from_utf8(&tree)?)?;
         assert_eq!(rt; status, Status::Done);
         assert_eq!(rt; written.as_slice(), report.as_bytes());
     }
@@ -146,6 +156,16 @@ fn ear_lists_that_are_refused(rt: HostRuntime) -> Result<(), Fail> {
     Ok(())
 }
 
+// What `checkears` answers and writes of this list.
+fn ears_checked(alloc: Global, graph: &str, ears: &str) -> Result<(Status, Vec<u8>), Fail> {
+    ran(alloc, &["checkears", "g", "s"], &[graph, ears])
+}
+
+// What `ears` answers and writes.
+fn ears_built(alloc: Global, graph: &str) -> Result<(Status, Vec<u8>), Fail> {
+    ran(alloc, &["ears", "g"], &[graph])
+}
+
 #[test]
 fn ear_lists_that_are_built(rt: HostRuntime) -> Result<(), Fail> {
     let table = [
@@ -166,15 +186,15 @@ fn ear_lists_that_are_built(rt: HostRuntime) -> Result<(), Fail> {
         ),
     ];
     for (graph, end, report) in table {
-        let (status, ears) = ran(rt.alloc(), &["ears", "g"], &[graph])?;
+        let (status, ears) = ears_built(rt.alloc(), graph)?;
         assert_eq!(rt; status, Status::Done);
         let ears = str::from_utf8(&ears)?;
         assert!(rt; ears.ends_with(end));
-        let (status, written) = ran(rt.alloc(), &["checkears", "g", "s"], &[graph, ears])?;
+        let (status, written) = ears_checked(rt.alloc(), graph, ears)?;
         assert_eq!(rt; status, Status::Done);
         assert_eq!(rt; written.as_slice(), report.as_bytes());
     }
-    let (status, written) = ran(rt.alloc(), &["ears", "g"], &[PATH])?;
+    let (status, written) = ears_built(rt.alloc(), PATH)?;
     assert_eq!(rt; status, Status::Negative);
     assert_eq!(rt; written.as_slice(), b"covered no edge 2\n".as_slice());
     Ok(())
