@@ -1,4 +1,4 @@
--- Lists of perfect matchings that show which pairs of edges lie together in one.
+-- Lists of perfect matchings that show which pairs of edges lie together in one. No notion of the literature.
 use Rattle.std.specs.Prelude.{◌≡◌, ℕ, ◌-◌, true, false, List, ◌&&◌, length, All, Any}
 use Rattle.counting.specs.Counts.{Within}
 use Rattle.counting.specs.Sets.{none}

@@ -1,5 +1,5 @@
 -- Partitions of the vertices into blocks, and the graph with each block made one vertex. A block's name is its greatest
--- vertex, and blocks stand by rising name.
+-- vertex, and blocks stand by rising name. Lovász 1987; differs in that the blocks are listed, so that a partition is one list.
 use Rattle.std.specs.Prelude.{◌≡◌, ℕ, zero, suc, ◌+◌, ◌-◌, true, false, List, [], ◌∷◌, ◌++◌, map, length, filter, cond, not, nat_lt, slice_index_or, All}
 use Rattle.std.specs.List.Sorted.{IsStrictlyIncreasing}
 use Rattle.counting.specs.Counts.{count, Within}

@@ -1,5 +1,6 @@
 -- The quotient at a partition: one vertex for each block, one edge for each adjacent pair of blocks, and for each edge of
--- the quotient the edges of the graph that it stands for.
+-- the quotient the edges of the graph that it stands for. Contraction as in Lovász 1987; differs in that parallel edges become
+-- one edge, which changes no tight cut.
 use Rattle.std.specs.Prelude.{ℕ, ◌==◌, ◌&&◌, not, Bool, List, length, filter, slice_index}
 use Rattle.counting.specs.Sets.{Set}
 use Rattle.counting.specs.Tests.{some}

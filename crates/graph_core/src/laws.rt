@@ -1,9 +1,9 @@
 //! The laws on graphs. Each is the contract of a function that does nothing.
-ghost use Rattle.std.specs.Prelude.{◌≡◌, ℕ, List, Bool, ◌+◌, ◌*◌, ◌≤◌, ◌<◌, ◌&&◌, true, false, length, ◌↔◌};
+ghost use Rattle.std.specs.Prelude.{◌≡◌, ℕ, List, ◌+◌, ◌*◌, ◌≤◌, ◌<◌, ◌&&◌, true, false, length, ◌↔◌};
 ghost use Rattle.counting.specs.Counts.{Within, count, is_odd};
-ghost use Rattle.counting.specs.Sets.{Set, none, union, meet, minus, complement, pair_set};
+ghost use Rattle.counting.specs.Sets.{Set, none, union, meet, minus, complement};
 ghost use Rattle.counting.specs.Lists.{mem, IsRisingIn};
-ghost use Rattle.graph_core.specs.Graph.{Graph, size, IsGraph, IsMultigraph, in_cut, inside, connects, edges_in_cut};
+ghost use Rattle.graph_core.specs.Graph.{Graph, size, IsGraph, IsMultigraph, inside, connects, edges_in_cut};
 ghost use Rattle.graph_core.specs.Matchings.{IsPerfect, IsMatching, ShareNoEnd, HasPerfect, has_perfect, missed_count};
 ghost use Rattle.graph_core.specs.Walks.{Joined, joined};
 ghost use Rattle.graph_core.specs.Sides.{IsLeftSide};
@@ -99,11 +99,11 @@ pub fn cut_at_law()
 /// Contraction: where a tight shore X of a partition with a covered quotient is merged, the quotient stays covered, a shore
 /// that is tight then was tight before, and a shore that was tight and is a union of the new blocks is tight then.
 pub fn contraction_law()
-    ensures covered { (g : Graph) (p : List (List ℕ)) (x : List ℕ) → IsGraph g → AreBlocks g.order p → IsRisingIn g.order x → 0 < length x →
+    ensures covered { (g : Graph) (p : List (List ℕ)) (x : List ℕ) → IsGraph g → AreBlocks g.order p → IsRisingIn g.order x →
         IsTightAt g p (mem x) → IsCovered (contracted g p) → IsCovered (contracted g (merged p x)) }
-    ensures before { (g : Graph) (p : List (List ℕ)) (x : List ℕ) (y : Set) → IsGraph g → AreBlocks g.order p → IsRisingIn g.order x → 0 < length x →
+    ensures before { (g : Graph) (p : List (List ℕ)) (x : List ℕ) (y : Set) → IsGraph g → AreBlocks g.order p → IsRisingIn g.order x →
         IsTightAt g p (mem x) → IsCovered (contracted g p) → IsTightAt g (merged p x) y → IsTightAt g p y }
-    ensures after { (g : Graph) (p : List (List ℕ)) (x : List ℕ) (y : Set) → IsGraph g → AreBlocks g.order p → IsRisingIn g.order x → 0 < length x →
+    ensures after { (g : Graph) (p : List (List ℕ)) (x : List ℕ) (y : Set) → IsGraph g → AreBlocks g.order p → IsRisingIn g.order x →
         IsTightAt g p (mem x) → IsCovered (contracted g p) → IsTightAt g p y → IsUnion g.order (merged p x) y → IsTightAt g (merged p x) y }
 {}
 

@@ -1,4 +1,18 @@
-//! Finite undirected multigraphs without loops.
+//! Finite undirected multigraphs without loops, and the definitions of the whole theory of their matchings.
+//!
+//! `MultiGraph` keeps up to 128 vertices and 2,048 edges, both numbered from 1, and answers by the definitions: `components_without`,
+//! `two_sides`, `adjacent`, `simple`. Contracts see it as a plain `Graph` (specs/Graph, specs/View).
+//!
+//! The definitions, in specs/: matchings and perfect matchings of a graph without a vertex set (`Matchings`), walks and components
+//! (`Walks`, `Components`), Berge sets and the Gallai-Edmonds sets (`BergeSets`, `GallaiEdmonds`), matching covered graphs and the
+//! first reason why a graph is none (`Covered`), the canonical partition, barriers and pairs (`Structure`), tight cuts (`Tight`),
+//! and partitions into blocks with their quotients and shores (`Partitions`, `Quotients`, `Shores`).
+//!
+//! The laws, in `laws`: parity of a cut, weak duality, merging a shore, contraction of a tight cut, and uncrossing of two. In
+//! other words for a reader the definitions stand in `definition_laws`.
+//!
+//! Stands on `counting` and `vset_core`. Sources: Lovász and Plummer, "Matching Theory"; Lovász, "Matching structure and the matching
+//! lattice" (1987); Lucchesi and Murty, "Perfect Matchings".
 #![tactic(auto)]
 
 mod ends;
