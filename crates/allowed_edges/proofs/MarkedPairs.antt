@@ -7,6 +7,7 @@ use Rattle.std.proofs.lemmas.Bool.{cases_eq}
 use Rattle.std.proofs.lemmas.List.{get_or-map, get_or-set_same, get_or-set_other, length-map, map-set}
 use Rattle.std.proofs.lemmas.List.Elements.{All-head, All-tail}
 use Rattle.counting.specs.Lists.{mem}
+use Rattle.match_core.proofs.Marks.{no-marks}
 use Rattle.match_core.specs.Rows.{marks}
 use Rattle.match_core.specs.declared.matching.MatchRow.{MatchRow}
 use Rattle.match_core.proofs.MatchingEdges.{edge_of}
@@ -32,15 +33,9 @@ row_here view e new l = get_or-set_same view e new [] l
 pub row_elsewhere : (view : List (List Bool)) (e d : ℕ) (new : List Bool) → d ≢ e → row_of (set view e new) d ≡ row_of view d
 row_elsewhere view e d new n = get_or-set_other view e d new [] n
 
--- rows without a mark
-blank_at : (n f : ℕ) → marks (replicate n false) f ≡ false
-blank_at zero f = refl
-blank_at (suc n) zero = refl
-blank_at (suc n) (suc f) = blank_at n f
-
 pub blank_marks : (n : ℕ) (rows : List (Vec Bool)) → All (λ (row : Vec Bool). row.items ≡ replicate n false) rows → (e f : ℕ) → marks (row_of (rows_of rows) e) f ≡ false
 blank_marks n [] all e f = refl
-blank_marks n (row ∷ rows) all zero f = ap (λ (r : List Bool). marks r f) (All-head (λ (r : Vec Bool). r.items ≡ replicate n false) row rows all) ∙ blank_at n f
+blank_marks n (row ∷ rows) all zero f = ap (λ (r : List Bool). marks r f) (All-head (λ (r : Vec Bool). r.items ≡ replicate n false) row rows all) ∙ no-marks n f
 blank_marks n (row ∷ rows) all (suc e) f = blank_marks n rows (All-tail (λ (r : Vec Bool). r.items ≡ replicate n false) row rows all) e f
 
 length_blank : (n : ℕ) → length (replicate n false) ≡ n

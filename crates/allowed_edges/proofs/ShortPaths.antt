@@ -1,5 +1,5 @@
 -- A matching with an edge more, between two vertices that it does not meet, and what a row that was read says of a matching's ends.
-use Rattle.std.proofs.Common.{◌≡◌, ℕ, suc, zero, ◌+◌, ◌<◌, Bool, true, false, ◌==◌, ◌||◌, refl, sym, ap, ◌∙◌, arith, List, [], ◌∷◌, inl, eq-eqb, ne_eqb, Some, Option, length, slice_get}
+use Rattle.std.proofs.Common.{◌≡◌, ℕ, suc, zero, ◌+◌, ◌<◌, true, false, ◌==◌, ◌||◌, refl, sym, ap, ◌∙◌, arith, List, [], ◌∷◌, inl, eq-eqb, ne_eqb, Some, Option, length, slice_get}
 use Rattle.std.proofs.lemmas.Bool.{both_ways}
 use Rattle.counting.specs.Counts.{Within, bit}
 use Rattle.counting.specs.Sets.{Set, put}
@@ -46,11 +46,6 @@ module _ (g : Graph) (m : MatchingValue) (of : IsOf g m) (keeps : KeepsMatching 
 -- a matching of the graph without more vertices
 pub fewer_removed : (g : Graph) (r s m : Set) → ((v : ℕ) → s v ≡ true → r v ≡ true) → IsMatching g r m → IsMatching g s m
 fewer_removed g r s m h mm = record { once = mm.once; away = λ v w t. mm.away v w (h v t) }
-
--- neither of two that are false together
-pub or_parts : (a b : Bool) → (a || b) ≡ false → (a ≡ false) × (b ≡ false)
-or_parts true b h = absurd (both_ways true h refl)
-or_parts false b h = (refl, h)
 
 -- a place that is read is one of the list
 pub get_below : (rows : List MatchRow) (i : ℕ) (row : MatchRow) → slice_get rows i ≡ Some row → i < length rows

@@ -1,7 +1,7 @@
 -- Perfect matchings through one edge or two, from a perfect matching of the graph without their ends and back.
 -- The edges meet their ends once, so they are glued to the one and cut off the other; and a perfect matching leaves few
 -- vertices missed when the edges at these ends are taken out.
-use Rattle.std.proofs.Common.{◌≡◌, ℕ, suc, zero, ◌+◌, ◌*◌, ◌≤◌, ◌<◌, ◌≢◌, Bool, true, false, ◌==◌, ◌&&◌, ◌||◌, ◌⊎◌, not, refl, sym, ap, ap₂, ◌∙◌, arith, List, length, map, inl, inr, eqb-true, eq-eqb, ne_eqb, subst}
+use Rattle.std.proofs.Common.{◌≡◌, ℕ, ◌*◌, ◌≢◌, Bool, true, false, ◌==◌, ◌||◌, ◌⊎◌, refl, sym, ap, ◌∙◌, arith, inl, inr, eqb-true, eq-eqb, ne_eqb, subst}
 use Rattle.std.proofs.lemmas.Bool.{both_ways, cases_eq, false_from_ne_true, true≢false, or_cases}
 use Rattle.counting.specs.Counts.{Within, bit}
 use Rattle.counting.specs.Sets.{Set, none, put, union, minus, everything}
@@ -9,6 +9,7 @@ use Rattle.graph_core.specs.Graph.{Graph, IsGraph, IsMultigraph, degree, first_e
 use Rattle.graph_core.specs.Matchings.{Allowed, HasPerfect, IsPerfect, Together}
 use Rattle.graph_core.proofs.Decide.{degree_congr, none_matching}
 use Rattle.graph_core.proofs.Edits.{degree_put, ends_of}
+use Rattle.match_core.proofs.AlternatingPaths.{put_off, put_at}
 use Rattle.match_core.specs.Questions.{MeetOnce}
 use Rattle.match_core.proofs.ClearedMatchings.{left_misses}
 use Rattle.match_core.proofs.Gluing.{cut_off, glued, meet_more}
@@ -42,15 +43,8 @@ none_meets g x h v w = (none_matching g everything).away v w refl ∙ sym (ap bi
 pub one_meets : (g : Graph) → IsMultigraph g → (e : ℕ) (x y : Set) → Within (size g) e → ((v : ℕ) → x v ≡ false) → AddsEnds g e x y → MeetOnce g (put none e true) y
 one_meets g is e x y we empty adds = meet_more g none x y e (first_end g e) (second_end g e) we (inl (refl, refl)) (is.no_loop e we) refl (none_meets g x empty) (empty (first_end g e)) (empty (second_end g e)) adds
 
--- an edge is in the set of it, and no other
-pub put_here : (x : Set) (e : ℕ) (b : Bool) → put x e b e ≡ b
-put_here x e b = ap (λ c. Rattle.std.proofs.Common.cond c b (x e)) (eq-eqb e e refl)
-
-pub put_other : (x : Set) (e : ℕ) (b : Bool) (i : ℕ) → i ≢ e → put x e b i ≡ x i
-put_other x e b i h = ap (λ c. Rattle.std.proofs.Common.cond c b (x i)) (ne_eqb i e h)
-
 pub put_only : (x : Set) (e i : ℕ) → put x e true i ≡ true → (i ≡ e) ⊎ (x i ≡ true)
-put_only x e i h = elim (cases_eq i e) [ inl q ↦ inl q | inr d ↦ inr (sym (put_other x e true i d) ∙ h) ]
+put_only x e i h = elim (cases_eq i e) [ inl q ↦ inl q | inr d ↦ inr (sym (put_off x e true i d) ∙ h) ]
 
 -- an edge that shares no end with e is not at the ends of e
 pub ends_free : (g : Graph) (e f : ℕ) (x y : Set) → ((v : ℕ) → x v ≡ false) → AddsEnds g e x y → ShareNone g e f → (y (first_end g f) ≡ false) × (y (second_end g f) ≡ false)
@@ -88,8 +82,8 @@ or_no false = refl
 -- the edge e alone
 pub only_one : (e i : ℕ) → (e == i) ≡ put none e true i
 only_one e i = elim (cases_eq i e) [
-  | inl s ↦ eq-eqb e i (sym s) ∙ sym (ap (put none e true) s ∙ put_here none e true)
-  | inr s ↦ ne_eqb e i (λ t. s (sym t)) ∙ sym (put_other none e true i s)
+  | inl s ↦ eq-eqb e i (sym s) ∙ sym (ap (put none e true) s ∙ put_at none e true)
+  | inr s ↦ ne_eqb e i (λ t. s (sym t)) ∙ sym (put_off none e true i s)
 ]
 
 -- two edges that share no end are two
@@ -99,7 +93,7 @@ apart_differ g e f apart q = apart (first_end g e) (inl refl) (inl (ap (first_en
 module _ (g : Graph) (is : IsMultigraph g) (e : ℕ) (we : Within (size g) e) (x y : Set) (empty : (v : ℕ) → x v ≡ false) (first : AddsEnds g e x y) where
   -- a perfect matching leaves few vertices missed
   pub one_leaves : (m : Set) → IsPerfect g none m → LeavesFew g y m
-  one_leaves m perfect = left_misses g is.ends m (put none e true) y e perfect (one_meets g is e x y we empty first) we (put_here none e true) (λ i wi ci other. elim (put_only none e i ci) [
+  one_leaves m perfect = left_misses g is.ends m (put none e true) y e perfect (one_meets g is e x y we empty first) we (put_at none e true) (λ i wi ci other. elim (put_only none e i ci) [
     | inl q ↦ absurd (other q)
     | inr q ↦ absurd (true≢false (sym q))
   ])
@@ -132,11 +126,11 @@ module _ (g : Graph) (is : IsMultigraph g) (e f : ℕ) (we : Within (size g) e) 
   pub two_meet : MeetOnce g pair z
   two_meet =
       let free = ends_free g e f x y empty first apart in
-      meet_more g (put none e true) y z f (first_end g f) (second_end g f) wf (inl (refl, refl)) (is.no_loop f wf) (put_other none e true f (apart_differ g e f apart)) (one_meets g is e x y we empty first) free.0 free.1 second
+      meet_more g (put none e true) y z f (first_end g f) (second_end g f) wf (inl (refl, refl)) (is.no_loop f wf) (put_off none e true f (apart_differ g e f apart)) (one_meets g is e x y we empty first) free.0 free.1 second
 
   -- a perfect matching that holds the first leaves few vertices missed
   pub two_leave : (m : Set) → IsPerfect g none m → m e ≡ true → LeavesFew g z m
-  two_leave m perfect me = left_misses g is.ends m pair z f perfect two_meet wf (put_here (put none e true) f true) (λ i wi ci other. elim (put_only (put none e true) f i ci) [
+  two_leave m perfect me = left_misses g is.ends m pair z f perfect two_meet wf (put_at (put none e true) f true) (λ i wi ci other. elim (put_only (put none e true) f i ci) [
     | inl q ↦ absurd (other q)
     | inr q ↦ elim (put_only none e i q) [ inl s ↦ ap m s ∙ me | inr s ↦ absurd (true≢false (sym s)) ]
   ])
@@ -147,8 +141,8 @@ module _ (g : Graph) (is : IsMultigraph g) (e f : ℕ) (we : Within (size g) e) 
     where
       together : (i : ℕ) → ((q i || (e == i)) || (f == i)) ≡ union q pair i
       together i = elim (cases_eq i f) [
-        | inl s ↦ ap (λ b. (q i || (e == i)) || b) (eq-eqb f i (sym s)) ∙ or_end (q i || (e == i)) ∙ sym (ap (λ b. q i || b) (ap pair s ∙ put_here (put none e true) f true) ∙ or_end (q i))
-        | inr s ↦ ap (λ b. (q i || (e == i)) || b) (ne_eqb f i (λ t. s (sym t))) ∙ or_no (q i || (e == i)) ∙ ap (λ b. q i || b) (only_one e i ∙ sym (put_other (put none e true) f true i s))
+        | inl s ↦ ap (λ b. (q i || (e == i)) || b) (eq-eqb f i (sym s)) ∙ or_end (q i || (e == i)) ∙ sym (ap (λ b. q i || b) (ap pair s ∙ put_at (put none e true) f true) ∙ or_end (q i))
+        | inr s ↦ ap (λ b. (q i || (e == i)) || b) (ne_eqb f i (λ t. s (sym t))) ∙ or_no (q i || (e == i)) ∙ ap (λ b. q i || b) (only_one e i ∙ sym (put_off (put none e true) f true i s))
       ]
 
   pub two_cut : Together g e f → HasPerfect g z

@@ -1,5 +1,4 @@
 //! Worked graphs: their allowed edges, verdicts and pairs; and small graphs beside the plain program.
-ghost use Rattle.std.specs.Prelude.{◌≤◌};
 ghost use Rattle.counting.specs.Counts.{Within};
 ghost use Rattle.plain_graph.specs.Small.{IsSmall};
 
@@ -10,44 +9,11 @@ use plain_graph::{greatest_matching, is_small, perfect_matchings};
 use std::alloc::Global;
 use std::test::Fail;
 use vset_core::{MOST_VERTICES, VSet};
-
-const K4: [(u32, u32); 6] = [(1, 2), (1, 3), (1, 4), (2, 3), (2, 4), (3, 4)];
-
-const PATH: [(u32, u32); 3] = [(1, 2), (2, 3), (3, 4)];
-
-const STAR: [(u32, u32); 3] = [(1, 2), (1, 3), (1, 4)];
-
-const TWO_EDGES: [(u32, u32); 2] = [(1, 2), (3, 4)];
-
-const TRIANGLE: [(u32, u32); 3] = [(1, 2), (1, 3), (2, 3)];
+use worked_graphs::{K4, K33, PATH, PRISM, STAR, TRIANGLE, TWO_EDGES, graph_with};
 
 const TWINS: [(u32, u32); 3] = [(1, 2), (2, 1), (1, 2)];
 
 const BOWTIE: [(u32, u32); 6] = [(1, 2), (2, 3), (1, 3), (3, 4), (4, 5), (3, 5)];
-
-const K33: [(u32, u32); 9] = [
-    (1, 4),
-    (1, 5),
-    (1, 6),
-    (2, 4),
-    (2, 5),
-    (2, 6),
-    (3, 4),
-    (3, 5),
-    (3, 6),
-];
-
-const PRISM: [(u32, u32); 9] = [
-    (1, 2),
-    (1, 3),
-    (2, 3),
-    (4, 5),
-    (4, 6),
-    (5, 6),
-    (1, 4),
-    (2, 5),
-    (3, 6),
-];
 
 const WHEEL: [(u32, u32); 10] = [
     (1, 2),
@@ -107,16 +73,6 @@ const SMALL_GRAPHS: [(u32, &[(u32, u32)]); 15] = [
     (7, &HEPTAGON),
 ];
 
-fn made(alloc: Global, order: u32, edges: &[(u32, u32)]) -> Result<MultiGraph, Fail>
-    requires { order ≤ MOST_VERTICES }
-{
-    let mut graph = MultiGraph::new(alloc, order)?;
-    for (a, b) in edges {
-        graph.add_edge(*a, *b)?;
-    }
-    Ok(graph)
-}
-
 #[test]
 fn lists_allowed_edges_and_says_why_not_covered(rt: HostRuntime) -> Result<(), Fail> {
     let unmatched = Reason::Unmatched {
@@ -141,7 +97,7 @@ fn lists_allowed_edges_and_says_why_not_covered(rt: HostRuntime) -> Result<(), F
     ];
     for (order, edges, listed, reason) in cases {
         assert!(rt; order <= MOST_VERTICES);
-        let graph = made(rt.alloc(), order, edges)?;
+        let graph = graph_with(rt.alloc(), order, edges)?;
         assert_eq!(rt; allowed(rt.alloc(), &graph)?.as_slice(), listed);
         let verdict = match reason {
             None => Verdict::Covered,
@@ -163,7 +119,7 @@ fn tells_which_edges_lie_together(rt: HostRuntime) -> Result<(), Fail> {
     ];
     for (order, edges, pairs, matchings) in cases {
         assert!(rt; order <= MOST_VERTICES);
-        let graph = made(rt.alloc(), order, edges)?;
+        let graph = graph_with(rt.alloc(), order, edges)?;
         assert_eq!(rt; pairs_together(rt.alloc(), &graph, pairs)?, true);
         assert_eq!(rt; together(rt.alloc(), &graph)?.list().len(), matchings);
     }
@@ -188,7 +144,7 @@ fn pairs_together(alloc: Global, graph: &MultiGraph, pairs: &[(u32, u32)]) -> Re
 fn agrees_with_the_plain_program(rt: HostRuntime) -> Result<(), Fail> {
     for (order, edges) in SMALL_GRAPHS {
         assert!(rt; order <= MOST_VERTICES);
-        let graph = made(rt.alloc(), order, edges)?;
+        let graph = graph_with(rt.alloc(), order, edges)?;
         assert!(rt; is_small(&graph));
         assert!(rt; agrees_on_pairs(rt.alloc(), &graph)?);
         assert!(rt; agrees_on_maximum(rt.alloc(), &graph)?);

@@ -2,18 +2,20 @@
 -- Each odd component is left by at least one edge of a perfect matching, and the barrier meets no more of them than it has vertices.
 use Rattle.std.proofs.Common.{◌≡◌, ℕ, ◌*◌, ◌≤◌, ◌≢◌, Bool, true, false, refl, sym, ap, ap₂, ◌∙◌, arith, ◌&&◌, ◌||◌, not, inl, inr, nat_lt, [], ◌∷◌}
 use Rattle.std.proofs.lemmas.Bool.{cases_Bool, true≢false, false_from_ne_true, both_ways, and_parts, and_from}
-use Rattle.barrier_kit.proofs.Matched.{count_zero, cut_matching, even_order, inner, some_count, tight_congr, total_tight}
+use Rattle.barrier_kit.proofs.Matched.{cut_matching, even_order, inner}
 use Rattle.graph_core.proofs.Decide.{covered_perfect}
+use Rattle.counting.proofs.Members.{count_zero, some_count}
 use Rattle.counting.proofs.RisingLists.{same_answers}
 use Rattle.counting.proofs.Counts.{bit_true, count_congr, only_one}
 use Rattle.counting.proofs.Odd.{complement_odd}
 use Rattle.counting.proofs.Tests.{some_true, true_some}
-use Rattle.counting.proofs.Totals.{some_term, total_congr, total_le, total_mul, total_none, total_swap}
+use Rattle.counting.proofs.Totals.{some_term, total_congr, total_le, total_mul, total_none, total_swap, total_tight}
 use Rattle.counting.specs.Counts.{Within, bit, count, is_odd, total}
 use Rattle.counting.specs.Sets.{Set, complement, none}
 use Rattle.counting.specs.Tests.{some}
 use Rattle.graph_core.proofs.Components.{joined_outside, joined_walk, one_leader, some_leader, walk_joined}
 use Rattle.graph_core.proofs.Parity.{parity}
+use Rattle.graph_core.proofs.SameSets.{tight-same}
 use Rattle.graph_core.proofs.Uncrossing.{odd_meets}
 use Rattle.graph_core.proofs.Walks.{adjacent_from, has_ends-own, joined_back, joined_on, joined_self}
 use Rattle.graph_core.specs.Components.{component_count, is_least, odd_component_count}
@@ -255,4 +257,4 @@ barrier_parts g s a is cov bar wa sa = many_parts g is cov s bar a wa sa
 -- and has a tight cut
 pub part_tight : (g : Graph) (s : Set) (a u : ℕ) → IsGraph g → IsCovered g → IsBarrier g s → Within g.order a → s a ≡ true → Within g.order u → s u ≡ false → IsTight g (joined g s u)
 part_tight g s a u is cov bar wa sa wu su = let l = leader_of g s is u wu su in
-    tight_congr g (joined g s l.0) (joined g s u) is (λ v w. part_same g s is l.0 u l.1 wu l.3 v) (lead_tight g is cov s bar l.0 a l.1 l.2 wa sa)
+    tight-same g (joined g s l.0) (joined g s u) is (λ v w. part_same g s is l.0 u l.1 wu l.3 v) (lead_tight g is cov s bar l.0 a l.1 l.2 wa sa)

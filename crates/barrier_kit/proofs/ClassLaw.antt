@@ -6,8 +6,9 @@ use Rattle.barrier_kit.proofs.BarrierCuts.{leader_of, leads_out, odd_part, part_
 use Rattle.barrier_kit.proofs.Barriers.{barrier_pair, few_odd_components}
 use Rattle.barrier_kit.proofs.Enlarging.{barrier_congr, enlarge, same_parity}
 use Rattle.barrier_kit.proofs.Joining.{join}
-use Rattle.barrier_kit.proofs.Matched.{count_only, even_order, glue, perfect_congr}
+use Rattle.barrier_kit.proofs.Matched.{even_order, glue, perfect_congr}
 use Rattle.counting.proofs.RisingLists.{same_answers}
+use Rattle.counting.proofs.SetSizes.{count_singleton}
 use Rattle.counting.proofs.Tests.{scan}
 use Rattle.counting.proofs.Choice.{choose_set}
 use Rattle.counting.proofs.Counts.{count_le, count_more}
@@ -61,9 +62,6 @@ module _ (g : Graph) (is : IsGraph g) (cov : IsCovered g) (b : ℕ) (wb : Within
       same : (x k y : Bool) → (x ≡ true → k ≡ false) → (y ≡ true → k ≡ true) → not ((not x && not k) || (k && not y)) ≡ (x || y)
       same x k y h i = grind arith
 
-  abbrev Full : Set → Type 0
-  Full t = IsBarrier g t × (t b ≡ true) × ((a : ℕ) → Within g.order a → t a ≡ false → Equivalent g b a → ⊥)
-
   full : (k : ℕ) (s : Set) → IsBarrier g s → s b ≡ true → g.order ≤ count g.order s + k → (t : Set) × IsBarrier g t × (t b ≡ true) × ((a : ℕ) → Within g.order a → t a ≡ false → Equivalent g b a → ⊥)
   full zero s bar sb le = elim (scan g.order (λ a. (s a ≡ false) × Equivalent g b a) (λ a. s a ≡ false → Equivalent g b a → ⊥) (λ a w. choose a)) [
     | inl r ↦ let t = grow s bar sb r.0 r.1 r.2.0 r.2.1 in
@@ -97,7 +95,7 @@ module _ (g : Graph) (is : IsGraph g) (cov : IsCovered g) (b : ℕ) (wb : Within
   pub single_barrier : IsBarrier g (singleton b)
   single_barrier =
       let p = covered_perfect g is cov in
-      let c = count_only g.order b wb in
+      let c = count_singleton g.order b wb in
       let l = few_odd_components g (singleton b) p.0 is p.1 in
       let o : is_odd (odd_component_count g (singleton b)) ≡ true = same_parity g (singleton b) is (even_order g p.0 is p.1) ∙ ap is_odd c in
       one (odd_component_count g (singleton b)) (count g.order (singleton b)) c l o

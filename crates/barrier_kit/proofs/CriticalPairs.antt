@@ -5,9 +5,12 @@ use Rattle.std.proofs.lemmas.Bool.{cases_eq, cases_lt, cases_Bool, true≢false,
 use Rattle.barrier_kit.proofs.BarrierCuts.{leader_of, leads_out, part_out, part_step, part_same, none_inside, part_tight, many_parts}
 use Rattle.barrier_kit.proofs.Barriers.{equivalent_barrier}
 use Rattle.barrier_kit.proofs.ClassLaw.{perfect_or_not, class_exists, class_barrier}
-use Rattle.barrier_kit.proofs.Matched.{count_only, count_sub, member_count, two_members, two_of, odd_three, even_order}
+use Rattle.barrier_kit.proofs.Matched.{even_order}
 use Rattle.barrier_kit.specs.BarrierCuts.{BarrierCut, IsSide}
 use Rattle.counting.proofs.Counts.{only_one}
+use Rattle.counting.proofs.Members.{member_count, two_members, two_of}
+use Rattle.counting.proofs.Odd.{odd_three}
+use Rattle.counting.proofs.SetSizes.{count_singleton, count_mono}
 use Rattle.counting.proofs.Tests.{scan}
 use Rattle.counting.specs.Counts.{count, Within, is_odd}
 use Rattle.counting.specs.Sets.{Set, pair_set, complement, singleton}
@@ -39,7 +42,7 @@ part_nontrivial g s a u is cov bar wa sa wu su = (there, back)
             let k = many_parts g is cov s bar a wa sa in
             let r = leader_of g s is u wu su in
             let one = member_count g.order (is_least g s) r.0 r.1 r.2 in
-            let q = count_sub g.order (complement (joined g s u)) s (λ v w h. elim (cases_Bool (s v)) [
+            let q = count_mono g.order (complement (joined g s u)) s (λ v w h. elim (cases_Bool (s v)) [
               | inl y ↦ y
               | inr y ↦
                   let i = leader_of g s is v w y in
@@ -162,8 +165,8 @@ class_single g b s bi wb c v w = elim (cases_eq b v) [
 -- and no component of a class has a nontrivial cut
 pub class_trivial : (g : Graph) (b u : ℕ) (s : Set) → IsGraph g → IsCovered g → IsBicritical g → Within g.order b → IsClass g b s → Within g.order u → s u ≡ false → IsNontrivial g.order (joined g s u) → ⊥
 class_trivial g b u s is cov bi wb c wu su t =
-    let one = count_only g.order b wb in
-    let z = count_sub g.order s (singleton b) (λ v w h. sym (class_single g b s bi wb c v w) ∙ h) in
+    let one = count_singleton g.order b wb in
+    let z = count_mono g.order s (singleton b) (λ v w h. sym (class_single g b s bi wb c v w) ∙ h) in
     let r = ((part_nontrivial g s b u is cov (class_barrier g b s is cov wb c) wb (c.all b wb (inl refl)) wu su).0 t).0 in omega arith
 
 -- a graph is bicritical exactly where no class has a nontrivial tight cut

@@ -11,10 +11,10 @@ use Rattle.counting.specs.Sets.{Set, complement}
 use Rattle.counting.proofs.Counts.{count_congr}
 use Rattle.counting.proofs.RisingLists.{mem-rising_list, rising_list-rises}
 use Rattle.counting.proofs.Totals.{total_congr}
+use Rattle.graph_core.proofs.SameSets.{nontrivial-same, tight-same}
 use Rattle.graph_core.specs.Graph.{Graph, IsGraph, first_end, second_end, size}
 use Rattle.graph_core.specs.Tight.{IsNontrivial, IsTight, canonical_shore, is_nontrivial}
 use Rattle.barrier_kit.specs.CanonicalCuts.{IsCanonicalCut, canonical_list, cuts_of, is_listed, with_cut}
-use Rattle.barrier_kit.proofs.Matched.{nontrivial_congr, tight_congr}
 
 -- a step keeps what is in the list
 step-length : (n : ℕ) (cuts : List (List ℕ)) (s : List ℕ) → length cuts ≤ length (with_cut n cuts s)
@@ -70,14 +70,14 @@ pub true-nontrivial : (n : ℕ) (x : Set) → IsNontrivial n x → is_nontrivial
 true-nontrivial n x t = and_from (nat_le 3 (count n x)) (nat_le 3 (count n (complement x))) (le-leb 3 (count n x) t.inside) (le-leb 3 (count n (complement x)) t.outside)
 
 -- a set with the same cut: the set or its complement
-nontrivial-turned : (n : ℕ) (x : Set) → IsNontrivial n x → IsNontrivial n (complement x)
+pub nontrivial-turned : (n : ℕ) (x : Set) → IsNontrivial n x → IsNontrivial n (complement x)
 nontrivial-turned n x t = let c = count_congr n x (complement (complement x)) (λ v w. not_twice (x v)) in let i = t.inside in record { inside = t.outside; outside = omega arith }
   where
     not_twice : (b : Bool) → b ≡ not (not b)
     not_twice true = refl
     not_twice false = refl
 
-tight-turned : (g : Graph) (x : Set) → IsTight g x → IsTight g (complement x)
+pub tight-turned : (g : Graph) (x : Set) → IsTight g x → IsTight g (complement x)
 tight-turned g x t = record {
   odd = t.odd_complement;
   odd_complement = ap is_odd (count_congr g.order (complement (complement x)) x (λ v w. not_twice (x v))) ∙ t.odd;
@@ -100,10 +100,10 @@ canonical-is P n x same kept turned = go (x n) refl
     go false e = same x (canonical_shore n x) (λ v. ap (λ b. cond b (not (x v)) (x v)) (sym e)) kept
 
 pub canonical-tight : (g : Graph) (x : Set) → IsGraph g → IsTight g x → IsTight g (canonical_shore g.order x)
-canonical-tight g x is t = canonical-is (IsTight g) g.order x (λ y z h. tight_congr g y z is (λ v w. h v)) t (tight-turned g x t)
+canonical-tight g x is t = canonical-is (IsTight g) g.order x (λ y z h. tight-same g y z is (λ v w. h v)) t (tight-turned g x t)
 
 pub canonical-wide : (n : ℕ) (x : Set) → IsNontrivial n x → IsNontrivial n (canonical_shore n x)
-canonical-wide n x t = canonical-is (IsNontrivial n) n x (λ y z h. nontrivial_congr n y z (λ v w. h v)) t (nontrivial-turned n x t)
+canonical-wide n x t = canonical-is (IsNontrivial n) n x (λ y z h. nontrivial-same n y z (λ v w. h v)) t (nontrivial-turned n x t)
 
 pub wide-canonical : (n : ℕ) (x : Set) → IsNontrivial n (canonical_shore n x) → IsNontrivial n x
 wide-canonical n x t = go (x n) refl
@@ -113,10 +113,10 @@ wide-canonical n x t = go (x n) refl
     twice false = refl
 
     go : (b : Bool) → x n ≡ b → IsNontrivial n x
-    go true e = nontrivial_congr n (complement (canonical_shore n x)) x (λ v w. ap (λ b. not (cond b (not (x v)) (x v))) e ∙ twice (x v)) (nontrivial-turned n (canonical_shore n x) t)
-    go false e = nontrivial_congr n (canonical_shore n x) x (λ v w. ap (λ b. cond b (not (x v)) (x v)) e) t
+    go true e = nontrivial-same n (complement (canonical_shore n x)) x (λ v w. ap (λ b. not (cond b (not (x v)) (x v))) e ∙ twice (x v)) (nontrivial-turned n (canonical_shore n x) t)
+    go false e = nontrivial-same n (canonical_shore n x) x (λ v w. ap (λ b. cond b (not (x v)) (x v)) e) t
 
-canonical-out : (n : ℕ) (x : Set) → canonical_shore n x n ≡ false
+pub canonical-out : (n : ℕ) (x : Set) → canonical_shore n x n ≡ false
 canonical-out n x = go (x n)
   where
     go : (b : Bool) → cond b (not b) b ≡ false
@@ -135,6 +135,6 @@ cuts-canonical g shores is some tight =
         record {
           rising = rising_list-rises g.order x;
           canonical = sym (same g.order (omega arith)) ∙ canonical-out g.order (mem s);
-          nontrivial = nontrivial_congr g.order x (mem (rising_list g.order x)) same (nontrivial-true g.order x wide);
-          tight = tight_congr g x (mem (rising_list g.order x)) is same (canonical-tight g (mem s) is t);
+          nontrivial = nontrivial-same g.order x (mem (rising_list g.order x)) same (nontrivial-true g.order x wide);
+          tight = tight-same g x (mem (rising_list g.order x)) is same (canonical-tight g (mem s) is t);
         }

@@ -5,8 +5,9 @@ use Rattle.std.proofs.lemmas.Bool.{cases_eq, true≢false, false_from_ne_true, b
 use Rattle.barrier_kit.proofs.BarrierCuts.{leader_of, leader_same, leads_out, part_same}
 use Rattle.barrier_kit.proofs.Barriers.{few_odd_components, odd_component_count-parity}
 use Rattle.graph_core.proofs.Perfect.{none_missed-perfect}
-use Rattle.barrier_kit.proofs.Matched.{count_only, even_order, perfect_congr}
+use Rattle.barrier_kit.proofs.Matched.{even_order, perfect_congr}
 use Rattle.counting.proofs.RisingLists.{same_answers}
+use Rattle.counting.proofs.SetSizes.{count_singleton}
 use Rattle.counting.proofs.Tests.{some_congr}
 use Rattle.counting.proofs.Counts.{count_complement, count_congr}
 use Rattle.counting.proofs.Odd.{odd-add}
@@ -147,14 +148,14 @@ module _ (g : Graph) (is : IsGraph g) (m : Set) (p : IsPerfect g none m) (s : Se
   parts_sum =
       let a = total_add g.order (λ u. bit (is_least g big u && is_odd (count g.order (joined g big u)))) (λ u. bit (singleton l u)) in
       let b = total_add g.order (λ u. bit (is_least g s u && is_odd (count g.order (joined g s u)))) (λ u. bit (is_least g (union r t.s) u && is_odd (count g.order (joined g (union r t.s) u)))) in
-      let c = count_only g.order l wl in let d = total_congr g.order _ _ pointwise in omega arith
+      let c = count_singleton g.order l wl in let d = total_congr g.order _ _ pointwise in omega arith
 
   big_count : count g.order big ≡ count g.order s + (1 + count g.order t.s)
   big_count =
       let a = total_congr g.order (λ w. bit (big w)) (λ w. bit (s w) + (bit (singleton v w) + bit (t.s w))) (λ w x. bits (s w) (v == w) (t.s w) (part w) (s_out w) (v_in w) (in_part w)) in
       let b = total_add g.order (λ w. bit (s w)) (λ w. bit (singleton v w) + bit (t.s w)) in
       let c = total_add g.order (λ w. bit (singleton v w)) (λ w. bit (t.s w)) in
-      let d = count_only g.order v wv in omega arith
+      let d = count_singleton g.order v wv in omega arith
     where
       bits : (a b c d : Bool) → (d ≡ true → a ≡ false) → (b ≡ true → d ≡ true) → (c ≡ true → (d ≡ true) × (b ≡ false)) → bit (a || (b || c)) ≡ bit a + (bit b + bit c)
       bits a true true d h k l = absurd (true≢false (l refl).1)

@@ -2,12 +2,13 @@
 -- By induction on the set: either some proper part is just met, and both sides are done apart, or one member takes any neighbour.
 use Rattle.std.proofs.Common.{◌≡◌, ℕ, suc, zero, ◌+◌, ◌≤◌, ◌<◌, ◌≢◌, Bool, true, false, cond, ◌==◌, refl, sym, ap, ap₂, ◌∙◌, arith, ◌&&◌, ◌||◌, not, eq-eqb, eqb-true, nat_lt, lt-ltb, ltb-true, inl, inr}
 use Rattle.std.proofs.lemmas.Bool.{cases_eq, false_from_ne_true, both_ways, and_parts, and_from}
-use Rattle.barrier_kit.proofs.Matched.{count_member, count_minus, count_only, count_sub, count_zero, member_count, some_or, total_tight}
 use Rattle.barrier_kit.specs.Choices.{Picks, neighbours}
 use Rattle.counting.proofs.Choice.{Respects, choose_set}
 use Rattle.counting.proofs.Counts.{count_congr, count_le_one, count_of_one}
-use Rattle.counting.proofs.Tests.{some_congr, some_true, true_some}
-use Rattle.counting.proofs.Totals.{total_add, total_congr, total_le, total_none, total_swap}
+use Rattle.counting.proofs.Members.{count_member, count_minus, count_zero, member_count}
+use Rattle.counting.proofs.SetSizes.{count_singleton, count_mono}
+use Rattle.counting.proofs.Tests.{some_congr, some_true, true_some, some_or}
+use Rattle.counting.proofs.Totals.{total_add, total_congr, total_le, total_none, total_swap, total_tight}
 use Rattle.counting.specs.Counts.{Within, bit, count, total}
 use Rattle.counting.specs.Sets.{Set, meet, minus, singleton, union}
 use Rattle.counting.specs.Tests.{some}
@@ -120,12 +121,12 @@ module _ (n : ℕ) (f : ℕ → ℕ → Bool) where
           let same = count_congr n (meet z a) (meet y (minus a (singleton w))) (λ u t. turn (y u) (w == u) (a u)) in
           let same' = met_congr c (meet z a) (meet y (minus a (singleton w))) (λ u t. turn (y u) (w == u) (a u)) in
           let h = enough z in
-          let less = count_sub n (meet y (minus a (singleton w))) (minus a (singleton w)) (λ u t k. (and_parts (y u) (minus a (singleton w) u) k).1) in
+          let less = count_mono n (meet y (minus a (singleton w))) (minus a (singleton w)) (λ u t k. (and_parts (y u) (minus a (singleton w) u) k).1) in
           let one = count_minus n a w ww aw in
           let l : count n (meet z a) ≢ count n (neighbours n f c (meet z a)) = λ q. loose z (omega arith) (omega arith) q in
           let first_end = total_le n (λ v. bit (neighbours n f c (meet y (minus a (singleton w))) v)) (λ v. bit (neighbours n f (minus c (singleton x)) (meet y (minus a (singleton w))) v) + bit (singleton x v)) (λ v t. bits (c v) (some n (λ u. meet y (minus a (singleton w)) u && f u v)) (x == v)) in
           let near' = total_add n (λ v. bit (neighbours n f (minus c (singleton x)) (meet y (minus a (singleton w))) v)) (λ v. bit (singleton x v)) in
-          let k = count_only n x wx in omega arith
+          let k = count_singleton n x wx in omega arith
     ]
       where
         turn : (p q r : Bool) → ((p && not q) && r) ≡ (p && (r && not q))

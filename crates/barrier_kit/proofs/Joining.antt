@@ -5,9 +5,11 @@ use Rattle.std.proofs.lemmas.Bool.{cases_eq, cases_Bool, true≢false, false_fro
 use Rattle.barrier_kit.proofs.BarrierCuts.{cover_in, covers, covers_out, cut_family, leader_of, leader_same, leads_out, many_parts, none_inside, one_cut, part_out, part_same, sat_inside}
 use Rattle.barrier_kit.proofs.Families.{glue_family}
 use Rattle.barrier_kit.proofs.Hall.{hall, hits}
-use Rattle.barrier_kit.proofs.Matched.{count_member, count_minus, count_only, count_zero, cut_matching, inner, loop_free, perfect_congr, restrict}
+use Rattle.barrier_kit.proofs.Matched.{cut_matching, inner, loop_free, perfect_congr, restrict}
+use Rattle.counting.proofs.Members.{count_member, count_minus, count_zero}
 use Rattle.counting.proofs.RisingLists.{same_answers}
 use Rattle.barrier_kit.specs.Choices.{Picks, neighbours}
+use Rattle.counting.proofs.SetSizes.{count_singleton}
 use Rattle.counting.proofs.Tests.{some_true, true_some}
 use Rattle.counting.proofs.Totals.{at_le_total, total_add, total_congr, total_le, total_none}
 use Rattle.counting.specs.Counts.{Within, bit, count}
@@ -117,7 +119,7 @@ module _ (g : Graph) (is : IsGraph g) (cov : IsCovered g) (s : Set) (bar : IsBar
       let a = cov.allowed e.0 e.1 d in
       let m : Set = a.0 in
       let one = parity g is m (singleton z) a.1 in
-      let c = count_only g.order z wz in
+      let c = count_singleton g.order z wz in
       let k = one_cut g is cov s bar u b wu lu wb sb m a.1 in
       let t = two_cuts g m (singleton z) (joined g s u) in
       let w : bit (m e.0 && connects g (minus (singleton z) (joined g s u)) (minus (joined g s u) (singleton z)) e.0) ≡ 1 = ap bit (and_from (m e.0) _ a.2 (both (z == first_end g e.0) (z == second_end g e.0) (joined g s u (first_end g e.0)) (joined g s u (second_end g e.0)) (z_out (first_end g e.0)) (z_out (second_end g e.0)) e.2)) in
@@ -160,7 +162,7 @@ module _ (g : Graph) (is : IsGraph g) (cov : IsCovered g) (s : Set) (bar : IsBar
           let more = surplus (meet z from) (λ v w h. (from_s v (and_parts (z v) (from v) h).1).0) (out (z b) (s b) (b == b) (eq-eqb b b refl)) x.0 x.1 x.2 in
           let first_end = total_le g.order (λ v. bit (neighbours g.order (touches g s) (is_least g s) (meet z from) v)) (λ v. bit (neighbours g.order (touches g s) others (meet z from) v) + bit (singleton l v)) (λ v t. bits (is_least g s v) (some g.order (λ u. meet z from u && touches g s u v)) (l == v)) in
           let near' = total_add g.order (λ v. bit (neighbours g.order (touches g s) others (meet z from) v)) (λ v. bit (singleton l v)) in
-          let k = count_only g.order l wl in omega arith
+          let k = count_singleton g.order l wl in omega arith
     ]
       where
         out : (a c d : Bool) → d ≡ true → (a && (c && not d)) ≡ false

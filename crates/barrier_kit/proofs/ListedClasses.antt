@@ -1,8 +1,9 @@
 -- The classes found one after the other: a vertex is the least of its class exactly where no class before it holds it.
 -- A class is met by its least vertex, and by transitivity a vertex that was met adds no vertex to those met.
-use Rattle.std.proofs.Common.{◌≡◌, ℕ, suc, inl, inr, ◌+◌, ◌<◌, ◌≤◌, Bool, true, false, ◌==◌, refl, sym, ap, ap₂, ◌∙◌, arith, ◌&&◌, ◌||◌, not, cond, List, [], ◌∷◌, ◌++◌, map, nat_lt, ltb-true, lt-ltb, subst, append-nil}
+use Rattle.std.proofs.Common.{◌≡◌, ℕ, suc, inl, inr, ◌+◌, ◌<◌, ◌≤◌, Bool, true, false, ◌==◌, refl, sym, ap, ap₂, ◌∙◌, arith, ◌&&◌, ◌||◌, not, cond, List, [], ◌∷◌, ◌++◌, map, nat_lt, ltb-true, lt-ltb, subst, append-nil, Option, Some, None}
 use Rattle.std.proofs.lemmas.Bool.{cases_Bool, and_parts, and_from, both_ways, false_from_ne_true}
 use Rattle.std.proofs.lemmas.List.{map-append}
+use Rattle.std.specs.Option.{is_some}
 use Rattle.counting.specs.Counts.{Within}
 use Rattle.counting.specs.Lists.{IsRisingIn, mem, rising_list}
 use Rattle.counting.specs.Sets.{Set}
@@ -139,3 +140,8 @@ module _ (g : Graph) (is : IsGraph g) (cov : IsCovered g) where
   pub classes-all : (k : ℕ) (list : List (List ℕ)) → k ≡ g.order → list ≡ map (λ a. rising_list g.order (is_equivalent g a)) (rising_list k (is_least_of_class g)) → list ≡ classes g
   unfolding classes
   classes-all k list e h = h ∙ ap (λ j. map (λ a. rising_list g.order (is_equivalent g a)) (rising_list j (is_least_of_class g))) e
+
+-- an answer that is there exactly where there is a perfect matching
+pub answer-has_perfect : {M : Type 0} (o : Option M) (g : Graph) (r s : Set) → ((v : ℕ) → r v ≡ s v) → ((m : M) → o ≡ Some m → HasPerfect g r) → (o ≡ None → HasPerfect g r → ⊥) → is_some o ≡ has_perfect g s
+answer-has_perfect None g r s same found none = sym (has_perfect-false g r s same (none refl))
+answer-has_perfect (Some m) g r s same found none = sym (has_perfect-true g r s same (found m refl))

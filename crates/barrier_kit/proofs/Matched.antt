@@ -1,49 +1,25 @@
 -- Small facts on perfect matchings without a set of vertices, and on counts that are tight.
 -- Where each term is at least one and the sum is no more than the number of terms, each term is one.
-use Rattle.std.proofs.Common.{ap₂, ◌≡◌, ℕ, suc, zero, ◌+◌, ◌≤◌, ◌<◌, ◌≢◌, Bool, true, false, ◌==◌, refl, sym, ap, ◌∙◌, arith, ◌&&◌, ◌||◌, not, eq-eqb, ne_eqb, eqb-true, inl, inr}
-use Rattle.std.proofs.lemmas.Bool.{cases_eq, cases_Bool, true≢false, false_from_ne_true, both_ways}
+use Rattle.std.proofs.Common.{◌≡◌, ℕ, ◌+◌, ◌≤◌, ◌≢◌, Bool, true, false, ◌==◌, refl, sym, ap, ◌∙◌, arith, ◌&&◌, ◌||◌, not, eq-eqb, eqb-true, inl, inr}
+use Rattle.std.proofs.lemmas.Bool.{cases_Bool, true≢false, false_from_ne_true, both_ways}
 use Rattle.graph_core.proofs.Perfect.{perfect_matching, perfect_misses}
-use Rattle.counting.proofs.Counts.{bit_true, count_complement, count_congr, some_le_count}
+use Rattle.counting.proofs.Counts.{count_complement}
+use Rattle.counting.proofs.Members.{count_zero}
 use Rattle.counting.proofs.Odd.{odd-double}
 use Rattle.counting.proofs.Tests.{some_none, some_true}
-use Rattle.counting.proofs.Totals.{at_le_total, some_term, total_add, total_at, total_congr, total_le, total_none}
-use Rattle.counting.specs.Counts.{Within, bit, count, is_odd, total}
-use Rattle.counting.specs.Sets.{Set, complement, minus, none, singleton, union}
+use Rattle.counting.proofs.Totals.{at_le_total, total_add, total_congr, total_none}
+use Rattle.counting.specs.Counts.{Within, bit, count, is_odd}
+use Rattle.counting.specs.Sets.{Set, complement, none, union}
 use Rattle.counting.specs.Tests.{some}
 use Rattle.graph_core.proofs.Edits.{ends_le_degree, ends_of, missed_edges}
 use Rattle.graph_core.proofs.Walks.{parted}
 use Rattle.graph_core.specs.Covered.{IsCovered}
 use Rattle.graph_core.specs.Graph.{Graph, IsGraph, degree, edges_in_cut, first_end, in_cut, inside, second_end, size}
 use Rattle.graph_core.specs.Matchings.{IsPerfect}
-use Rattle.graph_core.specs.Tight.{IsNontrivial, IsTight}
+use Rattle.match_core.proofs.Shrinking.{ends_far, ends_near}
 
 abbrev pub inner : Graph → Set → Set → ℕ
 inner g m x = count (size g) (λ e. m e && inside g x e)
-
-pub some_count : (n : ℕ) (p : ℕ → Bool) → count n p ≤ 1 → bit (some n p) ≡ count n p
-some_count n p h = go (some n p) refl
-  where
-    go : (b : Bool) → some n p ≡ b → bit (some n p) ≡ count n p
-    go true t = let a = some_le_count n p in let b = ap bit t in omega arith
-    go false f = ap bit f ∙ sym (total_none n _ (λ v w. ap bit (some_none n p f v w)))
-
--- where each term is at least the other sum's, and the sum is not more, the terms are equal
-pub total_tight : (n : ℕ) (f g : ℕ → ℕ) → ((v : ℕ) → Within n v → g v ≤ f v) → total n f ≤ total n g → (v : ℕ) → Within n v → f v ≡ g v
-total_tight zero f g h l v w = absurd (omega arith)
-total_tight (suc n) f g h l v w =
-    let a = total_le n g f (λ v w. h v (omega arith)) in
-    let b = h (suc n) (omega arith) in
-    elim (cases_eq v (suc n)) [
-      | inl e ↦ omega (arith, a, b, ap f e, ap g e)
-      | inr e ↦ total_tight n f g (λ v w. h v (omega arith)) (omega arith) v (omega arith)
-    ]
-
-pub count_zero : (n : ℕ) (p : ℕ → Bool) → count n p ≡ 0 → (v : ℕ) → Within n v → p v ≡ false
-count_zero n p h v w = go (p v) refl
-  where
-    go : (b : Bool) → p v ≡ b → p v ≡ false
-    go false e = e
-    go true e = let a = at_le_total n (λ v. bit (p v)) v w in let b = ap bit e in absurd (omega arith)
 
 pub perfect_congr : (g : Graph) (r s m : Set) → ((v : ℕ) → Within g.order v → r v ≡ s v) → IsPerfect g r m → IsPerfect g s m
 perfect_congr g r s m h p = record { once = λ v w o. p.once v w (h v w ∙ o); away = λ v w o. p.away v w (h v w ∙ o) }
@@ -59,19 +35,11 @@ count_or n m k t h = total_congr n _ _ (λ e w. bits (m e) (k e) (t e) (h e w)) 
 degree_or : (g : Graph) (m k : Set) → ((e : ℕ) → Within (size g) e → m e ≡ true → k e ≡ true → ⊥) → (v : ℕ) → degree g (λ e. m e || k e) v ≡ degree g m v + degree g k v
 degree_or g m k h v = let a = count_or (size g) m k (λ e. first_end g e == v) h in let b = count_or (size g) m k (λ e. second_end g e == v) h in omega arith
 
-pub near_end : (g : Graph) (e : ℕ) → 1 ≤ ends_of g e (first_end g e)
-unfolding ends_of
-near_end g e = let a = ap bit (eq-eqb (first_end g e) (first_end g e) refl) in omega arith
-
-pub far_end : (g : Graph) (e : ℕ) → 1 ≤ ends_of g e (second_end g e)
-unfolding ends_of
-far_end g e = let a = ap bit (eq-eqb (second_end g e) (second_end g e) refl) in omega arith
-
 -- an edge of a perfect matching is outside r and no loop
 pub ends_out : (g : Graph) (r m : Set) → IsGraph g → IsPerfect g r m → (e : ℕ) → Within (size g) e → m e ≡ true → (r (first_end g e) ≡ false) × (r (second_end g e) ≡ false)
 ends_out g r m is p e w t = (
-  false_from_ne_true (r (first_end g e)) (λ h. let a = p.away (first_end g e) (is e w).0 h in let b = ends_le_degree g m e (first_end g e) w t in let c = near_end g e in absurd (omega arith)),
-  false_from_ne_true (r (second_end g e)) (λ h. let a = p.away (second_end g e) (is e w).1 h in let b = ends_le_degree g m e (second_end g e) w t in let c = far_end g e in absurd (omega arith)),
+  false_from_ne_true (r (first_end g e)) (λ h. let a = p.away (first_end g e) (is e w).0 h in let b = ends_le_degree g m e (first_end g e) w t in let c = ends_near g e in absurd (omega arith)),
+  false_from_ne_true (r (second_end g e)) (λ h. let a = p.away (second_end g e) (is e w).1 h in let b = ends_le_degree g m e (second_end g e) w t in let c = ends_far g e in absurd (omega arith)),
 )
 
 pub loop_free : (g : Graph) (r m : Set) → IsGraph g → IsPerfect g r m → (e : ℕ) → Within (size g) e → m e ≡ true → first_end g e ≢ second_end g e
@@ -169,84 +137,3 @@ pub even_order : (g : Graph) (m : Set) → IsGraph g → IsPerfect g none m → 
 even_order g m is p = let a = missed_edges g none m is (perfect_matching g none m p) in let b = perfect_misses g none m p in let c = count_complement g.order none in
     let z : count g.order none ≡ 0 = total_none g.order _ (λ v w. refl) in
     let e : g.order ≡ count (size g) m + count (size g) m = omega arith in ap is_odd e ∙ odd-double (count (size g) m)
-
-pub some_or : (n : ℕ) (p q : ℕ → Bool) → some n (λ v. p v || q v) ≡ (some n p || some n q)
-some_or zero p q = refl
-some_or (suc n) p q = ap (λ k. k || (p (suc n) || q (suc n))) (some_or n p q) ∙ turn (some n p) (some n q) (p (suc n)) (q (suc n))
-  where
-    turn : (a b c d : Bool) → ((a || b) || (c || d)) ≡ ((a || c) || (b || d))
-    turn true b c d = refl
-    turn false true true d = refl
-    turn false true false d = refl
-    turn false false c d = refl
-
-pub count_only : (n c : ℕ) → Within n c → count n (singleton c) ≡ 1
-count_only n c w = total_at n (λ v. bit (c == v)) c w (λ v u e. ap bit (ne_eqb c v (λ q. e (sym q)))) ∙ ap bit (eq-eqb c c refl)
-
-pub count_minus : (n : ℕ) (x : Set) (a : ℕ) → Within n a → x a ≡ true → count n (minus x (singleton a)) + 1 ≡ count n x
-count_minus n x a w h = let b = count_only n a w in
-    let c = total_add n (λ v. bit (minus x (singleton a) v)) (λ v. bit (singleton a v)) in
-    let d = total_congr n (λ v. bit (minus x (singleton a) v) + bit (singleton a v)) (λ v. bit (x v)) (λ v u. bits (x v) (a == v) (λ t. ap x (sym (eqb-true a v t)) ∙ h)) in omega arith
-  where
-    bits : (p q : Bool) → (q ≡ true → p ≡ true) → bit (p && not q) + bit q ≡ bit p
-    bits true true f = refl
-    bits true false f = refl
-    bits false true f = absurd (true≢false (sym (f refl)))
-    bits false false f = refl
-
-pub count_member : (n : ℕ) (x : Set) → 0 < count n x → (v : ℕ) × Within n v × (x v ≡ true)
-count_member n x h = let r = some_term n (λ v. bit (x v)) h in (r.0, r.1, bit_true (x r.0) r.2)
-
-pub member_count : (n : ℕ) (x : Set) (v : ℕ) → Within n v → x v ≡ true → 1 ≤ count n x
-member_count n x v w h = let a = at_le_total n (λ v. bit (x v)) v w in let b = ap bit h in omega arith
-
-pub count_sub : (n : ℕ) (x y : Set) → ((v : ℕ) → Within n v → x v ≡ true → y v ≡ true) → count n x ≤ count n y
-count_sub n x y h = total_le n (λ v. bit (x v)) (λ v. bit (y v)) (λ v w. le (x v) (y v) (h v w))
-  where
-    le : (a b : Bool) → (a ≡ true → b ≡ true) → bit a ≤ bit b
-    le false b f = omega arith
-    le true true f = omega arith
-    le true false f = absurd (true≢false (sym (f refl)))
-
-pub count_plus : (n : ℕ) (x : Set) (a : ℕ) → Within n a → x a ≡ false → count n (union x (singleton a)) ≡ count n x + 1
-count_plus n x a w h = let b = count_only n a w in
-    let c = total_add n (λ v. bit (x v)) (λ v. bit (singleton a v)) in
-    let d = total_congr n (λ v. bit (union x (singleton a) v)) (λ v. bit (x v) + bit (singleton a v)) (λ v u. bits (x v) (a == v) (λ t. ap x (sym (eqb-true a v t)) ∙ h)) in omega arith
-  where
-    bits : (p q : Bool) → (q ≡ true → p ≡ false) → bit (p || q) ≡ bit p + bit q
-    bits true true f = absurd (true≢false (f refl))
-    bits true false f = refl
-    bits false true f = refl
-    bits false false f = refl
-
-pub two_members : (n : ℕ) (x : Set) (a b : ℕ) → Within n a → Within n b → a ≢ b → x a ≡ true → x b ≡ true → 2 ≤ count n x
-two_members n x a b wa wb d xa xb = let c = count_minus n x a wa xa in let e = member_count n (minus x (singleton a)) b wb (rw (xb, ne_eqb a b d) refl) in omega arith
-
--- a set that has two members has two that differ
-pub two_of : (n : ℕ) (x : Set) → 2 ≤ count n x → (a b : ℕ) × Within n a × Within n b × (a ≢ b) × (x a ≡ true) × (x b ≡ true)
-two_of n x h =
-    let a = count_member n x (omega arith) in
-    let c = count_minus n x a.0 a.1 a.2 in
-    let b = count_member n (minus x (singleton a.0)) (omega arith) in
-    let p = split (x b.0) (a.0 == b.0) b.2 in
-    (a.0, b.0, a.1, b.1, λ e. both_ways (a.0 == b.0) p.1 (eq-eqb a.0 b.0 e), a.2, p.0)
-  where
-    split : (a c : Bool) → (a && not c) ≡ true → (a ≡ true) × (c ≡ false)
-    split a c h = grind arith
-
--- an odd number that is at least 2 is at least 3
-pub odd_three : (k : ℕ) → is_odd k ≡ true → 2 ≤ k → 3 ≤ k
-odd_three zero o h = absurd (omega arith)
-odd_three (suc zero) o h = absurd (omega arith)
-odd_three (suc (suc zero)) o h = absurd (true≢false (sym o))
-odd_three (suc (suc (suc k))) o h = omega arith
-
-pub tight_congr : (g : Graph) (x y : Set) → IsGraph g → ((v : ℕ) → Within g.order v → x v ≡ y v) → IsTight g x → IsTight g y
-tight_congr g x y is h t = record {
-  odd = ap is_odd (sym (count_congr g.order x y h)) ∙ t.odd;
-  odd_complement = ap is_odd (sym (count_congr g.order (complement x) (complement y) (λ v w. ap not (h v w)))) ∙ t.odd_complement;
-  cut = λ m p. sym (total_congr (size g) _ _ (λ e w. ap bit (ap₂ (λ a b. m e && ((a && not b) || (not a && b))) (h (first_end g e) (is e w).0) (h (second_end g e) (is e w).1)))) ∙ t.cut m p;
-}
-
-pub nontrivial_congr : (n : ℕ) (x y : Set) → ((v : ℕ) → Within n v → x v ≡ y v) → IsNontrivial n x → IsNontrivial n y
-nontrivial_congr n x y h t = let a = t.inside in let b = t.outside in let c = count_congr n x y h in let d = count_congr n (complement x) (complement y) (λ v w. ap not (h v w)) in record { inside = omega arith; outside = omega arith }

@@ -4,6 +4,7 @@ use Rattle.std.proofs.Common.{◌≡◌, ◌≢◌, ℕ, ◌≤◌, true, false,
 use Rattle.std.specs.Prelude.{All}
 use Rattle.std.proofs.lemmas.Bool.{and_parts, both_ways, false_from_ne_true}
 use Rattle.std.proofs.lemmas.List.Elements.{All-map}
+use Rattle.counting.proofs.Members.{two_members}
 use Rattle.counting.specs.Counts.{Within, count}
 use Rattle.counting.specs.Lists.{mem, rising_list}
 use Rattle.counting.specs.Sets.{Set}
@@ -11,6 +12,7 @@ use Rattle.counting.specs.Tests.{some}
 use Rattle.counting.proofs.RisingLists.{mem-rising_list}
 use Rattle.counting.proofs.Tests.{least_true, some_true, true_some}
 use Rattle.graph_core.proofs.Decide.{is_equivalent_found, is_equivalent_says}
+use Rattle.graph_core.proofs.SameSets.{nontrivial-same, tight-same}
 use Rattle.graph_core.specs.Components.{components, is_least}
 use Rattle.graph_core.specs.Covered.{IsCovered}
 use Rattle.graph_core.specs.Graph.{Graph, HasNoLoop, IsGraph}
@@ -25,18 +27,17 @@ use Rattle.barrier_kit.proofs.BarrierCuts.{leader_of, leads_out, none_inside, pa
 use Rattle.barrier_kit.proofs.ClassLaw.{class_barrier, equivalent_on}
 use Rattle.barrier_kit.proofs.CriticalPairs.{barrier_cut, class_trivial, critical_pair}
 use Rattle.barrier_kit.proofs.CutFacts.{canonical-wide, cuts-canonical, cuts-none, cuts-some, nontrivial-true, true-nontrivial, wide-canonical}
-use Rattle.barrier_kit.proofs.Matched.{nontrivial_congr, tight_congr, two_members}
 
 -- a set as a list is as tight and as nontrivial as the set
 pub listed_tight : (g : Graph) (x : Set) → IsGraph g → IsTight g x → IsTight g (mem (rising_list g.order x))
-listed_tight g x is t = tight_congr g x (mem (rising_list g.order x)) is (λ v w. sym (mem-rising_list g.order x v w)) t
+listed_tight g x is t = tight-same g x (mem (rising_list g.order x)) is (λ v w. sym (mem-rising_list g.order x v w)) t
 
 pub listed_narrow : (n : ℕ) (x : Set) → (IsNontrivial n x → ⊥) → is_nontrivial n (canonical_shore n (mem (rising_list n x))) ≡ false
-listed_narrow n x h = false_from_ne_true _ (λ t. h (nontrivial_congr n (mem (rising_list n x)) x (λ v w. mem-rising_list n x v w)
+listed_narrow n x h = false_from_ne_true _ (λ t. h (nontrivial-same n (mem (rising_list n x)) x (λ v w. mem-rising_list n x v w)
     (wide-canonical n (mem (rising_list n x)) (nontrivial-true n (canonical_shore n (mem (rising_list n x))) t))))
 
 pub listed_wide : (n : ℕ) (x : Set) → IsNontrivial n x → is_nontrivial n (canonical_shore n (mem (rising_list n x))) ≡ true
-listed_wide n x t = true-nontrivial n (canonical_shore n (mem (rising_list n x))) (canonical-wide n (mem (rising_list n x)) (nontrivial_congr n x (mem (rising_list n x)) (λ v w. sym (mem-rising_list n x v w)) t))
+listed_wide n x t = true-nontrivial n (canonical_shore n (mem (rising_list n x))) (canonical-wide n (mem (rising_list n x)) (nontrivial-same n x (mem (rising_list n x)) (λ v w. sym (mem-rising_list n x v w)) t))
 
 -- the class of a as the list has it
 abbrev pub class_set : Graph → ℕ → Set
@@ -140,6 +141,6 @@ module _ (g : Graph) (is : IsGraph g) (cov : IsCovered g) where
         let cut = c.4 in
         let s = class_set g c.0 in
         let l = leader_of g s is cut.vertex cut.within cut.outside in
-        let wide = nontrivial_congr g.order (joined g s cut.vertex) (joined g s l.0) (λ v w. sym (part_same g s is l.0 cut.vertex l.1 cut.within l.3 v)) cut.nontrivial in
+        let wide = nontrivial-same g.order (joined g s cut.vertex) (joined g s l.0) (λ v w. sym (part_same g s is l.0 cut.vertex l.1 cut.within l.3 v)) cut.nontrivial in
         let narrow = shores_all g (λ s. is_nontrivial g.order (canonical_shore g.order (mem s)) ≡ false) (cuts-some g.order (barrier_shores g) e) c.0 l.0 c.1 c.2 l.1 l.2 in
         both_ways (is_nontrivial g.order (canonical_shore g.order (mem (rising_list g.order (joined g s l.0))))) narrow (listed_wide g.order (joined g s l.0) wide)

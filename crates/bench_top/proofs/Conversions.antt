@@ -7,7 +7,6 @@ use Rattle.line_text.proofs.ExactlyOne.{Stands-reading_of}
 use Rattle.graph_text.specs.EitherVersion.{NamedGraph, either_version}
 use Rattle.bench_top.specs.Loading.{Loaded, All, Bad, Absent, loaded_as, graph_file, most_bytes}
 use Rattle.bench_top.specs.Outcome.{LoadedGives, Converted, given_or_plain}
-use Rattle.bench_top.specs.Tasks.{Task}
 use Rattle.bench_top.specs.Tasks as task
 use Rattle.bench_top.specs.declared.status.Status.TheVariants.{Done}
 use Rattle.bench_top.proofs.FileReads.{file_read-value}

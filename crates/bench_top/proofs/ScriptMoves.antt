@@ -2,6 +2,7 @@
 -- sets of a Switch are not empty and lie within 1 to n, since they are proper subsets of the shore and of its complement; and a derivation
 -- of a graph within the limits has few cuts.
 use Rattle.std.proofs.Common.{◌≡◌, ℕ, suc, ◌*◌, ◌<◌, ◌≤◌, Bool, true, false, ◌&&◌, List, [], ◌∷◌, length, Option, Some, None, option_map, if◌then◌else◌, refl, sym, arith}
+use Rattle.std.proofs.lemmas.Option.{none-some}
 use Rattle.std.specs.List.{AllByRecursion}
 use Rattle.std.proofs.lemmas.Bool.{and_parts, true≢false}
 use Rattle.std.proofs.lemmas.Nat.{mul-le}
@@ -15,7 +16,6 @@ use Rattle.tree_core.specs.declared.path.Side.TheVariants.{Kept, Merged}
 use Rattle.tree_core.proofs.DerivationStands.{fits-derivation}
 use Rattle.tree_core.proofs.Sizes.{node_count-cuts}
 use Rattle.tree_core.proofs.SwitchSets.{proper_outside-within, proper_part-within}
-use Rattle.tree_check.proofs.MovesFit.{none_some}
 use Rattle.move_text.specs.Writing.{HasSets, HasShortPath}
 use Rattle.bench_top.proofs.DerivationTexts.{few-nodes}
 
@@ -23,16 +23,16 @@ use Rattle.bench_top.proofs.DerivationTexts.{few-nodes}
 path-short : (f : Shape → Option Shape) (path : List Side) (t r : Shape) → result_at f path t ≡ Some r → length path < node_count t
 path-short f [] leaf r e = omega arith
 path-short f [] (cut x a b) r e = omega arith
-path-short f (side ∷ path) leaf r e = absurd (none_some e)
+path-short f (side ∷ path) leaf r e = absurd (none-some _ e)
 path-short f (Kept ∷ path) (cut x a b) r e = go (result_at f path a) refl e (path-short f path a)
   where
     go : (o : Option Shape) → result_at f path a ≡ o → option_map (λ c. cut x c b) o ≡ Some r → ((c : Shape) → result_at f path a ≡ Some c → length path < node_count a) → suc (length path) < node_count (cut x a b)
-    go None is e below = absurd (none_some e)
+    go None is e below = absurd (none-some _ e)
     go (Some c) is e below = let less = below c is in omega arith
 path-short f (Merged ∷ path) (cut x a b) r e = go (result_at f path b) refl e (path-short f path b)
   where
     go : (o : Option Shape) → result_at f path b ≡ o → option_map (λ c. cut x a c) o ≡ Some r → ((c : Shape) → result_at f path b ≡ Some c → length path < node_count b) → suc (length path) < node_count (cut x a b)
-    go None is e below = absurd (none_some e)
+    go None is e below = absurd (none-some _ e)
     go (Some c) is e below = let less = below c is in omega arith
 
 -- a path without its last step
@@ -42,7 +42,7 @@ length-parent_path side (next ∷ path) = let below = length-parent_path next pa
 
 -- the path of a move that has a result
 move-path : (n : ℕ) (t r : Shape) (m : PlainMove) → node_count t ≤ 127 → move_result n t m ≡ Some r → HasShortPath m
-move-path n t r (rotate_at []) few e = absurd (none_some e)
+move-path n t r (rotate_at []) few e = absurd (none-some _ e)
 move-path n t r (rotate_at (side ∷ path)) few e =
     let less = path-short (rotate_result_at (last_step side path)) (parent_path side path) t r e in
     let same = length-parent_path side path in
@@ -56,11 +56,11 @@ proper-nonempty (v ∷ u) x proper = omega arith
 
 -- the sets of a Switch at its node
 switch-sets : (n : ℕ) (path : List Side) (u v : List ℕ) (t r : Shape) → Fits n t → switch_result_at n u v t ≡ Some r → HasSets n (switch_at path u v)
-switch-sets n path u v leaf r fits e = absurd (none_some e)
+switch-sets n path u v leaf r fits e = absurd (none-some _ e)
 switch-sets n path u v (cut x a b) r fits e = go (is_proper u x && is_proper v (complement_of n x)) _ refl e
   where
     go : (t : Bool) (made : Shape) → (is_proper u x && is_proper v (complement_of n x)) ≡ t → (if t then Some made else None) ≡ Some r → HasSets n (switch_at path u v)
-    go false made is e = absurd (none_some e)
+    go false made is e = absurd (none-some _ e)
     go true made is e =
         let proper = and_parts (is_proper u x) (is_proper v (complement_of n x)) is in
         ((proper-nonempty u x proper.0, proper_part-within n u x proper.0 fits.0), (proper-nonempty v (complement_of n x) proper.1, proper_outside-within n v x proper.1))
@@ -68,16 +68,16 @@ switch-sets n path u v (cut x a b) r fits e = go (is_proper u x && is_proper v (
 -- and along its path
 path-sets : (n : ℕ) (whole : List Side) (u v : List ℕ) (path : List Side) (t r : Shape) → Fits n t → result_at (switch_result_at n u v) path t ≡ Some r → HasSets n (switch_at whole u v)
 path-sets n whole u v [] t r fits e = switch-sets n whole u v t r fits e
-path-sets n whole u v (side ∷ path) leaf r fits e = absurd (none_some e)
+path-sets n whole u v (side ∷ path) leaf r fits e = absurd (none-some _ e)
 path-sets n whole u v (Kept ∷ path) (cut x a b) r fits e = go (result_at (switch_result_at n u v) path a) refl e (path-sets n whole u v path a)
   where
     go : (o : Option Shape) → result_at (switch_result_at n u v) path a ≡ o → option_map (λ c. cut x c b) o ≡ Some r → ((c : Shape) → Fits n a → result_at (switch_result_at n u v) path a ≡ Some c → HasSets n (switch_at whole u v)) → HasSets n (switch_at whole u v)
-    go None is e below = absurd (none_some e)
+    go None is e below = absurd (none-some _ e)
     go (Some c) is e below = below c fits.1 is
 path-sets n whole u v (Merged ∷ path) (cut x a b) r fits e = go (result_at (switch_result_at n u v) path b) refl e (path-sets n whole u v path b)
   where
     go : (o : Option Shape) → result_at (switch_result_at n u v) path b ≡ o → option_map (λ c. cut x a c) o ≡ Some r → ((c : Shape) → Fits n b → result_at (switch_result_at n u v) path b ≡ Some c → HasSets n (switch_at whole u v)) → HasSets n (switch_at whole u v)
-    go None is e below = absurd (none_some e)
+    go None is e below = absurd (none-some _ e)
     go (Some c) is e below = below c fits.2 is
 
 -- the sets of a move that has a result

@@ -1,12 +1,12 @@
 -- A text that stands for a value stands for it with comments behind it, and so the report on a script stands for the script.
-use Rattle.std.proofs.Common.{◌≡◌, ◌∙◌, ℕ, ◌<◌, ◌^◌, List, [], ◌∷◌, ◌++◌, map, true, length, ap, ap₂, refl, sym, subst, append_assoc, None}
+use Rattle.std.proofs.Common.{◌≡◌, ◌∙◌, ℕ, ◌<◌, ◌^◌, List, [], ◌∷◌, ◌++◌, map, true, length, ap, ap₂, refl, sym, subst, append_assoc}
 use Rattle.std.specs.Prelude.{codes}
 use Rattle.std.specs.Fmt.{decimal}
-use Rattle.line_text.specs.Format.{Begins, Rules, Stands}
+use Rattle.line_text.specs.Format.{Stands}
 use Rattle.line_text.specs.Lines.{is_closed}
-use Rattle.line_text.specs.Words.{IsComment, SignificantLine, written, unwords}
+use Rattle.line_text.specs.Words.{written, unwords}
 use Rattle.line_text.proofs.Decimals.{is_word-decimal}
-use Rattle.line_text.proofs.ReadBack.{AreSkipped-written, is_closed-unlines, significant_lines_of-comments}
+use Rattle.line_text.proofs.ReadBack.{AreSkipped-written, Stands-comments, is_closed-unlines}
 use Rattle.graph_core.specs.Graph.{Graph}
 use Rattle.tree_core.specs.Moves.{PlainMove}
 use Rattle.tree_core.specs.Shapes.{Shape, leaf_count}
@@ -15,16 +15,6 @@ use Rattle.move_text.specs.Writing.{header_words, move_words, moves_text}
 use Rattle.report_text.specs.Scripts.{script_line, script_report_text}
 use Rattle.bench_top.specs.Comparisons.{IsScript, Scripted}
 use Rattle.bench_top.specs.declared.status.Status.TheVariants.{Done}
-
--- a written comment behind a text
-stands-commented : {Body Value Kind : Type 0} (rules : Rules Body Value Kind) (text : List ℕ) (words : List (List ℕ)) (value : Value) → is_closed text ≡ true → IsComment words → Stands rules text value → Stands rules (text ++ written (words ∷ [])) value
-stands-commented rules text words value closed comment stands = record {
-  reached = stands.reached;
-  begins = subst (λ (lines : List SignificantLine). Begins rules None (map (λ line. line.words) lines) stands.reached)
-      (sym (significant_lines_of-comments text (written (words ∷ [])) closed (AreSkipped-written (words ∷ []) (comment, tt))))
-      stands.begins;
-  ends = stands.ends;
-}
 
 -- the words of the comment behind a script
 abbrev comment_words : (leaves moves : ℕ) → List (List ℕ)
@@ -44,8 +34,9 @@ pub stands-report : (n leaves count : ℕ) (moves : List PlainMove) → leaves <
 unfolding script_report_text
 stands-report n leaves count moves few_leaves few_moves stands =
     subst (λ (line : List ℕ). Stands (move_format n) (moves_text n moves ++ line) moves) (sym (line-written leaves count))
-    (stands-commented (move_format n) (moves_text n moves) (comment_words leaves count) moves (moves-closed n moves)
-    (record { skipped = refl; each = (refl, (refl, (is_word-decimal leaves few_leaves, (refl, (is_word-decimal count few_moves, tt))))) }) stands)
+    (Stands-comments (move_format n) (moves_text n moves) (written (comment_words leaves count ∷ [])) moves (moves-closed n moves)
+    (AreSkipped-written (comment_words leaves count ∷ [])
+    (record { skipped = refl; each = (refl, (refl, (is_word-decimal leaves few_leaves, (refl, (is_word-decimal count few_moves, tt))))) }, tt)) stands)
 
 -- and so the report tells the script
 pub scripted : (g : Graph) (s t : Shape) (moves : List PlainMove) (n leaves count : ℕ) (text shown output : List ℕ) →

@@ -16,7 +16,7 @@ use move_text::write_moves;
 use report_text::{MapLine, MapLines, block_names, pairing, script_report};
 use std::alloc::{AllocError as Memory, Global};
 use tree_core::{Partitions, Tree, leaves, nodes};
-use uncross::{LeafMap, LeafMaps, compare};
+use uncross::{LeafMap, LeafMaps, compare, moves_between};
 
 /// The report that refuses one of two trees: the graph is not covered, or the first tree is no derivation of it, or the second is none.
 /// None where both are derivations.
@@ -126,13 +126,13 @@ fn script_between(
     ensures { IfOk result (λ report. Scripted g.now (shape_of first.now) (shape_of second.now) report.status report.bytes.items) }
 {
     g.keeps_limits();
-    let answer = compare(alloc, g, first, second)?;
+    let moves = moves_between(alloc, g, first, second)?;
     let n = g.order();
-    let text = write_moves(alloc, &answer.moves, n)?;
+    let text = write_moves(alloc, &moves, n)?;
     let leaves = nodes(first) / 2 + 1;
     Ok(Report {
         status: Status::Done,
-        bytes: script_report(alloc, &text, leaves as u32, answer.moves.len() as u32)?,
+        bytes: script_report(alloc, &text, leaves as u32, moves.len() as u32)?,
     })
 }
 

@@ -7,7 +7,7 @@ use Rattle.std.proofs.lemmas.Bool.Decides.{nat_tests}
 use Rattle.std.proofs.lemmas.List.{map-append}
 use Rattle.std.proofs.lemmas.List.Elements.{filter-append}
 use Rattle.counting.proofs.Lists.{Rises, mem_low, rises-from_set, rising_only}
-use Rattle.counting.proofs.Pairs.{HasPair, at_pair, pair_filter, rows_only}
+use Rattle.counting.proofs.Pairs.{HasPair, at_pair, pair_filter, rows_only, map_pair}
 use Rattle.counting.proofs.RisingLists.{mem-outside, mem-rising_list, rising_list-mem, rising_list-rises, same_rising_list, set-wider}
 use Rattle.counting.proofs.Tests.{least_of, least_of_is, some_true}
 use Rattle.counting.proofs.Totals.{total_le}
@@ -99,21 +99,16 @@ once-append (k ∷ xs) ys o q d = (λ h. split h, once-append xs ys o.1 q (λ a 
     split : HasPair (xs ++ ys) k.0 k.1 → ⊥
     split h = elim (parts xs h) [ inl a ↦ o.0 a | inr b ↦ d k.0 k.1 (inl (refl, refl)) b ]
 
-row-pair : (a : ℕ) (xs : List ℕ) (i j : ℕ) → HasPair (map (pair_with a) xs) i j → (a ≡ i) × (mem xs j ≡ true)
-row-pair a [] i j h = absurd h
-row-pair a (x ∷ xs) i j (inl h) = (h.0, or_left (x == j) (mem xs j) (eq-eqb x j h.1))
-row-pair a (x ∷ xs) i j (inr h) = let r = row-pair a xs i j h in (r.0, or_right (x == j) (mem xs j) r.1)
-
 once-row : (low n a : ℕ) (xs : List ℕ) → Rises low n xs → Once (map (pair_with a) xs)
 once-row low n a [] r = tt
-once-row low n a (x ∷ xs) r = (λ h. both_ways (mem xs x) (mem_low (x + 1) n xs r.2 x (omega arith)) (row-pair a xs a x h).1, once-row (x + 1) n a xs r.2)
+once-row low n a (x ∷ xs) r = (λ h. both_ways (mem xs x) (mem_low (x + 1) n xs r.2 x (omega arith)) (map_pair a xs a x h).1, once-row (x + 1) n a xs r.2)
 
 once-rows : (low n : ℕ) (xs : List ℕ) → Rises low n xs → Once (flat_map (λ a. map (pair_with a) (rising_list n (nat_lt a))) xs)
 once-rows low n [] r = tt
 once-rows low n (x ∷ xs) r =
     once-append (map (pair_with x) (rising_list n (nat_lt x))) (flat_map (λ a. map (pair_with a) (rising_list n (nat_lt a))) xs)
     (once-row 1 n x (rising_list n (nat_lt x)) (rises-from_set n (rising_list n (nat_lt x)) (rising_list-rises n (nat_lt x)))) (once-rows (x + 1) n xs r.2)
-    (λ a b h k. both_ways (mem xs a) (mem_low (x + 1) n xs r.2 a (let e = (row-pair x (rising_list n (nat_lt x)) a b h).0 in omega arith)) (rows_only n a b xs k).0)
+    (λ a b h k. both_ways (mem xs a) (mem_low (x + 1) n xs r.2 a (let e = (map_pair x (rising_list n (nat_lt x)) a b h).0 in omega arith)) (rows_only n a b xs k).0)
 
 once-filter : (t : ℕ → ℕ → Bool) (ks : List (ℕ × ℕ)) → Once ks → Once (filter (λ k. t k.0 k.1) ks)
 once-filter t [] o = tt

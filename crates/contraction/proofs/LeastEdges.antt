@@ -1,15 +1,13 @@
 -- Each edge of the quotient has a least remembered edge, and the places that are marked row by row are the lifted matching.
 -- A list of rows is gone through one row at a time; a row is found by its edge.
-use Rattle.std.proofs.Common.{◌≡◌, ℕ, ◌+◌, ◌<◌, Bool, true, false, ◌&&◌, ◌||◌, ◌==◌, List, [], ◌∷◌, length, map, take, get_or, refl, sym, ap, ◌∙◌, arith, inl, inr, subst, eq-eqb, eqb-true}
+use Rattle.std.proofs.Common.{◌≡◌, ℕ, ◌+◌, ◌<◌, Bool, true, false, ◌&&◌, ◌||◌, ◌==◌, List, [], ◌∷◌, length, map, take, get_or, refl, sym, ap, ◌∙◌, inl, inr, subst, eq-eqb, eqb-true}
 use Rattle.std.specs.Prelude.{All, Some, slice_get, slice_index}
 use Rattle.std.specs.List.{list_any}
-use Rattle.std.proofs.Math.ListN.{replicate}
-use Rattle.std.proofs.lemmas.Bool.{and_from, and_parts, both_ways, cases_lt, or_cases}
-use Rattle.std.proofs.lemmas.List.{get_or-replicate, get_or_past, length-replicate, take_more}
+use Rattle.std.proofs.lemmas.Bool.{and_from, and_parts, both_ways, or_cases, or_right, or_left}
+use Rattle.std.proofs.lemmas.List.{take_more}
 use Rattle.std.proofs.lemmas.List.Elements.{All-head, All-tail}
 use Rattle.std.proofs.lemmas.List.Folds.{list_any-append}
 use Rattle.std.proofs.lemmas.Option.{get_or_from_slice_get, slice_get_within}
-use Rattle.counting.proofs.Lists.{or_back, or_front}
 use Rattle.counting.proofs.RisingLists.{rising_list-congr, same_answers}
 use Rattle.counting.proofs.Tests.{some_congr, some_true, true_some}
 use Rattle.counting.specs.Counts.{Within}
@@ -20,7 +18,6 @@ use Rattle.graph_core.specs.Graph.{Graph, size}
 use Rattle.graph_core.specs.Quotients.{lifted, quotient, remembered}
 use Rattle.match_core.proofs.MatchingEdges.{edge_of}
 use Rattle.graph_core.specs.Partitions.{AreBlocks}
-use Rattle.match_core.specs.Rows.{marks}
 use Rattle.match_core.specs.declared.matching.MatchRow.{MatchRow}
 use Rattle.contraction.proofs.ContractedValues.{item-remembered}
 use Rattle.contraction.proofs.LiftedMatchings.{least-remembered, remembered-some}
@@ -60,21 +57,21 @@ any-edge n t rows all = same_answers _ _ (there rows all) (λ h. let r = some_tr
   where
     wider : (row : MatchRow) (rows : List MatchRow) → some n (λ k. mem (map edge_of rows) k && t k) ≡ true → some n (λ k. mem (map edge_of (row ∷ rows)) k && t k) ≡ true
     wider row rows h = let r = some_true n (λ k. mem (map edge_of rows) k && t k) h in let b = and_parts (mem (map edge_of rows) r.0) (t r.0) r.2 in
-        true_some n (λ k. mem (map edge_of (row ∷ rows)) k && t k) r.0 r.1 (and_from (mem (map edge_of (row ∷ rows)) r.0) (t r.0) (or_back (row.edge == r.0) (mem (map edge_of rows) r.0) b.0) b.1)
+        true_some n (λ k. mem (map edge_of (row ∷ rows)) k && t k) r.0 r.1 (and_from (mem (map edge_of (row ∷ rows)) r.0) (t r.0) (or_right (row.edge == r.0) (mem (map edge_of rows) r.0) b.0) b.1)
 
     there : (rows : List MatchRow) → All (λ (row : MatchRow). Within n row.edge) rows → list_any (λ (row : MatchRow). t row.edge) rows ≡ true → some n (λ k. mem (map edge_of rows) k && t k) ≡ true
     there [] all h = absurd (both_ways false refl h)
     there (row ∷ rows) all h = elim (or_cases (t row.edge) (list_any (λ (row : MatchRow). t row.edge) rows) h) [
       | inl a ↦ true_some n (λ k. mem (map edge_of (row ∷ rows)) k && t k) row.edge (All-head (λ (row : MatchRow). Within n row.edge) row rows all)
-          (and_from (mem (map edge_of (row ∷ rows)) row.edge) (t row.edge) (or_front (row.edge == row.edge) (mem (map edge_of rows) row.edge) (eq-eqb row.edge row.edge refl)) a)
+          (and_from (mem (map edge_of (row ∷ rows)) row.edge) (t row.edge) (or_left (row.edge == row.edge) (mem (map edge_of rows) row.edge) (eq-eqb row.edge row.edge refl)) a)
       | inr b ↦ wider row rows (there rows (All-tail (λ (row : MatchRow). Within n row.edge) row rows all) b)
     ]
 
     back : (rows : List MatchRow) (k : ℕ) → mem (map edge_of rows) k ≡ true → t k ≡ true → list_any (λ (row : MatchRow). t row.edge) rows ≡ true
     back [] k m h = absurd (both_ways false refl m)
     back (row ∷ rows) k m h = elim (or_cases (row.edge == k) (mem (map edge_of rows) k) m) [
-      | inl a ↦ or_front (t row.edge) (list_any (λ (row : MatchRow). t row.edge) rows) (ap t (eqb-true row.edge k a) ∙ h)
-      | inr b ↦ or_back (t row.edge) (list_any (λ (row : MatchRow). t row.edge) rows) (back rows k b h)
+      | inl a ↦ or_left (t row.edge) (list_any (λ (row : MatchRow). t row.edge) rows) (ap t (eqb-true row.edge k a) ∙ h)
+      | inr b ↦ or_right (t row.edge) (list_any (λ (row : MatchRow). t row.edge) rows) (back rows k b h)
     ]
 
 -- the marked edges are the lifted matching
@@ -89,13 +86,6 @@ marked-lifted g p q rows marked is all each =
 
     same : (e : ℕ) → some (size q.graph) (λ k. mem (map edge_of rows) k && (least_at q k == e)) ≡ some (size (quotient g p)) (λ k. mem (map edge_of rows) k && (slice_index (remembered g p k) 0 == e))
     same e = some_congr (size q.graph) _ _ (λ k w. ap (λ f. mem (map edge_of rows) k && (f == e)) (least-is g p q k is w)) ∙ ap (λ n. some n (λ k. mem (map edge_of rows) k && (slice_index (remembered g p k) 0 == e))) sizes
-
--- no place of a new row is marked
-pub no-marks : (n e : ℕ) → marks (replicate n false) e ≡ false
-no-marks n e = elim (cases_lt e n) [
-  | inl l ↦ get_or-replicate n e false false l
-  | inr l ↦ get_or_past (replicate n false) e false (let k = length-replicate n false in omega arith)
-]
 
 -- the blocks of a quotient's value are a partition of the graph that it is of
 pub blocks-of : (g : Graph) (p : List (List ℕ)) (q : ContractedValue) → KeepsContraction q → q ≡ contraction g p → AreBlocks g.order p

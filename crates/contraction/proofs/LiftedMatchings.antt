@@ -3,23 +3,23 @@
 use Rattle.std.proofs.Common.{◌≡◌, ℕ, ◌<◌, length, true, false, not, ◌&&◌, ◌==◌, List, [], ◌∷◌, refl, sym, ◌∙◌, arith, subst, eq-eqb}
 use Rattle.std.specs.Prelude.{slice_index}
 use Rattle.std.proofs.lemmas.Bool.{both_ways, and_parts, or_left}
-use Rattle.std.proofs.lemmas.List.{length-map}
-use Rattle.counting.proofs.Lists.{rising_holds, rising_only}
+use Rattle.counting.proofs.Lists.{rising_holds, rising_only, some-member}
 use Rattle.counting.proofs.RisingLists.{mem-rising_list}
 use Rattle.counting.proofs.Tests.{some_true}
 use Rattle.counting.specs.Counts.{Within}
 use Rattle.counting.specs.Lists.{mem}
 use Rattle.counting.specs.Sets.{Set, none}
 use Rattle.counting.specs.Tests.{some}
+use Rattle.graph_core.proofs.Blocks.{contracted-order, contracted-size}
 use Rattle.graph_core.proofs.Carrying.{carried_set, image, perfect_carried}
 use Rattle.graph_core.proofs.Decide.{degree_congr}
 use Rattle.graph_core.proofs.Edits.{HasEnds}
-use Rattle.graph_core.proofs.Quotients.{quotient_edge}
+use Rattle.graph_core.proofs.Quotients.{quotient-order, quotient_edge}
 use Rattle.graph_core.proofs.QuotientTight.{quotient_graph}
 use Rattle.graph_core.proofs.Walks.{has_ends-cases}
 use Rattle.graph_core.specs.Graph.{Graph, IsGraph, first_end, has_ends, second_end, size}
 use Rattle.graph_core.specs.Matchings.{IsPerfect}
-use Rattle.graph_core.specs.Partitions.{AreBlocks, IsPerfectAt, contracted, place}
+use Rattle.graph_core.specs.Partitions.{AreBlocks, IsPerfectAt, contracted}
 use Rattle.graph_core.specs.Quotients.{lifted, quotient, remembered}
 
 -- sets of edges that agree are perfect together
@@ -33,19 +33,7 @@ first-member : (xs : List ℕ) (v : ℕ) → mem xs v ≡ true → mem xs (slice
 first-member [] v h = absurd (both_ways false refl h)
 first-member (x ∷ xs) v h = or_left (x == x) (mem xs x) (eq-eqb x x refl)
 
-some-items : (xs : List ℕ) (v : ℕ) → mem xs v ≡ true → 0 < length xs
-some-items [] v h = absurd (both_ways false refl h)
-some-items (x ∷ xs) v h = omega arith
-
 module _ (g : Graph) (p : List (List ℕ)) (is : IsGraph g) (pp : AreBlocks g.order p) where
-  sizes : size (contracted g p) ≡ size g
-  unfolding contracted
-  sizes = length-map g.ends (λ (d : ℕ × ℕ). (place p d.0, place p d.1))
-
-  orders : (contracted g p).order ≡ (quotient g p).order
-  unfolding contracted quotient
-  orders = refl
-
   -- the least remembered edge joins the two blocks
   pub least-remembered : (k : ℕ) → Within (size (quotient g p)) k → Within (size g) (slice_index (remembered g p k) 0) × HasEnds (contracted g p) (slice_index (remembered g p k) 0) (first_end (quotient g p) k) (second_end (quotient g p) k)
   least-remembered k w =
@@ -60,12 +48,12 @@ module _ (g : Graph) (p : List (List ℕ)) (is : IsGraph g) (pp : AreBlocks g.or
   remembered-some k w =
       let q = quotient_edge g p k w in
       let e = some_true (size g) (has_ends (contracted g p) (first_end (quotient g p) k) (second_end (quotient g p) k)) (and_parts (not (first_end (quotient g p) k == second_end (quotient g p) k)) (some (size g) (has_ends (contracted g p) (first_end (quotient g p) k) (second_end (quotient g p) k))) q.3).1 in
-      some-items (remembered g p k) e.0 (rising_holds (size g) (has_ends (contracted g p) (first_end (quotient g p) k) (second_end (quotient g p) k)) e.0 e.1 e.2)
+      some-member (remembered g p k) e.0 (rising_holds (size g) (has_ends (contracted g p) (first_end (quotient g p) k) (second_end (quotient g p) k)) e.0 e.1 e.2)
 
   pub lifted-perfect : (m : Set) → IsPerfect (quotient g p) none m → IsPerfectAt g p (mem (lifted g p m))
   unfolding carried_set image
   lifted-perfect m perfect =
       perfect-congr (contracted g p) (λ e. some (size (quotient g p)) (λ k. m k && (slice_index (remembered g p k) 0 == e))) (mem (lifted g p m))
-      (λ e w. sym (mem-rising_list (size g) (λ e. some (size (quotient g p)) (λ k. m k && (slice_index (remembered g p k) 0 == e))) e (let s = sizes in omega arith)))
+      (λ e w. sym (mem-rising_list (size g) (λ e. some (size (quotient g p)) (λ k. m k && (slice_index (remembered g p k) 0 == e))) e (let s = contracted-size g p in omega arith)))
       (perfect_carried (quotient g p) (contracted g p) (quotient_graph g p is pp) (λ v. v) (λ k. slice_index (remembered g p k) 0) (λ u v wu wv e. e)
-      (λ w ww. (w, subst (λ n. Within n w) orders ww, refl)) (λ k w d. let r = least-remembered k w in (subst (λ n. Within n (slice_index (remembered g p k) 0)) (sym sizes) r.0, r.1)) m perfect)
+      (λ w ww. (w, subst (λ n. Within n w) (contracted-order g p ∙ sym (quotient-order g p)) ww, refl)) (λ k w d. let r = least-remembered k w in (subst (λ n. Within n (slice_index (remembered g p k) 0)) (sym (contracted-size g p)) r.0, r.1)) m perfect)

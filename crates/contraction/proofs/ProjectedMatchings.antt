@@ -1,9 +1,8 @@
 -- A perfect matching at a partition is projected to a perfect matching of the quotient, each edge to the edge between its two
 -- blocks, of which there is one; the cut of a set of blocks has as many edges of it before and after, down and up.
-use Rattle.std.proofs.Common.{◌≡◌, ◌≢◌, ℕ, ◌-◌, ◌<◌, true, ◌==◌, ◌&&◌, List, length, get_or, refl, sym, ap, ◌∙◌, arith, inl, inr, ◌⊎◌, subst, eq-eqb, eqb-true}
+use Rattle.std.proofs.Common.{◌≡◌, ◌≢◌, ℕ, ◌-◌, ◌<◌, true, ◌==◌, ◌&&◌, List, get_or, refl, sym, ap, ◌∙◌, arith, inl, inr, ◌⊎◌, subst, eq-eqb, eqb-true}
 use Rattle.std.specs.Prelude.{slice_index}
 use Rattle.std.proofs.lemmas.Bool.{and_from, and_parts, cases_order}
-use Rattle.std.proofs.lemmas.List.{length-map}
 use Rattle.counting.proofs.Counts.{count_congr}
 use Rattle.counting.proofs.Lists.{rising_holds, rising_only}
 use Rattle.counting.proofs.RisingLists.{mem-rising_list, same_answers}
@@ -13,14 +12,14 @@ use Rattle.counting.specs.Lists.{mem}
 use Rattle.counting.specs.Sets.{Set, none}
 use Rattle.counting.specs.Tests.{some}
 use Rattle.graph_core.proofs.Adjacency.{has_ends-from}
-use Rattle.graph_core.proofs.Blocks.{contracted-graph}
+use Rattle.graph_core.proofs.Blocks.{contracted-graph, contracted-order, contracted-size}
 use Rattle.graph_core.proofs.Carrying.{carried_set, cut_carried, image, no_loop, perfect_carried}
-use Rattle.graph_core.proofs.Quotients.{quotient_edge}
+use Rattle.graph_core.proofs.Quotients.{quotient-order, quotient_edge}
 use Rattle.graph_core.proofs.QuotientTight.{quotient_graph}
 use Rattle.graph_core.proofs.Walks.{has_ends-cases, has_ends-own}
 use Rattle.graph_core.specs.Graph.{Graph, HasEnds, IsGraph, edges_in_cut, first_end, has_ends, in_cut, second_end, size}
 use Rattle.graph_core.specs.Matchings.{IsPerfect}
-use Rattle.graph_core.specs.Partitions.{AreBlocks, IsPerfectAt, contracted, place}
+use Rattle.graph_core.specs.Partitions.{AreBlocks, IsPerfectAt, contracted}
 use Rattle.graph_core.specs.Quotients.{lifted, projected, quotient, remembered}
 use Rattle.contraction.proofs.JoinedPairs.{joined-once}
 use Rattle.contraction.proofs.LiftedMatchings.{least-remembered, perfect-congr}
@@ -52,18 +51,6 @@ one-edge g p k l x y wk wl hk hl =
     ]
 
 module _ (g : Graph) (p : List (List ℕ)) (is : IsGraph g) (pp : AreBlocks g.order p) where
-  sizes : size (contracted g p) ≡ size g
-  unfolding contracted
-  sizes = length-map g.ends (λ (d : ℕ × ℕ). (place p d.0, place p d.1))
-
-  orders : (contracted g p).order ≡ length p
-  unfolding contracted
-  orders = refl
-
-  orders_q : (quotient g p).order ≡ length p
-  unfolding quotient
-  orders_q = refl
-
   -- the edge of the quotient between the two blocks of edge e
   over : ℕ → ℕ
   over e = least_of (size (quotient g p)) (has_ends (quotient g p) (first_end (contracted g p) e) (second_end (contracted g p) e))
@@ -75,11 +62,11 @@ module _ (g : Graph) (p : List (List ℕ)) (is : IsGraph g) (pp : AreBlocks g.or
       let b = second_end (contracted g p) e in
       let i = contracted-graph g p is pp e w in
       let own = true_some (size (contracted g p)) (has_ends (contracted g p) a b) e w (has_ends-own (contracted g p) e) in
-      let l = least_of_is (size (quotient g p)) (has_ends (quotient g p) a b) (sym (same_pairs g p is pp a b (subst (λ n. Within n a) orders i.0) (subst (λ n. Within n b) orders i.1) d) ∙ own) in
+      let l = least_of_is (size (quotient g p)) (has_ends (quotient g p) a b) (sym (same_pairs g p is pp a b (subst (λ n. Within n a) (contracted-order g p) i.0) (subst (λ n. Within n b) (contracted-order g p) i.1) d) ∙ own) in
       (l.0, has_ends-cases (quotient g p) a b (over e) l.1)
 
   onto : (w : ℕ) → Within (quotient g p).order w → (v : ℕ) × Within (contracted g p).order v × (v ≡ w)
-  onto w ww = (w, subst (λ n. Within n w) (orders_q ∙ sym orders) ww, refl)
+  onto w ww = (w, subst (λ n. Within n w) (quotient-order g p ∙ sym (contracted-order g p)) ww, refl)
 
   -- what is carried over is the projection
   module _ (m : Set) (perfect : IsPerfectAt g p m) where
@@ -96,7 +83,7 @@ module _ (g : Graph) (p : List (List ℕ)) (is : IsGraph g) (pp : AreBlocks g.or
         let b = and_parts (m r.0) (over r.0 == k) r.2 in
         let o = over-is r.0 r.1 (apart-ends r.0 r.1 b.0) in
         let ends = subst (λ j. HasEnds (quotient g p) j (first_end (contracted g p) r.0) (second_end (contracted g p) r.0)) (eqb-true (over r.0) k b.1) o.1 in
-        let w = subst (λ n. Within n r.0) sizes r.1 in
+        let w = subst (λ n. Within n r.0) (contracted-size g p) r.1 in
         true_some (size g) (λ e. m e && mem (remembered g p k) e) r.0 w (and_from (m r.0) (mem (remembered g p k) r.0) b.0
         (rising_holds (size g) (has_ends (contracted g p) (first_end (quotient g p) k) (second_end (quotient g p) k)) r.0 w (has_ends-from (contracted g p) (first_end (quotient g p) k) (second_end (quotient g p) k) r.0 (turned ends))))
       where
@@ -110,7 +97,7 @@ module _ (g : Graph) (p : List (List ℕ)) (is : IsGraph g) (pp : AreBlocks g.or
         let r = some_true (size g) (λ e. m e && mem (remembered g p k) e) t in
         let b = and_parts (m r.0) (mem (remembered g p k) r.0) r.2 in
         let q = rising_only (size g) (has_ends (contracted g p) (first_end (quotient g p) k) (second_end (quotient g p) k)) r.0 b.1 in
-        let w = subst (λ n. Within n r.0) (sym sizes) r.1 in
+        let w = subst (λ n. Within n r.0) (sym (contracted-size g p)) r.1 in
         let o = over-is r.0 w (apart-ends r.0 w b.0) in
         let mine = turned (has_ends-cases (contracted g p) (first_end (quotient g p) k) (second_end (quotient g p) k) r.0 q.1) in
         true_some (size (contracted g p)) (λ e. m e && (over e == k)) r.0 w (and_from (m r.0) (over r.0 == k) b.0 (eq-eqb (over r.0) k (one-edge g p (over r.0) k (first_end (contracted g p) r.0) (second_end (contracted g p) r.0) o.0 wk o.1 mine)))
@@ -138,13 +125,13 @@ module _ (g : Graph) (p : List (List ℕ)) (is : IsGraph g) (pp : AreBlocks g.or
 
   least-is : (k : ℕ) → Within (size (quotient g p)) k → first_end (quotient g p) k ≢ second_end (quotient g p) k → Within (size (contracted g p)) (least k) × HasEnds (contracted g p) (least k) (first_end (quotient g p) k) (second_end (quotient g p) k)
   unfolding least
-  least-is k w d = let r = least-remembered g p is pp k w in (subst (λ n. Within n (slice_index (remembered g p k) 0)) (sym sizes) r.0, r.1)
+  least-is k w d = let r = least-remembered g p is pp k w in (subst (λ n. Within n (slice_index (remembered g p k) 0)) (sym (contracted-size g p)) r.0, r.1)
 
   back-onto : (w : ℕ) → Within (contracted g p).order w → (v : ℕ) × Within (quotient g p).order v × (v ≡ w)
-  back-onto w ww = (w, subst (λ n. Within n w) (orders ∙ sym orders_q) ww, refl)
+  back-onto w ww = (w, subst (λ n. Within n w) (contracted-order g p ∙ sym (quotient-order g p)) ww, refl)
 
   pub lifted-cut : (m : Set) → IsPerfect (quotient g p) none m → (y : Set) → edges_in_cut (contracted g p) (mem (lifted g p m)) y ≡ edges_in_cut (quotient g p) m y
   unfolding least carried_set image
   lifted-cut m perfect y =
-      count_congr (size (contracted g p)) _ _ (λ e w. ap (λ b. b && in_cut (contracted g p) y e) (mem-rising_list (size g) (λ e. some (size (quotient g p)) (λ k. m k && (slice_index (remembered g p k) 0 == e))) e (subst (λ n. Within n e) sizes w)))
+      count_congr (size (contracted g p)) _ _ (λ e w. ap (λ b. b && in_cut (contracted g p) y e) (mem-rising_list (size g) (λ e. some (size (quotient g p)) (λ k. m k && (slice_index (remembered g p k) 0 == e))) e (subst (λ n. Within n e) (contracted-size g p) w)))
       ∙ cut_carried (quotient g p) (contracted g p) (quotient_graph g p is pp) (λ v. v) least (λ u v wu wv e. e) back-onto least-is m perfect y

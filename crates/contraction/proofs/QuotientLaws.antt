@@ -2,40 +2,27 @@
 -- blocks is tight in the one where it is in the other.
 use Rattle.std.proofs.Common.{◌≡◌, ℕ, ◌<◌, ◌≢◌, Bool, true, false, not, ◌==◌, List, length, refl, sym, ap, ◌∙◌, arith, inl, inr, subst, ne_eqb}
 use Rattle.std.proofs.lemmas.Bool.{and_parts, and_from, cases_order}
-use Rattle.std.proofs.lemmas.List.{length-map}
 use Rattle.counting.proofs.Tests.{some_true, true_some}
 use Rattle.counting.specs.Counts.{Within}
 use Rattle.counting.specs.Sets.{Set}
 use Rattle.counting.specs.Tests.{some}
 use Rattle.graph_core.proofs.Adjacency.{Alike, covered_over, has_ends-from}
-use Rattle.graph_core.proofs.Blocks.{contracted-graph}
-use Rattle.graph_core.proofs.Quotients.{edge_of_pair, quotient_edge}
+use Rattle.graph_core.proofs.Blocks.{contracted-graph, contracted-order, contracted-size}
+use Rattle.graph_core.proofs.Quotients.{edge_of_pair, quotient-order, quotient_edge}
 use Rattle.graph_core.proofs.QuotientTight.{quotient_graph, tight_down, tight_up}
 use Rattle.graph_core.proofs.Walks.{has_ends-back, has_ends-cases}
 use Rattle.graph_core.specs.Covered.{IsCovered}
 use Rattle.graph_core.specs.Graph.{Graph, IsGraph, first_end, has_ends, second_end, size}
-use Rattle.graph_core.specs.Partitions.{AreBlocks, contracted, place}
+use Rattle.graph_core.specs.Partitions.{AreBlocks, contracted}
 use Rattle.graph_core.specs.Quotients.{quotient}
 use Rattle.graph_core.specs.Shores.{IsTightAt, IsUnion, blocks_in}
 use Rattle.graph_core.specs.Tight.{IsTight}
 
 module _ (g : Graph) (p : List (List ℕ)) (is : IsGraph g) (pp : AreBlocks g.order p) where
-  sizes : size (contracted g p) ≡ size g
-  unfolding contracted
-  sizes = length-map g.ends (λ (d : ℕ × ℕ). (place p d.0, place p d.1))
-
-  orders : (contracted g p).order ≡ length p
-  unfolding contracted
-  orders = refl
-
-  orders_q : (quotient g p).order ≡ length p
-  unfolding quotient
-  orders_q = refl
-
   -- a < b are joined in the quotient where they are in the contracted graph
   up : (a b : ℕ) → Within (length p) a → Within (length p) b → a < b → some (size (contracted g p)) (has_ends (contracted g p) a b) ≡ true → some (size (quotient g p)) (has_ends (quotient g p) a b) ≡ true
   up a b wa wb l h =
-      let s : some (size g) (has_ends (contracted g p) a b) ≡ true = ap (λ k. some k (has_ends (contracted g p) a b)) (sym sizes) ∙ h in
+      let s : some (size g) (has_ends (contracted g p) a b) ≡ true = ap (λ k. some k (has_ends (contracted g p) a b)) (sym (contracted-size g p)) ∙ h in
       let r = edge_of_pair g p a b wa wb l (and_from (not (a == b)) (some (size g) (has_ends (contracted g p) a b)) (ap not (ne_eqb a b (λ e. absurd (omega arith)))) s) in
       true_some (size (quotient g p)) (has_ends (quotient g p) a b) r.0 r.1 (has_ends-from (quotient g p) a b r.0 (inl (r.2, r.3)))
 
@@ -43,7 +30,7 @@ module _ (g : Graph) (p : List (List ℕ)) (is : IsGraph g) (pp : AreBlocks g.or
   down a b h =
       let r = some_true (size (quotient g p)) (has_ends (quotient g p) a b) h in
       let q = quotient_edge g p r.0 r.1 in
-      let s = ap (λ k. some k (has_ends (contracted g p) (first_end (quotient g p) r.0) (second_end (quotient g p) r.0))) sizes ∙ (and_parts (not (first_end (quotient g p) r.0 == second_end (quotient g p) r.0)) (some (size g) (has_ends (contracted g p) (first_end (quotient g p) r.0) (second_end (quotient g p) r.0))) q.3).1 in
+      let s = ap (λ k. some k (has_ends (contracted g p) (first_end (quotient g p) r.0) (second_end (quotient g p) r.0))) (contracted-size g p) ∙ (and_parts (not (first_end (quotient g p) r.0 == second_end (quotient g p) r.0)) (some (size g) (has_ends (contracted g p) (first_end (quotient g p) r.0) (second_end (quotient g p) r.0))) q.3).1 in
       let e = some_true (size (contracted g p)) (has_ends (contracted g p) (first_end (quotient g p) r.0) (second_end (quotient g p) r.0)) s in
       elim (has_ends-cases (quotient g p) a b r.0 r.2) [
         | inl k ↦ true_some (size (contracted g p)) (has_ends (contracted g p) a b) e.0 e.1 (ap (λ x. has_ends (contracted g p) x b e.0) (sym k.0) ∙ ap (λ y. has_ends (contracted g p) (first_end (quotient g p) r.0) y e.0) (sym k.1) ∙ e.2)
@@ -69,20 +56,20 @@ module _ (g : Graph) (p : List (List ℕ)) (is : IsGraph g) (pp : AreBlocks g.or
 
   alike_q : Alike (contracted g p) (quotient g p) (λ v. v)
   alike_q = record {
-    order = orders_q ∙ sym orders;
-    within = λ v w. subst (λ n. Within n v) (orders ∙ sym orders_q) w;
+    order = quotient-order g p ∙ sym (contracted-order g p);
+    within = λ v w. subst (λ n. Within n v) (contracted-order g p ∙ sym (quotient-order g p)) w;
     apart = λ u v wu wv e. e;
-    onto = λ w ww. (w, subst (λ n. Within n w) (orders_q ∙ sym orders) ww, refl);
-    edges = λ u v wu wv d. same_pairs u v (subst (λ n. Within n u) orders wu) (subst (λ n. Within n v) orders wv) d;
+    onto = λ w ww. (w, subst (λ n. Within n w) (quotient-order g p ∙ sym (contracted-order g p)) ww, refl);
+    edges = λ u v wu wv d. same_pairs u v (subst (λ n. Within n u) (contracted-order g p) wu) (subst (λ n. Within n v) (contracted-order g p) wv) d;
   }
 
   alike_c : Alike (quotient g p) (contracted g p) (λ v. v)
   alike_c = record {
-    order = orders ∙ sym orders_q;
-    within = λ v w. subst (λ n. Within n v) (orders_q ∙ sym orders) w;
+    order = contracted-order g p ∙ sym (quotient-order g p);
+    within = λ v w. subst (λ n. Within n v) (quotient-order g p ∙ sym (contracted-order g p)) w;
     apart = λ u v wu wv e. e;
-    onto = λ w ww. (w, subst (λ n. Within n w) (orders ∙ sym orders_q) ww, refl);
-    edges = λ u v wu wv d. sym (same_pairs u v (subst (λ n. Within n u) orders_q wu) (subst (λ n. Within n v) orders_q wv) d);
+    onto = λ w ww. (w, subst (λ n. Within n w) (contracted-order g p ∙ sym (quotient-order g p)) ww, refl);
+    edges = λ u v wu wv d. sym (same_pairs u v (subst (λ n. Within n u) (quotient-order g p) wu) (subst (λ n. Within n v) (quotient-order g p) wv) d);
   }
 
   pub covered_up : IsCovered (contracted g p) → IsCovered (quotient g p)

@@ -6,14 +6,13 @@ use Rattle.counting.proofs.Pairs.{HasPair, rows_only}
 use Rattle.counting.specs.Lists.{rising_list, rising_pairs}
 use Rattle.counting.specs.Sets.{everything}
 use Rattle.counting.specs.Tests.{some}
-use Rattle.graph_core.proofs.Blocks.{contracted-graph}
+use Rattle.graph_core.proofs.Blocks.{contracted-graph, contracted-size}
 use Rattle.graph_core.proofs.View.{size-graph_of}
 use Rattle.graph_core.specs.Graph.{Graph, IsGraph, has_ends, size}
-use Rattle.graph_core.specs.Partitions.{AreBlocks, contracted, place}
+use Rattle.graph_core.specs.Partitions.{AreBlocks, contracted}
 use Rattle.graph_core.specs.Quotients.{blocks_adjacent, edges_between, quotient}
 use Rattle.graph_core.specs.View.{IsWithinLimits, graph_of, pair_of}
 use Rattle.graph_core.specs.declared.ends.Ends.{Ends}
-use Rattle.std.proofs.lemmas.List.{length-map}
 use Rattle.contraction.proofs.JoinedPairs.{joined-limits, joined-once}
 use Rattle.contraction.specs.Contracted.{ContractedValue, contraction}
 use Rattle.contraction.specs.Pairs.{EachOnce, joined_pairs}
@@ -22,10 +21,6 @@ use Rattle.contraction.specs.Pairs.{EachOnce, joined_pairs}
 filter-pairs : (t u : ℕ → ℕ → Bool) (ks : List (ℕ × ℕ)) → ((a b : ℕ) → HasPair ks a b → t a b ≡ u a b) → filter (λ k. t k.0 k.1) ks ≡ filter (λ k. u k.0 k.1) ks
 filter-pairs t u [] h = refl
 filter-pairs t u (k ∷ ks) h = ap₂ (λ b q. cond b (k ∷ q) q) (h k.0 k.1 (inl (refl, refl))) (filter-pairs t u ks (λ a b m. h a b (inr m)))
-
-size-contracted : (g : Graph) (p : List (List ℕ)) → size (contracted g p) ≡ size g
-unfolding contracted
-size-contracted g p = length-map g.ends (λ (e : ℕ × ℕ). (place p e.0, place p e.1))
 
 -- the pairs of places that edges join are the edges of the quotient
 pub joined-quotient : (g : Graph) (p : List (List ℕ)) → record { order = length p; ends = joined_pairs (contracted g p) } ≡ quotient g p
@@ -38,7 +33,7 @@ joined-quotient g p = ap (λ (ks : List (ℕ × ℕ)). record { order = length p
     differ a b h = grind (arith, nat_tests, h)
 
     same : (a b : ℕ) → nat_lt a b ≡ true → some (size (contracted g p)) (has_ends (contracted g p) a b) ≡ blocks_adjacent g p a b
-    same a b l = ap (λ k. some k (has_ends (contracted g p) a b)) (size-contracted g p) ∙ ap (λ t. not t && some (size g) (has_ends (contracted g p) a b)) (sym (differ a b l))
+    same a b l = ap (λ k. some k (has_ends (contracted g p) a b)) (contracted-size g p) ∙ ap (λ t. not t && some (size g) (has_ends (contracted g p) a b)) (sym (differ a b l))
 
 module _ (g : Graph) (p : List (List ℕ)) (n : ℕ) (ends : List Ends) (is : n ≡ length p) (at : graph_of (length p) ends ≡ contracted g p) where
   here : graph_of n ends ≡ contracted g p
@@ -48,11 +43,11 @@ module _ (g : Graph) (p : List (List ℕ)) (n : ℕ) (ends : List Ends) (is : n 
   ends-graph graph blocks = subst IsGraph (sym here) (contracted-graph g p graph blocks)
 
   pub length-ends : length ends ≡ size g
-  length-ends = sym (size-graph_of n ends) ∙ ap size here ∙ size-contracted g p
+  length-ends = sym (size-graph_of n ends) ∙ ap size here ∙ contracted-size g p
 
   module _ (pairs : List Ends) (joined : map pair_of pairs ≡ joined_pairs (graph_of n ends)) where
     pub pairs-limits : n ≤ 128 → size g ≤ 2048 → IsWithinLimits (graph_of n pairs)
-    pairs-limits few edges = subst (λ (ks : List (ℕ × ℕ)). IsWithinLimits (record { order = n; ends = ks })) (sym joined) (joined-limits (graph_of n ends) few (let s = ap size here in let t = size-contracted g p in omega arith))
+    pairs-limits few edges = subst (λ (ks : List (ℕ × ℕ)). IsWithinLimits (record { order = n; ends = ks })) (sym joined) (joined-limits (graph_of n ends) few (let s = ap size here in let t = contracted-size g p in omega arith))
 
     pub pairs-once : EachOnce (map pair_of pairs)
     pairs-once = subst EachOnce (sym joined) (joined-once (graph_of n ends))

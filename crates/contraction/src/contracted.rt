@@ -1,10 +1,10 @@
 //! The quotient of a graph at a partition, with remembered edges.
-ghost use Rattle.std.specs.Prelude.{◌≡◌, ◌≢◌, slice_index_or, ◌<◌, ◌≤◌, ◌+◌, ◌&&◌, ◌||◌, ◌++◌, ℕ, List, [], All, length, map, nat_lt, flat_map, IfOk, OnOk};
+ghost use Rattle.std.specs.Prelude.{◌≡◌, slice_index_or, ◌<◌, ◌≤◌, ◌+◌, ◌&&◌, ◌||◌, ◌++◌, ℕ, List, [], All, length, map, nat_lt, flat_map, IfOk, OnOk};
 ghost use Rattle.std.specs.List.{list_any};
 ghost use Rattle.counting.specs.Counts.{Within};
 ghost use Rattle.counting.specs.Lists.{mem, item, pair_with, rising_list, IsRisingIn};
 ghost use Rattle.counting.specs.Sets.{everything};
-ghost use Rattle.graph_core.specs.Graph.{Graph, IsGraph, has_ends, size, with_edge};
+ghost use Rattle.graph_core.specs.Graph.{Graph, IsGraph, has_ends, size};
 ghost use Rattle.graph_core.specs.Partitions.{block, contracted};
 ghost use Rattle.indexmap.specs.IndexMap.{keys};
 ghost use Rattle.contraction.specs.Contracted.{KeepsContraction, contraction};
@@ -15,7 +15,7 @@ ghost use Rattle.counting.specs.Tests.{some};
 ghost use Rattle.graph_core.specs.View.{graph_of, pair_of, are_ends, IsWithinLimits};
 
 use crate::Partition;
-use graph_core::{AddFault, Ends, MOST_EDGES, MultiGraph};
+use graph_core::{Ends, MOST_EDGES, MultiGraph};
 use indexmap::IndexMap;
 use std::alloc::{AllocError as Memory, Global};
 use std::marker::Model;
@@ -236,23 +236,6 @@ fn pairs_joined(alloc: Global, n: u32, ends: &[Ends]) -> Result<Vec<Ends>, Memor
     row_pairs(alloc, &rows)
 }
 
-// Appends an edge that the graph has room for.
-fn add_pair(graph: &mut MultiGraph, a: u32, b: u32) -> Result<(), Memory>
-    requires first { Within graph.old.order a }
-    requires second { Within graph.old.order b }
-    requires differ { a ≢ b }
-    requires room { size graph.old < MOST_EDGES }
-    ensures { OnOk result (graph.new ≡ with_edge graph.old a b) }
-{
-    match graph.add_edge(a, b) {
-        Ok(_) => Ok(()),
-        Err(AddFault::Memory) => Err(Memory),
-        Err(AddFault::Range) => unreachable!(),
-        Err(AddFault::Loop) => unreachable!(),
-        Err(AddFault::TooMany) => unreachable!(),
-    }
-}
-
 // The graph with these edges.
 fn graph_with(alloc: Global, n: u32, pairs: &[Ends]) -> Result<MultiGraph, Memory>
     requires { IsWithinLimits (graph_of n pairs.now) }
@@ -260,7 +243,7 @@ fn graph_with(alloc: Global, n: u32, pairs: &[Ends]) -> Result<MultiGraph, Memor
 {
     let mut graph = MultiGraph::new(alloc, n)?;
     for pair in pairs {
-        add_pair(&mut graph, pair.a, pair.b)?;
+        graph.push_edge(*pair)?;
     }
     Ok(graph)
 }

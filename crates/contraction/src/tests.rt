@@ -7,46 +7,7 @@ use match_core::perfect_with;
 use std::alloc::Global;
 use std::test::Fail;
 use vset_core::{MOST_VERTICES, VSet};
-
-// K3,3 with a triangle in place of one vertex.
-const TRIANGLE_IN_K33: [(u32, u32); 12] = [
-    (1, 2),
-    (1, 3),
-    (2, 3),
-    (1, 4),
-    (2, 5),
-    (3, 6),
-    (7, 4),
-    (7, 5),
-    (7, 6),
-    (8, 4),
-    (8, 5),
-    (8, 6),
-];
-
-const CYCLE_OF_8: [(u32, u32); 8] = [
-    (1, 2),
-    (2, 3),
-    (3, 4),
-    (4, 5),
-    (5, 6),
-    (6, 7),
-    (7, 8),
-    (8, 1),
-];
-
-// A square with one edge doubled.
-const DOUBLED_SQUARE: [(u32, u32); 5] = [(1, 2), (1, 2), (2, 3), (3, 4), (4, 1)];
-
-fn made(alloc: Global, order: u32, edges: &[(u32, u32)]) -> Result<MultiGraph, Fail>
-    requires { order ≤ MOST_VERTICES }
-{
-    let mut graph = MultiGraph::new(alloc, order)?;
-    for (a, b) in edges {
-        graph.add_edge(*a, *b)?;
-    }
-    Ok(graph)
-}
+use worked_graphs::{CYCLE_OF_8, DOUBLED_SQUARE, TRIANGLE_IN_K33, graph_with};
 
 fn set_of(numbers: &[u32]) -> VSet {
     let mut set = VSet::empty();
@@ -170,7 +131,7 @@ fn quotients_with_remembered_edges(rt: HostRuntime) -> Result<(), Fail> {
     ];
     for (order, edges, shore, wanted) in cases {
         assert!(rt; order <= MOST_VERTICES);
-        let graph = made(rt.alloc(), order, edges)?;
+        let graph = graph_with(rt.alloc(), order, edges)?;
         let q = contracted(rt.alloc(), &graph, shore)?;
         assert_eq!(rt; q.graph().size() as usize, wanted.len());
         for (k, (a, b, least, greatest)) in wanted.iter().enumerate() {
@@ -187,7 +148,7 @@ fn quotients_with_remembered_edges(rt: HostRuntime) -> Result<(), Fail> {
 
 #[test]
 fn places_lifted_to_vertices(rt: HostRuntime) -> Result<(), Fail> {
-    let graph = made(rt.alloc(), 8, &TRIANGLE_IN_K33)?;
+    let graph = graph_with(rt.alloc(), 8, &TRIANGLE_IN_K33)?;
     let q = contracted(rt.alloc(), &graph, set_of(&[4, 5, 6, 7, 8]))?;
     assert!(rt; q.lift_set(set_of(&[2, 4])) == set_of(&[2, 4, 5, 6, 7, 8]));
     assert!(rt; q.lift_set(VSet::empty()) == VSet::empty());
@@ -229,7 +190,7 @@ fn matchings_lifted_by_least_edges(rt: HostRuntime) -> Result<(), Fail> {
     ];
     for (order, edges, shore, held, lifted) in cases {
         assert!(rt; order <= MOST_VERTICES);
-        let graph = made(rt.alloc(), order, edges)?;
+        let graph = graph_with(rt.alloc(), order, edges)?;
         let q = contracted(rt.alloc(), &graph, shore)?;
         assert!(rt; 1 <= held && held <= q.graph().size());
         let mut edges = Numbers::new(rt.alloc());

@@ -1,7 +1,7 @@
 -- A test of sets that goes by 1 to n alone is passed by some set or by none, and the search over all sets finds out.
 -- By induction on n: the sets with n and those without.
 use Rattle.std.proofs.Common.{◌≡◌, ℕ, suc, zero, ◌+◌, ◌≢◌, Bool, true, false, ◌==◌, refl, sym, ap, ◌∙◌, arith, ◌||◌, not, eq-eqb, ne_eqb, ◌⊎◌, inl, inr, ◌*◌}
-use Rattle.std.proofs.lemmas.Bool.{cases_eq, cases_Bool, or_cases, or_parts, both_ways}
+use Rattle.std.proofs.lemmas.Bool.{cases_eq, cases_Bool, or_cases, or_parts, both_ways, not-true, not-false}
 use Rattle.counting.proofs.Totals.{total_add, total_at, total_congr}
 use Rattle.counting.specs.Counts.{Within, bit, count, total}
 use Rattle.counting.specs.Sets.{Set, none, put}
@@ -82,22 +82,16 @@ set_found n p r m h = elim (cases_Bool (some_set n p)) [
   | inr f ↦ absurd (both_ways (p m) (some_set_none n p r f m) h)
 ]
 
-pub not_true : (b : Bool) → not b ≡ true → b ≡ false
-not_true b h = grind arith
-
-pub not_false : (b : Bool) → not b ≡ false → b ≡ true
-not_false b h = grind arith
-
 pub negated : (n : ℕ) (p : Set → Bool) → Respects n p → Respects n (λ m. not (p m))
 negated n p r = record { same = λ m k h. ap not (r.same m k h) }
 
 -- each set passes where the test says so
 pub each_passes : (n : ℕ) (p : Set → Bool) → Respects n p → each_set n p ≡ true → (m : Set) → p m ≡ true
-each_passes n p r h m = not_false (p m) (some_set_none n (λ k. not (p k)) (negated n p r) (not_true (some_set n (λ k. not (p k))) h) m)
+each_passes n p r h m = not-false (p m) (some_set_none n (λ k. not (p k)) (negated n p r) (not-true (some_set n (λ k. not (p k))) h) m)
 
 pub none_fails : (n : ℕ) (p : Set → Bool) → ((m : Set) → p m ≡ true) → each_set n p ≡ true
 none_fails n p h = elim (cases_Bool (some_set n (λ k. not (p k)))) [
-  | inl t ↦ let q = some_set_found n (λ k. not (p k)) t in absurd (both_ways (p q.0) (not_true (p q.0) q.1) (h q.0))
+  | inl t ↦ let q = some_set_found n (λ k. not (p k)) t in absurd (both_ways (p q.0) (not-true (p q.0) q.1) (h q.0))
   | inr f ↦ ap not f
 ]
 

@@ -1,8 +1,10 @@
 pub mod Choice
 pub mod Counts
 pub mod Lists
+pub mod Members
 pub mod Odd
 pub mod Pairs
+pub mod Ranks
 pub mod RisingLists
 pub mod SetSizes
 pub mod Tests

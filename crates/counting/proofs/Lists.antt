@@ -3,11 +3,11 @@
 use Rattle.std.proofs.Common.{◌≡◌, ℕ, ◌+◌, ◌≤◌, ◌<◌, Bool, true, false, ◌==◌, ◌||◌, ◌&&◌, List, [], ◌∷◌, length, refl, sym, ap, ap₂, ◌∙◌, arith, ◌⊎◌, inl, inr, eq-eqb, ne_eqb, cond, subst, true≢false, suc, zero, ◌*◌, ◌++◌, eqb-true, sum_by, filter}
 use Rattle.std.specs.Prelude.{slice_index, slice_index_or, All}
 use Rattle.std.specs.List.Sorted.{IsStrictlyIncreasing}
-use Rattle.std.proofs.lemmas.Bool.{cases_eq, cases_order, both_ways, cases_lt, or_cases}
+use Rattle.std.proofs.lemmas.Bool.{cases_eq, cases_order, both_ways, cases_lt, or_cases, or_right, or_left, cases_Bool}
 use Rattle.std.proofs.lemmas.List.Sums.{sum_by-cons}
 use Rattle.counting.proofs.Totals.{total_add, total_at, total_congr, total_none, total_zero}
 use Rattle.counting.specs.Counts.{Within, bit, count, total}
-use Rattle.counting.specs.Lists.{IsRisingIn, mem, rising_list}
+use Rattle.counting.specs.Lists.{IsRisingIn, mem, rising_list, times}
 use Rattle.counting.specs.Sets.{Set}
 
 -- rising numbers from low to n
@@ -121,22 +121,16 @@ mem-append (x ∷ xs) ys v = ap (λ b. (x == v) || b) (mem-append xs ys v) ∙ p
     parted true b c = refl
     parted false b c = refl
 
-pub or_front : (a b : Bool) → a ≡ true → (a || b) ≡ true
-or_front a b h = grind arith
-
-pub or_back : (a b : Bool) → b ≡ true → (a || b) ≡ true
-or_back a b h = grind arith
-
 -- a rising list holds what passes, and nothing else
 pub rising_holds : (n : ℕ) (x : Set) (v : ℕ) → Within n v → x v ≡ true → mem (rising_list n x) v ≡ true
 rising_holds zero x v w h = absurd (omega arith)
 rising_holds (suc n) x v w h = mem-append (rising_list n x) (cond (x (suc n)) (suc n ∷ []) []) v ∙ elim (cases_lt v (suc n)) [
-  | inl l ↦ or_front (mem (rising_list n x) v) (mem (cond (x (suc n)) (suc n ∷ []) []) v) (rising_holds n x v (omega arith) h)
-  | inr g ↦ let e : v ≡ suc n = omega arith in or_back (mem (rising_list n x) v) (mem (cond (x (suc n)) (suc n ∷ []) []) v) (last (x (suc n)) (ap x (sym e) ∙ h) e)
+  | inl l ↦ or_left (mem (rising_list n x) v) (mem (cond (x (suc n)) (suc n ∷ []) []) v) (rising_holds n x v (omega arith) h)
+  | inr g ↦ let e : v ≡ suc n = omega arith in or_right (mem (rising_list n x) v) (mem (cond (x (suc n)) (suc n ∷ []) []) v) (last (x (suc n)) (ap x (sym e) ∙ h) e)
 ]
   where
     last : (t : Bool) → t ≡ true → v ≡ suc n → mem (cond t (suc n ∷ []) []) v ≡ true
-    last true h e = or_front (suc n == v) false (eq-eqb (suc n) v (sym e))
+    last true h e = or_left (suc n == v) false (eq-eqb (suc n) v (sym e))
     last false h e = h
 
 pub rising_only : (n : ℕ) (x : Set) (v : ℕ) → mem (rising_list n x) v ≡ true → Within n v × (x v ≡ true)
@@ -191,3 +185,16 @@ mem-within n xs r v h = within 1 n xs (omega arith) (rises-from_set n xs r) v h
 pub member-of_set : (n : ℕ) (xs : List ℕ) → IsRisingIn n xs → 0 < length xs → (v : ℕ) × Within n v × (mem xs v ≡ true)
 member-of_set n [] r h = absurd (omega arith)
 member-of_set n (x ∷ xs) r h = let own : mem (x ∷ xs) x ≡ true = rw (eq-eqb x x refl) refl in (x, mem-within n (x ∷ xs) r x own, own)
+
+-- a list with a member is not empty
+pub some-member : (xs : List ℕ) (v : ℕ) → mem xs v ≡ true → 0 < length xs
+some-member [] v h = absurd (both_ways false refl h)
+some-member (x ∷ xs) v h = omega arith
+
+-- a number that is counted in a list is in it
+pub times_mem : (xs : List ℕ) (v : ℕ) → 1 ≤ times xs v → mem xs v ≡ true
+times_mem [] v h = absurd (omega arith)
+times_mem (x ∷ xs) v h = elim (cases_Bool (x == v)) [
+  | inl a ↦ or_left (x == v) (mem xs v) a
+  | inr a ↦ or_right (x == v) (mem xs v) (times_mem xs v (let b = ap bit a in omega arith))
+]

@@ -1,6 +1,6 @@
 -- The parity of sums and doubles, and of the two sides of a set of numbers 1 to n.
 -- By induction on the number, with the truth table of "one of the two is odd".
-use Rattle.std.proofs.Common.{◌≡◌, ℕ, suc, zero, ◌+◌, ◌≤◌, ◌<◌, ◌/◌, ◌%◌, ◌==◌, Bool, true, false, refl, sym, ap, ap₂, ◌∙◌, arith, not, cond, zero-add, suc-add, eq-eqb, ne_eqb}
+use Rattle.std.proofs.Common.{◌≡◌, ℕ, suc, zero, ◌+◌, ◌≤◌, ◌<◌, ◌/◌, ◌%◌, ◌==◌, Bool, true, false, refl, sym, ap, ap₂, ◌∙◌, arith, not, cond, zero-add, suc-add}
 use Rattle.std.proofs.lemmas.Bool.{true≢false}
 use Rattle.counting.proofs.Counts.{count_complement}
 use Rattle.counting.specs.Counts.{Within, total, count, is_odd}
@@ -62,3 +62,10 @@ half (suc (suc j)) o = let h = half j (sym (not_not (is_odd j)) ∙ o) in (suc h
 -- the same, read from right to left
 pub odd_remainder : (i : ℕ) → (i % 2 == 1) ≡ is_odd i
 odd_remainder i = sym (is_odd_remainder i)
+
+-- an odd number that is at least 2 is at least 3
+pub odd_three : (k : ℕ) → is_odd k ≡ true → 2 ≤ k → 3 ≤ k
+odd_three zero o h = absurd (omega arith)
+odd_three (suc zero) o h = absurd (omega arith)
+odd_three (suc (suc zero)) o h = absurd (true≢false (sym o))
+odd_three (suc (suc (suc k))) o h = omega arith

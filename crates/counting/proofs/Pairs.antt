@@ -1,8 +1,8 @@
 -- The list of pairs in lexicographic order holds each pair a < b once, and a filter keeps those that pass.
 -- By induction on the first number, row by row.
 use Rattle.std.proofs.Common.{◌≡◌, ℕ, suc, zero, ◌<◌, Bool, true, false, cond, ◌==◌, List, [], ◌∷◌, ◌++◌, length, map, refl, sym, ap, ap₂, ◌∙◌, arith, ◌⊎◌, inl, inr, subst, eq-eqb, eqb-true, get_or, filter, nat_lt, flat_map}
-use Rattle.std.proofs.lemmas.Bool.{both_ways, or_cases}
-use Rattle.counting.proofs.Lists.{or_back, or_front, rising_holds, rising_only}
+use Rattle.std.proofs.lemmas.Bool.{both_ways, or_cases, or_right, or_left}
+use Rattle.counting.proofs.Lists.{rising_holds, rising_only}
 use Rattle.counting.specs.Counts.{Within}
 use Rattle.counting.specs.Lists.{mem, pair_with, rising_list}
 
@@ -17,10 +17,10 @@ pair_map : (a : ℕ) (xs : List ℕ) (j : ℕ) → mem xs j ≡ true → HasPair
 pair_map a [] j h = absurd (both_ways false refl h)
 pair_map a (x ∷ xs) j h = elim (or_cases (x == j) (mem xs j) h) [ inl s ↦ inl (refl, eqb-true x j s) | inr s ↦ inr (pair_map a xs j s) ]
 
-map_pair : (a : ℕ) (xs : List ℕ) (i j : ℕ) → HasPair (map (pair_with a) xs) i j → (a ≡ i) × (mem xs j ≡ true)
+pub map_pair : (a : ℕ) (xs : List ℕ) (i j : ℕ) → HasPair (map (pair_with a) xs) i j → (a ≡ i) × (mem xs j ≡ true)
 map_pair a [] i j h = absurd h
-map_pair a (x ∷ xs) i j (inl h) = (h.0, or_front (x == j) (mem xs j) (eq-eqb x j h.1))
-map_pair a (x ∷ xs) i j (inr h) = let r = map_pair a xs i j h in (r.0, or_back (x == j) (mem xs j) r.1)
+map_pair a (x ∷ xs) i j (inl h) = (h.0, or_left (x == j) (mem xs j) (eq-eqb x j h.1))
+map_pair a (x ∷ xs) i j (inr h) = let r = map_pair a xs i j h in (r.0, or_right (x == j) (mem xs j) r.1)
 
 pair_front : (ks ls : List (ℕ × ℕ)) (i j : ℕ) → HasPair ks i j → HasPair (ks ++ ls) i j
 pair_front [] ls i j h = absurd h
@@ -31,7 +31,7 @@ pair_back : (ks ls : List (ℕ × ℕ)) (i j : ℕ) → HasPair ls i j → HasPa
 pair_back [] ls i j h = h
 pair_back (k ∷ ks) ls i j h = inr (pair_back ks ls i j h)
 
-append_pair : (ks ls : List (ℕ × ℕ)) (i j : ℕ) → HasPair (ks ++ ls) i j → HasPair ks i j ⊎ HasPair ls i j
+pub append_pair : (ks ls : List (ℕ × ℕ)) (i j : ℕ) → HasPair (ks ++ ls) i j → HasPair ks i j ⊎ HasPair ls i j
 append_pair [] ls i j h = inr h
 append_pair (k ∷ ks) ls i j (inl h) = inl (inl h)
 append_pair (k ∷ ks) ls i j (inr h) = elim (append_pair ks ls i j h) [ inl a ↦ inl (inr a) | inr b ↦ inr b ]
@@ -50,8 +50,8 @@ rows_hold n i j (x ∷ xs) h w l = elim (or_cases (x == i) (mem xs i) h) [
 pub rows_only : (n i j : ℕ) (xs : List ℕ) → HasPair (flat_map (row n) xs) i j → (mem xs i ≡ true) × Within n j × (nat_lt i j ≡ true)
 rows_only n i j [] h = absurd h
 rows_only n i j (x ∷ xs) h = elim (append_pair (row n x) (flat_map (row n) xs) i j h) [
-  | inl a ↦ let r = map_pair x (rising_list n (nat_lt x)) i j a in let q = rising_only n (nat_lt x) j r.1 in (or_front (x == i) (mem xs i) (eq-eqb x i r.0), q.0, ap (λ k. nat_lt k j) (sym r.0) ∙ q.1)
-  | inr b ↦ let r = rows_only n i j xs b in (or_back (x == i) (mem xs i) r.0, r.1, r.2)
+  | inl a ↦ let r = map_pair x (rising_list n (nat_lt x)) i j a in let q = rising_only n (nat_lt x) j r.1 in (or_left (x == i) (mem xs i) (eq-eqb x i r.0), q.0, ap (λ k. nat_lt k j) (sym r.0) ∙ q.1)
+  | inr b ↦ let r = rows_only n i j xs b in (or_right (x == i) (mem xs i) r.0, r.1, r.2)
 ]
 
 pub filter_pair : (t : ℕ → ℕ → Bool) (ks : List (ℕ × ℕ)) (i j : ℕ) → HasPair ks i j → t i j ≡ true → HasPair (filter (λ k. t k.0 k.1) ks) i j

@@ -1,9 +1,9 @@
 -- "Some" and "each" of 1 to n as tests that compute, against the statements; the least number that passes.
 -- By induction on n.
 use Rattle.std.proofs.Common.{◌≡◌, ℕ, suc, zero, Bool, true, false, cond, refl, sym, ap, ap₂, ◌∙◌, arith, ◌&&◌, ◌||◌, ◌⊎◌, inl, inr, subst, ◌<◌}
-use Rattle.std.proofs.lemmas.Bool.{cases_eq, cases_Bool, or_cases, and_parts, and_from, both_ways, or_left, or_right, true≢false, false_from_ne_true}
+use Rattle.std.proofs.lemmas.Bool.{cases_eq, cases_Bool, or_cases, and_parts, and_from, both_ways, or_left, or_right, true≢false, false_from_ne_true, cases_order}
 use Rattle.counting.specs.Counts.{Within}
-use Rattle.counting.specs.Tests.{every, some}
+use Rattle.counting.specs.Tests.{IsLeastWithout, every, some}
 
 pub every_true : (n : ℕ) (p : ℕ → Bool) → every n p ≡ true → (v : ℕ) → Within n v → p v ≡ true
 every_true zero p h v w = absurd (omega arith)
@@ -86,3 +86,24 @@ pub least_of_congr : (n : ℕ) (p q : ℕ → Bool) → ((v : ℕ) → Within n 
 unfolding least_of
 least_of_congr zero p q h = refl
 least_of_congr (suc n) p q h = ap₂ (λ b k. cond b k (suc n)) (some_congr n p q (λ v w. h v (omega arith))) (least_of_congr n p q (λ v w. h v (omega arith)))
+
+-- some in one of two sets
+pub some_or : (n : ℕ) (p q : ℕ → Bool) → some n (λ v. p v || q v) ≡ (some n p || some n q)
+some_or zero p q = refl
+some_or (suc n) p q = ap (λ k. k || (p (suc n) || q (suc n))) (some_or n p q) ∙ turn (some n p) (some n q) (p (suc n)) (q (suc n))
+  where
+    turn : (a b c d : Bool) → ((a || b) || (c || d)) ≡ ((a || c) || (b || d))
+    turn true b c d = refl
+    turn false true true d = refl
+    turn false true false d = refl
+    turn false false c d = refl
+
+-- two least numbers without a property are one
+pub least-one : (n : ℕ) (P : ℕ → Type 0) (d e : ℕ) → IsLeastWithout n P d → IsLeastWithout n P e → d ≡ e
+least-one n P d e a b = elim (cases_order d e) [
+  | inl q ↦ q
+  | inr q ↦ elim q [
+    | inl l ↦ absurd (a.without (b.before d a.within l))
+    | inr l ↦ absurd (b.without (a.before e b.within l))
+  ]
+]

@@ -60,3 +60,24 @@ some_term (suc n) f h = elim (cases_eq (f (suc n)) 0) [
   | inl e ↦ let r = some_term n f (omega arith) in (r.0, omega arith, r.2)
   | inr e ↦ (suc n, omega arith, omega arith)
 ]
+
+-- where each term is at least the other sum's, and the sum is not more, the terms are equal
+pub total_tight : (n : ℕ) (f g : ℕ → ℕ) → ((v : ℕ) → Within n v → g v ≤ f v) → total n f ≤ total n g → (v : ℕ) → Within n v → f v ≡ g v
+total_tight zero f g h l v w = absurd (omega arith)
+total_tight (suc n) f g h l v w =
+    let a = total_le n g f (λ v w. h v (omega arith)) in
+    let b = h (suc n) (omega arith) in
+    elim (cases_eq v (suc n)) [
+      | inl e ↦ omega (arith, a, b, ap f e, ap g e)
+      | inr e ↦ total_tight n f g (λ v w. h v (omega arith)) (omega arith) v (omega arith)
+    ]
+
+-- a sum begins with its first term
+pub total-first : (n : ℕ) (f : ℕ → ℕ) → total (suc n) f ≡ f 1 + total n (λ i. f (i + 1))
+total-first zero f = omega arith
+total-first (suc n) f = let h = total-first n f in let e = ap f (let q : suc (suc n) ≡ suc n + 1 = omega arith in q) in omega (arith, h, e)
+
+-- a sum of ones
+pub total_ones : (p : ℕ) → total p (λ j. 1) ≡ p
+total_ones zero = refl
+total_ones (suc p) = omega (arith, total_ones p)

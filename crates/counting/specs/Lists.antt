@@ -1,13 +1,18 @@
 -- Sets as rising lists of numbers, and lists of pairs in lexicographic order.
-use Rattle.std.specs.Prelude.{◌≡◌, ℕ, zero, suc, ◌-◌, ◌<◌, Bool, true, false, List, [], ◌∷◌, ◌++◌, ◌==◌, ◌&&◌, ◌||◌, cond, map, flat_map, slice_index_or, nat_lt, All}
+use Rattle.std.specs.Prelude.{◌≡◌, ℕ, zero, suc, ◌+◌, ◌-◌, ◌<◌, Bool, true, false, List, [], ◌∷◌, ◌++◌, ◌==◌, ◌&&◌, ◌||◌, cond, map, flat_map, slice_index_or, nat_lt, All}
 use Rattle.std.specs.List.Sorted.{IsStrictlyIncreasing}
-use Rattle.counting.specs.Counts.{Within}
+use Rattle.counting.specs.Counts.{Within, bit}
 use Rattle.counting.specs.Sets.{Set, minus, everything}
 
 -- v is in the list
 abbrev pub mem : List ℕ → Set
 mem [] v = false
 mem (x ∷ xs) v = (x == v) || mem xs v
+
+-- how often v stands in the list
+abbrev pub times : List ℕ → ℕ → ℕ
+times [] v = 0
+times (x ∷ xs) v = bit (x == v) + times xs v
 
 -- all numbers of the list are in x
 abbrev pub all_in : List ℕ → Set → Bool

@@ -11,25 +11,7 @@ use tight_cuts::Candidate;
 use tree_core::laws::derivation_stands;
 use tree_core::{Moves, Tree, apply, fits};
 use uncross::{compare, expose};
-
-const EIGHT_CYCLE: [(u32, u32); 8] = [
-    (1, 2),
-    (2, 3),
-    (3, 4),
-    (4, 5),
-    (5, 6),
-    (6, 7),
-    (7, 8),
-    (8, 1),
-];
-
-fn eight_cycle(alloc: Global) -> Result<MultiGraph, Fail> {
-    let mut graph = MultiGraph::new(alloc, 8)?;
-    for (a, b) in &EIGHT_CYCLE {
-        graph.add_edge(*a, *b)?;
-    }
-    Ok(graph)
-}
+use worked_graphs::{CYCLE_OF_8, graph_with};
 
 // The place of the first candidate.
 fn first_of(_list: &[Candidate], _cuts: usize) -> usize
@@ -98,7 +80,7 @@ fn replayed(tree: Tree, n: u32, moves: &Moves) -> Tree {
 
 #[test]
 fn derivations_of_the_cycle_of_eight(rt: HostRuntime) -> Result<(), Fail> {
-    let g = eight_cycle(rt.alloc())?;
+    let g = graph_with(rt.alloc(), 8, &CYCLE_OF_8)?;
     let Some(first) = derived(rt.alloc(), &g, false)? else {
         assert!(rt; false);
         return Ok(());
@@ -141,7 +123,7 @@ fn root_exposed(
 
 #[test]
 fn a_shore_of_the_cycle_of_eight_exposed(rt: HostRuntime) -> Result<(), Fail> {
-    let g = eight_cycle(rt.alloc())?;
+    let g = graph_with(rt.alloc(), 8, &CYCLE_OF_8)?;
     let Some(first) = derived(rt.alloc(), &g, false)? else {
         assert!(rt; false);
         return Ok(());

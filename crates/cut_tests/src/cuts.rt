@@ -1,5 +1,5 @@
 //! Worked cuts, and all odd sets of small graphs against the plain program.
-ghost use Rattle.std.specs.Prelude.{◌≡◌, ◌≤◌, length, true};
+ghost use Rattle.std.specs.Prelude.{◌≡◌, length, true};
 ghost use Rattle.counting.specs.Counts.{is_odd};
 ghost use Rattle.counting.specs.Lists.{IsRisingIn};
 
@@ -10,96 +10,11 @@ use std::alloc::Global;
 use std::test::Fail;
 use tight_cuts::{CandidateList, Origin, Tightness, candidates, find_any, is_tight};
 use vset_core::{MOST_VERTICES, VSet};
-
-const TRIANGLE_IN_K33: [(u32, u32); 12] = [
-    (1, 2),
-    (1, 3),
-    (2, 3),
-    (1, 4),
-    (2, 5),
-    (3, 6),
-    (7, 4),
-    (7, 5),
-    (7, 6),
-    (8, 4),
-    (8, 5),
-    (8, 6),
-];
-
-const PRISM: [(u32, u32); 9] = [
-    (1, 2),
-    (1, 3),
-    (2, 3),
-    (4, 5),
-    (4, 6),
-    (5, 6),
-    (1, 4),
-    (2, 5),
-    (3, 6),
-];
-
-const PETERSEN: [(u32, u32); 15] = [
-    (1, 2),
-    (2, 3),
-    (3, 4),
-    (4, 5),
-    (1, 5),
-    (1, 6),
-    (2, 7),
-    (3, 8),
-    (4, 9),
-    (5, 10),
-    (6, 8),
-    (8, 10),
-    (7, 10),
-    (7, 9),
-    (6, 9),
-];
-
-const K4: [(u32, u32); 6] = [(1, 2), (1, 3), (1, 4), (2, 3), (2, 4), (3, 4)];
+use worked_graphs::{
+    CYCLE_OF_8, DOUBLED_SQUARE, HEXAGON, K4, PETERSEN, PRISM, TRIANGLE_IN_K33, TWO_K4, graph_with,
+};
 
 const TWO_PARALLEL: [(u32, u32); 2] = [(1, 2), (1, 2)];
-
-const HEXAGON: [(u32, u32); 6] = [(1, 2), (2, 3), (3, 4), (4, 5), (5, 6), (6, 1)];
-
-// A square with one edge doubled.
-const DOUBLED_SQUARE: [(u32, u32); 5] = [(1, 2), (1, 2), (2, 3), (3, 4), (4, 1)];
-
-const CYCLE_OF_8: [(u32, u32); 8] = [
-    (1, 2),
-    (2, 3),
-    (3, 4),
-    (4, 5),
-    (5, 6),
-    (6, 7),
-    (7, 8),
-    (8, 1),
-];
-
-// Two K4 that share the edge 1-2.
-const TWO_K4: [(u32, u32); 11] = [
-    (1, 2),
-    (1, 3),
-    (1, 4),
-    (2, 3),
-    (2, 4),
-    (3, 4),
-    (1, 5),
-    (1, 6),
-    (2, 5),
-    (2, 6),
-    (5, 6),
-];
-
-fn made(alloc: Global, order: u32, edges: &[(u32, u32)]) -> Result<MultiGraph, Fail>
-    requires { order ≤ MOST_VERTICES }
-{
-    let mut graph = MultiGraph::new(alloc, order)?;
-    for (a, b) in edges {
-        graph.add_edge(*a, *b)?;
-    }
-    Ok(graph)
-}
 
 // The set of the numbers whose bit is set, where the bit of 1 is the lowest.
 fn set_of_bits(bits: u32) -> VSet {
@@ -150,7 +65,7 @@ fn crossing(alloc: Global, graph: &MultiGraph, set: VSet) -> Result<VSet, Fail> 
 
 #[test]
 fn worked_cuts(rt: HostRuntime) -> Result<(), Fail> {
-    let graph = made(rt.alloc(), 8, &TRIANGLE_IN_K33)?;
+    let graph = graph_with(rt.alloc(), 8, &TRIANGLE_IN_K33)?;
     let triangle = set_of_bits(0b111);
     assert!(rt;
         matches!(
@@ -158,9 +73,9 @@ fn worked_cuts(rt: HostRuntime) -> Result<(), Fail> {
             Some(Tightness::Tight)
         )
     );
-    let prism = made(rt.alloc(), 6, &PRISM)?;
+    let prism = graph_with(rt.alloc(), 6, &PRISM)?;
     assert!(rt; crossing(rt.alloc(), &prism, triangle)? == set_of_bits(0b111 << 6));
-    let petersen = made(rt.alloc(), 10, &PETERSEN)?;
+    let petersen = graph_with(rt.alloc(), 10, &PETERSEN)?;
     assert!(rt;
         crossing(rt.alloc(), &petersen, set_of_bits(0b11111))? == set_of_bits(0b11111 << 5)
     );
@@ -180,7 +95,7 @@ fn all_odd_sets_of_small_graphs(rt: HostRuntime) -> Result<(), Fail> {
     ];
     for (order, edges) in cases {
         assert!(rt; order <= MOST_VERTICES);
-        let graph = made(rt.alloc(), order, edges)?;
+        let graph = graph_with(rt.alloc(), order, edges)?;
         assert!(rt; is_small(&graph));
         let mut odd_sets = 0u32;
         for bits in 0..256 {
@@ -247,7 +162,7 @@ fn worked_candidates(rt: HostRuntime) -> Result<(), Fail> {
     ];
     for (order, edges, shores, origin) in cases {
         assert!(rt; order <= MOST_VERTICES);
-        let graph = made(rt.alloc(), order, edges)?;
+        let graph = graph_with(rt.alloc(), order, edges)?;
         let list = candidates_if_covered(rt.alloc(), &graph)?;
         assert_eq!(rt; list.len(), shores.len());
         for i in 0..list.len() {
@@ -274,7 +189,7 @@ fn bricks_and_braces_have_no_candidates(rt: HostRuntime) -> Result<(), Fail> {
     ];
     for (order, edges) in cases {
         assert!(rt; order <= MOST_VERTICES);
-        let graph = made(rt.alloc(), order, edges)?;
+        let graph = graph_with(rt.alloc(), order, edges)?;
         assert!(rt; candidates_if_covered(rt.alloc(), &graph)?.is_empty());
         assert!(rt; any_if_covered(rt.alloc(), &graph)? == None);
     }
@@ -293,7 +208,7 @@ fn candidates_exactly_where_a_set_is_tight(rt: HostRuntime) -> Result<(), Fail> 
     ];
     for (order, edges) in cases {
         assert!(rt; order <= MOST_VERTICES);
-        let graph = made(rt.alloc(), order, edges)?;
+        let graph = graph_with(rt.alloc(), order, edges)?;
         assert!(rt; is_small(&graph));
         let all = VSet::full(order);
         let mut tight = false;

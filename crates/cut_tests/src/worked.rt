@@ -1,5 +1,5 @@
 //! Worked graphs: their classes and pairs, the cuts that these give, and the quick tests.
-ghost use Rattle.std.specs.Prelude.{◌≡◌, ◌≤◌, ◌↔◌, IsTrue, IfOk, IfSome};
+ghost use Rattle.std.specs.Prelude.{◌≡◌, ◌↔◌, IsTrue, IfOk, IfSome};
 ghost use Rattle.counting.specs.Lists.{IsRisingIn};
 ghost use Rattle.graph_core.specs.Covered.{IsCovered};
 ghost use Rattle.graph_core.specs.Graph.{IsBipartite};
@@ -13,110 +13,9 @@ use separation_kit::{Pair, cut_pair, first_pairs_law, not_bicritical, separation
 use std::alloc::{AllocError as Memory, Global};
 use std::test::Fail;
 use vset_core::{MOST_VERTICES, VSet};
-
-const K4: [(u32, u32); 6] = [(1, 2), (1, 3), (1, 4), (2, 3), (2, 4), (3, 4)];
-
-const HEXAGON: [(u32, u32); 6] = [(1, 2), (2, 3), (3, 4), (4, 5), (5, 6), (6, 1)];
-
-const FOUR_CYCLE: [(u32, u32); 4] = [(1, 2), (2, 3), (3, 4), (4, 1)];
-
-const PRISM: [(u32, u32); 9] = [
-    (1, 2),
-    (1, 3),
-    (2, 3),
-    (4, 5),
-    (4, 6),
-    (5, 6),
-    (1, 4),
-    (2, 5),
-    (3, 6),
-];
-
-const CUBE: [(u32, u32); 12] = [
-    (1, 2),
-    (2, 3),
-    (3, 4),
-    (1, 4),
-    (5, 6),
-    (6, 7),
-    (7, 8),
-    (5, 8),
-    (1, 5),
-    (2, 6),
-    (3, 7),
-    (4, 8),
-];
-
-const K33: [(u32, u32); 9] = [
-    (1, 4),
-    (1, 5),
-    (1, 6),
-    (2, 4),
-    (2, 5),
-    (2, 6),
-    (3, 4),
-    (3, 5),
-    (3, 6),
-];
-
-// The complete bipartite graph of three and three vertices with a triangle for one vertex.
-const TRIANGLE_FOR_A_VERTEX: [(u32, u32); 12] = [
-    (1, 2),
-    (1, 3),
-    (2, 3),
-    (1, 4),
-    (2, 5),
-    (3, 6),
-    (7, 4),
-    (7, 5),
-    (7, 6),
-    (8, 4),
-    (8, 5),
-    (8, 6),
-];
-
-// Two complete graphs of four vertices that share an edge.
-const TWO_K4: [(u32, u32); 11] = [
-    (1, 2),
-    (1, 3),
-    (1, 4),
-    (2, 3),
-    (2, 4),
-    (3, 4),
-    (1, 5),
-    (1, 6),
-    (2, 5),
-    (2, 6),
-    (5, 6),
-];
-
-const PETERSEN: [(u32, u32); 15] = [
-    (1, 2),
-    (2, 3),
-    (3, 4),
-    (4, 5),
-    (1, 5),
-    (1, 6),
-    (2, 7),
-    (3, 8),
-    (4, 9),
-    (5, 10),
-    (6, 8),
-    (8, 10),
-    (7, 10),
-    (7, 9),
-    (6, 9),
-];
-
-fn made(alloc: Global, order: u32, edges: &[(u32, u32)]) -> Result<MultiGraph, Fail>
-    requires { order ≤ MOST_VERTICES }
-{
-    let mut graph = MultiGraph::new(alloc, order)?;
-    for (a, b) in edges {
-        graph.add_edge(*a, *b)?;
-    }
-    Ok(graph)
-}
+use worked_graphs::{
+    CUBE, FOUR_CYCLE, HEXAGON, K4, K33, PETERSEN, PRISM, TRIANGLE_IN_K33, TWO_K4, graph_with,
+};
 
 // The set of those numbers that a set can hold.
 fn set(members: &[u32]) -> VSet {
@@ -184,7 +83,7 @@ fn are(pair: Option<Pair>, a: u32, b: u32) -> bool {
 
 #[test]
 fn lists_classes_and_the_cuts_of_barriers(rt: HostRuntime) -> Result<(), Fail> {
-    let cube = made(rt.alloc(), 8, &CUBE)?;
+    let cube = graph_with(rt.alloc(), 8, &CUBE)?;
     let covered = is_covered(rt.alloc(), &cube)?;
     assert!(rt; covered);
     let sides = classes(rt.alloc(), &cube)?;
@@ -192,7 +91,7 @@ fn lists_classes_and_the_cuts_of_barriers(rt: HostRuntime) -> Result<(), Fail> {
     assert!(rt; is_at(&sides, 0, &[1, 3, 6, 8]));
     assert!(rt; is_at(&sides, 1, &[2, 4, 5, 7]));
     assert_eq!(rt; barrier_cuts(rt.alloc(), &cube)?.len(), 0);
-    let graph = made(rt.alloc(), 8, &TRIANGLE_FOR_A_VERTEX)?;
+    let graph = graph_with(rt.alloc(), 8, &TRIANGLE_IN_K33)?;
     let covered = is_covered(rt.alloc(), &graph)?;
     assert!(rt; covered);
     let list = classes(rt.alloc(), &graph)?;
@@ -208,7 +107,7 @@ fn lists_classes_and_the_cuts_of_barriers(rt: HostRuntime) -> Result<(), Fail> {
 
 #[test]
 fn knows_barriers(rt: HostRuntime) -> Result<(), Fail> {
-    let graph = made(rt.alloc(), 8, &TRIANGLE_FOR_A_VERTEX)?;
+    let graph = graph_with(rt.alloc(), 8, &TRIANGLE_IN_K33)?;
     match vertices(&graph, set(&[4, 5, 6])) {
         Some(found) => assert!(rt; is_barrier(rt.alloc(), &graph, found)?),
         None => assert!(rt; false),
@@ -222,16 +121,16 @@ fn knows_barriers(rt: HostRuntime) -> Result<(), Fail> {
 
 #[test]
 fn finds_the_first_pairs(rt: HostRuntime) -> Result<(), Fail> {
-    let k4 = made(rt.alloc(), 4, &K4)?;
+    let k4 = graph_with(rt.alloc(), 4, &K4)?;
     assert!(rt; not_bicritical(rt.alloc(), &k4)?.is_none());
     assert!(rt; cut_pair(rt.alloc(), &k4)?.is_none());
-    let cube = made(rt.alloc(), 8, &CUBE)?;
+    let cube = graph_with(rt.alloc(), 8, &CUBE)?;
     assert!(rt; are(not_bicritical(rt.alloc(), &cube)?, 1, 3));
     assert!(rt; cut_pair(rt.alloc(), &cube)?.is_none());
-    let graph = made(rt.alloc(), 8, &TRIANGLE_FOR_A_VERTEX)?;
+    let graph = graph_with(rt.alloc(), 8, &TRIANGLE_IN_K33)?;
     assert!(rt; are(not_bicritical(rt.alloc(), &graph)?, 4, 5));
     assert!(rt; cut_pair(rt.alloc(), &graph)?.is_none());
-    let two = made(rt.alloc(), 6, &TWO_K4)?;
+    let two = graph_with(rt.alloc(), 6, &TWO_K4)?;
     assert!(rt; not_bicritical(rt.alloc(), &two)?.is_none());
     assert!(rt; are(cut_pair(rt.alloc(), &two)?, 1, 2));
     Ok(())
@@ -246,7 +145,7 @@ fn lists_the_cuts_of_separations(rt: HostRuntime) -> Result<(), Fail> {
     ];
     for (order, edges, many) in cases {
         assert!(rt; 4 <= order && order <= MOST_VERTICES);
-        let graph = made(rt.alloc(), order, edges)?;
+        let graph = graph_with(rt.alloc(), order, edges)?;
         assert!(rt; graph.order() >= 4);
         let covered = is_covered(rt.alloc(), &graph)?;
         assert!(rt; covered);
@@ -272,7 +171,7 @@ fn tells_braces(rt: HostRuntime) -> Result<(), Fail> {
     ];
     for (order, edges, brace) in cases {
         assert!(rt; order <= MOST_VERTICES);
-        let graph = made(rt.alloc(), order, edges)?;
+        let graph = graph_with(rt.alloc(), order, edges)?;
         assert!(rt; graph.order() >= 4);
         let covered = is_covered(rt.alloc(), &graph)?;
         assert!(rt; covered);
@@ -289,16 +188,12 @@ fn tells_bricks_and_their_first_cut(rt: HostRuntime) -> Result<(), Fail> {
         (4, K4.as_slice(), None),
         (6, PRISM.as_slice(), None),
         (10, PETERSEN.as_slice(), None),
-        (
-            8,
-            TRIANGLE_FOR_A_VERTEX.as_slice(),
-            Some([1, 2, 3].as_slice()),
-        ),
+        (8, TRIANGLE_IN_K33.as_slice(), Some([1, 2, 3].as_slice())),
         (6, TWO_K4.as_slice(), Some([1, 3, 4].as_slice())),
     ];
     for (order, edges, cut) in cases {
         assert!(rt; order <= MOST_VERTICES);
-        let graph = made(rt.alloc(), order, edges)?;
+        let graph = graph_with(rt.alloc(), order, edges)?;
         let covered = is_covered(rt.alloc(), &graph)?;
         assert!(rt; covered);
         let bipartite = is_bipartite(rt.alloc(), &graph)?;

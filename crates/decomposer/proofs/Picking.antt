@@ -10,13 +10,8 @@ use Rattle.counting.specs.Counts.{count}
 use Rattle.counting.specs.Lists.{mem}
 use Rattle.counting.specs.Sets.{Set, complement}
 use Rattle.contraction.proofs.BlockLists.{length-partition}
-use Rattle.contraction.proofs.QuotientLaws.{covered_up}
-use Rattle.graph_core.proofs.SingleBlocks.{contracted-singles}
-use Rattle.graph_core.proofs.Singles.{singles-partition}
-use Rattle.graph_core.specs.Covered.{IsCovered}
-use Rattle.graph_core.specs.Graph.{Graph, IsGraph}
-use Rattle.graph_core.specs.Partitions.{IsPartition, singles}
-use Rattle.graph_core.specs.Quotients.{quotient}
+use Rattle.graph_core.specs.Graph.{Graph}
+use Rattle.graph_core.specs.Partitions.{IsPartition}
 use Rattle.graph_core.specs.Shores.{IsTightAt, blocks_in}
 use Rattle.graph_core.specs.Tight.{IsNontrivial}
 use Rattle.tight_cuts.specs.Candidates.{Candidate}
@@ -50,10 +45,6 @@ picked-shore g p stored place c all is =
     let v = get_or_from_slice_get (map candidate_of stored) place (candidate_of c) (candidate_of c) is in
     let t = subst (IsCandidateAt g p) v (all place (candidate_of c) e) in
     record { set = t.rising; tight = t.tight; nontrivial = t.nontrivial; canonical = t.canonical }
-
--- at a covered graph the first quotient is covered
-pub root-covered : (g : Graph) (p : List (List ℕ)) → IsGraph g → p ≡ singles g.order → IsCovered g → IsCovered (quotient g p)
-root-covered g p is e cov = subst (λ (q : List (List ℕ)). IsCovered (quotient g q)) (sym e) (covered_up g (singles g.order) is (singles-partition g.order).partition (subst IsCovered (sym (contracted-singles g is)) cov))
 
 module _ (g : Graph) (p q r : List (List ℕ)) (x : List ℕ) (t kept merged : Shape) (is_t : t ≡ cut x kept merged) (is_q : q ≡ kept_at g.order p x) (is_r : r ≡ merged_at g.order p x) (cuts : IsCutAt g p x) where
   pub cut-derives : IsDerivationAt g q kept → IsDerivationAt g r merged → IsDerivationAt g p t

@@ -1,7 +1,6 @@
 //! The decomposition of a graph by tight cuts.
 ghost use Rattle.std.specs.Prelude.{◌≡◌, ◌≤◌, ◌<◌, ◌+◌, ◌-◌, ℕ, List, [], length, IfOk, Err, Some, None};
 ghost use Rattle.graph_core.specs.Covered.{IsCovered, IsReason};
-ghost use Rattle.graph_core.specs.Partitions.{singles};
 ghost use Rattle.graph_core.specs.Quotients.{quotient};
 ghost use Rattle.graph_core.specs.Verdicts.{reason_of};
 ghost use Rattle.tight_cuts.specs.CandidatesAt.{candidates_at};
@@ -17,7 +16,7 @@ use contraction::Partition;
 use graph_core::{MultiGraph, Reason, Verdict};
 use std::alloc::{AllocError, Global};
 use tight_cuts::{Candidate, candidates_at};
-use tree_core::{Tree, kept_partition, merged_partition};
+use tree_core::{Tree, kept_partition, merged_partition, root_partition};
 use vset_core::VSet;
 
 /// Why there is no decomposition.
@@ -68,19 +67,6 @@ fn decompose_covered<F: Fn(&[Candidate], usize) -> usize>(
     let root = root_partition(alloc, g)?;
     let (tree, _) = decompose_at(alloc, g, order, &root, 0)?;
     Ok(tree)
-}
-
-// The single vertices of a covered graph.
-fn root_partition(alloc: Global, g: &MultiGraph) -> Result<Partition, AllocError>
-    requires { IsCovered g.now }
-    ensures order { IfOk result (λ p. p.order ≡ g.now.order) }
-    ensures blocks { IfOk result (λ p. p.blocks ≡ singles g.now.order) }
-    ensures covered { IfOk result (λ p. IsCovered (quotient g.now p.blocks)) }
-    ensures few { IfOk result (λ p. length p.blocks ≤ 128) }
-{
-    g.keeps_limits();
-    let root = Partition::singles(alloc, g.order())?;
-    Ok(root)
 }
 
 // The shore of the candidate at p that the order picks, with so many cuts before it; none exactly where there is no candidate.

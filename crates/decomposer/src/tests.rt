@@ -1,5 +1,5 @@
 //! Worked graphs, each in the three orders.
-ghost use Rattle.std.specs.Prelude.{◌≡◌, ◌≤◌};
+ghost use Rattle.std.specs.Prelude.{◌≡◌};
 ghost use Rattle.decomposer.specs.Choices.{PicksInRange};
 
 use crate::{Order, Refused, balanced_place, decompose, first_place, last_place};
@@ -8,35 +8,8 @@ use std::alloc::Global;
 use std::test::Fail;
 use tight_cuts::Candidate;
 use tree_core::Tree;
-use vset_core::{MOST_VERTICES, VSet};
-
-const HEXAGON: [(u32, u32); 6] = [(1, 2), (2, 3), (3, 4), (4, 5), (5, 6), (6, 1)];
-
-// K3,3 with a triangle in place of one vertex.
-const TRIANGLE_IN_K33: [(u32, u32); 12] = [
-    (1, 2),
-    (1, 3),
-    (2, 3),
-    (1, 4),
-    (2, 5),
-    (3, 6),
-    (7, 4),
-    (7, 5),
-    (7, 6),
-    (8, 4),
-    (8, 5),
-    (8, 6),
-];
-
-fn made(alloc: Global, order: u32, edges: &[(u32, u32)]) -> Result<MultiGraph, Fail>
-    requires { order ≤ MOST_VERTICES }
-{
-    let mut graph = MultiGraph::new(alloc, order)?;
-    for (a, b) in edges {
-        graph.add_edge(*a, *b)?;
-    }
-    Ok(graph)
-}
+use vset_core::VSet;
+use worked_graphs::{HEXAGON, TRIANGLE_IN_K33, graph_with};
 
 // What the order makes of the graph: the reason where it is refused, and else the shore of the only cut, which is empty at a leaf.
 #[derive(Drop)]
@@ -95,7 +68,7 @@ fn is_cut(made: &Outcome, shore: VSet) -> bool {
 
 #[test]
 fn hexagon_in_three_orders(rt: HostRuntime) -> Result<(), Fail> {
-    let g = made(rt.alloc(), 6, &HEXAGON)?;
+    let g = graph_with(rt.alloc(), 6, &HEXAGON)?;
     let middle = VSet::one(2).with(3).with(4);
     let first = made_by(rt.alloc(), &g, &Order::new(first_place));
     assert!(rt; is_cut(&first, middle));
@@ -108,7 +81,7 @@ fn hexagon_in_three_orders(rt: HostRuntime) -> Result<(), Fail> {
 
 #[test]
 fn triangle_in_k33_in_three_orders(rt: HostRuntime) -> Result<(), Fail> {
-    let g = made(rt.alloc(), 8, &TRIANGLE_IN_K33)?;
+    let g = graph_with(rt.alloc(), 8, &TRIANGLE_IN_K33)?;
     let first = made_by(rt.alloc(), &g, &Order::new(first_place));
     assert!(rt; is_cut(&first, VSet::full(3)));
     let last = made_by(rt.alloc(), &g, &Order::new(last_place));
@@ -120,12 +93,12 @@ fn triangle_in_k33_in_three_orders(rt: HostRuntime) -> Result<(), Fail> {
 
 #[test]
 fn leaves_and_refusals(rt: HostRuntime) -> Result<(), Fail> {
-    let parallel = made(rt.alloc(), 2, &[(1, 2), (1, 2)])?;
+    let parallel = graph_with(rt.alloc(), 2, &[(1, 2), (1, 2)])?;
     match made_by(rt.alloc(), &parallel, &Order::new(first_place)) {
         Outcome::Leaf => {}
         _ => assert!(rt; false),
     }
-    let path = made(rt.alloc(), 4, &[(1, 2), (2, 3), (3, 4)])?;
+    let path = graph_with(rt.alloc(), 4, &[(1, 2), (2, 3), (3, 4)])?;
     match made_by(rt.alloc(), &path, &Order::new(last_place)) {
         Outcome::NotCovered(Reason::Unallowed { edge }) => assert!(rt; edge == 2),
         _ => assert!(rt; false),

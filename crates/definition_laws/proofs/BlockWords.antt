@@ -1,11 +1,10 @@
 -- A perfect matching and a tight shore at a partition, in words that do not name the contracted graph.
 -- They are the wordings for the contracted graph, whose ends are places of blocks and whose cuts are those of the graph.
-use Rattle.std.proofs.Common.{◌≡◌, ℕ, ◌-◌, ◌<◌, true, List, length, refl, sym, ap, ◌∙◌, arith, inl, inr, subst, ◌↔◌}
-use Rattle.std.proofs.lemmas.List.{get_or-map, length-map}
+use Rattle.std.proofs.Common.{◌≡◌, ℕ, ◌-◌, true, List, length, refl, sym, ap, ◌∙◌, arith, inl, inr, subst, ◌↔◌}
 use Rattle.counting.specs.Counts.{Within, is_odd}
 use Rattle.counting.specs.Lists.{mem}
 use Rattle.counting.specs.Sets.{Set, complement, none}
-use Rattle.graph_core.proofs.Blocks.{contracted-graph, place_in, place_is}
+use Rattle.graph_core.proofs.Blocks.{contracted-ends, contracted-graph, contracted-order, contracted-size, place_in, place_is}
 use Rattle.graph_core.proofs.BlockSets.{block_count_rest}
 use Rattle.graph_core.proofs.SingleBlocks.{edges-in-cut-at}
 use Rattle.definition_laws.proofs.MatchingWords.{avoids_none, meets-perfect, perfect-meets, perfect-no_loop}
@@ -16,68 +15,50 @@ use Rattle.graph_core.specs.Shores.{IsTightAt, IsUnion, block_count}
 use Rattle.definition_laws.specs.Words.{HasEndIn, LeavesBlocks, MeetsEachBlockOnce}
 
 module _ (g : Graph) (p : List (List ℕ)) (is : IsGraph g) (pp : AreBlocks g.order p) where
-  -- the contracted graph has as many edges
-  edges_same : size (contracted g p) ≡ size g
-  unfolding contracted
-  edges_same = length-map g.ends (λ (d : ℕ × ℕ). (place p d.0, place p d.1))
-
-  -- and a vertex for each block
-  order_blocks : (contracted g p).order ≡ length p
-  unfolding contracted
-  order_blocks = refl
-
-  -- its ends are the places of the ends
-  ends_at : (e : ℕ) → Within (size g) e → (first_end (contracted g p) e ≡ place p (first_end g e)) × (second_end (contracted g p) e ≡ place p (second_end g e))
-  unfolding contracted
-  ends_at e w =
-      let l : e - 1 < length g.ends = omega arith in
-      let h = get_or-map (λ (d : ℕ × ℕ). (place p d.0, place p d.1)) g.ends (e - 1) (0, 0) (0, 0) l in
-      (ap (λ (d : ℕ × ℕ). d.0) h, ap (λ (d : ℕ × ℕ). d.1) h)
-
   -- a vertex is in the block of its place alone
   in_block : (v i : ℕ) → Within g.order v → Within (length p) i → (mem (block p i) v ≡ true) ↔ (place p v ≡ i)
   in_block v i wv wi = (λ h. sym (place_is g.order p pp v i wv wi h), λ q. subst (λ k. mem (block p k) v ≡ true) q (place_in g.order p pp v wv).1)
 
   -- edge numbers go over
   there : (e : ℕ) → Within (size g) e → Within (size (contracted g p)) e
-  there e w = let s = edges_same in omega arith
+  there e w = let s = contracted-size g p in omega arith
 
   -- and back
   back : (e : ℕ) → Within (size (contracted g p)) e → Within (size g) e
-  back e w = let s = edges_same in omega arith
+  back e w = let s = contracted-size g p in omega arith
 
   -- an end of the contracted edge is a block with an end of the edge
   end_in : (e i : ℕ) → Within (size g) e → Within (length p) i → IsEnd (contracted g p) e i → HasEndIn g p e i
-  end_in e i we wi h = let k = ends_at e we in elim h [
+  end_in e i we wi h = let k = contracted-ends g p e we in elim h [
     | inl q ↦ inl ((in_block (first_end g e) i (is e we).0 wi).1 (sym k.0 ∙ q))
     | inr q ↦ inr ((in_block (second_end g e) i (is e we).1 wi).1 (sym k.1 ∙ q))
   ]
 
   -- and the other way round
   in_end : (e i : ℕ) → Within (size g) e → Within (length p) i → HasEndIn g p e i → IsEnd (contracted g p) e i
-  in_end e i we wi h = let k = ends_at e we in elim h [
+  in_end e i we wi h = let k = contracted-ends g p e we in elim h [
     | inl q ↦ inl (k.0 ∙ (in_block (first_end g e) i (is e we).0 wi).0 q)
     | inr q ↦ inr (k.1 ∙ (in_block (second_end g e) i (is e we).1 wi).0 q)
   ]
 
   -- no edge of a perfect matching at p is inside a block
   pub perfect-leaves : (m : Set) → IsPerfectAt g p m → LeavesBlocks g p m
-  perfect-leaves m h e we me q = let k = ends_at e we in
+  perfect-leaves m h e we me q = let k = contracted-ends g p e we in
       perfect-no_loop (contracted g p) none m (contracted-graph g p is pp) h e (there e we) me (k.0 ∙ q ∙ sym k.1)
 
   -- and each block holds an end of exactly one of its edges
   pub perfect-meets_blocks : (m : Set) → IsPerfectAt g p m → MeetsEachBlockOnce g p m
   perfect-meets_blocks m h i wi =
-      let wc : Within (contracted g p).order i = (let o = order_blocks in omega arith) in
+      let wc : Within (contracted g p).order i = (let o = contracted-order g p in omega arith) in
       let f = perfect-meets (contracted g p) none m h i wc refl in
       (f.0, back f.0 f.1, f.2, end_in f.0 i (back f.0 f.1) wi f.3, λ e we me ee. f.4 e (there e we) me (in_end e i we wi ee))
 
   -- such a set of edges is a perfect matching at p
   pub meets-perfect_at : (m : Set) → LeavesBlocks g p m → MeetsEachBlockOnce g p m → IsPerfectAt g p m
   meets-perfect_at m leaves meets = meets-perfect (contracted g p) none m
-      (λ e we me q. let k = ends_at e (back e we) in leaves e (back e we) me (sym k.0 ∙ q ∙ k.1))
+      (λ e we me q. let k = contracted-ends g p e (back e we) in leaves e (back e we) me (sym k.0 ∙ q ∙ k.1))
       (avoids_none (contracted g p) m)
-      (λ i wc out. let wi : Within (length p) i = (let o = order_blocks in omega arith) in let f = meets i wi in
+      (λ i wc out. let wi : Within (length p) i = (let o = contracted-order g p in omega arith) in let f = meets i wi in
       (f.0, there f.0 f.1, f.2, in_end f.0 i f.1 wi f.3, λ e we me ee. f.4 e (back e we) me (end_in e i (back e we) wi ee)))
 
   -- a tight shore at p, in words: its blocks and those outside are odd in number, and its cut in g has one edge of each perfect matching at p

@@ -1,7 +1,7 @@
 -- Each vertex outside the removed set is in exactly one listed component, and each vertex of a covered graph in exactly one listed class.
 -- The list of the least vertices holds the one that stands for it, and holds it once.
 use Rattle.std.proofs.Common.{◌≡◌, ℕ, suc, ◌<◌, true, false, List, [], ◌∷◌, length, map, refl, sym, ap, ◌∙◌, arith, inl, inr, ◌&&◌, ◌==◌, not, eqb-true, nat_lt, lt-ltb, ltb-true}
-use Rattle.std.proofs.lemmas.Bool.{and_from, and_parts, both_ways, cases_order, false_from_ne_true, or_cases, true≢false}
+use Rattle.std.proofs.lemmas.Bool.{and_from, and_parts, both_ways, cases_order, false_from_ne_true, or_cases, true≢false, not-true}
 use Rattle.std.proofs.lemmas.List.{get_or-map, length-map}
 use Rattle.std.proofs.lemmas.List.Kept.{AllPairs-from_increasing}
 use Rattle.std.specs.Prelude.{Any, ◌-◌, slice_index_or}
@@ -13,7 +13,6 @@ use Rattle.counting.specs.Lists.{IsRisingIn, item, mem, rising_list}
 use Rattle.counting.specs.Sets.{Set}
 use Rattle.counting.specs.Tests.{some}
 use Rattle.barrier_kit.proofs.ClassLaw.{equivalent_back, equivalent_on}
-use Rattle.counting.proofs.Choice.{not_true}
 use Rattle.graph_core.proofs.Components.{joined_walk, walk_joined}
 use Rattle.graph_core.proofs.Decide.{is_equivalent_found, is_equivalent_says}
 use Rattle.definition_laws.proofs.Leaders.{leader}
@@ -103,7 +102,7 @@ components-once g s is = listed-once g.order (joined g s) (is_least g s) (λ u w
 
 -- the least vertex of a class has no equivalent vertex below it
 least-none_below : (g : Graph) (u w : ℕ) → Within g.order u → is_least_of_class g w ≡ true → u < w → Equivalent g u w → ⊥
-least-none_below g u w wu lw l e = both_ways (some g.order (λ b. nat_lt b w && is_equivalent g b w)) (not_true (some g.order (λ b. nat_lt b w && is_equivalent g b w)) lw)
+least-none_below g u w wu lw l e = both_ways (some g.order (λ b. nat_lt b w && is_equivalent g b w)) (not-true (some g.order (λ b. nat_lt b w && is_equivalent g b w)) lw)
     (true_some g.order (λ b. nat_lt b w && is_equivalent g b w) u wu (and_from (nat_lt u w) (is_equivalent g u w) (lt-ltb u w l) (is_equivalent_found g u w e)))
 
 -- no vertex of a covered graph is in two classes of the list

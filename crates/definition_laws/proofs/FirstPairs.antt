@@ -1,14 +1,12 @@
 -- The first pair that a search through the pairs a < b finds is the first in lexicographic order.
 -- The list rises row by row, so every pair before the one found comes earlier in the list.
-use Rattle.std.proofs.Common.{◌≡◌, ℕ, ◌<◌, ◌≤◌, Bool, true, false, cond, List, [], ◌∷◌, ◌++◌, map, flat_map, Option, Some, None, refl, sym, ap, ap₂, ◌∙◌, arith, ◌⊎◌, inl, inr, ◌==◌, not, eq-eqb, nat_lt, nat_le, lt-ltb, ltb-true, leb-true, subst}
-use Rattle.std.proofs.lemmas.Bool.{both_ways, leb-false}
+use Rattle.std.proofs.Common.{◌≡◌, ℕ, ◌<◌, ◌≤◌, Bool, true, false, cond, List, [], ◌∷◌, ◌++◌, map, flat_map, Option, Some, None, refl, sym, ap, ap₂, ◌∙◌, arith, ◌⊎◌, inl, inr, not, nat_lt, nat_le, lt-ltb, ltb-true, leb-true, subst}
+use Rattle.std.proofs.lemmas.Bool.{both_ways, leb-false, not-true, not-false}
 use Rattle.std.specs.Prelude.{find}
-use Rattle.counting.proofs.Choice.{not_false, not_true}
-use Rattle.counting.proofs.Lists.{or_back, or_front}
-use Rattle.counting.proofs.Pairs.{HasPair, rows_hold, rows_only}
+use Rattle.counting.proofs.Pairs.{HasPair, rows_hold, rows_only, map_pair, append_pair}
 use Rattle.counting.proofs.RisingLists.{above_first, mem-all, rising-tail, rising_list-rises}
 use Rattle.counting.specs.Counts.{Within}
-use Rattle.counting.specs.Lists.{IsRisingIn, mem, pair_with, rising_list, rising_pairs}
+use Rattle.counting.specs.Lists.{IsRisingIn, pair_with, rising_list, rising_pairs}
 use Rattle.counting.specs.Sets.{everything, pair_set}
 use Rattle.graph_core.proofs.Decide.{has_perfect_found, has_perfect_says}
 use Rattle.graph_core.specs.Components.{component_count}
@@ -22,30 +20,18 @@ abbrev Rising : List (ℕ × ℕ) → Type 0
 Rising [] = Unit {0}
 Rising (k ∷ ks) = ((i j : ℕ) → HasPair ks i j → ComesBefore k (i, j)) × Rising ks
 
--- a pair of two lists in a row is in one of them
-in_parts : (ks ls : List (ℕ × ℕ)) (i j : ℕ) → HasPair (ks ++ ls) i j → HasPair ks i j ⊎ HasPair ls i j
-in_parts [] ls i j h = inr h
-in_parts (k ∷ ks) ls i j (inl h) = inl (inl h)
-in_parts (k ∷ ks) ls i j (inr h) = elim (in_parts ks ls i j h) [ inl a ↦ inl (inr a) | inr b ↦ inr b ]
-
 -- two rising lists in a row rise where the first is before the second
 parts_rise : (ks ls : List (ℕ × ℕ)) → Rising ks → Rising ls → ((i j a b : ℕ) → HasPair ks i j → HasPair ls a b → ComesBefore (i, j) (a, b)) → Rising (ks ++ ls)
 parts_rise [] ls r s h = s
 parts_rise (k ∷ ks) ls r s h = (
-  λ i j m. elim (in_parts ks ls i j m) [ inl a ↦ r.0 i j a | inr b ↦ h k.0 k.1 i j (inl (refl, refl)) b ],
+  λ i j m. elim (append_pair ks ls i j m) [ inl a ↦ r.0 i j a | inr b ↦ h k.0 k.1 i j (inl (refl, refl)) b ],
   parts_rise ks ls r.1 s (λ i j a b m. h i j a b (inr m)),
 )
-
--- a pair of a row begins with a
-in_row : (a : ℕ) (xs : List ℕ) (i j : ℕ) → HasPair (map (pair_with a) xs) i j → (a ≡ i) × (mem xs j ≡ true)
-in_row a [] i j h = absurd h
-in_row a (x ∷ xs) i j (inl h) = (h.0, or_front (x == j) (mem xs j) (eq-eqb x j h.1))
-in_row a (x ∷ xs) i j (inr h) = let r = in_row a xs i j h in (r.0, or_back (x == j) (mem xs j) r.1)
 
 -- a row rises
 row_rises : (a n : ℕ) (xs : List ℕ) → IsRisingIn n xs → Rising (map (pair_with a) xs)
 row_rises a n [] r = tt
-row_rises a n (x ∷ xs) r = (λ i j m. let q = in_row a xs i j m in inr (q.0, above_first n x xs r j q.1), row_rises a n xs (rising-tail n x xs r))
+row_rises a n (x ∷ xs) r = (λ i j m. let q = map_pair a xs i j m in inr (q.0, above_first n x xs r j q.1), row_rises a n xs (rising-tail n x xs r))
 
 -- the rows one after the other rise
 rows_rise : (n : ℕ) (xs : List ℕ) → IsRisingIn n xs → Rising (flat_map (λ a. map (pair_with a) (rising_list n (nat_lt a))) xs)
@@ -53,7 +39,7 @@ rows_rise n [] r = tt
 rows_rise n (x ∷ xs) r =
     parts_rise (map (pair_with x) (rising_list n (nat_lt x))) (flat_map (λ a. map (pair_with a) (rising_list n (nat_lt a))) xs)
     (row_rises x n (rising_list n (nat_lt x)) (rising_list-rises n (nat_lt x))) (rows_rise n xs (rising-tail n x xs r))
-    (λ i j a b m h. let q = in_row x (rising_list n (nat_lt x)) i j m in let s = rows_only n a b xs h in inl (subst (λ z. z < a) q.0 (above_first n x xs r a s.0)))
+    (λ i j a b m h. let q = map_pair x (rising_list n (nat_lt x)) i j m in let s = rows_only n a b xs h in inl (subst (λ z. z < a) q.0 (above_first n x xs r a s.0)))
 
 -- no pair is before one that is it or is before it
 not_both : (i j a b : ℕ) → ComesBefore (i, j) (a, b) → ((a ≡ i) × (b ≡ j)) ⊎ ComesBefore (a, b) (i, j) → ⊥
@@ -109,8 +95,8 @@ unfolding unlike_pair
 unlike-first g k h =
     let f = first_pair g.order (λ a b. not (has_perfect g (pair_set a b))) k h in (
       f.0,
-      λ p. both_ways (has_perfect g (pair_set k.0 k.1)) (not_true (has_perfect g (pair_set k.0 k.1)) f.1) (has_perfect_found g (pair_set k.0 k.1) p),
-      λ a b wa wb l before alone. alone (has_perfect_says g (pair_set a b) (not_false (has_perfect g (pair_set a b)) (f.2 a b wa wb l before))),
+      λ p. both_ways (has_perfect g (pair_set k.0 k.1)) (not-true (has_perfect g (pair_set k.0 k.1)) f.1) (has_perfect_found g (pair_set k.0 k.1) p),
+      λ a b wa wb l before alone. alone (has_perfect_says g (pair_set a b) (not-false (has_perfect g (pair_set a b)) (f.2 a b wa wb l before))),
     )
 
 -- the pair that `cut_pair` finds

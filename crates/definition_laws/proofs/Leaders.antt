@@ -1,10 +1,9 @@
 -- The components by least vertex are the components: each vertex is joined to exactly one least vertex.
 -- The test for a least vertex looks at the vertices below it, and the lists are those of the test for a walk.
 use Rattle.std.proofs.Common.{◌≡◌, ℕ, ◌≤◌, ◌<◌, true, false, ap, ◌∙◌, sym, arith, ◌&&◌, not, nat_lt, lt-ltb, ltb-true, inl, inr, refl}
-use Rattle.std.proofs.lemmas.Bool.{and_parts, and_from, both_ways, cases_order, false_from_ne_true}
+use Rattle.std.proofs.lemmas.Bool.{and_parts, and_from, both_ways, cases_order, false_from_ne_true, not-true}
 use Rattle.std.proofs.lemmas.List.Elements.{All-map}
 use Rattle.std.specs.Prelude.{All, slice_index_or}
-use Rattle.counting.proofs.Choice.{not_true}
 use Rattle.counting.proofs.Counts.{bit_true, only_one}
 use Rattle.counting.proofs.Lists.{rising_only}
 use Rattle.counting.proofs.RisingLists.{mem-item, mem-rising_list, rising_list-rises}
@@ -27,8 +26,8 @@ use Rattle.graph_core.specs.Walks.{Joined, joined}
 pub least_says : (g : Graph) (s : Set) → IsGraph g → (u : ℕ) → Within g.order u → is_least g s u ≡ true → (s u ≡ false) × ((v : ℕ) → Within g.order v → Joined g s u v → u ≤ v)
 least_says g s is u wu h =
     let b = and_parts (not (s u)) (not (some g.order (λ v. joined g s u v && nat_lt v u))) h in (
-      not_true (s u) b.0,
-      λ v wv j. not_below v (λ l. both_ways (some g.order (λ v. joined g s u v && nat_lt v u)) (not_true _ b.1)
+      not-true (s u) b.0,
+      λ v wv j. not_below v (λ l. both_ways (some g.order (λ v. joined g s u v && nat_lt v u)) (not-true _ b.1)
           (true_some g.order (λ v. joined g s u v && nat_lt v u) v wv (and_from (joined g s u v) (nat_lt v u) (walk_joined g s is u v wu j) (lt-ltb v u l)))),
     )
   where

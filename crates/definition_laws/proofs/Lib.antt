@@ -5,5 +5,4 @@ pub mod Leaders
 pub mod MatchingSizes
 pub mod MatchingWords
 pub mod Reasons
-pub mod SameBlocks
 pub mod ThreeSets

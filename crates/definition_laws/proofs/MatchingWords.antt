@@ -1,23 +1,16 @@
 -- Matchings by degrees are matchings in the words of a textbook: no edge has an end in the removed set, each vertex is met once.
 -- A degree is a sum of ends over the edges, so an edge with an end at a vertex of degree 1 is its only one, and the other way round.
-use Rattle.std.proofs.Common.{◌≡◌, ℕ, ◌+◌, ◌*◌, ◌≤◌, ◌≢◌, Bool, true, false, ◌==◌, refl, sym, ap, ◌∙◌, arith, inl, inr, eq-eqb, ne_eqb}
+use Rattle.std.proofs.Common.{◌≡◌, ℕ, ◌*◌, ◌≤◌, ◌≢◌, Bool, true, false, refl, sym, ap, ◌∙◌, arith, inl, inr, eq-eqb, ne_eqb}
 use Rattle.std.proofs.lemmas.Bool.{cases_eq, true≢false}
 use Rattle.counting.proofs.Totals.{total_at, total_none}
 use Rattle.counting.specs.Counts.{Within, bit}
 use Rattle.counting.specs.Sets.{Set, none}
 use Rattle.graph_core.proofs.Edits.{degree_sum, edge_at, ends_le_degree, ends_of, ends_of_is}
 use Rattle.graph_core.proofs.Perfect.{perfect_matching}
-use Rattle.graph_core.proofs.Textbook.{apart_matching, matching_apart}
+use Rattle.graph_core.proofs.Textbook.{apart_matching, ends_one, matching_apart, one_end}
 use Rattle.graph_core.specs.Graph.{Graph, HasNoLoop, IsGraph, degree, first_end, second_end, size}
 use Rattle.graph_core.specs.Matchings.{IsEnd, IsMatching, IsPerfect, ShareNoEnd}
 use Rattle.definition_laws.specs.Words.{Avoids, HoldsNoLoop, MeetsEachOnce}
-
--- an end of an edge counts; these three stand in the file Textbook of graph_core too, where they are private
-one_end : (g : Graph) (e v : ℕ) → IsEnd g e v → 1 ≤ ends_of g e v
-one_end g e v h = let a = ends_of_is g e (first_end g e) (second_end g e) (inl (refl, refl)) v in elim h [
-  | inl p ↦ let b = ap bit (eq-eqb (first_end g e) v p) in omega arith
-  | inr p ↦ let b = ap bit (eq-eqb (second_end g e) v p) in omega arith
-]
 
 -- what counts is an end
 is_end : (g : Graph) (e v : ℕ) → 1 ≤ ends_of g e v → IsEnd g e v
@@ -28,21 +21,6 @@ is_end g e v p = let a = ends_of_is g e (first_end g e) (second_end g e) (inl (r
     | inr t ↦ let b = ap bit (ne_eqb (first_end g e) v q) in let c = ap bit (ne_eqb (second_end g e) v t) in absurd (omega arith)
   ]
 ]
-
--- an edge that is no loop has at most one end at a vertex
-ends_one : (g : Graph) (e v : ℕ) → first_end g e ≢ second_end g e → ends_of g e v ≤ 1
-ends_one g e v d = let a = ends_of_is g e (first_end g e) (second_end g e) (inl (refl, refl)) v in
-    let b = sum_one (first_end g e) (second_end g e) v d in omega arith
-  where
-    sum_one : (x y v : ℕ) → x ≢ y → bit (x == v) + bit (y == v) ≤ 1
-    sum_one x y v d = elim (cases_eq x v) [
-      | inl p ↦ let a = ap bit (ne_eqb y v (λ q. d (p ∙ sym q))) in let b = le_one (x == v) in omega arith
-      | inr p ↦ let a = ap bit (ne_eqb x v p) in let b = le_one (y == v) in omega arith
-    ]
-      where
-        le_one : (b : Bool) → bit b ≤ 1
-        le_one true = omega arith
-        le_one false = omega arith
 
 -- where no edge of m has an end in r, each vertex of r has degree 0 in m
 avoids_zero : (g : Graph) (r m : Set) → Avoids g r m → (v : ℕ) → Within g.order v → r v ≡ true → degree g m v ≡ 0

@@ -1,32 +1,26 @@
 -- A graph is matching covered or there is a reason why not, never both, and no two reasons.
 -- Each reason denies a part of being covered and asserts the parts before it; each part is decided, and each graph has a Berge set.
 use Rattle.std.proofs.Common.{◌≡◌, ℕ, suc, zero, ◌+◌, ◌≤◌, ◌⊎◌, ◌||◌, inl, inr, refl, sym, ap, ap₂, ◌∙◌, arith, List, nat_le, leb-true, subst}
-use Rattle.std.proofs.lemmas.Bool.{cases_Bool, cases_eq, cases_order, leb-false}
+use Rattle.std.proofs.lemmas.Bool.{cases_Bool, cases_eq, leb-false}
 use Rattle.barrier_kit.proofs.ClassLaw.{perfect_or_not}
 use Rattle.barrier_kit.proofs.Enlarging.{odd_component_count-congr}
 use Rattle.counting.proofs.Counts.{count_congr}
 use Rattle.counting.proofs.RisingLists.{mem-rising_list, rising_list-rises}
+use Rattle.counting.proofs.Tests.{least-one}
 use Rattle.counting.specs.Counts.{Within}
 use Rattle.counting.specs.Lists.{IsRisingIn, mem, rising_list}
 use Rattle.counting.specs.Sets.{none, union}
 use Rattle.counting.specs.Tests.{IsLeastWithout}
-use Rattle.graph_core.proofs.Decide.{allowed_or_not, covered_perfect}
+use Rattle.graph_core.proofs.Decide.{allowed_or_not}
 use Rattle.graph_core.proofs.Walks.{joined_back, joined_on, joined_or_not}
 use Rattle.graph_core.specs.BergeSets.{IsBergeSet}
 use Rattle.graph_core.specs.Components.{IsConnected}
 use Rattle.graph_core.specs.Covered.{IsCovered, IsReason, Reason, Small, Parted, Unmatched, Unallowed}
-use Rattle.graph_core.specs.Graph.{Graph, IsGraph, IsMultigraph, size}
+use Rattle.graph_core.specs.Graph.{Graph, IsGraph, size}
 use Rattle.graph_core.specs.Matchings.{Allowed, HasPerfect, missed_count}
 use Rattle.definition_laws.specs.Words.{without_berge}
 use Rattle.graph_core.specs.Walks.{Joined}
 use Rattle.match_core.proofs.TutteBerge.{tutte_berge}
-
--- a graph with a reason is not covered
-pub reason-uncovered : (g : Graph) (r : Reason) → IsMultigraph g → IsReason g r → IsCovered g → ⊥
-reason-uncovered g Small is small cov = let two = cov.two in absurd (omega arith)
-reason-uncovered g (Parted a b) is why cov = let two = cov.two in why.2.without (cov.connected 1 b (omega arith) why.2.within)
-reason-uncovered g (Unmatched s) is why cov = why.2 (covered_perfect g is.ends cov)
-reason-uncovered g (Unallowed e) is why cov = why.3.without (cov.allowed e why.3.within (is.no_loop e why.3.within))
 
 -- of 1 to n all have a decided property, or there is a least that has it not
 all_or_least : (n : ℕ) (P : ℕ → Type 0) → ((v : ℕ) → Within n v → P v ⊎ (P v → ⊥)) → ((v : ℕ) → Within n v → P v) ⊎ ((v : ℕ) × IsLeastWithout n P v)
@@ -41,16 +35,6 @@ all_or_least n P decided = go n (omega arith)
         | inr p ↦ inr (suc k, record { within = omega arith; without = p; before = λ v w b. all v (omega arith) })
       ]
     ]
-
--- two least numbers without a property are one; ear_core, on which this crate does not stand, has the lemma too
-least-one : (n : ℕ) (P : ℕ → Type 0) (d e : ℕ) → IsLeastWithout n P d → IsLeastWithout n P e → d ≡ e
-least-one n P d e a b = elim (cases_order d e) [
-  | inl q ↦ q
-  | inr q ↦ elim q [
-    | inl l ↦ absurd (a.without (b.before d a.within l))
-    | inr l ↦ absurd (b.without (a.before e b.within l))
-  ]
-]
 
 -- where vertex 1 is joined to each vertex, each is joined to each
 connected_from_one : (g : Graph) → ((v : ℕ) → Within g.order v → Joined g none 1 v) → IsConnected g

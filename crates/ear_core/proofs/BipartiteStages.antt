@@ -3,12 +3,13 @@ use Rattle.std.proofs.Common.{◌≡◌, ℕ, Bool, true, false, cond, ◌==◌,
 use Rattle.std.proofs.lemmas.Bool.{cases_eq, cases_Bool, and_parts, and_from, true≢false, or_cases}
 use Rattle.barrier_kit.proofs.Matched.{perfect_congr}
 use Rattle.barrier_kit.specs.BarrierCuts.{IsSide}
+use Rattle.counting.proofs.Ranks.{rank_once}
 use Rattle.counting.proofs.RisingLists.{same_answers}
 use Rattle.counting.proofs.Tests.{some_true, true_some}
 use Rattle.counting.specs.Counts.{Within, count, is_odd}
 use Rattle.counting.specs.Sets.{Set, pair_set}
 use Rattle.counting.specs.Tests.{some}
-use Rattle.ear_core.proofs.EngineGraphs.{ends-met, rank_same}
+use Rattle.ear_core.proofs.EngineGraphs.{ends-met}
 use Rattle.ear_core.proofs.Growth.{two_less_odd}
 use Rattle.ear_core.proofs.NextStages.{met-within}
 use Rattle.ear_core.proofs.RankedStages.{second_end-ranked, ranked-off, first_end-ranked, off-loop, rank-test, rank-within, size-ranked, stage_graph, ranked-covered, ranked-graph}
@@ -66,7 +67,7 @@ module _ (g : Graph) (is : IsGraph g) (a : Set) (sides : (e : ℕ) → Within (s
   rank_side v w tv = same_answers (by_rank (count v t)) (a v)
       (λ h. let u = some_true g.order (λ u. (t u && a u) && (count u t == count v t)) h in
       let b = and_parts (t u.0 && a u.0) (count u.0 t == count v t) u.2 in
-      let c = and_parts (t u.0) (a u.0) b.0 in ap a (sym (rank_same t u.0 v c.0 tv (eqb-true (count u.0 t) (count v t) b.1))) ∙ c.1)
+      let c = and_parts (t u.0) (a u.0) b.0 in ap a (sym (rank_once t u.0 v c.0 tv (eqb-true (count u.0 t) (count v t) b.1))) ∙ c.1)
       (λ h. true_some g.order (λ u. (t u && a u) && (count u t == count v t)) v w (and_from (t v && a v) (count v t == count v t) (and_from (t v) (a v) tv h) (eq-eqb (count v t) (count v t) refl)))
 
   stage_sides : IsSide (stage_graph g f) by_rank

@@ -2,12 +2,13 @@
 -- the ear: the first, the inner ones and the last.
 use Rattle.std.proofs.Common.{◌≡◌, ℕ, ◌+◌, ◌≤◌, Bool, true, false, ◌==◌, refl, sym, ap, ◌∙◌, arith, ◌&&◌, ◌||◌, not, eq-eqb, ne_eqb, eqb-true, inl, inr, nat_le, leb-true, le-leb, subst, [], ◌∷◌, List, length, ◌↔◌}
 use Rattle.std.proofs.lemmas.Bool.{cases_eq, and_parts, and_from, both_ways, true≢false, false_from_ne_true, true_from_ne_false, not-true, or_left, or_right, or_parts, or_cases, or_from}
+use Rattle.counting.proofs.Lists.{times_mem}
 use Rattle.counting.specs.Counts.{bit, is_odd}
-use Rattle.counting.specs.Lists.{mem}
+use Rattle.counting.specs.Lists.{mem, times}
 use Rattle.counting.specs.Sets.{Set}
-use Rattle.ear_core.proofs.Growth.{mem_times, times_mem}
+use Rattle.ear_core.proofs.Growth.{mem_times}
 use Rattle.ear_core.specs.EarTests.{follows, front, inner_vertices, repeats, no_member, is_empty, Passes}
-use Rattle.ear_core.specs.Ears.{other_end, Follow, trail, last_vertex, times, IsEar, IsEarPair}
+use Rattle.ear_core.specs.Ears.{other_end, Follow, trail, last_vertex, IsEar, IsEarPair}
 use Rattle.ear_core.specs.Stages.{is_met}
 use Rattle.graph_core.specs.Graph.{Graph, size, first_end, second_end}
 

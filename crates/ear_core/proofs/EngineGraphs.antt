@@ -1,7 +1,8 @@
 -- The edges of a stage in a graph of their own. The degree by rank is the degree in g, so a perfect matching of the listed edges is one of
 -- the graph of the stage; and an edge lies in one where its two ends may be left out.
-use Rattle.std.proofs.Common.{◌≡◌, ℕ, suc, zero, ◌+◌, ◌*◌, ◌≤◌, ◌<◌, ◌≢◌, Bool, true, false, cond, ◌==◌, refl, sym, ap, ◌∙◌, arith, ◌&&◌, not, eq-eqb, ne_eqb, eqb-true, inl, inr, [], ◌∷◌, ◌++◌, length, ◌↔◌}
-use Rattle.std.proofs.lemmas.Bool.{cases_eq, or_right, cases_Bool, cases_order, and_parts, true_from_ne_false, and_from, both_ways, false_from_ne_true, not-true, or_left, or_cases, or_parts, or_from}
+use Rattle.std.proofs.Common.{◌≡◌, ℕ, suc, zero, ◌+◌, ◌*◌, ◌≢◌, Bool, true, false, cond, ◌==◌, refl, sym, ap, ◌∙◌, arith, ◌&&◌, not, eq-eqb, ne_eqb, eqb-true, inl, inr, [], ◌∷◌, ◌++◌, length, ◌↔◌}
+use Rattle.std.proofs.lemmas.Bool.{cases_eq, or_right, cases_Bool, and_parts, true_from_ne_false, and_from, both_ways, false_from_ne_true, not-true, or_left, or_cases, or_parts, or_from}
+use Rattle.counting.proofs.Ranks.{rank_once}
 use Rattle.counting.proofs.RisingLists.{same_answers}
 use Rattle.counting.proofs.Tests.{some_true, true_some}
 use Rattle.counting.specs.Counts.{bit, count, Within}
@@ -16,27 +17,6 @@ use Rattle.graph_core.proofs.Decide.{degree_congr}
 use Rattle.graph_core.proofs.Edits.{ends_of, ends_le_degree, degree_put}
 use Rattle.graph_core.specs.Graph.{Graph, size, first_end, second_end, degree, IsGraph}
 use Rattle.graph_core.specs.Matchings.{IsPerfect, HasPerfect}
-
--- ranks
-pub rank_le : (t : Set) (u n : ℕ) → u ≤ n → count u t ≤ count n t
-rank_le t u zero l = let e : u ≡ 0 = omega arith in omega (arith, ap (λ k. count k t) e)
-rank_le t u (suc n) l = elim (cases_eq u (suc n)) [
-  | inl e ↦ omega (arith, ap (λ k. count k t) e)
-  | inr d ↦ let a = rank_le t u n (omega arith) in omega arith
-]
-
-pub rank_less : (t : Set) (u v : ℕ) → u < v → t v ≡ true → count u t < count v t
-rank_less t u zero l h = absurd (omega arith)
-rank_less t u (suc v) l h = let a = rank_le t u v (omega arith) in let b = ap bit h in omega arith
-
-pub rank_same : (t : Set) (u v : ℕ) → t u ≡ true → t v ≡ true → count u t ≡ count v t → u ≡ v
-rank_same t u v tu tv e = elim (cases_order u v) [
-  | inl i ↦ i
-  | inr c ↦ elim c [
-    | inl l ↦ let a = rank_less t u v l tv in absurd (omega arith)
-    | inr l ↦ let a = rank_less t v u l tu in absurd (omega arith)
-  ]
-]
 
 pub ends-met : (g : Graph) (f : Set) (e : ℕ) → Within (size g) e → f e ≡ true → (is_met g f (first_end g e) ≡ true) × (is_met g f (second_end g e) ≡ true)
 unfolding ends_of
@@ -103,7 +83,7 @@ module _ (g : Graph) (f r : Set) where
       (λ t. let a = and_parts (f e) (rank_of m (count e f)) t in
       let d = some_true (size g) (λ d. (f d && m d) && (count d f == count e f)) a.1 in
       let b = and_parts (f d.0 && m d.0) (count d.0 f == count e f) d.2 in
-      let c = and_parts (f d.0) (m d.0) b.0 in ap m (sym (rank_same f d.0 e c.0 a.0 (eqb-true (count d.0 f) (count e f) b.1))) ∙ c.1)
+      let c = and_parts (f d.0) (m d.0) b.0 in ap m (sym (rank_once f d.0 e c.0 a.0 (eqb-true (count d.0 f) (count e f) b.1))) ∙ c.1)
       (λ t. and_from (f e) (rank_of m (count e f)) (part e w t) (true_some (size g) (λ d. (f d && m d) && (count d f == count e f)) e w (and_from (f e && m e) (count e f == count e f) (and_from (f e) (m e) (part e w t) t) (eq-eqb (count e f) (count e f) refl))))
 
   pub to_listed : (m : Set) → IsPerfectOff g f r m → IsPerfect kf out (rank_of m)

@@ -2,12 +2,13 @@
 -- matching of the stage with the even edges is one of the new stage, and only the odd edges are left to ask.
 use Rattle.std.proofs.Common.{◌≡◌, ℕ, suc, zero, ◌+◌, ◌*◌, ◌≤◌, Bool, true, false, cond, ◌==◌, refl, sym, ap, ap₂, ◌∙◌, arith, ◌&&◌, ◌||◌, not, eq-eqb, ne_eqb, eqb-true, ◌⊎◌, inl, inr, subst, [], ◌∷◌, ◌++◌, List, length}
 use Rattle.std.proofs.lemmas.Bool.{cases_eq, cases_Bool, and_parts, and_from, both_ways, true≢false, false_from_ne_true, not-false, or_left, or_right, or_parts, or_cases, or_from}
+use Rattle.counting.proofs.Lists.{times_mem}
 use Rattle.counting.proofs.Tests.{true_some, some_true}
 use Rattle.counting.proofs.Totals.{total_congr, total_add, total_le, total_none}
 use Rattle.counting.specs.Counts.{bit, Within, is_odd}
-use Rattle.counting.specs.Lists.{mem}
+use Rattle.counting.specs.Lists.{mem, times}
 use Rattle.counting.specs.Sets.{Set, none, put, pair_set, union}
-use Rattle.ear_core.specs.Ears.{other_end, Follow, trail, last_vertex, times, IsEar}
+use Rattle.ear_core.specs.Ears.{other_end, Follow, trail, last_vertex, IsEar}
 use Rattle.ear_core.specs.NearlyStages.{odds, evens, IsNearlyStage}
 use Rattle.ear_core.specs.Stages.{is_met, adjacent_by, IsPerfectOf, IsPerfectOff, with_edges}
 use Rattle.graph_core.proofs.Decide.{degree_congr}
@@ -64,13 +65,6 @@ mem_times [] v h = absurd (true≢false (sym h))
 mem_times (x ∷ xs) v h = elim (or_cases (x == v) (mem xs v) h) [
   | inl a ↦ let b = ap bit a in omega arith
   | inr a ↦ let b = mem_times xs v a in omega arith
-]
-
-pub times_mem : (xs : List ℕ) (v : ℕ) → 1 ≤ times xs v → mem xs v ≡ true
-times_mem [] v h = absurd (omega arith)
-times_mem (x ∷ xs) v h = elim (cases_Bool (x == v)) [
-  | inl a ↦ or_left (x == v) (mem xs v) a
-  | inr a ↦ or_right (x == v) (mem xs v) (times_mem xs v (let b = ap bit a in omega arith))
 ]
 
 pub times_ends : (g : Graph) (es : List ℕ) (e : ℕ) → times es e ≤ list_ends g es (first_end g e)

@@ -1,6 +1,6 @@
 -- The answer to a list of steps, step by step: what is answered of the steps behind one that is taken is answered of all. And the answer
 -- to a list is right both ways, since a list of steps has no refusal or leads not to all edges.
-use Rattle.std.proofs.Common.{◌≡◌, ◌↔◌, ℕ, zero, suc, ◌+◌, ◌<◌, ◌≤◌, Bool, true, false, ◌||◌, ◌==◌, List, ◌∷◌, length, Option, Some, None, Result, IfOk, refl, sym, ap, ap₂, ◌∙◌, subst, inr}
+use Rattle.std.proofs.Common.{◌≡◌, ◌↔◌, ℕ, ◌+◌, ◌<◌, ◌≤◌, Bool, true, false, ◌||◌, ◌==◌, List, ◌∷◌, length, Option, Some, None, Result, IfOk, refl, sym, ap, ap₂, ◌∙◌, subst, inr}
 use Rattle.std.specs.Prelude.{slice_set, replicate}
 use Rattle.std.proofs.Math.Path.{fun_ext}
 use Rattle.std.proofs.lemmas.Bool.{both_ways}
@@ -8,6 +8,7 @@ use Rattle.std.proofs.lemmas.Result.{IfOk-weaker}
 use Rattle.counting.specs.Counts.{Within, count}
 use Rattle.counting.specs.Sets.{Set, singleton}
 use Rattle.graph_core.specs.Graph.{Graph, size, IsMultigraph}
+use Rattle.match_core.proofs.Marks.{no-marks}
 use Rattle.match_core.specs.Rows.{marks}
 use Rattle.allowed_edges.proofs.Marking.{marks-set}
 use Rattle.ear_core.specs.EarLists.{PlainStep, PlainEars, next_stage, IsEarList}
@@ -73,15 +74,9 @@ module _ (g : Graph) (is : IsMultigraph g) (f : Set) (list : PlainEars) (start :
     judged-refused = IfOk-weaker result (λ judgement. IsJudged g f 0 steps (refusal_of judgement)) (λ judgement. (step : ℕ) (why : Why) → (refusal_of judgement ≡ Some (step, why)) ↔ IsRefused g list step why)
         (λ judgement x. refuses (refusal_of judgement) (of-list (refusal_of judgement) x)) judged
 
--- nothing is marked
-blank : (n i : ℕ) → marks (replicate n false) i ≡ false
-blank zero i = refl
-blank (suc n) zero = refl
-blank (suc n) (suc i) = blank n i
-
 -- one edge is marked
 pub one-marked : (items : List Bool) (n e : ℕ) → items ≡ replicate n false → e < length items → (i : ℕ) → marks (slice_set items e true) i ≡ singleton e i
-one-marked items n e blanks less i = marks-set items e i less ∙ ap (λ b. b || (e == i)) (ap (λ (xs : List Bool). marks xs i) blanks ∙ blank n i)
+one-marked items n e blanks less i = marks-set items e i less ∙ ap (λ b. b || (e == i)) (ap (λ (xs : List Bool). marks xs i) blanks ∙ no-marks n i)
 
 pub one-stage : (g : Graph) → IsMultigraph g → (f : Set) (e : ℕ) → Within (size g) e → ((i : ℕ) → f i ≡ singleton e i) → IsStage g f
 one-stage g is f e w same = subst (IsStage g) (sym (fun_ext same)) (first-stage g is e w)

@@ -1,8 +1,8 @@
 -- Steps from a stage. Whether an edge lies in a perfect matching of a stage is decided, and the second ear of a step is an ear of the
 -- stage with the first.
-use Rattle.std.proofs.Common.{◌≡◌, ℕ, Bool, true, false, ◌==◌, refl, ap, ap₂, arith, ◌&&◌, ◌||◌, not, eq-eqb, eqb-true, ◌⊎◌, inl, inr, subst, List}
+use Rattle.std.proofs.Common.{◌≡◌, ℕ, Bool, true, ◌==◌, ap, ap₂, arith, ◌&&◌, ◌||◌, not, eq-eqb, eqb-true, ◌⊎◌, inl, inr, subst, List}
 use Rattle.std.proofs.lemmas.Bool.{and_parts, and_from, both_ways, false_from_ne_true, or_left, or_from}
-use Rattle.counting.proofs.Choice.{choose_set}
+use Rattle.counting.proofs.Choice.{choose_set, implies, implied}
 use Rattle.counting.proofs.Tests.{every_true, true_every, every_congr}
 use Rattle.counting.specs.Counts.{Within}
 use Rattle.counting.specs.Lists.{mem}
@@ -25,13 +25,6 @@ meets_once g f m v = not (is_met g f v) || (degree g m v == 1)
 
 abbrev pub is_perfect_of : Graph → Set → Set → Bool
 is_perfect_of g f m = every (size g) (is_part f m) && every g.order (meets_once g f m)
-
-implied : (a b : Bool) → (not a || b) ≡ true → a ≡ true → b ≡ true
-implied a b h k = grind arith
-
-implies : (a b : Bool) → (a ≡ true → b ≡ true) → (not a || b) ≡ true
-implies true b h = h refl
-implies false b h = refl
 
 pub perfect_of_true : (g : Graph) (f m : Set) → is_perfect_of g f m ≡ true → IsPerfectOf g f m
 perfect_of_true g f m h =

@@ -1,15 +1,16 @@
 -- The graph of a stage with its vertices numbered by rank; edges keep their numbers, and those off the stage are loops. It is matching
 -- covered, and its perfect matchings are those of the stage. So the two-ear theorem holds for pairs of vertices of a stage.
-use Rattle.std.proofs.Common.{◌≡◌, ℕ, suc, zero, ◌+◌, ◌-◌, ◌≤◌, ◌<◌, ◌≢◌, Bool, true, false, cond, ◌==◌, refl, sym, ap, ap₂, ◌∙◌, arith, ◌&&◌, ◌||◌, not, eq-eqb, ne_eqb, inl, inr, subst, [], ◌∷◌, ◌++◌, List, length, slice_index_or}
-use Rattle.std.proofs.lemmas.Bool.{cases_eq, cases_Bool, cases_order, cases_lt, and_parts, true≢false, true_from_ne_false}
+use Rattle.std.proofs.Common.{◌≡◌, ℕ, suc, zero, ◌+◌, ◌-◌, ◌≤◌, ◌≢◌, Bool, true, false, cond, ◌==◌, refl, sym, ap, ap₂, ◌∙◌, arith, ◌&&◌, ◌||◌, not, eq-eqb, ne_eqb, inl, inr, subst, [], ◌∷◌, ◌++◌, List, length, slice_index_or}
+use Rattle.std.proofs.lemmas.Bool.{cases_eq, cases_Bool, cases_order, and_parts, true≢false, true_from_ne_false}
 use Rattle.std.proofs.lemmas.List.{length-append, get_or_append_left, get_or-append-add}
 use Rattle.barrier_kit.proofs.Matched.{loop_free}
 use Rattle.counting.proofs.Counts.{count_congr}
+use Rattle.counting.proofs.Ranks.{count_up, rank_once, member_ranked}
 use Rattle.counting.proofs.Tests.{some_true}
 use Rattle.counting.proofs.Totals.{at_le_total, two_le_total}
 use Rattle.counting.specs.Counts.{Within, bit, count}
 use Rattle.counting.specs.Sets.{Set, none, union}
-use Rattle.ear_core.proofs.EngineGraphs.{rank_le, rank_same, ends-met}
+use Rattle.ear_core.proofs.EngineGraphs.{ends-met}
 use Rattle.ear_core.proofs.Growth.{degree_le, unmet}
 use Rattle.ear_core.proofs.NextStages.{met-within}
 use Rattle.ear_core.specs.Stages.{IsPerfectOff, IsStage, adjacent_by, is_met}
@@ -43,22 +44,11 @@ ranked t (p ∷ ps) = (count p.0 t, count p.1 t) ∷ ranked t ps
 pub rank-test : (t : Set) (u v : ℕ) → t u ≡ true → t v ≡ true → (count u t == count v t) ≡ (u == v)
 rank-test t u v tu tv = elim (cases_eq u v) [
   | inl e ↦ eq-eqb (count u t) (count v t) (ap (λ k. count k t) e) ∙ sym (eq-eqb u v e)
-  | inr d ↦ ne_eqb (count u t) (count v t) (λ e. d (rank_same t u v tu tv e)) ∙ sym (ne_eqb u v d)
+  | inr d ↦ ne_eqb (count u t) (count v t) (λ e. d (rank_once t u v tu tv e)) ∙ sym (ne_eqb u v d)
 ]
 
 pub rank-within : (n : ℕ) (t : Set) (v : ℕ) → Within n v → t v ≡ true → Within (count n t) (count v t)
-rank-within n t v w h = let a = at_le_total v (λ k. bit (t k)) v (omega arith) in let b = ap bit h in let c = rank_le t v n (omega arith) in omega arith
-
-pub unrank : (n : ℕ) (t : Set) (k : ℕ) → Within (count n t) k → (v : ℕ) × Within n v × (t v ≡ true) × (count v t ≡ k)
-unrank zero t k w = absurd (omega arith)
-unrank (suc n) t k w = elim (cases_lt (count n t) k) [
-  | inr l ↦ let r = unrank n t k (omega arith) in (r.0, let a = r.1 in omega arith, r.2, r.3)
-  | inl l ↦ go l (t (suc n)) refl
-]
-  where
-    go : count n t < k → (b : Bool) → t (suc n) ≡ b → (v : ℕ) × Within (suc n) v × (t v ≡ true) × (count v t ≡ k)
-    go l true e = (suc n, omega arith, e, let a = ap bit e in omega arith)
-    go l false e = let a = ap bit e in absurd (omega arith)
+rank-within n t v w h = let a = at_le_total v (λ k. bit (t k)) v (omega arith) in let b = ap bit h in let c = count_up t v n (omega arith) in omega arith
 
 pub tab-size : (n : ℕ) (f : ℕ → ℕ × ℕ) → length (tab n f) ≡ n
 tab-size zero f = refl
@@ -113,9 +103,9 @@ module _ (g : Graph) (is : IsGraph g) (f : Set) where
   module _ (r r' : Set) (same : (v : ℕ) → Within g.order v → t v ≡ true → r' (count v t) ≡ r v) where
     pub off-ranked : (m : Set) → IsPerfectOff g f r m → IsPerfect k r' m
     off-ranked m p = record {
-      once = λ w ww o. let v = unrank g.order t w ww in
+      once = λ w ww o. let v = member_ranked g.order t w ww in
           ap (degree k m) (sym v.3) ∙ degree-ranked m p.part v.0 v.2 ∙ p.once v.0 v.1 v.2 (sym (same v.0 v.1 v.2) ∙ ap r' v.3 ∙ o);
-      away = λ w ww o. let v = unrank g.order t w ww in
+      away = λ w ww o. let v = member_ranked g.order t w ww in
           ap (degree k m) (sym v.3) ∙ degree-ranked m p.part v.0 v.2 ∙ p.away v.0 v.1 (sym (same v.0 v.1 v.2) ∙ ap r' v.3 ∙ o);
     }
 
@@ -190,8 +180,8 @@ module _ (g : Graph) (is : IsGraph g) (f : Set) where
     ranked-covered = record {
       two = two;
       connected = λ u v wu wv.
-          let a = unrank g.order t u wu in
-          let b = unrank g.order t v wv in
+          let a = member_ranked g.order t u wu in
+          let b = member_ranked g.order t v wv in
           let w = s.connected a.0 b.0 a.1 b.1 a.2 b.2 in
           subst (λ c. Joined k none c v) a.3 (subst (λ c. Joined k none (count a.0 t) c) b.3 (walk-ranked a.0 b.0 w.0 w.1));
       allowed = λ e we d.
@@ -231,7 +221,7 @@ module _ (g : Graph) (is : IsGraph g) (f : Set) where
           within = λ q i. let r = ranked-in ps q i in
               let u = h r.0 r.1 in
               (subst (Within k.order) (sym (ap (λ z. z.0) r.2)) (rank-within g.order t r.0.0 (met-within g is f r.0.0 u.0) u.0), subst (Within k.order) (sym (ap (λ z. z.1) r.2)) (rank-within g.order t r.0.1 (met-within g is f r.0.1 u.1) u.1));
-          once = λ w ww. let v = unrank g.order t w ww in let a = ranked-ends ps h v.0 v.2 in let b = once v.0 v.1 in let c = ap (pairs_at (ranked t ps)) v.3 in omega arith;
+          once = λ w ww. let v = member_ranked g.order t w ww in let a = ranked-ends ps h v.0 v.2 in let b = once v.0 v.1 in let c = ap (pairs_at (ranked t ps)) v.3 in omega arith;
         } in
         let x = two_ears k ranked-graph ranked-covered (ranked t ps) (filled ps filled_ps) dis (m, off-ranked (in_pairs ps) (in_pairs (ranked t ps)) (λ v w tv. ap (λ n. not (n == 0)) (ranked-ends ps h v tv)) m p) in
         let a = ranked-in ps x.0 x.2 in

@@ -1,11 +1,11 @@
 -- A list of steps from a stage leads to all edges, or has exactly one first refusal. The tests of a step say that it is a step; then
 -- only the odd edges of its ears are left to ask, and the new stage is covered exactly where no edge of it is refused.
 use Rattle.std.proofs.Common.{◌≡◌, ℕ, ◌+◌, Bool, true, false, if◌then◌else◌, Option, Some, None, refl, sym, ap, ◌∙◌, ◌||◌, inl, inr, [], ◌∷◌, List}
-use Rattle.std.proofs.lemmas.Bool.{cases_order, both_ways}
+use Rattle.std.proofs.lemmas.Bool.{both_ways}
+use Rattle.counting.proofs.Tests.{least-one}
 use Rattle.counting.specs.Counts.{Within}
 use Rattle.counting.specs.Lists.{mem}
 use Rattle.counting.specs.Sets.{Set, none}
-use Rattle.counting.specs.Tests.{IsLeastWithout}
 use Rattle.graph_core.specs.Graph.{Graph, size, IsGraph}
 use Rattle.ear_core.specs.Stages.{IsStage, AllowedBy, with_edges}
 use Rattle.ear_core.specs.NearlyStages.{IsNearlyStage, odds}
@@ -87,13 +87,6 @@ stage-fine g f e stage least = least.without (λ t. stage.allowed e least.within
 -- and what is nearly a stage without such an edge is one
 pub fine-stage : (g : Graph) (f o : Set) → IsNearlyStage g f o → ((e : ℕ) → Within (size g) e → f e ≡ true → AllowedBy g f e) → IsStage g f
 fine-stage g f o near fine = record { some_edge = near.some_edge; connected = near.connected; allowed = fine }
-
--- two least numbers without a property are one
-pub least-one : (n : ℕ) (P : ℕ → Type 0) (d e : ℕ) → IsLeastWithout n P d → IsLeastWithout n P e → d ≡ e
-least-one n P d e least other = elim (cases_order d e) [
-  | inl i ↦ i
-  | inr i ↦ elim i [ inl l ↦ absurd (least.without (other.before d least.within l)) | inr l ↦ absurd (other.without (least.before e other.within l)) ]
-]
 
 some-one : (a b : Why) → Some a ≡ Some b → a ≡ b
 some-one a b same = ap (λ o. from o a) same

@@ -3,8 +3,9 @@
 -- the ends.
 use Rattle.std.proofs.Common.{◌≡◌, ℕ, suc, zero, ◌+◌, ◌≤◌, Bool, true, false, ◌==◌, refl, sym, ap, ◌∙◌, arith, ◌&&◌, ◌||◌, not, eq-eqb, ne_eqb, eqb-true, inl, inr, subst, [], ◌∷◌, List}
 use Rattle.std.proofs.lemmas.Bool.{cases_eq, cases_Bool, and_parts, and_from, both_ways, true≢false, false_from_ne_true, not-true, not-false, or_left, or_right, or_parts, or_cases}
+use Rattle.counting.proofs.Lists.{times_mem}
 use Rattle.counting.specs.Counts.{bit, Within}
-use Rattle.counting.specs.Lists.{mem}
+use Rattle.counting.specs.Lists.{mem, times}
 use Rattle.counting.specs.Sets.{Set, none}
 use Rattle.graph_core.proofs.Edits.{ends_of, edge_at, ends_le_degree}
 use Rattle.graph_core.specs.Graph.{Graph, size, first_end, second_end, degree}
@@ -12,9 +13,9 @@ use Rattle.graph_core.specs.Matchings.{IsPerfect}
 use Rattle.two_ears.specs.VertexPairs.{pairs_at, in_pairs}
 use Rattle.ear_core.specs.AlternatingEars.{mate, IsAlternating, IsClear, HoldsMates, IsMatedEar, IsAmong, ends_of_ears, AreMatedEars, is_left, AreCandidates}
 use Rattle.ear_core.specs.EarLists.{PlainEar}
-use Rattle.ear_core.specs.Ears.{trail, last_vertex, times}
+use Rattle.ear_core.specs.Ears.{trail, last_vertex}
 use Rattle.ear_core.specs.Stages.{is_met, IsPerfectOff}
-use Rattle.ear_core.proofs.Growth.{edges-within, ends_of-other_end, times_mem, degree_le, evens_at, some-met}
+use Rattle.ear_core.proofs.Growth.{edges-within, ends_of-other_end, degree_le, evens_at, some-met}
 use Rattle.ear_core.proofs.Mates.{AreMates}
 use Rattle.ear_core.proofs.Walking.{joins}
 

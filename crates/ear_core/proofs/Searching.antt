@@ -2,6 +2,7 @@
 -- among all. Behind the search one ear serves or two do.
 use Rattle.std.proofs.Common.{◌≡◌, ℕ, ◌+◌, ◌≤◌, Bool, true, false, ◌==◌, ◌||◌, ◌⊎◌, ◌↔◌, inl, inr, refl, sym, ap, ◌∙◌, arith, subst, eq-eqb, List, [], ◌∷◌, Option, Some, None, Result, Ok, Err, IfOk, IfSome, IfNone, All, get_or}
 use Rattle.std.specs.List.{AllByRecursion}
+use Rattle.counting.proofs.RisingLists.{mem-item}
 use Rattle.counting.specs.Counts.{bit, Within}
 use Rattle.counting.specs.Lists.{mem}
 use Rattle.counting.specs.Sets.{Set, union, complement}
@@ -19,7 +20,6 @@ use Rattle.ear_core.specs.Stages.{is_met, IsStage}
 use Rattle.ear_core.specs.declared.choosing.Asked.{Asked}
 use Rattle.ear_core.proofs.EngineGraphs.{served_listed}
 use Rattle.ear_core.proofs.Growth.{edges-within}
-use Rattle.ear_core.proofs.Taking.{mem_at}
 use Rattle.ear_core.proofs.NextStages.{met-within}
 use Rattle.ear_core.proofs.ServingEars.{off-same}
 use Rattle.ear_core.proofs.ServingPairs.{apart-pair, serving-one, serving-two, some-serve, serve-twice}
@@ -166,7 +166,7 @@ module _ (g : Graph) (is : IsGraph g) (f : Set) (stage : IsStage g f) (ears : Li
 
 -- the numbers of an ear are in range
 all-edges : (m : ℕ) (es : List ℕ) → ((e : ℕ) → mem es e ≡ true → Within m e) → All (Within m) es
-all-edges m es h k d less = h (get_or es k d) (mem_at es k d less)
+all-edges m es h k d less = h (get_or es k d) (mem-item es k d less)
 
 pub ear-fits : (g : Graph) → IsGraph g → (f : Set) (a : PlainEar) → IsEar g f a.begin a.edges → FitsEar g.order (size g) a
 ear-fits g is f a ear = (met-within g is f a.begin ear.start, all-edges (size g) a.edges (λ e i. edges-within g a.begin a.edges ear.follow e i))

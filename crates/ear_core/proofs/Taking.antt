@@ -1,7 +1,8 @@
 -- A step whose tests pass and whose edges are all allowed makes a stage; the least of its edges that is not allowed is that of the stage.
-use Rattle.std.proofs.Common.{◌≡◌, ℕ, suc, zero, ◌<◌, true, false, ◌==◌, List, [], ◌∷◌, length, All, get_or, Option, Some, None, IfSome, refl, ◌∙◌, arith, subst, inl, inr, eq-eqb}
+use Rattle.std.proofs.Common.{◌≡◌, ℕ, true, false, List, All, get_or, Option, Some, None, IfSome, ◌∙◌, subst, inl, inr}
 use Rattle.std.proofs.Math.Path.{fun_ext}
 use Rattle.std.proofs.lemmas.Bool.{cases_Bool, or_left, or_right, or_parts, or_from, both_ways, false_from_ne_true}
+use Rattle.counting.proofs.RisingLists.{mem-item}
 use Rattle.counting.specs.Counts.{Within}
 use Rattle.counting.specs.Lists.{mem}
 use Rattle.counting.specs.Sets.{Set, none}
@@ -16,13 +17,8 @@ use Rattle.ear_core.specs.declared.ears.Ear.{Ear}
 use Rattle.ear_core.proofs.Growth.{mem_odds}
 use Rattle.ear_core.proofs.Refusing.{step-none, step_odds, step-nearly, fine-stage}
 
-pub mem_at : (es : List ℕ) (k d : ℕ) → k < length es → mem es (get_or es k d) ≡ true
-mem_at [] k d less = absurd (omega arith)
-mem_at (e ∷ es) zero d less = or_left (e == e) (mem es e) (eq-eqb e e refl)
-mem_at (e ∷ es) (suc k) d less = or_right (e == get_or es k d) (mem es (get_or es k d)) (mem_at es k d (omega arith))
-
 all-marked : (new : Set) (es : List ℕ) → ((i : ℕ) → mem es i ≡ true → new i ≡ true) → All (λ e. new e ≡ true) es
-all-marked new es h k d less = h (get_or es k d) (mem_at es k d less)
+all-marked new es h k d less = h (get_or es k d) (mem-item es k d less)
 
 -- the edges of a step that was marked
 pub first_marked : (old new : Set) (first : Ear) (second : Option Ear) → ((i : ℕ) → new i ≡ next_stage old (plain_step (ear_of first) second) i) → All (λ e. new e ≡ true) first.edges

@@ -2,7 +2,7 @@
 -- other are followed in turn, until a vertex of the stage comes again.
 use Rattle.std.specs.Prelude.{◌≡◌, ◌≢◌, ◌⊎◌, ◌≤◌, ℕ, true, false, List, [], ◌∷◌, ◌++◌, ◌==◌, ◌&&◌, ◌||◌, not, cond, length}
 use Rattle.counting.specs.Counts.{Within, is_odd}
-use Rattle.counting.specs.Lists.{mem}
+use Rattle.counting.specs.Lists.{mem, times}
 use Rattle.counting.specs.Sets.{Set, none, pair_set}
 use Rattle.graph_core.specs.Graph.{Graph, first_end, second_end}
 use Rattle.graph_core.specs.Matchings.{IsPerfect}
@@ -10,7 +10,7 @@ use Rattle.match_core.specs.MatchingRows.{MatchingValue, IsOf, edges_of}
 use Rattle.match_core.specs.declared.matching.MatchRow.{MatchRow}
 use Rattle.two_ears.specs.VertexPairs.{pairs_at, in_pairs}
 use Rattle.ear_core.specs.EarLists.{PlainEar, PlainStep, one, two}
-use Rattle.ear_core.specs.Ears.{other_end, Follow, trail, last_vertex, times, IsEar}
+use Rattle.ear_core.specs.Ears.{other_end, Follow, trail, last_vertex, IsEar}
 use Rattle.ear_core.specs.Stages.{is_met, IsPerfectOff}
 
 -- a perfect matching of g, as its rows

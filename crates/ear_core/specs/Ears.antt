@@ -1,8 +1,8 @@
 -- Ears of a stage f: paths of odd length outside f between two vertices of f, no inner vertex of which f meets.
-use Rattle.std.specs.Prelude.{◌≡◌, ◌≢◌, ℕ, ◌+◌, ◌≤◌, true, false, List, [], ◌∷◌, ◌==◌, ◌||◌, cond, length}
-use Rattle.counting.specs.Counts.{Within, bit, is_odd}
+use Rattle.std.specs.Prelude.{◌≡◌, ◌≢◌, ℕ, ◌≤◌, true, false, List, [], ◌∷◌, ◌==◌, ◌||◌, cond, length}
+use Rattle.counting.specs.Counts.{Within, is_odd}
 use Rattle.counting.specs.Sets.{Set}
-use Rattle.counting.specs.Lists.{mem}
+use Rattle.counting.specs.Lists.{mem, times}
 use Rattle.graph_core.specs.Graph.{Graph, size, first_end, second_end}
 use Rattle.ear_core.specs.Stages.{is_met}
 
@@ -24,11 +24,6 @@ trail g v (e ∷ es) = v ∷ trail g (other_end g e v) es
 abbrev pub last_vertex : Graph → ℕ → List ℕ → ℕ
 last_vertex g v [] = v
 last_vertex g v (e ∷ es) = last_vertex g (other_end g e v) es
-
--- how often v stands in the list
-abbrev pub times : List ℕ → ℕ → ℕ
-times [] v = 0
-times (x ∷ xs) v = bit (x == v) + times xs v
 
 -- an ear of f, from v along the edges es
 pub record IsEar (g : Graph) (f : Set) (v : ℕ) (es : List ℕ) : Type 0 where

@@ -1,35 +1,18 @@
 //! Whether the stage of the marked edges is matching covered, which the matching engine is asked edge by edge.
-ghost use Rattle.std.specs.Prelude.{◌≡◌, ◌≢◌, ◌+◌, ◌<◌, ◌≤◌, ◌||◌, ℕ, true, false, not, length, All, OnOk, IfOk};
+ghost use Rattle.std.specs.Prelude.{◌≡◌, ◌+◌, ◌<◌, ◌≤◌, ◌||◌, ℕ, true, false, not, length, All, IfOk};
 ghost use Rattle.counting.specs.Counts.{Within};
 ghost use Rattle.counting.specs.Sets.{Set};
 ghost use Rattle.counting.specs.Lists.{mem};
-ghost use Rattle.graph_core.specs.Graph.{size, with_edge};
+ghost use Rattle.graph_core.specs.Graph.{size};
 ghost use Rattle.match_core.specs.Rows.{marks};
 ghost use Rattle.ear_core.specs.Stages.{is_met, AllowedBy, with_edges};
 ghost use Rattle.ear_core.specs.StageGraphs.{listed, Settled, asked_too};
 ghost use Rattle.two_ears.specs.AddedEdges.{over};
 
-use graph_core::{AddFault, Ends, MOST_EDGES, MultiGraph};
+use graph_core::MultiGraph;
 use match_core::perfect_without;
 use std::alloc::{AllocError as Memory, Global};
 use vset_core::VSet;
-
-// Appends an edge that the graph has room for.
-fn add(graph: &mut MultiGraph, edge: Ends) -> Result<(), Memory>
-    requires first { Within graph.old.order edge.a }
-    requires second { Within graph.old.order edge.b }
-    requires different { edge.a ≢ edge.b }
-    requires room { size graph.old < MOST_EDGES }
-    ensures { OnOk result (graph.new ≡ with_edge graph.old edge.a edge.b) }
-{
-    match graph.add_edge(edge.a, edge.b) {
-        Ok(_) => Ok(()),
-        Err(AddFault::Memory) => Err(Memory),
-        Err(AddFault::Range) => unreachable!(),
-        Err(AddFault::Loop) => unreachable!(),
-        Err(AddFault::TooMany) => unreachable!(),
-    }
-}
 
 /// The graph of the marked edges, on all vertices.
 pub fn marked_graph(alloc: Global, g: &MultiGraph, mark: &[bool]) -> Result<MultiGraph, Memory>
@@ -39,7 +22,7 @@ pub fn marked_graph(alloc: Global, g: &MultiGraph, mark: &[bool]) -> Result<Mult
     let mut stage = MultiGraph::new(alloc, g.order())?;
     for k in 0..g.size() {
         if mark[k as usize + 1] {
-            add(&mut stage, g.ends(k + 1))?;
+            stage.push_edge(g.ends(k + 1))?;
         }
     }
     Ok(stage)

@@ -2,12 +2,12 @@
 -- ear is empty: each line keeps this, since it passed the tests of the table.
 use Rattle.std.proofs.Common.{◌≡◌, ◌<◌, ◌==◌, ◌||◌, ◌&&◌, ◌++◌, codes, not, nat_le, if◌then◌else◌, ℕ, List, [], ◌∷◌, Bool, length, map, true, false, Option, Some, None, is_some, Result, Ok, Err, IfOk, refl, sym, ◌∙◌, ap, subst, arith}
 use Rattle.std.specs.List.{AllByRecursion, list_all, list_any}
-use Rattle.std.proofs.lemmas.Bool.{and_parts, or_parts, both_ways}
+use Rattle.std.proofs.lemmas.Bool.{and_parts, or_parts, both_ways, not-false}
 use Rattle.counting.specs.Counts.{Within}
 use Rattle.line_text.specs.Format.{Begins, Stands, finish}
 use Rattle.line_text.specs.Words.{has_form, word_at}
 use Rattle.line_text.specs.Numerals.{is_number, value_of}
-use Rattle.line_text.proofs.Tables.{all_passed, holds, no_value, value_or}
+use Rattle.line_text.proofs.Tables.{all_passed, no_value, value_or}
 use Rattle.text_faults.proofs.InRange.{all-in_range, in_range}
 use Rattle.graph_core.specs.declared.faults.FaultKind.{FaultKind}
 use Rattle.graph_core.specs.declared.faults.FaultKind.TheVariants as kind
@@ -69,7 +69,7 @@ ear_line-keeps n m start steps last words next keeps same =
     let through = all_passed (line_tests n m last words) (line_read start steps last words) next same in
     let tests = through.0 in
     let range = or_parts (is_out_of_range n (value_of (word_at words 1))) (list_any (is_out_of_range m) (map value_of (behind_two words))) tests.1.1.0 in
-    subst (Keeps n m) through.1 (go (is_ear_line words) refl keeps.0 keeps.1 keeps.2 (holds (is_ear_line words || (is_some last && is_with_line words)) tests.0)
+    subst (Keeps n m) through.1 (go (is_ear_line words) refl keeps.0 keeps.1 keeps.2 (not-false (is_ear_line words || (is_some last && is_with_line words)) tests.0)
     (in_range n (value_of (word_at words 1)) range.0, all-in_range m (map value_of (behind_two words)) range.1))
   where
     go : (first : Bool) → is_ear_line words ≡ first → Within m start → KeepsSteps n m steps → KeepsLast n m last → (is_ear_line words || (is_some last && is_with_line words)) ≡ true → FitsEar n m (ear_at words) → Keeps n m (line_read start steps last words)

@@ -10,7 +10,7 @@ use Rattle.line_text.specs.Format.{Begins, Stands, StandsAlone}
 use Rattle.line_text.specs.Words.{has_form, IsSignificant}
 use Rattle.line_text.specs.Numerals.{is_number, value_of}
 use Rattle.line_text.proofs.Decimals.{number_of-decimal, is_word-decimal, value-decimal, number-decimal, values-decimal, numbers-decimal, words-decimal}
-use Rattle.text_faults.proofs.InRange.{in_range-test, in_range-tests}
+use Rattle.text_faults.proofs.InRange.{in_range-test, in_range-tests, few-digits}
 use Rattle.line_text.proofs.ExactlyOne.{exactly_one}
 use Rattle.line_text.proofs.ReadBack.{Stands-written}
 use Rattle.ear_core.specs.EarLists.{PlainEar, PlainStep, one, two, PlainEars, FitsEar, FitsStep, HasEdges}
@@ -28,10 +28,6 @@ unfolding has_form
 start-taken n m e size within =
     let high = within.1 in
     rw (number_of-decimal e (omega arith), in_range-test m e within) (grind (arith, nat_tests))
-
--- numbers in range, and their words
-below : (m : ℕ) (x : List ℕ) → m < 10 ^ 9 → All (Within m) x → All (λ v. v < 10 ^ 9) x
-below m x size within k d less = let in_order = within k d less in omega arith
 
 -- which line it is
 is-ear : (word : List ℕ) (words : List (List ℕ)) → 0 < length words → is_ear_line (codes "ear" ∷ word ∷ words) ≡ true
@@ -63,7 +59,7 @@ ear-taken n m start steps last a order size fits some =
     small = let high = fits.0.1 in omega arith
 
     edges : All (λ v. v < 10 ^ 9) a.edges
-    edges = below m a.edges size fits.1
+    edges = few-digits m a.edges size fits.1
 
     taken : (words : List (List ℕ)) → is_ear_line (codes "ear" ∷ decimal a.begin ∷ words) ≡ true → value_of (decimal a.begin) ≡ a.begin → is_number (decimal a.begin) ≡ true → map value_of words ≡ a.edges → list_all is_number words ≡ true → (ear_format n m).line (started start steps last) (codes "ear" ∷ decimal a.begin ∷ words) ≡ Ok (started start (closed steps last) (Some a))
     taken words is value number values numbers = rw (is, value, number, values, numbers, in_range-test n a.begin fits.0, in_range-tests m a.edges fits.1) refl
@@ -77,7 +73,7 @@ with-taken n m start steps a b order size fits some =
     small = let high = fits.0.1 in omega arith
 
     edges : All (λ v. v < 10 ^ 9) b.edges
-    edges = below m b.edges size fits.1
+    edges = few-digits m b.edges size fits.1
 
     taken : (words : List (List ℕ)) → is_ear_line (codes "with" ∷ decimal b.begin ∷ words) ≡ false → is_with_line (codes "with" ∷ decimal b.begin ∷ words) ≡ true → value_of (decimal b.begin) ≡ b.begin → is_number (decimal b.begin) ≡ true → map value_of words ≡ b.edges → list_all is_number words ≡ true → (ear_format n m).line (started start steps (Some a)) (codes "with" ∷ decimal b.begin ∷ words) ≡ Ok (started start (steps ++ two a b ∷ []) None)
     taken words other is value number values numbers = rw (other, is, value, number, values, numbers, in_range-test n b.begin fits.0, in_range-tests m b.edges fits.1) refl
@@ -115,12 +111,12 @@ after-ends start before last (two a b ∷ steps) = after-ends start (closed befo
 ear-significant : (n m : ℕ) (a : PlainEar) → n < 10 ^ 9 → m < 10 ^ 9 → FitsEar n m a → IsSignificant (ear_words (codes "ear") a)
 ear-significant n m a order size fits =
     let high = fits.0.1 in
-    record { kept = refl; each = (refl, (is_word-decimal a.begin (omega arith), words-decimal a.edges (below m a.edges size fits.1))) }
+    record { kept = refl; each = (refl, (is_word-decimal a.begin (omega arith), words-decimal a.edges (few-digits m a.edges size fits.1))) }
 
 with-significant : (n m : ℕ) (a : PlainEar) → n < 10 ^ 9 → m < 10 ^ 9 → FitsEar n m a → IsSignificant (ear_words (codes "with") a)
 with-significant n m a order size fits =
     let high = fits.0.1 in
-    record { kept = refl; each = (refl, (is_word-decimal a.begin (omega arith), words-decimal a.edges (below m a.edges size fits.1))) }
+    record { kept = refl; each = (refl, (is_word-decimal a.begin (omega arith), words-decimal a.edges (few-digits m a.edges size fits.1))) }
 
 steps-significant : (n m : ℕ) (steps : List PlainStep) → n < 10 ^ 9 → m < 10 ^ 9 → AllByRecursion (FitsStep n m) steps → AllByRecursion IsSignificant (step_words steps)
 steps-significant n m [] order size fits = tt

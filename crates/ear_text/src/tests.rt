@@ -3,10 +3,11 @@ ghost use Rattle.std.specs.Prelude.{◌≤◌, ◌<◌, length};
 
 use crate::{read_ears, write_ears};
 use ear_core::{EarJudgement, EarWhy, check_ears};
-use graph_core::{FaultKind, MultiGraph, TextFault};
+use graph_core::{FaultKind, TextFault};
 use std::alloc::Global;
 use std::test::Fail;
 use vset_core::MOST_VERTICES;
+use worked_graphs::{CUBE, K4, graph_with};
 
 #[test]
 fn ear_lists_written_and_read_again(rt: HostRuntime) -> Result<(), Fail> {
@@ -85,23 +86,6 @@ fn first_faults_for_4_vertices_and_6_edges(rt: HostRuntime) {
     }
 }
 
-const K4: [(u32, u32); 6] = [(1, 2), (1, 3), (1, 4), (2, 3), (2, 4), (3, 4)];
-
-const CUBE: [(u32, u32); 12] = [
-    (1, 2),
-    (2, 3),
-    (3, 4),
-    (1, 4),
-    (5, 6),
-    (6, 7),
-    (7, 8),
-    (5, 8),
-    (1, 5),
-    (2, 6),
-    (3, 7),
-    (4, 8),
-];
-
 fn judged(
     alloc: Global,
     order: u32,
@@ -111,10 +95,7 @@ fn judged(
     requires order { order ≤ MOST_VERTICES }
     requires text { length text.now < 4294967295 }
 {
-    let mut graph = MultiGraph::new(alloc, order)?;
-    for (a, b) in edges {
-        graph.add_edge(*a, *b)?;
-    }
+    let graph = graph_with(alloc, order, edges)?;
     let list = read_ears(alloc, text, graph.order(), graph.size())?;
     Ok(check_ears(alloc, &graph, &list)?)
 }

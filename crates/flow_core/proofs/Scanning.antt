@@ -1,6 +1,7 @@
 -- The arcs at one node, scanned one by one: each has no room out of the node, or leads to a node that is seen then.
 -- Idea: the arcs scanned so far stay scanned while the seen nodes grow, and the rows list every arc at the node.
 use Rattle.std.proofs.Common.{◌≡◌, ◌≢◌, ℕ, ◌+◌, ◌-◌, ◌≤◌, ◌<◌, ◌==◌, ◌||◌, true, false, List, [], ◌∷◌, ◌++◌, length, get_or, min, refl, sym, ◌∙◌, ap, ap₂, subst, arith, inl, inr, eq-eqb, ne_eqb, below_more, length-append}
+use Rattle.std.proofs.lemmas.Bool.{or_right, or_left}
 use Rattle.std.specs.Prelude.{ℤ, pos, ◌<ℤ◌, Contains}
 use Rattle.std.proofs.Math.Seq.{get_or-append_seam}
 use Rattle.std.proofs.lemmas.Int.{ints}
@@ -8,7 +9,6 @@ use Rattle.std.proofs.lemmas.List.{get_or_read}
 use Rattle.counting.specs.Counts.{Within}
 use Rattle.counting.specs.Sets.{Set}
 use Rattle.counting.specs.Lists.{mem}
-use Rattle.counting.proofs.Lists.{or_front, or_back}
 use Rattle.flow_core.specs.Nets.{Arc, Net, IsArc, IsNet}
 use Rattle.flow_core.specs.Residual.{arc_at, amount_at, Joins, room_from, HasRoom, IsScanned}
 use Rattle.flow_core.specs.Incidence.{row_at, HasEnd, IsIncidence}
@@ -109,10 +109,10 @@ module _ (net : Net) (amounts : List ℤ) (sink head : ℕ) (from : Visit) (row 
   last = taken node head (get_or row place 0) (min room from.room)
 
   stays : (v : ℕ) → mem seen v ≡ true → mem more v ≡ true
-  stays v m = h v ∙ or_front (mem seen v) (node == v) m
+  stays v m = h v ∙ or_left (mem seen v) (node == v) m
 
   is_seen : mem more node ≡ true
-  is_seen = h node ∙ or_back (mem seen node) (node == node) (eq-eqb node node refl)
+  is_seen = h node ∙ or_right (mem seen node) (node == node) (eq-eqb node node refl)
 
   node_within : Within net.nodes node
   node_within = end_within net.nodes (arc_at net.arcs (get_or row place 0)) from.node node t.in_order t.joins

@@ -3,15 +3,15 @@
 use Rattle.std.proofs.Common.{◌≡◌, ◌≢◌, ℕ, zero, suc, ◌+◌, ◌-◌, ◌≤◌, ◌<◌, ◌^◌, ◌==◌, ◌||◌, Bool, true, false, cond, List, [], ◌∷◌, ◌++◌, length, get_or, refl, sym, ◌∙◌, ap, subst, arith, inl, inr, eq-eqb, ne_eqb, length-append}
 use Rattle.std.specs.Prelude.{ℤ}
 use Rattle.std.proofs.Math.Seq.{get_or-append_seam}
-use Rattle.std.proofs.lemmas.Bool.{cases_eq, both_ways}
+use Rattle.std.proofs.lemmas.Bool.{cases_eq, both_ways, or_right, or_left}
 use Rattle.std.proofs.lemmas.Int.{ints}
 use Rattle.std.proofs.lemmas.List.{get_or_append_left}
+use Rattle.counting.proofs.RisingLists.{mem-item}
 use Rattle.counting.specs.Counts.{Within, count, bit}
 use Rattle.counting.specs.Sets.{Set, put, everything}
 use Rattle.counting.specs.Lists.{mem, IsRisingIn}
 use Rattle.counting.proofs.Counts.{count_of_one, count_congr, count_le}
 use Rattle.counting.proofs.Choice.{count_put}
-use Rattle.counting.proofs.Lists.{or_front, or_back}
 use Rattle.flow_core.specs.Nets.{Arc, Net}
 use Rattle.flow_core.specs.Residual.{arc_at, Joins, HasRoom, IsReached, IsScanned, IsReachedSet}
 use Rattle.flow_core.specs.Search.{visit_at, node_at, IsStep, IsVisit, IsTree, IsSeen, IsSearch}
@@ -141,10 +141,10 @@ pub IsSeen-push : (net : Net) (visits : List Visit) (seen : List ℕ) → IsSeen
     → IsSeen net (visits ++ visit ∷ []) more
 IsSeen-push net visits seen set visit more w f h = record {
   all_seen = λ j l. elim (cases_eq j (length visits)) [
-    | inl e ↦ ap (mem more) (new_node visits visit j e) ∙ h visit.node ∙ or_back (mem seen visit.node) (visit.node == visit.node) (eq-eqb visit.node visit.node refl)
+    | inl e ↦ ap (mem more) (new_node visits visit j e) ∙ h visit.node ∙ or_right (mem seen visit.node) (visit.node == visit.node) (eq-eqb visit.node visit.node refl)
     | inr d ↦
         let m = old_place visits visit j l d in
-        ap (mem more) (old_node visits visit j m) ∙ h (node_at visits j) ∙ or_front (mem seen (node_at visits j)) (visit.node == node_at visits j) (set.all_seen j m)
+        ap (mem more) (old_node visits visit j m) ∙ h (node_at visits j) ∙ or_left (mem seen (node_at visits j)) (visit.node == node_at visits j) (set.all_seen j m)
   ];
   seen_only = λ v m. place v (mem seen v) refl m;
   size = length-push visits visit ∙ ap (λ k. k + 1) set.size ∙ sym (count-with net.nodes (mem seen) (mem more) visit.node w f h);
@@ -237,12 +237,6 @@ arcs-differ net amounts visits tree i j p k l e = elim u.step.joins [
 
     other : Joins (arc_at net.arcs (visit_at visits i).arc) (node_at visits (visit_at visits j).parent) (node_at visits j)
     other = subst (λ a. Joins (arc_at net.arcs a) (node_at visits (visit_at visits j).parent) (node_at visits j)) (sym e) v.step.joins
-
--- an item of a list is in it
-mem-item : (xs : List ℕ) (k d : ℕ) → k < length xs → mem xs (get_or xs k d) ≡ true
-mem-item [] k d l = absurd (omega arith)
-mem-item (x ∷ xs) zero d l = or_front (x == x) (mem xs x) (eq-eqb x x refl)
-mem-item (x ∷ xs) (suc k) d l = or_back (x == get_or xs k d) (mem xs (get_or xs k d)) (mem-item xs k d (omega arith))
 
 -- a rising list whose members are numbers 1 to n
 rising-within : (m n : ℕ) (xs : List ℕ) → IsRisingIn m xs → ((v : ℕ) → mem xs v ≡ true → Within n v) → IsRisingIn n xs

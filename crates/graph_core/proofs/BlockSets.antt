@@ -2,7 +2,7 @@
 -- A union of blocks is counted at the first vertex of each block; uncrossing is that of the contracted graph.
 use Rattle.std.proofs.Common.{◌≡◌, ℕ, suc, zero, ◌-◌, ◌<◌, ◌+◌, ◌*◌, ◌≤◌, Bool, true, false, ◌==◌, refl, sym, ap, ap₂, ◌∙◌, arith, ◌&&◌, ◌||◌, not, eq-eqb, eqb-true, inl, inr, List, [], ◌∷◌, length}
 use Rattle.std.proofs.lemmas.Bool.{cases_Bool, both_ways, and_parts, and_from, cases_eq}
-use Rattle.std.proofs.lemmas.List.{get_or-map, length-map}
+use Rattle.std.proofs.lemmas.List.{get_or-map}
 use Rattle.counting.proofs.Counts.{count_congr}
 use Rattle.counting.proofs.Tests.{some_true, true_some}
 use Rattle.counting.proofs.Totals.{total_add, total_congr}
@@ -10,11 +10,11 @@ use Rattle.counting.specs.Counts.{Within, bit, count, is_odd, total}
 use Rattle.counting.specs.Lists.{mem}
 use Rattle.counting.specs.Sets.{Set, complement, meet, minus, none, union}
 use Rattle.counting.specs.Tests.{some}
-use Rattle.graph_core.proofs.Blocks.{contracted-graph, first, in_union, place_in, place_is}
+use Rattle.graph_core.proofs.Blocks.{contracted-graph, contracted-size, first, in_union, place_in, place_is}
 use Rattle.graph_core.proofs.Carrying.{image, total_image}
-use Rattle.graph_core.proofs.Shores.{cut_congr}
 use Rattle.graph_core.proofs.Contraction.{tight_from_cut}
 use Rattle.graph_core.proofs.Decide.{covered_perfect}
+use Rattle.graph_core.proofs.SameSets.{cut_congr}
 use Rattle.graph_core.proofs.Uncrossing.{meet_tight, no_edge_joins, union_tight}
 use Rattle.graph_core.specs.Covered.{IsCovered}
 use Rattle.graph_core.specs.Graph.{Graph, IsGraph, connects, first_end, second_end, size}
@@ -192,7 +192,7 @@ module _ (g : Graph) (is : IsGraph g) (p : List (List ℕ)) (pp : AreBlocks g.or
     pub no_edge_at : (e : ℕ) → Within (size g) e → connects g (minus x y) (minus y x) e ≡ false
     unfolding contracted
     no_edge_at e w =
-        let s : size (contracted g p) ≡ size g = length-map g.ends (λ (d : ℕ × ℕ). (place p d.0, place p d.1)) in
+        let s = contracted-size g p in
         let n = no_edge_joins (contracted g p) (contracted-graph g p is pp) cov (blocks_in p x) (blocks_in p y) tx.tight ty.tight odd_met e (omega arith, omega arith) in
         let en = ends_of e w in
         let xn = ap (blocks_in p x) en.0 ∙ at_place g.order p pp x tx.union (first_end g e) (is e w).0 in

@@ -96,6 +96,24 @@ in_union n p x is union i v wi h = go (x v) refl
     go true e = all_yes (block p i) (λ u q. same u q ∙ e)
     go false e = one_no (block p i) v h e
 
+-- the contracted graph has a vertex for each block
+pub contracted-order : (g : Graph) (p : List (List ℕ)) → (contracted g p).order ≡ length p
+unfolding contracted
+contracted-order g p = refl
+
+-- and the edges of the graph
+pub contracted-size : (g : Graph) (p : List (List ℕ)) → size (contracted g p) ≡ size g
+unfolding contracted
+contracted-size g p = length-map g.ends (λ (d : ℕ × ℕ). (place p d.0, place p d.1))
+
+-- between the places of their ends
+pub contracted-ends : (g : Graph) (p : List (List ℕ)) (e : ℕ) → Within (size g) e → (first_end (contracted g p) e ≡ place p (first_end g e)) × (second_end (contracted g p) e ≡ place p (second_end g e))
+unfolding contracted
+contracted-ends g p e w =
+    let l : e - 1 < length g.ends = omega arith in
+    let h = get_or-map (λ (d : ℕ × ℕ). (place p d.0, place p d.1)) g.ends (e - 1) (0, 0) (0, 0) l in
+    (ap (λ (d : ℕ × ℕ). d.0) h, ap (λ (d : ℕ × ℕ). d.1) h)
+
 -- merging a union of blocks merges the vertices of the shrunk graph
 module _ (g : Graph) (is : IsGraph g) (p q : List (List ℕ)) (x : Set) (pp : AreBlocks g.order p) (union : IsUnion g.order p x) (merge : IsMerge g.order p x q) where
   pub in_first : (i : ℕ) → Within (length p) i → Within g.order (first (block p i)) × (mem (block p i) (first (block p i)) ≡ true)
@@ -136,25 +154,14 @@ module _ (g : Graph) (is : IsGraph g) (p q : List (List ℕ)) (x : Set) (pp : Ar
       go true t = c_of v w t ∙ sym (c_of u wu (xs ∙ t))
       go false t = (merge.old v u w wu t (xs ∙ t)).1 (sym same)
 
-  contracted-ends : (r : List (List ℕ)) (e : ℕ) → Within (size g) e → (first_end (contracted g r) e ≡ place r (first_end g e)) × (second_end (contracted g r) e ≡ place r (second_end g e))
-  unfolding contracted
-  contracted-ends r e w =
-      let l : e - 1 < length g.ends = omega arith in
-      let h = get_or-map (λ (d : ℕ × ℕ). (place r d.0, place r d.1)) g.ends (e - 1) (0, 0) (0, 0) l in
-      (ap (λ (d : ℕ × ℕ). d.0) h, ap (λ (d : ℕ × ℕ). d.1) h)
-
-  contracted-size : (r : List (List ℕ)) → size (contracted g r) ≡ size g
-  unfolding contracted
-  contracted-size r = length-map g.ends (λ d. (place r d.0, place r d.1))
-
   pub merges : Merges (contracted g p) (blocks_in p x) (contracted g q) (carried p q) merge.new.0
   unfolding contracted
   merges = record {
-    edges = contracted-size q ∙ sym (contracted-size p);
-    first_ends = λ e w. let v : Within (size g) e = let s = contracted-size p in omega arith in
-        (contracted-ends q e v).0 ∙ carries (first_end g e) (is e v).0 ∙ ap (carried p q) (sym (contracted-ends p e v).0);
-    second_ends = λ e w. let v : Within (size g) e = let s = contracted-size p in omega arith in
-        (contracted-ends q e v).1 ∙ carries (second_end g e) (is e v).1 ∙ ap (carried p q) (sym (contracted-ends p e v).1);
+    edges = contracted-size g q ∙ sym (contracted-size g p);
+    first_ends = λ e w. let v : Within (size g) e = let s = contracted-size g p in omega arith in
+        (contracted-ends g q e v).0 ∙ carries (first_end g e) (is e v).0 ∙ ap (carried p q) (sym (contracted-ends g p e v).0);
+    second_ends = λ e w. let v : Within (size g) e = let s = contracted-size g p in omega arith in
+        (contracted-ends g q e v).1 ∙ carries (second_end g e) (is e v).1 ∙ ap (carried p q) (sym (contracted-ends g p e v).1);
     inside = λ i w t. c_of (first (block p i)) (in_first i w).0 (sym (x_first i w) ∙ t);
     outside = λ i w t. let u = (in_first i w).0 in ((place_in g.order q merge.partition (first (block p i)) u).0, not_c (first (block p i)) u (sym (x_first i w) ∙ t));
     apart = λ i j wi wj ti tj e.
@@ -171,7 +178,7 @@ module _ (g : Graph) (is : IsGraph g) (p q : List (List ℕ)) (x : Set) (pp : Ar
 pub contracted-graph : (g : Graph) (p : List (List ℕ)) → IsGraph g → AreBlocks g.order p → IsGraph (contracted g p)
 unfolding contracted
 contracted-graph g p is pp e w =
-    let v : Within (size g) e = let s : size (contracted g p) ≡ size g = length-map g.ends (λ (d : ℕ × ℕ). (place p d.0, place p d.1)) in omega arith in
+    let v : Within (size g) e = let s = contracted-size g p in omega arith in
     let l : e - 1 < length g.ends = omega arith in
     let h = get_or-map (λ (d : ℕ × ℕ). (place p d.0, place p d.1)) g.ends (e - 1) (0, 0) (0, 0) l in (
       subst (Within (length p)) (ap (λ (d : ℕ × ℕ). d.0) (sym h)) (place_in g.order p pp (first_end g e) (is e v).0).0,

@@ -2,7 +2,7 @@
 -- is a union of blocks so is it.
 use Rattle.std.proofs.Common.{◌≡◌, ℕ, zero, suc, ◌∷◌, [], List, Bool, true, false, cond, not, refl, ap, ap₂, subst, sym, ◌∙◌, ◌++◌}
 use Rattle.counting.specs.Counts.{Within}
-use Rattle.counting.specs.Sets.{Set, complement}
+use Rattle.counting.specs.Sets.{complement}
 use Rattle.counting.specs.Lists.{mem, rising_list, IsRisingIn}
 use Rattle.counting.proofs.RisingLists.{rising_list-rises, mem-rising_list}
 use Rattle.graph_core.specs.Partitions.{complement_of}

@@ -1,18 +1,17 @@
 -- The tests for matchings, tightness and equivalence against the relations; each is decided.
 -- Each test goes by the edge numbers alone, so the search over all edge sets misses none.
 use Rattle.std.proofs.Common.{◌≡◌, ℕ, suc, zero, ◌+◌, ◌≢◌, Bool, true, false, cond, ◌==◌, refl, sym, ap, ap₂, ◌∙◌, arith, ◌&&◌, ◌||◌, not, eq-eqb, eqb-true, ◌⊎◌, inl, inr, ◌≤◌, ◌<◌, nat_le, leb-true, le-leb, List, [], ◌∷◌}
-use Rattle.std.proofs.lemmas.Bool.{cases_eq, cases_Bool, or_cases, and_parts, and_from, both_ways}
+use Rattle.std.proofs.lemmas.Bool.{cases_eq, cases_Bool, or_cases, and_parts, and_from, both_ways, not-true}
 use Rattle.std.proofs.lemmas.Bool.Decides.{nat_tests}
-use Rattle.std.specs.Prelude.{}
-use Rattle.counting.proofs.Choice.{Respects, choose_set, each_passes, implied, implies, none_fails, not_true, set_found, some_set_found}
+use Rattle.counting.proofs.Choice.{Respects, choose_set, each_passes, implied, implies, none_fails, set_found, some_set_found}
 use Rattle.counting.proofs.Counts.{count_congr, count_le}
 use Rattle.counting.proofs.Tests.{every_congr, every_true, true_every}
 use Rattle.counting.proofs.Totals.{total_none}
 use Rattle.counting.specs.Counts.{Within, count, is_odd}
 use Rattle.counting.specs.Sets.{Set, complement, none, pair_set}
 use Rattle.graph_core.proofs.Walks.{adjacent-edge, has_ends-cases}
-use Rattle.graph_core.specs.Covered.{IsCovered}
-use Rattle.graph_core.specs.Graph.{Graph, IsGraph, degree, edges_in_cut, first_end, in_cut, second_end, size}
+use Rattle.graph_core.specs.Covered.{IsCovered, IsReason, Reason, Small, Parted, Unmatched, Unallowed}
+use Rattle.graph_core.specs.Graph.{Graph, IsGraph, IsMultigraph, degree, edges_in_cut, first_end, in_cut, second_end, size}
 use Rattle.graph_core.specs.Matchings.{Allowed, HasPerfect, IsMatching, IsMaximum, IsPerfect, fits_at, has_perfect, is_allowed, is_matching, is_perfect, right_degree}
 use Rattle.graph_core.specs.Structure.{Equivalent, is_equivalent}
 use Rattle.graph_core.specs.Tight.{CutIsTight, IsTight, is_tight}
@@ -140,7 +139,7 @@ is_allowed_found g e w a = set_found (size g) (λ m. is_perfect g none m && m e)
 pub is_equivalent_says : (g : Graph) (a b : ℕ) → is_equivalent g a b ≡ true → Equivalent g a b
 is_equivalent_says g a b h = elim (or_cases (a == b) (not (has_perfect g (pair_set a b))) h) [
   | inl e ↦ inl (eqb-true a b e)
-  | inr f ↦ inr (λ q. both_ways (has_perfect g (pair_set a b)) (not_true (has_perfect g (pair_set a b)) f) (has_perfect_found g (pair_set a b) q))
+  | inr f ↦ inr (λ q. both_ways (has_perfect g (pair_set a b)) (not-true (has_perfect g (pair_set a b)) f) (has_perfect_found g (pair_set a b) q))
 ]
 
 pub is_equivalent_found : (g : Graph) (a b : ℕ) → Equivalent g a b → is_equivalent g a b ≡ true
@@ -184,3 +183,10 @@ covered_perfect g is cov = let j = cov.connected 1 2 (let t = cov.two in omega a
       | inr ne ↦ let p = adjacent-edge g none u y w.0 in
           let m = cov.allowed p.2.0 p.2.1 (λ q. ne (elim (has_ends-cases g u y p.2.0 p.2.2) [ inl k ↦ sym k.0 ∙ q ∙ k.1 | inr k ↦ sym k.1 ∙ sym q ∙ k.0 ])) in (m.0, m.1)
     ]
+
+-- a graph for which there is a reason is not covered: each reason denies a part of being covered
+pub reason-uncovered : (g : Graph) (r : Reason) → IsMultigraph g → IsReason g r → IsCovered g → ⊥
+reason-uncovered g Small is small cov = let two = cov.two in absurd (omega arith)
+reason-uncovered g (Parted a b) is why cov = let two = cov.two in why.2.without (cov.connected 1 b (omega arith) why.2.within)
+reason-uncovered g (Unmatched s) is why cov = why.2 (covered_perfect g is.ends cov)
+reason-uncovered g (Unallowed e) is why cov = why.3.without (cov.allowed e why.3.within (is.no_loop e why.3.within))

@@ -8,7 +8,7 @@ use Rattle.counting.specs.Sets.{Set, complement, meet, minus, union, put}
 use Rattle.counting.specs.Tests.{some}
 use Rattle.counting.proofs.Choice.{count_put}
 use Rattle.counting.proofs.Counts.{count_congr, count_le, count_more}
-use Rattle.counting.proofs.RisingLists.{rising_list-congr, rising_list-rises, mem-rising_list, same_rising_list}
+use Rattle.counting.proofs.RisingLists.{rising_list-congr, rising_list-rises, mem-rising_list, same_rising_list, same_answers}
 use Rattle.counting.proofs.Tests.{some_true}
 use Rattle.graph_core.specs.Components.{components, is_least}
 use Rattle.graph_core.specs.Graph.{Graph, IsGraph}
@@ -30,12 +30,6 @@ and_true false = refl
 or_false : (b : Bool) → (b || false) ≡ b
 or_false true = refl
 or_false false = refl
-
--- two tests that imply each other are the same
-same_tests : (a b : Bool) → (a ≡ true → b ≡ true) → (b ≡ true → a ≡ true) → a ≡ b
-same_tests true b f h = sym (f refl)
-same_tests false true f h = h refl
-same_tests false false f h = refl
 
 -- left' is left without w
 abbrev Loses : Set → ℕ → Set → Type 0
@@ -190,7 +184,7 @@ module _ (g : Graph) (x : Set) (r : ℕ) (is : IsGraph g) where
   -- with no open vertex, what was found is the component of r
   pub growth_end : (left open_set : Set) (parent depth : ℕ → ℕ) → IsGrowth g x r left open_set parent depth → ((v : ℕ) → open_set v ≡ false) → Within g.order r → (v : ℕ) → Within g.order v → (x v && not (left v)) ≡ joined g (complement x) r v
   unfolding Joined IsClosed
-  growth_end left open_set parent depth old none_open wr v wv = same_tests (x v && not (left v)) (joined g (complement x) r v) there back
+  growth_end left open_set parent depth old none_open wr v wv = same_answers (x v && not (left v)) (joined g (complement x) r v) there back
     where
       there : (x v && not (left v)) ≡ true → joined g (complement x) r v ≡ true
       there h =
@@ -256,7 +250,7 @@ module _ (g : Graph) (s : Set) (is : IsGraph g) where
   -- the vertices of the component of u, which is the first that is left, are those that a walk in what is left leads to
   joined_in_left : (left : Set) → ((v : ℕ) → left v ≡ true → Within g.order v × (s v ≡ false)) → ((u v : ℕ) → adjacent g s u v ≡ true → left u ≡ left v) → (u v : ℕ) → left u ≡ true → joined g (complement left) u v ≡ joined g s u v
   unfolding Joined
-  joined_in_left left vertices closed u v lu = same_tests (joined g (complement left) u v) (joined g s u v)
+  joined_in_left left vertices closed u v lu = same_answers (joined g (complement left) u v) (joined g s u v)
       (λ h. walk_joined g s is u v wu (joined_more g (complement left) s (λ w o. (vertices w (not-false (left w) o)).1) u v (joined_walk g (complement left) u v h)))
       (λ h. let j = joined_walk g s u v h in walk_joined g (complement left) is u v wu (j.0, inside u j.0 lu j.1))
     where
@@ -316,7 +310,7 @@ module _ (g : Graph) (s : Set) (is : IsGraph g) where
       closed' a b ab =
           let w = adjacent_within g s is a b ab in
           rest_same (left a) (left b) (left' a) (left' b) (old.closed a b ab) (smaller a) (smaller b)
-          (taken a w.0 ∙ same_tests (joined g s u a) (joined g s u b)
+          (taken a w.0 ∙ same_answers (joined g s u a) (joined g s u b)
           (λ h. walk_joined g s is u b wu (joined_on g s u a b (joined_walk g s u a h) (b ∷ [], (ab, refl))))
           (λ h. walk_joined g s is u a wu (joined_on g s u b a (joined_walk g s u b h) (a ∷ [], (adjacent_back g s a b ab, refl))))
           ∙ sym (taken b w.1))

@@ -7,6 +7,7 @@ pub mod Decide
 pub mod Edits
 pub mod Parity
 pub mod Quotients
+pub mod SameSets
 pub mod Shores
 pub mod Singles
 pub mod Textbook
@@ -18,6 +19,7 @@ pub mod Trees
 pub mod TwoSides
 pub mod Growth
 pub mod Merging
+pub mod SameBlocks
 pub mod MergeOrder
 pub mod QuotientTight
 pub mod BlockSets

@@ -8,29 +8,11 @@ use Rattle.std.proofs.lemmas.Bool.Decides.{nat_tests}
 use Rattle.counting.specs.Counts.{Within}
 use Rattle.counting.specs.Lists.{last_of, mem}
 use Rattle.graph_core.proofs.Merging.{Has, block_of, filter_has, has_block, insert_has, mem_last, merged_partition}
+use Rattle.graph_core.proofs.SameBlocks.{Ordered, rising_ordered}
 use Rattle.graph_core.specs.Partitions.{IsPartition, insert_block, merged, names_of}
 use Rattle.graph_core.specs.Shores.{IsUnion}
 
--- Merging keeps the order of blocks. Idea: each name is below all later ones, and the new name is none of the kept ones.
-
--- each name is below all later ones
-abbrev Ordered : List (List ℕ) → Type 0
-Ordered [] = Unit {0}
-Ordered (b ∷ p) = ((c : List ℕ) → Has p c → last_of b < last_of c) × Ordered p
-
--- a rising list of names, without its first
-rising_rest : (b : List ℕ) (p : List (List ℕ)) → IsStrictlyIncreasing (names_of (b ∷ p)) → IsStrictlyIncreasing (names_of p)
-rising_rest b p h k l = let e : suc k + 1 ≡ suc (k + 1) = omega arith in subst (λ j. slice_index (names_of p) k < slice_index (names_of (b ∷ p)) j) e (h (suc k) (omega arith))
-
-rising_ordered : (p : List (List ℕ)) → IsStrictlyIncreasing (names_of p) → Ordered p
-rising_ordered [] h = tt
-rising_ordered (b ∷ p) h = (below p h (rising_ordered p (rising_rest b p h)), rising_ordered p (rising_rest b p h))
-  where
-    below : (p : List (List ℕ)) → IsStrictlyIncreasing (names_of (b ∷ p)) → Ordered p → (c : List ℕ) → Has p c → last_of b < last_of c
-    below [] h o c k = absurd k
-    below (d ∷ p) h o c (inl e) = subst (λ (c : List ℕ). last_of b < last_of c) e (h 0 (omega arith))
-    below (d ∷ p) h o c (inr k) = let a : last_of b < last_of d = h 0 (omega arith) in let q = o.0 c k in omega arith
-
+-- an ordered list has rising names
 ordered_rising : (p : List (List ℕ)) → Ordered p → IsStrictlyIncreasing (names_of p)
 ordered_rising [] o k l = absurd (omega arith)
 ordered_rising (b ∷ []) o k l = absurd (omega arith)

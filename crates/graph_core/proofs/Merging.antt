@@ -2,8 +2,8 @@
 -- Each vertex is in exactly one of the kept blocks or in the new one.
 use Rattle.std.proofs.Common.{◌≡◌, ℕ, suc, zero, ◌+◌, ◌-◌, ◌*◌, ◌≤◌, Bool, true, false, not, cond, ◌||◌, ◌==◌, List, [], ◌∷◌, length, refl, sym, ap, ◌∙◌, arith, ◌⊎◌, inl, inr, eq-eqb, subst, get_or, filter, nat_lt}
 use Rattle.std.proofs.lemmas.Bool.{both_ways}
-use Rattle.counting.proofs.Totals.{total_congr}
-use Rattle.counting.specs.Counts.{Within, bit, count, total}
+use Rattle.counting.proofs.Totals.{total_congr, total-first}
+use Rattle.counting.specs.Counts.{Within, bit, count}
 use Rattle.counting.specs.Lists.{last_of, mem}
 use Rattle.graph_core.proofs.Blocks.{place_in, place_is}
 use Rattle.graph_core.specs.Partitions.{AreBlocks, IsMerge, block, insert_block, merged, place}
@@ -21,10 +21,6 @@ abbrev pub Has : List (List ℕ) → List ℕ → Type 0
 Has [] b = ⊥
 Has (c ∷ p) b = (c ≡ b) ⊎ Has p b
 
-total_front : (n : ℕ) (f : ℕ → ℕ) → total (suc n) f ≡ f 1 + total n (λ i. f (i + 1))
-total_front zero f = omega arith
-total_front (suc n) f = let a = total_front n f in let b : f (suc (suc n)) ≡ f (suc n + 1) = ap f (omega arith) in omega arith
-
 block_past : (b : List ℕ) (p : List (List ℕ)) (i : ℕ) → 1 ≤ i → block (b ∷ p) (i + 1) ≡ block p i
 block_past b p zero h = absurd (omega arith)
 block_past b p (suc k) h = let e : suc k + 1 - 1 ≡ suc k = omega arith in let d : k ≡ suc k - 1 = omega arith in ap (λ j. get_or (b ∷ p) j []) e ∙ ap (λ j. get_or p j []) d
@@ -32,7 +28,7 @@ block_past b p (suc k) h = let e : suc k + 1 - 1 ≡ suc k = omega arith in let 
 count_held : (p : List (List ℕ)) (v : ℕ) → count (length p) (λ i. mem (block p i) v) ≡ held p v
 count_held [] v = refl
 count_held (b ∷ p) v =
-    total_front (length p) (λ i. bit (mem (block (b ∷ p) i) v))
+    total-first (length p) (λ i. bit (mem (block (b ∷ p) i) v))
     ∙ ap (λ k. bit (mem b v) + k) (total_congr (length p) _ _ (λ i w. ap (λ c. bit (mem c v)) (block_past b p i w.0)) ∙ count_held p v)
 
 pub block_has : (p : List (List ℕ)) (i : ℕ) → Within (length p) i → Has p (block p i)

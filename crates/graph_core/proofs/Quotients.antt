@@ -10,6 +10,11 @@ use Rattle.counting.specs.Sets.{everything}
 use Rattle.graph_core.specs.Graph.{Graph, first_end, second_end, size}
 use Rattle.graph_core.specs.Quotients.{blocks_adjacent, quotient}
 
+-- the quotient has a vertex for each block
+pub quotient-order : (g : Graph) (p : List (List ℕ)) → (quotient g p).order ≡ length p
+unfolding quotient
+quotient-order g p = refl
+
 -- each edge of the quotient joins two adjacent places in rising order
 pub quotient_edge : (g : Graph) (p : List (List ℕ)) (e : ℕ) → Within (size (quotient g p)) e →
     Within (length p) (first_end (quotient g p) e) × Within (length p) (second_end (quotient g p) e) × (first_end (quotient g p) e < second_end (quotient g p) e) × (blocks_adjacent g p (first_end (quotient g p) e) (second_end (quotient g p) e) ≡ true)

@@ -1,37 +1,19 @@
 -- A tight shore as a list: it is not empty, and the list of the other numbers is the other shore, which is tight as well.
 -- An odd number of blocks is at least one, and each block has a vertex.
-use Rattle.std.proofs.Common.{◌≡◌, ℕ, zero, suc, ◌<◌, ◌≤◌, Bool, true, false, not, cond, List, [], ◌∷◌, ◌++◌, length, refl, sym, ap, ap₂, ◌∙◌, arith, subst}
-use Rattle.std.proofs.lemmas.Bool.{both_ways}
+use Rattle.std.proofs.Common.{ℕ, ◌<◌, ◌≤◌, List, length, sym, arith}
 use Rattle.counting.proofs.Counts.{bit_true}
+use Rattle.counting.proofs.Lists.{some-member}
 use Rattle.counting.proofs.Odd.{odd_pos}
-use Rattle.counting.proofs.RisingLists.{all_in_true, mem-rising_list, rising_list-rises}
+use Rattle.counting.proofs.RisingLists.{all_in_true}
 use Rattle.counting.proofs.Totals.{some_term}
-use Rattle.counting.specs.Counts.{Within, bit, count}
-use Rattle.counting.specs.Lists.{IsRisingIn, mem, rising_list}
+use Rattle.counting.specs.Counts.{bit, count}
+use Rattle.counting.specs.Lists.{mem}
 use Rattle.counting.specs.Sets.{complement}
 use Rattle.graph_core.proofs.BlockSets.{tight_congr, tight_rest}
+use Rattle.graph_core.proofs.Complements.{mem-complement_of}
 use Rattle.graph_core.specs.Graph.{Graph, IsGraph}
 use Rattle.graph_core.specs.Partitions.{AreBlocks, block, complement_of, contracted}
 use Rattle.graph_core.specs.Shores.{IsTightAt, blocks_in}
-
--- the other numbers in rising order
-pub complement-rising_list : (n : ℕ) (x : List ℕ) → complement_of n x ≡ rising_list n (complement (mem x))
-complement-rising_list zero x = refl
-complement-rising_list (suc n) x = ap₂ ◌++◌ (complement-rising_list n x) (turn (mem x (suc n)))
-  where
-    turn : (b : Bool) → cond b [] (suc n ∷ []) ≡ cond (not b) (suc n ∷ []) []
-    turn true = refl
-    turn false = refl
-
-pub complement-rises : (n : ℕ) (x : List ℕ) → IsRisingIn n (complement_of n x)
-complement-rises n x = subst (IsRisingIn n) (sym (complement-rising_list n x)) (rising_list-rises n (complement (mem x)))
-
-pub mem-complement : (n : ℕ) (x : List ℕ) (v : ℕ) → Within n v → mem (complement_of n x) v ≡ not (mem x v)
-mem-complement n x v w = ap (λ (ys : List ℕ). mem ys v) (complement-rising_list n x) ∙ mem-rising_list n (complement (mem x)) v w
-
-some-member : (xs : List ℕ) (v : ℕ) → mem xs v ≡ true → 0 < length xs
-some-member [] v h = absurd (both_ways false refl h)
-some-member (x ∷ xs) v h = omega arith
 
 module _ (g : Graph) (is : IsGraph g) (p : List (List ℕ)) (pp : AreBlocks g.order p) (x : List ℕ) (tight : IsTightAt g p (mem x)) where
   pub shore-some : 0 < length x
@@ -43,4 +25,4 @@ module _ (g : Graph) (is : IsGraph g) (p : List (List ℕ)) (pp : AreBlocks g.or
       some-member x f.0 (all_in_true (block p r.0) (mem x) (bit_true (blocks_in p (mem x) r.0) r.2) f.0 f.2)
 
   pub complement-tight : IsTightAt g p (mem (complement_of g.order x))
-  complement-tight = tight_congr g is p pp (complement (mem x)) (mem (complement_of g.order x)) (λ v w. sym (mem-complement g.order x v w)) (tight_rest g is p pp (mem x) tight)
+  complement-tight = tight_congr g is p pp (complement (mem x)) (mem (complement_of g.order x)) (λ v w. sym (mem-complement_of g.order x v w)) (tight_rest g is p pp (mem x) tight)

@@ -1,20 +1,16 @@
 -- The law of contraction for shores at a partition and at a merge of it.
 -- A union of the new blocks is a union of the old ones, block by block, so the contracted graphs can be compared.
-use Rattle.std.proofs.Common.{◌≡◌, ℕ, sym, ap, ap₂, ◌∙◌, ◌&&◌, ◌||◌, not, List}
-use Rattle.counting.proofs.Counts.{count_congr}
+use Rattle.std.proofs.Common.{◌≡◌, ℕ, sym, ap, ◌∙◌, List}
 use Rattle.counting.specs.Counts.{Within}
 use Rattle.counting.specs.Sets.{Set}
 use Rattle.graph_core.proofs.Blocks.{carried, carries, contracted-graph, first, in_first, in_union, merges, place_in}
 use Rattle.graph_core.proofs.Contraction.{covered_down, tight_down, tight_from_cut, tight_up}
 use Rattle.graph_core.proofs.Decide.{covered_perfect}
+use Rattle.graph_core.proofs.SameSets.{cut_congr}
 use Rattle.graph_core.specs.Covered.{IsCovered}
-use Rattle.graph_core.specs.Graph.{Graph, IsGraph, first_end, second_end, size}
+use Rattle.graph_core.specs.Graph.{Graph, IsGraph}
 use Rattle.graph_core.specs.Partitions.{AreBlocks, IsMerge, block, contracted, place}
 use Rattle.graph_core.specs.Shores.{IsTightAt, IsUnion, blocks_in}
-use Rattle.graph_core.specs.Tight.{CutIsTight}
-
-pub cut_congr : (g : Graph) (x y : Set) → IsGraph g → ((v : ℕ) → Within g.order v → x v ≡ y v) → CutIsTight g x → CutIsTight g y
-cut_congr g x y is h t m p = count_congr (size g) _ _ (λ e w. ap₂ (λ a b. m e && ((a && not b) || (not a && b))) (sym (h (first_end g e) (is e w).0)) (sym (h (second_end g e) (is e w).1))) ∙ t m p
 
 module _ (g : Graph) (is : IsGraph g) (p q : List (List ℕ)) (x : Set) (pp : AreBlocks g.order p) (tx : IsTightAt g p x) (merge : IsMerge g.order p x q) (cov : IsCovered (contracted g p)) where
   down : IsCovered (contracted g q)

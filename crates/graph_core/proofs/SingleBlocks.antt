@@ -1,13 +1,14 @@
 -- At the partition into single vertices the contracted graph is the graph itself, so what is said at that partition is what is
 -- said of the graph; at any partition the edges in the cut of a union of blocks are those of the graph.
 use Rattle.std.proofs.Common.{◌≡◌, ℕ, suc, ◌+◌, ◌-◌, Bool, true, false, ◌&&◌, ◌||◌, not, List, [], ◌∷◌, length, map, cond, get_or, refl, sym, ap, ap₂, ◌∙◌, arith, subst, le-leb}
-use Rattle.std.proofs.lemmas.List.{get_or-map, length-map}
+use Rattle.std.proofs.lemmas.List.{get_or-map}
 use Rattle.counting.proofs.Counts.{count_congr}
-use Rattle.counting.specs.Counts.{Within, count, is_odd}
+use Rattle.counting.specs.Counts.{Within, count}
 use Rattle.counting.specs.Lists.{all_in}
-use Rattle.counting.specs.Sets.{Set, complement}
+use Rattle.counting.specs.Sets.{Set}
 use Rattle.graph_core.proofs.BlockSets.{at_place}
-use Rattle.graph_core.proofs.Shores.{cut_congr}
+use Rattle.graph_core.proofs.Blocks.{contracted-size}
+use Rattle.graph_core.proofs.SameSets.{tight-same}
 use Rattle.graph_core.proofs.Singles.{block-singles, length-singles, place_singles}
 use Rattle.graph_core.specs.Graph.{Graph, IsGraph, edges_in_cut, first_end, in_cut, second_end, size}
 use Rattle.graph_core.specs.Partitions.{AreBlocks, contracted, place, singles}
@@ -41,13 +42,6 @@ blocks-singles n x v w = ap (λ (b : List ℕ). all_in b x) (block-singles n v w
     and_yes true = refl
     and_yes false = refl
 
-tight-same : (g : Graph) (x y : Set) → IsGraph g → ((v : ℕ) → Within g.order v → x v ≡ y v) → IsTight g x → IsTight g y
-tight-same g x y is h t = record {
-  odd = ap is_odd (sym (count_congr g.order x y h)) ∙ t.odd;
-  odd_complement = ap is_odd (sym (count_congr g.order (complement x) (complement y) (λ v w. ap not (h v w)))) ∙ t.odd_complement;
-  cut = cut_congr g x y is h t.cut;
-}
-
 pub tight-singles : (g : Graph) (x : Set) → IsGraph g → IsTightAt g (singles g.order) x → IsTight g x
 tight-singles g x is t = tight-same g (blocks_in (singles g.order) x) x is (blocks-singles g.order x) (subst (λ h. IsTight h (blocks_in (singles g.order) x)) (contracted-singles g is) t.tight)
 
@@ -59,10 +53,6 @@ singles-tight g x is t = record {
 
 -- the cut of a union of blocks, edge by edge
 module _ (g : Graph) (p : List (List ℕ)) (x : Set) (is : IsGraph g) (pp : AreBlocks g.order p) (union : IsUnion g.order p x) where
-  sizes : size (contracted g p) ≡ size g
-  unfolding contracted
-  sizes = length-map g.ends (λ (d : ℕ × ℕ). (place p d.0, place p d.1))
-
   ends : (e : ℕ) → Within (size g) e → get_or (contracted g p).ends (e - 1) (0, 0) ≡ (place p (first_end g e), place p (second_end g e))
   unfolding contracted
   ends e w = get_or-map (λ (d : ℕ × ℕ). (place p d.0, place p d.1)) g.ends (e - 1) (0, 0) (0, 0) (omega arith)
@@ -73,4 +63,4 @@ module _ (g : Graph) (p : List (List ℕ)) (x : Set) (is : IsGraph g) (pp : AreB
       (ap (λ (d : ℕ × ℕ). blocks_in p x d.1) (ends e w) ∙ at_place g.order p pp x union (second_end g e) (is e w).1)
 
   pub edges-in-cut-at : (m : Set) → edges_in_cut (contracted g p) m (blocks_in p x) ≡ edges_in_cut g m x
-  edges-in-cut-at m = ap (λ n. count n (λ e. m e && in_cut (contracted g p) (blocks_in p x) e)) sizes ∙ count_congr (size g) _ _ (λ e w. ap (λ b. m e && b) (in-cut-at e w))
+  edges-in-cut-at m = ap (λ n. count n (λ e. m e && in_cut (contracted g p) (blocks_in p x) e)) (contracted-size g p) ∙ count_congr (size g) _ _ (λ e w. ap (λ b. m e && b) (in-cut-at e w))

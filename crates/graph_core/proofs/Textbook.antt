@@ -9,7 +9,7 @@ use Rattle.graph_core.proofs.Edits.{degree_sum, ends_of, ends_of_is, two_ends_le
 use Rattle.graph_core.specs.Graph.{Graph, HasNoLoop, IsGraph, degree, first_end, second_end, size}
 use Rattle.graph_core.specs.Matchings.{IsEnd, IsMatching, ShareNoEnd}
 
-one_end : (g : Graph) (e v : ℕ) → IsEnd g e v → 1 ≤ ends_of g e v
+pub one_end : (g : Graph) (e v : ℕ) → IsEnd g e v → 1 ≤ ends_of g e v
 one_end g e v h = let a = ends_of_is g e (first_end g e) (second_end g e) (inl (refl, refl)) v in elim h [
   | inl p ↦ let b = ap bit (eq-eqb (first_end g e) v p) in omega arith
   | inr p ↦ let b = ap bit (eq-eqb (second_end g e) v p) in omega arith
@@ -22,24 +22,25 @@ matching_apart g m mm e f v we wf wv me mf ee ff = elim (cases_eq e f) [
   | inr q ↦ let a = two_ends_le_degree g m e f v we wf q me mf in let b = one_end g e v ee in let c = one_end g f v ff in let d = mm.once v wv in absurd (omega arith)
 ]
 
+-- an edge that is no loop has at most one end at a vertex
+pub ends_one : (g : Graph) (e v : ℕ) → first_end g e ≢ second_end g e → ends_of g e v ≤ 1
+ends_one g e v d = let a = ends_of_is g e (first_end g e) (second_end g e) (inl (refl, refl)) v in
+    let b = sum_one (first_end g e) (second_end g e) v d in omega arith
+  where
+    sum_one : (x y v : ℕ) → x ≢ y → bit (x == v) + bit (y == v) ≤ 1
+    sum_one x y v d = elim (cases_eq x v) [
+      | inl p ↦ let a = ap bit (ne_eqb y v (λ q. d (p ∙ sym q))) in let b = le_one (x == v) in omega arith
+      | inr p ↦ let a = ap bit (ne_eqb x v p) in let b = le_one (y == v) in omega arith
+    ]
+      where
+        le_one : (b : Bool) → bit b ≤ 1
+        le_one true = omega arith
+        le_one false = omega arith
+
 -- and where no edge is a loop, such a set is a matching
 pub apart_matching : (g : Graph) (m : Set) → IsGraph g → HasNoLoop g → ShareNoEnd g m → IsMatching g none m
 apart_matching g m is no_loop h = record { once = once; away = λ v w o. absurd (true≢false (sym o)) }
   where
-    ends_one : (e v : ℕ) → Within (size g) e → ends_of g e v ≤ 1
-    ends_one e v w = let a = ends_of_is g e (first_end g e) (second_end g e) (inl (refl, refl)) v in
-        let b = sum_one (first_end g e) (second_end g e) v (no_loop e w) in omega arith
-      where
-        sum_one : (x y v : ℕ) → x ≢ y → bit (x == v) + bit (y == v) ≤ 1
-        sum_one x y v d = elim (cases_eq x v) [
-          | inl p ↦ let a = ap bit (ne_eqb y v (λ q. d (p ∙ sym q))) in let b = le_one (x == v) in omega arith
-          | inr p ↦ let a = ap bit (ne_eqb x v p) in let b = le_one (y == v) in omega arith
-        ]
-          where
-            le_one : (b : Bool) → bit b ≤ 1
-            le_one true = omega arith
-            le_one false = omega arith
-
     is_end : (e v : ℕ) → 1 ≤ ends_of g e v → IsEnd g e v
     is_end e v p = let a = ends_of_is g e (first_end g e) (second_end g e) (inl (refl, refl)) v in elim (cases_eq (first_end g e) v) [
       | inl q ↦ inl q
@@ -64,7 +65,7 @@ apart_matching g m is no_loop h = record { once = once; away = λ v w o. absurd 
 
     once : (v : ℕ) → Within g.order v → degree g m v ≤ 1
     once v wv = let s = degree_sum g m v in
-        let t = sum_le_one (size g) (λ e. bit (m e) * ends_of g e v) (λ e w. let a = ends_one e v w in times (m e) (ends_of g e v) a)
+        let t = sum_le_one (size g) (λ e. bit (m e) * ends_of g e v) (λ e w. let a = ends_one g e v (no_loop e w) in times (m e) (ends_of g e v) a)
         (λ d e wd we pd pe. let x = in_both (m d) (ends_of g d v) pd in let y = in_both (m e) (ends_of g e v) pe in h d e v wd we wv x.0 y.0 (is_end d v x.1) (is_end e v y.1)) in omega arith
       where
         times : (b : Bool) (k : ℕ) → k ≤ 1 → bit b * k ≤ 1

@@ -41,11 +41,6 @@ module _ (n : ℕ) (adj : ℕ → ℕ → Bool) where
         (p.0 ++ v ∷ [], Walk-join adj u r.0 v p.0 (v ∷ []) p.1 (b.1, refl))
   ]
 
-  -- a set that grows by no step is closed
-  same_closed : (x : Set) → ((v : ℕ) → Within n v → spread x v ≡ x v) → IsClosed n adj x
-  unfolding spread IsClosed
-  same_closed x h u v wu wv a b = sym (h v wv) ∙ or_right (x v) (some n (λ w. x w && adj w v)) (true_some n (λ w. x w && adj w v) u wu (and_from (x u) (adj u v) a b))
-
   -- a set grows by one step, or is closed
   pub grows : (x : Set) → (IsClosed n adj x) ⊎ (count n x + 1 ≤ count n (spread x))
   unfolding spread IsClosed

@@ -154,6 +154,24 @@ impl MultiGraph {
             .map_err(|_| AddFault::Memory)?;
         Ok(self.edges.len() as u32)
     }
+
+    /// Appends an edge between two different vertices, for which there is room. After `Memory` the graph is unchanged.
+    pub fn push_edge(&mut self, edge: Ends) -> Result<(), Memory>
+        requires first { Within self.old.order edge.a }
+        requires second { Within self.old.order edge.b }
+        requires different { edge.a ≢ edge.b }
+        requires room { size self.old < MOST_EDGES }
+        ensures ok { OnOk result (self.new ≡ with_edge self.old edge.a edge.b) }
+        ensures err { OnErr result (self.new ≡ self.old) }
+    {
+        match self.add_edge(edge.a, edge.b) {
+            Ok(_) => Ok(()),
+            Err(AddFault::Memory) => Err(Memory),
+            Err(AddFault::Range) => unreachable!(),
+            Err(AddFault::Loop) => unreachable!(),
+            Err(AddFault::TooMany) => unreachable!(),
+        }
+    }
 }
 
 #[cfg(test)]

@@ -14,7 +14,7 @@ use Rattle.line_text.specs.Format.{Begins, Stands}
 use Rattle.line_text.specs.Lines.{is_line_feed}
 use Rattle.line_text.specs.Words.{has_form, is_word, is_blank, IsSignificant}
 use Rattle.line_text.proofs.Decimals.{number_of-decimal, is_word-decimal}
-use Rattle.line_text.proofs.ReadBack.{Stands-written, Begins-append}
+use Rattle.line_text.proofs.ReadBack.{Stands-written, Begins-append, significant-append}
 use Rattle.graph_core.specs.Graph.{Graph, size}
 use Rattle.graph_text.specs.EitherVersion.{EitherSoFar, either_version}
 use Rattle.graph_text.specs.Names.{is_name, is_name_byte, is_among, vertex_of, AreNames}
@@ -104,7 +104,7 @@ bytes-plain (byte ∷ word) all =
 some-bytes : (n : ℕ) → nat_le 1 n ≡ true → not (n == 0) ≡ true
 some-bytes n some = grind (arith, nat_tests)
 
-is_word-name : (word : List ℕ) → is_name word ≡ true → is_word word ≡ true
+pub is_word-name : (word : List ℕ) → is_name word ≡ true → is_word word ≡ true
 unfolding is_name
 is_word-name word is =
     let parts = and_parts (nat_le 1 (length word)) _ is in
@@ -124,10 +124,6 @@ edges-significant names (edge ∷ ends) are is =
     let second = is_word-name (get_or names (edge.1 - 1) []) (each-name names (edge.1 - 1) are.each (omega arith)) in
     (record { kept = refl; each = (refl, (first, (second, tt))) }, edges-significant names ends are is.1)
 
-AllByRecursion-append : (lines more : List (List (List ℕ))) → AllByRecursion IsSignificant lines → AllByRecursion IsSignificant more → AllByRecursion IsSignificant (lines ++ more)
-AllByRecursion-append [] more first second = second
-AllByRecursion-append (words ∷ lines) more first second = (first.0, AllByRecursion-append lines more first.1 second)
-
 -- the text of a graph with names stands for them
 pub Stands-named_text : (g : Graph) (names : List (List ℕ)) → FitsNames g names → Stands either_version (named_text g names) (record { graph = g; names = Some names })
 unfolding named_text
@@ -138,7 +134,7 @@ Stands-named_text g names fits =
     let each_by_name = subst (λ n. AllByRecursion (IsEdgeIn n) g.ends) (sym all) each in
     Stands-written either_version (named_words g names) (Some (either g.order (size g) names g.ends)) (record { graph = g; names = Some names }) (
       record { kept = refl; each = (refl, (refl, (is_word-decimal g.order (omega arith), (is_word-decimal (size g) (let edges = fits.edges in omega arith), tt)))) },
-      AllByRecursion-append (map name_words names) (map (named_edge_words names) g.ends) (names-significant names fits.named.each) (edges-significant names g.ends fits.named each_by_name),
+      significant-append (map name_words names) (map (named_edge_words names) g.ends) (names-significant names fits.named.each) (edges-significant names g.ends fits.named each_by_name),
     ) (
       either g.order (size g) [] [],
       header-taken g.order (size g) (omega arith) fits.edges,

@@ -5,7 +5,7 @@ use Rattle.std.specs.Prelude.{slice_index_or}
 use Rattle.std.proofs.lemmas.List.{get_or_append_left, get_or-append-add}
 use Rattle.counting.specs.Counts.{Within, bit, total}
 use Rattle.counting.specs.Sets.{Set}
-use Rattle.counting.proofs.Totals.{total_add, total_congr}
+use Rattle.counting.proofs.Totals.{total_add, total_congr, total-first}
 use Rattle.graph_core.specs.Graph.{Graph, size, first_end, second_end, degree}
 use Rattle.graph_core.proofs.Decide.{degree_congr}
 
@@ -43,11 +43,6 @@ marks_from k (suc n) m = m (k + 1) ∷ marks_from (k + 1) n m
 pub length-marks_from : (k n : ℕ) (m : Set) → length (marks_from k n m) ≡ n
 length-marks_from k zero m = refl
 length-marks_from k (suc n) m = let h = length-marks_from (k + 1) n m in omega arith
-
--- a sum begins with its first term
-pub total-first : (n : ℕ) (f : ℕ → ℕ) → total (suc n) f ≡ f 1 + total n (λ i. f (i + 1))
-total-first zero f = omega arith
-total-first (suc n) f = let h = total-first n f in let e = ap f (let q : suc (suc n) ≡ suc n + 1 = omega arith in q) in omega (arith, h, e)
 
 -- the item after the first one
 pub item-next : {A : Type 0} (x d : A) (xs : List A) (i : ℕ) → 1 ≤ i → slice_index_or (x ∷ xs) (i + 1 - 1) d ≡ slice_index_or xs (i - 1) d

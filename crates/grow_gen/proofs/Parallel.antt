@@ -6,12 +6,12 @@ use Rattle.std.proofs.lemmas.Bool.{or_cases, or_from, or_left, or_right, and_par
 use Rattle.counting.specs.Counts.{Within, bit, total}
 use Rattle.counting.specs.Lists.{mem}
 use Rattle.counting.proofs.Counts.{count_le_one, only_one}
-use Rattle.counting.proofs.Totals.{total_congr, at_le_total}
+use Rattle.counting.proofs.Totals.{total_congr, at_le_total, total-first}
 use Rattle.graph_core.specs.Graph.{Graph, size, first_end, second_end, has_ends, IsMultigraph}
 use Rattle.graph_core.proofs.Walks.{has_ends-own, has_ends-cases, has_ends-back}
 use Rattle.grow_gen.specs.Cubic.{IsCubic, HasNoParallel}
 use Rattle.grow_gen.specs.Splices.{is_at, other_end, edge_with_end, new_number, permutation, renumbered_edge, rehung_edges, splice}
-use Rattle.grow_gen.proofs.EdgeSums.{Each, by_test, total-first, item-next, each-weaker}
+use Rattle.grow_gen.proofs.EdgeSums.{Each, by_test, item-next, each-weaker}
 use Rattle.grow_gen.proofs.Rehanging.{IsEdge, IsClear, at-cases, not_at-ends, rehung_edges-none, member-first, member-later}
 use Rattle.grow_gen.proofs.Renumbering.{kept_edges, ends_beside, new_number-same, new_number-where, old_or_new}
 use Rattle.grow_gen.proofs.ThreeEdges.{each-edge_of, edges-at}

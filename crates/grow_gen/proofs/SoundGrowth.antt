@@ -8,7 +8,7 @@ use Rattle.std.proofs.lemmas.Nat.{div-add-mod', mod_below, mod-mul-add}
 use Rattle.counting.specs.Counts.{Within}
 use Rattle.counting.specs.Sets.{union}
 use Rattle.counting.specs.Lists.{mem, rising_list, IsRisingIn}
-use Rattle.counting.proofs.Lists.{rising_holds, mem-within}
+use Rattle.counting.proofs.Lists.{rising_holds, mem-within, some-member}
 use Rattle.counting.proofs.RisingLists.{rising_list-rises}
 use Rattle.graph_core.specs.Graph.{size, IsMultigraph}
 use Rattle.graph_core.specs.Covered.{IsCovered}
@@ -44,11 +44,6 @@ other_member xs a b d p q w = elim (cases_eq a w) [
   | inl e ↦ (b, (λ f. d (e ∙ sym f)), q)
   | inr e ↦ (a, e, p)
 ]
-
--- a member is at some place
-member-place : (xs : List ℕ) (v : ℕ) → mem xs v ≡ true → 0 < length xs
-member-place [] v m = absurd (true≢false (sym m))
-member-place (x ∷ xs) v m = omega arith
 
 -- after a piece that is not bipartite comes one that is
 bipartite_next : (i : ℕ) → is_bipartite_piece (further_piece i) ≡ false → is_bipartite_piece (further_piece (i + 1)) ≡ true
@@ -96,8 +91,8 @@ module _ (i : ℕ) (s : Growth) (sound : IsSound i s) (x : ℕ) where
   some-eligible = go (is_bipartite_piece piece)
     where
       go : (b : Bool) → 0 < length (cond b (rising_list n (union (mem s.in_a) (mem s.in_b))) s.in_a)
-      go true = member-place (rising_list n (union (mem s.in_a) (mem s.in_b))) sound.some.0 (rising_holds n (union (mem s.in_a) (mem s.in_b)) sound.some.0 (mem-within n s.in_a sound.in_a sound.some.0 sound.some.1) (or_left (mem s.in_a sound.some.0) (mem s.in_b sound.some.0) sound.some.1))
-      go false = member-place s.in_a sound.some.0 sound.some.1
+      go true = some-member (rising_list n (union (mem s.in_a) (mem s.in_b))) sound.some.0 (rising_holds n (union (mem s.in_a) (mem s.in_b)) sound.some.0 (mem-within n s.in_a sound.in_a sound.some.0 sound.some.1) (or_left (mem s.in_a sound.some.0) (mem s.in_b sound.some.0) sound.some.1))
+      go false = some-member s.in_a sound.some.0 sound.some.1
 
   -- the vertex that is picked
   abbrev picked : ℕ

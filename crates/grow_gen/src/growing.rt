@@ -1,8 +1,7 @@
 //! A graph that grows, piece by piece.
-ghost use Rattle.std.specs.Prelude.{◌≡◌, ◌≢◌, ◌<◌, ◌≤◌, ◌+◌, ◌%◌, IfOk, OnOk, ℕ, length, slice_index};
+ghost use Rattle.std.specs.Prelude.{◌≡◌, ◌<◌, ◌≤◌, ◌+◌, ◌%◌, IfOk, ℕ, length, slice_index};
 ghost use Rattle.counting.specs.Counts.{Within};
 ghost use Rattle.counting.specs.Lists.{mem, IsRisingIn};
-ghost use Rattle.graph_core.specs.Graph.{size, with_edge};
 ghost use Rattle.graph_core.specs.View.{IsWithinLimits};
 ghost use Rattle.grow_gen.specs.Pieces.{piece_order};
 ghost use Rattle.grow_gen.specs.Growth.{first_growth, eligible, next_class, with_piece, MayTake};
@@ -10,7 +9,7 @@ ghost use Rattle.grow_gen.specs.Growing.{growth_of};
 
 use crate::pieces::Piece;
 use crate::splices;
-use graph_core::{AddFault, Ends, MOST_EDGES, MultiGraph};
+use graph_core::{Ends, MultiGraph};
 use std::alloc::{AllocError as Memory, Global};
 use vset_core::{MOST_VERTICES, VSet};
 
@@ -91,26 +90,9 @@ impl Growing {
     {
         let mut graph = MultiGraph::new(alloc, self.order)?;
         for edge in &self.edges {
-            add(&mut graph, *edge)?;
+            graph.push_edge(*edge)?;
         }
         Ok(graph)
-    }
-}
-
-/// Adds an edge that the graph has room for.
-fn add(graph: &mut MultiGraph, edge: Ends) -> Result<(), Memory>
-    requires first { Within graph.old.order edge.a }
-    requires second { Within graph.old.order edge.b }
-    requires different { edge.a ≢ edge.b }
-    requires room { size graph.old < MOST_EDGES }
-    ensures { OnOk result (graph.new ≡ with_edge graph.old edge.a edge.b) }
-{
-    match graph.add_edge(edge.a, edge.b) {
-        Ok(_) => Ok(()),
-        Err(AddFault::Memory) => Err(Memory),
-        Err(AddFault::Range) => unreachable!(),
-        Err(AddFault::Loop) => unreachable!(),
-        Err(AddFault::TooMany) => unreachable!(),
     }
 }
 

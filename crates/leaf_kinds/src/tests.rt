@@ -1,5 +1,4 @@
 //! The kinds of graphs of the literature.
-ghost use Rattle.std.specs.Prelude.{◌≤◌};
 
 use crate::kind;
 use allowed_edges::covered;
@@ -7,49 +6,7 @@ use graph_core::{Kind, MultiGraph, Reason, Verdict};
 use std::alloc::Global;
 use std::test::Fail;
 use vset_core::{MOST_VERTICES, VSet};
-
-const K4: [(u32, u32); 6] = [(1, 2), (1, 3), (1, 4), (2, 3), (2, 4), (3, 4)];
-
-const FOUR_CYCLE: [(u32, u32); 4] = [(1, 2), (2, 3), (3, 4), (4, 1)];
-
-const HEXAGON: [(u32, u32); 6] = [(1, 2), (2, 3), (3, 4), (4, 5), (5, 6), (6, 1)];
-
-const PRISM: [(u32, u32); 9] = [
-    (1, 2),
-    (1, 3),
-    (2, 3),
-    (4, 5),
-    (4, 6),
-    (5, 6),
-    (1, 4),
-    (2, 5),
-    (3, 6),
-];
-
-// Two complete graphs of four vertices that share an edge.
-const TWO_K4: [(u32, u32); 11] = [
-    (1, 2),
-    (1, 3),
-    (1, 4),
-    (2, 3),
-    (2, 4),
-    (3, 4),
-    (1, 5),
-    (1, 6),
-    (2, 5),
-    (2, 6),
-    (5, 6),
-];
-
-fn made(alloc: Global, order: u32, edges: &[(u32, u32)]) -> Result<MultiGraph, Fail>
-    requires { order ≤ MOST_VERTICES }
-{
-    let mut graph = MultiGraph::new(alloc, order)?;
-    for (a, b) in edges {
-        graph.add_edge(*a, *b)?;
-    }
-    Ok(graph)
-}
+use worked_graphs::{FOUR_CYCLE, HEXAGON, K4, PRISM, TWO_K4, graph_with};
 
 // The kind of a graph, if it is covered.
 fn kind_if_covered(alloc: Global, graph: &MultiGraph) -> Result<Option<Kind>, Fail> {
@@ -83,7 +40,7 @@ fn kinds(rt: HostRuntime) -> Result<(), Fail> {
     ];
     for (order, edges, answer) in table {
         assert!(rt; order <= MOST_VERTICES);
-        let graph = made(rt.alloc(), order, edges)?;
+        let graph = graph_with(rt.alloc(), order, edges)?;
         let kind = kind_if_covered(rt.alloc(), &graph)?;
         assert!(rt; kind == answer);
     }

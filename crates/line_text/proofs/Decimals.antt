@@ -47,7 +47,7 @@ number_of-decimal n small =
 word_byte : (byte : ℕ) → 48 ≤ byte → byte ≤ 57 → not (is_blank byte || is_line_feed byte) ≡ true
 word_byte byte low high = grind (arith, nat_tests)
 
-nonempty : (word : List ℕ) → 0 < length word → not (length word == 0) ≡ true
+pub nonempty : (word : List ℕ) → 0 < length word → not (length word == 0) ≡ true
 nonempty word some = grind (arith, nat_tests)
 
 pub is_word-decimal : (n : ℕ) → n < 10 ^ 9 → is_word (decimal n) ≡ true

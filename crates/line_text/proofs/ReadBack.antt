@@ -196,3 +196,8 @@ module _ {Body Value Kind : Type 0} (rules : Rules Body Value Kind) where
         begins = subst (λ ls. Begins rules None ls stands.reached) (sym same) stands.begins;
         ends = stands.ends;
       }
+
+-- lines that are significant, and further ones
+pub significant-append : (lines more : List (List (List ℕ))) → AllByRecursion IsSignificant lines → AllByRecursion IsSignificant more → AllByRecursion IsSignificant (lines ++ more)
+significant-append [] more first second = second
+significant-append (words ∷ lines) more first second = (first.0, significant-append lines more first.1 second)

@@ -1,5 +1,5 @@
 -- A table of tests that gives a value: none of its tests applies, and the value is that of the table.
-use Rattle.std.proofs.Common.{◌≡◌, List, [], ◌∷◌, Bool, not, true, false, if◌then◌else◌, Result, Ok, Err, refl, sym, ◌∙◌, ap}
+use Rattle.std.proofs.Common.{◌≡◌, List, [], ◌∷◌, Bool, true, false, if◌then◌else◌, Result, Ok, Err, refl, sym, ◌∙◌, ap}
 use Rattle.std.specs.List.{AllByRecursion}
 use Rattle.std.proofs.lemmas.Bool.{both_ways}
 use Rattle.line_text.specs.Format.{checked}
@@ -25,8 +25,3 @@ all_passed (test ∷ tests) a b same = go test.0 refl (all_passed tests a b)
     go false is further =
         let rest = further (sym (ap (λ c. if c then Err test.1 else checked tests a) is) ∙ same) in
         ((is, rest.0), rest.1)
-
--- a test of the contrary that does not apply
-pub holds : (b : Bool) → not b ≡ false → b ≡ true
-holds true is = refl
-holds false is = sym is

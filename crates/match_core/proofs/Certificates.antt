@@ -1,10 +1,10 @@
 -- An odd labelling of G - R - S with enough classes shows that no matching of G - R is larger.
 -- Each class has a vertex that the matching misses or an edge to S; summed over the classes and compared term by term.
-use Rattle.std.proofs.Common.{◌≡◌, ℕ, suc, zero, ◌+◌, ◌*◌, ◌≤◌, ◌<◌, ◌≢◌, Bool, true, false, ◌==◌, refl, sym, ap, ap₂, ◌∙◌, arith, ◌&&◌, ◌||◌, not, eq-eqb, ne_eqb, eqb-true, inl, inr, nat_lt, mul-add, lt-ltb, ltb-true, le_trans, le_of_eq}
-use Rattle.std.proofs.lemmas.Bool.{cases_eq, cases_Bool, and_from, both_ways, true≢false, false_from_ne_true}
+use Rattle.std.proofs.Common.{◌≡◌, ℕ, suc, zero, ◌+◌, ◌*◌, ◌≤◌, ◌≢◌, Bool, true, false, ◌==◌, refl, sym, ap, ap₂, ◌∙◌, arith, ◌&&◌, ◌||◌, not, eq-eqb, ne_eqb, eqb-true, inl, inr, nat_lt, mul-add, lt-ltb}
+use Rattle.std.proofs.lemmas.Bool.{cases_eq, both_ways, true≢false, false_from_ne_true}
 use Rattle.counting.proofs.Counts.{count_le_one}
 use Rattle.counting.proofs.Odd.{odd-double}
-use Rattle.counting.proofs.Totals.{total_add, total_at, total_congr, total_le, total_none, total_swap}
+use Rattle.counting.proofs.Totals.{total_add, total_at, total_congr, total_le, total_none, total_swap, total_tight, total_ones}
 use Rattle.counting.specs.Counts.{Within, bit, count, is_odd, total}
 use Rattle.counting.specs.Sets.{Set, complement, union}
 use Rattle.graph_core.proofs.Edits.{ends_le_degree, ends_of, ends_of_is, missed_edges}
@@ -19,24 +19,6 @@ ends_total g is m x =
     total_congr g.order _ _ (λ v w. mul-add (bit (x v)) (count (size g) (λ e. m e && (first_end g e == v))) (count (size g) (λ e. m e && (second_end g e == v))))
     ∙ total_add g.order (λ v. bit (x v) * count (size g) (λ e. m e && (first_end g e == v))) (λ v. bit (x v) * count (size g) (λ e. m e && (second_end g e == v)))
     ∙ ap₂ ◌+◌ (ends_in g.order (size g) m x (first_end g) (λ e w. (is e w).0)) (ends_in g.order (size g) m x (second_end g) (λ e w. (is e w).1))
-
--- sums that agree, of terms that are at most the others, agree in each term
-pub same_terms : (n : ℕ) (f h : ℕ → ℕ) → ((v : ℕ) → Within n v → f v ≤ h v) → total n h ≤ total n f → (v : ℕ) → Within n v → f v ≡ h v
-same_terms zero f h le all v w = absurd (omega arith)
-same_terms (suc n) f h le all v w =
-    let a = total_le n f h (λ u x. le u (omega arith)) in
-    let b = le (suc n) (omega arith) in
-    elim (cases_eq v (suc n)) [
-      | inl e ↦ ap f e ∙ both (f (suc n)) (h (suc n)) (omega arith) (omega arith) ∙ ap h (sym e)
-      | inr e ↦ same_terms n f h (λ u x. le u (omega arith)) (omega arith) v (omega arith)
-    ]
-  where
-    both : (a b : ℕ) → a ≤ b → b ≤ a → a ≡ b
-    both a b p q = omega arith
-
-pub total_ones : (p : ℕ) → total p (λ j. 1) ≡ p
-total_ones zero = refl
-total_ones (suc p) = omega (arith, total_ones p)
 
 -- a number up to p is one of 1 to p or 0
 pub class_sum : (p l y : ℕ) → l ≤ p → total p (λ j. bit (l == j) * y) ≡ bit (nat_lt 0 l) * y
@@ -166,7 +148,7 @@ module _ (g : Graph) (is : IsGraph g) (r s : Set) (label : ℕ → ℕ) (p : ℕ
         let a = classes_few in
         let d = bound_total in
         let e = missed_edges g r m is mm in
-        let t = same_terms g.order _ _ each_term (omega arith) v w in
+        let t = sym (total_tight g.order _ _ each_term (omega arith) v w) in
         go (nat_lt 0 (label v)) (s v) (r v) (degree g m v) rv dv t
       where
         go : (x y z : Bool) (d : ℕ) → z ≡ false → d ≡ 0 → bit x * bit (d == 0) + bit y * d ≡ bit (not z && (d == 0)) + bit y → (x ≡ true) × (y ≡ false)

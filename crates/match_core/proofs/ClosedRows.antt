@@ -1,8 +1,8 @@
 -- The rows that a closing edge makes of two paths are an odd cycle, opened at its first vertex.
 -- Each place of the rows is a place of the cycle of the two paths, of which the lemmas on closing edges speak.
 use Rattle.std.proofs.Common.{◌≡◌, ℕ, suc, ◌+◌, ◌-◌, ◌≤◌, ◌<◌, ◌≢◌, Bool, true, false, cond, refl, sym, ap, ◌∙◌, arith, List, inl, inr, ◌&&◌, ◌==◌, not}
-use Rattle.counting.specs.Counts.{Within, count, is_odd}
-use Rattle.counting.specs.Sets.{Set, minus}
+use Rattle.counting.specs.Counts.{Within, is_odd}
+use Rattle.counting.specs.Sets.{Set}
 use Rattle.counting.proofs.Tests.{some_congr}
 use Rattle.graph_core.specs.Graph.{Graph, HasEnds, size, degree}
 use Rattle.graph_core.specs.Matchings.{IsMatching}

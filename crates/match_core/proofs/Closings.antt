@@ -1,6 +1,6 @@
 -- A closing edge in the rows of a search: the two paths to its ends augment where they do not meet, and give an opened odd
 -- cycle where they do.
-use Rattle.std.proofs.Common.{◌≡◌, ℕ, suc, ◌+◌, ◌-◌, ◌/◌, ◌≤◌, ◌<◌, ◌≢◌, Bool, true, false, cond, refl, sym, ap, ◌∙◌, arith, List, length, subst, subst₂}
+use Rattle.std.proofs.Common.{◌≡◌, ℕ, suc, ◌+◌, ◌-◌, ◌/◌, ◌≤◌, ◌<◌, ◌≢◌, true, false, cond, refl, sym, ◌∙◌, arith, List, length, subst, subst₂}
 use mathlib.Core.Path.{fun_ext}
 use Rattle.counting.specs.Counts.{Within, count, is_odd}
 use Rattle.counting.specs.Sets.{Set, put}

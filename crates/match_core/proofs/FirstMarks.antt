@@ -1,14 +1,14 @@
 -- The marks that the engine begins with, and the bound on its augmentations.
 -- An edge between two free vertices is added: it meets these two alone, so all other free vertices stay free.
-use Rattle.std.proofs.Common.{◌≡◌, ℕ, suc, zero, ◌+◌, ◌*◌, ◌≤◌, ◌<◌, ◌≢◌, Bool, true, false, ◌==◌, ◌||◌, ◌&&◌, refl, sym, ap, ap₂, ◌∙◌, arith, eq-eqb, ne_eqb, inl, inr, eqb-true}
-use Rattle.std.proofs.lemmas.Bool.{both_ways, cases_Bool, or_left, or_right, true≢false, false_from_ne_true}
+use Rattle.std.proofs.Common.{◌≡◌, ℕ, ◌+◌, ◌≤◌, ◌≢◌, true, false, ◌==◌, ◌||◌, ◌&&◌, sym, ap, ap₂, ◌∙◌, arith}
+use Rattle.std.proofs.lemmas.Bool.{both_ways, or_left, or_right, false_from_ne_true}
 use Rattle.counting.proofs.Counts.{count_le}
 use Rattle.counting.proofs.Totals.{total_none}
 use Rattle.counting.specs.Counts.{Within, bit, count}
 use Rattle.counting.specs.Sets.{Set, put, complement}
-use Rattle.graph_core.proofs.Edits.{add_edge, degree_put, ends_of, ends_of_is, missed_edges}
+use Rattle.graph_core.proofs.Edits.{add_edge, degree_put, ends_of_is, missed_edges}
 use Rattle.graph_core.specs.Graph.{Graph, HasEnds, IsGraph, degree, first_end, second_end, size}
-use Rattle.graph_core.specs.Matchings.{IsMatching, missed_count}
+use Rattle.graph_core.specs.Matchings.{IsMatching}
 
 -- no edge at all
 pub empty_degree : (g : Graph) (m : Set) → ((e : ℕ) → m e ≡ false) → (v : ℕ) → degree g m v ≡ 0

@@ -1,17 +1,17 @@
 -- What a matching with a frame is: maximum, with the Gallai-Edmonds sets as its outer and inner vertices; perfect exactly
 -- where there is no outer vertex. A missed vertex is outer, and an outer vertex is missed by some matching as large.
-use Rattle.std.proofs.Common.{◌≡◌, ℕ, suc, zero, ◌+◌, ◌*◌, ◌≤◌, ◌<◌, Bool, true, false, ◌==◌, ◌↔◌, refl, sym, ap, ap₂, ◌∙◌, arith, List, [], ◌∷◌, length, subst, inl, inr, eq-eqb, ◌-◌}
-use Rattle.std.proofs.lemmas.Bool.{both_ways, true≢false, cases_Bool, false_from_ne_true}
-use Rattle.counting.specs.Counts.{Within, bit, count, is_odd}
-use Rattle.counting.specs.Sets.{Set, none, union}
+use Rattle.std.proofs.Common.{◌≡◌, ℕ, suc, zero, ◌≤◌, ◌<◌, Bool, true, false, ◌==◌, ◌↔◌, refl, sym, ap, ◌∙◌, arith, List, [], ◌∷◌, length, subst, inl, inr, eq-eqb, ◌-◌}
+use Rattle.std.proofs.lemmas.Bool.{both_ways, true≢false, false_from_ne_true}
+use Rattle.counting.specs.Counts.{Within, count, is_odd}
+use Rattle.counting.specs.Sets.{Set, none}
 use Rattle.counting.specs.Lists.{mem, rising_list, IsRisingIn}
 use Rattle.counting.proofs.Counts.{count_congr}
 use Rattle.counting.proofs.RisingLists.{mem-rising_list, set-narrower}
-use Rattle.graph_core.specs.Graph.{Graph, HasEnds, IsGraph, degree, size, has_ends}
-use Rattle.graph_core.specs.Matchings.{IsMatching, IsMaximum, IsPerfect, HasPerfect, missed_count}
+use Rattle.graph_core.specs.Graph.{Graph, IsGraph, degree, size}
+use Rattle.graph_core.specs.Matchings.{IsMatching, IsMaximum, IsPerfect, HasPerfect}
 use Rattle.graph_core.specs.BergeSets.{Attains}
 use Rattle.graph_core.specs.GallaiEdmonds.{InD, InA}
-use Rattle.graph_core.specs.Walks.{adjacent, joined}
+use Rattle.graph_core.specs.Walks.{joined}
 use Rattle.graph_core.specs.View.{graph_of, IsWithinLimits}
 use Rattle.graph_core.specs.declared.ends.Ends.{Ends}
 use Rattle.graph_core.proofs.Decide.{degree_congr}
@@ -22,7 +22,6 @@ use Rattle.graph_core.proofs.Walks.{adjacent_from}
 use Rattle.match_core.specs.Frames.{Frame}
 use Rattle.match_core.specs.Rows.{marks, end_a, end_b}
 use Rattle.match_core.specs.Searches.{AreEnds, IsGraphRow}
-use Rattle.match_core.specs.Steps.{AreVertexSets}
 use Rattle.match_core.specs.Optimal.{IsBest}
 use Rattle.match_core.specs.declared.best.Best.{Best}
 use Rattle.match_core.proofs.Alike.{matching_alike}

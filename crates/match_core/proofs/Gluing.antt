@@ -1,19 +1,18 @@
 -- Perfect matchings through given edges: edges that share no vertex, with a perfect matching of the graph without their ends.
 -- Degrees add where the sets of edges have none in common, and the two meet each vertex in turn.
-use Rattle.std.proofs.Common.{◌≡◌, ℕ, suc, zero, ◌+◌, ◌*◌, ◌≤◌, ◌<◌, ◌≢◌, Bool, true, false, ◌==◌, ◌||◌, ◌&&◌, not, refl, sym, ap, ap₂, ◌∙◌, arith, inl, inr, eq-eqb, ne_eqb, eqb-true, List, [], ◌∷◌, ◌++◌, length, take, get_or, subst}
-use Rattle.std.proofs.lemmas.Bool.{both_ways, cases_Bool, cases_eq, or_left, or_right, true≢false, false_from_ne_true}
+use Rattle.std.proofs.Common.{◌≡◌, ℕ, suc, zero, ◌+◌, ◌*◌, ◌≤◌, ◌<◌, ◌≢◌, Bool, true, false, ◌==◌, ◌||◌, ◌&&◌, not, refl, sym, ap, ◌∙◌, arith, inl, inr, eq-eqb, eqb-true, List, [], ◌∷◌, length, take, get_or, subst}
+use Rattle.std.proofs.lemmas.Bool.{both_ways, cases_Bool, or_left, or_right, true≢false}
 use Rattle.std.specs.Prelude.{All}
 use Rattle.std.proofs.lemmas.List.{take_more, take_all}
-use Rattle.counting.specs.Counts.{Within, bit, count}
+use Rattle.counting.specs.Counts.{Within, bit}
 use Rattle.counting.specs.Sets.{Set, none, put, union, minus}
 use Rattle.counting.specs.Lists.{mem}
 use Rattle.counting.proofs.Lists.{mem-append}
 use Rattle.graph_core.proofs.Edits.{degree_put, edge_at, ends_le_degree, ends_of, ends_of_is, two_ends_le_degree, bit_same}
 use Rattle.graph_core.specs.Graph.{Graph, HasEnds, IsGraph, degree, size, first_end, second_end}
 use Rattle.graph_core.specs.Matchings.{IsMatching, IsPerfect}
-use Rattle.match_core.specs.Questions.{HoldsAll, MeetOnce}
+use Rattle.match_core.specs.Questions.{MeetOnce}
 use Rattle.match_core.proofs.Forests.{met as met_ends}
-use Rattle.match_core.proofs.GrownRows.{with_put}
 use Rattle.match_core.proofs.Shrinking.{degree_split, bit_minus, bit_union}
 
 -- an edge outside c with two free ends is added
@@ -118,11 +117,6 @@ mem-take (x ∷ xs) (suc k) v h = elim (Rattle.std.proofs.lemmas.Bool.or_cases (
   | inl q ↦ or_left (x == v) (mem xs v) q
   | inr q ↦ or_right (x == v) (mem xs v) (mem-take xs k v q)
 ]
-
-pub mem-item : (xs : List ℕ) (k : ℕ) → k < length xs → mem xs (get_or xs k 0) ≡ true
-mem-item [] k l = absurd (omega arith)
-mem-item (x ∷ xs) zero l = or_left (x == x) (mem xs x) (eq-eqb x x refl)
-mem-item (x ∷ xs) (suc k) l = or_right (x == get_or xs k 0) (mem xs (get_or xs k 0)) (mem-item xs k (omega arith))
 
 -- an item that is there already changes nothing
 pub mem-again : (x : Set) (v w : ℕ) → x v ≡ true → (x w || (v == w)) ≡ x w

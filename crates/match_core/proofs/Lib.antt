@@ -19,6 +19,7 @@ pub mod ClosedRows
 pub mod Closings
 pub mod ShrunkRows
 pub mod ShrunkSteps
+pub mod Marks
 pub mod MatchingEdges
 pub mod FirstMarks
 pub mod FrameFacts

@@ -3,7 +3,7 @@
 use Rattle.std.proofs.Common.{◌≡◌, ℕ, suc, zero, ◌+◌, ◌*◌, ◌≤◌, ◌<◌, Bool, true, false, ◌==◌, refl, sym, ap, ◌∙◌, arith, ◌&&◌, ◌||◌, eqb-true, ◌⊎◌, inl, inr, subst, nat_lt, List, [], ◌∷◌, ltb-true}
 use Rattle.std.proofs.lemmas.Bool.{cases_Bool, both_ways, true≢false, false_from_ne_true, or_parts}
 use Rattle.counting.proofs.Odd.{odd_pos, odd_total}
-use Rattle.counting.proofs.Totals.{total_congr, total_le, total_mul, total_swap}
+use Rattle.counting.proofs.Totals.{total_congr, total_le, total_mul, total_swap, total_ones}
 use Rattle.counting.specs.Counts.{Within, bit, count, is_odd, total}
 use Rattle.counting.specs.Sets.{Set, complement, none, union}
 use Rattle.graph_core.proofs.Components.{joined_walk, one_leader, some_leader}
@@ -15,7 +15,7 @@ use Rattle.graph_core.specs.Components.{is_least, odd_component_count}
 use Rattle.graph_core.specs.Graph.{Graph, IsGraph, degree, first_end, second_end, size, HasEnds}
 use Rattle.graph_core.specs.Matchings.{IsMatching, IsMaximum, missed_count}
 use Rattle.graph_core.specs.Walks.{Joined, Walk, adjacent, joined}
-use Rattle.match_core.proofs.Certificates.{class_sum, total_ones, certificate_bound, certificate_tight}
+use Rattle.match_core.proofs.Certificates.{class_sum, certificate_bound, certificate_tight}
 use Rattle.match_core.proofs.StepTheorem.{step}
 use Rattle.match_core.specs.Frames.{Frame, IsCertificate, IsOddLabelling}
 

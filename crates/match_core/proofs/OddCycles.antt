@@ -1,13 +1,12 @@
 -- An odd cycle has a near-perfect matching for each of its vertices: every other edge on the way round.
 -- The two edges at a vertex have neighbouring places, of which exactly one is chosen unless the way starts there.
-use Rattle.std.proofs.Common.{◌≡◌, ℕ, suc, zero, ◌+◌, ◌*◌, ◌≤◌, ◌<◌, ◌≢◌, Bool, true, false, cond, ◌==◌, refl, sym, ap, ap₂, ◌∙◌, arith, ◌&&◌, ◌||◌, not, eq-eqb, ne_eqb, eqb-true, ◌⊎◌, inl, inr, nat_lt, lt-ltb, le-ltb, mul_comm, mul-add, subst}
-use Rattle.std.proofs.lemmas.Bool.{cases_eq, cases_order, and_parts}
-use Rattle.counting.proofs.Counts.{count_le_one, some_le_count}
+use Rattle.std.proofs.Common.{◌≡◌, ℕ, suc, zero, ◌+◌, ◌*◌, ◌<◌, ◌≢◌, Bool, true, false, cond, ◌==◌, refl, sym, ap, ap₂, ◌∙◌, arith, ◌&&◌, ◌||◌, not, eq-eqb, ne_eqb, eqb-true, ◌⊎◌, inl, inr, nat_lt, lt-ltb, le-ltb, mul-add, subst}
+use Rattle.std.proofs.lemmas.Bool.{cases_eq, cases_order}
 use Rattle.counting.proofs.Tests.{some_none, some_true, true_some}
-use Rattle.counting.proofs.Totals.{total_add, total_at, total_congr, total_mul, total_none, total_swap}
+use Rattle.counting.proofs.Totals.{total_add, total_at, total_congr, total_none}
 use Rattle.counting.specs.Counts.{Within, bit, count, is_odd, total}
 use Rattle.counting.specs.Sets.{Set}
-use Rattle.counting.specs.Tests.{some}
+use Rattle.graph_core.proofs.Carrying.{image, total_image}
 use Rattle.graph_core.proofs.Edits.{degree_sum, ends_of, ends_of_is}
 use Rattle.graph_core.specs.Graph.{Graph, degree, size, HasEnds}
 use Rattle.match_core.specs.OddCycles.{IsOddCycle, same_answer, listed, next, every_other, picked}
@@ -16,29 +15,8 @@ use Rattle.match_core.specs.Frames.{IsNearPerfect}
 -- a sum over an image without collisions is a sum over what it comes from
 pub total_picked : (k l : ℕ) (m : Set) (pick : ℕ → ℕ) (f : ℕ → ℕ) → ((e : ℕ) → Within k e → m e ≡ true → Within l (pick e)) → ((d e : ℕ) → Within k d → Within k e → m d ≡ true → m e ≡ true → pick d ≡ pick e → d ≡ e) →
     total l (λ i. bit (picked k m pick i) * f i) ≡ total k (λ e. bit (m e) * f (pick e))
-total_picked k l m pick f inside apart =
-    total_congr l _ _ (λ i w. ap (λ c. c * f i) (one i) ∙ spread i)
-    ∙ total_swap l k (λ i e. bit (m e && (pick e == i)) * f i)
-    ∙ total_congr k _ _ (λ e w. each e w (m e) refl)
-  where
-    one : (i : ℕ) → bit (some k (λ e. m e && (pick e == i))) ≡ count k (λ e. m e && (pick e == i))
-    one i = let a = some_le_count k (λ e. m e && (pick e == i)) in
-        let b = count_le_one k (λ e. m e && (pick e == i)) (λ d e wd we l pd pe.
-        let x = and_parts (m d) (pick d == i) pd in let y = and_parts (m e) (pick e == i) pe in
-        let z = apart d e wd we x.0 y.0 (eqb-true (pick d) i x.1 ∙ sym (eqb-true (pick e) i y.1)) in absurd (omega arith)) in
-        up (some k (λ e. m e && (pick e == i))) refl a b
-      where
-        up : (s : Bool) → some k (λ e. m e && (pick e == i)) ≡ s → bit (some k (λ e. m e && (pick e == i))) ≤ count k (λ e. m e && (pick e == i)) → count k (λ e. m e && (pick e == i)) ≤ 1 → bit (some k (λ e. m e && (pick e == i))) ≡ count k (λ e. m e && (pick e == i))
-        up true q a b = let c = ap bit q in omega arith
-        up false q a b = ap bit q ∙ sym (total_none k _ (λ e w. ap bit (some_none k (λ e. m e && (pick e == i)) q e w)))
-
-    spread : (i : ℕ) → count k (λ e. m e && (pick e == i)) * f i ≡ total k (λ e. bit (m e && (pick e == i)) * f i)
-    spread i = mul_comm (count k (λ e. m e && (pick e == i))) (f i) ∙ sym (total_mul k (f i) (λ e. bit (m e && (pick e == i)))) ∙ total_congr k _ _ (λ e w. mul_comm (f i) (bit (m e && (pick e == i))))
-
-    each : (e : ℕ) → Within k e → (b : Bool) → m e ≡ b → total l (λ i. bit (m e && (pick e == i)) * f i) ≡ bit b * f (pick e)
-    each e w true t =
-        total_at l (λ i. bit (m e && (pick e == i)) * f i) (pick e) (inside e w t) (λ i u d. rw (t, ne_eqb (pick e) i (λ q. d (sym q))) (omega arith)) ∙ rw (t, eq-eqb (pick e) (pick e) refl) refl
-    each e w false t = total_none l _ (λ i u. rw t (omega arith)) ∙ omega arith
+unfolding image
+total_picked k l m pick f inside apart = total_image k l m pick f inside apart
 
 pattern_below : (t i : ℕ) → i < t → every_other t i ≡ same_answer (is_odd i) (is_odd t)
 pattern_below t i l = go (nat_lt i t) (nat_lt t i) (same_answer (is_odd i) (is_odd t)) (lt-ltb i t l) (le-ltb t i (omega arith))

@@ -1,10 +1,11 @@
 -- The outer vertices of a frame are those in odd components of G - R without the inner ones.
 -- Odd components ranked by least vertex are a labelling; an even component put outside the classes leaves them odd.
-use Rattle.std.proofs.Common.{◌≡◌, ℕ, suc, zero, ◌+◌, ◌*◌, ◌≤◌, ◌<◌, Bool, true, false, cond, ◌==◌, refl, sym, ap, ap₂, ◌∙◌, arith, ◌&&◌, not, eq-eqb, ne_eqb, inl, inr, nat_lt, [], ◌∷◌, le-ltb, zero-mul, one-mul}
-use Rattle.std.proofs.lemmas.Bool.{cases_eq, cases_Bool, cases_order, both_ways, true≢false, false_from_ne_true, and_parts, and_from, or_parts}
+use Rattle.std.proofs.Common.{◌≡◌, ℕ, ◌+◌, ◌*◌, ◌≤◌, Bool, true, false, cond, ◌==◌, refl, sym, ap, ap₂, ◌∙◌, arith, ◌&&◌, not, eq-eqb, ne_eqb, inl, inr, nat_lt, [], ◌∷◌, le-ltb, zero-mul, one-mul}
+use Rattle.std.proofs.lemmas.Bool.{cases_Bool, both_ways, true≢false, false_from_ne_true, and_parts, and_from, or_parts}
 use Rattle.counting.proofs.Counts.{bit_true, count_congr, only_one}
 use Rattle.counting.proofs.Odd.{odd-add}
-use Rattle.counting.proofs.Totals.{some_term, total_add, total_at, total_congr, total_none}
+use Rattle.counting.proofs.Ranks.{count_up, rank_once, member_ranked}
+use Rattle.counting.proofs.Totals.{some_term, total_add, total_at, total_congr, total_none, total_tight}
 use Rattle.counting.specs.Counts.{Within, bit, count, is_odd, total}
 use Rattle.counting.specs.Sets.{Set, union}
 use Rattle.counting.specs.Tests.{some}
@@ -14,41 +15,9 @@ use Rattle.graph_core.specs.Components.{is_least, odd_component_count}
 use Rattle.graph_core.specs.Graph.{Graph, IsGraph, first_end, second_end, size}
 use Rattle.graph_core.specs.Matchings.{IsMatching}
 use Rattle.graph_core.specs.Walks.{Joined, joined}
-use Rattle.match_core.proofs.Certificates.{same_terms, certificate_tight}
+use Rattle.match_core.proofs.Certificates.{certificate_tight}
 use Rattle.match_core.proofs.OddComponents.{certificate_components, classes_leaders, outer_free, same_class}
 use Rattle.match_core.specs.Frames.{Frame, IsOddLabelling}
-
--- how many of 1 to u pass grows with u
-pub count_up : (p : Set) (a b : ℕ) → a ≤ b → count a p ≤ count b p
-count_up p a zero l = let z : a ≡ 0 = omega arith in let x = ap (λ s. count s p) z in omega arith
-count_up p a (suc b) l = elim (cases_eq a (suc b)) [
-  | inl q ↦ let x = ap (λ s. count s p) q in omega arith
-  | inr q ↦ let x = count_up p a b (omega arith) in omega arith
-]
-
--- the j-th that passes
-pub ranked : (n : ℕ) (p : Set) (j : ℕ) → Within (count n p) j → (u : ℕ) × Within n u × (p u ≡ true) × (count u p ≡ j)
-ranked zero p j w = absurd (omega arith)
-ranked (suc n) p j w = elim (cases_Bool (p (suc n))) [
-  | inr f ↦ let x = ap bit f in let r = ranked n p j (omega arith) in (r.0, (let a = r.1 in omega arith), r.2, r.3)
-  | inl t ↦ let x = ap bit t in elim (cases_eq (count (suc n) p) j) [
-    | inl q ↦ (suc n, omega arith, t, q)
-    | inr q ↦ let r = ranked n p j (omega arith) in (r.0, (let a = r.1 in omega arith), r.2, r.3)
-  ]
-]
-
-below_rank : (p : Set) (a b : ℕ) → a < b → p b ≡ true → count a p < count b p
-below_rank p a zero l t = absurd (omega arith)
-below_rank p a (suc b) l t = let x = count_up p a b (omega arith) in let y = ap bit t in omega arith
-
-pub rank_once : (p : Set) (a b : ℕ) → p a ≡ true → p b ≡ true → count a p ≡ count b p → a ≡ b
-rank_once p a b pa pb q = elim (cases_order a b) [
-  | inl e ↦ e
-  | inr d ↦ elim d [
-    | inl l ↦ let x = below_rank p a b l pb in absurd (omega arith)
-    | inr l ↦ let x = below_rank p b a l pa in absurd (omega arith)
-  ]
-]
 
 module _ (g : Graph) (is : IsGraph g) (x : Set) where
   abbrev pub is_odd_least : Set
@@ -106,7 +75,7 @@ module _ (g : Graph) (is : IsGraph g) (x : Set) where
     away = λ v w t. label_out v t;
     along = λ e w a b. let u = leader (first_end g e) (is e w).0 a in
         label_at u.0 (first_end g e) u.1 (is e w).0 u.2 u.3 ∙ sym (label_at u.0 (second_end g e) u.1 (is e w).1 u.2 (joined_along u.0 e u.1 w a b u.3));
-    odd = λ j w. let u = ranked g.order is_odd_least j w in
+    odd = λ j w. let u = member_ranked g.order is_odd_least j w in
         let q = and_parts (is_least g x u.0) (is_odd (count g.order (joined g x u.0))) u.2 in
         ap is_odd (count_congr g.order _ _ (λ v wv. same j w u.0 u.1 q.0 q.1 u.3 v wv)) ∙ q.1;
   }
@@ -211,7 +180,7 @@ module _ (g : Graph) (is : IsGraph g) (r : Set) (k : ℕ) (outer inner : Set) (f
       let u = leader g is (union r inner) v w free in
       let a = classes_leaders g is (union r inner) frame.label frame.classes frame.certificate.labels in
       let b = (certificate_components g r inner k frame.label frame.classes is frame.certificate m mm full).0 in
-      let same = same_terms g.order (λ y. bit (nat_lt 0 (frame.label y)) * bit (is_odd_least g is (union r inner) y)) (λ y. bit (is_odd_least g is (union r inner) y)) (λ y wy. less (nat_lt 0 (frame.label y)) (bit (is_odd_least g is (union r inner) y))) (omega arith) u.0 u.1 in
+      let same = sym (total_tight g.order (λ y. bit (is_odd_least g is (union r inner) y)) (λ y. bit (nat_lt 0 (frame.label y)) * bit (is_odd_least g is (union r inner) y)) (λ y wy. less (nat_lt 0 (frame.label y)) (bit (is_odd_least g is (union r inner) y))) (omega arith) u.0 u.1) in
       let sizes : count g.order (joined g (union r inner) u.0) ≡ count g.order (joined g (union r inner) v) = count_congr g.order _ _ (λ y wy. part_same u.0 v y u.1 w u.3) in
       frame.labelled v w ∙ ap (nat_lt 0) (sym (same_class g is (union r inner) frame.label frame.classes frame.certificate.labels u.0 v u.3)) ∙ pos (nat_lt 0 (frame.label u.0)) (is_odd_least g is (union r inner) u.0) (and_from (is_least g (union r inner) u.0) (is_odd (count g.order (joined g (union r inner) u.0))) u.2 (ap is_odd sizes ∙ odd)) same
     where

@@ -1,7 +1,7 @@
 -- The walk from one missed vertex to the other, edge by edge of a perfect matching and of the given one in turn, in rows.
 -- Each turn makes the path longer by two edges; where the given matching ends, the path is whole and repairs it.
-use Rattle.std.proofs.Common.{◌≡◌, ℕ, suc, zero, ◌+◌, ◌-◌, ◌*◌, ◌/◌, ◌≤◌, ◌<◌, ◌≢◌, Bool, true, false, cond, ◌==◌, ◌&&◌, not, refl, sym, ap, ap₂, ◌∙◌, arith, List, [], ◌∷◌, ◌++◌, length, inl, inr, ◌⊎◌, subst, nat_lt, nat_le, lt-ltb}
-use Rattle.std.proofs.lemmas.Bool.{le-leb, le-ltb, both_ways, cases_eq, cases_lt, cases_Bool, cases_order, false_from_ne_true, true≢false, and_from, and_parts}
+use Rattle.std.proofs.Common.{◌≡◌, ℕ, suc, zero, ◌+◌, ◌-◌, ◌/◌, ◌≤◌, ◌<◌, ◌≢◌, Bool, true, false, cond, ◌==◌, ◌&&◌, not, refl, sym, ap, ap₂, ◌∙◌, arith, List, [], ◌∷◌, ◌++◌, length, inl, inr, ◌⊎◌, subst, nat_lt, nat_le, lt-ltb}
+use Rattle.std.proofs.lemmas.Bool.{le-leb, le-ltb, both_ways, cases_eq, cases_lt, cases_order, false_from_ne_true, and_parts}
 use Rattle.std.proofs.Math.ListN.{get_or-append}
 use Rattle.std.proofs.lemmas.List.{get_or-append_right, length-append}
 use mathlib.Core.Path.{fun_ext}
@@ -25,7 +25,7 @@ use Rattle.graph_core.specs.Matchings.{HasPerfect, IsMatching, IsPerfect, missed
 use Rattle.match_core.specs.Forests.{IsAlternating, flipped}
 use Rattle.match_core.specs.OddCycles.{same_answer}
 use Rattle.match_core.specs.Rows.{numbers, part, end_a, end_b}
-use Rattle.match_core.specs.RepairPaths.{DiffersByPath, FormPath, IsRepairRow, IsWalk, Misses, difference}
+use Rattle.match_core.specs.RepairPaths.{DiffersByPath, IsRepairRow, IsWalk, Misses, difference}
 use Rattle.match_core.proofs.Alike.{path_alike}
 use Rattle.match_core.proofs.AlternatingPaths.{put_at, put_off, path_edges, flipped_off}
 use Rattle.match_core.proofs.LongerPaths.{longer, longer_below, longer_at, longer_after}

@@ -1,7 +1,7 @@
 -- What the rows of a search say of its graph: the mates, the grown forest, the first forest, and the final one as a frame.
 -- Each fact about ends in the rows is carried to the graph of these ends, where the lemmas on forests speak.
-use Rattle.std.proofs.Common.{◌≡◌, ℕ, suc, ◌+◌, ◌-◌, ◌≤◌, ◌<◌, ◌≢◌, Bool, true, false, cond, ◌==◌, refl, sym, subst, ap, ap₂, ◌∙◌, arith, List, length, eq-eqb, ne_eqb, inl, inr, not, ◌&&◌, nat_lt, lt-ltb, nat_le}
-use Rattle.std.proofs.lemmas.Bool.{cases_eq, cases_lt, and_parts, both_ways, true≢false, not-true, le-leb, lt-leb, le-ltb}
+use Rattle.std.proofs.Common.{◌≡◌, ℕ, suc, ◌+◌, ◌-◌, ◌≤◌, ◌<◌, ◌≢◌, Bool, true, false, cond, ◌==◌, refl, sym, subst, ap, ap₂, ◌∙◌, arith, List, length, eq-eqb, ne_eqb, inl, inr, not, ◌&&◌, nat_lt, nat_le}
+use Rattle.std.proofs.lemmas.Bool.{cases_eq, and_parts, both_ways, true≢false, not-true}
 use Rattle.std.proofs.lemmas.List.{get_or-map, length-map}
 use Rattle.counting.specs.Counts.{bit, count, Within}
 use Rattle.counting.specs.Sets.{Set, none}
@@ -9,7 +9,7 @@ use Rattle.counting.specs.Lists.{mem}
 use Rattle.counting.proofs.Totals.{total_none, total_congr}
 use Rattle.graph_core.specs.Graph.{Graph, HasEnds, size, first_end, second_end, IsGraph, degree}
 use Rattle.graph_core.specs.Matchings.{IsMatching}
-use Rattle.graph_core.specs.View.{graph_of, pair_of}
+use Rattle.graph_core.specs.View.{graph_of}
 use Rattle.match_core.specs.Frames.{Frame}
 use Rattle.match_core.proofs.Forests.{met, forest_start, first_outer, first_parts, final_frame, turned}
 use Rattle.match_core.proofs.Growth.{grown_size}

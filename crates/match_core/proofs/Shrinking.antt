@@ -1,11 +1,11 @@
 -- A set C that has a near-perfect matching for each of its vertices is shrunk to one vertex z of it.
 -- Degrees outside C stay, those in C sum to the degree of z; so matchings, labellings and frames go down and up.
-use Rattle.std.proofs.Common.{◌≡◌, ℕ, suc, zero, ◌+◌, ◌*◌, ◌-◌, ◌≤◌, ◌<◌, ◌≢◌, Bool, true, false, cond, ◌==◌, refl, sym, ap, ap₂, ◌∙◌, arith, ◌&&◌, ◌||◌, not, eq-eqb, ne_eqb, eqb-true, ◌⊎◌, inl, inr, nat_lt, List, length, mul-add, lt-ltb, ltb-true, subst}
-use Rattle.std.proofs.lemmas.Bool.{cases_eq, cases_Bool, cases_order, and_parts, and_from, both_ways, true≢false, false_from_ne_true}
+use Rattle.std.proofs.Common.{◌≡◌, ℕ, suc, ◌+◌, ◌*◌, ◌-◌, ◌≤◌, ◌<◌, ◌≢◌, Bool, true, false, cond, ◌==◌, refl, sym, ap, ap₂, ◌∙◌, arith, ◌&&◌, ◌||◌, not, eq-eqb, ne_eqb, inl, inr, nat_lt, List, mul-add, subst}
+use Rattle.std.proofs.lemmas.Bool.{cases_eq, cases_Bool, cases_order, both_ways, true≢false, false_from_ne_true}
 use Rattle.counting.proofs.Choice.{count_put}
 use Rattle.counting.proofs.Counts.{count_congr}
 use Rattle.counting.proofs.Odd.{odd-add, odd-double}
-use Rattle.counting.proofs.Totals.{at_le_total, some_term, total_add, total_at, total_congr, total_le, total_none, two_le_total}
+use Rattle.counting.proofs.Totals.{at_le_total, some_term, total_add, total_at, total_congr, total_none, two_le_total}
 use Rattle.counting.specs.Counts.{Within, bit, count, is_odd, total}
 use Rattle.counting.specs.Sets.{Set, complement, minus, union, put}
 use Rattle.graph_core.proofs.Edits.{degree_sum, ends_le_degree, ends_of, ends_of_is, sum_degrees}
@@ -41,10 +41,10 @@ bit_union true false h = refl
 bit_union false true h = refl
 bit_union false false h = refl
 
-ends_near : (g : Graph) (e : ℕ) → 1 ≤ ends_of g e (first_end g e)
+pub ends_near : (g : Graph) (e : ℕ) → 1 ≤ ends_of g e (first_end g e)
 ends_near g e = let a = ends_of_is g e (first_end g e) (second_end g e) (inl (refl, refl)) (first_end g e) in let b = ap bit (eq-eqb (first_end g e) (first_end g e) refl) in omega arith
 
-ends_far : (g : Graph) (e : ℕ) → 1 ≤ ends_of g e (second_end g e)
+pub ends_far : (g : Graph) (e : ℕ) → 1 ≤ ends_of g e (second_end g e)
 ends_far g e = let a = ends_of_is g e (first_end g e) (second_end g e) (inl (refl, refl)) (second_end g e) in let b = ap bit (eq-eqb (second_end g e) (second_end g e) refl) in omega arith
 
 module _ (g : Graph) (is : IsGraph g) (c : Set) (t : ℕ) (e : Set) (near_t : IsNearPerfect g c t e) where

@@ -1,6 +1,6 @@
 -- The rows of a shrunk graph: they are the graph with the cycle's vertices made one, within the same limits.
 -- Each end in the rows is the end of the graph of these ends, so what holds place by place holds edge by edge.
-use Rattle.std.proofs.Common.{◌≡◌, ℕ, ◌+◌, ◌-◌, ◌≤◌, ◌<◌, Bool, true, false, cond, sym, ap, ◌∙◌, arith, List, length, map, subst, refl}
+use Rattle.std.proofs.Common.{◌≡◌, ℕ, ◌-◌, ◌<◌, sym, ap, ◌∙◌, arith, List, length, map, subst}
 use Rattle.std.proofs.lemmas.List.{length-map}
 use Rattle.counting.specs.Counts.{Within}
 use Rattle.counting.specs.Sets.{Set}

@@ -1,15 +1,15 @@
 -- The step of a shrunk graph is one of the graph: its matching goes up with every other edge of the cycle, its frame with
 -- the cycle's vertices among the outer ones.
-use Rattle.std.proofs.Common.{◌≡◌, ℕ, suc, zero, ◌+◌, ◌-◌, ◌*◌, ◌≤◌, ◌<◌, ◌≢◌, Bool, true, false, ◌==◌, refl, sym, ap, ◌∙◌, arith, not, ◌⊎◌, inl, inr, subst, subst₂, List, length, map, eqb-true}
+use Rattle.std.proofs.Common.{◌≡◌, ℕ, suc, zero, ◌+◌, ◌-◌, ◌*◌, ◌≤◌, ◌<◌, ◌≢◌, true, false, ◌==◌, refl, sym, ap, ◌∙◌, arith, inl, inr, subst, subst₂, List, length, map, eqb-true}
 use Rattle.std.proofs.lemmas.Bool.{cases_order, both_ways, not-true, or_cases}
 use mathlib.Core.Path.{fun_ext}
 use Rattle.counting.proofs.Odd.{half}
 use Rattle.counting.proofs.Tests.{some_true}
 use Rattle.counting.proofs.Totals.{two_le_total}
-use Rattle.counting.specs.Counts.{Within, bit, count, is_odd, total}
+use Rattle.counting.specs.Counts.{Within, bit, count, is_odd}
 use Rattle.counting.specs.Sets.{Set, complement, minus, union}
 use Rattle.counting.specs.Lists.{mem}
-use Rattle.graph_core.specs.Graph.{Graph, HasEnds, IsGraph, degree, size}
+use Rattle.graph_core.specs.Graph.{Graph, IsGraph, degree, size}
 use Rattle.graph_core.specs.Matchings.{IsMatching}
 use Rattle.graph_core.specs.View.{graph_of, pair_of}
 use Rattle.graph_core.specs.declared.ends.Ends.{Ends}

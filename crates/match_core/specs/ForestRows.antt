@@ -1,5 +1,5 @@
 -- The rows in which the code keeps an alternating forest.
-use Rattle.std.specs.Prelude.{◌≢◌, ◌≡◌, ℕ, ◌+◌, ◌<◌, ◌≤◌, Bool, true, false, length, List, [], not, ◌&&◌, ◌==◌, nat_lt, nat_le}
+use Rattle.std.specs.Prelude.{◌≢◌, ◌≡◌, ℕ, ◌+◌, ◌<◌, ◌≤◌, true, length, List, [], not, ◌&&◌, ◌==◌, nat_lt, nat_le}
 use Rattle.counting.specs.Sets.{Set, put}
 use Rattle.counting.specs.Lists.{mem}
 use Rattle.graph_core.specs.Graph.{Graph}

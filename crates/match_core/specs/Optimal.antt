@@ -1,5 +1,5 @@
 -- What the engine answers on a whole graph.
-use Rattle.std.specs.Prelude.{◌≡◌, ℕ, ◌+◌, length}
+use Rattle.std.specs.Prelude.{◌≡◌, ◌+◌, length}
 use Rattle.counting.specs.Counts.{count}
 use Rattle.counting.specs.Sets.{Set}
 use Rattle.counting.specs.Lists.{mem}

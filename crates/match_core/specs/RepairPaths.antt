@@ -6,7 +6,7 @@ use Rattle.graph_core.specs.Graph.{Graph, HasEnds, degree, size}
 use Rattle.graph_core.specs.Matchings.{IsPerfect}
 use Rattle.match_core.specs.Forests.{IsAlternating, flipped}
 use Rattle.match_core.specs.OddCycles.{same_answer}
-use Rattle.match_core.specs.Rows.{numbers, part}
+use Rattle.match_core.specs.Rows.{numbers}
 
 -- m misses v, a vertex outside r
 pub record Misses (g : Graph) (r m : Set) (v : ℕ) : Type 0 where

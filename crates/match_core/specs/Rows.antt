@@ -1,5 +1,5 @@
 -- Rows of the code as sets, as numbers by place, and as the ends of edges.
-use Rattle.std.specs.Prelude.{◌+◌, ◌-◌, ℕ, List, Bool, false, slice_index_or, slice_index}
+use Rattle.std.specs.Prelude.{◌+◌, ℕ, List, Bool, false, slice_index_or, slice_index}
 use Rattle.graph_core.specs.declared.ends.Ends.{Ends}
 
 -- a row of truth values as a set; past its end it answers false

@@ -1,5 +1,5 @@
 //! Worked graphs: the sizes of their maximum matchings, their Gallai-Edmonds sets, and perfect matchings on request.
-ghost use Rattle.std.specs.Prelude.{◌≡◌, ◌≤◌, true};
+ghost use Rattle.std.specs.Prelude.{◌≡◌, true};
 ghost use Rattle.counting.specs.Lists.{mem};
 ghost use Rattle.counting.specs.Sets.{none};
 ghost use Rattle.graph_core.specs.Matchings.{missed_count};
@@ -10,34 +10,7 @@ use graph_core::{MultiGraph, Numbers};
 use std::alloc::Global;
 use std::test::Fail;
 use vset_core::{MOST_VERTICES, VSet};
-
-const STAR: [(u32, u32); 3] = [(1, 2), (1, 3), (1, 4)];
-
-const TRIANGLE: [(u32, u32); 3] = [(1, 2), (1, 3), (2, 3)];
-
-const PATH: [(u32, u32); 3] = [(1, 2), (2, 3), (3, 4)];
-
-const K4: [(u32, u32); 6] = [(1, 2), (1, 3), (1, 4), (2, 3), (2, 4), (3, 4)];
-
-const TWO_EDGES: [(u32, u32); 2] = [(1, 2), (3, 4)];
-
-const PETERSEN: [(u32, u32); 15] = [
-    (1, 2),
-    (2, 3),
-    (3, 4),
-    (4, 5),
-    (5, 1),
-    (1, 6),
-    (2, 7),
-    (3, 8),
-    (4, 9),
-    (5, 10),
-    (6, 8),
-    (8, 10),
-    (10, 7),
-    (7, 9),
-    (9, 6),
-];
+use worked_graphs::{K4, PATH, PETERSEN, STAR, TRIANGLE, TWO_EDGES, graph_with};
 
 // Three odd cycles, each around the one before: 1 2 3, then 4 5 with it, then 6 7 with these; and a stem at 7.
 const FLOWER: [(u32, u32); 10] = [
@@ -55,16 +28,6 @@ const FLOWER: [(u32, u32); 10] = [
 
 // A square 3 4 5 6 beside an edge.
 const SQUARE: [(u32, u32); 5] = [(1, 2), (3, 4), (4, 5), (5, 6), (3, 6)];
-
-fn made(alloc: Global, order: u32, edges: &[(u32, u32)]) -> Result<MultiGraph, Fail>
-    requires { order ≤ MOST_VERTICES }
-{
-    let mut graph = MultiGraph::new(alloc, order)?;
-    for (a, b) in edges {
-        graph.add_edge(*a, *b)?;
-    }
-    Ok(graph)
-}
 
 fn has_edges(matching: &Matching, want: &[u32]) -> bool {
     if matching.len() != want.len() {
@@ -93,7 +56,7 @@ fn finds_maximum_matchings(rt: HostRuntime) -> Result<(), Fail> {
     ];
     for (order, edges, size) in cases {
         assert!(rt; order <= MOST_VERTICES);
-        let graph = made(rt.alloc(), order, edges)?;
+        let graph = graph_with(rt.alloc(), order, edges)?;
         let found = maximum(rt.alloc(), &graph)?;
         assert_eq!(rt; found.matching.len(), size);
     }
@@ -102,16 +65,16 @@ fn finds_maximum_matchings(rt: HostRuntime) -> Result<(), Fail> {
 
 #[test]
 fn finds_the_sets_of_gallai_and_edmonds(rt: HostRuntime) -> Result<(), Fail> {
-    let star = made(rt.alloc(), 4, &STAR)?;
+    let star = graph_with(rt.alloc(), 4, &STAR)?;
     let sets = frame(rt.alloc(), &star)?;
     assert!(rt; sets.outer == VSet::full(4).without(1));
     assert!(rt; sets.inner == VSet::one(1));
     assert!(rt; sets.found.berge == VSet::one(1));
-    let triangle = made(rt.alloc(), 3, &TRIANGLE)?;
+    let triangle = graph_with(rt.alloc(), 3, &TRIANGLE)?;
     let sets = frame(rt.alloc(), &triangle)?;
     assert!(rt; sets.outer == VSet::full(3));
     assert!(rt; sets.inner == VSet::empty());
-    let path = made(rt.alloc(), 4, &PATH)?;
+    let path = graph_with(rt.alloc(), 4, &PATH)?;
     let sets = frame(rt.alloc(), &path)?;
     assert!(rt; sets.outer == VSet::empty());
     assert!(rt; sets.inner == VSet::empty());
@@ -120,7 +83,7 @@ fn finds_the_sets_of_gallai_and_edmonds(rt: HostRuntime) -> Result<(), Fail> {
 
 #[test]
 fn answers_perfect_matchings_on_request(rt: HostRuntime) -> Result<(), Fail> {
-    let path = made(rt.alloc(), 4, &PATH)?;
+    let path = graph_with(rt.alloc(), 4, &PATH)?;
     let whole = perfect_without(rt.alloc(), &path, VSet::empty())?;
     assert!(rt; whole.is_some_and(|m| has_edges(&m, &[1, 3])));
     let inner = perfect_without(rt.alloc(), &path, VSet::one(1).with(4))?;
@@ -131,7 +94,7 @@ fn answers_perfect_matchings_on_request(rt: HostRuntime) -> Result<(), Fail> {
 
 #[test]
 fn holds_given_edges(rt: HostRuntime) -> Result<(), Fail> {
-    let k4 = made(rt.alloc(), 4, &K4)?;
+    let k4 = graph_with(rt.alloc(), 4, &K4)?;
     let mut edges = Numbers::new(rt.alloc());
     edges.push(2)?;
     edges.push(2)?;
@@ -162,7 +125,7 @@ fn perfect_with_edges(
 // A body that searches anew gives one answer for both.
 #[test]
 fn repairs_along_one_path(rt: HostRuntime) -> Result<(), Fail> {
-    let square = made(rt.alloc(), 6, &SQUARE)?;
+    let square = graph_with(rt.alloc(), 6, &SQUARE)?;
     let one = repaired_beside(rt.alloc(), &square, 2)?;
     assert!(rt; one.is_some_and(|m| has_edges(&m, &[1, 2, 4])));
     let other = repaired_beside(rt.alloc(), &square, 3)?;
@@ -172,7 +135,7 @@ fn repairs_along_one_path(rt: HostRuntime) -> Result<(), Fail> {
 
 #[test]
 fn repairs_where_there_is_no_perfect_matching(rt: HostRuntime) -> Result<(), Fail> {
-    let star = made(rt.alloc(), 4, &STAR)?;
+    let star = graph_with(rt.alloc(), 4, &STAR)?;
     let found = maximum(rt.alloc(), &star)?;
     assert!(rt; repaired(rt.alloc(), &star, &found.matching)?.is_none());
     Ok(())

@@ -1,5 +1,5 @@
 -- The word of a path writes this path, and the word of a set its vertices: what stands between two commas is the decimal of one vertex.
-use Rattle.std.proofs.Common.{◌≡◌, ◌≤◌, ◌<◌, ◌==◌, ◌||◌, ◌^◌, not, nat_le, ℕ, suc, List, [], ◌∷◌, Bool, length, map, true, false, refl, ◌∙◌, ap, arith}
+use Rattle.std.proofs.Common.{◌≡◌, ◌≤◌, ◌<◌, ◌||◌, ◌^◌, not, nat_le, ℕ, suc, List, [], ◌∷◌, Bool, length, map, true, false, refl, ◌∙◌, ap, arith}
 use Rattle.std.specs.Fmt.{decimal}
 use Rattle.std.specs.List.{All as AllOf, list_all, slice_split}
 use Rattle.std.proofs.Common.{All}
@@ -12,7 +12,7 @@ use Rattle.std.proofs.lemmas.List.Folds.{list_all-append}
 use Rattle.std.proofs.lemmas.List.Splits.{slice_split_at, slice_split_none}
 use Rattle.line_text.specs.Lines.{is_line_feed}
 use Rattle.line_text.specs.Words.{is_blank, is_word}
-use Rattle.line_text.proofs.Decimals.{digits-decimal, is_word-decimal, list_all-digits}
+use Rattle.line_text.proofs.Decimals.{digits-decimal, is_word-decimal, list_all-digits, nonempty}
 use Rattle.tree_core.specs.declared.path.Side.{Side}
 use Rattle.tree_core.specs.declared.path.Side.TheVariants.{Kept, Merged}
 use Rattle.move_text.specs.MoveFormat.{is_step, side_of, is_path, path_of, is_comma, parts_of, most_steps}
@@ -54,9 +54,6 @@ letters-plain : (path : List Side) → list_all is_plain (map letter_of path) �
 letters-plain [] = refl
 letters-plain (Kept ∷ path) = letters-plain path
 letters-plain (Merged ∷ path) = letters-plain path
-
-nonempty : (word : List ℕ) → 0 < length word → not (length word == 0) ≡ true
-nonempty word some = grind (arith, nat_tests)
 
 pub is_word-path_word : (path : List Side) → is_word (path_word path) ≡ true
 is_word-path_word [] = refl

@@ -3,14 +3,14 @@
 use Rattle.std.proofs.Common.{◌≡◌, ◌≤◌, ◌<◌, ◌==◌, ◌&&◌, ◌||◌, ◌^◌, codes, not, nat_le, if◌then◌else◌, ℕ, List, [], ◌∷◌, ◌++◌, Bool, length, map, true, false, Option, Some, None, Result, Ok, Err, IfOk, refl, sym, ◌∙◌, ap, subst, arith}
 use Rattle.std.specs.List.{AllByRecursion, list_all, list_any}
 use Rattle.std.specs.Str.{bytes_eq}
-use Rattle.std.proofs.lemmas.Bool.{and_parts, or_parts}
+use Rattle.std.proofs.lemmas.Bool.{and_parts, or_parts, not-false}
 use Rattle.std.proofs.lemmas.Bool.Decides.{nat_tests}
 use Rattle.std.proofs.lemmas.List.{length-map, length-append}
 use Rattle.std.proofs.lemmas.List.Splits.{length-slice_split}
 use Rattle.line_text.specs.Format.{Begins, Stands, finish}
 use Rattle.line_text.specs.Words.{has_form, word_at}
 use Rattle.line_text.specs.Numerals.{is_number, value_of}
-use Rattle.line_text.proofs.Tables.{all_passed, holds, no_value, value_or}
+use Rattle.line_text.proofs.Tables.{all_passed, no_value, value_or}
 use Rattle.graph_core.specs.declared.faults.FaultKind.{FaultKind}
 use Rattle.graph_core.specs.declared.faults.FaultKind.TheVariants as kind
 use Rattle.text_faults.specs.Ranges.{is_out_of_range}
@@ -27,7 +27,7 @@ record Keeps (n : ℕ) (moves : List PlainMove) : Type 0 where
   sets : AllByRecursion (HasSets n) moves
   rising : AllByRecursion SetsRise moves
 
--- what holds of each item and of one more behind
+-- what not-false of each item and of one more behind
 all-more : {X : Type 0} (P : X → Type 0) (xs : List X) (x : X) → AllByRecursion P xs → P x → AllByRecursion P (xs ++ x ∷ [])
 all-more P [] x each last = (last, tt)
 all-more P (y ∷ xs) x each last = (each.0, all-more P xs x each.1 last)
@@ -76,7 +76,7 @@ switch-keeps n moves path u v next few is keeps same =
     let through = all_passed (switch_tests n u v) (moves ++ m ∷ []) next same in
     let tests = through.0 in
     let range = or_parts (list_any (is_out_of_range n) (vertices_of u)) (list_any (is_out_of_range n) (vertices_of v)) tests.1.0 in
-    let order = and_parts (is_rising (vertices_of u)) (is_rising (vertices_of v)) (holds (is_rising (vertices_of u) && is_rising (vertices_of v)) tests.1.1.0) in
+    let order = and_parts (is_rising (vertices_of u)) (is_rising (vertices_of v)) (not-false (is_rising (vertices_of u) && is_rising (vertices_of v)) tests.1.1.0) in
     let first = rising_read n (vertices_of u) range.0 order.0 in
     let second = rising_read n (vertices_of v) range.1 order.1 in
     subst (Keeps n) through.1 (keeps-more n moves m few keeps (short-path path is) ((some-vertices u, first.within), (some-vertices v, second.within)) (first.rising, second.rising))

@@ -12,7 +12,7 @@ use Rattle.line_text.proofs.Decimals.{number_of-decimal, is_word-decimal, number
 use Rattle.line_text.proofs.ExactlyOne.{exactly_one}
 use Rattle.line_text.proofs.ReadBack.{Stands-written}
 use Rattle.text_faults.specs.Ranges.{is_out_of_range}
-use Rattle.text_faults.proofs.InRange.{in_range-tests}
+use Rattle.text_faults.proofs.InRange.{in_range-tests, few-digits}
 use Rattle.tree_core.specs.Moves.{PlainMove, rotate_at, switch_at}
 use Rattle.tree_core.specs.declared.path.Side.{Side}
 use Rattle.tree_text.proofs.TreeReadBack.{rising-tests}
@@ -49,20 +49,16 @@ rotate-taken n moves path few short =
     taken : (word : List ℕ) → is_rotate_line (codes "rotate" ∷ word ∷ []) ≡ true → path_of word ≡ path → (move_format n).line moves (codes "rotate" ∷ word ∷ []) ≡ Ok (moves ++ rotate_at path ∷ [])
     taken word is same = rw (few_moves moves few, is, same) refl
 
--- the word of a nonempty set of vertices is read as this set
-below : (n : ℕ) (x : List ℕ) → n < 10 ^ 9 → All (Within n) x → All (λ v. v < 10 ^ 9) x
-below n x small within k d less = let in_order = within k d less in omega arith
-
 pub vertices_of-set_word : (n : ℕ) (x : List ℕ) → n < 10 ^ 9 → 0 < length x → All (Within n) x → (vertices_of (set_word x) ≡ x) × (are_numbers (set_word x) ≡ true)
 vertices_of-set_word n [] small some within = absurd (omega arith)
 vertices_of-set_word n (v ∷ x) small some within =
-    let less = below n (v ∷ x) small within in
+    let less = few-digits n (v ∷ x) small within in
     let parts = parts_of-set_word v x less in
     (ap (map value_of) parts ∙ values-decimal (v ∷ x) less, ap (list_all is_number) parts ∙ numbers-decimal (v ∷ x) less)
 
 word-set : (n : ℕ) (x : List ℕ) → n < 10 ^ 9 → 0 < length x → All (Within n) x → is_word (set_word x) ≡ true
 word-set n [] small some within = absurd (omega arith)
-word-set n (v ∷ x) small some within = is_word-set_word v x (below n (v ∷ x) small within)
+word-set n (v ∷ x) small some within = is_word-set_word v x (few-digits n (v ∷ x) small within)
 
 -- the line of a Switch
 switch-taken : (n : ℕ) (moves : List PlainMove) (path : List Side) (u v : List ℕ) → n < 10 ^ 9 → length moves < most_moves → length path ≤ most_steps → HasSets n (switch_at path u v) → SetsRise (switch_at path u v) → (move_format n).line moves (move_words (switch_at path u v)) ≡ Ok (moves ++ switch_at path u v ∷ [])

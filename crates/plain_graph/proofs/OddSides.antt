@@ -1,5 +1,5 @@
 -- A number is odd where division by two leaves one, and what is outside of a set is the order less what is inside.
-use Rattle.std.proofs.Common.{◌≡◌, ℕ, ◌+◌, ◌-◌, ◌%◌, ◌==◌, Bool, true, false, ◌&&◌, sym, ap, ap₂, ◌∙◌, arith, eq-eqb, ne_eqb}
+use Rattle.std.proofs.Common.{◌≡◌, ℕ, ◌-◌, ◌%◌, ◌==◌, true, false, ◌&&◌, sym, ap, ◌∙◌, arith, eq-eqb, ne_eqb}
 use Rattle.counting.specs.Counts.{count, is_odd}
 use Rattle.counting.specs.Sets.{Set, complement}
 use Rattle.counting.proofs.Counts.{count_complement}

@@ -1,5 +1,5 @@
 -- The vertices that a walk of one step more reaches, and those that a walk of as many steps as there are vertices reaches.
-use Rattle.std.proofs.Common.{◌≡◌, ℕ, suc, ◌+◌, ◌≤◌, ◌<◌, ◌&&◌, ◌||◌, ◌==◌, not, Bool, true, false, ap, ap₂, sym, refl, ◌∙◌, arith, List, [], length, Option, None, Some, unwrap_or, nat_lt, ltb-true, lt-ltb, eq-eqb, ne_eqb, inl, inr}
+use Rattle.std.proofs.Common.{◌≡◌, ℕ, suc, ◌+◌, ◌&&◌, ◌||◌, ◌==◌, not, true, false, ap, ap₂, sym, ◌∙◌, arith, List, [], length, Option, None, Some, unwrap_or, nat_lt, ltb-true, lt-ltb, eq-eqb, ne_eqb, inl, inr}
 use Rattle.std.specs.Prelude.{IfSome, IfNone}
 use Rattle.std.proofs.lemmas.Bool.{and_from, and_parts, and_right, both_ways, cases_eq, cases_lt, false_from_ne_true, not_from_false}
 use Rattle.counting.specs.Counts.{Within, count}

@@ -1,14 +1,13 @@
 -- Each set of numbers 1 to n is in the list of all of them, as its rising list: the sets without n come first, then the same
 -- sets with n added. So a test that passes for a set passes for an item of the list.
-use Rattle.std.proofs.Common.{◌≡◌, ℕ, suc, zero, ◌+◌, ◌≤◌, ◌<◌, Bool, true, false, ◌==◌, ◌||◌, refl, sym, ap, ap₂, ◌∙◌, arith, List, [], ◌∷◌, ◌++◌, length, map, filter, get_or, subst, cond, inl, inr, append-nil, eq-eqb, ne_eqb}
+use Rattle.std.proofs.Common.{◌≡◌, ℕ, suc, zero, ◌+◌, ◌≤◌, ◌<◌, Bool, true, false, ◌==◌, ◌||◌, refl, sym, ap, ap₂, ◌∙◌, arith, List, [], ◌∷◌, ◌++◌, length, map, filter, get_or, subst, cond, append-nil, eq-eqb, ne_eqb}
 use Rattle.std.specs.Prelude.{All, Contains}
 use Rattle.std.proofs.lemmas.Bool.{or_right}
 use Rattle.std.proofs.lemmas.List.{get_or-map, length-map}
 use Rattle.std.proofs.lemmas.List.Elements.{All-append, All-cons, All-map, All-nil, All-weaker, Contains-append_left, Contains-append_right, Contains-push}
-use Rattle.counting.specs.Counts.{Within}
 use Rattle.counting.specs.Lists.{IsRisingIn, mem, rising_list}
 use Rattle.counting.specs.Sets.{Set}
-use Rattle.counting.proofs.RisingLists.{mem-outside, rising_list-congr, rising_list-mem, rising_list-rises, same_rising_list, set-none, set-wider}
+use Rattle.counting.proofs.RisingLists.{rising_list-congr, rising_list-mem, rising_list-rises, same_rising_list, set-none, set-wider}
 use Rattle.counting.proofs.Lists.{mem-append}
 use Rattle.plain_graph.specs.Subsets.{subsets}
 

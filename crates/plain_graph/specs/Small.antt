@@ -1,5 +1,5 @@
 -- The graphs that the plain program takes.
-use Rattle.std.specs.Prelude.{ℕ, ◌≤◌}
+use Rattle.std.specs.Prelude.{◌≤◌}
 use Rattle.graph_core.specs.Graph.{Graph, size}
 
 -- at most 10 vertices and 16 edges

@@ -9,37 +9,13 @@ use graph_core::MultiGraph;
 use std::alloc::Global;
 use std::test::Fail;
 use vset_core::{MOST_VERTICES, VSet};
+use worked_graphs::{HEXAGON, K4, PATH, PRISM, STAR, TRIANGLE, graph_with};
 
-const K4: [(u32, u32); 6] = [(1, 2), (1, 3), (1, 4), (2, 3), (2, 4), (3, 4)];
-
-const PATH: [(u32, u32); 3] = [(1, 2), (2, 3), (3, 4)];
-
-const TRIANGLE: [(u32, u32); 3] = [(1, 2), (1, 3), (2, 3)];
-
-const STAR: [(u32, u32); 3] = [(1, 2), (1, 3), (1, 4)];
-
-const HEXAGON: [(u32, u32); 6] = [(1, 2), (2, 3), (3, 4), (4, 5), (5, 6), (6, 1)];
-
-const PRISM: [(u32, u32); 9] = [
-    (1, 2),
-    (1, 3),
-    (2, 3),
-    (4, 5),
-    (4, 6),
-    (5, 6),
-    (1, 4),
-    (2, 5),
-    (3, 6),
-];
-
+// The graph of these edges. The proofs of the tests need no more of it than that it is one.
 fn made(alloc: Global, order: u32, edges: &[(u32, u32)]) -> Result<MultiGraph, Fail>
     requires { order ≤ MOST_VERTICES }
 {
-    let mut graph = MultiGraph::new(alloc, order)?;
-    for (a, b) in edges {
-        graph.add_edge(*a, *b)?;
-    }
-    Ok(graph)
+    Ok(graph_with(alloc, order, edges)?)
 }
 
 fn set_of(numbers: &[u32]) -> VSet {

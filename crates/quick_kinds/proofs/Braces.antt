@@ -6,12 +6,15 @@ use Rattle.std.proofs.lemmas.Bool.{cases_eq, cases_Bool, true≢false, both_ways
 use Rattle.barrier_kit.proofs.Families.{glue_family}
 use Rattle.barrier_kit.proofs.Hall.{hall, hits}
 use Rattle.barrier_kit.proofs.Joining.{cut_split}
-use Rattle.barrier_kit.proofs.Matched.{inner, count_only, count_minus, count_member, count_zero, two_members, two_of, odd_three, cut_matching, loop_free, perfect_congr}
+use Rattle.barrier_kit.proofs.Matched.{inner, cut_matching, loop_free, perfect_congr}
 use Rattle.barrier_kit.specs.BarrierCuts.{IsSide}
 use Rattle.barrier_kit.specs.Choices.{neighbours, Picks}
 use Rattle.counting.proofs.Choice.{Respects, choose_set}
 use Rattle.counting.proofs.Counts.{count_congr}
+use Rattle.counting.proofs.Members.{count_minus, count_member, count_zero, two_members, two_of}
+use Rattle.counting.proofs.Odd.{odd_three}
 use Rattle.counting.proofs.RisingLists.{same_answers}
+use Rattle.counting.proofs.SetSizes.{count_singleton}
 use Rattle.counting.proofs.Tests.{some_true, true_some, some_congr}
 use Rattle.counting.proofs.Totals.{total_congr, total_add, total_le, total_none, total_at}
 use Rattle.counting.specs.Counts.{bit, count, Within}
@@ -423,7 +426,7 @@ module _ (g : Graph) (is : IsGraph g) (cov : IsCovered g) where
           let l = total_le g.order (λ v. bit (near_set v)) (λ v. bit (neighbours g.order beside rights some_left v) + (bit (singleton b v) + bit (singleton d v))) (λ v w. bits (not (x v)) (b == v) (d == v) (some g.order (λ u. some_left u && beside u v))) in
           let s = total_add g.order (λ v. bit (neighbours g.order beside rights some_left v)) (λ v. bit (singleton b v) + bit (singleton d v)) in
           let t = total_add g.order (λ v. bit (singleton b v)) (λ v. bit (singleton d v)) in
-          let i = count_only g.order b wb in let j = count_only g.order d wd in omega arith
+          let i = count_singleton g.order b wb in let j = count_singleton g.order d wd in omega arith
         where
           bits : (i j k l : Bool) → bit (i && l) ≤ bit (((i && not j) && not k) && l) + (bit j + bit k)
           bits false j k l = omega arith

@@ -1,6 +1,7 @@
 -- The first cut that classes or cut pairs give. A graph without a cut of a class is bicritical, since a class of two vertices
 -- gives a cut; a bicritical graph without a cut of a cut pair has no cut pair.
 use Rattle.std.proofs.Common.{◌≡◌, ℕ, ◌≤◌, true, ◌==◌, refl, sym, ap, ◌∙◌, ◌⊎◌, inl, inr, List, [], ◌∷◌, ◌++◌, length, Option, Some, None, arith, eqb-true, subst}
+use Rattle.std.proofs.lemmas.Option.{none-some, same_Some}
 use Rattle.std.specs.Prelude.{All, slice_get}
 use Rattle.std.proofs.lemmas.List.Elements.{All-head}
 use Rattle.graph_core.specs.Covered.{IsCovered}
@@ -14,30 +15,18 @@ use Rattle.separation_kit.proofs.SeparationFacts.{cut_pair-none, no_pair_no_cuts
 
 -- the first of a list
 pub first-left : (xs ys : List (List ℕ)) (r : List ℕ) → slice_get xs 0 ≡ Some r → Some r ≡ slice_get (xs ++ ys) 0
-first-left [] ys r h = absurd (none_some h)
-  where
-    none_some : None ≡ Some r → ⊥
-    none_some e = cc
+first-left [] ys r h = absurd (none-some r h)
 first-left (x ∷ xs) ys r h = sym h
 
 pub first-right : (xs ys : List (List ℕ)) (o : Option (List ℕ)) → xs ≡ [] → slice_get ys 0 ≡ o → o ≡ slice_get (xs ++ ys) 0
 first-right xs ys o e h = sym h ∙ ap (λ zs. slice_get (zs ++ ys) 0) (sym e)
 
 pub first-of : (P : List ℕ → Type 0) (xs : List (List ℕ)) (r : List ℕ) → All P xs → slice_get xs 0 ≡ Some r → P r
-first-of P [] r all h = absurd (none_some h)
-  where
-    none_some : None ≡ Some r → ⊥
-    none_some e = cc
-first-of P (x ∷ xs) r all h = subst P (some_is h) (All-head P x xs all)
-  where
-    some_is : Some x ≡ Some r → x ≡ r
-    some_is e = cc
+first-of P [] r all h = absurd (none-some r h)
+first-of P (x ∷ xs) r all h = subst P (same_Some x r h) (All-head P x xs all)
 
 pub first-some : (xs : List (List ℕ)) (r : List ℕ) → slice_get xs 0 ≡ Some r → xs ≡ [] → ⊥
-first-some xs r h e = none_some (ap (λ zs. slice_get zs 0) (sym e) ∙ h)
-  where
-    none_some : None ≡ Some r → ⊥
-    none_some e = cc
+first-some xs r h e = none-some r (ap (λ zs. slice_get zs 0) (sym e) ∙ h)
 
 pub empty-list : (xs : List (List ℕ)) → (length xs == 0) ≡ true → xs ≡ []
 empty-list [] h = refl

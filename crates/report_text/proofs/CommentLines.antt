@@ -1,11 +1,10 @@
 -- The lines behind the text of a decomposition, and those that name vertices behind it, are comments: each is written of words, the
 -- first of which is `c`.
-use Rattle.std.proofs.Common.{◌≡◌, ◌∙◌, ℕ, zero, suc, ◌-◌, ◌<◌, ◌≤◌, ◌^◌, ◌==◌, ◌||◌, ◌&&◌, not, nat_le, Bool, true, List, [], ◌∷◌, ◌++◌, length, map, get_or, All, ap, refl, sym, subst, append_assoc, arith, inl, inr}
+use Rattle.std.proofs.Common.{◌≡◌, ◌∙◌, ℕ, zero, suc, ◌-◌, ◌<◌, ◌≤◌, ◌^◌, ◌==◌, ◌||◌, not, Bool, true, List, [], ◌∷◌, ◌++◌, length, map, get_or, All, ap, refl, sym, subst, append_assoc, arith, inl, inr}
 use Rattle.std.specs.Prelude.{codes}
 use Rattle.std.specs.Fmt.{decimal}
-use Rattle.std.specs.List.{AllByRecursion, list_all}
-use Rattle.std.proofs.lemmas.Bool.{cases_lt, and_parts, and_from, eq-eqb}
-use Rattle.std.proofs.lemmas.Bool.Decides.{nat_tests}
+use Rattle.std.specs.List.{AllByRecursion}
+use Rattle.std.proofs.lemmas.Bool.{cases_lt, eq-eqb}
 use Rattle.std.proofs.lemmas.List.Elements.{All-get_or, All-from_get_or, All-nil}
 use Rattle.std.proofs.lemmas.List.Sums.{count_by-le-length}
 use Rattle.std.proofs.Math.ListN.{get_or-eq_default}
@@ -15,9 +14,9 @@ use Rattle.counting.proofs.RisingLists.{rising_list-rises}
 use Rattle.graph_core.specs.Graph.{Graph, size, first_end, second_end, has_ends}
 use Rattle.graph_core.specs.Partitions.{IsPartition, block, contracted}
 use Rattle.graph_core.specs.Quotients.{quotient, remembered}
-use Rattle.graph_text.specs.Names.{AreNames, is_name, is_name_byte}
-use Rattle.line_text.specs.Lines.{is_line_feed}
-use Rattle.line_text.specs.Words.{AreWords, is_blank, is_word, unwords, written}
+use Rattle.graph_text.proofs.NamedReadBack.{is_word-name}
+use Rattle.graph_text.specs.Names.{AreNames, is_name}
+use Rattle.line_text.specs.Words.{AreWords, is_word, unwords, written}
 use Rattle.line_text.proofs.Decimals.{is_word-decimal, words-decimal}
 use Rattle.line_text.proofs.WrittenLines.{spaced, unwords-spaced}
 use Rattle.report_text.specs.Comments.{HasFewLeaves, IsCommented}
@@ -193,31 +192,9 @@ unfolding with_names_text
 names-commented report names each few =
     commented-tail report (name_lines true names (length names)) (first_names-commented names (length names) each few (omega arith))
 
--- a byte of a name is neither a blank nor a line feed
-plain-byte : (byte : ℕ) → is_name_byte byte ≡ true → not (is_blank byte || is_line_feed byte) ≡ true
-unfolding is_name_byte
-plain-byte byte is = grind (arith, nat_tests)
-
-plain-bytes : (word : List ℕ) → list_all is_name_byte word ≡ true → list_all (λ byte. not (is_blank byte || is_line_feed byte)) word ≡ true
-plain-bytes [] all = refl
-plain-bytes (byte ∷ word) all =
-    let parts = and_parts (is_name_byte byte) (list_all is_name_byte word) all in
-    and_from (not (is_blank byte || is_line_feed byte)) (list_all (λ byte. not (is_blank byte || is_line_feed byte)) word) (plain-byte byte parts.0) (plain-bytes word parts.1)
-
-some-bytes : (n : ℕ) → nat_le 1 n ≡ true → not (n == 0) ≡ true
-some-bytes n some = grind (arith, nat_tests)
-
--- a name is a word
-word-name : (name : List ℕ) → is_name name ≡ true → is_word name ≡ true
-unfolding is_name
-word-name name is =
-    let parts = and_parts (nat_le 1 (length name)) (nat_le (length name) 16 && list_all is_name_byte name) is in
-    let others = and_parts (nat_le (length name) 16) (list_all is_name_byte name) parts.1 in
-    and_from (not (length name == 0)) (list_all (λ byte. not (is_blank byte || is_line_feed byte)) name) (some-bytes (length name) parts.0) (plain-bytes name others.1)
-
 words-names : (names : List (List ℕ)) → AllByRecursion (λ (name : List ℕ). is_name name ≡ true) names → AreWords names
 words-names [] each = tt
-words-names (name ∷ names) each = (word-name name each.0, words-names names each.1)
+words-names (name ∷ names) each = (is_word-name name each.0, words-names names each.1)
 
 -- the lines that name the first vertices of a graph are comments, where they are written so
 pub given_names-commented : (report text : List ℕ) (names : List (List ℕ)) (comments : Bool) (k : ℕ) → AreNames names → k ≤ length names → text ≡ report ++ name_lines comments names k → comments ≡ true → IsCommented report text

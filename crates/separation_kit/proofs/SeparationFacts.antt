@@ -4,11 +4,13 @@ use Rattle.std.proofs.Common.{◌≡◌, ◌≢◌, ◌↔◌, ℕ, ◌≤◌, �
 use Rattle.std.specs.Prelude.{All, find, is_none, if◌then◌else◌}
 use Rattle.std.proofs.lemmas.Bool.{both_ways, cases_lt, false_from_ne_true, le-leb, true≢false}
 use Rattle.std.proofs.lemmas.List.Elements.{All-map, All-nil}
+use Rattle.counting.proofs.Members.{count_member}
 use Rattle.counting.specs.Counts.{Within, count, is_odd}
 use Rattle.counting.specs.Lists.{mem, pair_with, rising_list, rising_pairs}
 use Rattle.counting.specs.Sets.{Set, everything, pair_set, singleton, union}
 use Rattle.counting.proofs.RisingLists.{mem-rising_list}
 use Rattle.graph_core.proofs.Decide.{has_perfect_found, has_perfect_says}
+use Rattle.graph_core.proofs.SameSets.{nontrivial-same, tight-same}
 use Rattle.graph_core.specs.Components.{component_count, components, is_least}
 use Rattle.graph_core.specs.Covered.{IsCovered}
 use Rattle.graph_core.specs.Graph.{Graph, IsGraph}
@@ -21,7 +23,6 @@ use Rattle.barrier_kit.proofs.AllOf.{all_flat, all_passing, all_rising, all_unfo
 use Rattle.barrier_kit.proofs.BarrierCuts.{leads_out}
 use Rattle.barrier_kit.proofs.CutFacts.{cuts-canonical, cuts-none, cuts-some}
 use Rattle.barrier_kit.proofs.ListedClasses.{has_perfect-true}
-use Rattle.barrier_kit.proofs.Matched.{count_member, nontrivial_congr, tight_congr}
 use Rattle.barrier_kit.proofs.ShoreFacts.{listed_tight, listed_wide}
 use Rattle.separation_kit.specs.SeparationShores.{is_cut_pair, separation_cuts, separation_shores, shores_at_pair}
 use Rattle.separation_kit.proofs.PairShores.{bicritical-true}
@@ -118,7 +119,7 @@ module _ (g : Graph) (is : IsGraph g) where
   pub separation_shores-tight : All (λ s. IsTight g (mem s)) (separation_shores g)
   separation_shores-tight = all_pair_shores g (λ s. IsTight g (mem s)) (λ u v a bi c l wa out.
       let m = bi u v c.first c.second c.different in
-      listed_tight g (pair_shore g u v a) is (tight_congr g (union (joined g (pair_set u v) a) (singleton u)) (pair_shore g u v a) is (pair_shore-is g u v a)
+      listed_tight g (pair_shore g u v a) is (tight-same g (union (joined g (pair_set u v) a) (singleton u)) (pair_shore g u v a) is (pair_shore-is g u v a)
       (separation_tight g is u v c.first c.second c.different m.0 m.1 a wa out)))
 
   pub separation_cuts-canonical : IsCovered g → All (IsCanonicalCut g) (separation_cuts g)
@@ -154,7 +155,7 @@ module _ (g : Graph) (is : IsGraph g) where
         let out = leads_out g (pair_set u v) k.0 k.2 in
         let x = pair_shore g u v k.0 in
         let m = bi u v c.first c.second c.different in
-        let wide = nontrivial_congr g.order (union (joined g (pair_set u v) k.0) (singleton u)) x (pair_shore-is g u v k.0) (separation_nontrivial g is u v c.first c.second c.different m.0 m.1 k.0 k.1 out c) in
+        let wide = nontrivial-same g.order (union (joined g (pair_set u v) k.0) (singleton u)) x (pair_shore-is g u v k.0) (separation_nontrivial g is u v c.first c.second c.different m.0 m.1 k.0 k.1 out c) in
         let narrow = listed_pair u v k.0 (λ s. is_nontrivial g.order (canonical_shore g.order (mem s)) ≡ false) (cuts-some g.order (separation_shores g) e) c l k.1 k.2 in
         both_ways (is_nontrivial g.order (canonical_shore g.order (mem (rising_list g.order x)))) narrow (listed_wide g.order x wide)
 

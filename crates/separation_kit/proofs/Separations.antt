@@ -3,9 +3,11 @@
 use Rattle.std.proofs.Common.{◌≡◌, ℕ, suc, zero, ◌+◌, ◌*◌, ◌≤◌, ◌≢◌, Bool, true, false, ◌==◌, refl, sym, ap, ap₂, ◌∙◌, arith, ◌&&◌, ◌||◌, not, eq-eqb, ne_eqb, eqb-true, inl, inr}
 use Rattle.std.proofs.lemmas.Bool.{true≢false, false_from_ne_true, both_ways, or_cases}
 use Rattle.barrier_kit.proofs.BarrierCuts.{leads_out, leader_of, leader_same, part_step, part_out, part_same}
-use Rattle.barrier_kit.proofs.Matched.{inner, count_only, count_plus, count_minus, count_member, count_sub, member_count, near_end, far_end, ends_out, nontrivial_congr, tight_congr}
+use Rattle.barrier_kit.proofs.Matched.{inner, ends_out}
 use Rattle.counting.proofs.Counts.{count_congr, count_complement}
+use Rattle.counting.proofs.Members.{count_plus, count_minus, count_member, member_count}
 use Rattle.counting.proofs.Odd.{odd-double, complement_odd}
+use Rattle.counting.proofs.SetSizes.{count_singleton, count_mono}
 use Rattle.counting.proofs.Totals.{total_congr, total_add, total_le, total_none}
 use Rattle.counting.specs.Counts.{bit, count, Within, is_odd}
 use Rattle.counting.specs.Sets.{Set, pair_set, none, union, minus, complement, singleton}
@@ -13,6 +15,7 @@ use Rattle.graph_core.proofs.Components.{joined_outside, walk_joined}
 use Rattle.graph_core.proofs.Edits.{ends_of, degree_sum, missed_edges}
 use Rattle.graph_core.proofs.Parity.{degrees, parity}
 use Rattle.graph_core.proofs.Perfect.{perfect_matching, perfect_misses}
+use Rattle.graph_core.proofs.SameSets.{nontrivial-same, tight-same}
 use Rattle.graph_core.proofs.Walks.{joined_self}
 use Rattle.graph_core.specs.Components.{is_least, component_count}
 use Rattle.graph_core.specs.Graph.{Graph, size, first_end, second_end, IsGraph, in_cut, degree, edges_in_cut}
@@ -20,6 +23,7 @@ use Rattle.graph_core.specs.Matchings.{IsPerfect}
 use Rattle.graph_core.specs.Structure.{IsCutPair}
 use Rattle.graph_core.specs.Tight.{IsTight, IsNontrivial}
 use Rattle.graph_core.specs.Walks.{joined}
+use Rattle.match_core.proofs.Shrinking.{ends_far, ends_near}
 
 module _ (g : Graph) (is : IsGraph g) (u v : ℕ) (wu : Within g.order u) (wv : Within g.order v) (d : u ≢ v) (n : Set) (pn : IsPerfect g (pair_set u v) n) where
   abbrev pair : Set
@@ -43,7 +47,7 @@ module _ (g : Graph) (is : IsGraph g) (u v : ℕ) (wu : Within g.order u) (wv : 
       let b = perfect_misses g pair n pn in
       let c = count_complement g.order pair in
       let e = count_plus g.order (singleton u) v wv (ne_eqb u v d) in
-      let f = count_only g.order u wu in
+      let f = count_singleton g.order u wu in
       let k = count (size g) n in
       let q : g.order ≡ (k + 1) + (k + 1) = omega arith in ap is_odd q ∙ odd-double (k + 1)
 
@@ -87,8 +91,8 @@ module _ (g : Graph) (is : IsGraph g) (u v : ℕ) (wu : Within g.order u) (wv : 
         left a b h = grind arith
 
         go : (a b : Bool) → pair (first_end g e) ≡ a → pair (second_end g e) ≡ b → 1 ≤ ends_of g e u + ends_of g e v
-        go true b p q = hit (first_end g e) (near_end g e) p
-        go false true p q = hit (second_end g e) (far_end g e) q
+        go true b p q = hit (first_end g e) (ends_near g e) p
+        go false true p q = hit (second_end g e) (ends_far g e) q
         go false false p q =
             let s = part_step g pair l e is wl w p q in
             let x = left (u == first_end g e) _ p in let y = left (u == second_end g e) _ q in
@@ -133,7 +137,7 @@ module _ (g : Graph) (is : IsGraph g) (u v : ℕ) (wu : Within g.order u) (wv : 
       let p = split (is_least g pair k.0) (l == k.0) k.2 in
       let b = two_in k.0 k.1 p.0 in
       let c = count_plus g.order (joined g pair k.0) v wv (part_out g pair k.0 v is (leads_out g pair k.0 p.0) pair_v) in
-      let e = count_sub g.order (union (joined g pair k.0) (singleton v)) (complement (union (joined g pair l) (singleton u))) (λ x w h. elim (or_cases (joined g pair k.0 x) (v == x) h) [
+      let e = count_mono g.order (union (joined g pair k.0) (singleton v)) (complement (union (joined g pair l) (singleton u))) (λ x w h. elim (or_cases (joined g pair k.0 x) (v == x) h) [
         | inl j ↦ rw (
           false_from_ne_true (joined g pair l x) (λ t. both_ways (l == k.0) p.1 (eq-eqb l k.0 (leader_same g pair is l x k.0 wl w k.1 ll t p.0 j))),
           ne_eqb u x (λ q. both_ways (pair x) (joined_outside g pair is k.0 x (leads_out g pair k.0 p.0) j) (ap pair (sym q) ∙ pair_u)),
@@ -149,11 +153,11 @@ module _ (g : Graph) (is : IsGraph g) (u v : ℕ) (wu : Within g.order u) (wv : 
   -- the component of any vertex outside the pair, and u
   pub separation_tight : (a : ℕ) → Within g.order a → pair a ≡ false → IsTight g (union (joined g pair a) (singleton u))
   separation_tight a wa o = let l = leader_of g pair is a wa o in
-      tight_congr g _ _ is (λ x w. ap (λ k. k || (u == x)) (part_same g pair is l.0 a l.1 wa l.3 x)) (shore_tight l.0 l.1 l.2)
+      tight-same g _ _ is (λ x w. ap (λ k. k || (u == x)) (part_same g pair is l.0 a l.1 wa l.3 x)) (shore_tight l.0 l.1 l.2)
 
   pub separation_nontrivial : (a : ℕ) → Within g.order a → pair a ≡ false → IsCutPair g u v → IsNontrivial g.order (union (joined g pair a) (singleton u))
   separation_nontrivial a wa o c = let l = leader_of g pair is a wa o in
-      nontrivial_congr g.order (union (joined g pair l.0) (singleton u)) _ (λ x w. ap (λ k. k || (u == x)) (part_same g pair is l.0 a l.1 wa l.3 x)) (shore_nontrivial l.0 l.1 l.2 c.parts)
+      nontrivial-same g.order (union (joined g pair l.0) (singleton u)) _ (λ x w. ap (λ k. k || (u == x)) (part_same g pair is l.0 a l.1 wa l.3 x)) (shore_nontrivial l.0 l.1 l.2 c.parts)
 
   pub separation_even : (a : ℕ) → Within g.order a → pair a ≡ false → is_odd (count g.order (joined g pair a)) ≡ false
   separation_even a wa o = let l = leader_of g pair is a wa o in

@@ -1,5 +1,5 @@
 -- The test of a range says exactly that a number is in it, and so for all numbers of a list.
-use Rattle.std.proofs.Common.{◌≡◌, ◌||◌, ℕ, suc, List, [], ◌∷◌, All, false, refl, ap₂, arith}
+use Rattle.std.proofs.Common.{◌≡◌, ◌||◌, ◌<◌, ◌^◌, ℕ, suc, List, [], ◌∷◌, All, false, refl, ap₂, arith}
 use Rattle.std.specs.List.{list_any}
 use Rattle.std.proofs.lemmas.Bool.{or_parts}
 use Rattle.std.proofs.lemmas.Bool.Decides.{nat_tests}
@@ -22,3 +22,7 @@ in_range-test n v within = let low = within.0 in let high = within.1 in grind (a
 pub in_range-tests : (n : ℕ) (x : List ℕ) → All (Within n) x → list_any (is_out_of_range n) x ≡ false
 in_range-tests n [] within = refl
 in_range-tests n (v ∷ x) within = ap₂ (λ a b. a || b) (in_range-test n v (within 0 0 (omega arith))) (in_range-tests n x (λ k d less. within (suc k) d (omega arith)))
+
+-- numbers in a small range have few digits
+pub few-digits : (n : ℕ) (x : List ℕ) → n < 10 ^ 9 → All (Within n) x → All (λ v. v < 10 ^ 9) x
+few-digits n x small within k d less = let in_order = within k d less in omega arith

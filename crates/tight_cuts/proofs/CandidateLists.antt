@@ -43,11 +43,11 @@ candidate-list n o x =
     (count_congr n (mem (rising_list n x)) x (λ v w. mem-rising_list n x v w))
     (count_congr n (complement (mem (rising_list n x))) (complement x) (λ v w. ap not (mem-rising_list n x v w)))
 
-choose-true : (b : Bool) (x y : List Candidate) → b ≡ true → (if b then x else y) ≡ x
+pub choose-true : (b : Bool) (x y : List Candidate) → b ≡ true → (if b then x else y) ≡ x
 choose-true true x y e = refl
 choose-true false x y e = absurd (true≢false (sym e))
 
-choose-false : (b : Bool) (x y : List Candidate) → b ≡ false → (if b then x else y) ≡ y
+pub choose-false : (b : Bool) (x y : List Candidate) → b ≡ false → (if b then x else y) ≡ y
 choose-false true x y e = absurd (true≢false e)
 choose-false false x y e = refl
 

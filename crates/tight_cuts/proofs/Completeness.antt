@@ -5,8 +5,9 @@ use Rattle.std.proofs.lemmas.List.Elements.{All-nil, All-head, All-tail}
 use Rattle.std.specs.List.{AllPairs, list_any}
 use Rattle.std.specs.Prelude.{All, fold}
 use Rattle.tight_cuts.specs.Candidates.{ShoresDiffer, Barrier, Separation, cuts, front_candidates}
-use Rattle.barrier_kit.proofs.Matched.{count_member, cut_edge}
+use Rattle.barrier_kit.proofs.Matched.{cut_edge}
 use Rattle.barrier_kit.specs.BarrierShores.{barrier_shores}
+use Rattle.counting.proofs.Members.{count_member}
 use Rattle.counting.specs.Counts.{Within}
 use Rattle.counting.specs.Lists.{mem}
 use Rattle.counting.specs.Sets.{Set, complement}

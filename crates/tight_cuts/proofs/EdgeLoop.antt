@@ -1,13 +1,13 @@
 -- The loop over the edges.
 -- Idea: what an edge gives is tight, and where some nontrivial tight set has the edge in its cut, so has a candidate then.
 use Rattle.std.proofs.Common.{◌≡◌, ℕ, suc, zero, ◌≤◌, Bool, true, false, cond, ◌==◌, refl, sym, ap, ap₂, ◌∙◌, arith, ◌&&◌, ◌||◌, not, inl, inr, ◌⊎◌, List, [], ◌∷◌, subst, map, flat_map, Option, Some, None, eq-eqb, ne_eqb, eqb-true, min, max}
-use Rattle.std.proofs.lemmas.Bool.{cases_eq, cases_lt, cases_Bool, and_parts, and_from, or_from, or_left, or_right, true≢false, both_ways}
+use Rattle.std.proofs.lemmas.Bool.{cases_eq, cases_lt, cases_Bool, and_parts, and_from, or_from, or_left, or_right, true≢false, both_ways, not-true}
 use Rattle.std.proofs.lemmas.List.Folds.{list_any-append}
 use Rattle.std.proofs.lemmas.List.Sums.{fold_push}
 use Rattle.std.specs.List.{AllPairs, list_any}
 use Rattle.std.specs.Prelude.{All, if◌then◌else◌, find, fold}
 use Rattle.tight_cuts.specs.Candidates.{ShoresDiffer, Flow, cuts, lesser_end, greater_end, first_parted}
-use Rattle.barrier_kit.proofs.Matched.{count_minus, count_member}
+use Rattle.counting.proofs.Members.{count_minus, count_member}
 use Rattle.counting.proofs.Tests.{some_true, some_none, some_congr}
 use Rattle.counting.specs.Counts.{Within}
 use Rattle.counting.specs.Lists.{rising_list, ordered_pairs, pair_with}
@@ -19,9 +19,10 @@ use Rattle.graph_core.specs.Graph.{Graph, size, first_end, second_end, IsGraph, 
 use Rattle.graph_core.specs.Tight.{IsTight, IsNontrivial}
 use Rattle.tight_cuts.proofs.LeastShores.{parted_says, parted_found, common_parts, parts_nontrivial}
 use Rattle.tight_cuts.proofs.PairsOfEdges.{cut_between}
-use Rattle.tight_cuts.proofs.Shores.{with_found, with_apart, with_grows, with_covers, complement_tight, complement_nontrivial}
+use Rattle.tight_cuts.proofs.Shores.{with_found, with_apart, with_grows, with_covers}
 use Rattle.tight_cuts.specs.Candidates.{Candidate, is_parted, common_shore, with_pair, with_edge_cut, IsTightCandidate}
 use Rattle.tight_cuts.specs.Pieces.{PartsTightly}
+use Rattle.barrier_kit.proofs.CutFacts.{nontrivial-turned, tight-turned}
 
 -- the first element that passes
 abbrev pub same_pair : ℕ × ℕ → ℕ × ℕ → Bool
@@ -102,9 +103,6 @@ sides g x a b e h c = elim (has_ends-cases g a b e h) [
     turned : (s t : Bool) → ((s && not t) || (not s && t)) ≡ true → ((t && not s) || (not t && s)) ≡ true
     turned s t h = grind arith
 
-not_true : (b : Bool) → not b ≡ true → b ≡ false
-not_true b h = grind arith
-
 module _ (g : Graph) (is : IsGraph g) (cov : IsCovered g) (e : ℕ) (we : Within (size g) e) where
   low_within : Within g.order (lesser_end g e)
   low_within = let w = is e we in let a = w.0 in let b = w.1 in elim (cases_lt (first_end g e) (second_end g e)) [ inl l ↦ omega arith | inr l ↦ omega arith ]
@@ -171,10 +169,10 @@ module _ (g : Graph) (is : IsGraph g) (cov : IsCovered g) (e : ℕ) (we : Within
         parted =
             let p = and_parts (x in_x.0) (not (lesser_end g e == in_x.0)) in_x.2 in
             let q = and_parts (not (x out_x.0)) (not (greater_end g e == out_x.0)) out_x.2 in
-            let r = not_true (x out_x.0) q.0 in
+            let r = not-true (x out_x.0) q.0 in
             parted_found g (lesser_end g e) (greater_end g e) (in_x.0, out_x.0) x is low_within high_within in_x.1 out_x.1
-            (or_from (lesser_end g e == in_x.0) (greater_end g e == in_x.0) (not_true (lesser_end g e == in_x.0) p.1) (ne_eqb (greater_end g e) in_x.0 (λ s. both_ways (x (greater_end g e)) xb (ap x s ∙ p.0))))
-            (or_from (lesser_end g e == out_x.0) (greater_end g e == out_x.0) (ne_eqb (lesser_end g e) out_x.0 (λ s. both_ways (x (lesser_end g e)) (ap x s ∙ r) xa)) (not_true (greater_end g e == out_x.0) q.1))
+            (or_from (lesser_end g e == in_x.0) (greater_end g e == in_x.0) (not-true (lesser_end g e == in_x.0) p.1) (ne_eqb (greater_end g e) in_x.0 (λ s. both_ways (x (greater_end g e)) xb (ap x s ∙ p.0))))
+            (or_from (lesser_end g e == out_x.0) (greater_end g e == out_x.0) (ne_eqb (lesser_end g e) out_x.0 (λ s. both_ways (x (lesser_end g e)) (ap x s ∙ r) xa)) (not-true (greater_end g e == out_x.0) q.1))
             (record { tight = t; has_a = xa; has_x = p.0; lacks_b = xb; lacks_y = r })
 
         go : (o : Option (ℕ × ℕ)) → first_parted g e ≡ o → list_any (cuts g e) (with_pair g (lesser_end g e) (greater_end g e) list o) ≡ true
@@ -195,7 +193,7 @@ module _ (g : Graph) (is : IsGraph g) (cov : IsCovered g) (e : ℕ) (we : Within
       | inl c ↦ ap (list_any (cuts g e)) c.1 ∙ c.0
       | inr c ↦ ap (list_any (cuts g e)) c.1 ∙ elim (sides g x (lesser_end g e) (greater_end g e) e (ends_between g e) ce) [
         | inl s ↦ cover_side x t nt s.0 s.1
-        | inr s ↦ cover_side (complement x) (complement_tight g x t) (complement_nontrivial g.order x nt) (ap not s.0) (ap not s.1)
+        | inr s ↦ cover_side (complement x) (tight-turned g x t) (nontrivial-turned g.order x nt) (ap not s.0) (ap not s.1)
       ]
     ]
 

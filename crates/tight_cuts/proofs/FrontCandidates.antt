@@ -15,7 +15,7 @@ use Rattle.graph_core.specs.Graph.{Graph, size}
 use Rattle.graph_core.specs.Structure.{is_bicritical, unlike_pair}
 use Rattle.graph_core.specs.Tight.{canonical_shore}
 use Rattle.separation_kit.specs.SeparationShores.{separation_cuts, separation_shores}
-use Rattle.tight_cuts.proofs.CandidateLists.{fold-cuts}
+use Rattle.tight_cuts.proofs.CandidateLists.{fold-cuts, choose-false, choose-true}
 use Rattle.tight_cuts.proofs.EdgeLoop.{after_edges, after_suc}
 use Rattle.tight_cuts.specs.Candidates.{Barrier, Candidate, Flow, Origin, Separation, candidate_at, candidates, common_shore, cuts, first_parted, front_candidates, greater_end, lesser_end, shores_of, with_edge_cut, with_list, with_pair, with_shore}
 use Rattle.tight_cuts.specs.EdgeSearch.{IsShoreOfEdge}
@@ -82,14 +82,6 @@ shore-congr n o list x y w h =
         ap (λ s. if (nat_le 3 i && nat_le 3 k) && not (is_listed (shores_of list) s) then list ++ record { shore = s; inside = i; outside = k; origin = o } ∷ [] else list) p
         ∙ ap (λ i. if (nat_le 3 i && nat_le 3 k) && not (is_listed (shores_of list) t) then list ++ record { shore = t; inside = i; outside = k; origin = o } ∷ [] else list) q
         ∙ ap (λ k. if (nat_le 3 j && nat_le 3 k) && not (is_listed (shores_of list) t) then list ++ record { shore = t; inside = j; outside = k; origin = o } ∷ [] else list) r
-
-choose-true : (b : Bool) (x y : List Candidate) → b ≡ true → (if b then x else y) ≡ x
-choose-true true x y e = refl
-choose-true false x y e = absurd (true≢false (sym e))
-
-choose-false : (b : Bool) (x y : List Candidate) → b ≡ false → (if b then x else y) ≡ y
-choose-false true x y e = absurd (true≢false e)
-choose-false false x y e = refl
 
 module _ (g : Graph) (list : List Candidate) (e : ℕ) where
   -- an edge in the cut of a candidate adds nothing

@@ -1,27 +1,16 @@
 -- The length of a pair list that grows.
 -- Idea: each member is the first to hold some pair of edges, and no pair has two first members.
-use Rattle.std.proofs.Common.{◌≡◌, ℕ, suc, zero, ◌+◌, ◌-◌, ◌≤◌, ◌<◌, ◌≢◌, Bool, true, false, ◌==◌, refl, sym, ap, ◌∙◌, arith, ◌&&◌, ◌||◌, not, inl, inr, List, [], ◌∷◌, length, nat_le, get_or}
-use Rattle.std.proofs.lemmas.Bool.{cases_lt, cases_Bool, and_parts, and_from, or_cases, true≢false, both_ways, false_from_ne_true, eqb-true, le-leb, leb-true}
-use Rattle.std.proofs.lemmas.List.Elements.{All-head, All-tail}
+use Rattle.std.proofs.Common.{◌≡◌, ℕ, suc, zero, ◌-◌, ◌≤◌, ◌≢◌, Bool, true, false, refl, sym, ap, ◌∙◌, arith, ◌&&◌, not, inl, inr, List, [], length, nat_le}
+use Rattle.std.proofs.lemmas.Bool.{cases_lt, cases_Bool, and_parts, and_from, true≢false, both_ways, false_from_ne_true, le-leb, leb-true}
 use Rattle.std.specs.Prelude.{All}
 use Rattle.counting.proofs.Counts.{count_le, count_le_one}
 use Rattle.counting.proofs.Tests.{some_true, true_some}
-use Rattle.counting.proofs.Totals.{total_le, total_none, total_swap, at_le_total}
+use Rattle.counting.proofs.Totals.{total_le, total_none, total_swap, at_le_total, total_ones}
 use Rattle.counting.specs.Counts.{bit, total, count, Within}
 use Rattle.counting.specs.Lists.{mem, item, IsRisingIn}
 use Rattle.counting.specs.Tests.{some}
 use Rattle.graph_core.specs.PairLists.{IsLean}
-
-mem_holds : (P : ℕ → Type 0) (xs : List ℕ) (v : ℕ) → All P xs → mem xs v ≡ true → P v
-mem_holds P [] v h m = absurd (true≢false (sym m))
-mem_holds P (x ∷ xs) v h m = elim (or_cases (x == v) (mem xs v) m) [
-  | inl e ↦ Rattle.std.proofs.Common.subst P (eqb-true x v e) (All-head P x xs h)
-  | inr t ↦ mem_holds P xs v (All-tail P x xs h) t
-]
-
-total_ones : (n : ℕ) → total n (λ v. 1) ≡ n
-total_ones zero = refl
-total_ones (suc n) = let i = total_ones n in omega arith
+use Rattle.match_core.proofs.Gluing.{mem-holds}
 
 low_count : (m f : ℕ) → count m (λ e. nat_le e f) ≤ f
 low_count zero f = omega arith
@@ -55,8 +44,8 @@ module _ (ms : List (List ℕ)) (m : ℕ) where
     each k w =
         let h = grows k w in
         let l = (rising (k - 1) [] (omega arith)).within in
-        let a = mem_holds (Within m) (item ms k) h.one l h.holds.0 in
-        let b = mem_holds (Within m) (item ms k) h.other l h.holds.1 in
+        let a = mem-holds (Within m) (item ms k) h.one l h.holds.0 in
+        let b = mem-holds (Within m) (item ms k) h.other l h.holds.1 in
         elim (cases_lt h.other h.one) [
           | inl s ↦ here h.other h.one k b a (omega arith) (and_from (both h.other h.one k) (not (some (k - 1) (both h.other h.one))) (and_from (mem (item ms k) h.other) (mem (item ms k) h.one) h.holds.1 h.holds.0)
               (ap not (false_from_ne_true (some (k - 1) (both h.other h.one)) (λ t. let q = some_true (k - 1) (both h.other h.one) t in let r = and_parts (mem (item ms q.0) h.other) (mem (item ms q.0) h.one) q.2 in

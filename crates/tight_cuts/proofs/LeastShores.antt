@@ -1,15 +1,18 @@
 -- The intersection of all tight sets that part two pairs is one of them.
 -- Idea: the meet of two of them is odd by one matching with the edge, so a least one lies in each.
 use Rattle.std.proofs.Common.{◌≡◌, ℕ, suc, zero, ◌≤◌, ◌≢◌, Bool, true, false, refl, sym, ap, ap₂, ◌∙◌, arith, ◌&&◌, ◌||◌, not, inl, inr, nat_lt, lt-ltb}
-use Rattle.std.proofs.lemmas.Bool.{cases_lt, and_parts, and_from, or_parts, or_from, true≢false, both_ways, ltb-true}
-use Rattle.barrier_kit.proofs.Matched.{tight_congr, total_tight, two_members, odd_three}
+use Rattle.std.proofs.lemmas.Bool.{cases_lt, and_parts, and_from, or_parts, or_from, true≢false, both_ways, ltb-true, not-true}
 use Rattle.counting.proofs.Choice.{Respects, choose_set, some_set_found, each_passes, none_fails, set_found}
 use Rattle.counting.proofs.Counts.{count_congr}
+use Rattle.counting.proofs.Members.{two_members}
+use Rattle.counting.proofs.Odd.{odd_three}
 use Rattle.counting.proofs.RisingLists.{same_answers}
+use Rattle.counting.proofs.Totals.{total_tight}
 use Rattle.counting.specs.Counts.{bit, count, Within}
 use Rattle.counting.specs.Sets.{Set, meet, complement, pair_set}
 use Rattle.counting.specs.Tests.{some_set}
 use Rattle.graph_core.proofs.Decide.{is_tight_says, is_tight_found}
+use Rattle.graph_core.proofs.SameSets.{tight-same}
 use Rattle.graph_core.proofs.Uncrossing.{meet_tight}
 use Rattle.graph_core.specs.Covered.{IsCovered}
 use Rattle.graph_core.specs.Graph.{Graph, size, first_end, second_end, IsGraph, has_ends}
@@ -19,16 +22,13 @@ use Rattle.tight_cuts.proofs.PairsOfEdges.{odd_sides, others_stay, cut_between}
 use Rattle.tight_cuts.specs.Candidates.{parts_tightly, is_parted, common_shore}
 use Rattle.tight_cuts.specs.Pieces.{PartsTightly}
 
-not_true : (b : Bool) → not b ≡ true → b ≡ false
-not_true b h = grind arith
-
 -- the test and the record
 pub parts_says : (g : Graph) (a b : ℕ) (k : ℕ × ℕ) (z : Set) → parts_tightly g a b k z ≡ true → PartsTightly g a b k z
 parts_says g a b k z h =
     let p = and_parts (is_tight g z && (z a && z k.0)) (not (z b || z k.1)) h in
     let q = and_parts (is_tight g z) (z a && z k.0) p.0 in
     let r = and_parts (z a) (z k.0) q.1 in
-    let s = or_parts (z b) (z k.1) (not_true (z b || z k.1) p.1) in
+    let s = or_parts (z b) (z k.1) (not-true (z b || z k.1) p.1) in
     record { tight = is_tight_says g z q.0; has_a = r.0; has_x = r.1; lacks_b = s.0; lacks_y = s.1 }
 
 pub parts_found : (g : Graph) (a b : ℕ) (k : ℕ × ℕ) (z : Set) → PartsTightly g a b k z → parts_tightly g a b k z ≡ true
@@ -40,7 +40,7 @@ parts_found g a b k z p =
 module _ (g : Graph) (is : IsGraph g) (a b : ℕ) (k : ℕ × ℕ) (wa : Within g.order a) (wb : Within g.order b) (wx : Within g.order k.0) (wy : Within g.order k.1) where
   pub parts_congr : (z w : Set) → ((v : ℕ) → Within g.order v → z v ≡ w v) → PartsTightly g a b k z → PartsTightly g a b k w
   parts_congr z w h p = record {
-    tight = tight_congr g z w is h p.tight;
+    tight = tight-same g z w is h p.tight;
     has_a = sym (h a wa) ∙ p.has_a;
     has_x = sym (h k.0 wx) ∙ p.has_x;
     lacks_b = sym (h b wb) ∙ p.lacks_b;
@@ -146,7 +146,7 @@ parts_nontrivial g a b k z wa wb wx wy dx dy p = record {
 pub parted_says : (g : Graph) (a b : ℕ) (k : ℕ × ℕ) → is_parted g a b k ≡ true → (pair_set a b k.0 ≡ false) × (pair_set a b k.1 ≡ false) × ((z : Set) × PartsTightly g a b k z)
 parted_says g a b k h =
     let p = and_parts (not (pair_set a b k.0 || pair_set a b k.1)) (some_set g.order (parts_tightly g a b k)) h in
-    let q = or_parts (pair_set a b k.0) (pair_set a b k.1) (not_true (pair_set a b k.0 || pair_set a b k.1) p.0) in
+    let q = or_parts (pair_set a b k.0) (pair_set a b k.1) (not-true (pair_set a b k.0 || pair_set a b k.1) p.0) in
     let s = some_set_found g.order (parts_tightly g a b k) p.1 in
     (q.0, q.1, (s.0, parts_says g a b k s.0 s.1))
 

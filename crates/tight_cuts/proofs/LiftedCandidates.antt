@@ -5,7 +5,7 @@ use Rattle.std.proofs.lemmas.Bool.{and_parts, and_from, both_ways, cases_Bool}
 use Rattle.counting.proofs.Counts.{count_congr, count_le}
 use Rattle.counting.proofs.RisingLists.{mem-rising_list, rising_list-rises}
 use Rattle.counting.proofs.Tests.{some_true, true_some}
-use Rattle.counting.specs.Counts.{Within, count, is_odd}
+use Rattle.counting.specs.Counts.{Within, count}
 use Rattle.counting.specs.Lists.{mem}
 use Rattle.counting.specs.Sets.{Set, complement}
 use Rattle.counting.specs.Tests.{some}
@@ -13,7 +13,7 @@ use Rattle.contraction.proofs.QuotientLaws.{covered_down, tight_at_down, tight_a
 use Rattle.graph_core.proofs.Blocks.{place_in, place_is}
 use Rattle.graph_core.proofs.BlockSets.{at_rep, rep, rep_in, rep_place}
 use Rattle.graph_core.proofs.QuotientTight.{quotient_graph}
-use Rattle.graph_core.proofs.Shores.{cut_congr}
+use Rattle.graph_core.proofs.SameSets.{tight-same, nontrivial-same}
 use Rattle.graph_core.proofs.SingleBlocks.{blocks-singles, contracted-singles, singles-tight, tight-singles}
 use Rattle.graph_core.proofs.Singles.{length-singles, singles-partition}
 use Rattle.graph_core.specs.Covered.{IsCovered}
@@ -25,20 +25,6 @@ use Rattle.graph_core.specs.Tight.{IsNontrivial, IsTight}
 use Rattle.tight_cuts.proofs.SingleVertices.{as_many-singles, last-place}
 use Rattle.tight_cuts.specs.Candidates.{Candidate, IsTightCandidate, candidates}
 use Rattle.tight_cuts.specs.CandidatesAt.{IsCandidateAt, candidates_at, lifted_candidate}
-
--- sets that agree on 1 to n are nontrivial together
-nontrivial-same : (n : ℕ) (x y : Set) → ((v : ℕ) → Within n v → x v ≡ y v) → IsNontrivial n x → IsNontrivial n y
-nontrivial-same n x y h t = record {
-  inside = subst (λ k. 3 ≤ k) (count_congr n x y h) t.inside;
-  outside = subst (λ k. 3 ≤ k) (count_congr n (complement x) (complement y) (λ v w. ap not (h v w))) t.outside;
-}
-
-tight-same : (g : Graph) (x y : Set) → IsGraph g → ((v : ℕ) → Within g.order v → x v ≡ y v) → IsTight g x → IsTight g y
-tight-same g x y is h t = record {
-  odd = ap is_odd (sym (count_congr g.order x y h)) ∙ t.odd;
-  odd_complement = ap is_odd (sym (count_congr g.order (complement x) (complement y) (λ v w. ap not (h v w)))) ∙ t.odd_complement;
-  cut = cut_congr g x y is h t.cut;
-}
 
 map-none : {X Y : Type 0} (f : X → Y) (xs : List X) → map f xs ≡ [] → xs ≡ []
 map-none f [] e = refl

@@ -11,8 +11,8 @@ use Rattle.counting.specs.Lists.{mem}
 use Rattle.counting.specs.Sets.{Set, complement, pair_set}
 use Rattle.counting.specs.Tests.{some}
 use Rattle.flow_core.specs.Nets.{leaves_set, value_of, Separates, IsLeastCut}
-use Rattle.barrier_kit.proofs.Matched.{tight_congr}
 use Rattle.graph_core.proofs.Components.{walk_joined}
+use Rattle.graph_core.proofs.SameSets.{tight-same}
 use Rattle.graph_core.proofs.Walks.{joined_self}
 use Rattle.graph_core.specs.Graph.{Graph, size, first_end, second_end, IsGraph, in_cut, has_ends}
 use Rattle.graph_core.specs.Matchings.{Allowed}
@@ -144,7 +144,7 @@ module _ (g h : Graph) (is : IsGraph g) (a b e : ℕ) (wa : Within g.order a) (w
   pub parts_nodes : (x : Set) → PartsTightly g a b k x → (u : Set) × Separates a b u × ((v : ℕ) → Within g.order v → u (group v) ≡ x v) × (value_of (contracted_net g ms group r) u ≡ length ms)
   parts_nodes x p =
       let s : Separates a b (nodes_of x) = record { holds = ap (nodes_of x) (sym at_a) ∙ nodes_back x p a wa ∙ p.has_a; lacks = ap (nodes_of x) (sym at_b) ∙ nodes_back x p b wb ∙ p.lacks_b } in
-      (nodes_of x, s, nodes_back x p, (value_tight (nodes_of x) s).1 (tight_congr g x (back (nodes_of x)) is (λ v w. sym (nodes_back x p v w)) p.tight))
+      (nodes_of x, s, nodes_back x p, (value_tight (nodes_of x) s).1 (tight-same g x (back (nodes_of x)) is (λ v w. sym (nodes_back x p v w)) p.tight))
 
   module _ (set : List ℕ) (value : ℕ) (cut : IsLeastCut (contracted_net g ms group r) a b set value) where
     -- a least cut of at most the list's length has that length

@@ -5,7 +5,8 @@ use Rattle.std.proofs.lemmas.Bool.{cases_lt, and_parts, and_from, true≢false, 
 use Rattle.std.proofs.lemmas.List.Elements.{All-head, All-tail, All-cons, All-nil}
 use Rattle.std.proofs.lemmas.List.Sums.{sum_by-cons}
 use Rattle.std.specs.Prelude.{All}
-use Rattle.barrier_kit.proofs.Matched.{inner, two_members, two_of, even_order}
+use Rattle.barrier_kit.proofs.Matched.{inner, even_order}
+use Rattle.counting.proofs.Members.{two_members, two_of}
 use Rattle.counting.proofs.Odd.{odd-double, complement_odd}
 use Rattle.counting.proofs.Totals.{total_at}
 use Rattle.counting.specs.Counts.{bit, count, Within, is_odd}

@@ -3,7 +3,6 @@
 use Rattle.std.proofs.Common.{◌≡◌, ℕ, ◌≤◌, ◌≢◌, Bool, true, false, ◌==◌, refl, sym, ap, ap₂, ◌∙◌, arith, ◌&&◌, ◌||◌, not, inl, inr, ne_eqb}
 use Rattle.std.proofs.lemmas.Bool.{or_from, both_ways}
 use Rattle.barrier_kit.proofs.BarrierCuts.{part_step}
-use Rattle.barrier_kit.proofs.Matched.{near_end, far_end}
 use Rattle.counting.proofs.RisingLists.{same_answers}
 use Rattle.counting.specs.Counts.{count, Within, is_odd}
 use Rattle.counting.specs.Sets.{Set, none, complement, pair_set}
@@ -16,6 +15,7 @@ use Rattle.graph_core.specs.Tight.{IsTight}
 use Rattle.graph_core.specs.Walks.{joined, Joined, adjacent}
 use Rattle.tight_cuts.proofs.PairsOfEdges.{odd_sides, others_stay, cut_between}
 use Rattle.tight_cuts.specs.Pieces.{IsBeside}
+use Rattle.match_core.proofs.Shrinking.{ends_far, ends_near}
 
 -- a set that no edge of h leaves holds all of a component or nothing
 pub uncrossed_joined : (h : Graph) (s z : Set) → IsGraph h → ((f : ℕ) → Within (size h) f → in_cut h z f ≡ false) → (u v : ℕ) → joined h s u v ≡ true → z u ≡ z v
@@ -54,7 +54,7 @@ uncrossed_joined h s z is c u v j = same_answers (z u) (z v)
 
 -- an edge between a and b has an end at each
 pub ends_at : (g : Graph) (a b e : ℕ) → has_ends g a b e ≡ true → (1 ≤ ends_of g e a) × (1 ≤ ends_of g e b)
-ends_at g a b e h = let n = near_end g e in let f = far_end g e in elim (has_ends-cases g a b e h) [
+ends_at g a b e h = let n = ends_near g e in let f = ends_far g e in elim (has_ends-cases g a b e h) [
   | inl k ↦ let p = ap (ends_of g e) k.0 in let q = ap (ends_of g e) k.1 in (omega arith, omega arith)
   | inr k ↦ let p = ap (ends_of g e) k.0 in let q = ap (ends_of g e) k.1 in (omega arith, omega arith)
 ]
@@ -64,7 +64,7 @@ pub apart_ends : (g : Graph) (m : Set) (e f v : ℕ) → IsPerfect g none m → 
 apart_ends g m e f v p wv we wf d me mf o =
     let t = two_ends_le_degree g m e f v we wf d me mf in
     let s = p.once v wv refl in
-    let n = near_end g f in let r = far_end g f in
+    let n = ends_near g f in let r = ends_far g f in
     (λ q. let k = ap (ends_of g f) q in omega arith, λ q. let k = ap (ends_of g f) q in omega arith)
 
 module _ (g h : Graph) (is : IsGraph g) (a b e : ℕ) (wa : Within g.order a) (wb : Within g.order b) (we : Within (size g) e) (ends : has_ends g a b e ≡ true) (beside : IsBeside g e h) where

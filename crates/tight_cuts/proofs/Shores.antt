@@ -1,47 +1,23 @@
 -- Canonical shores, shores as rising lists, and what one more shore does to a list of candidates.
-use Rattle.std.proofs.Common.{◌≡◌, ℕ, Bool, true, false, refl, sym, ap, ap₂, ◌∙◌, arith, ◌==◌, ◌&&◌, ◌||◌, not, inl, inr, ◌⊎◌, List, [], ◌∷◌, ◌++◌, subst, nat_le}
-use Rattle.std.proofs.lemmas.Bool.{cases_Bool, and_parts, and_from, or_cases, or_left, or_right, true≢false, both_ways, false_from_ne_true, leb-true, le-leb, eqb-true, eq-eqb}
+use Rattle.std.proofs.Common.{◌≡◌, ℕ, Bool, true, false, refl, sym, ap, ap₂, ◌∙◌, ◌&&◌, ◌||◌, not, inl, inr, ◌⊎◌, List, [], ◌∷◌, ◌++◌, subst}
+use Rattle.std.proofs.lemmas.Bool.{cases_Bool, and_parts, and_from, or_left, or_right, true≢false, both_ways, false_from_ne_true}
 use Rattle.std.proofs.lemmas.List.Elements.{All-push}
 use Rattle.std.proofs.lemmas.List.Folds.{list_any-append, list_any_at, Any-from_list_any}
 use Rattle.std.proofs.lemmas.List.Quantifiers.{all_pairs_push}
 use Rattle.std.specs.List.{AllPairs, list_any}
 use Rattle.std.specs.Prelude.{All, if◌then◌else◌}
-use Rattle.barrier_kit.proofs.Matched.{tight_congr, nontrivial_congr}
+use Rattle.barrier_kit.proofs.CutFacts.{canonical-tight, canonical-wide, nontrivial-true, true-nontrivial, canonical-out}
 use Rattle.barrier_kit.specs.CanonicalCuts.{is_listed}
 use Rattle.counting.proofs.Counts.{count_congr}
 use Rattle.counting.proofs.Lists.{rising_only}
-use Rattle.counting.proofs.RisingLists.{same_answers, mem-rising_list, rising_list-rises}
-use Rattle.counting.specs.Counts.{count, Within, is_odd}
-use Rattle.counting.specs.Lists.{mem, all_in, rising_list, is_subset}
+use Rattle.counting.proofs.RisingLists.{same_answers, mem-rising_list, rising_list-rises, true_all_in, all_in_true}
+use Rattle.counting.specs.Counts.{Within}
+use Rattle.counting.specs.Lists.{mem, rising_list, is_subset}
 use Rattle.counting.specs.Sets.{Set, complement}
+use Rattle.graph_core.proofs.SameSets.{tight-same, nontrivial-same}
 use Rattle.graph_core.specs.Graph.{Graph, size, first_end, second_end, IsGraph, in_cut}
 use Rattle.graph_core.specs.Tight.{IsTight, IsNontrivial, canonical_shore, is_nontrivial}
 use Rattle.tight_cuts.specs.Candidates.{Origin, Candidate, ShoresDiffer, candidate, cuts, shores_of, with_shore, IsTightCandidate}
-
--- the other shore
-pub complement_tight : (g : Graph) (x : Set) → IsTight g x → IsTight g (complement x)
-complement_tight g x t = record {
-  odd = t.odd_complement;
-  odd_complement = ap is_odd (count_congr g.order (complement (complement x)) x (λ v w. twice (x v))) ∙ t.odd;
-  cut = λ m p. count_congr (size g) (λ e. m e && in_cut g (complement x) e) (λ e. m e && in_cut g x e) (λ e w. ap (λ b. m e && b) (turned (x (first_end g e)) (x (second_end g e)))) ∙ t.cut m p;
-}
-  where
-    twice : (b : Bool) → not (not b) ≡ b
-    twice true = refl
-    twice false = refl
-
-    turned : (s t : Bool) → ((not s && not (not t)) || (not (not s) && not t)) ≡ ((s && not t) || (not s && t))
-    turned true true = refl
-    turned true false = refl
-    turned false true = refl
-    turned false false = refl
-
-pub complement_nontrivial : (n : ℕ) (x : Set) → IsNontrivial n x → IsNontrivial n (complement x)
-complement_nontrivial n x t = let c = count_congr n (complement (complement x)) x (λ v w. twice (x v)) in let i = t.inside in record { inside = t.outside; outside = omega arith }
-  where
-    twice : (b : Bool) → not (not b) ≡ b
-    twice true = refl
-    twice false = refl
 
 -- which shore is canonical
 pub canonical-cases : (n : ℕ) (x : Set) → ((x n ≡ true) × ((v : ℕ) → canonical_shore n x v ≡ complement x v)) ⊎ ((x n ≡ false) × ((v : ℕ) → canonical_shore n x v ≡ x v))
@@ -57,21 +33,6 @@ canonical-cases n x = elim (cases_Bool (x n)) [
     second : (b c d : Bool) → b ≡ false → (if b then c else d) ≡ d
     second true c d h = absurd (true≢false h)
     second false c d h = refl
-
-pub canonical-tight : (g : Graph) (x : Set) → IsGraph g → IsTight g x → IsTight g (canonical_shore g.order x)
-canonical-tight g x is t = elim (canonical-cases g.order x) [
-  | inl c ↦ tight_congr g (complement x) (canonical_shore g.order x) is (λ v w. sym (c.1 v)) (complement_tight g x t)
-  | inr c ↦ tight_congr g x (canonical_shore g.order x) is (λ v w. sym (c.1 v)) t
-]
-
-pub canonical-nontrivial : (n : ℕ) (x : Set) → IsNontrivial n x → IsNontrivial n (canonical_shore n x)
-canonical-nontrivial n x t = elim (canonical-cases n x) [
-  | inl c ↦ nontrivial_congr n (complement x) (canonical_shore n x) (λ v w. sym (c.1 v)) (complement_nontrivial n x t)
-  | inr c ↦ nontrivial_congr n x (canonical_shore n x) (λ v w. sym (c.1 v)) t
-]
-
-pub canonical-last : (n : ℕ) (x : Set) → canonical_shore n x n ≡ false
-canonical-last n x = elim (canonical-cases n x) [ inl c ↦ c.1 n ∙ ap not c.0 | inr c ↦ c.1 n ∙ c.0 ]
 
 pub canonical-in_cut : (g : Graph) (n : ℕ) (x : Set) (e : ℕ) → in_cut g (canonical_shore n x) e ≡ in_cut g x e
 canonical-in_cut g n x e = elim (canonical-cases n x) [
@@ -93,40 +54,18 @@ rising-in_cut g y e is w = ap₂ (λ s t. (s && not t) || (not s && t)) (mem-ris
 pub candidate-tight : (g : Graph) (o : Origin) (y : Set) → IsGraph g → IsTight g y → IsNontrivial g.order y → y g.order ≡ false → IsTightCandidate g (candidate g.order o y)
 candidate-tight g o y is t nt off = record {
   rising = rising_list-rises g.order y;
-  tight = tight_congr g y (mem (rising_list g.order y)) is (λ v w. sym (mem-rising_list g.order y v w)) t;
-  nontrivial = nontrivial_congr g.order y (mem (rising_list g.order y)) (λ v w. sym (mem-rising_list g.order y v w)) nt;
+  tight = tight-same g y (mem (rising_list g.order y)) is (λ v w. sym (mem-rising_list g.order y v w)) t;
+  nontrivial = nontrivial-same g.order y (mem (rising_list g.order y)) (λ v w. sym (mem-rising_list g.order y v w)) nt;
   canonical = false_from_ne_true (mem (rising_list g.order y) g.order) (λ m. both_ways (y g.order) off (rising_only g.order y g.order m).1);
   inside = count_congr g.order y (mem (rising_list g.order y)) (λ v w. sym (mem-rising_list g.order y v w));
   outside = count_congr g.order (complement y) (complement (mem (rising_list g.order y))) (λ v w. ap not (sym (mem-rising_list g.order y v w)));
 }
 
-pub nontrivial_says : (n : ℕ) (y : Set) → is_nontrivial n y ≡ true → IsNontrivial n y
-nontrivial_says n y h = let p = and_parts (nat_le 3 (count n y)) (nat_le 3 (count n (complement y))) h in record { inside = leb-true 3 (count n y) p.0; outside = leb-true 3 (count n (complement y)) p.1 }
-
-pub nontrivial_found : (n : ℕ) (y : Set) → IsNontrivial n y → is_nontrivial n y ≡ true
-nontrivial_found n y t = and_from (nat_le 3 (count n y)) (nat_le 3 (count n (complement y))) (le-leb 3 (count n y) t.inside) (le-leb 3 (count n (complement y)) t.outside)
-
--- subsets of lists
-subset_says : (xs : List ℕ) (y : Set) → all_in xs y ≡ true → (v : ℕ) → mem xs v ≡ true → y v ≡ true
-subset_says [] y h v m = absurd (true≢false (sym m))
-subset_says (x ∷ xs) y h v m =
-    let p = and_parts (y x) (all_in xs y) h in
-    elim (or_cases (x == v) (mem xs v) m) [
-      | inl e ↦ ap y (sym (eqb-true x v e)) ∙ p.0
-      | inr t ↦ subset_says xs y p.1 v t
-    ]
-
-subset_from : (xs : List ℕ) (y : Set) → ((v : ℕ) → mem xs v ≡ true → y v ≡ true) → all_in xs y ≡ true
-subset_from [] y h = refl
-subset_from (x ∷ xs) y h = and_from (y x) (all_in xs y)
-    (h x (or_left (x == x) (mem xs x) (eq-eqb x x refl)))
-    (subset_from xs y (λ v m. h v (or_right (x == v) (mem xs v) m)))
-
 subset_own : (xs : List ℕ) → is_subset xs xs ≡ true
-subset_own xs = subset_from xs (mem xs) (λ v m. m)
+subset_own xs = true_all_in xs (mem xs) (λ v m. m)
 
 same_sets : (s t : List ℕ) → (is_subset s t && is_subset t s) ≡ true → (v : ℕ) → mem s v ≡ mem t v
-same_sets s t h v = let p = and_parts (is_subset s t) (is_subset t s) h in same_answers (mem s v) (mem t v) (subset_says s (mem t) p.0 v) (subset_says t (mem s) p.1 v)
+same_sets s t h v = let p = and_parts (is_subset s t) (is_subset t s) h in same_answers (mem s v) (mem t v) (all_in_true s (mem t) p.0 v) (all_in_true t (mem s) p.1 v)
 
 -- the candidate has the vertices of s for its shore
 abbrev pub has_shore : List ℕ → Candidate → Bool
@@ -152,7 +91,7 @@ pub with_found : (g : Graph) (o : Origin) (list : List Candidate) (x : Set) → 
 with_found g o list x is t h = elim (with_cases g.order o list x) [
   | inl c ↦ subst (All (IsTightCandidate g)) (sym c.0) h
   | inr c ↦ subst (All (IsTightCandidate g)) (sym c.0) (All-push (IsTightCandidate g) list (candidate g.order o (canonical_shore g.order x)) h
-      (candidate-tight g o (canonical_shore g.order x) is (canonical-tight g x is t) (nontrivial_says g.order (canonical_shore g.order x) c.1) (canonical-last g.order x)))
+      (candidate-tight g o (canonical_shore g.order x) is (canonical-tight g x is t) (nontrivial-true g.order (canonical_shore g.order x) c.1) (canonical-out g.order x)))
 ]
 
 pub with_apart : (n : ℕ) (o : Origin) (list : List Candidate) (x : Set) → AllPairs ShoresDiffer list → AllPairs ShoresDiffer (with_shore n o list x)
@@ -172,7 +111,7 @@ with_grows p n o list x h = elim (with_cases n o list x) [
 -- a nontrivial shore: each edge of its cut is in the cut of a candidate then
 pub with_covers : (g : Graph) (o : Origin) (list : List Candidate) (x : Set) (e : ℕ) → IsGraph g → Within (size g) e → IsNontrivial g.order x → in_cut g x e ≡ true → list_any (cuts g e) (with_shore g.order o list x) ≡ true
 with_covers g o list x e is w nt ce = elim (with_cases g.order o list x) [
-  | inl c ↦ ap (list_any (cuts g e)) c.0 ∙ listed (is_nontrivial g.order (canonical_shore g.order x)) (is_listed (shores_of list) (rising_list g.order (canonical_shore g.order x))) refl c.1 (nontrivial_found g.order (canonical_shore g.order x) (canonical-nontrivial g.order x nt))
+  | inl c ↦ ap (list_any (cuts g e)) c.0 ∙ listed (is_nontrivial g.order (canonical_shore g.order x)) (is_listed (shores_of list) (rising_list g.order (canonical_shore g.order x))) refl c.1 (true-nontrivial g.order (canonical_shore g.order x) (canonical-wide g.order x nt))
   | inr c ↦ ap (list_any (cuts g e)) c.0 ∙ list_any-append (cuts g e) list (candidate g.order o (canonical_shore g.order x) ∷ []) ∙ or_right (list_any (cuts g e) list) (list_any (cuts g e) (candidate g.order o (canonical_shore g.order x) ∷ [])) (or_left (cuts g e (candidate g.order o (canonical_shore g.order x))) false own)
 ]
   where

@@ -1,9 +1,9 @@
 //! What the search at an edge stands on: how often the matchings of a pair list hold each edge, and the graph of the edges that
 //! lie together with one edge.
-ghost use Rattle.std.specs.Prelude.{◌≡◌, ◌≢◌, ℕ, ◌+◌, ◌<◌, ◌≤◌, ◌-◌, ◌^◌, ◌↔◌, true, All, IfOk, OnOk, length, map};
+ghost use Rattle.std.specs.Prelude.{◌≡◌, ℕ, ◌+◌, ◌<◌, ◌≤◌, ◌-◌, ◌^◌, ◌↔◌, true, All, IfOk, length, map};
 ghost use Rattle.counting.specs.Counts.{Within, bit};
 ghost use Rattle.counting.specs.Lists.{mem};
-ghost use Rattle.graph_core.specs.Graph.{first_end, second_end, size, with_edge};
+ghost use Rattle.graph_core.specs.Graph.{size};
 ghost use Rattle.graph_core.specs.Matchings.{Together};
 ghost use Rattle.graph_core.specs.PairLists.{IsLean, IsPairList};
 ghost use Rattle.match_core.specs.MatchingRows.{IsOf, edges_of};
@@ -14,7 +14,7 @@ ghost use Rattle.tight_cuts.specs.Pieces.{IsBeside};
 
 use crate::edge_search::Weights;
 use allowed_edges::PairTable;
-use graph_core::{AddFault, MOST_EDGES, MultiGraph};
+use graph_core::MultiGraph;
 use match_core::Matching;
 use std::alloc::{AllocError as Memory, Global};
 
@@ -56,23 +56,6 @@ pub(crate) fn weights_of(
     })
 }
 
-// Appends an edge that the graph has room for.
-fn add_pair(graph: &mut MultiGraph, a: u32, b: u32) -> Result<(), Memory>
-    requires first { Within graph.old.order a }
-    requires second { Within graph.old.order b }
-    requires differ { a ≢ b }
-    requires room { size graph.old < MOST_EDGES }
-    ensures { OnOk result (graph.new ≡ with_edge graph.old a b) }
-{
-    match graph.add_edge(a, b) {
-        Ok(_) => Ok(()),
-        Err(AddFault::Memory) => Err(Memory),
-        Err(AddFault::Range) => unreachable!(),
-        Err(AddFault::Loop) => unreachable!(),
-        Err(AddFault::TooMany) => unreachable!(),
-    }
-}
-
 /// The graph with the vertices of `g` and, for edges, those that lie together with edge `e`, without `e` itself.
 pub(crate) fn graph_beside(
     alloc: Global,
@@ -91,7 +74,7 @@ pub(crate) fn graph_beside(
         let f = k + 1;
         if f != e && pairs.both(e, f) {
             let ends = g.ends(f);
-            add_pair(&mut beside, ends.a, ends.b)?;
+            beside.push_edge(ends)?;
         }
     }
     Ok(beside)

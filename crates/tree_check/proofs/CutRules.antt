@@ -3,7 +3,6 @@
 use Rattle.std.proofs.Common.{◌≡◌, ◌≢◌, ◌⊎◌, ◌↔◌, IsTrue, ◌%◌, ◌==◌, Option, Some, unwrap_or, ℕ, zero, suc, ◌+◌, ◌*◌, ◌-◌, ◌≤◌, ◌<◌, Bool, true, false, not, ◌&&◌, ◌||◌, List, length, refl, sym, ap, ap₂, ◌∙◌, arith, subst, inl, inr}
 use Rattle.std.specs.List.{list_all}
 use Rattle.std.proofs.lemmas.Bool.{both_ways, cases_Bool, cases_lt}
-use Rattle.std.proofs.lemmas.List.{length-map}
 use Rattle.counting.proofs.Counts.{count_congr}
 use Rattle.counting.proofs.Odd.{is_odd_remainder, odd-double}
 use Rattle.counting.proofs.RisingLists.{length-rising_list, mem-outside, mem-rising_list, rising_list-rises, set-wider}
@@ -15,17 +14,18 @@ use Rattle.contraction.proofs.LiftedMatchings.{lifted-perfect, perfect-congr}
 use Rattle.contraction.proofs.ProjectedMatchings.{lifted-cut}
 use Rattle.contraction.proofs.QuotientLaws.{covered_down, tight_at_down}
 use Rattle.contraction.specs.Partition.{IsUnionAt, PartitionValue}
-use Rattle.graph_core.proofs.Blocks.{contracted-graph}
+use Rattle.graph_core.proofs.Blocks.{contracted-graph, contracted-order, contracted-size}
 use Rattle.graph_core.proofs.Contraction.{tight_from_cut}
 use Rattle.graph_core.proofs.Decide.{covered_perfect, tight_or_not}
 use Rattle.graph_core.proofs.Parity.{parity}
 use Rattle.graph_core.proofs.QuotientTight.{quotient_graph}
-use Rattle.graph_core.proofs.Shores.{cut_congr}
+use Rattle.graph_core.proofs.Quotients.{quotient-order}
+use Rattle.graph_core.proofs.SameSets.{tight-same}
 use Rattle.graph_core.proofs.SingleBlocks.{edges-in-cut-at}
 use Rattle.graph_core.specs.Covered.{IsCovered}
 use Rattle.graph_core.specs.Graph.{Graph, IsGraph, edges_in_cut, first_end, in_cut, inside, second_end, size}
 use Rattle.graph_core.specs.Matchings.{IsPerfect}
-use Rattle.graph_core.specs.Partitions.{AreBlocks, contracted, place}
+use Rattle.graph_core.specs.Partitions.{AreBlocks, contracted}
 use Rattle.graph_core.specs.Quotients.{lifted, quotient}
 use Rattle.graph_core.specs.Shores.{IsTightAt, IsUnion, block_count, blocks_in}
 use Rattle.graph_core.specs.Tight.{IsNontrivial, IsTight}
@@ -35,14 +35,6 @@ use Rattle.tree_core.specs.Derivations.{IsCutAt}
 use Rattle.tree_check.specs.Judgements.{why_of}
 use Rattle.tree_check.specs.declared.judgement.Why.{Why as StoredWhy}
 use Rattle.tree_check.specs.Refusals.{BreaksCut, CrossesAt, Why, not_blocks, even, trivial, not_tight, not_leaf, without_matching}
-
--- sets that agree on the vertices are tight together
-tight-same : (g : Graph) (x y : Set) → IsGraph g → ((v : ℕ) → Within g.order v → x v ≡ y v) → IsTight g x → IsTight g y
-tight-same g x y is h t = record {
-  odd = ap is_odd (sym (count_congr g.order x y h)) ∙ t.odd;
-  odd_complement = ap is_odd (sym (count_congr g.order (complement x) (complement y) (λ v w. ap not (h v w)))) ∙ t.odd_complement;
-  cut = cut_congr g x y is h t.cut;
-}
 
 -- and have as many edges in their cuts
 cut-same : (g : Graph) (m x y : Set) → IsGraph g → ((v : ℕ) → Within g.order v → x v ≡ y v) → edges_in_cut g m x ≡ edges_in_cut g m y
@@ -58,27 +50,15 @@ is-cut g p x rises tight nontrivial = record {
 }
 
 module _ (g : Graph) (p : List (List ℕ)) (x : Set) (is : IsGraph g) (pp : AreBlocks g.order p) where
-  orders : (contracted g p).order ≡ length p
-  unfolding contracted
-  orders = refl
-
-  orders_q : (quotient g p).order ≡ length p
-  unfolding quotient
-  orders_q = refl
-
-  sizes : size (contracted g p) ≡ size g
-  unfolding contracted
-  sizes = length-map g.ends (λ (d : ℕ × ℕ). (place p d.0, place p d.1))
-
   -- the places of the blocks in the shore are an odd set of vertices of the quotient where their number is odd
   pub places-rise : IsRisingIn (quotient g p).order (rising_list (length p) (blocks_in p x))
-  places-rise = subst (λ n. IsRisingIn n (rising_list (length p) (blocks_in p x))) (sym orders_q) (rising_list-rises (length p) (blocks_in p x))
+  places-rise = subst (λ n. IsRisingIn n (rising_list (length p) (blocks_in p x))) (sym (quotient-order g p)) (rising_list-rises (length p) (blocks_in p x))
 
   pub places-odd : is_odd (block_count p x) ≡ true → is_odd (length (rising_list (length p) (blocks_in p x))) ≡ true
   places-odd odd = ap is_odd (length-rising_list (length p) (blocks_in p x)) ∙ odd
 
   places-tell : (i : ℕ) → Within (quotient g p).order i → mem (rising_list (length p) (blocks_in p x)) i ≡ blocks_in p x i
-  places-tell i w = mem-rising_list (length p) (blocks_in p x) i (subst (λ n. Within n i) orders_q w)
+  places-tell i w = mem-rising_list (length p) (blocks_in p x) i (subst (λ n. Within n i) (quotient-order g p) w)
 
   module _ (union : IsUnion g.order p x) where
     -- what the test of the quotient shows
@@ -113,7 +93,7 @@ module _ (g : Graph) (p : List (List ℕ)) (x : Set) (is : IsGraph g) (pp : AreB
     ]
       where
         listed : (m : Set) (e : ℕ) → Within (size (contracted g p)) e → m e ≡ mem (rising_list (size g) m) e
-        listed m e w = sym (mem-rising_list (size g) m e (subst (λ n. Within n e) sizes w))
+        listed m e w = sym (mem-rising_list (size g) m e (subst (λ n. Within n e) (contracted-size g p) w))
 
         double : (b : ℕ) → block_count p x ≡ 0 + 2 * b → block_count p x ≡ b + b
         double b sum = omega arith
@@ -132,7 +112,7 @@ module _ (g : Graph) (p : List (List ℕ)) (x : Set) (is : IsGraph g) (pp : AreB
               (count_congr (size (contracted g p)) _ _ (λ e w. ap (λ b. b && in_cut (contracted g p) (blocks_in p x) e) (listed m e w))
               ∙ edges-in-cut-at g p x is pp union (mem (rising_list (size g) m)))
               (at_least_two (edges_in_cut (contracted g p) m (blocks_in p x)) (count (size (contracted g p)) (λ e. m e && inside (contracted g p) (blocks_in p x) e)) other
-              (sym (ap (λ n. count n (blocks_in p x)) orders) ∙ parity (contracted g p) (contracted-graph g p is pp) m (blocks_in p x) perfect));
+              (sym (ap (λ n. count n (blocks_in p x)) (contracted-order g p)) ∙ parity (contracted g p) (contracted-graph g p is pp) m (blocks_in p x) perfect));
         }
 
 nontrivial_or_not : (n : ℕ) (x : Set) → IsNontrivial n x ⊎ (IsNontrivial n x → ⊥)
@@ -148,7 +128,7 @@ module _ (g : Graph) (p : List (List ℕ)) (x : List ℕ) (is : IsGraph g) (pp :
   -- a canonical nontrivial tight shore breaks no rule
   pub broken-not_cut : (why : Why) → BreaksCut g p (mem x) why → IsCutAt g p x → ⊥
   broken-not_cut not_blocks b cuts = b cuts.tight.union
-  broken-not_cut even b cuts = both_ways (is_odd (block_count p (mem x))) b.1 (sym (ap (λ n. is_odd (count n (blocks_in p (mem x)))) (orders g p (mem x) is pp)) ∙ cuts.tight.tight.odd)
+  broken-not_cut even b cuts = both_ways (is_odd (block_count p (mem x))) b.1 (sym (ap (λ n. is_odd (count n (blocks_in p (mem x)))) (contracted-order g p)) ∙ cuts.tight.tight.odd)
   broken-not_cut trivial b cuts = b.2 cuts.nontrivial
   broken-not_cut (not_tight m) b cuts = crossed-not_tight g p (mem x) is pp b.0 m b.3 cuts.tight
   broken-not_cut (not_leaf c) b cuts = b

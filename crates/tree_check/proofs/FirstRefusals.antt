@@ -7,12 +7,11 @@ use Rattle.graph_core.specs.Covered.{IsCovered}
 use Rattle.graph_core.specs.Graph.{Graph, IsGraph}
 use Rattle.graph_core.specs.Partitions.{IsPartition, singles}
 use Rattle.graph_core.specs.Quotients.{quotient}
-use Rattle.tree_core.proofs.CutsBelow.{kept-covers, kept-partition, merged-covers, merged-partition}
+use Rattle.tree_core.proofs.CutsBelow.{kept-covers, kept-partition, merged-covers, merged-partition, root-covered}
 use Rattle.tree_core.specs.Derivations.{IsDerivation, IsDerivationAt, kept_at, merged_at}
 use Rattle.tree_core.specs.Shapes.{Shape, leaf, cut, node_count}
 use Rattle.tree_check.proofs.CutRules.{broken-not_cut, broken-once, cut-or_broken}
 use Rattle.tree_check.proofs.LeafRules.{broken-not_leaf, leaf-once, leaf-or_broken}
-use Rattle.tree_check.proofs.Walking.{root-covered}
 use Rattle.tree_check.specs.Refusals.{HasShores, IsRefused, IsRefusedAt, Why, without_matching}
 
 module _ (g : Graph) (is : IsGraph g) where

@@ -2,6 +2,7 @@
 -- in v, the rest of the outer side does not hold it; else v does not.
 use Rattle.std.proofs.Common.{◌≡◌, ℕ, ◌-◌, Bool, true, false, not, ◌&&◌, List, [], ◌∷◌, All, get_or, Option, Some, None, option_map, if◌then◌else◌, inl, inr, refl, sym, subst, arith}
 use Rattle.std.proofs.lemmas.Bool.{and_parts, both_ways, not-true, or_cases}
+use Rattle.std.proofs.lemmas.Option.{none-some, same_Some}
 use Rattle.counting.proofs.Lists.{rising_only}
 use Rattle.counting.proofs.RisingLists.{mem-item}
 use Rattle.counting.specs.Counts.{Within}
@@ -13,12 +14,6 @@ use Rattle.tree_core.specs.Moves.{PlainMove, rotate_at, switch_at, inner_rest, i
 use Rattle.tree_core.specs.Shapes.{Shape, leaf, cut, Fits}
 use Rattle.tree_core.specs.declared.path.Side.{Side}
 use Rattle.tree_core.specs.declared.path.Side.TheVariants.{Kept, Merged}
-
-pub none_some : {X : Type 0} {r : X} → None ≡ Some r → ⊥
-none_some e = grind (arith, e)
-
-pub some_same : {X : Type 0} {a b : X} → Some a ≡ Some b → a ≡ b
-some_same e = grind (arith, e)
 
 -- all numbers lie below n
 abbrev IsBelow : ℕ → List ℕ → Type 0
@@ -102,7 +97,7 @@ switched n u v x a b t =
     else cut (union_list n (inner_rest n x u) v) (kept_if_in_q n x u v a) (merged_if_in_q n x u v b)
 
 switch-fits : (n : ℕ) (u v : List ℕ) (t r : Shape) → Fits n t → switch_result_at n u v t ≡ Some r → Fits n r
-switch-fits n u v leaf r fits e = absurd (none_some e)
+switch-fits n u v leaf r fits e = absurd (none-some _ e)
 switch-fits n u v (cut x a b) r fits e = go (is_proper u x && is_proper v (complement_of n x)) refl e
   where
     which : (t : Bool) → mem v n ≡ t → is_proper u x ≡ true → is_proper v (complement_of n x) ≡ true → Fits n (switched n u v x a b t)
@@ -115,44 +110,44 @@ switch-fits n u v (cut x a b) r fits e = go (is_proper u x && is_proper v (compl
         (union-below n (inner_rest n x u) v (minus-below n x u fits.0) other, kept_in_q-fits n x u v a fits.0 other fits.1, merged_in_q-fits n x u v b fits.0 part other fits.2)
 
     go : (t : Bool) → (is_proper u x && is_proper v (complement_of n x)) ≡ t → (if t then Some (switched n u v x a b (mem v n)) else None) ≡ Some r → Fits n r
-    go false is e = absurd (none_some e)
+    go false is e = absurd (none-some _ e)
     go true is e =
         let proper = and_parts (is_proper u x) (is_proper v (complement_of n x)) is in
-        subst (Fits n) (some_same e) (which (mem v n) refl proper.0 proper.1)
+        subst (Fits n) (same_Some _ _ e) (which (mem v n) refl proper.0 proper.1)
 
 -- Rotate at the parent of its node
 rotate-fits : (n : ℕ) (side : Side) (t r : Shape) → Fits n t → rotate_result_at side t ≡ Some r → Fits n r
-rotate-fits n Kept leaf r fits e = absurd (none_some e)
-rotate-fits n Merged leaf r fits e = absurd (none_some e)
-rotate-fits n Kept (cut x leaf c) r fits e = absurd (none_some e)
+rotate-fits n Kept leaf r fits e = absurd (none-some _ e)
+rotate-fits n Merged leaf r fits e = absurd (none-some _ e)
+rotate-fits n Kept (cut x leaf c) r fits e = absurd (none-some _ e)
 rotate-fits n Kept (cut x (cut y a b) c) r fits e =
     let lower = fits.1 in
-    subst (Fits n) (some_same e) (lower.0, lower.1, (fits.0, lower.2, fits.2))
-rotate-fits n Merged (cut x a leaf) r fits e = absurd (none_some e)
+    subst (Fits n) (same_Some _ _ e) (lower.0, lower.1, (fits.0, lower.2, fits.2))
+rotate-fits n Merged (cut x a leaf) r fits e = absurd (none-some _ e)
 rotate-fits n Merged (cut x a (cut y b c)) r fits e = go (is_subset x y) (is_apart x y) e
   where
     go : (inside apart : Bool) → (if inside then Some (cut y (cut x a b) c) else (if apart then Some (cut y b (cut x a c)) else None)) ≡ Some r → Fits n r
-    go true apart e = let lower = fits.2 in subst (Fits n) (some_same e) (lower.0, (fits.0, fits.1, lower.1), lower.2)
-    go false true e = let lower = fits.2 in subst (Fits n) (some_same e) (lower.0, lower.1, (fits.0, fits.1, lower.2))
-    go false false e = absurd (none_some e)
+    go true apart e = let lower = fits.2 in subst (Fits n) (same_Some _ _ e) (lower.0, (fits.0, fits.1, lower.1), lower.2)
+    go false true e = let lower = fits.2 in subst (Fits n) (same_Some _ _ e) (lower.0, lower.1, (fits.0, fits.1, lower.2))
+    go false false e = absurd (none-some _ e)
 
 -- along a path
 path-fits : (n : ℕ) (f : Shape → Option Shape) → ((t r : Shape) → Fits n t → f t ≡ Some r → Fits n r) → (path : List Side) (t r : Shape) → Fits n t → result_at f path t ≡ Some r → Fits n r
 path-fits n f keeps [] t r fits e = keeps t r fits e
-path-fits n f keeps (side ∷ path) leaf r fits e = absurd (none_some e)
+path-fits n f keeps (side ∷ path) leaf r fits e = absurd (none-some _ e)
 path-fits n f keeps (Kept ∷ path) (cut x a b) r fits e = go (result_at f path a) refl e (path-fits n f keeps path a)
   where
     go : (o : Option Shape) → result_at f path a ≡ o → option_map (λ c. cut x c b) o ≡ Some r → ((c : Shape) → Fits n a → result_at f path a ≡ Some c → Fits n c) → Fits n r
-    go None is e below = absurd (none_some e)
-    go (Some c) is e below = subst (Fits n) (some_same e) (fits.0, below c fits.1 is, fits.2)
+    go None is e below = absurd (none-some _ e)
+    go (Some c) is e below = subst (Fits n) (same_Some _ _ e) (fits.0, below c fits.1 is, fits.2)
 path-fits n f keeps (Merged ∷ path) (cut x a b) r fits e = go (result_at f path b) refl e (path-fits n f keeps path b)
   where
     go : (o : Option Shape) → result_at f path b ≡ o → option_map (λ c. cut x a c) o ≡ Some r → ((c : Shape) → Fits n b → result_at f path b ≡ Some c → Fits n c) → Fits n r
-    go None is e below = absurd (none_some e)
-    go (Some c) is e below = subst (Fits n) (some_same e) (fits.0, fits.1, below c fits.2 is)
+    go None is e below = absurd (none-some _ e)
+    go (Some c) is e below = subst (Fits n) (same_Some _ _ e) (fits.0, fits.1, below c fits.2 is)
 
 -- a move
 pub move-fits : (n : ℕ) (t r : Shape) (m : PlainMove) → Fits n t → move_result n t m ≡ Some r → Fits n r
-move-fits n t r (rotate_at []) fits e = absurd (none_some e)
+move-fits n t r (rotate_at []) fits e = absurd (none-some _ e)
 move-fits n t r (rotate_at (side ∷ path)) fits e = path-fits n (rotate_result_at (last_step side path)) (rotate-fits n (last_step side path)) (parent_path side path) t r fits e
 move-fits n t r (switch_at path u v) fits e = path-fits n (switch_result_at n u v) (switch-fits n u v) path t r fits e

@@ -1,6 +1,7 @@
 -- The three answers to a script exclude one another, and each is determined: a move has one result at most, so two replays go through
 -- the same trees, and a derivation has no refusal.
 use Rattle.std.proofs.Common.{◌≡◌, ◌↔◌, ◌+◌, ℕ, List, [], ◌∷◌, inl, inr, refl, sym, ◌∙◌, ap, subst, arith}
+use Rattle.std.proofs.lemmas.Option.{none-some, same_Some}
 use Rattle.graph_core.specs.Graph.{Graph, IsGraph}
 use Rattle.tree_core.specs.Derivations.{IsDerivation}
 use Rattle.tree_core.specs.Moves.{PlainMove, TurnsThrough}
@@ -8,7 +9,6 @@ use Rattle.tree_core.specs.Shapes.{Shape}
 use Rattle.tree_core.specs.View.{shape_of}
 use Rattle.tree_core.specs.declared.tree.Tree.{Tree}
 use Rattle.tree_check.proofs.FirstRefusals.{refused-not_derived, refused-once}
-use Rattle.tree_check.proofs.MovesFit.{none_some, some_same}
 use Rattle.tree_check.specs.Judgements.{why_of}
 use Rattle.tree_check.specs.Refusals.{Why, IsRefused, without_matching}
 use Rattle.tree_check.specs.Replays.{IsReplay, IsStuckAt, IsRefusedMoveAt}
@@ -20,15 +20,15 @@ use Rattle.tree_check.specs.declared.replaying.Replayed.TheVariants.{Done, Stuck
 pub last-once : (g : Graph) (s t u : Shape) (ms : List PlainMove) → TurnsThrough g s ms t → TurnsThrough g s ms u → t ≡ u
 last-once g s t u [] first second = sym first ∙ second
 last-once g s t u (m ∷ ms) first second =
-    last-once g first.0 t u ms first.3 (subst (λ (r : Shape). TurnsThrough g r ms u) (some_same (sym second.1 ∙ first.1)) second.3)
+    last-once g first.0 t u ms first.3 (subst (λ (r : Shape). TurnsThrough g r ms u) (same_Some _ _ (sym second.1 ∙ first.1)) second.3)
 
 turns-not_stuck : (g : Graph) (s t : Shape) (ms : List PlainMove) (at : ℕ) → TurnsThrough g s ms t → IsStuckAt g s ms at → ⊥
 turns-not_stuck g s t [] at turns stuck = stuck
 turns-not_stuck g s t (m ∷ ms) at turns stuck = elim stuck [
-  | inl here ↦ none_some (sym here.1 ∙ turns.1)
+  | inl here ↦ none-some _ (sym here.1 ∙ turns.1)
   | inr later ↦
       let j = later.3 in
-      turns-not_stuck g turns.0 t ms j.0 turns.3 (subst (λ (r : Shape). IsStuckAt g r ms j.0) (some_same (sym later.1 ∙ turns.1)) j.2)
+      turns-not_stuck g turns.0 t ms j.0 turns.3 (subst (λ (r : Shape). IsStuckAt g r ms j.0) (same_Some _ _ (sym later.1 ∙ turns.1)) j.2)
 ]
 
 stuck-once : (g : Graph) (s : Shape) (ms : List PlainMove) (i j : ℕ) → IsStuckAt g s ms i → IsStuckAt g s ms j → i ≡ j
@@ -36,14 +36,14 @@ stuck-once g s [] i j first second = absurd first
 stuck-once g s (m ∷ ms) i j first second = elim first [
   | inl here ↦ elim second [
     | inl there ↦ here.0 ∙ sym there.0
-    | inr later ↦ absurd (none_some (sym here.1 ∙ later.1))
+    | inr later ↦ absurd (none-some _ (sym here.1 ∙ later.1))
   ]
   | inr behind ↦ elim second [
-    | inl there ↦ absurd (none_some (sym there.1 ∙ behind.1))
+    | inl there ↦ absurd (none-some _ (sym there.1 ∙ behind.1))
     | inr later ↦
         let a = behind.3 in
         let b = later.3 in
-        a.1 ∙ ap (λ k. 1 + k) (stuck-once g behind.0 ms a.0 b.0 a.2 (subst (λ (r : Shape). IsStuckAt g r ms b.0) (some_same (sym later.1 ∙ behind.1)) b.2)) ∙ sym b.1
+        a.1 ∙ ap (λ k. 1 + k) (stuck-once g behind.0 ms a.0 b.0 a.2 (subst (λ (r : Shape). IsStuckAt g r ms b.0) (same_Some _ _ (sym later.1 ∙ behind.1)) b.2)) ∙ sym b.1
   ]
 ]
 
@@ -51,7 +51,7 @@ module _ (g : Graph) (is : IsGraph g) where
   turns-not_refused : (s t : Shape) (ms : List PlainMove) (at node : ℕ) (why : Why) → TurnsThrough g s ms t → IsRefusedMoveAt g s ms at node why → ⊥
   turns-not_refused s t [] at node why turns refused = refused
   turns-not_refused s t (m ∷ ms) at node why turns refused =
-      let same : refused.0 ≡ turns.0 = some_same (sym refused.1 ∙ turns.1) in
+      let same : refused.0 ≡ turns.0 = same_Some _ _ (sym refused.1 ∙ turns.1) in
       elim refused.2 [
         | inl here ↦ refused-not_derived g is turns.0 node why turns.2 (subst (λ (r : Shape). IsRefused g r node why) same here.1)
         | inr later ↦ let j = later.1 in turns-not_refused turns.0 t ms j.0 node why turns.3 (subst (λ (r : Shape). IsRefusedMoveAt g r ms j.0 node why) same j.2)
@@ -60,10 +60,10 @@ module _ (g : Graph) (is : IsGraph g) where
   stuck-not_refused : (s : Shape) (ms : List PlainMove) (i at node : ℕ) (why : Why) → IsStuckAt g s ms i → IsRefusedMoveAt g s ms at node why → ⊥
   stuck-not_refused s [] i at node why stuck refused = stuck
   stuck-not_refused s (m ∷ ms) i at node why stuck refused = elim stuck [
-    | inl here ↦ none_some (sym here.1 ∙ refused.1)
+    | inl here ↦ none-some _ (sym here.1 ∙ refused.1)
     | inr behind ↦
         let a = behind.3 in
-        let same : refused.0 ≡ behind.0 = some_same (sym refused.1 ∙ behind.1) in
+        let same : refused.0 ≡ behind.0 = same_Some _ _ (sym refused.1 ∙ behind.1) in
         elim refused.2 [
           | inl there ↦ refused-not_derived g is behind.0 node why behind.2 (subst (λ (r : Shape). IsRefused g r node why) same there.1)
           | inr later ↦ let j = later.1 in stuck-not_refused behind.0 ms a.0 j.0 node why a.2 (subst (λ (r : Shape). IsRefusedMoveAt g r ms j.0 node why) same j.2)
@@ -75,7 +75,7 @@ module _ (g : Graph) (is : IsGraph g) where
   refused_move-once s [] i j k l a b first second = absurd first
   refused_move-once s (m ∷ ms) i j k l a b first second =
       let r : Shape = first.0 in
-      let same : second.0 ≡ r = some_same (sym second.1 ∙ first.1) in
+      let same : second.0 ≡ r = same_Some _ _ (sym second.1 ∙ first.1) in
       elim first.2 [
         | inl here ↦ elim second.2 [
           | inl there ↦

@@ -5,13 +5,8 @@ use Rattle.counting.proofs.Counts.{count_complement}
 use Rattle.counting.specs.Counts.{count}
 use Rattle.counting.specs.Lists.{mem}
 use Rattle.counting.specs.Sets.{complement}
-use Rattle.contraction.proofs.QuotientLaws.{covered_up}
-use Rattle.graph_core.proofs.SingleBlocks.{contracted-singles}
-use Rattle.graph_core.proofs.Singles.{singles-partition}
-use Rattle.graph_core.specs.Covered.{IsCovered}
 use Rattle.graph_core.specs.Graph.{Graph, IsGraph}
-use Rattle.graph_core.specs.Partitions.{IsPartition, singles}
-use Rattle.graph_core.specs.Quotients.{quotient}
+use Rattle.graph_core.specs.Partitions.{IsPartition}
 use Rattle.graph_core.specs.Shores.{blocks_in}
 use Rattle.tree_core.proofs.CutsBelow.{few-cuts_at, kept-partition}
 use Rattle.tree_core.proofs.Sizes.{node_count-cuts}
@@ -23,11 +18,6 @@ use Rattle.tree_check.specs.Refusals.{BreaksCut, IsRefusedAt}
 use Rattle.tree_check.specs.declared.judgement.Why.{Why as StoredWhy}
 use Rattle.tree_check.specs.declared.walk.Walked.{Walked}
 use Rattle.tree_check.specs.declared.walk.Walked.TheVariants as walked
-
--- at a covered graph the first quotient is covered
-pub root-covered : (g : Graph) (p : List (List ℕ)) → IsGraph g → p ≡ singles g.order → IsCovered g → IsCovered (quotient g p)
-root-covered g p is e covered =
-    subst (λ (q : List (List ℕ)). IsCovered (quotient g q)) (sym e) (covered_up g (singles g.order) is (singles-partition g.order).partition (subst IsCovered (sym (contracted-singles g is)) covered))
 
 -- a derivation has fewer nodes than its partition has blocks
 few-nodes : (g : Graph) (p : List (List ℕ)) (t : Shape) → IsGraph g → IsPartition g.order p → IsDerivationAt g p t → 4 ≤ length p → node_count t + 3 ≤ length p

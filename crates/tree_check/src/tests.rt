@@ -6,65 +6,8 @@ use graph_core::{MultiGraph, Reason};
 use std::alloc::{AllocError as Memory, Global};
 use std::test::Fail;
 use tree_core::{Move, Moves, Path, Tree, fits};
-use vset_core::{MOST_VERTICES, VSet};
-
-const HEXAGON: [(u32, u32); 6] = [(1, 2), (2, 3), (3, 4), (4, 5), (5, 6), (6, 1)];
-
-const PRISM: [(u32, u32); 9] = [
-    (1, 2),
-    (1, 3),
-    (2, 3),
-    (4, 5),
-    (4, 6),
-    (5, 6),
-    (1, 4),
-    (2, 5),
-    (3, 6),
-];
-
-const PETERSEN: [(u32, u32); 15] = [
-    (1, 2),
-    (2, 3),
-    (3, 4),
-    (4, 5),
-    (1, 5),
-    (1, 6),
-    (2, 7),
-    (3, 8),
-    (4, 9),
-    (5, 10),
-    (6, 8),
-    (8, 10),
-    (7, 10),
-    (7, 9),
-    (6, 9),
-];
-
-// K3,3 with a triangle in place of one vertex.
-const TRIANGLE_IN_K33: [(u32, u32); 12] = [
-    (1, 2),
-    (1, 3),
-    (2, 3),
-    (1, 4),
-    (2, 5),
-    (3, 6),
-    (7, 4),
-    (7, 5),
-    (7, 6),
-    (8, 4),
-    (8, 5),
-    (8, 6),
-];
-
-fn made(alloc: Global, order: u32, edges: &[(u32, u32)]) -> Result<MultiGraph, Fail>
-    requires { order ≤ MOST_VERTICES }
-{
-    let mut graph = MultiGraph::new(alloc, order)?;
-    for (a, b) in edges {
-        graph.add_edge(*a, *b)?;
-    }
-    Ok(graph)
-}
+use vset_core::VSet;
+use worked_graphs::{HEXAGON, PETERSEN, PRISM, TRIANGLE_IN_K33, graph_with};
 
 fn cut(alloc: Global, shore: VSet, kept: Tree, merged: Tree) -> Result<Tree, Memory> {
     Ok(Tree::Cut {
@@ -135,10 +78,10 @@ fn is_cut_further(judgement: &Option<Judgement>, shore: VSet) -> bool {
 
 #[test]
 fn cuts_that_are_not_tight(rt: HostRuntime) -> Result<(), Fail> {
-    let prism = made(rt.alloc(), 6, &PRISM)?;
+    let prism = graph_with(rt.alloc(), 6, &PRISM)?;
     let answer = judged_cut(rt.alloc(), &prism, VSet::full(3))?;
     assert!(rt; is_crossed_by(&answer, &[7, 8, 9]));
-    let petersen = made(rt.alloc(), 10, &PETERSEN)?;
+    let petersen = graph_with(rt.alloc(), 10, &PETERSEN)?;
     let answer = judged_cut(rt.alloc(), &petersen, VSet::full(5))?;
     assert!(rt; is_crossed_by(&answer, &[6, 7, 8, 9, 10]));
     Ok(())
@@ -146,7 +89,7 @@ fn cuts_that_are_not_tight(rt: HostRuntime) -> Result<(), Fail> {
 
 #[test]
 fn a_hexagon_that_is_no_leaf(rt: HostRuntime) -> Result<(), Fail> {
-    let hexagon = made(rt.alloc(), 6, &HEXAGON)?;
+    let hexagon = graph_with(rt.alloc(), 6, &HEXAGON)?;
     let answer = judged(rt.alloc(), &hexagon, &Tree::Leaf)?;
     assert!(rt; is_cut_further(&answer, VSet::one(2).with(3).with(4)));
     Ok(())
@@ -154,7 +97,7 @@ fn a_hexagon_that_is_no_leaf(rt: HostRuntime) -> Result<(), Fail> {
 
 #[test]
 fn shores_of_a_hexagon(rt: HostRuntime) -> Result<(), Fail> {
-    let hexagon = made(rt.alloc(), 6, &HEXAGON)?;
+    let hexagon = graph_with(rt.alloc(), 6, &HEXAGON)?;
     let even = judged_cut(rt.alloc(), &hexagon, VSet::full(2))?;
     assert!(rt; is_refused(&even, 1, 2));
     let trivial = judged_cut(rt.alloc(), &hexagon, VSet::one(1))?;
@@ -173,12 +116,12 @@ fn shores_of_a_hexagon(rt: HostRuntime) -> Result<(), Fail> {
 
 #[test]
 fn accepted_and_not_covered(rt: HostRuntime) -> Result<(), Fail> {
-    let g = made(rt.alloc(), 8, &TRIANGLE_IN_K33)?;
+    let g = graph_with(rt.alloc(), 8, &TRIANGLE_IN_K33)?;
     match judged_cut(rt.alloc(), &g, VSet::full(3))? {
         Some(Judgement::Accepted) => {}
         _ => assert!(rt; false),
     }
-    let parted = made(rt.alloc(), 4, &[(1, 2), (3, 4)])?;
+    let parted = graph_with(rt.alloc(), 4, &[(1, 2), (3, 4)])?;
     match judged(rt.alloc(), &parted, &Tree::Leaf)? {
         Some(Judgement::NotCovered(Reason::Parted { a, b })) => assert!(rt; a == 1 && b == 3),
         _ => assert!(rt; false),
@@ -196,7 +139,7 @@ fn switch_root(alloc: Global, u: VSet, v: VSet) -> Move {
 fn replayed_hexagon(alloc: Global, moves: &Moves) -> Result<Option<Replayed>, Fail>
     requires { length moves.now ≤ 3 }
 {
-    let hexagon = made(alloc, 6, &HEXAGON)?;
+    let hexagon = graph_with(alloc, 6, &HEXAGON)?;
     let tree = cut(alloc, VSet::full(3), Tree::Leaf, Tree::Leaf)?;
     if !fits(&tree, hexagon.order()) {
         return Ok(None);

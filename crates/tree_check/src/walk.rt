@@ -14,7 +14,7 @@ use allowed_edges::covered;
 use contraction::Partition;
 use graph_core::{MultiGraph, Reason, Verdict};
 use std::alloc::{AllocError as Memory, Global};
-use tree_core::{Tree, kept_partition, merged_partition};
+use tree_core::{Tree, kept_partition, merged_partition, root_partition};
 
 /// Whether `tree`, whose shores lie below the order of `g`, is a derivation of `g`. `NotCovered` comes exactly where `g` is not matching
 /// covered, with the first reason; `Accepted` exactly where it is and the tree is a derivation of it; else `Refused` names the first
@@ -49,19 +49,6 @@ pub(crate) fn walk_covered(alloc: Global, g: &MultiGraph, tree: &Tree) -> Result
 {
     let root = root_partition(alloc, g)?;
     walk_at(alloc, g, tree, &root, 1)
-}
-
-// The single vertices of a covered graph.
-fn root_partition(alloc: Global, g: &MultiGraph) -> Result<Partition, Memory>
-    requires { IsCovered g.now }
-    ensures order { IfOk result (λ p. p.order ≡ g.now.order) }
-    ensures blocks { IfOk result (λ p. p.blocks ≡ singles g.now.order) }
-    ensures covered { IfOk result (λ p. IsCovered (quotient g.now p.blocks)) }
-    ensures few { IfOk result (λ p. length p.blocks ≤ 128) }
-{
-    g.keeps_limits();
-    let root = Partition::singles(alloc, g.order())?;
-    Ok(root)
 }
 
 /// What a walk over a tree finds.

@@ -11,6 +11,7 @@ use Rattle.graph_core.proofs.BlockSets.{block_count_congr, block_count_rest, uni
 use Rattle.graph_core.proofs.Complements.{complement_of-rises, mem-complement_of}
 use Rattle.graph_core.proofs.MergedShores.{block_count_around, merge_of}
 use Rattle.graph_core.proofs.ShoreLists.{complement-tight, shore-some}
+use Rattle.graph_core.proofs.SingleBlocks.{contracted-singles}
 use Rattle.graph_core.proofs.Singles.{length-singles, singles-partition}
 use Rattle.graph_core.specs.Covered.{IsCovered}
 use Rattle.graph_core.specs.Graph.{Graph, IsGraph}
@@ -18,6 +19,7 @@ use Rattle.graph_core.specs.Partitions.{IsPartition, block, complement_of, merge
 use Rattle.graph_core.specs.Quotients.{quotient}
 use Rattle.graph_core.specs.Shores.{IsTightAt, IsUnion, block_count, blocks_in}
 use Rattle.contraction.proofs.MergedQuotients.{merged-covered}
+use Rattle.contraction.proofs.QuotientLaws.{covered_up}
 use Rattle.contraction.specs.Partition.{IsUnionAt}
 use Rattle.tree_core.specs.Shapes.{Shape, leaf, cut, cut_count, leaf_count}
 use Rattle.tree_core.specs.Derivations.{IsCutAt, IsDerivation, IsDerivationAt, kept_at, merged_at}
@@ -40,6 +42,11 @@ length-merged g p x is pp rises tight =
     let before = all-blocks p in
     let after = all-blocks (merged p x) in
     omega arith
+
+-- at the single vertices of a covered graph the quotient is covered
+pub root-covered : (g : Graph) (p : List (List ℕ)) → IsGraph g → p ≡ singles g.order → IsCovered g → IsCovered (quotient g p)
+root-covered g p is e covered =
+    subst (λ (q : List (List ℕ)). IsCovered (quotient g q)) (sym e) (covered_up g (singles g.order) is (singles-partition g.order).partition (subst IsCovered (sym (contracted-singles g is)) covered))
 
 module _ (g : Graph) (p : List (List ℕ)) (x : List ℕ) (is : IsGraph g) (pp : IsPartition g.order p) (cuts : IsCutAt g p x) where
   pub kept-partition : IsPartition g.order (kept_at g.order p x)

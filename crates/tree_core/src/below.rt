@@ -1,9 +1,10 @@
-//! The partitions below a cut.
+//! The partitions at the root of a derivation and below a cut.
 ghost use Rattle.std.specs.Prelude.{◌≡◌, ◌<◌, ◌≤◌, ◌-◌, ◌+◌, length, IfOk, All};
 ghost use Rattle.counting.specs.Counts.{Within, count};
 ghost use Rattle.counting.specs.Lists.{mem};
 ghost use Rattle.counting.specs.Sets.{complement};
 ghost use Rattle.graph_core.specs.Covered.{IsCovered};
+ghost use Rattle.graph_core.specs.Partitions.{singles};
 ghost use Rattle.graph_core.specs.Quotients.{quotient};
 ghost use Rattle.graph_core.specs.Shores.{blocks_in};
 ghost use Rattle.contraction.specs.Partition.{IsUnionAt};
@@ -14,6 +15,20 @@ use contraction::Partition;
 use graph_core::MultiGraph;
 use std::alloc::{AllocError as Memory, Global};
 use vset_core::VSet;
+
+/// The partition at which the root of a derivation stands: the single vertices. The quotient at it is the graph itself up to parallel edges,
+/// and so matching covered.
+pub fn root_partition(alloc: Global, g: &MultiGraph) -> Result<Partition, Memory>
+    requires { IsCovered g.now }
+    ensures order { IfOk result (λ p. p.order ≡ g.now.order) }
+    ensures blocks { IfOk result (λ p. p.blocks ≡ singles g.now.order) }
+    ensures covered { IfOk result (λ p. IsCovered (quotient g.now p.blocks)) }
+    ensures few { IfOk result (λ p. length p.blocks ≤ 128) }
+{
+    g.keeps_limits();
+    let root = Partition::singles(alloc, g.order())?;
+    Ok(root)
+}
 
 /// The partition below a cut where the shore is kept: the complement of `shore`, a canonical nontrivial shore that is tight at `p`,
 /// becomes one block. The quotient at it is matching covered again.

@@ -28,12 +28,13 @@ mod switched_shores;
 mod switching;
 mod tree;
 
-pub use below::{kept_partition, merged_partition};
-pub use leaf_partitions::leaves;
+pub use below::{kept_partition, merged_partition, root_partition};
+pub use leaf_partitions::{complement_in, leaves};
 pub use moves::{Move, Moves, Stuck, apply};
 pub use partitions::Partitions;
 pub use path::{Path, Side};
 pub use rotation::{are_apart, rotate};
+pub use switched_shores::holds_greatest;
 pub use switching::switch;
 pub use tree::{Tree, copy, depth, fits, nodes};
 

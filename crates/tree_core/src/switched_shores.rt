@@ -43,8 +43,8 @@ pub(crate) fn set_if(test: bool, x: VSet, n: u32) -> VSet
     if test { x } else { VSet::empty() }
 }
 
-/// Whether the greatest vertex is in the set.
-pub(crate) fn holds_greatest(v: VSet, n: u32) -> bool
+/// Whether the greatest vertex of 1 to `n` is in the set. Takes no memory.
+pub fn holds_greatest(v: VSet, n: u32) -> bool
     ensures { result ≡ mem v n }
 {
     v.rises();

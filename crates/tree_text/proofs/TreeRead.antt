@@ -3,14 +3,14 @@
 use Rattle.std.proofs.Common.{◌≡◌, ◌+◌, ◌-◌, ◌≤◌, ◌<◌, ◌==◌, codes, ◌||◌, ◌^◌, not, nat_le, if◌then◌else◌, ℕ, List, [], ◌∷◌, All, Bool, length, map, true, false, Option, Some, None, Result, Ok, Err, IfOk, refl, sym, ◌∙◌, ap, subst, arith}
 use Rattle.std.specs.List.{list_all, list_any}
 use Rattle.std.specs.List.Sorted.{IsStrictlyIncreasing}
-use Rattle.std.proofs.lemmas.Bool.{and_parts, both_ways}
+use Rattle.std.proofs.lemmas.Bool.{and_parts, both_ways, not-false}
 use Rattle.std.proofs.lemmas.Bool.Decides.{nat_tests}
 use Rattle.counting.specs.Counts.{Within}
 use Rattle.counting.specs.Lists.{mem}
 use Rattle.line_text.specs.Format.{Begins, Stands, finish}
 use Rattle.line_text.specs.Words.{has_form, word_at}
 use Rattle.line_text.specs.Numerals.{is_number, value_of}
-use Rattle.line_text.proofs.Tables.{all_passed, holds, no_value, value_or}
+use Rattle.line_text.proofs.Tables.{all_passed, no_value, value_or}
 use Rattle.graph_core.specs.declared.faults.FaultKind.{FaultKind}
 use Rattle.graph_core.specs.declared.faults.FaultKind.TheVariants as kind
 use Rattle.tree_core.specs.Shapes.{Shape, leaf, cut, Fits, node_count}
@@ -84,9 +84,9 @@ node-keeps n nodes place words next keeps count same =
     let through = all_passed (node_tests n nodes words) (node_read nodes place words) next same in
     let tests = through.0 in
     let few = few_nodes nodes tests.0 in
-    let rises = rising_read n (vertices_of words) tests.1.1.1.0 (holds (is_rising (vertices_of words)) tests.1.1.1.1.0) in
+    let rises = rising_read n (vertices_of words) tests.1.1.1.0 (not-false (is_rising (vertices_of words)) tests.1.1.1.1.0) in
     let below = below-without_greatest n (vertices_of words) rises tests.1.1.1.1.1.0 in
-    subst (λ (b : TreeSoFar). Keeps n b.nodes b.reading) through.1 (go (is_leaf_line words) refl few (holds (is_leaf_line words || is_cut_line words) tests.1.0) below rises.rising)
+    subst (λ (b : TreeSoFar). Keeps n b.nodes b.reading) through.1 (go (is_leaf_line words) refl few (not-false (is_leaf_line words || is_cut_line words) tests.1.0) below rises.rising)
   where
     go : (leafy : Bool) → is_leaf_line words ≡ leafy → nodes + 1 ≤ 127 → (is_leaf_line words || is_cut_line words) ≡ true → All (Within (n - 1)) (vertices_of words) → IsStrictlyIncreasing (vertices_of words) → Keeps n (nodes + 1) (if is_leaf_line words then put place leaf else wanted (in_kept (vertices_of words) place))
     go true is few known below rising =

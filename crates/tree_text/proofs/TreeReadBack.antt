@@ -18,7 +18,7 @@ use Rattle.line_text.specs.Numerals.{is_number, value_of}
 use Rattle.line_text.proofs.Decimals.{number_of-decimal, is_word-decimal, numbers-decimal, values-decimal, words-decimal}
 use Rattle.text_faults.proofs.InRange.{in_range-tests}
 use Rattle.line_text.proofs.ExactlyOne.{exactly_one}
-use Rattle.line_text.proofs.ReadBack.{Stands-written, Stands-comments, is_closed-unlines, Begins-append}
+use Rattle.line_text.proofs.ReadBack.{Stands-written, Stands-comments, is_closed-unlines, Begins-append, significant-append}
 use Rattle.tree_core.specs.Shapes.{Shape, leaf, cut, Fits, node_count}
 use Rattle.tree_text.specs.Places.{Place, root, in_kept, in_merged, Reading, wanted, whole, put}
 use Rattle.text_faults.specs.Ranges.{is_out_of_range}
@@ -96,11 +96,6 @@ nodes-taken n nodes place (cut x k m) few small fits some rising =
       Begins-append (tree_format n) (Some (at (nodes + 1) (wanted (in_kept x place)))) (node_words k) (Some (at (nodes + 1 + node_count k) (wanted (in_merged x k place)))) (node_words m) (Some (at (nodes + (1 + node_count k + node_count m)) (put place (cut x k m)))) kept
           (subst (λ c. Begins (tree_format n) (Some (at (nodes + 1 + node_count k) (wanted (in_merged x k place)))) (node_words m) (Some (at c (put place (cut x k m))))) sum merged),
     )
-
--- each line is significant
-significant-append : (lines more : List (List (List ℕ))) → AllByRecursion IsSignificant lines → AllByRecursion IsSignificant more → AllByRecursion IsSignificant (lines ++ more)
-significant-append [] more first second = second
-significant-append (words ∷ lines) more first second = (first.0, significant-append lines more first.1 second)
 
 nodes-significant : (n : ℕ) (t : Shape) → n < 10 ^ 9 → Fits n t → AllByRecursion IsSignificant (node_words t)
 nodes-significant n leaf small fits = (record { kept = refl; each = (refl, tt) }, tt)

@@ -1,5 +1,5 @@
 -- Further edges at the end of the list of edges: the old ones keep their numbers and ends, and a degree grows by the new edges that are used.
-use Rattle.std.proofs.Common.{◌≡◌, ℕ, suc, zero, ◌+◌, ◌*◌, ◌-◌, ◌≤◌, ◌<◌, ◌≢◌, Bool, true, false, cond, ◌==◌, refl, sym, ap, ap₂, ◌∙◌, arith, ◌&&◌, ◌||◌, not, eq-eqb, ne_eqb, eqb-true, ◌⊎◌, inl, inr, nat_lt, ltb-true, lt-ltb, le-ltb, le_trans, le_of_eq, [], ◌∷◌, ◌++◌, List, length, slice_index_or}
+use Rattle.std.proofs.Common.{◌≡◌, ℕ, suc, ◌+◌, ◌*◌, ◌-◌, ◌≤◌, Bool, true, false, ◌==◌, refl, sym, ap, ap₂, ◌∙◌, arith, ◌&&◌, ◌||◌, inl, inr, nat_lt, lt-ltb, le-ltb, [], ◌∷◌, ◌++◌, List, length, slice_index_or}
 use Rattle.std.proofs.lemmas.Bool.{cases_eq, or_right}
 use Rattle.std.proofs.lemmas.List.{length-append, get_or_append_left, get_or-append-add}
 use Rattle.counting.proofs.Counts.{count_congr}

@@ -1,12 +1,12 @@
 -- A barrier of a covered graph without further edges: each component is odd, and each perfect matching has one edge that leaves it. A
 -- part of a barrier leaves no more components than it has vertices, and parts that leave as many have such a meet.
 use Rattle.std.proofs.Common.{◌≡◌, ℕ, suc, zero, ◌+◌, ◌*◌, ◌≤◌, ◌≢◌, Bool, true, false, refl, sym, ap, ◌∙◌, arith, ◌&&◌, ◌||◌, not, inl, inr, nat_lt, lt-ltb, List}
-use Rattle.std.proofs.lemmas.Bool.{cases_eq, cases_Bool, and_parts, and_from, and_cases, both_ways, true≢false, false_from_ne_true, not-true}
+use Rattle.std.proofs.lemmas.Bool.{cases_Bool, and_parts, and_from, both_ways, true≢false, false_from_ne_true, not-true}
 use Rattle.counting.proofs.Counts.{count_meet_union, bit_true, count_congr, count_le_one}
 use Rattle.counting.proofs.RisingLists.{same_answers}
 use Rattle.counting.proofs.Tests.{some_none, some_true}
-use Rattle.barrier_kit.proofs.Matched.{cut_edge, crosses_apart, loop_free, total_tight}
-use Rattle.counting.proofs.Totals.{at_le_total, total_add, total_congr, total_le, total_mul, total_none}
+use Rattle.barrier_kit.proofs.Matched.{cut_edge, crosses_apart, loop_free}
+use Rattle.counting.proofs.Totals.{at_le_total, total_add, total_congr, total_le, total_mul, total_none, total_tight}
 use Rattle.counting.specs.Counts.{Within, bit, count, is_odd}
 use Rattle.counting.specs.Sets.{Set, meet, none, singleton, union}
 use Rattle.counting.specs.Tests.{some}

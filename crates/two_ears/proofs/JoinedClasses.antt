@@ -1,7 +1,7 @@
 -- Being joined without s is an equivalence, whose classes are the components without s and the vertices of s alone. So the number of
 -- components is submodular over sets of vertices no two of which an edge joins.
 use Rattle.std.proofs.Common.{◌≡◌, ℕ, ◌+◌, ◌≤◌, ◌≢◌, Bool, true, false, ◌==◌, refl, sym, ap, ap₂, ◌∙◌, arith, ◌&&◌, not, eq-eqb, eqb-true, ◌⊎◌, inl, inr, nat_lt, ltb-true, [], ◌∷◌, List}
-use Rattle.std.proofs.lemmas.Bool.{cases_eq, cases_Bool, and_parts, and_from, both_ways, true≢false, false_from_ne_true, not-true}
+use Rattle.std.proofs.lemmas.Bool.{cases_eq, and_parts, and_from, both_ways, true≢false, false_from_ne_true}
 use Rattle.counting.proofs.Counts.{count_meet_union}
 use Rattle.counting.proofs.Tests.{some_true, true_some}
 use Rattle.counting.proofs.Totals.{total_add, total_congr}

@@ -1,6 +1,6 @@
 -- A pair outside a barrier that serves together with no pair inside: some part of the barrier leaves as many components as it has
 -- vertices and joins the two vertices of the pair. So it is for a list of pairs at once.
-use Rattle.std.proofs.Common.{◌≡◌, ℕ, suc, zero, ◌+◌, ◌*◌, ◌≤◌, ◌<◌, ◌≢◌, Bool, true, false, cond, ◌==◌, refl, sym, ap, ap₂, ◌∙◌, arith, ◌&&◌, ◌||◌, not, eq-eqb, ne_eqb, eqb-true, ◌⊎◌, inl, inr, nat_lt, ltb-true, lt-ltb, le-ltb, le_trans, le_of_eq, [], ◌∷◌, ◌++◌, List, length}
+use Rattle.std.proofs.Common.{◌≡◌, ℕ, suc, ◌+◌, ◌*◌, ◌≤◌, ◌≢◌, Bool, true, false, ◌==◌, refl, sym, ap, ap₂, ◌∙◌, arith, ◌&&◌, ◌||◌, not, eq-eqb, eqb-true, inl, inr, nat_lt, lt-ltb, le-ltb, [], ◌∷◌, ◌++◌, List}
 use Rattle.std.proofs.lemmas.Bool.{cases_eq, cases_Bool, and_parts, and_from, both_ways, true≢false, false_from_ne_true, or_left, or_parts, or_cases}
 use Rattle.barrier_kit.proofs.Barriers.{equivalent_barrier}
 use Rattle.counting.proofs.Totals.{at_le_total}

@@ -1,9 +1,9 @@
 -- Two lists side by side, and orders: lists of numbers that hold k + 1 to k + n once each and no other number.
-use Rattle.std.proofs.Common.{◌≡◌, ℕ, suc, zero, ◌+◌, ◌≤◌, ◌<◌, true, cond, ◌==◌, List, [], ◌∷◌, ◌++◌, length, ◌⊎◌, inl, inr, refl, sym, ap, ap₂, ◌∙◌, arith, eq-eqb, ne_eqb}
+use Rattle.std.proofs.Common.{◌≡◌, ℕ, suc, zero, ◌+◌, ◌≤◌, ◌<◌, cond, List, [], ◌∷◌, ◌++◌, length, ◌⊎◌, inl, inr, refl, sym, ap, ap₂, ◌∙◌, arith, eq-eqb, ne_eqb}
 use Rattle.std.specs.Prelude.{slice_index, slice_index_or}
-use Rattle.std.proofs.lemmas.Bool.{or_left, or_right, cases_eq, cases_lt}
+use Rattle.std.proofs.lemmas.Bool.{cases_lt}
 use Rattle.counting.specs.Counts.{bit}
-use Rattle.counting.specs.Lists.{mem}
+use Rattle.counting.specs.Lists.{times}
 use Rattle.tree_core.specs.LeafMaps.{numbers, position}
 
 -- numbers and partitions side by side, each two related by R
@@ -38,21 +38,9 @@ aligned-at R (i ∷ o) [] k a l = absurd a
 aligned-at R (i ∷ o) (q ∷ qs) zero a l = a.0
 aligned-at R (i ∷ o) (q ∷ qs) (suc k) a l = aligned-at R o qs k a.1 (omega arith)
 
--- how many times a number stands in a list
-abbrev pub times : List ℕ → ℕ → ℕ
-times [] i = 0
-times (j ∷ js) i = bit (j == i) + times js i
-
 times-join : (o r : List ℕ) (i : ℕ) → times (o ++ r) i ≡ times o i + times r i
 times-join [] r i = omega arith
 times-join (j ∷ o) r i = let a = times-join o r i in omega arith
-
-pub times-mem : (o : List ℕ) (i : ℕ) → 1 ≤ times o i → mem o i ≡ true
-times-mem [] i h = absurd (omega arith)
-times-mem (j ∷ o) i h = elim (cases_eq j i) [
-  | inl e ↦ or_left (j == i) (mem o i) (eq-eqb j i e)
-  | inr d ↦ or_right (j == i) (mem o i) (times-mem o i (let z = ap bit (ne_eqb j i d) in omega arith))
-]
 
 mem-times : (o : List ℕ) (k : ℕ) → k < length o → 1 ≤ times o (slice_index o k)
 mem-times [] k l = absurd (omega arith)

@@ -16,7 +16,8 @@ use Rattle.graph_core.specs.Shores.{IsTightAt, IsUnion, block_count}
 use Rattle.tree_core.specs.Derivations.{IsCutAt}
 use Rattle.uncross.proofs.CarriedTrees.{some_of}
 use Rattle.uncross.proofs.Rising.{bounds}
-use Rattle.uncross.proofs.SameBlocks.{commute, same_blocks, swallow}
+use Rattle.graph_core.proofs.SameBlocks.{same_blocks}
+use Rattle.uncross.proofs.CommutingMerges.{commute, swallow}
 
 -- a partition as a block list whose quotient is covered
 pub record Stage (g : Graph) (p : List (List ℕ)) : Type 0 where

@@ -26,7 +26,7 @@ use Rattle.uncross.proofs.CarriedTrees.{inner, iso_merged, nontrivial_congr, non
 use Rattle.uncross.proofs.Images.{image_covered, image_nontrivial, image_tight, move_is}
 use Rattle.uncross.proofs.Parts.{Part, part-join, part-one, part-turn}
 use Rattle.uncross.proofs.Rising.{bounds}
-use Rattle.uncross.proofs.SameBlocks.{Finer}
+use Rattle.graph_core.proofs.SameBlocks.{Finer}
 use Rattle.uncross.proofs.SameLeaves.{iso_same_leaf}
 use Rattle.uncross.specs.Isomorphisms.{Isomorphism, carry, carry_cut, pre}
 

@@ -2,12 +2,11 @@
 -- a Switch exchanges them, and Rotate brings the shore back over both.
 use Rattle.uncross.specs.Walks.{AreRising, Walk}
 use Rattle.std.proofs.Common.{Bool, List, None, Some, [], ap, ap₂, arith, cond, false, if◌then◌else◌, inl, inr, length, map, not, refl, subst, sym, true, ℕ, ◌&&◌, ◌*◌, ◌++◌, ◌+◌, ◌||◌, ◌∙◌, ◌∷◌, ◌≡◌, ◌≤◌, ◌⊎◌}
-use Rattle.std.proofs.lemmas.Bool.{both_ways, cases_Bool}
 use Rattle.counting.proofs.Odd.{odd-add}
-use Rattle.counting.proofs.RisingLists.{mem-rising_list, rising_list-rises, same_rising_list}
+use Rattle.counting.proofs.RisingLists.{mem-rising_list, rising_list-rises, same_rising_list, true_all_in, all_in_false}
 use Rattle.counting.specs.Counts.{Within, is_odd}
-use Rattle.counting.specs.Lists.{IsRisingIn, all_in, is_apart, is_subset, mem}
-use Rattle.counting.specs.Sets.{Set, complement, everything, meet, minus, union}
+use Rattle.counting.specs.Lists.{IsRisingIn, is_apart, is_subset, mem}
+use Rattle.counting.specs.Sets.{complement, everything, meet, minus, union}
 use Rattle.graph_core.proofs.BlockSets.{block_count_congr, block_count_parts, union_minus}
 use Rattle.graph_core.proofs.Complements.{complement_of-rises, mem-complement_of}
 use Rattle.graph_core.proofs.MergedShores.{Apart}
@@ -23,7 +22,6 @@ use Rattle.uncross.proofs.BigShores.{Big, Stage, big_rest, big_some, cut_big, re
 use Rattle.uncross.proofs.Corners.{Corners, corner_of, inner_mem, inner_single_or_big, merged_inner, merged_outer, outer_mem, outer_single_or_big}
 use Rattle.uncross.proofs.NestedShores.{Cross, Crossed, Exposed, Exposes, stays_big}
 use Rattle.uncross.proofs.Rising.{bounds}
-use Rattle.uncross.proofs.Rotations.{says_subset, subset_says}
 use Rattle.uncross.proofs.Scripts.{length_below, length_join, walk_end, walk_join, walk_kept, walk_merged, walk_rotate}
 use Rattle.uncross.proofs.Switches.{each_of, kept_in_q, kept_in_v, map_a, map_b, merged_in_q, merged_in_v, inner_rest-mem, outer_rest-mem, switch_in_q, switch_in_v}
 use Rattle.uncross.specs.Exchange.{Corner}
@@ -50,11 +48,8 @@ row_two x y a c d h = ap (λ k. if k then Some (cut y (cut x a c) d) else (if is
 row_three : (x y : List ℕ) (a c d : Shape) → is_subset x y ≡ false → is_apart x y ≡ true → rotate_result_at Merged (cut x a (cut y c d)) ≡ Some (cut y c (cut x a d))
 row_three x y a c d h k = ap (λ k. if k then Some (cut y (cut x a c) d) else (if is_apart x y then Some (cut y c (cut x a d)) else None)) h ∙ ap (λ k. if k then Some (cut y c (cut x a d)) else None) k
 
-not_subset : (u : List ℕ) (y : Set) (s : ℕ) → mem u s ≡ true → y s ≡ false → all_in u y ≡ false
-not_subset u y s h k = elim (cases_Bool (all_in u y)) [ inr z ↦ z | inl z ↦ absurd (both_ways (y s) k (subset_says u y z s h)) ]
-
 apart_test : (n : ℕ) (x y : List ℕ) → IsRisingIn n x → Apart n (mem x) (mem y) → is_apart x y ≡ true
-apart_test n x y s h = says_subset x (minus everything (mem y)) (λ v m. ap (λ k. true && not k) (h v ((bounds s) v m) m))
+apart_test n x y s h = true_all_in x (minus everything (mem y)) (λ v m. ap (λ k. true && not k) (h v ((bounds s) v m) m))
 
 proper_test : (u x : List ℕ) → is_subset u [] ≡ false → is_subset u x ≡ true → is_subset x u ≡ false → is_proper u x ≡ true
 proper_test u x a b c = bits (is_subset u []) (is_subset u x) (is_subset x u) a b c
@@ -106,25 +101,25 @@ module _ (g : Graph) (p : List (List ℕ)) (x z y : List ℕ) (c : Corners g p x
         cm w ww = mem-complement_of g.order x w ww
 
         one : is_subset i [] ≡ false
-        one = not_subset i (mem []) s bi.holds refl
+        one = all_in_false i (mem []) s bi.holds refl
 
         two : is_subset i x ≡ true
-        two = says_subset i (mem x) (λ v m. co.inside v ((bounds si) v m) m)
+        two = true_all_in i (mem x) (λ v m. co.inside v ((bounds si) v m) m)
 
         three : is_subset x i ≡ false
-        three = let l = c.left in not_subset x (mem i) l.0 l.2 (inner_mem g p x z c l.0 l.1 ∙ bits (mem x l.0) (mem z l.0) l.3)
+        three = let l = c.left in all_in_false x (mem i) l.0 l.2 (inner_mem g p x z c l.0 l.1 ∙ bits (mem x l.0) (mem z l.0) l.3)
           where
             bits : (a b : Bool) → b ≡ false → (a && b) ≡ false
             bits a b h = grind arith
 
         four : is_subset o [] ≡ false
-        four = not_subset o (mem []) t bo.holds refl
+        four = all_in_false o (mem []) t bo.holds refl
 
         five : is_subset o (complement_of g.order x) ≡ true
-        five = says_subset o (mem (complement_of g.order x)) (λ v m. cm v ((bounds so) v m) ∙ ap not (co.outside v ((bounds so) v m) m))
+        five = true_all_in o (mem (complement_of g.order x)) (λ v m. cm v ((bounds so) v m) ∙ ap not (co.outside v ((bounds so) v m) m))
 
         six : is_subset (complement_of g.order x) o ≡ false
-        six = let r = c.right in not_subset (complement_of g.order x) (mem o) r.0 (cm r.0 r.1 ∙ ap not r.2) (outer_mem g p x z c r.0 r.1 ∙ bits (mem x r.0) (mem z r.0) r.3)
+        six = let r = c.right in all_in_false (complement_of g.order x) (mem o) r.0 (cm r.0 r.1 ∙ ap not r.2) (outer_mem g p x z c r.0 r.1 ∙ bits (mem x r.0) (mem z r.0) r.3)
           where
             bits : (a b : Bool) → b ≡ true → not (a || b) ≡ false
             bits a b h = grind arith
@@ -231,12 +226,6 @@ over_outer_to g p x z y c sy nx ny kind s bi a b made f d (Some ms) out = elim k
         bits : (a b : Bool) → a ≡ true → not (a || b) ≡ false
         bits a b h = grind arith
 
-    below_x : Big g p (outer_of g.order x z) → Big g (merged_at g.order p x) (outer_of g.order x z)
-    below_x bo = let r = c.right in stays_big g p c.stage x (outer_of g.order x z) c.first bo off (r.0, r.1, r.2, outer_mem g p x z c r.0 r.1 ∙ bits (mem x r.0) (mem z r.0) r.3)
-      where
-        bits : (a b : Bool) → b ≡ true → not (a || b) ≡ false
-        bits a b h = grind arith
-
     first : Big g p (outer_of g.order x z) → ((v : ℕ) → Within g.order v → mem z v ≡ mem y v) → TurnedTo g p (cut x a b) y (3 * cut_count b + 1) (over_outer g.order x (inner_of g.order x z) (outer_of g.order x z) a made (Some ms))
     first bo h =
         let i = inner_of g.order x z in let oc = complement_of g.order (outer_of g.order x z) in
@@ -247,7 +236,7 @@ over_outer_to g p x z y c sy nx ny kind s bi a b made f d (Some ms) out = elim k
         let is_made : made ≡ cut oc e1 e2 = out.3 ∙ ap (λ k. cut k e1 e2) shore in
         let walk = subst (λ k. Walk g (merged_at g.order p x) b ms (cut k e1 e2)) shore out.4 in
         let w1 = walk_merged g p x a b ms (cut oc e1 e2) d f walk in
-        let sub : is_subset x oc ≡ true = says_subset x (mem oc) (λ v m. let wv = (bounds f.0) v m in mem-complement_of g.order (outer_of g.order x z) v wv ∙ ap not (off v wv m)) in
+        let sub : is_subset x oc ≡ true = true_all_in x (mem oc) (λ v m. let wv = (bounds f.0) v m in mem-complement_of g.order (outer_of g.order x z) v wv ∙ ap not (off v wv m)) in
         let up = row_two x oc a e1 e2 sub in
         let w2 = walk_then g p (cut x a b) (map (below Merged) ms) (cut x a (cut oc e1 e2)) Merged (cut oc (cut x a e1) e2) c.stage d f w1 up in
         let q2 = walk_end g p (cut x a b) _ (cut oc (cut x a e1) e2) d f w2 in
@@ -285,7 +274,7 @@ over_outer_to g p x z y c sy nx ny kind s bi a b made f d (Some ms) out = elim k
         let walk = subst (λ k. Walk g (merged_at g.order p x) b ms (cut k e1 e2)) shore out.4 in
         let w1 = walk_merged g p x a b ms (cut oo e1 e2) d f walk in
         let r = big_some g p c.stage x c.first in
-        let none : is_subset x oo ≡ false = not_subset x (mem oo) r.0 r.2 (off r.0 r.1 r.2) in
+        let none : is_subset x oo ≡ false = all_in_false x (mem oo) r.0 r.2 (off r.0 r.1 r.2) in
         let up = row_three x oo a e1 e2 none (apart_test g.order x oo f.0 off) in
         let w2 = walk_then g p (cut x a b) (map (below Merged) ms) (cut x a (cut oo e1 e2)) Merged (cut oo e1 (cut x a e2)) c.stage d f w1 up in
         let q2 = walk_end g p (cut x a b) _ (cut oo e1 (cut x a e2)) d f w2 in
@@ -293,7 +282,7 @@ over_outer_to g p x z y c sy nx ny kind s bi a b made f d (Some ms) out = elim k
         let sw = switched g (merged p oo) x z y m.0 sy nx ny kind a e2 q2.1.2 q2.0.2 s m.2.0 m.1 m.2.1 in
         let s1 = sw.0 in let s2 = sw.1 in
         let w3 = walk_merged g p oo e1 (cut x a e2) sm (cut y s1 s2) q2.0 q2.1 sw.3 in
-        let sub : is_subset oo y ≡ true = says_subset oo (mem y) (λ v k. let wv = (bounds so) v k in in_y (mem x v) (mem z v) (mem y v) (h v wv) (sym (outer_mem g p x z c v wv) ∙ k)) in
+        let sub : is_subset oo y ≡ true = true_all_in oo (mem y) (λ v k. let wv = (bounds so) v k in in_y (mem x v) (mem z v) (mem y v) (h v wv) (sym (outer_mem g p x z c v wv) ∙ k)) in
         let back = row_two oo y e1 s1 s2 sub in
         let w4 = walk_then g p (cut oo e1 (cut x a e2)) (map (below Merged) sm) (cut oo e1 (cut y s1 s2)) Merged (cut y (cut oo e1 s1) s2) c.stage q2.0 q2.1 w3 back in
         let l1 = length_join (map (below Merged) ms ++ rotate_at (Merged ∷ []) ∷ []) (map (below Merged) sm ++ rotate_at (Merged ∷ []) ∷ []) in
@@ -430,11 +419,11 @@ over_inner_to g p x z y c sy nx ny kind a b a' b' f d (Some ms) mo inner outer =
 
     returned : (a' b' c' : Shape) → Big g p (inner_of g.order x z) → (k : Shape) × (l : Shape) × (rotate_result_at Merged (cut (inner_of g.order x z) a' (cut y b' c')) ≡ Some (cut y k l))
     returned a' b' c' bi = elim kind [
-      | inl h ↦ (cut (inner_of g.order x z) a' b', c', row_two (inner_of g.order x z) y a' b' c' (says_subset (inner_of g.order x z) (mem y) (λ v k. let wv = (bounds si) v k in sym (h v wv) ∙ in_z (mem x v) (mem z v) (sym (inner_mem g p x z c v wv) ∙ k))))
+      | inl h ↦ (cut (inner_of g.order x z) a' b', c', row_two (inner_of g.order x z) y a' b' c' (true_all_in (inner_of g.order x z) (mem y) (λ v k. let wv = (bounds si) v k in sym (h v wv) ∙ in_z (mem x v) (mem z v) (sym (inner_mem g p x z c v wv) ∙ k))))
       | inr h ↦
           let some = big_some g p c.stage (inner_of g.order x z) bi in
           let off : Apart g.order (mem (inner_of g.order x z)) (mem y) = λ v wv k. not_y (mem x v) (mem z v) (mem y v) (h v wv) (sym (inner_mem g p x z c v wv) ∙ k) in
-          (b', cut (inner_of g.order x z) a' c', row_three (inner_of g.order x z) y a' b' c' (not_subset (inner_of g.order x z) (mem y) some.0 some.2 (off some.0 some.1 some.2)) (apart_test g.order (inner_of g.order x z) y si off))
+          (b', cut (inner_of g.order x z) a' c', row_three (inner_of g.order x z) y a' b' c' (all_in_false (inner_of g.order x z) (mem y) some.0 some.2 (off some.0 some.1 some.2)) (apart_test g.order (inner_of g.order x z) y si off))
     ]
       where
         in_z : (a b : Bool) → (a && b) ≡ true → b ≡ true

@@ -9,7 +9,7 @@ use Rattle.counting.specs.Counts.{Within, bit, count, is_odd}
 use Rattle.counting.specs.Sets.{Set, complement, meet, minus, union}
 use Rattle.counting.specs.Tests.{some}
 use Rattle.graph_core.proofs.BlockSets.{at_place, at_rep, block_count_congr, block_count_parts, no_edge_at, rep, rep_in, rep_place, union_join, union_meet, union_minus, union_rest}
-use Rattle.graph_core.proofs.Blocks.{contracted-graph, place_in}
+use Rattle.graph_core.proofs.Blocks.{contracted-ends, contracted-graph, contracted-size, place_in}
 use Rattle.graph_core.proofs.MergedShores.{alike_down, alike_in, alike_up, same_side}
 use Rattle.graph_core.proofs.Parity.{parity}
 use Rattle.graph_core.specs.Covered.{IsCovered}
@@ -18,20 +18,19 @@ use Rattle.graph_core.specs.Matchings.{Allowed}
 use Rattle.graph_core.specs.Partitions.{AreBlocks, IsMerge, contracted, place}
 use Rattle.graph_core.specs.Shores.{IsUnion, block_count, blocks_in}
 use Rattle.tree_core.specs.Moves.{IsBlockOf}
-use Rattle.uncross.proofs.Images.{ends_at, size_at}
 use Rattle.uncross.specs.Exchange.{Corner, Four, Link}
 use Rattle.uncross.specs.Isomorphisms.{EndsAt, Isomorphism, OneWay}
 
 module _ (g : Graph) (is : IsGraph g) (p : List (List ℕ)) (pp : AreBlocks g.order p) (cov : IsCovered (contracted g p)) (a u b v : Set) (s t : ℕ) (four : Four g p a u b v s t) where
   -- blocks of the shrunk graph against vertices
   at_near : (x : Set) → IsUnion g.order p x → (e : ℕ) → Within (size g) e → blocks_in p x (first_end (contracted g p) e) ≡ x (first_end g e)
-  at_near x ux e w = ap (blocks_in p x) (ends_at g p e w).0 ∙ at_place g.order p pp x ux (first_end g e) (is e w).0
+  at_near x ux e w = ap (blocks_in p x) (contracted-ends g p e w).0 ∙ at_place g.order p pp x ux (first_end g e) (is e w).0
 
   at_far : (x : Set) → IsUnion g.order p x → (e : ℕ) → Within (size g) e → blocks_in p x (second_end (contracted g p) e) ≡ x (second_end g e)
-  at_far x ux e w = ap (blocks_in p x) (ends_at g p e w).1 ∙ at_place g.order p pp x ux (second_end g e) (is e w).1
+  at_far x ux e w = ap (blocks_in p x) (contracted-ends g p e w).1 ∙ at_place g.order p pp x ux (second_end g e) (is e w).1
 
   here : (e : ℕ) → Within (size (contracted g p)) e → Within (size g) e
-  here e w = let q = size_at g p in (omega arith, omega arith)
+  here e w = let q = contracted-size g p in (omega arith, omega arith)
 
   at_s : (w : ℕ) → Within g.order w → (place p w == place p s) ≡ u w
   at_s w ww = elim (cases_Bool (u w)) [
@@ -50,14 +49,14 @@ module _ (g : Graph) (is : IsGraph g) (p : List (List ℕ)) (pp : AreBlocks g.or
       h = contracted g p
 
       wl : Within (size h) l.0
-      wl = let q = size_at g p in let w = l.1 in (omega arith, omega arith)
+      wl = let q = contracted-size g p in let w = l.1 in (omega arith, omega arith)
 
       no_loop : first_end h l.0 ≢ second_end h l.0
       no_loop e = clash (u (first_end g l.0)) (b (second_end g l.0)) (b (first_end g l.0)) (u (second_end g l.0)) l.2 same_u same_b
           (apart (a (first_end g l.0)) (u (first_end g l.0)) (b (first_end g l.0)) (v (first_end g l.0)) (four.one (first_end g l.0) (is l.0 l.1).0))
         where
           pe : place p (first_end g l.0) ≡ place p (second_end g l.0)
-          pe = sym (ends_at g p l.0 l.1).0 ∙ e ∙ (ends_at g p l.0 l.1).1
+          pe = sym (contracted-ends g p l.0 l.1).0 ∙ e ∙ (contracted-ends g p l.0 l.1).1
 
           same_u : u (first_end g l.0) ≡ u (second_end g l.0)
           same_u = four.left.closed (first_end g l.0) (second_end g l.0) (is l.0 l.1).0 (is l.0 l.1).1 pe
@@ -123,7 +122,7 @@ module _ (g : Graph) (is : IsGraph g) (p : List (List ℕ)) (pp : AreBlocks g.or
               each : (e : ℕ) → Within (size h) e → bit (m.0 e && in_cut h (blocks_in p b) e) ≤ bit (m.0 e && (first_end h e == c)) + bit (m.0 e && (second_end h e == c))
               each e w =
                   let we = here e w in
-                  rw (crossing e w, ap (λ k. k == c) (ends_at g p e we).0 ∙ at_s (first_end g e) (is e we).0, ap (λ k. k == c) (ends_at g p e we).1 ∙ at_s (second_end g e) (is e we).1)
+                  rw (crossing e w, ap (λ k. k == c) (contracted-ends g p e we).0 ∙ at_s (first_end g e) (is e we).0, ap (λ k. k == c) (contracted-ends g p e we).1 ∙ at_s (second_end g e) (is e we).1)
                   (go (m.0 e) (a (first_end g e)) (u (first_end g e)) (b (first_end g e)) (v (first_end g e)) (a (second_end g e)) (u (second_end g e)) (b (second_end g e)) (v (second_end g e))
                   (four.one (first_end g e) (is e we).0) (four.one (second_end g e) (is e we).1) (four.parted e we) (some_none (size g) (connects g v b) f e we))
                 where

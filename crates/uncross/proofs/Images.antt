@@ -1,18 +1,16 @@
 -- Images under an isomorphism of blocks: tight shores, their numbers of blocks and being covered go over, both ways.
-use Rattle.std.proofs.Common.{Bool, List, ap, arith, false, inl, inr, length, refl, subst₂, suc, sym, true, zero, ℕ, ◌&&◌, ◌-◌, ◌<◌, ◌==◌, ◌||◌, ◌∙◌, ◌≡◌, ◌≢◌, ◌⊎◌}
+use Rattle.std.proofs.Common.{Bool, List, ap, arith, false, inl, inr, length, refl, subst₂, suc, sym, true, zero, ℕ, ◌-◌, ◌∙◌, ◌≡◌, ◌≢◌}
 use Rattle.std.proofs.lemmas.Bool.{both_ways}
-use Rattle.std.proofs.lemmas.Bool.Decides.{nat_tests}
-use Rattle.std.proofs.lemmas.List.{get_or-map, length-map}
 use Rattle.counting.proofs.Tests.{some_true, true_some}
 use Rattle.counting.specs.Counts.{Within, count}
 use Rattle.counting.specs.Sets.{Set, complement}
 use Rattle.counting.specs.Tests.{some}
-use Rattle.graph_core.proofs.Adjacency.{Alike, covered_over, tight_back}
+use Rattle.graph_core.proofs.Adjacency.{Alike, covered_over, has_ends-from, tight_back}
 use Rattle.graph_core.proofs.BlockSets.{at_place, at_rep, block_count_rest, count_over, place_rep, rep, rep_in, rep_place, tight_congr, union_rest}
-use Rattle.graph_core.proofs.Blocks.{contracted-graph, place_in}
+use Rattle.graph_core.proofs.Blocks.{contracted-ends, contracted-graph, contracted-size, place_in}
 use Rattle.graph_core.proofs.Contraction.{tight_from_cut}
 use Rattle.graph_core.proofs.Decide.{covered_perfect}
-use Rattle.graph_core.proofs.Shores.{cut_congr}
+use Rattle.graph_core.proofs.SameSets.{cut_congr}
 use Rattle.graph_core.proofs.Walks.{has_ends-back, has_ends-cases}
 use Rattle.graph_core.specs.Covered.{IsCovered}
 use Rattle.graph_core.specs.Graph.{Graph, IsGraph, first_end, has_ends, second_end, size}
@@ -89,32 +87,14 @@ module _ (g : Graph) (is : IsGraph g) (p q : List (List ℕ)) (h k : ℕ → ℕ
       all zero = refl
       all (suc n) = let a = all n in omega arith
 
--- the ends of an edge of the shrunk graph
-pub ends_at : (g : Graph) (r : List (List ℕ)) (e : ℕ) → Within (size g) e → (first_end (contracted g r) e ≡ place r (first_end g e)) × (second_end (contracted g r) e ≡ place r (second_end g e))
-unfolding contracted
-ends_at g r e w =
-    let l : e - 1 < length g.ends = omega arith in
-    let h = get_or-map (λ (d : ℕ × ℕ). (place r d.0, place r d.1)) g.ends (e - 1) (0, 0) (0, 0) l in
-    (ap (λ (d : ℕ × ℕ). d.0) h, ap (λ (d : ℕ × ℕ). d.1) h)
-
-pub size_at : (g : Graph) (r : List (List ℕ)) → size (contracted g r) ≡ size g
-unfolding contracted
-size_at g r = length-map g.ends (λ d. (place r d.0, place r d.1))
-
-between_from : (g : Graph) (u v e : ℕ) → ((first_end g e ≡ u) × (second_end g e ≡ v)) ⊎ ((first_end g e ≡ v) × (second_end g e ≡ u)) → has_ends g u v e ≡ true
-between_from g u v e h = tests (first_end g e) (second_end g e) u v h
-  where
-    tests : (a b u v : ℕ) → ((a ≡ u) × (b ≡ v)) ⊎ ((a ≡ v) × (b ≡ u)) → ((a == u && b == v) || (a == v && b == u)) ≡ true
-    tests a b u v h = grind (arith, nat_tests)
-
 -- an edge between two blocks of p gives one between their images
 edge_over : (g : Graph) (is : IsGraph g) (p q : List (List ℕ)) (h k : ℕ → ℕ) (pp : AreBlocks g.order p) (qp : AreBlocks g.order q) (iso : Isomorphism g p q h k) (i j : ℕ) → i ≢ j →
     some (size (contracted g p)) (has_ends (contracted g p) i j) ≡ true → some (size (contracted g q)) (has_ends (contracted g q) (move g is p q h k pp qp iso i) (move g is p q h k pp qp iso j)) ≡ true
 edge_over g is p q h k pp qp iso i j d t =
     let r = some_true (size (contracted g p)) (has_ends (contracted g p) i j) t in
-    let w : Within (size g) r.0 = let s = size_at g p in let z = r.1 in omega arith in
+    let w : Within (size g) r.0 = let s = contracted-size g p in let z = r.1 in omega arith in
     let b = has_ends-cases (contracted g p) i j r.0 r.2 in
-    let en = ends_at g p r.0 w in
+    let en = contracted-ends g p r.0 w in
     let wn = (is r.0 w).0 in let wf = (is r.0 w).1 in
     elim b [
       | inl e ↦ found r.0 w i j (sym en.0 ∙ e.0) (sym en.1 ∙ e.1) d
@@ -129,11 +109,11 @@ edge_over g is p q h k pp qp iso i j d t =
     found : (e : ℕ) → Within (size g) e → (i j : ℕ) → place p (first_end g e) ≡ i → place p (second_end g e) ≡ j → i ≢ j → some (size (contracted g q)) (has_ends (contracted g q) (m i) (m j)) ≡ true
     found e w i j a b d =
         let f = iso.there.edges e w (λ s. d (sym a ∙ s ∙ b)) in
-        let wf : Within (size (contracted g q)) f.0 = let s = size_at g q in let z = f.1 in omega arith in
-        let en = ends_at g q f.0 f.1 in
+        let wf : Within (size (contracted g q)) f.0 = let s = contracted-size g q in let z = f.1 in omega arith in
+        let en = contracted-ends g q f.0 f.1 in
         let mi : place q (h (first_end g e)) ≡ m i = sym (move_place g is p q h k pp qp iso (first_end g e) (is e w).0) ∙ ap m a in
         let mj : place q (h (second_end g e)) ≡ m j = sym (move_place g is p q h k pp qp iso (second_end g e) (is e w).1) ∙ ap m b in
-        true_some (size (contracted g q)) (has_ends (contracted g q) (m i) (m j)) f.0 wf (between_from (contracted g q) (m i) (m j) f.0 (elim f.2 [
+        true_some (size (contracted g q)) (has_ends (contracted g q) (m i) (m j)) f.0 wf (has_ends-from (contracted g q) (m i) (m j) f.0 (elim f.2 [
           | inl s ↦ inl (en.0 ∙ s.0 ∙ mi, en.1 ∙ s.1 ∙ mj)
           | inr s ↦ inr (en.0 ∙ s.0 ∙ mj, en.1 ∙ s.1 ∙ mi)
         ]))

@@ -1,6 +1,6 @@
 pub mod Positions
 pub mod Rising
-pub mod SameBlocks
+pub mod CommutingMerges
 pub mod Images
 pub mod CarriedTrees
 pub mod Exchange

@@ -15,7 +15,7 @@ use Rattle.uncross.specs.declared.leaf_maps.LeafMap.{LeafMap}
 use Rattle.uncross.specs.MapView.{image_name, kept_images, map_of, maps_of, merged_images}
 
 -- as many maps as lists of names
-length-maps_from : (o : List ℕ) (k : ℕ) (ns : List (List ℕ)) → length (maps_from o k ns) ≡ length ns
+pub length-maps_from : (o : List ℕ) (k : ℕ) (ns : List (List ℕ)) → length (maps_from o k ns) ≡ length ns
 length-maps_from o k [] = refl
 length-maps_from o k (names ∷ ns) = ap suc (length-maps_from o (k + 1) ns)
 

@@ -3,6 +3,8 @@
 use Rattle.uncross.specs.Walks.{AreRising}
 use Rattle.std.proofs.Common.{◌≡◌, ℕ, ◌+◌, Bool, true, false, ◌&&◌, not, List, [], ◌∷◌, ◌++◌, length, map, Option, Some, None, option_map, if◌then◌else◌, refl, sym, ap, ◌∙◌, arith, subst, subst₂}
 use Rattle.std.proofs.lemmas.List.{length-append, map-append}
+use Rattle.std.proofs.lemmas.Option.{none-some, same_Some}
+use Rattle.counting.proofs.RisingLists.{all_in_true}
 use Rattle.counting.specs.Lists.{is_apart, is_subset, mem}
 use Rattle.counting.specs.Sets.{everything, minus}
 use Rattle.graph_core.specs.Graph.{Graph, IsGraph}
@@ -19,21 +21,15 @@ use Rattle.tree_core.specs.declared.path.Side.TheVariants.{Kept, Merged}
 use Rattle.uncross.proofs.BigShores.{Stage, big_rest, cut_big, stage_merged}
 use Rattle.uncross.proofs.Parts.{Part, part-join, part-own, part-pairing, part-turn}
 use Rattle.uncross.proofs.Rising.{rising-derivation_at}
-use Rattle.uncross.proofs.Rotations.{append_join, row_apart, row_inside, row_kept, subset_says}
+use Rattle.uncross.proofs.Rotations.{append_join, row_apart, row_inside, row_kept}
 use Rattle.uncross.proofs.SwitchParts.{switch_derives, switch_part}
 use Rattle.graph_core.specs.Covered.{IsCovered}
 use Rattle.uncross.specs.Pairings.{IsPairing}
 
-none_some : {b : Shape} → None ≡ Some b → ⊥
-none_some h = grind arith
-
-some_same : {a b : Shape} → Some a ≡ Some b → a ≡ b
-some_same h = grind arith
-
 -- what of a mapped result is known
 mapped : (f : Shape → Shape) (o : Option Shape) (t : Shape) → option_map f o ≡ Some t → (r : Shape) × (o ≡ Some r) × (f r ≡ t)
-mapped f None t e = absurd (none_some e)
-mapped f (Some r) t e = (r, refl, some_same e)
+mapped f None t e = absurd (none-some _ e)
+mapped f (Some r) t e = (r, refl, same_Some _ _ e)
 
 -- a derivation's leaves as they are
 pub own_part : (g : Graph) (p : List (List ℕ)) (k : ℕ) (t : Shape) → Stage g p → IsDerivationAt g p t → Part g k (leaves_at g.order p t) (leaves_at g.order p t) (numbers k (leaf_count t)) (map names_of (leaves_at g.order p t))
@@ -68,18 +64,18 @@ module _ (g : Graph) (p : List (List ℕ)) (st : Stage g p) (x : List ℕ) (a b 
 -- Switch at its node
 switch_node : (g : Graph) (p : List (List ℕ)) (k : ℕ) (u v : List ℕ) (s t : Shape) → Stage g p → AreRising g.order s → IsDerivationAt g p s → IsDerivationAt g p t → BlocksAt g.order p [] u v s → switch_result_at g.order u v s ≡ Some t →
     Part g k (leaves_at g.order p s) (leaves_at g.order p t) (switch_order g.order u v k s) (switch_names g.order u v p s)
-switch_node g p k u v leaf t st f d dt blocks e = absurd (none_some e)
+switch_node g p k u v leaf t st f d dt blocks e = absurd (none-some _ e)
 switch_node g p k u v (cut x a b) t st f d dt blocks e = go (is_proper u x && is_proper v (complement_of g.order x)) refl e
   where
     go : (c : Bool) → (is_proper u x && is_proper v (complement_of g.order x)) ≡ c → (if c then Some (if mem v g.order then cut (union_list g.order (outer_rest g.order x v) u) (merged_if_in_v g.order x u b) (kept_if_in_v g.order x u v a) else cut (union_list g.order (inner_rest g.order x u) v) (kept_if_in_q g.order x u v a) (merged_if_in_q g.order x u v b)) else None) ≡ Some t → Part g k (leaves_at g.order p (cut x a b)) (leaves_at g.order p t) (switch_order g.order u v k (cut x a b)) (switch_names g.order u v p (cut x a b))
-    go false h e = absurd (none_some e)
-    go true h e = switch_part g p st x u v blocks.0.0 blocks.0.1 blocks.1.0 blocks.2.0 blocks.1.1 blocks.2.1 a b f d h k t dt (some_same e)
+    go false h e = absurd (none-some _ e)
+    go true h e = switch_part g p st x u v blocks.0.0 blocks.0.1 blocks.1.0 blocks.2.0 blocks.1.1 blocks.2.1 a b f d h k t dt (same_Some _ _ e)
 
 -- Switch down its path
 pub switch_along : (g : Graph) (u v : List ℕ) (path : List Side) (p : List (List ℕ)) (k : ℕ) (s t : Shape) → Stage g p → AreRising g.order s → IsDerivationAt g p s → IsDerivationAt g p t → BlocksAt g.order p path u v s → result_at (switch_result_at g.order u v) path s ≡ Some t →
     Part g k (leaves_at g.order p s) (leaves_at g.order p t) (order_at (switch_order g.order u v) path k s) (names_at g.order u v path p s)
 switch_along g u v [] p k s t st f d dt blocks e = switch_node g p k u v s t st f d dt blocks e
-switch_along g u v (side ∷ path) p k leaf t st f d dt blocks e = absurd (none_some e)
+switch_along g u v (side ∷ path) p k leaf t st f d dt blocks e = absurd (none-some _ e)
 switch_along g u v (Kept ∷ path) p k (cut x a b) t st f d dt blocks e =
     let m = mapped (λ c. cut x c b) (result_at (switch_result_at g.order u v) path a) t e in
     let dm = subst (IsDerivationAt g p) (sym m.2) dt in
@@ -147,12 +143,12 @@ rotate_turned g p k x y a b c st f d apart = whole
 
 rotate_node : (g : Graph) (p : List (List ℕ)) (k : ℕ) (side : Side) (s t : Shape) → Stage g p → AreRising g.order s → IsDerivationAt g p s → rotate_result_at side s ≡ Some t →
     Part g k (leaves_at g.order p s) (leaves_at g.order p t) (rotate_order side k s) (map names_of (leaves_at g.order p s))
-rotate_node g p k side leaf t st f d e = absurd (none_some e)
-rotate_node g p k Kept (cut x leaf c) t st f d e = absurd (none_some e)
+rotate_node g p k side leaf t st f d e = absurd (none-some _ e)
+rotate_node g p k Kept (cut x leaf c) t st f d e = absurd (none-some _ e)
 rotate_node g p k Kept (cut x (cut y a b) c) t st f d e =
-    subst (λ t. Part g k (leaves_at g.order p (cut x (cut y a b) c)) (leaves_at g.order p t) (numbers k (leaf_count (cut x (cut y a b) c))) (map names_of (leaves_at g.order p (cut x (cut y a b) c)))) (some_same e)
+    subst (λ t. Part g k (leaves_at g.order p (cut x (cut y a b) c)) (leaves_at g.order p t) (numbers k (leaf_count (cut x (cut y a b) c))) (map names_of (leaves_at g.order p (cut x (cut y a b) c)))) (same_Some _ _ e)
     (rotate_same g p k (cut x (cut y a b) c) (cut y a (cut x b c)) (numbers k (leaf_count (cut x (cut y a b) c))) st d (row_kept g p st x y a b c f d).1 refl)
-rotate_node g p k Merged (cut x a leaf) t st f d e = absurd (none_some e)
+rotate_node g p k Merged (cut x a leaf) t st f d e = absurd (none-some _ e)
 rotate_node g p k Merged (cut x a (cut y b c)) t st f d e = go (is_subset x y) refl e
   where
     kept_order : List ℕ
@@ -165,8 +161,8 @@ rotate_node g p k Merged (cut x a (cut y b c)) t st f d e = go (is_subset x y) r
         Part g k (leaves_at g.order p (cut x a (cut y b c))) (leaves_at g.order p t) (if is_subset x y then kept_order else turned_order) (map names_of (leaves_at g.order p (cut x a (cut y b c))))
     go true h e =
         let n : leaf_count a + (leaf_count b + leaf_count c) ≡ leaf_count a + leaf_count b + leaf_count c = omega arith in
-        subst (λ t. Part g k (leaves_at g.order p (cut x a (cut y b c))) (leaves_at g.order p t) (if is_subset x y then kept_order else turned_order) (map names_of (leaves_at g.order p (cut x a (cut y b c))))) (some_same e)
-        (rotate_same g p k (cut x a (cut y b c)) (cut y (cut x a b) c) (if is_subset x y then kept_order else turned_order) st d (row_inside g p st x y a b c (λ v w m. subset_says x (mem y) h v m) f d).1 (ap (numbers k) n ∙ sym (ap (λ i. if i then kept_order else turned_order) h)))
+        subst (λ t. Part g k (leaves_at g.order p (cut x a (cut y b c))) (leaves_at g.order p t) (if is_subset x y then kept_order else turned_order) (map names_of (leaves_at g.order p (cut x a (cut y b c))))) (same_Some _ _ e)
+        (rotate_same g p k (cut x a (cut y b c)) (cut y (cut x a b) c) (if is_subset x y then kept_order else turned_order) st d (row_inside g p st x y a b c (λ v w m. all_in_true x (mem y) h v m) f d).1 (ap (numbers k) n ∙ sym (ap (λ i. if i then kept_order else turned_order) h)))
     go false h e = apart (is_apart x y) refl e
       where
         off : (b : Bool) → (true && not b) ≡ true → b ≡ false
@@ -174,16 +170,16 @@ rotate_node g p k Merged (cut x a (cut y b c)) t st f d e = go (is_subset x y) r
 
         apart : (j : Bool) → is_apart x y ≡ j → (if j then Some (cut y b (cut x a c)) else None) ≡ Some t →
             Part g k (leaves_at g.order p (cut x a (cut y b c))) (leaves_at g.order p t) (if is_subset x y then kept_order else turned_order) (map names_of (leaves_at g.order p (cut x a (cut y b c))))
-        apart false i e = absurd (none_some e)
+        apart false i e = absurd (none-some _ e)
         apart true i e =
-            subst₂ (λ (t : Shape) (o : List ℕ). Part g k (leaves_at g.order p (cut x a (cut y b c))) (leaves_at g.order p t) o (map names_of (leaves_at g.order p (cut x a (cut y b c))))) (some_same e) (sym (ap (λ i. if i then kept_order else turned_order) h))
-            (rotate_turned g p k x y a b c st f d (λ v m. off (mem y v) (subset_says x (minus everything (mem y)) i v m)))
+            subst₂ (λ (t : Shape) (o : List ℕ). Part g k (leaves_at g.order p (cut x a (cut y b c))) (leaves_at g.order p t) o (map names_of (leaves_at g.order p (cut x a (cut y b c))))) (same_Some _ _ e) (sym (ap (λ i. if i then kept_order else turned_order) h))
+            (rotate_turned g p k x y a b c st f d (λ v m. off (mem y v) (all_in_true x (minus everything (mem y)) i v m)))
 
 -- Rotate down its path
 pub rotate_along : (g : Graph) (side : Side) (path : List Side) (p : List (List ℕ)) (k : ℕ) (s t : Shape) → Stage g p → AreRising g.order s → IsDerivationAt g p s → result_at (rotate_result_at side) path s ≡ Some t →
     Part g k (leaves_at g.order p s) (leaves_at g.order p t) (order_at (rotate_order side) path k s) (map names_of (leaves_at g.order p s))
 rotate_along g side [] p k s t st f d e = rotate_node g p k side s t st f d e
-rotate_along g side (step ∷ path) p k leaf t st f d e = absurd (none_some e)
+rotate_along g side (step ∷ path) p k leaf t st f d e = absurd (none-some _ e)
 rotate_along g side (Kept ∷ path) p k (cut x a b) t st f d e =
     let m = mapped (λ c. cut x c b) (result_at (rotate_result_at side) path a) t e in
     subst₂ (λ (r : Shape) (ns : List (List ℕ)). Part g k (leaves_at g.order p (cut x a b)) (leaves_at g.order p r) (order_at (rotate_order side) (Kept ∷ path) k (cut x a b)) ns) m.2 (sym (map-append names_of (leaves_at g.order (kept_at g.order p x) a) (leaves_at g.order (merged_at g.order p x) b)))
@@ -197,7 +193,7 @@ rotate_along g side (Merged ∷ path) p k (cut x a b) t st f d e =
 pub move_pairs : (g : Graph) (s t : Shape) (m : PlainMove) → Stage g (singles g.order) → AreRising g.order s → IsDerivationAt g (singles g.order) s → IsProper g.order (singles g.order) s m → move_result g.order s m ≡ Some t → IsDerivationAt g (singles g.order) t →
     IsPairing g (leaves g.order s) (leaves g.order t) (move_maps g.order s m)
 unfolding move_maps
-move_pairs g s t (rotate_at []) st f d proper e dt = absurd (none_some e)
+move_pairs g s t (rotate_at []) st f d proper e dt = absurd (none-some _ e)
 move_pairs g s t (rotate_at (side ∷ path)) st f d proper e dt =
     part-pairing g (leaves g.order s) (leaves g.order t) (move_order g.order (rotate_at (side ∷ path)) s) (map names_of (leaves g.order s)) (rotate_along g (last_step side path) (parent_path side path) (singles g.order) 0 s t st f d e)
 move_pairs g s t (switch_at path u v) st f d proper e dt =
@@ -205,9 +201,9 @@ move_pairs g s t (switch_at path u v) st f d proper e dt =
 
 -- a proper Switch keeps derivations where its new shore is canonical, nontrivial and tight
 pub switch_derives_law : (g : Graph) (p : List (List ℕ)) (s : Shape) (u v z : List ℕ) (a b : Shape) → IsGraph g → IsPartition g.order p → IsCovered (contracted g p) → IsDerivationAt g p s → BlocksAt g.order p [] u v s → switch_result_at g.order u v s ≡ Some (cut z a b) → IsCutAt g p z → IsDerivationAt g p (cut z a b)
-switch_derives_law g p leaf u v z a b is list cov d blocks e cz = absurd (none_some e)
+switch_derives_law g p leaf u v z a b is list cov d blocks e cz = absurd (none-some _ e)
 switch_derives_law g p (cut x c m) u v z a b is list cov d blocks e cz = go (is_proper u x && is_proper v (complement_of g.order x)) refl e
   where
     go : (t : Bool) → (is_proper u x && is_proper v (complement_of g.order x)) ≡ t → (if t then Some (if mem v g.order then cut (union_list g.order (outer_rest g.order x v) u) (merged_if_in_v g.order x u m) (kept_if_in_v g.order x u v c) else cut (union_list g.order (inner_rest g.order x u) v) (kept_if_in_q g.order x u v c) (merged_if_in_q g.order x u v m)) else None) ≡ Some (cut z a b) → IsDerivationAt g p (cut z a b)
-    go false h e = absurd (none_some e)
-    go true h e = switch_derives g p (record { graph = is; list = list; covered = cov }) x u v blocks.0.0 blocks.0.1 blocks.1.0 blocks.2.0 blocks.1.1 blocks.2.1 c m (rising-derivation_at g p (cut x c m) d) d h z a b cz (some_same e)
+    go false h e = absurd (none-some _ e)
+    go true h e = switch_derives g p (record { graph = is; list = list; covered = cov }) x u v blocks.0.0 blocks.0.1 blocks.1.0 blocks.2.0 blocks.1.1 blocks.2.1 c m (rising-derivation_at g p (cut x c m) d) d h z a b cz (same_Some _ _ e)

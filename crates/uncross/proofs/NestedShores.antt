@@ -4,7 +4,7 @@ use Rattle.uncross.specs.Walks.{AreRising, Walk}
 use Rattle.std.proofs.Common.{Bool, List, None, Some, [], ap, arith, cond, false, if◌then◌else◌, inl, inr, length, map, not, refl, subst, suc, sym, true, zero, ℕ, ◌&&◌, ◌*◌, ◌++◌, ◌+◌, ◌∙◌, ◌∷◌, ◌≡◌, ◌≤◌, ◌⊎◌}
 use Rattle.std.proofs.lemmas.Bool.{and_parts, both_ways, cases_Bool}
 use Rattle.counting.proofs.Odd.{odd-add}
-use Rattle.counting.proofs.RisingLists.{same_rising_list}
+use Rattle.counting.proofs.RisingLists.{same_rising_list, true_all_in, all_in_true}
 use Rattle.counting.proofs.Tests.{some_none, some_true}
 use Rattle.counting.specs.Counts.{Within, is_odd}
 use Rattle.counting.specs.Lists.{is_apart, is_subset, mem}
@@ -22,7 +22,6 @@ use Rattle.tree_core.specs.Shapes.{Shape, cut, cut_count, leaf}
 use Rattle.tree_core.specs.declared.path.Side.TheVariants.{Kept, Merged}
 use Rattle.uncross.proofs.BigShores.{Big, Stage, big_cut, big_rest, big_some, closed_y, cut_big, gap, gap_is, rest_after, rest_rest, same_number, stage_merged}
 use Rattle.uncross.proofs.Rising.{bounds}
-use Rattle.uncross.proofs.Rotations.{says_subset, subset_says}
 use Rattle.uncross.proofs.Scripts.{length_below, length_join, walk_end, walk_join, walk_kept, walk_merged, walk_rotate}
 
 abbrev pub Exposed : Graph → List (List ℕ) → Shape → List ℕ → Type 0
@@ -74,16 +73,16 @@ module _ (g : Graph) (p : List (List ℕ)) (st : Stage g p) (x : List ℕ) (a b 
 
   -- Rotate below `merged` has a result
   pub raised : (c d : Shape) → Below g.order (mem x) (mem y) ⊎ Apart g.order (mem x) (mem y) → (c' : Shape) × (d' : Shape) × (rotate_result_at Merged (cut x a (cut y c d)) ≡ Some (cut y c' d'))
-  raised c d (inl h) = (cut x a c, d, ap (λ k. if k then Some (cut y (cut x a c) d) else (if is_apart x y then Some (cut y c (cut x a d)) else None)) (says_subset x (mem y) (λ v m. h v ((bounds bx.shore) v m) m)))
+  raised c d (inl h) = (cut x a c, d, ap (λ k. if k then Some (cut y (cut x a c) d) else (if is_apart x y then Some (cut y c (cut x a d)) else None)) (true_all_in x (mem y) (λ v m. h v ((bounds bx.shore) v m) m)))
   raised c d (inr h) = (
     c,
     cut x a d,
     ap (λ k. if k then Some (cut y (cut x a c) d) else (if is_apart x y then Some (cut y c (cut x a d)) else None)) none_in
-        ∙ ap (λ k. if k then Some (cut y c (cut x a d)) else None) (says_subset x (minus everything (mem y)) (λ v m. ap (λ k. true && not k) (h v ((bounds bx.shore) v m) m))),
+        ∙ ap (λ k. if k then Some (cut y c (cut x a d)) else None) (true_all_in x (minus everything (mem y)) (λ v m. ap (λ k. true && not k) (h v ((bounds bx.shore) v m) m))),
   )
     where
       none_in : is_subset x y ≡ false
-      none_in = let s = big_some g p st x bx in elim (cases_Bool (is_subset x y)) [ inr z ↦ z | inl z ↦ absurd (both_ways (mem y s.0) (h s.0 s.1 s.2) (subset_says x (mem y) z s.0 s.2)) ]
+      none_in = let s = big_some g p st x bx in elim (cases_Bool (is_subset x y)) [ inr z ↦ z | inl z ↦ absurd (both_ways (mem y s.0) (h s.0 s.1 s.2) (all_in_true x (mem y) z s.0 s.2)) ]
 
   pub in_merged : Exposes g b → Big g (merged_at g.order p x) y → Below g.order (mem x) (mem y) ⊎ Apart g.order (mem x) (mem y) → Exposed g p (cut x a b) y
   in_merged ih by how =

@@ -3,6 +3,7 @@
 use Rattle.std.proofs.Common.{◌≡◌, ℕ, suc, zero, ◌+◌, ◌-◌, ◌≤◌, ◌<◌, inl, ◌==◌, List, [], ◌∷◌, ◌++◌, length, map, refl, sym, ap, ◌∙◌, arith, eq-eqb, ne_eqb, subst, subst₂, All}
 use Rattle.std.specs.Prelude.{slice_index, slice_index_or}
 use Rattle.std.proofs.lemmas.List.{get_or_append_left, get_or-append-add, get_or-map, length-append, length-map}
+use Rattle.counting.proofs.Lists.{times_mem}
 use Rattle.counting.proofs.Totals.{total_at}
 use Rattle.counting.specs.Counts.{bit, Within}
 use Rattle.counting.specs.Lists.{last_of}
@@ -10,8 +11,9 @@ use Rattle.graph_core.proofs.BlockSets.{rep_place}
 use Rattle.graph_core.specs.Graph.{Graph, IsGraph}
 use Rattle.graph_core.specs.Partitions.{AreBlocks, IsPartition, block, names_of}
 use Rattle.tree_core.specs.LeafMaps.{PlainLeafMap, leaf_at, map_at, maps_from, numbers, position}
-use Rattle.uncross.proofs.Alignments.{Aligned, IsOrder, aligned-at, aligned-join, aligned-length, aligned-map, numbers-split, order-few, order-join, order-one, order-turn, position-once, times-mem}
+use Rattle.uncross.proofs.Alignments.{Aligned, IsOrder, aligned-at, aligned-join, aligned-length, aligned-map, numbers-split, order-few, order-join, order-one, order-turn, position-once}
 use Rattle.uncross.proofs.Images.{move_is}
+use Rattle.uncross.proofs.MapLists.{length-maps_from}
 use Rattle.uncross.proofs.Positions.{position-item}
 use Rattle.uncross.proofs.SameLeaves.{iso_same_leaf}
 use Rattle.uncross.specs.Isomorphisms.{Isomorphism}
@@ -94,11 +96,6 @@ part-own g is k (p ∷ ps) all =
     subst (λ (o : List ℕ). Part g k (p ∷ ps) (p ∷ ps) o (map names_of (p ∷ ps))) (sym (numbers-split k 1 (length ps)) ∙ ap (numbers k) e)
     (part-join g k (p ∷ []) (p ∷ []) ps ps (numbers k 1) (numbers (k + 1) (length ps)) (names_of p ∷ []) (map names_of ps) own rest)
 
--- the maps that come of an order and names
-maps-length : (o : List ℕ) (k : ℕ) (ns : List (List ℕ)) → length (maps_from o k ns) ≡ length ns
-maps-length o k [] = refl
-maps-length o k (names ∷ ns) = ap suc (maps-length o (k + 1) ns)
-
 maps-at : (o : List ℕ) (k : ℕ) (ns : List (List ℕ)) (j : ℕ) (d : PlainLeafMap) → j < length ns → slice_index_or (maps_from o k ns) j d ≡ record { to = position o (k + j + 1); images = slice_index_or ns j [] }
 maps-at o k [] j d l = absurd (omega arith)
 maps-at o k (names ∷ ns) zero d l = let e : k + 1 ≡ k + zero + 1 = omega arith in ap (λ i. record { to = position o i; images = names }) e
@@ -119,7 +116,7 @@ module _ (g : Graph) (ps qs : List (List (List ℕ))) (o : List ℕ) (ns : List 
       maps-at o 0 ns (i - 1) (record { to = 0; images = [] }) (omega arith) ∙ ap (λ j. record { to = position o j; images = slice_index_or ns (i - 1) [] }) f
 
   there : (i : ℕ) → Within (length ps) i → Within (length o) (position o i) × (slice_index o (position o i - 1) ≡ i)
-  there i w = position-item o i (times-mem o i (let t = part.order.once i (omega arith) (omega arith) in omega arith))
+  there i w = position-item o i (times_mem o i (let t = part.order.once i (omega arith) (omega arith) in omega arith))
 
   back : (j : ℕ) → Within (length qs) j → Within (length ps) (slice_index o (j - 1)) × (position o (slice_index o (j - 1)) ≡ j)
   back j w =
@@ -131,7 +128,7 @@ module _ (g : Graph) (ps qs : List (List (List ℕ))) (o : List ℕ) (ns : List 
   pub part-pairing : IsPairing g ps qs (maps_from o 0 ns)
   unfolding maps
   part-pairing = record {
-    one_each = maps-length o 0 ns ∙ part.each;
+    one_each = length-maps_from o 0 ns ∙ part.each;
     within = λ i w. let t = (there i w).0 in let l = long in subst (λ (m : PlainLeafMap). Within (length qs) m.to) (sym (map-is i w)) (omega arith, omega arith);
     once = λ j w.
         let b = back j w in let i = slice_index o (j - 1) in

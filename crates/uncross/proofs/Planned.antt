@@ -20,9 +20,8 @@ use Rattle.uncross.proofs.NestedShores.{Cross, raised, stays_big}
 use Rattle.uncross.proofs.BigShores.{rest_rest}
 use Rattle.uncross.proofs.Scripts.{length_below, length_join, walk_end, walk_join, walk_kept, walk_merged, walk_rotate}
 use Rattle.graph_core.proofs.MergedShores.{Apart, Below}
-use Rattle.counting.proofs.RisingLists.{false_all_in}
+use Rattle.counting.proofs.RisingLists.{false_all_in, all_in_true}
 use Rattle.uncross.proofs.Rising.{bounds}
-use Rattle.uncross.proofs.Rotations.{subset_says}
 use Rattle.uncross.specs.Plans.{CutIf, IsExposed, IsPlan, PlainPlan, crossing, first_shore, here, if_big, in_kept, in_merged, inner_of, outer_of, outer_shore, partner, plan_result, second_shore}
 use Rattle.uncross.specs.Turning.{PlainTurned, over_inner}
 use Rattle.uncross.specs.Walks.{AreRising}
@@ -41,20 +40,20 @@ module _ (g : Graph) (p : List (List ℕ)) (st : Stage g p) (x y : List ℕ) (bx
       let rx = big_rest g p st x bx in
       let o = false_all_in x (mem y) k in let wo = bounds bx.shore o.0 o.1 in
       big_cut g (kept_at g.order p x) (stage_merged g p st (complement_of g.order x) rx) y
-      (stays_big g p st (complement_of g.order x) y rx by (λ w ww m. out (mem x w) (mem y w) (subset_says y (mem x) h w) (negated (mem x w) (sym (mem-complement_of g.order x w ww) ∙ m))) (o.0, wo, mem-complement_of g.order x o.0 wo ∙ ap not o.1, o.2)) ny
+      (stays_big g p st (complement_of g.order x) y rx by (λ w ww m. out (mem x w) (mem y w) (all_in_true y (mem x) h w) (negated (mem x w) (sym (mem-complement_of g.order x w ww) ∙ m))) (o.0, wo, mem-complement_of g.order x o.0 wo ∙ ap not o.1, o.2)) ny
     where
       out : (a b : Bool) → (b ≡ true → a ≡ true) → a ≡ false → b ≡ false
       out a b h k = grind arith
 
   apart_says : is_apart x y ≡ true → Apart g.order (mem x) (mem y)
-  apart_says h w ww m = negated (mem y w) (subset_says x (minus everything (mem y)) h w m)
+  apart_says h w ww m = negated (mem y w) (all_in_true x (minus everything (mem y)) h w m)
 
   -- x inside y, or the two apart: y is a cut in `merged`
   pub cut_in_merged : is_subset y x ≡ false → (is_subset x y ≡ true) ⊎ (is_apart x y ≡ true) → IsCutAt g (merged_at g.order p x) y
   cut_in_merged h (inl k) =
       let ry = big_rest g p st y by in let sx = stage_merged g p st x bx in
       let o = false_all_in y (mem x) h in let wo = bounds by.shore o.0 o.1 in
-      let big = stays_big g p st x (complement_of g.order y) bx ry (λ w ww m. mem-complement_of g.order y w ww ∙ ap not (subset_says x (mem y) k w m)) (o.0, wo, o.2, mem-complement_of g.order y o.0 wo ∙ ap not o.1) in
+      let big = stays_big g p st x (complement_of g.order y) bx ry (λ w ww m. mem-complement_of g.order y w ww ∙ ap not (all_in_true x (mem y) k w m)) (o.0, wo, o.2, mem-complement_of g.order y o.0 wo ∙ ap not o.1) in
       big_cut g (merged p x) sx y (subst (Big g (merged p x)) (rest_rest g.order y by.shore) (big_rest g (merged p x) sx (complement_of g.order y) big)) ny
   cut_in_merged h (inr k) = big_cut g (merged p x) (stage_merged g p st x bx) y (stays_big g p st x y bx by (apart_says k) (g.order, greatest, nx, ny)) ny
 
@@ -213,7 +212,7 @@ module _ (g : Graph) (p : List (List ℕ)) (st : Stage g p) (x y : List ℕ) (bx
     plan_done in_merged is ta tb None (Some ms) ea eb = at_merged (how is.1) ta tb ms eb ea
       where
         how : (is_subset x y ≡ true) ⊎ (is_apart x y ≡ true) → Below g.order (mem x) (mem y) ⊎ Apart g.order (mem x) (mem y)
-        how (inl k) = inl (λ w ww m. subset_says x (mem y) k w m)
+        how (inl k) = inl (λ w ww m. all_in_true x (mem y) k w m)
         how (inr k) = inr (apart_says g p st x y bx by nx ny k)
     plan_done in_merged is ta tb None None ea eb = absurd eb
     plan_done in_merged is ta tb (Some ms) mo ea eb = absurd ea

@@ -1,9 +1,11 @@
 -- Rotate keeps derivations and their leaves, in each of its three rows and along a path.
 use Rattle.uncross.specs.Walks.{AreRising}
-use Rattle.std.proofs.Common.{Bool, List, None, Option, Some, [], ap, ap₂, arith, eq-eqb, eqb-true, false, if◌then◌else◌, inl, inr, not, option_map, refl, subst, sym, true, ℕ, ◌&&◌, ◌++◌, ◌==◌, ◌||◌, ◌∙◌, ◌∷◌, ◌≡◌}
-use Rattle.std.proofs.lemmas.Bool.{and_parts, both_ways, cases_Bool, or_cases}
+use Rattle.std.proofs.Common.{Bool, List, None, Option, Some, [], ap, ap₂, arith, false, if◌then◌else◌, inl, inr, not, option_map, refl, subst, sym, true, ℕ, ◌&&◌, ◌++◌, ◌∙◌, ◌∷◌, ◌≡◌}
+use Rattle.std.proofs.lemmas.Bool.{both_ways, cases_Bool}
+use Rattle.std.proofs.lemmas.Option.{none-some, same_Some}
+use Rattle.counting.proofs.RisingLists.{all_in_true}
 use Rattle.counting.specs.Counts.{Within}
-use Rattle.counting.specs.Lists.{all_in, is_apart, is_subset, mem}
+use Rattle.counting.specs.Lists.{is_apart, is_subset, mem}
 use Rattle.counting.specs.Sets.{Set, everything, minus}
 use Rattle.graph_core.proofs.Complements.{mem-complement_of}
 use Rattle.graph_core.proofs.MergedShores.{Apart, Below, inside_or_apart}
@@ -116,39 +118,18 @@ module _ (g : Graph) (p : List (List ℕ)) (stage : Stage g p) where
         ap₂ ◌++◌ (ap (λ q. leaves_at g.order q b) (sym s.around_second)) (ap₂ ◌++◌ (ap (λ q. leaves_at g.order q a) s.around_first) (ap (λ q. leaves_at g.order q c) (sym s.same))),
       )
 
--- tests of subsets
-pub subset_says : (x : List ℕ) (s : Set) → all_in x s ≡ true → (v : ℕ) → mem x v ≡ true → s v ≡ true
-subset_says [] s h v m = absurd (both_ways false refl m)
-subset_says (w ∷ x) s h v m = let q = and_parts (s w) (all_in x s) h in elim (or_cases (w == v) (mem x v) m) [
-  | inl e ↦ ap s (sym (eqb-true w v e)) ∙ q.0
-  | inr e ↦ subset_says x s q.1 v e
-]
-
-pub says_subset : (x : List ℕ) (s : Set) → ((v : ℕ) → mem x v ≡ true → s v ≡ true) → all_in x s ≡ true
-says_subset [] s h = refl
-says_subset (w ∷ x) s h = ap₂ ◌&&◌ (h w (ap (λ b. b || mem x w) (eq-eqb w w refl))) (says_subset x s (λ v m. h v (later (w == v) (mem x v) m)))
-  where
-    later : (a b : Bool) → b ≡ true → (a || b) ≡ true
-    later a b h = grind arith
-
-some_same : {a b : Shape} → Some a ≡ Some b → a ≡ b
-some_same h = grind arith
-
-none_some : {b : Shape} → None ≡ Some b → ⊥
-none_some h = grind arith
-
 -- what a move at a node keeps
 abbrev pub Keeps : Graph → (Shape → Option Shape) → Type 0
 Keeps g f = (p : List (List ℕ)) (t r : Shape) → Stage g p → AreRising g.order t → IsDerivationAt g p t → f t ≡ Some r → IsDerivationAt g p r × AreRising g.order r × (cut_count r ≡ cut_count t)
 
 rotate_kept_keeps : (g : Graph) (p : List (List ℕ)) (x : List ℕ) (a c r : Shape) → Stage g p → AreRising g.order (cut x a c) → IsDerivationAt g p (cut x a c) → rotate_result_kept x a c ≡ Some r → IsDerivationAt g p r × AreRising g.order r × (cut_count r ≡ cut_count (cut x a c))
-rotate_kept_keeps g p x leaf c r st f d e = absurd (none_some e)
+rotate_kept_keeps g p x leaf c r st f d e = absurd (none-some _ e)
 rotate_kept_keeps g p x (cut y a b) c r st f d e =
-    subst (λ t. IsDerivationAt g p t × AreRising g.order t × (cut_count t ≡ cut_count (cut x (cut y a b) c))) (some_same e)
+    subst (λ t. IsDerivationAt g p t × AreRising g.order t × (cut_count t ≡ cut_count (cut x (cut y a b) c))) (same_Some _ _ e)
     ((row_kept g p st x y a b c f d).0, (f.1.0, f.1.1, (f.0, f.1.2, f.2)), omega arith)
 
 rotate_merged_keeps : (g : Graph) (p : List (List ℕ)) (x : List ℕ) (a c r : Shape) → Stage g p → AreRising g.order (cut x a c) → IsDerivationAt g p (cut x a c) → rotate_result_merged x a c ≡ Some r → IsDerivationAt g p r × AreRising g.order r × (cut_count r ≡ cut_count (cut x a c))
-rotate_merged_keeps g p x a leaf r st f d e = absurd (none_some e)
+rotate_merged_keeps g p x a leaf r st f d e = absurd (none-some _ e)
 rotate_merged_keeps g p x a (cut y b c) r st f d e = go (is_subset x y) refl (is_apart x y) refl e
   where
     negated : (b : Bool) → (true && not b) ≡ true → b ≡ false
@@ -157,23 +138,23 @@ rotate_merged_keeps g p x a (cut y b c) r st f d e = go (is_subset x y) refl (is
     go : (s : Bool) → is_subset x y ≡ s → (t : Bool) → is_apart x y ≡ t → (if s then Some (cut y (cut x a b) c) else (if t then Some (cut y b (cut x a c)) else None)) ≡ Some r →
         IsDerivationAt g p r × AreRising g.order r × (cut_count r ≡ cut_count (cut x a (cut y b c)))
     go true h t k e =
-        subst (λ t. IsDerivationAt g p t × AreRising g.order t × (cut_count t ≡ cut_count (cut x a (cut y b c)))) (some_same e)
-        ((row_inside g p st x y a b c (λ v w m. subset_says x (mem y) h v m) f d).0, (f.2.0, (f.0, f.1, f.2.1), f.2.2), omega arith)
+        subst (λ t. IsDerivationAt g p t × AreRising g.order t × (cut_count t ≡ cut_count (cut x a (cut y b c)))) (same_Some _ _ e)
+        ((row_inside g p st x y a b c (λ v w m. all_in_true x (mem y) h v m) f d).0, (f.2.0, (f.0, f.1, f.2.1), f.2.2), omega arith)
     go false h true k e =
-        subst (λ t. IsDerivationAt g p t × AreRising g.order t × (cut_count t ≡ cut_count (cut x a (cut y b c)))) (some_same e)
-        ((row_apart g p st x y a b c (λ v w m. negated (mem y v) (subset_says x (minus everything (mem y)) k v m)) f d).0, (f.2.0, f.2.1, (f.0, f.1, f.2.2)), omega arith)
-    go false h false k e = absurd (none_some e)
+        subst (λ t. IsDerivationAt g p t × AreRising g.order t × (cut_count t ≡ cut_count (cut x a (cut y b c)))) (same_Some _ _ e)
+        ((row_apart g p st x y a b c (λ v w m. negated (mem y v) (all_in_true x (minus everything (mem y)) k v m)) f d).0, (f.2.0, f.2.1, (f.0, f.1, f.2.2)), omega arith)
+    go false h false k e = absurd (none-some _ e)
 
 -- Rotate at a node keeps derivations
 pub rotate_keeps : (g : Graph) (side : Side) → Keeps g (rotate_result_at side)
-rotate_keeps g side p leaf r st f d e = absurd (none_some e)
+rotate_keeps g side p leaf r st f d e = absurd (none-some _ e)
 rotate_keeps g Kept p (cut x a b) r st f d e = rotate_kept_keeps g p x a b r st f d e
 rotate_keeps g Merged p (cut x a b) r st f d e = rotate_merged_keeps g p x a b r st f d e
 
 -- and along a path
 pub path_keeps : (g : Graph) (f : Shape → Option Shape) → Keeps g f → (path : List Side) → Keeps g (result_at f path)
 path_keeps g f k [] p t r st fits d e = k p t r st fits d e
-path_keeps g f k (side ∷ path) p leaf r st fits d e = absurd (none_some e)
+path_keeps g f k (side ∷ path) p leaf r st fits d e = absurd (none-some _ e)
 path_keeps g f k (Kept ∷ path) p (cut x a b) r st fits d e = go (result_at f path a) refl e (path_keeps g f k path (kept_at g.order p x) a)
   where
     big : Big g p x
@@ -182,10 +163,10 @@ path_keeps g f k (Kept ∷ path) p (cut x a b) r st fits d e = go (result_at f p
     go : (o : Option Shape) → result_at f path a ≡ o → option_map (λ c. cut x c b) o ≡ Some r →
         ((r : Shape) → Stage g (kept_at g.order p x) → AreRising g.order a → IsDerivationAt g (kept_at g.order p x) a → result_at f path a ≡ Some r → IsDerivationAt g (kept_at g.order p x) r × AreRising g.order r × (cut_count r ≡ cut_count a)) →
         IsDerivationAt g p r × AreRising g.order r × (cut_count r ≡ cut_count (cut x a b))
-    go None h e ih = absurd (none_some e)
+    go None h e ih = absurd (none-some _ e)
     go (Some c) h e ih =
         let q = ih c (stage_merged g p st (complement_of g.order x) (big_rest g p st x big)) fits.1 d.1 h in
-        subst (λ t. IsDerivationAt g p t × AreRising g.order t × (cut_count t ≡ cut_count (cut x a b))) (some_same e) ((d.0, q.0, d.2), (fits.0, q.1, fits.2), omega (arith, q.2))
+        subst (λ t. IsDerivationAt g p t × AreRising g.order t × (cut_count t ≡ cut_count (cut x a b))) (same_Some _ _ e) ((d.0, q.0, d.2), (fits.0, q.1, fits.2), omega (arith, q.2))
 path_keeps g f k (Merged ∷ path) p (cut x a b) r st fits d e = go (result_at f path b) refl e (path_keeps g f k path (merged_at g.order p x) b)
   where
     big : Big g p x
@@ -194,7 +175,7 @@ path_keeps g f k (Merged ∷ path) p (cut x a b) r st fits d e = go (result_at f
     go : (o : Option Shape) → result_at f path b ≡ o → option_map (λ c. cut x a c) o ≡ Some r →
         ((r : Shape) → Stage g (merged_at g.order p x) → AreRising g.order b → IsDerivationAt g (merged_at g.order p x) b → result_at f path b ≡ Some r → IsDerivationAt g (merged_at g.order p x) r × AreRising g.order r × (cut_count r ≡ cut_count b)) →
         IsDerivationAt g p r × AreRising g.order r × (cut_count r ≡ cut_count (cut x a b))
-    go None h e ih = absurd (none_some e)
+    go None h e ih = absurd (none-some _ e)
     go (Some c) h e ih =
         let q = ih c (stage_merged g p st x big) fits.2 d.2 h in
-        subst (λ t. IsDerivationAt g p t × AreRising g.order t × (cut_count t ≡ cut_count (cut x a b))) (some_same e) ((d.0, d.1, q.0), (fits.0, fits.1, q.1), omega (arith, q.2))
+        subst (λ t. IsDerivationAt g p t × AreRising g.order t × (cut_count t ≡ cut_count (cut x a b))) (same_Some _ _ e) ((d.0, d.1, q.0), (fits.0, fits.1, q.1), omega (arith, q.2))

@@ -10,14 +10,14 @@ use Rattle.counting.proofs.Totals.{some_term, total_at}
 use Rattle.counting.specs.Counts.{Within, bit}
 use Rattle.counting.specs.Lists.{last_of, mem}
 use Rattle.counting.specs.Tests.{some}
-use Rattle.graph_core.proofs.Blocks.{place_in, place_is}
+use Rattle.graph_core.proofs.Blocks.{contracted-ends, contracted-size, place_in, place_is}
 use Rattle.graph_core.proofs.Merging.{mem_last}
 use Rattle.graph_core.proofs.Walks.{has_ends-cases}
 use Rattle.graph_core.specs.Graph.{Graph, IsGraph, first_end, has_ends, second_end, size}
 use Rattle.graph_core.specs.Partitions.{AreBlocks, block, contracted, place}
 use Rattle.graph_core.specs.Quotients.{blocks_adjacent}
 use Rattle.tree_core.specs.LeafMaps.{name, position}
-use Rattle.uncross.proofs.Images.{back_in, back_move, ends_at, image_edges, move_back, move_in, moved, moved_back, size_at}
+use Rattle.uncross.proofs.Images.{back_in, back_move, image_edges, move_back, move_in, moved, moved_back}
 use Rattle.uncross.proofs.Positions.{position-item}
 use Rattle.uncross.specs.Isomorphisms.{EndsAt, Isomorphism}
 use Rattle.uncross.specs.SameLeaf.{IsSameLeaf, from_name, image, to_name}
@@ -54,8 +54,8 @@ module _ (g : Graph) (is : IsGraph g) (p q : List (List ℕ)) (h k : ℕ → ℕ
         | inl e ↦ rw (differ i j wi wj true (eq-eqb i j e), eq-eqb i j e) refl
         | inr d ↦
             ap₂ (λ a c. not a && c) (sym (differ i j wi wj (i == j) refl))
-            (ap (λ n. some n (has_ends (contracted g p) i j)) (sym (size_at g p)) ∙ image_edges g is p q h k pp qp iso i j wi wj d
-            ∙ ap (λ n. some n (has_ends (contracted g q) (moved g is p q h k pp qp iso i) (moved g is p q h k pp qp iso j))) (size_at g q)
+            (ap (λ n. some n (has_ends (contracted g p) i j)) (sym (contracted-size g p)) ∙ image_edges g is p q h k pp qp iso i j wi wj d
+            ∙ ap (λ n. some n (has_ends (contracted g q) (moved g is p q h k pp qp iso i) (moved g is p q h k pp qp iso j))) (contracted-size g q)
             ∙ ap₂ (λ x y. some (size g) (has_ends (contracted g q) x y)) (sym (im i wi)) (sym (im j wj)))
       ]
 
@@ -111,7 +111,7 @@ module _ (g : Graph) (is : IsGraph g) (p q : List (List ℕ)) (pp : AreBlocks g.
       subst (Within g.order) n.1 (qp.within (image q names i) (last_of (block q (image q names i))) n.0 (mem_last (block q (image q names i)) full.0 full.2))
 
   edge_from : (i j : ℕ) → Within (length p) i → Within (length p) j → i ≢ j → (e : ℕ) → Within (size g) e → ((place p (first_end g e) ≡ i) × (place p (second_end g e) ≡ j)) → blocks_adjacent g p i j ≡ true
-  edge_from i j wi wj d e w t = and_from (not (i == j)) (some (size g) (has_ends (contracted g p) i j)) (ap not (ne_eqb i j d)) (true_some (size g) (has_ends (contracted g p) i j) e w (first (first_end (contracted g p) e) (second_end (contracted g p) e) i j ((ends_at g p e w).0 ∙ t.0) ((ends_at g p e w).1 ∙ t.1)))
+  edge_from i j wi wj d e w t = and_from (not (i == j)) (some (size g) (has_ends (contracted g p) i j)) (ap not (ne_eqb i j d)) (true_some (size g) (has_ends (contracted g p) i j) e w (first (first_end (contracted g p) e) (second_end (contracted g p) e) i j ((contracted-ends g p e w).0 ∙ t.0) ((contracted-ends g p e w).1 ∙ t.1)))
     where
       first : (a b c d : ℕ) → a ≡ c → b ≡ d → ((a == c && b == d) || (a == d && b == c)) ≡ true
       first a b c d s t = rw (eq-eqb a c s, eq-eqb b d t) refl
@@ -119,7 +119,7 @@ module _ (g : Graph) (is : IsGraph g) (p q : List (List ℕ)) (pp : AreBlocks g.
   edge_to : (r : List (List ℕ)) (i j : ℕ) → blocks_adjacent g r i j ≡ true → (f : ℕ) × Within (size g) f × EndsAt g r f i j
   edge_to r i j h =
       let s = some_true (size g) (has_ends (contracted g r) i j) (and_parts (not (i == j)) (some (size g) (has_ends (contracted g r) i j)) h).1 in
-      let e = ends_at g r s.0 s.1 in
+      let e = contracted-ends g r s.0 s.1 in
       (s.0, s.1, elim (has_ends-cases (contracted g r) i j s.0 s.2) [ inl k ↦ inl (sym e.0 ∙ k.0, sym e.1 ∙ k.1) | inr k ↦ inr (sym e.0 ∙ k.0, sym e.1 ∙ k.1) ])
 
   pub same_leaf_iso : Isomorphism g p q (to_name p names) (from_name p q names)
@@ -144,7 +144,7 @@ module _ (g : Graph) (is : IsGraph g) (p q : List (List ℕ)) (pp : AreBlocks g.
           let ne : src (first_end g e) ≢ src (second_end g e) = λ s. d (sym a.1 ∙ ap (image q names) s ∙ c.1) in
           let adj : blocks_adjacent g q (place q (first_end g e)) (place q (second_end g e)) ≡ true =
           and_from (not (place q (first_end g e) == place q (second_end g e))) (some (size g) (has_ends (contracted g q) (place q (first_end g e)) (place q (second_end g e)))) (ap not (ne_eqb _ _ d))
-          (true_some (size g) (has_ends (contracted g q) (place q (first_end g e)) (place q (second_end g e))) e w (first (first_end (contracted g q) e) (second_end (contracted g q) e) (place q (first_end g e)) (place q (second_end g e)) (ends_at g q e w).0 (ends_at g q e w).1)) in
+          (true_some (size g) (has_ends (contracted g q) (place q (first_end g e)) (place q (second_end g e))) e w (first (first_end (contracted g q) e) (second_end (contracted g q) e) (place q (first_end g e)) (place q (second_end g e)) (contracted-ends g q e w).0 (contracted-ends g q e w).1)) in
           let f = edge_to p (src (first_end g e)) (src (second_end g e)) (same.adjacent (src (first_end g e)) (src (second_end g e)) a.0 c.0 ∙ ap₂ (blocks_adjacent g q) a.1 c.1 ∙ adj) in
           subst₂ (λ x y. (f : ℕ) × Within (size g) f × EndsAt g p f x y) (sym (name_place g.order p pp (src (first_end g e)) a.0)) (sym (name_place g.order p pp (src (second_end g e)) c.0)) f;
     };

@@ -1,6 +1,7 @@
 -- Walks: scripts of proper moves through derivations at a partition, one after the other, and below a side of a cut.
 use Rattle.uncross.specs.Walks.{AreRising, Walk}
-use Rattle.std.proofs.Common.{List, None, Some, [], ap, arith, length, map, option_map, refl, subst, sym, ℕ, ◌++◌, ◌+◌, ◌∙◌, ◌∷◌, ◌≡◌}
+use Rattle.std.proofs.Common.{List, Some, [], ap, arith, length, map, option_map, refl, subst, sym, ℕ, ◌++◌, ◌+◌, ◌∙◌, ◌∷◌, ◌≡◌}
+use Rattle.std.proofs.lemmas.Option.{none-some}
 use Rattle.graph_core.specs.Graph.{Graph}
 use Rattle.tree_core.specs.Derivations.{IsDerivationAt, kept_at, merged_at}
 use Rattle.tree_core.specs.Moves.{below, IsProper, PlainMove, move_result, rotate_at, rotate_result_at, switch_at}
@@ -18,16 +19,13 @@ pub walk_join : (g : Graph) (p : List (List ℕ)) (s : Shape) (ms ns : List Plai
 walk_join g p s [] ns t r w v = subst (λ z. Walk g p z ns r) (sym w) v
 walk_join g p s (m ∷ ms) ns t r w v = (w.0, w.1, w.2, w.3, w.4, w.5, walk_join g p w.0 ms ns t r w.6 v)
 
-none_some : {b : Shape} → None ≡ Some b → ⊥
-none_some h = grind arith
-
 below_kept : (n : ℕ) (x : List ℕ) (a b r : Shape) (m : PlainMove) → move_result n a m ≡ Some r → move_result n (cut x a b) (below Kept m) ≡ Some (cut x r b)
-below_kept n x a b r (rotate_at []) e = absurd (none_some e)
+below_kept n x a b r (rotate_at []) e = absurd (none-some _ e)
 below_kept n x a b r (rotate_at (side ∷ path)) e = ap (option_map (λ c. cut x c b)) e
 below_kept n x a b r (switch_at path u v) e = ap (option_map (λ c. cut x c b)) e
 
 below_merged : (n : ℕ) (x : List ℕ) (a b r : Shape) (m : PlainMove) → move_result n b m ≡ Some r → move_result n (cut x a b) (below Merged m) ≡ Some (cut x a r)
-below_merged n x a b r (rotate_at []) e = absurd (none_some e)
+below_merged n x a b r (rotate_at []) e = absurd (none-some _ e)
 below_merged n x a b r (rotate_at (side ∷ path)) e = ap (option_map (λ c. cut x a c)) e
 below_merged n x a b r (switch_at path u v) e = ap (option_map (λ c. cut x a c)) e
 

@@ -19,7 +19,7 @@ use Rattle.tree_core.specs.Moves.{inner_rest, list_if, meet_list, outer_rest, un
 use Rattle.uncross.proofs.BigShores.{Big, Stage, big_merge, big_rest}
 use Rattle.uncross.proofs.CarriedLeaves.{NamesImages}
 use Rattle.uncross.proofs.Rising.{bounds}
-use Rattle.uncross.proofs.SameBlocks.{block_rises}
+use Rattle.graph_core.proofs.SameBlocks.{block_rises}
 use Rattle.uncross.proofs.Switches.{in_inner_rest, in_outer_rest, inner_rest-mem, map_a, map_b, outer_rest-mem, subset_test}
 use Rattle.uncross.specs.Exchange.{Corner}
 use Rattle.uncross.specs.Isomorphisms.{Isomorphism}

@@ -2,7 +2,7 @@
 use Rattle.uncross.specs.Walks.{AreRising}
 use Rattle.std.proofs.Common.{◌≡◌, ℕ, ◌+◌, Bool, true, false, cond, ◌||◌, ◌&&◌, not, List, [], ◌++◌, map, if◌then◌else◌, refl, sym, ap, ap₂, ◌∙◌, arith, subst}
 use Rattle.std.proofs.lemmas.Bool.{and_parts}
-use Rattle.counting.proofs.RisingLists.{mem-rising_list}
+use Rattle.counting.proofs.RisingLists.{mem-rising_list, all_in_true}
 use Rattle.counting.specs.Counts.{Within}
 use Rattle.counting.specs.Lists.{IsRisingIn, is_subset, last_of, mem}
 use Rattle.counting.specs.Sets.{Set, complement, minus, union}
@@ -22,7 +22,6 @@ use Rattle.uncross.proofs.BigShores.{Big, Stage, big_merge, big_rest, cut_big, s
 use Rattle.uncross.proofs.CarriedLeaves.{carried_parts, carry_order}
 use Rattle.uncross.proofs.Parts.{Part, part-join, part-turn}
 use Rattle.uncross.proofs.Rising.{bounds}
-use Rattle.uncross.proofs.Rotations.{subset_says}
 use Rattle.uncross.proofs.SwitchImages.{kept_names, merged_names, u_alike}
 use Rattle.uncross.proofs.Switches.{Each, each_of, in_inner_rest, in_outer_rest, inner_rest-mem, iso_a, iso_b, kept_in_q, kept_in_v, map_a, map_b, merge_congr, merged_in_q, merged_in_v, outer_rest-mem, subset_test, switch_in_q, switch_in_v}
 use Rattle.uncross.specs.Exchange.{Corner}
@@ -147,12 +146,12 @@ module _ (g : Graph) (p : List (List ℕ)) (stage : Stage g p) (x u v : List ℕ
   inside : (w : ℕ) → Within g.order w → mem u w ≡ true → mem x w ≡ true
   inside w ww m =
       let q = (and_parts (is_proper u x) (is_proper v (complement_of g.order x)) proper).0 in
-      subset_says u (mem x) (and_parts (not (is_subset u [])) (is_subset u x) (and_parts (not (is_subset u []) && is_subset u x) (not (is_subset x u)) q).0).1 w m
+      all_in_true u (mem x) (and_parts (not (is_subset u [])) (is_subset u x) (and_parts (not (is_subset u []) && is_subset u x) (not (is_subset x u)) q).0).1 w m
 
   outside : (w : ℕ) → Within g.order w → mem v w ≡ true → mem x w ≡ false
   outside w ww m =
       let q = (and_parts (is_proper u x) (is_proper v (complement_of g.order x)) proper).1 in
-      let h = subset_says v (mem (complement_of g.order x)) (and_parts (not (is_subset v [])) (is_subset v (complement_of g.order x)) (and_parts (not (is_subset v []) && is_subset v (complement_of g.order x)) (not (is_subset (complement_of g.order x) v)) q).0).1 w m in
+      let h = all_in_true v (mem (complement_of g.order x)) (and_parts (not (is_subset v [])) (is_subset v (complement_of g.order x)) (and_parts (not (is_subset v []) && is_subset v (complement_of g.order x)) (not (is_subset (complement_of g.order x) v)) q).0).1 w m in
       off (mem x w) (sym (mem-complement_of g.order x w ww) ∙ h)
     where
       off : (x : Bool) → not x ≡ true → x ≡ false

@@ -2,7 +2,7 @@
 use Rattle.uncross.specs.Walks.{AreRising}
 use Rattle.std.proofs.Common.{Bool, List, ap, ap₂, arith, cond, false, if◌then◌else◌, inl, inr, not, refl, subst, sym, true, ℕ, ◌&&◌, ◌||◌, ◌∙◌, ◌≡◌}
 use Rattle.std.proofs.lemmas.Bool.{both_ways, cases_Bool}
-use Rattle.counting.proofs.RisingLists.{mem-rising_list, rising_list-rises, same_rising_list}
+use Rattle.counting.proofs.RisingLists.{mem-rising_list, rising_list-rises, same_rising_list, true_all_in, all_in_true}
 use Rattle.counting.specs.Counts.{Within}
 use Rattle.counting.specs.Lists.{IsRisingIn, all_in, is_subset, mem, rising_list}
 use Rattle.counting.specs.Sets.{Set, complement, minus, union}
@@ -18,7 +18,6 @@ use Rattle.uncross.proofs.BigShores.{Big, Stage, big_cut, big_merge, big_rest, b
 use Rattle.uncross.proofs.CarriedTrees.{carried_derives}
 use Rattle.uncross.proofs.Exchange.{exchange_kept, exchange_merged}
 use Rattle.uncross.proofs.Rising.{bounds}
-use Rattle.uncross.proofs.Rotations.{says_subset, subset_says}
 use Rattle.uncross.specs.Exchange.{Corner}
 use Rattle.uncross.specs.Isomorphisms.{Isomorphism, carry, carry_cut}
 
@@ -53,8 +52,8 @@ each_of g q (cut s a b) st f d =
 
 pub subset_test : (u : List ℕ) (y : Set) (s : ℕ) → mem u s ≡ true → ((w : ℕ) → mem u w ≡ true → y w ≡ y s) → all_in u y ≡ y s
 subset_test u y s h k = elim (cases_Bool (y s)) [
-  | inl t ↦ says_subset u y (λ w m. k w m ∙ t) ∙ sym t
-  | inr f ↦ elim (cases_Bool (all_in u y)) [ inr z ↦ z ∙ sym f | inl z ↦ absurd (both_ways (y s) f (subset_says u y z s h)) ]
+  | inl t ↦ true_all_in u y (λ w m. k w m ∙ t) ∙ sym t
+  | inr f ↦ elim (cases_Bool (all_in u y)) [ inr z ↦ z ∙ sym f | inl z ↦ absurd (both_ways (y s) f (all_in_true u y z s h)) ]
 ]
 
 cond_mem : (y : Set) (s w : ℕ) (b : Bool) → y (cond b s w) ≡ cond b (y s) (y w)

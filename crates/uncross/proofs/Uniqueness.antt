@@ -21,7 +21,8 @@ use Rattle.uncross.proofs.Comparison.{compare}
 use Rattle.uncross.proofs.CrossingShores.{crossed}
 use Rattle.uncross.proofs.Images.{image_nontrivial, image_tight}
 use Rattle.uncross.proofs.NestedShores.{Compared, Exposes, expose}
-use Rattle.std.proofs.Common.{Some as Just, None, arith}
+use Rattle.std.proofs.Common.{Some as Just}
+use Rattle.std.proofs.lemmas.Option.{none-some}
 use Rattle.tree_core.specs.LeafMaps.{PlainLeafMap, move_maps, script_maps}
 use Rattle.tree_core.specs.Leaves.{leaves}
 use Rattle.tree_core.specs.Moves.{IsProper, last_step, move_result, parent_path, rotate_result, rotate_result_at}
@@ -81,10 +82,7 @@ same_leaf_merged g is p q pp qp cov names same x y sx sy tx nx ny e =
 
 -- the laws without what follows from being a derivation
 pub rotate_derives_law : (g : Graph) (path : List Side) (s t : Shape) → IsGraph g → IsDerivation g s → rotate_result path s ≡ Just t → IsDerivation g t
-rotate_derives_law g [] s t is ds e = absurd (none_some e)
-  where
-    none_some : None ≡ Just t → ⊥
-    none_some h = grind arith
+rotate_derives_law g [] s t is ds e = absurd (none-some t e)
 rotate_derives_law g (side ∷ path) s t is ds e =
     record { covered = ds.covered; derives = (path_keeps g (rotate_result_at (last_step side path)) (rotate_keeps g (last_step side path)) (parent_path side path) (singles g.order) s t (singles_stage g is ds.covered) (rising-derivation_at g (singles g.order) s ds.derives) ds.derives e).0 }
 

@@ -1,10 +1,10 @@
 //! The images of blocks: the names that the blocks of a leaf get by a Switch above it.
 ghost use Rattle.std.specs.Prelude.{◌≡◌, ◌≤◌, IfOk, map};
 ghost use Rattle.counting.specs.Lists.{last_of, mem, rising_list};
-ghost use Rattle.graph_core.specs.Partitions.{complement_of};
 ghost use Rattle.tree_core.specs.Moves.{list_if, meet_list, minus_list, union_list};
 ghost use Rattle.uncross.specs.MapView.{image_name, kept_images, merged_images};
 
+use crate::plans::complement;
 use contraction::Partition;
 use graph_core::Numbers;
 use std::alloc::{AllocError as Memory, Global};
@@ -64,22 +64,12 @@ fn minus_of(x: VSet, y: VSet, n: u32) -> VSet
     part_within(x.minus(y), n)
 }
 
-// The complement of a shore.
-fn outside_of(x: VSet, n: u32) -> VSet
-    requires { n ≤ MOST_VERTICES }
-    ensures { result ≡ complement_of n x }
-{
-    let outside = VSet::full(n).minus(x);
-    outside.rises();
-    outside
-}
-
 /// The images of the blocks below `kept` of a cut with the shore x, where u leaves the shore and v comes in its place.
 pub fn kept_images(n: u32, x: VSet, u: VSet, v: VSet) -> Images
     requires { n ≤ MOST_VERTICES }
     ensures { result ≡ kept_images n x u v }
 {
-    let rest = minus_of(outside_of(x, n), v, n);
+    let rest = minus_of(complement(x, n), v, n);
     Images::Moved {
         staying: minus_of(x, u, n),
         leaving: u,
@@ -95,7 +85,7 @@ pub fn merged_images(n: u32, x: VSet, u: VSet, v: VSet) -> Images
     ensures { result ≡ merged_images n x u v }
 {
     Images::Moved {
-        staying: minus_of(outside_of(x, n), v, n),
+        staying: minus_of(complement(x, n), v, n),
         leaving: v,
         gained: union_of(minus_of(x, u, n), v, n),
         far: x,

@@ -1,6 +1,5 @@
 //! The order of the leaves under a move: the old numbers of the leaves in the order of the new tree.
 ghost use Rattle.std.specs.Prelude.{◌≡◌, ◌≤◌, ◌+◌, ◌++◌, IfOk, OnOk, length};
-ghost use Rattle.counting.specs.Lists.{mem};
 ghost use Rattle.tree_core.specs.LeafMaps.{kept_order_if_in_q, move_order, numbers, order_at, rotate_order, switch_order};
 ghost use Rattle.tree_core.specs.Moves.{last_step, parent_path};
 ghost use Rattle.tree_core.specs.MoveView.{move_of};
@@ -10,7 +9,7 @@ ghost use Rattle.tree_core.specs.declared.path.Side.TheVariants.{Merged};
 
 use graph_core::Numbers;
 use std::alloc::{AllocError as Memory, Global};
-use tree_core::{Move, Side, Tree};
+use tree_core::{Move, Side, Tree, holds_greatest};
 use vset_core::{MOST_VERTICES, VSet};
 
 /// The number of leaves of a tree. Takes no memory.
@@ -60,15 +59,6 @@ fn push_kept_order(order: &mut Numbers, u: VSet, k: u32, tree: &Tree) -> Result<
             }
         }
     }
-}
-
-// Whether the greatest vertex is in the set.
-fn holds_greatest(v: VSet, n: u32) -> bool
-    requires { n ≤ MOST_VERTICES }
-    ensures { result ≡ mem v n }
-{
-    v.rises();
-    n > 0 && v.contains(n)
 }
 
 // Appends the order of a Switch at the root of the tree.

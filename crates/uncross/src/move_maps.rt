@@ -18,7 +18,7 @@ use crate::leaf_orders::{count_leaves, move_order, push_numbers};
 use contraction::Partition;
 use graph_core::Numbers;
 use std::alloc::{AllocError as Memory, Global};
-use tree_core::{Move, Side, Tree};
+use tree_core::{Move, Side, Tree, complement_in};
 use vset_core::{MOST_VERTICES, VSet};
 
 // The place of a number in a list, counted from 1, and one past the end if it is not there.
@@ -42,21 +42,6 @@ fn push_leaf(order: &[u32], names: Numbers, maps: &mut LeafMaps) -> Result<(), M
 {
     let to = position_of(order, maps.len() as u32 + 1);
     maps.push(LeafMap { to, images: names })
-}
-
-// The complement of a shore.
-fn complement_in(p: &Partition, shore: VSet) -> VSet
-    requires fits { All (Within (p.now.order - 1)) shore }
-    requires nonempty { 0 < length shore }
-    requires union { IsUnionAt p.now shore }
-    ensures list { result ≡ complement_of p.now.order shore }
-    ensures union { IsUnionAt p.now result }
-    ensures nonempty { 0 < length result }
-{
-    p.keeps_partition();
-    let complement = VSet::full(p.order()).minus(shore);
-    complement.rises();
-    complement
 }
 
 // The partition with the complement of a shore made one block.

@@ -61,8 +61,8 @@ fn around(x: VSet, y: VSet, n: u32) -> VSet
     outside
 }
 
-// The complement of a shore.
-fn complement(x: VSet, n: u32) -> VSet
+/// The complement of a shore.
+pub(crate) fn complement(x: VSet, n: u32) -> VSet
     requires { n ≤ 128 }
     ensures list { result ≡ complement_of n x }
     ensures rising { IsRisingIn n result }

@@ -1,9 +1,10 @@
 use Rattle.std.proofs.Common.{◌≡◌, ◌∙◌, ap, sym, subst}
+use Rattle.std.proofs.lemmas.Bool.{or_parts}
 use Rattle.counting.specs.Lists.{mem}
 use Rattle.graph_core.specs.Graph.{degree}
 use Rattle.graph_core.specs.Matchings.{IsMatching}
 use Rattle.match_core.specs.MatchingRows.{MatchingValue, edges_of, ends_at}
-use Rattle.allowed_edges.proofs.ShortPaths.{longer_matching, no_edge, or_parts}
+use Rattle.allowed_edges.proofs.ShortPaths.{longer_matching, no_edge}
 use Rattle.allowed_edges.proofs.short_paths.with_edge.Goals as goal
 
 pub joined-requires-clause-first : goal.joined-requires-clause-first

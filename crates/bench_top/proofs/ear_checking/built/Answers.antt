@@ -1,8 +1,9 @@
 use Rattle.std.proofs.Common.{ℕ, ap, arith, length, subst₂, sym}
 use Rattle.std.proofs.lemmas.List.{length-map}
+use Rattle.ear_core.proofs.Stepping.{list-fits, list-filled}
 use Rattle.ear_core.specs.EarLists.{FitsEars}
 use Rattle.ear_core.specs.View.{ears_of, step_of}
-use Rattle.bench_top.proofs.EarSteps.{few-steps, list-filled, list-fits}
+use Rattle.bench_top.proofs.EarSteps.{few-steps}
 use Rattle.bench_top.proofs.ear_checking.built.Goals as goal
 
 pub counts_of-steps-requires : goal.counts_of-steps-requires

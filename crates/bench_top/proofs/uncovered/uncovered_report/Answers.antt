@@ -1,6 +1,6 @@
 use Rattle.std.proofs.Common.{refl}
+use Rattle.graph_core.proofs.Decide.{reason-uncovered}
 use Rattle.graph_core.specs.Verdicts.{reason_of}
-use Rattle.decomposer.proofs.Reasons.{reason-uncovered}
 use Rattle.bench_top.proofs.uncovered.uncovered_report.Goals as goal
 
 pub returns : goal.returns

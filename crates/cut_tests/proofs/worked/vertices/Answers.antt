@@ -1,4 +1,4 @@
-use Rattle.std.proofs.Common.{◌≡◌, sym, ◌∙◌, arith}
+use Rattle.std.proofs.Common.{sym, ◌∙◌, arith}
 use Rattle.counting.specs.Lists.{is_subset, mem}
 use Rattle.counting.proofs.RisingLists.{all_in_true, set-narrower}
 use Rattle.cut_tests.proofs.worked.vertices.Goals as goal

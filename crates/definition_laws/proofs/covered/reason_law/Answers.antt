@@ -1,4 +1,5 @@
-use Rattle.definition_laws.proofs.Reasons.{covered_or_reason, reason-one, reason-uncovered}
+use Rattle.graph_core.proofs.Decide.{reason-uncovered}
+use Rattle.definition_laws.proofs.Reasons.{covered_or_reason, reason-one}
 use Rattle.definition_laws.proofs.covered.reason_law.Goals as goal
 
 pub returns-clause-uncovered : goal.returns-clause-uncovered

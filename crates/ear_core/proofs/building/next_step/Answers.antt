@@ -1,4 +1,4 @@
-use Rattle.std.proofs.Common.{◌≡◌, ◌∙◌, ◌++◌, ap, subst, sym, map, List, [], ℕ}
+use Rattle.std.proofs.Common.{ap, subst, sym, map, List}
 use Rattle.std.proofs.lemmas.Result.{IfOk-weaker}
 use Rattle.graph_core.specs.Graph.{size}
 use Rattle.match_core.specs.Rows.{marks}

@@ -1,4 +1,4 @@
-use Rattle.std.proofs.Common.{rules, ◌≡◌, ◌∙◌, ap, ap₂, map, ◌||◌, ◌∷◌, ℕ}
+use Rattle.std.proofs.Common.{rules, ◌≡◌, ◌∙◌, ap, ap₂, map, ◌||◌, ℕ}
 use Rattle.counting.specs.Lists.{mem}
 use Rattle.counting.specs.Sets.{union}
 use Rattle.ear_core.specs.AlternatingEars.{ends_of_ear}

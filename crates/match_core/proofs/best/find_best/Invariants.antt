@@ -1,4 +1,4 @@
-use Rattle.std.proofs.Common.{◌≡◌, ℕ, ◌+◌, ◌-◌, length}
+use Rattle.std.proofs.Common.{◌≡◌, ◌+◌, ◌-◌, length}
 use Rattle.counting.specs.Counts.{count}
 use Rattle.counting.specs.Lists.{mem}
 use Rattle.graph_core.specs.Graph.{size}

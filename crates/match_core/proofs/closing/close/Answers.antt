@@ -1,4 +1,4 @@
-use Rattle.std.proofs.Common.{◌≡◌, ℕ, ◌+◌, ◌<◌, ◌≢◌, true, List, subst, refl, ap, ◌∙◌}
+use Rattle.std.proofs.Common.{ℕ, ◌+◌, ◌≢◌, true, List, subst, refl, ap, ◌∙◌}
 use Rattle.counting.specs.Sets.{put}
 use Rattle.counting.specs.Lists.{mem}
 use Rattle.match_core.specs.Forests.{flipped}

@@ -1,4 +1,4 @@
-use Rattle.std.proofs.Common.{◌≡◌, ℕ, ◌≤◌, sym, subst, ◌∙◌, arith, map}
+use Rattle.std.proofs.Common.{◌≡◌, ℕ, subst, ◌∙◌, arith, map}
 use Rattle.std.proofs.lemmas.Grind.{get_or_default_zero}
 use Rattle.counting.specs.Lists.{mem}
 use Rattle.graph_core.specs.View.{graph_of, pair_of}

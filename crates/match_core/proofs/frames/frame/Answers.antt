@@ -1,4 +1,4 @@
-use Rattle.std.proofs.Common.{◌≡◌, ℕ, List, sym, ap, ap₂, ◌∙◌, subst, subst₂, refl}
+use Rattle.std.proofs.Common.{◌≡◌, sym, ap, ap₂, ◌∙◌, subst₂}
 use mathlib.Core.Path.{fun_ext}
 use Rattle.counting.specs.Sets.{none}
 use Rattle.counting.specs.Lists.{mem, rising_list}

@@ -1,4 +1,4 @@
-use Rattle.std.proofs.Common.{◌≡◌, ℕ, Bool, true, false, ◌||◌, ◌==◌, ◌∷◌, [], sym, ap, ◌∙◌, refl, get_or, take, map}
+use Rattle.std.proofs.Common.{◌≡◌, Bool, true, false, ◌||◌, ◌==◌, ◌∷◌, [], sym, ap, ◌∙◌, refl, get_or, take, map}
 use Rattle.std.proofs.lemmas.List.{take_more, map-append}
 use Rattle.counting.proofs.Lists.{mem-append}
 use Rattle.counting.specs.Lists.{mem}

@@ -1,7 +1,6 @@
-use Rattle.std.proofs.Common.{◌≡◌, ℕ, suc, ◌+◌, ◌++◌, ◌∷◌, [], true, false, sym, subst, ap, ◌∙◌, map, arith, rules, cond, List}
+use Rattle.std.proofs.Common.{◌≡◌, ℕ, suc, ◌+◌, ◌++◌, ◌∷◌, [], true, false, sym, ap, ◌∙◌, map, arith}
 use Rattle.counting.specs.Lists.{rising_list}
 use Rattle.graph_core.specs.View.{graph_of}
-use Rattle.graph_core.specs.declared.ends.Ends.{Ends}
 use Rattle.match_core.specs.Rows.{marks, end_a, end_b}
 use Rattle.match_core.specs.MatchingRows.{row_at}
 use Rattle.match_core.specs.declared.matching.MatchRow.{MatchRow}

@@ -1,9 +1,9 @@
-use Rattle.std.proofs.Common.{◌≡◌, ℕ, ◌≤◌, List, sym, subst, ap, ◌∙◌, map, arith}
+use Rattle.std.proofs.Common.{◌≡◌, List, sym, subst, ap, ◌∙◌, map, arith}
 use Rattle.counting.specs.Lists.{rising_list}
 use Rattle.graph_core.specs.Graph.{size as size_of}
 use Rattle.graph_core.specs.View.{graph_of}
 use Rattle.match_core.specs.Rows.{marks}
-use Rattle.match_core.specs.MatchingRows.{KeepsMatching, IsOf, edges_of, row_at}
+use Rattle.match_core.specs.MatchingRows.{KeepsMatching, IsOf, row_at}
 use Rattle.match_core.specs.declared.matching.MatchRow.{MatchRow}
 use Rattle.match_core.proofs.SearchRows.{row_graph, size_is}
 use Rattle.match_core.proofs.MatchingEdges.{marked-keeps, marked-of, marked-edges}

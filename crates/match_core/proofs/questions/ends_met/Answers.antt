@@ -1,10 +1,11 @@
-use Rattle.std.proofs.Common.{◌≡◌, ℕ, ◌-◌, ◌+◌, ◌≤◌, ◌<◌, ◌==◌, ◌&&◌, ◌||◌, not, Bool, true, false, sym, subst, ap, ◌∙◌, arith, refl, inl, eq-eqb, length, Vec, Global, get_or, take}
+use Rattle.std.proofs.Common.{◌≡◌, ◌-◌, ◌+◌, ◌==◌, ◌&&◌, ◌||◌, not, Bool, true, false, sym, subst, ap, ◌∙◌, arith, inl, eq-eqb, length, Vec, Global, get_or, take}
 use Rattle.std.proofs.lemmas.Bool.{both_ways}
 use mathlib.Core.Path.{fun_ext}
-use Rattle.counting.specs.Counts.{Within, bit}
+use Rattle.counting.proofs.RisingLists.{mem-item}
+use Rattle.counting.specs.Counts.{bit}
 use Rattle.counting.specs.Sets.{Set, put}
 use Rattle.counting.specs.Lists.{mem}
-use Rattle.graph_core.specs.Graph.{HasEnds, degree, size as size_of}
+use Rattle.graph_core.specs.Graph.{HasEnds, degree}
 use Rattle.graph_core.specs.View.{graph_of}
 use Rattle.graph_core.proofs.Perfect.{perfect_matching}
 use Rattle.counting.specs.Sets.{none}
@@ -12,7 +13,7 @@ use Rattle.match_core.specs.Rows.{marks, end_a, end_b}
 use Rattle.match_core.specs.Questions.{MeetOnce}
 use Rattle.match_core.proofs.GrownRows.{with_put}
 use Rattle.match_core.proofs.FirstMarks.{empty_degree}
-use Rattle.match_core.proofs.Gluing.{meet_more, meet_none, mem-more, mem-take, mem-item, mem-again, mem-take_all}
+use Rattle.match_core.proofs.Gluing.{meet_more, meet_none, mem-more, mem-take, mem-again, mem-take_all}
 use Rattle.match_core.proofs.SearchRows.{size_is, row_graph, near_is, far_is}
 use Rattle.match_core.proofs.questions.ends_met.Goals as goal
 use Rattle.match_core.proofs.questions.ends_met.Goals.{then-not-is_marked+else-not-is_addable, else-not-is_marked}
@@ -40,7 +41,7 @@ returns-then-not-is_addable-clause-none c = λ q p.
     let unmarked : marks c.loop-edge.mark.items e ≡ false = sym (c.is_marked.ensures ∙ ap (λ row. marks row e) c.deref.ensures.value) ∙ c.if-not-is_marked.true in
     meet_none (graph_of c.args.n c.args.ends.now) (marks c.loop-edge.mark.items) (mem c.loop-edge.met) e a b (row_graph c.args.n c.args.ends.now c.requires.row.within) (omega arith) ends
     (c.requires.row.within.a (e - 1) (omega arith)) (c.requires.row.within.b (e - 1) (omega arith)) unmarked c.loop-edge.invariant.once (sym c.is_addable.ensures ∙ c.if-not-is_addable.true)
-    p.0 (perfect_matching (graph_of c.args.n c.args.ends.now) none p.0 p.1) (λ i ci. p.2 i (mem-take c.args.edges.now k i (sym (c.loop-edge.invariant.edges i) ∙ ci))) (p.2 e (mem-item c.args.edges.now k c.loop-edge-test.true))
+    p.0 (perfect_matching (graph_of c.args.n c.args.ends.now) none p.0 p.1) (λ i ci. p.2 i (mem-take c.args.edges.now k i (sym (c.loop-edge.invariant.edges i) ∙ ci))) (p.2 e (mem-item c.args.edges.now k 0 c.loop-edge-test.true))
 
 pub loop-edge-preserved : goal.loop-edge-preserved
 loop-edge-preserved c = elim c.if-not-is_marked.branch [

@@ -1,4 +1,4 @@
-use Rattle.std.proofs.Common.{◌≡◌, ℕ, Bool, true, ◌||◌, Vec, Global, sym, subst, ap, ◌∙◌, refl}
+use Rattle.std.proofs.Common.{◌≡◌, Bool, Vec, Global, sym, subst, ◌∙◌, refl}
 use Rattle.std.proofs.lemmas.Bool.{or_right}
 use mathlib.Core.Path.{fun_ext}
 use Rattle.counting.specs.Sets.{Set, none, minus, union}

@@ -1,5 +1,4 @@
-use Rattle.std.proofs.Common.{◌≡◌, ℕ, ◌<◌, Bool, List, Some, None, Vec, Global, sym, ap, ◌∙◌, subst, refl, arith}
-use Rattle.counting.specs.Counts.{Within}
+use Rattle.std.proofs.Common.{◌≡◌, Bool, Vec, Global, sym, ◌∙◌, subst, refl, arith}
 use Rattle.counting.specs.Lists.{mem}
 use Rattle.graph_core.specs.Matchings.{IsPerfect}
 use Rattle.graph_core.specs.View.{graph_of}

@@ -1,4 +1,4 @@
-use Rattle.std.proofs.Common.{◌≡◌, ℕ, Bool, List, Some, None, Vec, Global, sym, ap, ap₂, ◌∙◌, subst, refl, arith}
+use Rattle.std.proofs.Common.{◌≡◌, Bool, List, sym, ap, ap₂, ◌∙◌, subst}
 use Rattle.counting.specs.Lists.{mem, rising_list}
 use Rattle.counting.proofs.Lists.{rising_holds}
 use Rattle.counting.specs.Counts.{Within}

@@ -1,4 +1,4 @@
-use Rattle.std.proofs.Common.{◌≡◌, ℕ, Bool, List, Some, None, Vec, Global, sym, ap, ap₂, ◌∙◌, subst, subst₂, refl, arith}
+use Rattle.std.proofs.Common.{◌≡◌, Bool, List, sym, ap, ap₂, ◌∙◌, subst, subst₂}
 use mathlib.Core.Path.{fun_ext}
 use Rattle.match_core.specs.RepairPaths.{DiffersByPath}
 use Rattle.match_core.proofs.RepairWalks.{differs_alike}

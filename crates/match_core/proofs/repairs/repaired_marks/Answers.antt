@@ -2,7 +2,7 @@ use Rattle.std.proofs.Common.{◌≡◌, ℕ, ◌+◌, ◌-◌, ◌/◌, ◌<◌
 use Rattle.std.proofs.lemmas.Grind.{common_steps}
 use Rattle.std.specs.Vec.{with_items}
 use mathlib.Core.Path.{fun_ext}
-use Rattle.counting.specs.Counts.{Within, count}
+use Rattle.counting.specs.Counts.{count}
 use Rattle.counting.specs.Sets.{Set, put}
 use Rattle.counting.specs.Lists.{mem}
 use Rattle.graph_core.specs.Graph.{size}

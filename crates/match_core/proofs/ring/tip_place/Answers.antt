@@ -1,5 +1,4 @@
-use Rattle.std.proofs.Common.{◌≡◌, ℕ, ◌+◌, ◌-◌, ◌<◌, ◌≤◌, ◌==◌, true, List, length, rules, arith, subst, refl, sym, ap, ◌∙◌, inl, inr, eqb-true}
-use Rattle.counting.specs.Lists.{mem}
+use Rattle.std.proofs.Common.{◌≡◌, ℕ, ◌+◌, ◌-◌, ◌≤◌, ◌==◌, List, length, arith, refl, sym, ap, ◌∙◌, inl, inr, eqb-true}
 use Rattle.counting.proofs.Tests.{some_true}
 use Rattle.match_core.specs.Rows.{numbers}
 use Rattle.match_core.proofs.ring.tip_place.Goals as goal

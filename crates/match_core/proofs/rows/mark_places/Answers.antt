@@ -1,4 +1,4 @@
-use Rattle.std.proofs.Common.{◌≡◌, ℕ, Bool, true, false, ◌||◌, ◌==◌, sym, ap, ◌∙◌, refl, get_or, take}
+use Rattle.std.proofs.Common.{◌≡◌, Bool, true, false, ◌||◌, ◌==◌, sym, ap, ◌∙◌, refl, get_or, take}
 use Rattle.counting.specs.Lists.{mem}
 use Rattle.match_core.specs.Rows.{marks}
 use Rattle.match_core.proofs.GrownRows.{with_put}

@@ -1,4 +1,4 @@
-use Rattle.std.proofs.Common.{◌≡◌, ℕ, ◌<◌, length, get_or}
+use Rattle.std.proofs.Common.{◌≡◌, ℕ, length, get_or}
 use Rattle.match_core.proofs.rows.zero_places.Given as goal
 
 abbrev pub invariant-loop-i : goal.invariant-loop-i

@@ -1,11 +1,11 @@
-use Rattle.std.proofs.Common.{rules, arith, length, ◌<◌, ◌≡◌, ◌+◌, refl}
+use Rattle.std.proofs.Common.{arith, ◌≡◌, ◌+◌, refl}
 use Rattle.std.proofs.lemmas.Result.{IfOk-weaker}
 use Rattle.counting.specs.Counts.{count}
 use Rattle.counting.specs.Lists.{mem}
 use Rattle.graph_core.specs.View.{graph_of}
 use Rattle.match_core.specs.Rows.{marks, numbers}
 use Rattle.match_core.specs.ForestRows.{HoldsForest, HasGrown}
-use Rattle.match_core.proofs.SearchRows.{row_graph, to_in, from_in, has_mate, partner_in, held, held_more}
+use Rattle.match_core.proofs.SearchRows.{row_graph, has_mate, held, held_more}
 use Rattle.match_core.proofs.search.extend.Goals as goal
 
 pub overflow_sub-edge : goal.overflow_sub-edge

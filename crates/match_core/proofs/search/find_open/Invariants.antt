@@ -1,4 +1,4 @@
-use Rattle.std.proofs.Common.{◌≡◌, ℕ, ◌<◌, ◌≤◌}
+use Rattle.std.proofs.Common.{ℕ, ◌<◌, ◌≤◌}
 use Rattle.counting.specs.Lists.{mem}
 use Rattle.match_core.specs.Searches.{IsClosedAt}
 use Rattle.match_core.proofs.search.find_open.Given as goal

@@ -1,4 +1,4 @@
-use Rattle.std.proofs.Common.{◌≡◌, ℕ, ◌+◌, length}
+use Rattle.std.proofs.Common.{◌≡◌, ◌+◌, length}
 use Rattle.match_core.specs.Rows.{marks}
 use Rattle.match_core.specs.Searches.{NamesEdges}
 use Rattle.match_core.proofs.search.matched_edges.Given as goal

@@ -1,8 +1,6 @@
-use Rattle.std.proofs.Common.{rules, arith, ◌≡◌, ℕ, true, false, ◌≤◌, length, Some, None, subst, cond, ◌==◌}
+use Rattle.std.proofs.Common.{arith, ◌≡◌, ℕ, true, false, ◌≤◌, length, subst, cond, ◌==◌}
 use Rattle.counting.proofs.Counts.{count_le}
 use Rattle.counting.specs.Lists.{mem}
-use Rattle.counting.specs.Counts.{Within}
-use Rattle.graph_core.specs.View.{graph_of}
 use Rattle.match_core.specs.Rows.{marks}
 use Rattle.match_core.specs.ForestRows.{IsFirstForest}
 use Rattle.match_core.specs.Searches.{IsOpen}

@@ -1,4 +1,4 @@
-use Rattle.std.proofs.Common.{◌≡◌, ℕ, ◌+◌, List, length, refl, sym, ap, ◌∙◌, rules, arith, subst, None, Some}
+use Rattle.std.proofs.Common.{◌≡◌, ℕ, ◌+◌, List, length, refl, sym, ap, ◌∙◌, rules, arith, subst, None}
 use Rattle.counting.specs.Lists.{mem}
 use Rattle.graph_core.specs.View.{graph_of}
 use Rattle.graph_core.specs.Matchings.{IsMatching}

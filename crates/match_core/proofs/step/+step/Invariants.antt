@@ -1,4 +1,3 @@
-use Rattle.std.proofs.Common.{ℕ}
 use Rattle.counting.specs.Counts.{count}
 use Rattle.counting.specs.Sets.{complement}
 use Rattle.counting.specs.Lists.{mem}

@@ -1,4 +1,4 @@
-use Rattle.std.proofs.Common.{◌≡◌, ℕ, ◌+◌, ◌*◌, [], arith, eqb-true}
+use Rattle.std.proofs.Common.{◌+◌, ◌*◌, [], arith, eqb-true}
 use Rattle.counting.proofs.RisingLists.{set-none}
 use Rattle.match_core.proofs.ClearedMatchings.{left_size}
 use Rattle.match_core.proofs.MatchingEdges.{rows-matching}

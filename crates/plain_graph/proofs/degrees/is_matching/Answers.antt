@@ -1,4 +1,4 @@
-use Rattle.std.proofs.Common.{◌≡◌, ◌<◌, ◌+◌, cond, sym, arith}
+use Rattle.std.proofs.Common.{◌<◌, ◌+◌, cond, sym, arith}
 use Rattle.std.proofs.lemmas.Bool.{lt-leb}
 use Rattle.counting.specs.Lists.{mem}
 use Rattle.graph_core.specs.Graph.{degree}

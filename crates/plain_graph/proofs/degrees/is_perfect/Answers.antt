@@ -1,4 +1,4 @@
-use Rattle.std.proofs.Common.{◌≡◌, ◌+◌, sym, ◌∙◌, arith, ne_eqb}
+use Rattle.std.proofs.Common.{◌+◌, sym, ◌∙◌, arith, ne_eqb}
 use Rattle.counting.specs.Lists.{mem}
 use Rattle.graph_core.specs.Matchings.{right_degree}
 use Rattle.plain_graph.proofs.Tries.{every_not}

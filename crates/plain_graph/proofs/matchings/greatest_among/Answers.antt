@@ -1,4 +1,4 @@
-use Rattle.std.proofs.Common.{◌≡◌, ℕ, ◌<◌, ◌+◌, List, length, get_or, max, ap, sym, ◌∙◌, arith, subst}
+use Rattle.std.proofs.Common.{◌+◌, max, ap, sym, ◌∙◌, arith, subst}
 use Rattle.counting.specs.Lists.{IsRisingIn, mem}
 use Rattle.graph_core.specs.Graph.{size}
 use Rattle.plain_graph.proofs.Tries.{IsGreatestSoFar, greatest-longer, greatest-same, matching_of-none}

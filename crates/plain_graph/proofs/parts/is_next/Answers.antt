@@ -1,4 +1,4 @@
-use Rattle.std.proofs.Common.{◌≡◌, ◌+◌, ◌&&◌, sym, arith}
+use Rattle.std.proofs.Common.{◌+◌, ◌&&◌, sym, arith}
 use Rattle.std.proofs.lemmas.Bool.{and_from}
 use Rattle.counting.specs.Lists.{mem}
 use Rattle.counting.proofs.Tests.{true_some}

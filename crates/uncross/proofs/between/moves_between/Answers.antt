@@ -1,15 +1,15 @@
 use Rattle.std.proofs.Common.{◌∙◌, List, ℕ, ap, subst}
 use Rattle.graph_core.specs.Partitions.{singles}
+use Rattle.tree_core.proofs.CutsBelow.{root-covered}
 use Rattle.tree_core.specs.MoveView.{moves_of}
 use Rattle.tree_core.specs.Shapes.{Shape}
 use Rattle.tree_core.specs.View.{shape_of}
-use Rattle.uncross.proofs.SingleVertices.{root_covered}
 use Rattle.uncross.proofs.Uniqueness.{walk_through}
 use Rattle.uncross.specs.Walks.{Walk}
 use Rattle.uncross.proofs.between.moves_between.Goals as goal
 
 pub compare_at-requires-clause-covered : goal.compare_at-requires-clause-covered
-compare_at-requires-clause-covered c = root_covered c.args.g.now c.in_ok-root.root.blocks c.keeps_limits.ensures.multigraph.ends (c.in_ok-root.ensures.blocks ∙ ap singles c.order.ensures.is) c.requires.first.covered
+compare_at-requires-clause-covered c = root-covered c.args.g.now c.in_ok-root.root.blocks c.keeps_limits.ensures.multigraph.ends (c.in_ok-root.ensures.blocks ∙ ap singles c.order.ensures.is) c.requires.first.covered
 
 pub returns-clause-through : goal.returns-clause-through
 returns-clause-through c =

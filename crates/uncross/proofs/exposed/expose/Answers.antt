@@ -1,5 +1,6 @@
 use Rattle.std.proofs.Common.{List, Some, ap, subst, sym, ℕ, ◌∙◌}
 use Rattle.graph_core.specs.Partitions.{singles}
+use Rattle.tree_core.proofs.CutsBelow.{root-covered}
 use Rattle.tree_core.specs.Derivations.{IsDerivation, IsDerivationAt}
 use Rattle.tree_core.specs.LeafMaps.{script_maps}
 use Rattle.tree_core.specs.Leaves.{leaves}
@@ -8,7 +9,6 @@ use Rattle.tree_core.specs.Shapes.{Shape}
 use Rattle.tree_core.specs.View.{shape_of}
 use Rattle.uncross.proofs.ExposedShores.{raised_at_singles}
 use Rattle.uncross.proofs.ScriptSteps.{walk_derives, walk_pairs}
-use Rattle.uncross.proofs.SingleVertices.{root_covered}
 use Rattle.uncross.proofs.Uniqueness.{walk_through}
 use Rattle.uncross.specs.Pairings.{IsPairing}
 use Rattle.uncross.specs.Plans.{CutIf}
@@ -16,7 +16,7 @@ use Rattle.uncross.specs.Walks.{Walk}
 use Rattle.uncross.proofs.exposed.expose.Goals as goal
 
 pub expose_at-requires-clause-covered : goal.expose_at-requires-clause-covered
-expose_at-requires-clause-covered c = root_covered c.args.g.now c.in_ok-root.root.blocks c.keeps_limits.ensures.multigraph.ends (c.in_ok-root.ensures.blocks ∙ ap singles c.order.ensures.is) c.requires.derives.covered
+expose_at-requires-clause-covered c = root-covered c.args.g.now c.in_ok-root.root.blocks c.keeps_limits.ensures.multigraph.ends (c.in_ok-root.ensures.blocks ∙ ap singles c.order.ensures.is) c.requires.derives.covered
 
 pub expose_at-requires-clause-derives : goal.expose_at-requires-clause-derives
 expose_at-requires-clause-derives c = subst (λ (p : List (List ℕ)). IsDerivationAt c.args.g.now p (shape_of c.args.tree)) (sym (c.in_ok-root.ensures.blocks ∙ ap singles c.order.ensures.is)) c.requires.derives.derives

@@ -1,4 +1,4 @@
-use Rattle.std.proofs.Common.{◌≡◌, ℕ, Bool, List, true, ◌||◌, ◌==◌, sym, ap, ap₂, ◌∙◌, subst, refl, inl, arith, length}
+use Rattle.std.proofs.Common.{◌≡◌, ℕ, true, ◌||◌, ◌==◌, sym, ap, ◌∙◌, subst, refl, inl, length}
 use Rattle.std.proofs.lemmas.Result.{IfOk-weaker}
 use mathlib.Core.Path.{fun_ext}
 use Rattle.counting.specs.Sets.{Set, none, put}

@@ -1,8 +1,8 @@
 use Rattle.std.proofs.Common.{◌≡◌, ◌∙◌, ap, length, arith}
 use Rattle.graph_core.proofs.Singles.{length-singles}
 use Rattle.graph_core.specs.Partitions.{singles}
-use Rattle.decomposer.proofs.Picking.{root-covered}
-use Rattle.decomposer.proofs.decomposition.root_partition.Goals as goal
+use Rattle.tree_core.proofs.CutsBelow.{root-covered}
+use Rattle.tree_core.proofs.below.root_partition.Goals as goal
 
 -- the blocks are the single vertices
 alone : (c : goal.In_ok-root) → c.in_ok-root.root.blocks ≡ singles c.args.g.now.order

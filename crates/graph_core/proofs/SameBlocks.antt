@@ -1,27 +1,26 @@
--- Partitions with the same blocks are equal as lists, so merges of apart or nested unions of blocks commute.
-use Rattle.std.proofs.Common.{Bool, List, [], ap, ap₂, arith, false, inl, inr, refl, subst, suc, sym, true, ℕ, ◌+◌, ◌-◌, ◌<◌, ◌∙◌, ◌∷◌, ◌≡◌}
-use Rattle.std.proofs.lemmas.Bool.{both_ways, cases_Bool}
+-- A partition is fixed by its relation "in the same block": two partitions with the same relation are equal as lists.
+-- They have the same blocks, and names that rise leave one order.
+use Rattle.std.proofs.Common.{List, [], ap, ap₂, arith, inl, inr, refl, subst, suc, sym, true, ℕ, ◌+◌, ◌-◌, ◌<◌, ◌∙◌, ◌∷◌, ◌≡◌}
 use Rattle.std.specs.List.Sorted.{IsStrictlyIncreasing}
 use Rattle.std.specs.Prelude.{slice_index, slice_index_or}
-use Rattle.counting.proofs.RisingLists.{mem-item, same_rising_list}
+use Rattle.counting.proofs.RisingLists.{mem-item, same_answers, same_rising_list}
 use Rattle.counting.specs.Counts.{Within}
 use Rattle.counting.specs.Lists.{IsRisingIn, last_of, mem}
-use Rattle.counting.specs.Sets.{Set}
 use Rattle.graph_core.proofs.Blocks.{place_in, place_is}
-use Rattle.graph_core.proofs.MergedShores.{Below, alike_down, alike_in, alike_up, same_side}
 use Rattle.graph_core.proofs.Merging.{Has, block_has, has_block}
-use Rattle.graph_core.specs.Partitions.{AreBlocks, IsMerge, IsPartition, block, names_of, place}
-use Rattle.graph_core.specs.Shores.{IsUnion}
+use Rattle.graph_core.specs.Partitions.{IsPartition, block, names_of, place}
 
 -- each name is below all later ones
-abbrev Ordered : List (List ℕ) → Type 0
+abbrev pub Ordered : List (List ℕ) → Type 0
 Ordered [] = Unit {0}
 Ordered (b ∷ p) = ((c : List ℕ) → Has p c → last_of b < last_of c) × Ordered p
 
+-- the names without the first rise too
 rising_rest : (b : List ℕ) (p : List (List ℕ)) → IsStrictlyIncreasing (names_of (b ∷ p)) → IsStrictlyIncreasing (names_of p)
 rising_rest b p h k l = let e : suc k + 1 ≡ suc (k + 1) = omega arith in subst (λ j. slice_index (names_of p) k < slice_index (names_of (b ∷ p)) j) e (h (suc k) (omega arith))
 
-rising_ordered : (p : List (List ℕ)) → IsStrictlyIncreasing (names_of p) → Ordered p
+-- names that rise step by step are below all later ones
+pub rising_ordered : (p : List (List ℕ)) → IsStrictlyIncreasing (names_of p) → Ordered p
 rising_ordered [] h = tt
 rising_ordered (b ∷ p) h = (below p h (rising_ordered p (rising_rest b p h)), rising_ordered p (rising_rest b p h))
   where
@@ -30,6 +29,7 @@ rising_ordered (b ∷ p) h = (below p h (rising_ordered p (rising_rest b p h)), 
     below (d ∷ p) h o c (inl e) = subst (λ (c : List ℕ). last_of b < last_of c) e (h 0 (omega arith))
     below (d ∷ p) h o c (inr k) = let a : last_of b < last_of d = h 0 (omega arith) in let q = o.0 c k in omega arith
 
+-- two ordered lists with the same blocks are equal
 ordered_same : (p q : List (List ℕ)) → Ordered p → Ordered q → ((c : List ℕ) → Has p c → Has q c) → ((c : List ℕ) → Has q c → Has p c) → p ≡ q
 ordered_same [] [] o r f k = refl
 ordered_same [] (c ∷ q) o r f k = absurd (k c (inl refl))
@@ -56,6 +56,7 @@ block_rises n p c is h =
 abbrev pub Finer : ℕ → (p q : List (List ℕ)) → Type 0
 Finer n p q = (u v : ℕ) → Within n u → Within n v → place p u ≡ place p v → place q u ≡ place q v
 
+-- partitions with the same relation are equal
 pub same_blocks : (n : ℕ) (p q : List (List ℕ)) → IsPartition n p → IsPartition n q → Finer n p q → Finer n q p → p ≡ q
 same_blocks n p q lp lq f b = ordered_same p q (rising_ordered p lp.order) (rising_ordered q lq.order) (λ c h. over p q lp lq f b c h) (λ c h. over q p lq lp b f c h)
   where
@@ -76,35 +77,4 @@ same_blocks n p q lp lq f b = ordered_same p q (rising_ordered p lp.order) (risi
         let ww = lq.partition.within (place q v.0) w m.0 t in
         let e = b w v.0 ww v.1 (sym (place_is n q lq.partition w (place q v.0) ww m.0 t)) in
         ap (λ z. mem z w) (sym r.2) ∙ ap (λ i. mem (block p i) w) (pv ∙ sym e) ∙ (place_in n p lp.partition w ww).1 in
-        subst (Has q) (sym (same_rising_list n c d (block_rises n p c lp h) (block_rises n q d lq hd) (λ w _. both (mem c w) (mem d w) (there w) (back w)))) hd
-      where
-        both : (a b : Bool) → (a ≡ true → b ≡ true) → (b ≡ true → a ≡ true) → a ≡ b
-        both a b h k = grind arith
-
--- first x and then y gives no coarser blocks than first y and then x
-pub commute : (n : ℕ) (p r s t w : List (List ℕ)) (x y : Set) → AreBlocks n p → IsUnion n p x → IsUnion n p y → AreBlocks n r → IsUnion n r y → AreBlocks n t → IsUnion n t x →
-    IsMerge n p x r → IsMerge n r y s → IsMerge n p y t → IsMerge n t x w → Finer n s w
-commute n p r s t w x y pp ux uy rp ury tp utx mr ms mt mw u v wu wv e = go (y u) refl (x u) refl
-  where
-    go : (a : Bool) → y u ≡ a → (b : Bool) → x u ≡ b → place w u ≡ place w v
-    go true h b k = alike_up n t w x tp utx mw u v wu wv (alike_in n p t y pp uy mt u v wu wv h (sym (same_side n r s y rp ury ms u v wu wv e) ∙ h))
-    go false h true k = alike_in n t w x tp utx mw u v wu wv k (sym (same_side n p r x pp ux mr u v wu wv (alike_down n r s y rp ury ms u v wu wv h e)) ∙ k)
-    go false h false k = alike_up n t w x tp utx mw u v wu wv (alike_up n p t y pp uy mt u v wu wv (alike_down n p r x pp ux mr u v wu wv k (alike_down n r s y rp ury ms u v wu wv h e)))
-
--- x below y: merging x first makes no difference
-pub swallow : (n : ℕ) (p r s t : List (List ℕ)) (x y : Set) → AreBlocks n p → IsUnion n p x → IsUnion n p y → AreBlocks n r → IsUnion n r y → Below n x y → IsMerge n p x r → IsMerge n r y s → IsMerge n p y t → Finer n s t × Finer n t s
-swallow n p r s t x y pp ux uy rp ury b mr ms mt = (
-  λ u v wu wv e. down u v wu wv e (y u) refl,
-  λ u v wu wv e. up u v wu wv e (y u) refl,
-)
-  where
-    off : (u : ℕ) → Within n u → y u ≡ false → x u ≡ false
-    off u w h = elim (cases_Bool (x u)) [ inr f ↦ f | inl k ↦ absurd (both_ways (y u) h (b u w k)) ]
-
-    down : (u v : ℕ) → Within n u → Within n v → place s u ≡ place s v → (a : Bool) → y u ≡ a → place t u ≡ place t v
-    down u v wu wv e true h = alike_in n p t y pp uy mt u v wu wv h (sym (same_side n r s y rp ury ms u v wu wv e) ∙ h)
-    down u v wu wv e false h = alike_up n p t y pp uy mt u v wu wv (alike_down n p r x pp ux mr u v wu wv (off u wu h) (alike_down n r s y rp ury ms u v wu wv h e))
-
-    up : (u v : ℕ) → Within n u → Within n v → place t u ≡ place t v → (a : Bool) → y u ≡ a → place s u ≡ place s v
-    up u v wu wv e true h = alike_in n r s y rp ury ms u v wu wv h (sym (same_side n p t y pp uy mt u v wu wv e) ∙ h)
-    up u v wu wv e false h = alike_up n r s y rp ury ms u v wu wv (alike_up n p r x pp ux mr u v wu wv (alike_down n p t y pp uy mt u v wu wv h e))
+        subst (Has q) (sym (same_rising_list n c d (block_rises n p c lp h) (block_rises n q d lq hd) (λ w _. same_answers (mem c w) (mem d w) (there w) (back w)))) hd

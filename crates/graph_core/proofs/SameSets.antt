@@ -1,0 +1,27 @@
+-- Sets with the same vertices: they have the same cut, and are tight and nontrivial together.
+-- Each is said vertex by vertex, so it goes over term by term.
+use Rattle.std.proofs.Common.{◌≡◌, ℕ, sym, ap, ap₂, ◌∙◌, ◌&&◌, ◌||◌, not, ◌≤◌, subst}
+use Rattle.counting.proofs.Counts.{count_congr}
+use Rattle.counting.specs.Counts.{Within, is_odd}
+use Rattle.counting.specs.Sets.{Set, complement}
+use Rattle.graph_core.specs.Graph.{Graph, IsGraph, first_end, second_end, size}
+use Rattle.graph_core.specs.Tight.{CutIsTight, IsNontrivial, IsTight}
+
+-- the same cut is tight
+pub cut_congr : (g : Graph) (x y : Set) → IsGraph g → ((v : ℕ) → Within g.order v → x v ≡ y v) → CutIsTight g x → CutIsTight g y
+cut_congr g x y is h t m p = count_congr (size g) _ _ (λ e w. ap₂ (λ a b. m e && ((a && not b) || (not a && b))) (sym (h (first_end g e) (is e w).0)) (sym (h (second_end g e) (is e w).1))) ∙ t m p
+
+-- sets with the same vertices are tight alike
+pub tight-same : (g : Graph) (x y : Set) → IsGraph g → ((v : ℕ) → Within g.order v → x v ≡ y v) → IsTight g x → IsTight g y
+tight-same g x y is h t = record {
+  odd = ap is_odd (sym (count_congr g.order x y h)) ∙ t.odd;
+  odd_complement = ap is_odd (sym (count_congr g.order (complement x) (complement y) (λ v w. ap not (h v w)))) ∙ t.odd_complement;
+  cut = cut_congr g x y is h t.cut;
+}
+
+-- sets that agree on 1 to n are nontrivial together
+pub nontrivial-same : (n : ℕ) (x y : Set) → ((v : ℕ) → Within n v → x v ≡ y v) → IsNontrivial n x → IsNontrivial n y
+nontrivial-same n x y h t = record {
+  inside = subst (λ k. 3 ≤ k) (count_congr n x y h) t.inside;
+  outside = subst (λ k. 3 ≤ k) (count_congr n (complement x) (complement y) (λ v w. ap not (h v w))) t.outside;
+}
