@@ -8,3 +8,4 @@ pub mod LoweredWeights
 pub mod HeavyParts
 pub mod Swaps
 pub mod SwapSets
+pub mod MetVertex

@@ -21,8 +21,11 @@ lowered_back w p e = go (p e) (w e)
     go true (suc k) = let t = ap bit (lt-ltb 0 (suc k) (omega arith)) in omega arith
     go false k = omega arith
 
-at_most : (b : Bool) (k : ℕ) → k - bit b ≤ k
-at_most b k = omega arith
+pub lowered_at_most : (w : ℕ → ℕ) (p : Set) (e : ℕ) → lowered w p e ≤ w e
+lowered_at_most w p e = omega arith
+
+pub lowered_below : (w : ℕ → ℕ) (p : Set) (e : ℕ) → p e ≡ true → 0 < w e → lowered w p e < w e
+lowered_below w p e pe l = let t = ap bit pe in omega arith
 
 pub lowered_weight : (g : Graph) (w : ℕ → ℕ) (p m : Set) → ((e : ℕ) → Within (size g) e → m e ≡ true → 0 < w e) → weight_of g w m ≡ weight_of g (lowered w p) m + count (size g) (λ e. m e && p e)
 lowered_weight g w p m h =
@@ -36,10 +39,7 @@ lowered_weight g w p m h =
     each false b k l = omega arith
 
 pub lowered_less : (g : Graph) (w : ℕ → ℕ) (p m : Set) → weight_of g (lowered w p) m ≤ weight_of g w m
-lowered_less g w p m = total_le (size g) (λ e. bit (m e) * lowered w p e) (λ e. bit (m e) * w e) (λ e i. term_le (m e) (lowered w p e) (w e) (λ t. at_most (p e) (w e)))
+lowered_less g w p m = total_le (size g) (λ e. bit (m e) * lowered w p e) (λ e. bit (m e) * w e) (λ e i. term_le (m e) (lowered w p e) (w e) (λ t. lowered_at_most w p e))
 
 pub lowered_falls : (g : Graph) (w : ℕ → ℕ) (p : Set) (e : ℕ) → Within (size g) e → p e ≡ true → 0 < w e → total (size g) (lowered w p) < total (size g) w
-lowered_falls g w p e we pe l = total_less (size g) (lowered w p) w (λ i j. at_most (p i) (w i)) e we (less (p e) (w e) pe l)
-  where
-    less : (b : Bool) (k : ℕ) → b ≡ true → 0 < k → k - bit b < k
-    less b k h l = let t = ap bit h in omega arith
+lowered_falls g w p e we pe l = total_less (size g) (lowered w p) w (λ i j. lowered_at_most w p i) e we (lowered_below w p e pe l)
