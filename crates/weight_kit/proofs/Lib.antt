@@ -9,3 +9,4 @@ pub mod HeavyParts
 pub mod Swaps
 pub mod SwapSets
 pub mod MetVertex
+pub mod Duality
