@@ -8,3 +8,5 @@ pub mod LoweredWeights
 pub mod HeavyParts
 pub mod Swaps
 pub mod SwapSets
+pub mod BestMatchings
+pub mod OddPart
