@@ -8,5 +8,7 @@ pub mod LoweredWeights
 pub mod HeavyParts
 pub mod Swaps
 pub mod SwapSets
+pub mod BestMatchings
+pub mod OddPart
 pub mod MetVertex
 pub mod Duality
