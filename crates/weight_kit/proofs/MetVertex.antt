@@ -13,7 +13,7 @@ use Rattle.weight_kit.proofs.CoverBound.{Dual, cover_bound}
 use Rattle.weight_kit.proofs.EdgeSums.{weight_drop}
 use Rattle.weight_kit.proofs.HeaviestMatchings.{heaviest_exists, heavy_heaviest, heavy_holds, heavy_part}
 use Rattle.weight_kit.proofs.LoweredWeights.{lowered, lowered_at_most, lowered_back, lowered_below, lowered_less}
-use Rattle.weight_kit.specs.Weights.{IsCover, IsHeaviest, cover_value, covering, sum_over, weight_of}
+use Rattle.weight_kit.specs.Weights.{IsCover, IsHeaviest, cover_value, sum_over, weight_of}
 
 -- u is an end of edge e
 abbrev pub is_at : Graph → ℕ → Set
