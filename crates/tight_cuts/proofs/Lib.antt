@@ -18,3 +18,4 @@ pub mod FrontCandidates
 mod CrossingMatchings
 pub mod SingleVertices
 pub mod LiftedCandidates
+pub mod FrontEmpty
