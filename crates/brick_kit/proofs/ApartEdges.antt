@@ -12,8 +12,7 @@ use Rattle.graph_core.specs.Graph.{Graph, HasEnds, IsGraph, first_end, in_cut, s
 use Rattle.graph_core.specs.Structure.{IsCutPair}
 use Rattle.graph_core.specs.Tight.{IsNontrivial}
 use Rattle.barrier_kit.proofs.Matched.{cut_edge}
-use Rattle.match_core.proofs.LongerPaths.{end_within}
-use Rattle.weight_kit.proofs.CutEnds.{cut_ends, ends_turned}
+use Rattle.weight_kit.proofs.CutEnds.{cut_ends, ends_within}
 use Rattle.brick_kit.proofs.PairSeparations.{beside_ends, separates}
 use Rattle.brick_kit.proofs.PartingShores.{ApartEdges}
 
@@ -53,10 +52,10 @@ module _ (g : Graph) (x : Set) (is : IsGraph g) (wide : IsNontrivial g.order x) 
       (λ f wf p q. table (in_cut g x f) (pair_set u v (first_end g f)) (pair_set u v (second_end g f)) (none_beside f wf) p q)
     where
       wu : Within g.order u
-      wu = end_within g is e u v we ends
+      wu = (ends_within g is e u v we ends).0
 
       wv : Within g.order v
-      wv = end_within g is e v u we (ends_turned g e u v ends)
+      wv = (ends_within g is e u v we ends).1
 
       c : (w : ℕ) × Within g.order w × (minus x (singleton u) w ≡ true)
       c = let k = count_minus g.order x u wu xu in let i = wide.inside in count_member g.order (minus x (singleton u)) (omega arith)

@@ -14,8 +14,7 @@ use Rattle.graph_core.specs.Graph.{Graph, HasEnds, IsGraph, connects, first_end,
 use Rattle.graph_core.specs.Structure.{IsCutPair}
 use Rattle.graph_core.specs.Tight.{IsNontrivial, IsTight}
 use Rattle.barrier_kit.proofs.CutFacts.{tight-turned}
-use Rattle.match_core.proofs.LongerPaths.{end_within}
-use Rattle.weight_kit.proofs.CutEnds.{cut_ends, ends_turned}
+use Rattle.weight_kit.proofs.CutEnds.{cut_ends, ends_within}
 use Rattle.brick_kit.proofs.PairSeparations.{beside_ends, separates}
 use Rattle.brick_kit.proofs.PartingShores.{ApartEdges}
 
@@ -43,8 +42,8 @@ odd_crossing g x t d is tx tt odd p p' q = go (t d.u) (t d.u') refl refl q
         first = tx;
         second = tt;
         odd = odd;
-        a_real = end_within g is d.f d.u' d.v' d.f_real d.f_ends;
-        b_real = end_within g is d.e d.v d.u d.e_real (ends_turned g d.e d.u d.v d.e_ends);
+        a_real = (ends_within g is d.f d.u' d.v' d.f_real d.f_ends).0;
+        b_real = (ends_within g is d.e d.u d.v d.e_real d.e_ends).1;
         left = (d.ins.1, l);
         right = (d.outs.0, sym p ∙ k);
       },
@@ -56,8 +55,8 @@ odd_crossing g x t d is tx tt odd p p' q = go (t d.u) (t d.u') refl refl q
         first = tx;
         second = tt;
         odd = odd;
-        a_real = end_within g is d.e d.u d.v d.e_real d.e_ends;
-        b_real = end_within g is d.f d.v' d.u' d.f_real (ends_turned g d.f d.u' d.v' d.f_ends);
+        a_real = (ends_within g is d.e d.u d.v d.e_real d.e_ends).0;
+        b_real = (ends_within g is d.f d.u' d.v' d.f_real d.f_ends).1;
         left = (d.ins.0, k);
         right = (d.outs.1, sym p' ∙ l);
       },
@@ -137,8 +136,8 @@ single_corners g x t a b is cov k one one' = (
       | inl h ↦
           let n = cut_ends g x e h in
           let o = beside_ends g (pair_set c.0 d.0) e n.0 n.1 n.2 p q in
-          let wu = end_within g is e n.0 n.1 we n.2 in
-          let wv = end_within g is e n.1 n.0 we (ends_turned g e n.0 n.1 n.2) in
+          let wu = (ends_within g is e n.0 n.1 we n.2).0 in
+          let wv = (ends_within g is e n.0 n.1 we n.2).1 in
           absurd (both_ways (connects g (minus x t) (minus t x) e) (no_edge_joins g is cov x t k.first k.second k.odd e we)
           (joins g (minus x t) (minus t x) e n.0 n.1 n.2
           (first_alone (x n.0) (t n.0) n.3 (λ tu. eqb-false c.0 n.0 (or_parts (c.0 == n.0) (d.0 == n.0) o.0).0 (only_one g.order (meet x t) one c.0 n.0 c.1 wu c.2 (and_from (x n.0) (t n.0) n.3 tu))))

@@ -1,5 +1,5 @@
 -- A perfect matching is heaviest for the weight "n, and one more in a tight cut".
--- A matching that misses a vertex has an edge less, which is n.
+-- A matching that misses a vertex has an edge less, and an edge weighs n at least.
 use Rattle.std.proofs.Common.{◌≡◌, ℕ, suc, ◌+◌, ◌*◌, ◌≤◌, ◌&&◌, refl, ap, ap₂, ◌∙◌, arith, inl, inr, mul-le-mul_left}
 use Rattle.std.proofs.lemmas.Bool.{and_parts, cases_eq}
 use Rattle.counting.proofs.Counts.{count_complement}

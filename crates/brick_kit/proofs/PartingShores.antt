@@ -8,8 +8,7 @@ use Rattle.counting.specs.Counts.{Within, bit}
 use Rattle.counting.specs.Sets.{Set}
 use Rattle.graph_core.specs.Graph.{Graph, HasEnds, IsGraph, size}
 use Rattle.graph_core.specs.Tight.{IsTight}
-use Rattle.match_core.proofs.LongerPaths.{end_within}
-use Rattle.weight_kit.proofs.CutEnds.{ends_turned}
+use Rattle.weight_kit.proofs.CutEnds.{ends_within}
 use Rattle.weight_kit.proofs.SetSums.{sum_plus, sum_same}
 use Rattle.brick_kit.specs.Balances.{IsBalanced, apart, parts}
 use Rattle.weight_kit.specs.Weights.{sum_over}
@@ -82,8 +81,8 @@ parting g s q x xs is b bound d = let r = some_less g (λ t. bit (parts t d.u d.
     few = parting_numbers (s + s) (q d.u) (q d.v) (q d.u') (q d.v') (apart xs d.u d.v) (apart xs d.u' d.v') (apart xs d.u d.u') (apart xs d.v d.v')
         (balance_ends g s q (x ∷ xs) d.e d.u d.v b d.e_real d.e_ends ∙ ap₂ (λ i j. (s + s) + (bit ((i && not j) || (not i && j)) + apart xs d.u d.v)) d.ins.0 d.outs.0)
         (balance_ends g s q (x ∷ xs) d.f d.u' d.v' b d.f_real d.f_ends ∙ ap₂ (λ i j. (s + s) + (bit ((i && not j) || (not i && j)) + apart xs d.u' d.v')) d.ins.1 d.outs.1)
-        (at_most (q d.u + q d.u') (apart xs d.u d.u') (x d.u) (x d.u') true d.ins.0 d.ins.1 (bound d.u d.u' (end_within g is d.e d.u d.v d.e_real d.e_ends) (end_within g is d.f d.u' d.v' d.f_real d.f_ends) d.differ.0))
-        (at_most (q d.v + q d.v') (apart xs d.v d.v') (x d.v) (x d.v') false d.outs.0 d.outs.1 (bound d.v d.v' (end_within g is d.e d.v d.u d.e_real (ends_turned g d.e d.u d.v d.e_ends)) (end_within g is d.f d.v' d.u' d.f_real (ends_turned g d.f d.u' d.v' d.f_ends)) d.differ.1))
+        (at_most (q d.u + q d.u') (apart xs d.u d.u') (x d.u) (x d.u') true d.ins.0 d.ins.1 (bound d.u d.u' (ends_within g is d.e d.u d.v d.e_real d.e_ends).0 (ends_within g is d.f d.u' d.v' d.f_real d.f_ends).0 d.differ.0))
+        (at_most (q d.v + q d.v') (apart xs d.v d.v') (x d.v) (x d.v') false d.outs.0 d.outs.1 (bound d.v d.v' (ends_within g is d.e d.u d.v d.e_real d.e_ends).1 (ends_within g is d.f d.u' d.v' d.f_real d.f_ends).1 d.differ.1))
       where
         at_most : (k c : ℕ) (i j a : Bool) → i ≡ a → j ≡ a → k ≤ (s + s) + (bit ((i && not j) || (not i && j)) + c) → k ≤ (s + s) + (0 + c)
         at_most k c true true a p p' l = l

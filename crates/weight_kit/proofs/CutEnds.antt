@@ -42,13 +42,6 @@ ends_inside g x e u v ends = elim ends [
     turn false true = refl
     turn false false = refl
 
--- the ends the other way round
-pub ends_turned : (g : Graph) (e u v : ℕ) → HasEnds g e u v → HasEnds g e v u
-ends_turned g e u v ends = elim ends [
-  | inl p ↦ inr p
-  | inr p ↦ inl p
-]
-
 -- the ends of an edge are vertices of the graph
 pub ends_within : (g : Graph) → IsGraph g → (e u v : ℕ) → Within (size g) e → HasEnds g e u v → Within g.order u × Within g.order v
 ends_within g is e u v we ends = let i = is e we in elim ends [

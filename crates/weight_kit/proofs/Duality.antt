@@ -1,7 +1,7 @@
 -- Each weight has a matching and a cover of the same weight.
 -- By induction on the sum of all weights. Where each heaviest matching meets some vertex, the edges at that vertex are lowered; else
 -- a component of the edges that have weight is an odd set, and the edges inside it are lowered.
-use Rattle.std.proofs.Common.{◌≡◌, ℕ, suc, zero, ◌+◌, ◌*◌, ◌≤◌, ◌<◌, true, ◌⊎◌, [], refl, sym, ◌∙◌, arith, inl, inr}
+use Rattle.std.proofs.Common.{◌≡◌, ℕ, suc, zero, ◌+◌, ◌*◌, ◌≤◌, ◌<◌, true, ◌⊎◌, List, [], refl, sym, ◌∙◌, arith, inl, inr}
 use Rattle.std.proofs.lemmas.Bool.{and_from, cases_lt}
 use Rattle.std.proofs.lemmas.List.Elements.{All-nil}
 use Rattle.counting.proofs.Tests.{scan}
@@ -10,14 +10,14 @@ use Rattle.counting.specs.Counts.{Within, bit, count, is_odd, total}
 use Rattle.counting.specs.Sets.{Set, none}
 use Rattle.graph_core.proofs.Decide.{none_matching}
 use Rattle.graph_core.specs.Graph.{Graph, IsGraph, degree, first_end, inside, second_end, size}
-use Rattle.weight_kit.proofs.CoverBound.{Dual}
+use Rattle.weight_kit.proofs.CoverBound.{Dual, cover_bound}
 use Rattle.weight_kit.proofs.CutEnds.{same_side}
 use Rattle.weight_kit.proofs.HeaviestMatchings.{heaviest_exists, heaviest_misses}
 use Rattle.weight_kit.proofs.HeavyParts.{part_closed, part_of, part_own, part_walk}
 use Rattle.weight_kit.proofs.LoweredWeights.{lowered, lowered_falls}
 use Rattle.weight_kit.proofs.MetVertex.{is_at, met_dual, met_edge}
 use Rattle.weight_kit.proofs.OddPart.{part_dual}
-use Rattle.weight_kit.specs.Weights.{IsHeaviest, weight_of}
+use Rattle.weight_kit.specs.Weights.{IsCover, IsHeaviest, cover_value, weight_of}
 
 -- a weight of 0 everywhere
 flat_dual : (g : Graph) (w : ℕ → ℕ) → total (size g) w ≤ 0 → Dual g w
@@ -68,3 +68,12 @@ dual_below (suc b) g w is l = elim (cases_lt 0 (total (size g) w)) [
 
 pub dual : (g : Graph) (w : ℕ → ℕ) → IsGraph g → Dual g w
 dual g w is = dual_below (total (size g) w) g w is (omega arith)
+
+-- each heaviest matching weighs as much as some cover
+pub heaviest_cover : (g : Graph) (w : ℕ → ℕ) (m : Set) → IsGraph g → IsHeaviest g w m → (y : ℕ → ℕ) × (us : List Set) × IsCover g w y us × (weight_of g w m ≡ cover_value g y us)
+heaviest_cover g w m is best =
+    let d = dual g w is in
+    (d.y, d.us, d.cover, settle (weight_of g w m) (weight_of g w d.m) (cover_value g d.y d.us) (cover_bound g w d.y d.us m is d.cover best.is) d.equal (best.most d.m d.is))
+  where
+    settle : (a b c : ℕ) → a ≤ c → b ≡ c → b ≤ a → a ≡ c
+    settle a b c h i j = omega arith

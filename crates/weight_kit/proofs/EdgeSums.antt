@@ -1,10 +1,10 @@
--- Weights as sums over the edges: of sums, flat ones, tests and covers.
+-- Weights as sums over the edges: of sums, multiples, flat weights and tests, and with one edge more.
 -- Term by term over the edges.
 use Rattle.std.proofs.Common.{◌≡◌, ℕ, ◌+◌, ◌*◌, ◌≤◌, ◌<◌, Bool, true, false, ◌&&◌, List, [], ◌∷◌, refl, sym, ap, ◌∙◌, arith, mul-add, inl, inr}
 use Rattle.counting.proofs.Counts.{bit-and}
 use Rattle.std.proofs.lemmas.Bool.{both_ways, cases_lt}
 use Rattle.counting.proofs.Choice.{total_put}
-use Rattle.counting.proofs.Totals.{at_le_total, total_add, total_congr, total_le, total_mul, total_none, total_tight}
+use Rattle.counting.proofs.Totals.{total_add, total_congr, total_le, total_mul, total_none, total_tight}
 use Rattle.counting.specs.Counts.{Within, bit, count, total}
 use Rattle.counting.specs.Sets.{Set, put}
 use Rattle.graph_core.specs.Graph.{Graph, size}
@@ -60,20 +60,6 @@ weight_most g w m = total_le (size g) (λ e. bit (m e) * w e) w (λ e i. few (m 
     few : (b : Bool) (k : ℕ) → bit b * k ≤ k
     few true k = omega arith
     few false k = omega arith
-
-pub weight_same : (g : Graph) (w u : ℕ → ℕ) (m : Set) → ((e : ℕ) → Within (size g) e → m e ≡ true → w e ≡ u e) → weight_of g w m ≡ weight_of g u m
-weight_same g w u m h = total_congr (size g) _ _ (λ e i. each (m e) (w e) (u e) (h e i))
-  where
-    each : (b : Bool) (k j : ℕ) → (b ≡ true → k ≡ j) → bit b * k ≡ bit b * j
-    each true k j l = ap (λ i. 1 * i) (l refl)
-    each false k j l = omega arith
-
-pub weight_at : (g : Graph) (w : ℕ → ℕ) (m : Set) (e : ℕ) → Within (size g) e → m e ≡ true → w e ≤ weight_of g w m
-weight_at g w m e i h = at (m e) (w e) (weight_of g w m) h (at_le_total (size g) (λ e. bit (m e) * w e) e i)
-  where
-    at : (b : Bool) (k t : ℕ) → b ≡ true → bit b * k ≤ t → k ≤ t
-    at true k t h l = omega arith
-    at false k t h l = absurd (both_ways false refl h)
 
 pub weight_put : (g : Graph) (w : ℕ → ℕ) (m : Set) (e : ℕ) → Within (size g) e → m e ≡ false → weight_of g w (put m e true) ≡ weight_of g w m + w e
 weight_put g w m e i h = settle (weight_of g w (put m e true)) (weight_of g w m) (m e) (w e) h (total_put (size g) m e true w i)
