@@ -1,6 +1,6 @@
 use Rattle.std.proofs.Common.{◌∙◌, ◌<◌, length, subst, sym}
 use Rattle.allowed_edges.proofs.Marking.{edge-below, length-marked, marks-more}
-use Rattle.allowed_edges.proofs.edges.mark_edges.Goals as goal
+use Rattle.allowed_edges.proofs.table.mark_edges.Goals as goal
 
 pub loop-i-preserved : goal.loop-i-preserved
 loop-i-preserved c =

@@ -2,7 +2,7 @@ use Rattle.std.proofs.Common.{◌≡◌, ℕ, length, take, map, ◌||◌}
 use Rattle.counting.specs.Lists.{mem}
 use Rattle.match_core.specs.Rows.{marks}
 use Rattle.match_core.proofs.MatchingEdges.{edge_of}
-use Rattle.allowed_edges.proofs.edges.mark_edges.Given as goal
+use Rattle.allowed_edges.proofs.table.mark_edges.Given as goal
 
 abbrev pub invariant-loop-i : goal.invariant-loop-i
 invariant-loop-i l = record {
