@@ -3,7 +3,7 @@ use Rattle.counting.specs.Counts.{Within}
 use Rattle.counting.specs.Lists.{mem, rising_list}
 use Rattle.counting.specs.Tests.{some}
 use Rattle.graph_core.specs.Structure.{is_equivalent, is_least_of_class}
-use Rattle.barrier_kit.proofs.canonical_partition.classes.Given as goal
+use Rattle.barrier_kit.proofs.canonical_partition.classes_in.Given as goal
 
 abbrev pub invariant-loop-k : goal.invariant-loop-k
 invariant-loop-k l = record {
