@@ -14,6 +14,7 @@
 #![tactic(auto)]
 
 mod critical;
+mod flood;
 mod laws;
 mod pair;
 mod shores;
