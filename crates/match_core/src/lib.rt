@@ -21,6 +21,7 @@ mod forest;
 mod frames;
 pub mod laws;
 mod matching;
+mod partner_table;
 mod questions;
 mod repairs;
 mod ring;
@@ -30,6 +31,7 @@ mod step;
 
 pub use frames::{Found, FrameSets, frame, maximum};
 pub use matching::{MatchRow, Matching};
+pub use partner_table::{PartnerTable, all_partners, partners};
 pub use questions::{perfect_with, perfect_without};
 pub use repairs::repair;
 
