@@ -8,7 +8,7 @@ use Rattle.separation_kit.specs.Pairs.{pair_of}
 use Rattle.separation_kit.specs.SeparationShores.{separation_cuts}
 use Rattle.tight_cuts.specs.Candidates.{Barrier, Candidate, Separation, candidate_at, front_candidates}
 use Rattle.tight_cuts.proofs.FrontCandidates.{front-barriers, front-separations, order-small, unlike-some}
-use Rattle.tight_cuts.proofs.finder.first_candidates.Goals as goal
+use Rattle.tight_cuts.proofs.front.front_candidates.Goals as goal
 
 pub separation_candidates-requires-clause-bicritical : goal.separation_candidates-requires-clause-bicritical
 separation_candidates-requires-clause-bicritical c = (unlike-none c.args.g.now).0 (sym c.in_ok-not_bicritical.ensures.first ∙ ap (option_map pair_of) c.in_default.is)

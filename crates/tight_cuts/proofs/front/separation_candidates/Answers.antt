@@ -4,7 +4,7 @@ use Rattle.separation_kit.proofs.SeparationFacts.{separation_cuts-canonical}
 use Rattle.barrier_kit.specs.CanonicalCuts.{IsCanonicalCut}
 use Rattle.counting.specs.Lists.{IsRisingIn}
 use Rattle.tight_cuts.proofs.FrontCandidates.{canonical-rising}
-use Rattle.tight_cuts.proofs.finder.separation_candidates.Goals as goal
+use Rattle.tight_cuts.proofs.front.separation_candidates.Goals as goal
 
 pub candidates_of-requires-clause-shores : goal.candidates_of-requires-clause-shores
 candidates_of-requires-clause-shores c =

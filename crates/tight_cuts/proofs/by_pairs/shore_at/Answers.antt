@@ -3,7 +3,7 @@ use Rattle.std.proofs.lemmas.Bool.{both_ways}
 use Rattle.std.proofs.lemmas.Result.{IfOk-weaker}
 use Rattle.tight_cuts.specs.EdgeSearch.{IsShoreOfEdge, IsShoreOfPair, NoneBefore}
 use Rattle.tight_cuts.proofs.EdgePairs.{found_shore, leads-test, pair_not, skip_second}
-use Rattle.tight_cuts.proofs.edge_search.shore_at.Goals as goal
+use Rattle.tight_cuts.proofs.by_pairs.shore_at.Goals as goal
 
 pub returns-then-groups-clause-none : goal.returns-then-groups-clause-none
 returns-then-groups-clause-none c n = skip_second c.args.g.now c.keeps_limits.ensures c.requires.covered c.args.e c.requires.edge c.args.leaders.now c.requires.leaders c.args.groups.x c.args.groups.y c.requires.before (λ l. c.if-groups.true)
