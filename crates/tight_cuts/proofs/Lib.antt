@@ -21,3 +21,4 @@ pub mod FirstCandidates
 mod CrossingMatchings
 pub mod SingleVertices
 pub mod LiftedCandidates
+pub mod FrontEmpty
