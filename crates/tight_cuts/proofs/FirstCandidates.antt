@@ -1,6 +1,6 @@
 -- The first candidate stays while edges add more, and edges in the cut of a candidate add none.
 -- Idea: an edge leaves the list or appends to it.
-use Rattle.std.proofs.Common.{◌≡◌, ℕ, suc, zero, ◌+◌, ◌≤◌, Bool, true, false, refl, sym, ap, ◌∙◌, arith, List, [], ◌∷◌, ◌++◌, Option, Some, None, slice_get, inl, inr, ◌↔◌, subst, All}
+use Rattle.std.proofs.Common.{◌≡◌, ℕ, suc, zero, ◌+◌, ◌≤◌, Bool, true, false, refl, sym, ap, ◌∙◌, arith, List, [], ◌∷◌, ◌++◌, Option, Some, None, map, slice_get, inl, inr, ◌↔◌, subst, All}
 use Rattle.std.specs.Prelude.{if◌then◌else◌}
 use Rattle.std.specs.List.{list_any}
 use Rattle.std.specs.Option.{option_map}
@@ -71,3 +71,8 @@ first-empty [] None Q h q = (λ e. h.0 refl, λ e. refl)
 first-empty [] (Some c) Q h q = absurd cc
 first-empty (d ∷ list) None Q h q = absurd cc
 first-empty (d ∷ list) (Some c) Q h q = (λ e. absurd cc, λ e. absurd (let r = h.1 e in cc))
+
+-- the first of the candidates led back
+pub first-lifted : (f : Candidate → Candidate) (list : List Candidate) (o : Option Candidate) → o ≡ first_of list → option_map f o ≡ first_of (map f list)
+first-lifted f [] o q = ap (option_map f) q
+first-lifted f (c ∷ list) o q = ap (option_map f) q

@@ -21,4 +21,5 @@ pub mod FirstCandidates
 mod CrossingMatchings
 pub mod SingleVertices
 pub mod LiftedCandidates
+pub mod PartitionCandidates
 pub mod FrontEmpty

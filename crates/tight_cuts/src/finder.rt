@@ -1,12 +1,12 @@
 //! The candidates of a matching covered graph.
-ghost use Rattle.std.specs.Prelude.{◌≡◌, ℕ, [], ◌↔◌, ◌≤◌, true, All, IfOk, OnOk, Some, None};
+ghost use Rattle.std.specs.Prelude.{◌≡◌, ℕ, [], ◌↔◌, ◌≤◌, true, All, IfOk, IsTrue, OnOk, Some, None};
 ghost use Rattle.std.specs.List.{AllPairs, list_any};
 ghost use Rattle.std.specs.Option.{option_map};
 ghost use Rattle.counting.specs.Counts.{Within};
 ghost use Rattle.counting.specs.Lists.{mem};
 ghost use Rattle.counting.specs.Sets.{Set};
 ghost use Rattle.graph_core.specs.Covered.{IsCovered};
-ghost use Rattle.graph_core.specs.Graph.{in_cut, size};
+ghost use Rattle.graph_core.specs.Graph.{IsBipartite, in_cut, size};
 ghost use Rattle.graph_core.specs.Matchings.{Together};
 ghost use Rattle.graph_core.specs.Tight.{IsNontrivial, IsTight};
 ghost use Rattle.allowed_edges.specs.PairTables.{edge_lists, holds_both};
@@ -19,7 +19,7 @@ use crate::edge_search::{Weights, leaders_at, shore_of_edge};
 use crate::front::front_candidates;
 use crate::pieces::weights_of;
 use allowed_edges::{PairTable, together};
-use graph_core::MultiGraph;
+use graph_core::{MultiGraph, Sides};
 use std::alloc::{AllocError as Memory, Global};
 use vset_core::VSet;
 
@@ -105,12 +105,27 @@ fn first_edge_cut(alloc: Global, g: &MultiGraph) -> Result<Option<Candidate>, Me
     Ok(None)
 }
 
-// The list of the candidates.
+// Whether the graph is bipartite.
+fn is_bipartite(alloc: Global, g: &MultiGraph) -> Result<bool, Memory>
+    ensures { IfOk result (λ answer. IsTrue answer ↔ IsBipartite g.now) }
+{
+    match g.two_sides(alloc)? {
+        Sides::Even { .. } => Ok(true),
+        Sides::Odd { .. } => Ok(false),
+    }
+}
+
+// The list of the candidates. A graph that is not bipartite and has none of the first two parts has none at all (Edmonds, Lovász and
+// Pulleyblank 1982).
 fn all_candidates(alloc: Global, g: &MultiGraph) -> Result<CandidateList, Memory>
     requires { IsCovered g.now }
     ensures { IfOk result (λ list. list ≡ candidates g.now) }
 {
+    g.keeps_limits();
     let mut list = front_candidates(alloc, g)?;
+    if list.is_empty() && !is_bipartite(alloc, g)? {
+        return Ok(list);
+    }
     add_edge_cuts(alloc, g, &mut list)?;
     Ok(list)
 }
@@ -150,9 +165,13 @@ fn first_found(alloc: Global, g: &MultiGraph) -> Result<Option<Candidate>, Memor
     requires { IsCovered g.now }
     ensures { IfOk result (λ found. option_map candidate_of found ≡ first_of (candidates g.now)) }
 {
+    g.keeps_limits();
     let front = front_candidates(alloc, g)?;
     if !front.is_empty() {
         return Ok(Some(front.get(0)));
+    }
+    if !is_bipartite(alloc, g)? {
+        return Ok(None);
     }
     first_edge_cut(alloc, g)
 }

@@ -12,7 +12,7 @@
 //! the least minimum cut of the network of the pieces is the intersection of all tight sets that have a piece (`Networks`), and one cut
 //! for each piece tells what the edge gives (`EdgePieces`). `candidates_by_pairs` answers the same by a cut for each pair of pieces.
 //! `candidates_at` lists the candidates at a partition of the vertices into blocks: those of the quotient, led back to vertices of
-//! the graph (`IsCandidateAt`).
+//! the graph (`IsCandidateAt`); `first_candidate_at` answers the first.
 //!
 //! Stands on `contraction`, `allowed_edges`, `barrier_kit`, `separation_kit` and `flow_core`. Sources: Edmonds, Lovász and Pulleyblank 1982;
 //! Lovász, "Matching structure and the matching lattice" (1987); Picard and Queyranne (1980) for least minimum cuts.
@@ -27,7 +27,7 @@ mod front;
 mod pieces;
 mod tightness;
 
-pub use at_partition::candidates_at;
+pub use at_partition::{candidates_at, first_candidate_at};
 pub use by_pairs::candidates_by_pairs;
 pub use candidate::{Candidate, CandidateList, Origin};
 pub use finder::{candidates, find_any, first_candidate};
