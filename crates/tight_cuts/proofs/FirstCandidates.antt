@@ -15,6 +15,16 @@ use Rattle.tight_cuts.specs.Candidates.{Candidate, Flow, Origin, candidates, com
 use Rattle.tight_cuts.specs.View.{candidate_of}
 use Rattle.tight_cuts.specs.declared.candidate.Candidate.{Candidate as StoredCandidate}
 
+-- the first candidate is that at place 0
+pub first-place : (list : List Candidate) → slice_get list 0 ≡ first_of list
+first-place [] = refl
+first-place (d ∷ list) = refl
+
+-- the list without a first candidate is empty
+pub first-nil : (list : List Candidate) → None ≡ first_of list → list ≡ []
+first-nil [] q = refl
+first-nil (d ∷ list) q = absurd cc
+
 first-append : (list : List Candidate) (c d : Candidate) → first_of list ≡ Some c → first_of (list ++ d ∷ []) ≡ Some c
 first-append [] c d h = absurd cc
 first-append (b ∷ list) c d h = h
@@ -45,11 +55,7 @@ first-later g list k (suc m) l c h = elim (cases_eq k (suc m)) [
 -- the first candidate after some edges is the first of all
 pub first-candidates : (g : Graph) (list : List Candidate) (k : ℕ) → k ≤ size g → list ≡ after_edges g (front_candidates g) k → (c : Candidate) → slice_get list 0 ≡ Some c → first_of (candidates g) ≡ Some c
 unfolding candidates
-first-candidates g list k l h c q = first-later g (front_candidates g) k (size g) l c (ap first_of (sym h) ∙ first_is list ∙ q)
-  where
-    first_is : (list : List Candidate) → first_of list ≡ slice_get list 0
-    first_is [] = refl
-    first_is (d ∷ list) = refl
+first-candidates g list k l h c q = first-later g (front_candidates g) k (size g) l c (ap first_of (sym h) ∙ sym (first-place list) ∙ q)
 
 -- edges in the cut of a candidate add nothing
 pub edges-known : (g : Graph) (list : List Candidate) (k : ℕ) → ((e : ℕ) → Within k e → list_any (cuts g e) list ≡ true) → list ≡ after_edges g list k
