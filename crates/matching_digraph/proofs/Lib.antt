@@ -1,0 +1,5 @@
+pub mod Balance
+pub mod TightShores
+pub mod Reached
+pub mod Shores
+pub mod Spans

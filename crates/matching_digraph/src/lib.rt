@@ -1,0 +1,2 @@
+//! The digraph of a perfect matching of a bipartite graph.
+#![tactic(auto)]
