@@ -1,6 +1,6 @@
 -- How a vertex set of a bipartite graph stands to a perfect matching: it has as many vertices more on the one side as edges
 -- leave it from there more than from the other. So a tight set has one vertex more of one side, and all edges of its cut leave it there.
-use Rattle.std.proofs.Common.{◌≡◌, ◌≢◌, ℕ, ◌+◌, Bool, true, false, refl, sym, ap, ◌∙◌, arith, ◌&&◌, ◌||◌, not, inl, inr}
+use Rattle.std.proofs.Common.{◌≡◌, ℕ, ◌+◌, Bool, true, false, refl, sym, ap, arith, ◌&&◌, ◌||◌, not, inl, inr}
 use Rattle.std.proofs.lemmas.Bool.{cases_eq, true≢false, and_parts}
 use Rattle.barrier_kit.proofs.Matched.{inner, loop_free}
 use Rattle.barrier_kit.specs.BarrierCuts.{IsSide}

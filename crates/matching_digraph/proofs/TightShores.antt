@@ -1,23 +1,21 @@
 -- Tight shores of a bipartite covered graph are the vertex sets that no arc of the digraph of a perfect matching leaves, but from
 -- one vertex a of the side: then only the edge of the matching at a leaves the set from the side, and none from the other.
-use Rattle.std.proofs.Common.{◌≡◌, ◌≢◌, ℕ, suc, zero, ◌+◌, ◌≤◌, Bool, true, false, cond, ◌==◌, refl, sym, ap, ap₂, ◌∙◌, arith, ◌&&◌, ◌||◌, not, eq-eqb, ne_eqb, eqb-true, inl, inr, ◌⊎◌, ◌↔◌, subst}
+use Rattle.std.proofs.Common.{◌≡◌, ◌≢◌, ℕ, ◌+◌, ◌≤◌, Bool, true, false, cond, ◌==◌, refl, sym, ap, ◌∙◌, arith, ◌&&◌, ◌||◌, not, eq-eqb, ne_eqb, inl, inr, ◌⊎◌, subst}
 use Rattle.std.proofs.lemmas.Bool.{cases_eq, cases_Bool, true≢false, both_ways, and_parts, and_from, false_from_ne_true, not-true}
-use Rattle.barrier_kit.proofs.Matched.{loop_free}
 use Rattle.barrier_kit.specs.BarrierCuts.{IsSide}
-use Rattle.counting.proofs.Members.{count_zero, member_count, two_members}
+use Rattle.counting.proofs.Members.{member_count, two_members}
 use Rattle.counting.proofs.Tests.{some_true, true_some}
 use Rattle.counting.proofs.Totals.{total_add, total_le, total_none}
 use Rattle.counting.specs.Counts.{bit, count, Within}
-use Rattle.counting.specs.Sets.{Set, none, minus, meet, complement}
-use Rattle.counting.specs.Tests.{some}
+use Rattle.counting.specs.Sets.{Set, none, minus, meet}
 use Rattle.graph_core.proofs.Contraction.{tight_from_cut}
 use Rattle.graph_core.proofs.Perfect.{perfect_matching}
 use Rattle.graph_core.proofs.Textbook.{matching_apart}
 use Rattle.graph_core.proofs.Walks.{adjacent-edge, adjacent_from, has_ends-cases, has_ends-own, has_ends-back}
 use Rattle.graph_core.specs.Covered.{IsCovered}
-use Rattle.graph_core.specs.Graph.{Graph, size, first_end, second_end, IsGraph, connects, degree, has_ends, in_cut, edges_in_cut}
+use Rattle.graph_core.specs.Graph.{Graph, size, first_end, second_end, IsGraph, has_ends}
 use Rattle.graph_core.specs.Matchings.{IsPerfect}
-use Rattle.graph_core.specs.Tight.{CutIsTight, IsTight}
+use Rattle.graph_core.specs.Tight.{IsTight}
 use Rattle.graph_core.specs.Walks.{adjacent}
 use Rattle.matching_digraph.proofs.Balance.{balance, crossing, leaves_left, leaves_right, none_right}
 use Rattle.matching_digraph.specs.Digraph.{NoArcLeaves, arc, are_mates, step_past}
@@ -36,6 +34,13 @@ at_ends g P u v e turn h p = elim (has_ends-cases g u v e h) [
   | inl k ↦ subst (λ s. P s v) k.0 (subst (P (first_end g e)) k.1 p)
   | inr k ↦ turn v u (subst (λ s. P s u) k.0 (subst (P (first_end g e)) k.1 p))
 ]
+
+-- the ends of an edge are vertices
+pub ends_within : (g : Graph) → IsGraph g → (u v e : ℕ) → Within (size g) e → has_ends g u v e ≡ true → Within g.order u × Within g.order v
+ends_within g is u v e w h = let k = is e w in at_ends g (λ s t. Within g.order s × Within g.order t) u v e (λ s t p. (p.1, p.0)) h (k.0, k.1)
+
+pub ends_of_mates : (g : Graph) → IsGraph g → (m : Set) (u v : ℕ) → are_mates g m u v ≡ true → Within g.order u × Within g.order v
+ends_of_mates g is m u v h = let e = mates_edge g m u v h in ends_within g is u v e.0 e.1 e.3
 
 module _ (g : Graph) (is : IsGraph g) (x m : Set) (two : IsSide g x) (perfect : IsPerfect g none m) where
   -- the ends of an edge of m are on different sides
@@ -127,10 +132,6 @@ module _ (g : Graph) (is : IsGraph g) (x m : Set) (two : IsSide g x) (perfect : 
         cases false false false s h = absurd (true≢false (sym h))
         cases false false true false h = absurd (true≢false (sym h))
 
-    -- the ends of an edge are vertices
-    ends_within : (u v e : ℕ) → Within (size g) e → has_ends g u v e ≡ true → Within g.order u × Within g.order v
-    ends_within u v e w h = let k = is e w in at_ends g (λ s t. Within g.order s × Within g.order t) u v e (λ s t p. (p.1, p.0)) h (k.0, k.1)
-
     -- how many edges of k leave y from the left, and from the right
     abbrev lefts : Set → ℕ
     lefts k = count (size g) (λ e. k e && leaves_left g is x two y e)
@@ -142,7 +143,7 @@ module _ (g : Graph) (is : IsGraph g) (x m : Set) (two : IsSide g x) (perfect : 
       no_right : (e : ℕ) → Within (size g) e → leaves_right g is x two y e ≡ false
       no_right e w = false_from_ne_true (leaves_right g is x two y e) (λ h.
           let r = right_ends e h in
-          let n = ends_within r.0 r.1 e w r.2 in
+          let n = ends_within g is r.0 r.1 e w r.2 in
           both_ways (y r.1) r.5 (closed r.0 r.1 n.0 n.1 r.3 (step_adjacent r.0 r.1 r.4 (adjacent_from g none r.0 r.1 e refl refl w r.2))))
 
       rights_none : (k : Set) → rights k ≡ 0
@@ -160,7 +161,7 @@ module _ (g : Graph) (is : IsGraph g) (x m : Set) (two : IsSide g x) (perfect : 
           some_end : (e : ℕ) → Within (size g) e → m e ≡ true → leaves_left g is x two y e ≡ true → 1 ≤ bit (first_end g e == a) + bit (second_end g e == a)
           some_end e w t h =
               let r = left_ends e h in
-              let n = ends_within r.0 r.1 e w r.2 in
+              let n = ends_within g is r.0 r.1 e w r.2 in
               elim (cases_eq a r.0) [
                 | inl q ↦ elim (has_ends-cases g r.0 r.1 e r.2) [
                   | inl k ↦ let z = ap bit (eq-eqb (first_end g e) a (k.0 ∙ sym q)) in omega arith
