@@ -2,21 +2,21 @@
 -- any two vertices of each side. A tight set has one vertex more of one side, and no edge leaves it from the other; where
 -- no perfect matching is left, Hall's condition fails for some vertices, and these with their neighbours are a tight set.
 use Rattle.std.proofs.Common.{◌≡◌, ℕ, suc, zero, ◌+◌, ◌*◌, ◌≤◌, ◌<◌, ◌≢◌, Bool, true, false, ◌==◌, refl, sym, ap, ap₂, ◌∙◌, arith, ◌&&◌, ◌||◌, not, eq-eqb, ne_eqb, eqb-true, nat_lt, ltb-true, ltb-false, ◌⊎◌, inl, inr, ◌↔◌}
-use Rattle.std.proofs.lemmas.Bool.{cases_eq, cases_Bool, true≢false, both_ways, and_parts, and_from, or_cases}
+use Rattle.std.proofs.lemmas.Bool.{cases_Bool, true≢false, both_ways, and_parts, and_from, or_cases}
 use Rattle.barrier_kit.proofs.Families.{glue_family}
 use Rattle.barrier_kit.proofs.Hall.{hall, hits}
 use Rattle.barrier_kit.proofs.Joining.{cut_split}
-use Rattle.barrier_kit.proofs.Matched.{inner, cut_matching, loop_free, perfect_congr}
+use Rattle.barrier_kit.proofs.Matched.{cut_matching, loop_free, perfect_congr}
 use Rattle.barrier_kit.specs.BarrierCuts.{IsSide}
 use Rattle.barrier_kit.specs.Choices.{neighbours, Picks}
 use Rattle.counting.proofs.Choice.{Respects, choose_set}
 use Rattle.counting.proofs.Counts.{count_congr}
-use Rattle.counting.proofs.Members.{count_minus, count_member, count_zero, two_members, two_of}
+use Rattle.counting.proofs.Members.{count_minus, count_member, two_members, two_of}
 use Rattle.counting.proofs.Odd.{odd_three}
 use Rattle.counting.proofs.RisingLists.{same_answers}
 use Rattle.counting.proofs.SetSizes.{count_singleton, count_split}
 use Rattle.counting.proofs.Tests.{some_true, true_some, some_congr}
-use Rattle.counting.proofs.Totals.{total_congr, total_add, total_le, total_none, total_at}
+use Rattle.counting.proofs.Totals.{total_congr, total_add, total_le, total_at}
 use Rattle.counting.specs.Counts.{bit, count, Within}
 use Rattle.counting.specs.Sets.{Set, none, union, minus, meet, complement, singleton}
 use Rattle.counting.specs.Tests.{some}
@@ -25,11 +25,11 @@ use Rattle.quick_kinds.specs.Braces.{AreFoursMatched, four_set}
 use Rattle.graph_core.proofs.Contraction.{tight_from_cut}
 use Rattle.graph_core.proofs.Decide.{covered_perfect}
 use Rattle.graph_core.proofs.Edits.{ends_of, degree_sum, ends_of_is}
-use Rattle.graph_core.proofs.Parity.{degrees, parity}
+use Rattle.graph_core.proofs.Parity.{degrees}
 use Rattle.graph_core.proofs.Perfect.{perfect_matching}
 use Rattle.graph_core.proofs.Walks.{has_ends-cases, has_ends-own, has_ends-back}
 use Rattle.graph_core.specs.Covered.{IsCovered}
-use Rattle.graph_core.specs.Graph.{Graph, size, first_end, second_end, IsGraph, connects, in_cut, degree, has_ends, edges_in_cut}
+use Rattle.graph_core.specs.Graph.{Graph, size, first_end, second_end, IsGraph, in_cut, degree, has_ends, edges_in_cut}
 use Rattle.graph_core.specs.Matchings.{IsPerfect}
 use Rattle.graph_core.specs.Tight.{IsTight, IsNontrivial}
 
