@@ -1,0 +1,9 @@
+use Rattle.weight_kit.proofs.CoverBound.{cover_bound}
+use Rattle.weight_kit.proofs.Duality.{dual}
+use Rattle.weight_kit.proofs.laws.weight_law.Goals as goal
+
+pub returns-clause-below : goal.returns-clause-below
+returns-clause-below c g w y us m is cover mm = cover_bound g w y us m is cover mm
+
+pub returns-clause-equal : goal.returns-clause-equal
+returns-clause-equal c g w is = let d = dual g w is in (d.m, d.y, d.us, d.is, d.cover, d.equal)
