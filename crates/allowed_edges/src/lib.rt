@@ -25,6 +25,3 @@ pub use edges::allowed;
 pub use pairs::{PairTable, share_end, together};
 pub use questions::{perfect_with_edge, perfect_with_pair};
 pub use verdict::covered;
-
-#[cfg(test)]
-mod tests;

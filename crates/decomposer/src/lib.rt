@@ -14,6 +14,3 @@ mod orders;
 
 pub use decomposition::{Refused, decompose};
 pub use orders::{Order, balanced_place, first_place, last_place};
-
-#[cfg(test)]
-mod tests;

@@ -173,6 +173,3 @@ impl MultiGraph {
         }
     }
 }
-
-#[cfg(test)]
-mod tests;

@@ -33,6 +33,3 @@ pub use laws::tutte_berge_law;
 pub use matching::{MatchRow, Matching};
 pub use questions::{perfect_with, perfect_without};
 pub use repairs::repair;
-
-#[cfg(test)]
-mod tests;
