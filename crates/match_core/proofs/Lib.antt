@@ -26,3 +26,4 @@ pub mod FrameFacts
 pub mod Gluing
 pub mod RepairWalks
 pub mod ClearedMatchings
+pub mod PartnerRows
