@@ -1,9 +1,11 @@
-//! Decompositions in the three orders that have names, for the tests that need a derivation.
+//! Decompositions in the orders that have names, for the tests that need a derivation.
 ghost use Rattle.std.specs.Prelude.{◌≡◌, ◌<◌, ◌-◌, length, IfOk};
 ghost use Rattle.tree_core.specs.Derivations.{IsDerivation};
 ghost use Rattle.tree_core.specs.View.{shape_of};
 
-use decomposer::{Order, Refused, balanced_place, decompose, first_place, last_place};
+use decomposer::{
+    Order, Refused, balanced_place, decompose, decompose_first, first_place, last_place,
+};
 use graph_core::MultiGraph;
 use std::alloc::Global;
 use tight_cuts::Candidate;
@@ -13,6 +15,8 @@ use tree_core::Tree;
 #[derive(Clone, Copy)]
 pub enum Choice {
     First,
+    /// The first candidate, where no other is looked for.
+    FirstAlone,
     Last,
     Balanced,
 }
@@ -46,6 +50,7 @@ pub fn decomposed(alloc: Global, g: &MultiGraph, choice: Choice) -> Result<Tree,
 {
     match choice {
         Choice::First => decompose(alloc, g, &Order::new(first_of)),
+        Choice::FirstAlone => decompose_first(alloc, g),
         Choice::Last => decompose(alloc, g, &Order::new(last_of)),
         Choice::Balanced => decompose(alloc, g, &Order::new(balanced_of)),
     }

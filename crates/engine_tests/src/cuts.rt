@@ -143,14 +143,6 @@ fn candidates_if_covered(alloc: Global, graph: &MultiGraph) -> Result<CandidateL
     Ok(CandidateList::new(alloc))
 }
 
-// The shore that `find_any` answers; none where the graph is not matching covered.
-fn any_if_covered(alloc: Global, graph: &MultiGraph) -> Result<Option<VSet>, Fail> {
-    if is_covered(alloc, graph)? {
-        return Ok(find_any(alloc, graph)?);
-    }
-    Ok(None)
-}
-
 // A graph, and the shores of its candidates, in order, with their origin.
 struct Listed {
     order: u32,
@@ -237,14 +229,22 @@ fn has_shores(list: &CandidateList, shores: &[u32], origin: Origin) -> bool {
     true
 }
 
+// Whether the search answers this list, and the search for any cut its first shore.
+fn is_listed(alloc: Global, row: &Listed) -> Result<bool, Fail> {
+    let graph = made(alloc, row.order, row.edges)?;
+    if !is_covered(alloc, &graph)? {
+        return Ok(false);
+    }
+    let list = candidates(alloc, &graph)?;
+    let any = find_any(alloc, &graph)?;
+    let first = row.shores.first().map(|shore| set_of_bits(*shore));
+    Ok(has_shores(&list, row.shores, row.origin) && any == first)
+}
+
 #[test]
 fn worked_candidates(rt: HostRuntime) -> Result<(), Fail> {
     for row in &LISTED {
-        let graph = made(rt.alloc(), row.order, row.edges)?;
-        let list = candidates_if_covered(rt.alloc(), &graph)?;
-        assert!(rt; has_shores(&list, row.shores, row.origin));
-        let first = row.shores.first().map(|shore| set_of_bits(*shore));
-        assert!(rt; any_if_covered(rt.alloc(), &graph)? == first);
+        assert!(rt; is_listed(rt.alloc(), row)?);
     }
     Ok(())
 }

@@ -1,4 +1,4 @@
-//! Worked graphs, each in the three orders.
+//! Worked graphs, each in the orders that have names.
 
 use crate::choices::{Choice, decomposed};
 use crate::made::{made, set_of};
@@ -32,11 +32,13 @@ fn is_leaf(tree: &Tree) -> bool {
 }
 
 // A graph, by its order and its edges, an order of choice, and the shore of the only cut.
-static ONE_CUT: [(u32, &[(u32, u32)], Choice, &[u32]); 6] = [
+static ONE_CUT: [(u32, &[(u32, u32)], Choice, &[u32]); 8] = [
     (6, &HEXAGON, Choice::First, &[2, 3, 4]),
+    (6, &HEXAGON, Choice::FirstAlone, &[2, 3, 4]),
     (6, &HEXAGON, Choice::Last, &[1, 2, 3]),
     (6, &HEXAGON, Choice::Balanced, &[2, 3, 4]),
     (8, &TRIANGLE_IN_K33, Choice::First, &[1, 2, 3]),
+    (8, &TRIANGLE_IN_K33, Choice::FirstAlone, &[1, 2, 3]),
     (8, &TRIANGLE_IN_K33, Choice::Last, &[1, 2, 3]),
     (8, &TRIANGLE_IN_K33, Choice::Balanced, &[1, 2, 3]),
 ];
