@@ -19,6 +19,9 @@
 //! `grown`: on generated graphs and on the leaves of their decomposition the quick tests of `quick_kinds` agree with the complete
 //! finder, the ear lists that are built are accepted, and the table of pairs of a large graph ends.
 //!
+//! `quick_lists`: on worked and generated graphs and their leaves, wheels, prisms and Möbius ladders `tight_cuts::candidates` answers what
+//! the plain way by pairs does, and `first_candidate` the first of it.
+//!
 //! `compared`: two derivations of the cycle of eight are compared, the moves lead from the one to the other, and a shore is exposed.
 //!
 //! A test is a table and a small function that walks it: each test is proved, and a table of constants costs little to prove. Source of
@@ -57,6 +60,8 @@ mod nets;
 mod orders;
 #[cfg(test)]
 mod pairs;
+#[cfg(test)]
+mod quick_lists;
 #[cfg(test)]
 mod quotients;
 #[cfg(test)]
