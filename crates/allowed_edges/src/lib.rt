@@ -27,6 +27,3 @@ pub use edges::{allowed, allowed_in, is_allowed_in};
 pub use pairs::{PairTable, share_end, together};
 pub use questions::{perfect_with_edge, perfect_with_pair};
 pub use verdict::{covered, covered_in};
-
-#[cfg(test)]
-mod tests;

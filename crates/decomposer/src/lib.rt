@@ -16,6 +16,3 @@ mod pickers;
 
 pub use decomposition::{Refused, decompose, decompose_first};
 pub use orders::{Order, balanced_place, first_place, last_place};
-
-#[cfg(test)]
-mod tests;

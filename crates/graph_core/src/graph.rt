@@ -187,6 +187,3 @@ impl MultiGraph {
         }
     }
 }
-
-#[cfg(test)]
-mod tests;

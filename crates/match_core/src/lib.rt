@@ -34,6 +34,3 @@ pub use matching::{MatchRow, Matching};
 pub use partner_table::{PartnerTable, all_partners, partners};
 pub use questions::{perfect_with, perfect_without};
 pub use repairs::repair;
-
-#[cfg(test)]
-mod tests;
