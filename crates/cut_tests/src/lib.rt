@@ -12,6 +12,9 @@
 //! `grown`: on generated graphs and on the leaves of their decomposition the quick tests of `quick_kinds` agree with the complete
 //! finder, the ear lists that are built are accepted, and the table of pairs of a large graph ends.
 //!
+//! `quick_lists`: on worked and generated graphs and their leaves, wheels, prisms and Möbius ladders `tight_cuts::candidates` answers what
+//! the plain way by pairs does, and `first_candidate` the first of it.
+//!
 //! `compared`: two derivations of the cycle of eight are compared, the moves lead from the one to the other, and a shore is exposed.
 //!
 //! The crate has no items but these tests; they stand here since most calls ask for a covered graph, which `allowed_edges` decides.
@@ -24,5 +27,7 @@ mod compared;
 mod cuts;
 #[cfg(test)]
 mod grown;
+#[cfg(test)]
+mod quick_lists;
 #[cfg(test)]
 mod worked;
