@@ -19,7 +19,7 @@ mod cycle;
 mod exchange;
 mod forest;
 mod frames;
-mod laws;
+pub mod laws;
 mod matching;
 mod questions;
 mod repairs;
@@ -29,7 +29,6 @@ mod search;
 mod step;
 
 pub use frames::{Found, FrameSets, frame, maximum};
-pub use laws::tutte_berge_law;
 pub use matching::{MatchRow, Matching};
 pub use questions::{perfect_with, perfect_without};
 pub use repairs::repair;

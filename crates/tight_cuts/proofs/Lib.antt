@@ -23,3 +23,4 @@ pub mod SingleVertices
 pub mod LiftedCandidates
 pub mod PartitionCandidates
 pub mod FrontEmpty
+pub mod BipartiteShores

@@ -226,8 +226,8 @@ pub(crate) fn leads(leaders: &[u32], a: u32, b: u32, x: u32) -> bool
     x != a && x != b && leaders[x as usize] == x
 }
 
-// The least vertex other than `b` that the shore lacks; `None` exactly where it lacks none.
-fn first_lacking(shore: VSet, n: u32, b: u32) -> Option<u32>
+/// The least vertex other than `b` that the shore lacks; `None` exactly where it lacks none.
+pub(crate) fn first_lacking(shore: VSet, n: u32, b: u32) -> Option<u32>
     requires few { n ≤ MOST_VERTICES }
     requires vertex { Within n b }
     ensures some { IfSome result (λ y. Within n y × (y ≢ b) × (mem shore y ≡ false)) }

@@ -19,6 +19,7 @@
 #![tactic(auto)]
 
 mod at_partition;
+mod bipartite;
 mod by_pairs;
 mod candidate;
 mod edge_search;
