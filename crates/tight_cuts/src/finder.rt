@@ -1,25 +1,30 @@
 //! The candidates of a matching covered graph.
-ghost use Rattle.std.specs.Prelude.{◌≡◌, ℕ, [], ◌↔◌, ◌≤◌, true, All, IfOk, IsTrue, OnOk, Some, None};
+ghost use Rattle.std.specs.Prelude.{◌≡◌, ℕ, [], ◌↔◌, ◌≤◌, true, All, IfOk, OnOk, Some, None};
 ghost use Rattle.std.specs.List.{AllPairs, list_any};
 ghost use Rattle.std.specs.Option.{option_map};
 ghost use Rattle.counting.specs.Counts.{Within};
 ghost use Rattle.counting.specs.Lists.{mem};
-ghost use Rattle.counting.specs.Sets.{Set};
+ghost use Rattle.counting.specs.Sets.{Set, none};
 ghost use Rattle.graph_core.specs.Covered.{IsCovered};
-ghost use Rattle.graph_core.specs.Graph.{IsBipartite, in_cut, size};
-ghost use Rattle.graph_core.specs.Matchings.{Together};
+ghost use Rattle.graph_core.specs.Graph.{in_cut, size};
+ghost use Rattle.graph_core.specs.Matchings.{IsPerfect, Together};
 ghost use Rattle.graph_core.specs.Tight.{IsNontrivial, IsTight};
+ghost use Rattle.match_core.specs.MatchingRows.{IsOf, edges_of};
 ghost use Rattle.allowed_edges.specs.PairTables.{edge_lists, holds_both};
+ghost use Rattle.barrier_kit.specs.BarrierCuts.{IsSide};
 ghost use Rattle.tight_cuts.specs.Candidates.{IsTightCandidate, ShoresDiffer, candidates, cuts, first_of, first_shore, front_candidates, with_edge_cut};
 ghost use Rattle.tight_cuts.specs.EdgeSearch.{AreWeights};
 ghost use Rattle.tight_cuts.specs.View.{candidate_of};
 
+use crate::bipartite::bipartite_shore_of_edge;
 use crate::candidate::{Candidate, CandidateList, Origin, add_shore, any_cuts};
 use crate::edge_search::{Weights, leaders_at, shore_of_edge};
 use crate::front::front_candidates;
 use crate::pieces::weights_of;
 use allowed_edges::{PairTable, together};
-use graph_core::{MultiGraph, Sides};
+use graph_core::MultiGraph;
+use match_core::{Matching, perfect_without};
+use matching_digraph::side_of;
 use std::alloc::{AllocError as Memory, Global};
 use vset_core::VSet;
 
@@ -67,7 +72,7 @@ fn edges_cut(list: &CandidateList, g: &MultiGraph) -> u32
     g.size()
 }
 
-// Adds what the edges give. The table of pairs is made where an edge is in the cut of no earlier candidate, and else not at all.
+// Adds what the edges of any graph give. The table of pairs is made where an edge is in the cut of no earlier candidate, and else not at all.
 fn add_edge_cuts(alloc: Global, g: &MultiGraph, list: &mut CandidateList) -> Result<(), Memory>
     requires covered { IsCovered g.now }
     requires front { list.old ≡ front_candidates g.now }
@@ -86,33 +91,89 @@ fn add_edge_cuts(alloc: Global, g: &MultiGraph, list: &mut CandidateList) -> Res
     Ok(())
 }
 
-// The first candidate that an edge gives, where the first two parts give none.
-fn first_edge_cut(alloc: Global, g: &MultiGraph) -> Result<Option<Candidate>, Memory>
+// What one edge of a bipartite graph adds to the list.
+fn add_bipartite_cut(
+    alloc: Global,
+    g: &MultiGraph,
+    side: VSet,
+    kept: &Matching,
+    e: u32,
+    list: &mut CandidateList,
+) -> Result<(), Memory>
     requires covered { IsCovered g.now }
+    requires edge { Within (size g.now) e }
+    requires side { IsSide g.now (mem side) }
+    requires of { IsOf g.now kept.now }
+    requires perfect { IsPerfect g.now none (mem (edges_of kept.now)) }
+    ensures { OnOk result (list.new ≡ with_edge_cut g.now list.old e) }
+{
+    g.keeps_limits();
+    if any_cuts(list, g, e) {
+        return Ok(());
+    }
+    match bipartite_shore_of_edge(alloc, g, side, kept, e)? {
+        Some(shore) => {
+            add_shore(list, g.order(), Origin::Flow, shore)?;
+            Ok(())
+        }
+        None => Ok(()),
+    }
+}
+
+// A perfect matching of a covered graph.
+fn perfect_of(alloc: Global, g: &MultiGraph) -> Result<Matching, Memory>
+    requires { IsCovered g.now }
+    ensures of { IfOk result (λ kept. IsOf g.now kept) }
+    ensures perfect { IfOk result (λ kept. IsPerfect g.now none (mem (edges_of kept))) }
+{
+    g.keeps_limits();
+    match perfect_without(alloc, g, VSet::empty())? {
+        Some(kept) => Ok(kept),
+        None => unreachable!(),
+    }
+}
+
+// Adds what the edges of a bipartite graph give.
+fn add_bipartite_cuts(
+    alloc: Global,
+    g: &MultiGraph,
+    side: VSet,
+    list: &mut CandidateList,
+) -> Result<(), Memory>
+    requires covered { IsCovered g.now }
+    requires side { IsSide g.now (mem side) }
+    requires front { list.old ≡ front_candidates g.now }
+    ensures { OnOk result (list.new ≡ candidates g.now) }
+{
+    g.keeps_limits();
+    let kept = perfect_of(alloc, g)?;
+    for k in 0..g.size() {
+        add_bipartite_cut(alloc, g, side, &kept, k + 1, list)?;
+    }
+    Ok(())
+}
+
+// The first candidate that an edge of a bipartite graph gives, where the first two parts give none.
+fn first_bipartite_cut(
+    alloc: Global,
+    g: &MultiGraph,
+    side: VSet,
+) -> Result<Option<Candidate>, Memory>
+    requires covered { IsCovered g.now }
+    requires side { IsSide g.now (mem side) }
     requires front { front_candidates g.now ≡ [] }
     ensures { IfOk result (λ found. option_map candidate_of found ≡ first_of (candidates g.now)) }
 {
     g.keeps_limits();
-    let pairs = together(alloc, g)?;
-    let weights = weights_of(alloc, g, &pairs)?;
+    let kept = perfect_of(alloc, g)?;
     let mut list = CandidateList::new(alloc);
     for k in 0..g.size() {
-        add_edge_cut(alloc, g, &pairs, &weights, k + 1, &mut list)?;
+        add_bipartite_cut(alloc, g, side, &kept, k + 1, &mut list)?;
         if !list.is_empty() {
             return Ok(Some(list.get(0)));
         }
     }
     Ok(None)
-}
-
-// Whether the graph is bipartite.
-fn is_bipartite(alloc: Global, g: &MultiGraph) -> Result<bool, Memory>
-    ensures { IfOk result (λ answer. IsTrue answer ↔ IsBipartite g.now) }
-{
-    match g.two_sides(alloc)? {
-        Sides::Even { .. } => Ok(true),
-        Sides::Odd { .. } => Ok(false),
-    }
 }
 
 // The list of the candidates. A graph that is not bipartite and has none of the first two parts has none at all (Edmonds, Lovász and
@@ -123,7 +184,11 @@ fn all_candidates(alloc: Global, g: &MultiGraph) -> Result<CandidateList, Memory
 {
     g.keeps_limits();
     let mut list = front_candidates(alloc, g)?;
-    if list.is_empty() && !is_bipartite(alloc, g)? {
+    if let Some(side) = side_of(alloc, g)? {
+        add_bipartite_cuts(alloc, g, side, &mut list)?;
+        return Ok(list);
+    }
+    if list.is_empty() {
         return Ok(list);
     }
     add_edge_cuts(alloc, g, &mut list)?;
@@ -170,10 +235,10 @@ fn first_found(alloc: Global, g: &MultiGraph) -> Result<Option<Candidate>, Memor
     if !front.is_empty() {
         return Ok(Some(front.get(0)));
     }
-    if !is_bipartite(alloc, g)? {
-        return Ok(None);
+    match side_of(alloc, g)? {
+        Some(side) => first_bipartite_cut(alloc, g, side),
+        None => Ok(None),
     }
-    first_edge_cut(alloc, g)
 }
 
 /// The shore of the first candidate, which is a canonical nontrivial tight shore, and `None` exactly where the covered graph has no
