@@ -1,14 +1,14 @@
 -- What an edge of a bipartite graph gives, by the digraph of a perfect matching that holds it.
 -- Idea: the least tight shore with an end of the edge and x, and without the other end, is the intersection of all; and a pair is
 -- parted by a nontrivial one alone.
-use Rattle.std.proofs.Common.{IfOk, Result, Ok, Err, ◌≡◌, ◌≢◌, ℕ, ◌+◌, ◌≤◌, Bool, true, false, ◌==◌, ◌&&◌, ◌||◌, not, refl, sym, ap, ap₂, ◌∙◌, arith, inl, inr, ◌⊎◌, List, Option, Some, None, eq-eqb, ne_eqb}
-use Rattle.std.proofs.lemmas.Bool.{both_ways, false_from_ne_true, or_from, or_left, or_right}
+use Rattle.std.proofs.Common.{IfOk, Result, Ok, Err, ◌≡◌, ℕ, true, ◌==◌, sym, ap, ◌∙◌, List, Some, None, eq-eqb}
+use Rattle.std.proofs.lemmas.Bool.{both_ways, false_from_ne_true, or_left, or_right}
 use Rattle.counting.proofs.RisingLists.{same_answers}
 use Rattle.counting.specs.Counts.{Within}
 use Rattle.counting.specs.Lists.{mem}
-use Rattle.counting.specs.Sets.{Set, complement, pair_set}
+use Rattle.counting.specs.Sets.{pair_set}
 use Rattle.graph_core.specs.Covered.{IsCovered}
-use Rattle.graph_core.specs.Graph.{Graph, IsGraph, first_end, second_end, size}
+use Rattle.graph_core.specs.Graph.{Graph, size}
 use Rattle.graph_core.specs.View.{IsWithinLimits}
 use Rattle.match_core.specs.MatchingRows.{MatchingValue, edges_of}
 use Rattle.matching_digraph.proofs.TightShores.{mates_from}

@@ -1,6 +1,6 @@
 -- The length of a pair list that grows.
 -- Idea: each member is the first to hold some pair of edges, and no pair has two first members.
-use Rattle.std.proofs.Common.{◌≡◌, ℕ, suc, zero, ◌-◌, ◌≤◌, ◌≢◌, Bool, true, false, refl, sym, ap, ◌∙◌, arith, ◌&&◌, not, inl, inr, List, [], length, nat_le}
+use Rattle.std.proofs.Common.{◌≡◌, ℕ, suc, zero, ◌-◌, ◌≤◌, Bool, true, false, refl, sym, ap, ◌∙◌, arith, ◌&&◌, not, inl, inr, List, [], length, nat_le}
 use Rattle.std.proofs.lemmas.Bool.{cases_lt, cases_Bool, and_parts, and_from, true≢false, both_ways, false_from_ne_true, le-leb, leb-true}
 use Rattle.std.specs.Prelude.{All}
 use Rattle.counting.proofs.Counts.{count_le, count_le_one}

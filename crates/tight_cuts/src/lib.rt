@@ -7,15 +7,18 @@
 //! in a listed one (clause `cover`), and so the list is empty exactly where there is no nontrivial tight cut (clause `none`).
 //! `first_candidate` and `find_any` answer the first, and search no further.
 //!
-//! How an edge is searched: a tight set through an edge is a union of the edge's pieces beside one of its ends (`Pieces`); over a
-//! pair list each odd set is met at least as often as the list is long, and exactly so often where it is tight (`PairSums`); so
-//! the least minimum cut of the network of the pieces is the intersection of all tight sets that have a piece (`Networks`), and one cut
-//! for each piece tells what the edge gives (`EdgePieces`). `candidates_by_pairs` answers the same by a cut for each pair of pieces.
+//! What is searched: a graph that is not bipartite and has no cut of a barrier or a separation has no tight cut at all (`FrontEmpty`). In a
+//! bipartite graph floods in the digraph of a perfect matching tell what an edge gives (`BipartiteShores`). Elsewhere a tight set
+//! through an edge is a union of the edge's pieces beside one of its ends (`Pieces`); over a pair list each odd set is met at least as
+//! often as the list is long, and exactly so often where it is tight (`PairSums`); so the least minimum cut of the network of the pieces
+//! is the intersection of all tight sets that have a piece (`Networks`), and one cut for each piece tells what the edge gives
+//! (`EdgePieces`). `candidates_by_pairs` answers the same by a cut for each pair of pieces, and only tests call it.
+//!
 //! `candidates_at` lists the candidates at a partition of the vertices into blocks: those of the quotient, led back to vertices of
 //! the graph (`IsCandidateAt`); `first_candidate_at` answers the first.
 //!
-//! Stands on `contraction`, `allowed_edges`, `barrier_kit`, `separation_kit` and `flow_core`. Sources: Edmonds, Lovász and Pulleyblank 1982;
-//! Lovász, "Matching structure and the matching lattice" (1987); Picard and Queyranne (1980) for least minimum cuts.
+//! Stands on `contraction`, `allowed_edges`, `barrier_kit`, `separation_kit`, `brick_kit`, `matching_digraph` and `flow_core`. Sources:
+//! Edmonds, Lovász and Pulleyblank 1982; Lovász, "Matching structure and the matching lattice" (1987); Picard and Queyranne (1980) for least minimum cuts.
 #![tactic(auto)]
 
 mod at_partition;

@@ -3,7 +3,6 @@ use Rattle.std.proofs.lemmas.Result.{IfOk-weaker}
 use Rattle.counting.specs.Sets.{Set}
 use Rattle.graph_core.specs.Graph.{Graph}
 use Rattle.graph_core.specs.Partitions.{IsPartition}
-use Rattle.graph_core.specs.Quotients.{quotient}
 use Rattle.graph_core.specs.Shores.{IsTightAt, blocks_in}
 use Rattle.graph_core.specs.Tight.{IsNontrivial, IsTight}
 use Rattle.tight_cuts.specs.Candidates.{Candidate, IsTightCandidate, candidates}

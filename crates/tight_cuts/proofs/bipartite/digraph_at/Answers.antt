@@ -1,4 +1,4 @@
-use Rattle.std.proofs.Common.{◌≡◌, true, ◌∙◌, ap, ap₂, min, sym}
+use Rattle.std.proofs.Common.{◌∙◌, ap, ap₂, min, sym}
 use Rattle.counting.specs.Lists.{mem}
 use Rattle.tight_cuts.proofs.BipartiteShores.{digraph_found}
 use Rattle.tight_cuts.proofs.bipartite.digraph_at.Goals as goal

@@ -1,4 +1,4 @@
-use Rattle.std.proofs.Common.{◌+◌, arith, inl}
+use Rattle.std.proofs.Common.{arith, inl}
 use Rattle.tight_cuts.proofs.BipartiteShores.{nothing_at}
 use Rattle.tight_cuts.proofs.FirstPairs.{no_first}
 use Rattle.tight_cuts.specs.Candidates.{greater_end, is_parted, lesser_end}

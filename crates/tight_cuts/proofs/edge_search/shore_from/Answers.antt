@@ -1,7 +1,6 @@
 use Rattle.std.proofs.Common.{◌∙◌, ap₂, min, max, sym, subst}
 use Rattle.std.proofs.lemmas.Bool.{both_ways}
 use Rattle.counting.specs.Counts.{Within}
-use Rattle.counting.specs.Lists.{mem}
 use Rattle.tight_cuts.specs.Candidates.{greater_end, lesser_end}
 use Rattle.tight_cuts.specs.EdgeSearch.{IsCommonShore}
 use Rattle.tight_cuts.proofs.EdgePairs.{leads-test, skip_first}
