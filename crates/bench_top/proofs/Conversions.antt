@@ -23,7 +23,7 @@ convert-again : (held : Loaded NamedGraph) (again_held : Loaded NamedGraph) (out
 convert-again (All named) again_held output holds gives =
     subst (λ (h : Loaded NamedGraph). LoadedGives (loaded_as task.Convert h) Done output) (sym (holds named gives)) (again named output gives)
 convert-again (Bad file line kind) again_held output holds gives = let no = gives.0 in cc no
-convert-again Absent again_held output holds gives = absurd gives
+convert-again (Absent file) again_held output holds gives = absurd gives
 
 pub convert-twice : (files others : List Named) (name other : List ℕ) (output : List ℕ) → LoadedGives (loaded_as task.Convert (graph_file files name)) Done output → file_named other others ≡ Some output → length output ≤ most_bytes → LoadedGives (loaded_as task.Convert (graph_file others other)) Done output
 convert-twice files others name other output gives held within =

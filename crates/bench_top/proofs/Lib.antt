@@ -12,3 +12,9 @@ pub mod ScriptTexts
 pub mod PairLines
 pub mod GrownSizes
 pub mod ScriptReplays
+pub mod ReadNames
+pub mod ReadsMade
+pub mod ReadGraphs
+pub mod Settled
+pub mod LoadedGraphs
+pub mod Completeness

@@ -78,14 +78,14 @@ module _ (files again : List Named) (graph first second script output : List ℕ
       ∙ ap (loaded_as (λ (t : Shape). (named, (s, t)))) is)
       done
   second_read named s (Bad file line kind) is given before done = let no = done.0 in cc no
-  second_read named s Absent is given before done = absurd done
+  second_read named s (Absent file) is given before done = absurd done
 
   -- by what the files of the graph and of the first tree are read as
   first_read : (h : Loaded (NamedGraph × Shape)) → tree_given files graph first ≡ h → tree_given again graph first ≡ h →
       LoadedGives (loaded_as script_task (and_then h (λ given. loaded_as (λ t. (given.0, (given.1, t))) (tree_file files 3 second given.0.graph.order)))) Done output → ReplaysScript files again graph first second script output
   first_read (All given) before now done = second_read given.0 given.1 (tree_file files 3 second given.0.graph.order) refl now before done
   first_read (Bad file line kind) before now done = let no = done.0 in cc no
-  first_read Absent before now done = absurd done
+  first_read (Absent file) before now done = absurd done
 
 -- what was written is replayed
 pub script-replayed : (files again : List Named) (graph first second script output : List ℕ) → LoadedGives (loaded_as script_task (trees_given files graph first second)) Done output →

@@ -1,5 +1,5 @@
 -- What a shelf tells of its files.
-use Rattle.std.specs.Prelude.{◌≡◌, ℕ, ◌<◌, List, [], ◌∷◌, length, take, if◌then◌else◌}
+use Rattle.std.specs.Prelude.{◌≡◌, ℕ, ◌<◌, ◌≤◌, List, [], ◌∷◌, length, take, if◌then◌else◌}
 use Rattle.std.specs.declared.option.Option.{Option}
 use Rattle.std.specs.declared.option.Option.TheVariants.{Some, None}
 use Rattle.std.specs.Str.{bytes_eq}
@@ -24,7 +24,7 @@ ReadsInTurn {S} reads (name ∷ names) first last = (next : S) × (reads first n
 
 -- reads of the first few of these names do
 abbrev pub ReadsFirst : {S : Type 0} → (S → List ℕ → S → Type 0) → List (List ℕ) → S → S → Type 0
-ReadsFirst reads names first last = (count : ℕ) × ReadsInTurn reads (take count names) first last
+ReadsFirst reads names first last = (count : ℕ) × ((count ≤ length names) × ReadsInTurn reads (take count names) first last)
 
 -- where the files are told, this is the file of that name, or none
 abbrev pub TellsFile : Option (List Named) → List ℕ → Option (List ℕ) → Type 0
