@@ -18,3 +18,6 @@ pub mod ReadGraphs
 pub mod Settled
 pub mod LoadedGraphs
 pub mod Completeness
+pub mod OneOutput
+pub mod TextsStand
+pub mod WrittenBack

@@ -2,7 +2,6 @@
 use Rattle.std.proofs.Common.{ℕ, Bool, true, false, cond, nat_lt, List, length, Option, Some, None, Result, Ok, Err}
 use Rattle.outside.specs.Shelf.{Named, file_named}
 use Rattle.line_text.specs.Reading.{reading_of}
-use Rattle.graph_core.specs.Graph.{IsGraph}
 use Rattle.graph_core.specs.declared.faults.FaultKind.{FaultKind}
 use Rattle.graph_text.specs.EitherVersion.{NamedGraph, either_version}
 use Rattle.tree_core.specs.Moves.{PlainMove}
@@ -11,7 +10,7 @@ use Rattle.bench_top.specs.Commands.{Command, Analyse, Convert, Analyse6, Decomp
 use Rattle.bench_top.specs.Loading.{Loaded, All, Bad, Absent, and_then, ear_file, file_read, from_reading, graph6_file, graph_file, loaded, loaded_as, most_bytes, move_file, moves_given, pick_file, tree_file, tree_given, trees_given}
 use Rattle.bench_top.specs.Tasks.{Task}
 use Rattle.bench_top.specs.Tasks as task
-use Rattle.bench_top.proofs.ReadGraphs.{GoesOn, HasGraph, read-graph}
+use Rattle.bench_top.proofs.ReadGraphs.{GoesOn, HasGraph, IsRead, read-graph}
 use Rattle.bench_top.proofs.Settled.{KeepsGraph}
 
 -- the fact holds of what is held, if all is held and good
@@ -48,17 +47,17 @@ read-holds {A} P place reading (Some bytes) goes = at (nat_lt most_bytes (length
     at false (Err fault) is = tt
 
 -- the graph of a file
-graph-holds : (files : List Named) (name : List ℕ) → Holds HasGraph (graph_file files name)
+pub graph-holds : (files : List Named) (name : List ℕ) → Holds HasGraph (graph_file files name)
 graph-holds files name = read-holds HasGraph 1 (reading_of either_version) (file_named name files) read-graph
 
 abbrev TreeHasGraph : NamedGraph × Shape → Type 0
-TreeHasGraph given = IsGraph given.0.graph
+TreeHasGraph given = IsRead given.0.graph
 
 abbrev TreesHaveGraph : NamedGraph × (Shape × Shape) → Type 0
-TreesHaveGraph given = IsGraph given.0.graph
+TreesHaveGraph given = IsRead given.0.graph
 
 abbrev MovesHaveGraph : NamedGraph × (Shape × List PlainMove) → Type 0
-MovesHaveGraph given = IsGraph given.0.graph
+MovesHaveGraph given = IsRead given.0.graph
 
 tree_given-holds : (files : List Named) (graph tree : List ℕ) → Holds TreeHasGraph (tree_given files graph tree)
 tree_given-holds files graph tree =
@@ -84,15 +83,15 @@ loaded-graph files (Decompose graph order) = as-holds Anything KeepsGraph (λ na
 loaded-graph files (DecomposeBy graph picks) =
     then-holds Anything KeepsGraph (graph_file files graph) (λ named. loaded_as (task.DecomposeBy named) (pick_file files picks)) (any-holds (graph_file files graph))
     (λ named any. as-holds Anything KeepsGraph (task.DecomposeBy named) (pick_file files picks) (λ p none. tt) (any-holds (pick_file files picks)))
-loaded-graph files (Check graph tree) = as-holds TreeHasGraph KeepsGraph (λ given. task.Check given.0 given.1) (tree_given files graph tree) (λ given is. is) (tree_given-holds files graph tree)
+loaded-graph files (Check graph tree) = as-holds TreeHasGraph KeepsGraph (λ given. task.Check given.0 given.1) (tree_given files graph tree) (λ given is. is.ends) (tree_given-holds files graph tree)
 loaded-graph files (CheckEars graph ears) =
     then-holds Anything KeepsGraph (graph_file files graph) (λ named. loaded_as (task.CheckEars named) (ear_file files ears named.graph)) (any-holds (graph_file files graph))
     (λ named any. as-holds Anything KeepsGraph (task.CheckEars named) (ear_file files ears named.graph) (λ list none. tt) (any-holds (ear_file files ears named.graph)))
 loaded-graph files (Ears graph) = as-holds Anything KeepsGraph task.Ears (graph_file files graph) (λ named any. tt) (any-holds (graph_file files graph))
 loaded-graph files (Replay graph tree moves) =
-    as-holds MovesHaveGraph KeepsGraph (λ given. task.Replay given.0 given.1.0 given.1.1) (moves_given files graph tree moves) (λ given is. is) (moves_given-holds files graph tree moves)
+    as-holds MovesHaveGraph KeepsGraph (λ given. task.Replay given.0 given.1.0 given.1.1) (moves_given files graph tree moves) (λ given is. is.ends) (moves_given-holds files graph tree moves)
 loaded-graph files (Compare graph first second) =
-    as-holds TreesHaveGraph KeepsGraph (λ given. task.Compare given.0 given.1.0 given.1.1) (trees_given files graph first second) (λ given is. is) (trees_given-holds files graph first second)
+    as-holds TreesHaveGraph KeepsGraph (λ given. task.Compare given.0 given.1.0 given.1.1) (trees_given files graph first second) (λ given is. is.ends) (trees_given-holds files graph first second)
 loaded-graph files (Script graph first second) =
-    as-holds TreesHaveGraph KeepsGraph (λ given. task.Script given.0 given.1.0 given.1.1) (trees_given files graph first second) (λ given is. is) (trees_given-holds files graph first second)
+    as-holds TreesHaveGraph KeepsGraph (λ given. task.Script given.0 given.1.0 given.1.1) (trees_given files graph first second) (λ given is. is.ends) (trees_given-holds files graph first second)
 loaded-graph files (Grow seed pieces) = tt

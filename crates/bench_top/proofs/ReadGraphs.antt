@@ -1,11 +1,12 @@
--- The graph that a text stands for is a graph: each end of each edge is a vertex. What has been read so far keeps this from line to line,
--- and has no more names than vertices, so that the vertex of a name is one of the graph.
+-- The graph that a text stands for is a graph within the limits: each end of each edge is a vertex. What has been read so far keeps this
+-- from line to line, and has no more names than vertices, so that the vertex of a name is one of the graph.
 use Rattle.std.proofs.Common.{◌≡◌, ℕ, zero, suc, ◌+◌, ◌-◌, ◌<◌, ◌≤◌, ◌==◌, ◌&&◌, ◌||◌, not, nat_lt, Bool, true, false, cond, if◌then◌else◌, List, [], ◌∷◌, ◌++◌, length, Option, Some, None, Result, Ok, Err, refl, sym, subst, arith, length-append}
 use Rattle.std.specs.Prelude.{codes, slice_index_or}
 use Rattle.std.specs.List.{AllByRecursion, list_any, position_or_len}
 use Rattle.std.specs.Result.{result_map_both}
 use Rattle.std.specs.Str.{bytes_eq}
-use Rattle.std.proofs.lemmas.Bool.{and_parts, ltb-true, or_parts, true≢false}
+use Rattle.std.proofs.lemmas.Bool.{and_parts, ltb-false, ltb-true, or_parts, true≢false}
+use Rattle.std.proofs.lemmas.Bool.Decides.{nat_tests}
 use Rattle.counting.specs.Counts.{Within}
 use Rattle.graph_core.specs.Graph.{Graph, IsGraph, size}
 use Rattle.graph_core.specs.declared.faults.FaultKind.{FaultKind}
@@ -43,8 +44,10 @@ NamesFit n None = Unit {0}
 NamesFit n (Some names) = length names ≤ n
 
 -- what has been read so far is kept well
-abbrev KeepsEnds : GraphSoFar → Type 0
-KeepsEnds body = AreEnds body.graph.order body.graph.ends
+record KeepsEnds (body : GraphSoFar) : Type 0 where
+  each : AreEnds body.graph.order body.graph.ends
+  vertices : body.graph.order ≤ 128
+  edges : body.edges ≤ 2048
 
 abbrev IsKept : EitherSoFar → Type 0
 IsKept s = KeepsEnds s.so_far × NamesFit s.so_far.graph.order s.names
@@ -64,10 +67,6 @@ module _ {A Kind : Type 0} (P : A → Type 0) where
   goes-unless : (b : Bool) (k : Kind) (r : Result A Kind) → GoesOn P r → GoesOn P (cond b (Err k) r)
   goes-unless true k r goes = tt
   goes-unless false k r goes = goes
-
-  goes-if : (b : Bool) (k : Kind) (value : A) → P value → GoesOn P (cond b (Ok value) (Err k))
-  goes-if true k value is = is
-  goes-if false k value is = tt
 
   goes-either : (b : Bool) (r s : Result A Kind) → (b ≡ true → GoesOn P r) → GoesOn P s → GoesOn P (cond b r s)
   goes-either true r s first second = first refl
@@ -99,14 +98,16 @@ vertex-within n names word fits is = let less = place-among names word is in (om
 
 -- an edge between numbered vertices
 edge-kept : (body : GraphSoFar) (words : List (List ℕ)) → KeepsEnds body → GoesOn KeepsEnds (edge_line body words)
-edge-kept body words each =
+edge-kept body words kept =
     let n = body.graph.order in
     let a = value_of (word_at words 1) in
     let b = value_of (word_at words 2) in
     goes-on KeepsEnds
     ((not (has_form words 3 (codes "e" ∷ [])), kind.Word) ∷ (not (is_number (word_at words 1) && is_number (word_at words 2)), kind.Number) ∷ (is_out_of_range n a || is_out_of_range n b, kind.Range) ∷ (a == b, kind.Loop) ∷ [])
     (record body { graph = record body.graph { ends = body.graph.ends ++ (a, b) ∷ [] } })
-    (λ passed. let parts = or_parts (is_out_of_range n a) (is_out_of_range n b) passed.1.1.0 in ends-more n body.graph.ends a b each (in_range n a parts.0) (in_range n b parts.1))
+    (λ passed.
+    let parts = or_parts (is_out_of_range n a) (is_out_of_range n b) passed.1.1.0 in
+    record { each = ends-more n body.graph.ends a b kept.each (in_range n a parts.0) (in_range n b parts.1); vertices = kept.vertices; edges = kept.edges })
 
 plain-kept : (body : GraphSoFar) (words : List (List ℕ)) → KeepsEnds body → GoesOn KeepsEnds (graph_line body words)
 plain-kept body words each = goes-unless KeepsEnds (size body.graph == body.edges) kind.Extra (edge_line body words) (edge-kept body words each)
@@ -121,15 +122,21 @@ vertex-kept body names words each more =
 
 -- an edge between named vertices
 named_edge-kept : (body : GraphSoFar) (names words : List (List ℕ)) → KeepsEnds body → length names ≤ body.graph.order → GoesOn IsKept (named_edge_line body names words)
-named_edge-kept body names words each fits =
+named_edge-kept body names words kept fits =
     let n = body.graph.order in
     let x = word_at words 1 in
     let y = word_at words 2 in
     goes-on IsKept ((not (has_form words 3 (codes "e" ∷ [])), kind.Word) ∷ (not (is_among names x && is_among names y), kind.Unnamed) ∷ (bytes_eq x y, kind.Loop) ∷ [])
     (record { so_far = record body { graph = record body.graph { ends = body.graph.ends ++ (vertex_of names x, vertex_of names y) ∷ [] } }; names = Some names })
     (λ passed.
-    let both = and_parts (is_among names x) (is_among names y) (not-false (is_among names x && is_among names y) passed.1.0) in
-    (ends-more n body.graph.ends (vertex_of names x) (vertex_of names y) each (vertex-within n names x fits both.0) (vertex-within n names y fits both.1), fits))
+    let both = and_parts (is_among names x) (is_among names y) (not-false (is_among names x && is_among names y) passed.1.0) in (
+      record {
+        each = ends-more n body.graph.ends (vertex_of names x) (vertex_of names y) kept.each (vertex-within n names x fits both.0) (vertex-within n names y fits both.1);
+        vertices = kept.vertices;
+        edges = kept.edges;
+      },
+      fits,
+    ))
 
 -- a line behind the header
 behind-kept : (body : GraphSoFar) (names : Option (List (List ℕ))) (words : List (List ℕ)) → KeepsEnds body → NamesFit body.graph.order names → GoesOn IsKept (line_behind body names words)
@@ -144,13 +151,23 @@ names-begin : (n : ℕ) (b : Bool) → NamesFit n (cond b (Some []) None)
 names-begin n true = omega arith
 names-begin n false = tt
 
+under-limits : (named : Bool) (n m : ℕ) → is_over named n m ≡ false → (n ≤ 128) × (m ≤ 2048)
+under-limits true n m is = let parts = or_parts (nat_lt 128 n) (nat_lt 2048 m) is in (ltb-false 128 n parts.0, ltb-false 2048 m parts.1)
+under-limits false n m is =
+    let parts = or_parts (nat_lt 64 n) (nat_lt 512 m) is in
+    let vertices = ltb-false 64 n parts.0 in
+    let edges = ltb-false 512 m parts.1 in
+    (omega arith, omega arith)
+
 header-kept : (words : List (List ℕ)) → GoesOn IsKept (either_header words)
 header-kept words =
     let n = value_of (word_at words 2) in
     let m = value_of (word_at words 3) in
     goes-on IsKept ((not (is_named_header words || is_plain_header words), kind.Header) ∷ (not (is_number (word_at words 2) && is_number (word_at words 3)), kind.Number) ∷ (is_over (is_named_header words) n m, kind.Limit) ∷ [])
     (record { so_far = record { graph = record { order = n; ends = [] }; edges = m }; names = cond (is_named_header words) (Some []) None })
-    (λ passed. (tt, names-begin n (is_named_header words)))
+    (λ passed.
+    let few = under-limits (is_named_header words) n m passed.1.1.0 in
+    (record { each = tt; vertices = few.0; edges = few.1 }, names-begin n (is_named_header words)))
 
 -- so far
 abbrev KeptFrom : Option EitherSoFar → Type 0
@@ -162,13 +179,27 @@ step-kept None words kept = header-kept words
 step-kept (Some s) words kept = behind-kept s.so_far s.names words kept.0 kept.1
 
 -- the graph at the end
+pub record IsRead (g : Graph) : Type 0 where
+  pub ends : IsGraph g
+  pub vertices : g.order ≤ 128
+  pub edges : size g ≤ 2048
+
 abbrev pub HasGraph : NamedGraph → Type 0
-HasGraph named = IsGraph named.graph
+HasGraph named = IsRead named.graph
+
+is-read : (body : GraphSoFar) → KeepsEnds body → (size body.graph == body.edges) ≡ true → IsRead body.graph
+is-read body kept full = record { ends = ends-graph body.graph kept.each; vertices = kept.vertices; edges = let few = kept.edges in grind (arith, nat_tests, few) }
+
+goes-where : {A : Type 0} (P : A → Type 0) (b : Bool) (value : A) → (b ≡ true → P value) → GoesOn P (cond b (Ok value) (Err kind.Missing))
+goes-where P true value is = is refl
+goes-where P false value is = tt
 
 end-kept : (body : GraphSoFar) (names : Option (List (List ℕ))) → KeepsEnds body → GoesOn HasGraph (end_behind body names)
-end-kept body None each = goes-mapped IsGraph HasGraph (λ g. record { graph = g; names = None }) (graph_end body) (λ g is. is) (goes-if IsGraph (size body.graph == body.edges) kind.Missing body.graph (ends-graph body.graph each))
-end-kept body (Some names) each =
-    goes-if HasGraph ((length names == body.graph.order) && (size body.graph == body.edges)) kind.Missing (record { graph = body.graph; names = Some names }) (ends-graph body.graph each)
+end-kept body None kept =
+    goes-mapped IsRead HasGraph (λ g. record { graph = g; names = None }) (graph_end body) (λ g is. is) (goes-where IsRead (size body.graph == body.edges) body.graph (is-read body kept))
+end-kept body (Some names) kept =
+    goes-where HasGraph ((length names == body.graph.order) && (size body.graph == body.edges)) (record { graph = body.graph; names = Some names })
+    (λ full. is-read body kept (and_parts (length names == body.graph.order) (size body.graph == body.edges) full).1)
 
 finish-kept : (from : Option EitherSoFar) → KeptFrom from → GoesOn HasGraph (finish either_version from)
 finish-kept None kept = tt

@@ -15,5 +15,6 @@ pub mod Outcome
 pub mod Loads
 pub mod Reads
 pub mod Success
+pub mod Fixed
 pub mod Calm
 pub mod RoundTrips
