@@ -1,14 +1,17 @@
 -- What `convert` writes stands for the graph with the names that it writes, and for nothing else. So a file that holds it is
 -- read as this graph with these names, and the text of them is the same text.
-use Rattle.std.proofs.Common.{◌≡◌, ℕ, ◌≤◌, List, length, Some, refl, sym, subst}
+use Rattle.std.proofs.Common.{◌≡◌, ◌∙◌, ℕ, ◌≤◌, List, [], ◌∷◌, length, Some, refl, sym, subst}
+use Rattle.std.specs.Prelude.{codes}
 use Rattle.outside.specs.Shelf.{Named, file_named}
 use Rattle.line_text.specs.Reading.{reading_of}
 use Rattle.line_text.proofs.ExactlyOne.{Stands-reading_of}
 use Rattle.graph_text.specs.EitherVersion.{NamedGraph, either_version}
 use Rattle.bench_top.specs.Loading.{Loaded, All, Bad, Absent, loaded_as, graph_file, most_bytes}
-use Rattle.bench_top.specs.Outcome.{LoadedGives, Converted, given_or_plain}
+use Rattle.bench_top.specs.Outcome.{LoadedGives, Outcome, Converted, given_or_plain}
 use Rattle.bench_top.specs.Tasks as task
+use Rattle.bench_top.specs.declared.status.Status.{Status}
 use Rattle.bench_top.specs.declared.status.Status.TheVariants.{Done}
+use Rattle.bench_top.proofs.Completeness.{status-once}
 use Rattle.bench_top.proofs.FileReads.{file_read-value}
 
 -- the graph with the names that are written
@@ -23,10 +26,23 @@ convert-again : (held : Loaded NamedGraph) (again_held : Loaded NamedGraph) (out
 convert-again (All named) again_held output holds gives =
     subst (λ (h : Loaded NamedGraph). LoadedGives (loaded_as task.Convert h) Done output) (sym (holds named gives)) (again named output gives)
 convert-again (Bad file line kind) again_held output holds gives = let no = gives.0 in cc no
-convert-again Absent again_held output holds gives = absurd gives
+convert-again (Absent file) again_held output holds gives = absurd gives
 
 pub convert-twice : (files others : List Named) (name other : List ℕ) (output : List ℕ) → LoadedGives (loaded_as task.Convert (graph_file files name)) Done output → file_named other others ≡ Some output → length output ≤ most_bytes → LoadedGives (loaded_as task.Convert (graph_file others other)) Done output
 convert-twice files others name other output gives held within =
     convert-again (graph_file files name) (graph_file others other) output
     (λ named first. file_read-value 1 (reading_of either_version) (file_named other others) output (written_graph named) held within (Stands-reading_of either_version output (written_graph named) first.stands))
     gives
+
+-- the conversion of a file that holds one is done and gives it
+convert-one : (held : Loaded NamedGraph) (output other : List ℕ) → LoadedGives (loaded_as task.Convert held) Done output → LoadedGives (loaded_as task.Convert held) Done other → other ≡ output
+convert-one (All named) output other one two = two.text ∙ sym one.text
+convert-one (Bad file line kind) output other one two = let no = one.0 in cc no
+convert-one (Absent file) output other one two = absurd one
+
+pub convert-only : (files again : List Named) (name other : List ℕ) (output : List ℕ) (status : Status) (text : List ℕ) → Outcome (codes "convert" ∷ name ∷ []) files Done output → file_named other again ≡ Some output → length output ≤ most_bytes →
+    Outcome (codes "convert" ∷ other ∷ []) again status text → (status ≡ Done) × (text ≡ output)
+convert-only files again name other output status text gives held within told =
+    let done = convert-twice files again name other output gives held within in
+    let same = status-once (codes "convert" ∷ other ∷ []) again status Done text output told done in
+    (same, convert-one (graph_file again other) output text done (subst (λ (s : Status). Outcome (codes "convert" ∷ other ∷ []) again s text) same told))

@@ -75,7 +75,7 @@ blocks-of_leaves n [] = refl
 blocks-of_leaves n (p ∷ ps) = ap (λ (qs : List (List (List ℕ))). p ∷ qs) (blocks-of_leaves n ps)
 
 -- the text of a tree ends with a line feed
-closed-tree_text : (n : ℕ) (t : Shape) → is_closed (tree_text n t) ≡ true
+pub closed-tree_text : (n : ℕ) (t : Shape) → is_closed (tree_text n t) ≡ true
 unfolding tree_text
 closed-tree_text n t = is_closed-unlines (map unwords (header_words n ∷ node_words t))
 

@@ -3,7 +3,7 @@
 use Rattle.std.proofs.Common.{◌≡◌, ℕ, zero, suc, ◌+◌, ◌-◌, ◌≤◌, nat_le, true, refl, sym, subst, arith}
 use Rattle.std.proofs.lemmas.Bool.{leb-true}
 use Rattle.counting.proofs.Tests.{every_true}
-use Rattle.graph_core.specs.Graph.{size}
+use Rattle.graph_core.specs.Graph.{IsMultigraph, size}
 use Rattle.rand_pcg.specs.Lcg.{Lcg, started, increment_of}
 use Rattle.rand_pcg.specs.Pcg.{multiplier_64, pcg32}
 use Rattle.grow_gen.specs.Growth.{Growth, first_growth, growth_from, grown, with_piece}
@@ -50,3 +50,8 @@ few-edges seed pieces some few =
     let sound = sound-from 0 (pieces - 1) (started 64 multiplier_64 seed (increment_of 64 1)) first_growth sound-first in
     let edges = sound.edges in
     omega (arith, edges)
+
+-- it is a multigraph
+pub grown-multigraph : (seed pieces : ℕ) → IsMultigraph (grown seed pieces)
+unfolding grown
+grown-multigraph seed pieces = (sound-from 0 (pieces - 1) (started 64 multiplier_64 seed (increment_of 64 1)) first_growth sound-first).multigraph

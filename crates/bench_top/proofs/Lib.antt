@@ -12,3 +12,12 @@ pub mod ScriptTexts
 pub mod PairLines
 pub mod GrownSizes
 pub mod ScriptReplays
+pub mod ReadNames
+pub mod ReadsMade
+pub mod ReadGraphs
+pub mod Settled
+pub mod LoadedGraphs
+pub mod Completeness
+pub mod OneOutput
+pub mod TextsStand
+pub mod WrittenBack

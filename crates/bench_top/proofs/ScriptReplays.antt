@@ -1,6 +1,7 @@
 -- What `script` writes stands for a script from the first tree to the second. So a file that holds it is read as this script, and its
 -- replay on the first tree is done and tells the second.
-use Rattle.std.proofs.Common.{◌≡◌, ◌∙◌, ℕ, ◌≤◌, List, length, Option, Some, refl, sym, ap, ap₂, subst, inl, inr}
+use Rattle.std.proofs.Common.{◌≡◌, ◌∙◌, ℕ, ◌≤◌, List, [], ◌∷◌, length, Option, Some, refl, sym, ap, ap₂, subst, inl, inr}
+use Rattle.std.specs.Prelude.{codes}
 use Rattle.outside.specs.Shelf.{Named, file_named}
 use Rattle.line_text.specs.Reading.{reading_of}
 use Rattle.line_text.proofs.ExactlyOne.{Stands-reading_of}
@@ -13,11 +14,16 @@ use Rattle.move_text.specs.MoveFormat.{move_format}
 use Rattle.report_text.specs.Scripts.{replayed_text}
 use Rattle.bench_top.specs.Comparisons.{ScriptGives, Scripted}
 use Rattle.bench_top.specs.Loading.{Loaded, All, Bad, Absent, and_then, file_read, loaded_as, most_bytes, move_file, moves_given, tree_file, tree_given, trees_given}
-use Rattle.bench_top.specs.Outcome.{LoadedGives}
+use Rattle.bench_top.specs.Commands.{Replay}
+use Rattle.bench_top.specs.Outcome.{LoadedGives, Outcome}
 use Rattle.bench_top.specs.RoundTrips.{ReplaysScript}
 use Rattle.bench_top.specs.Tasks.{Task}
 use Rattle.bench_top.specs.Tasks as task
+use Rattle.bench_top.specs.declared.status.Status.{Status}
 use Rattle.bench_top.specs.declared.status.Status.TheVariants.{Done}
+use Rattle.bench_top.proofs.Completeness.{status-once}
+use Rattle.bench_top.proofs.OneOutput.{output-once}
+use Rattle.bench_top.proofs.WrittenBack.{done-asks}
 use Rattle.bench_top.proofs.FileReads.{file_read-value}
 
 -- the graph and the tree that two texts are read as
@@ -47,9 +53,14 @@ module _ (files again : List Named) (graph first second script output : List ℕ
     held = both;
     moves = told.moves;
     told = told.text;
-    replayed = subst (λ (h : Loaded (NamedGraph × (Shape × List PlainMove))). LoadedGives (loaded_as replay_task h) Done (replayed_text (tree_text named.graph.order t) (length told.moves)))
-        (sym read)
-        (inl (inl (record { derivation = told.script.first; reached = t; turns = told.script.turns; done = refl; text = refl })));
+    replayed = done;
+    only = λ status report gives.
+        let same = status-once (codes "replay" ∷ graph ∷ first ∷ script ∷ []) again status Done report (replayed_text (tree_text named.graph.order t) (length told.moves)) gives done in (
+          same,
+          output-once (codes "replay" ∷ graph ∷ first ∷ script ∷ []) again (Replay graph first script) (replay_task (named, (s, told.moves))) report (replayed_text (tree_text named.graph.order t) (length told.moves)) refl
+              (ap (loaded_as replay_task) read) tt (subst (λ (st : Status). Outcome (codes "replay" ∷ graph ∷ first ∷ script ∷ []) again st report) same gives) done,
+        );
+    asks = done-asks (codes "replay" ∷ graph ∷ first ∷ script ∷ []) again (replayed_text (tree_text named.graph.order t) (length told.moves)) done;
   }
     where
       moves_are : move_file again script named.graph.order ≡ All told.moves
@@ -61,6 +72,11 @@ module _ (files again : List Named) (graph first second script output : List ℕ
       read =
           ap (λ (h : Loaded (NamedGraph × Shape)). and_then h (λ given. loaded_as (λ ms. (given.0, (given.1, ms))) (move_file again script given.0.graph.order))) given
           ∙ ap (loaded_as (λ (ms : List PlainMove). (named, (s, ms)))) moves_are
+
+      done : Outcome (codes "replay" ∷ graph ∷ first ∷ script ∷ []) again Done (replayed_text (tree_text named.graph.order t) (length told.moves))
+      done = subst (λ (h : Loaded (NamedGraph × (Shape × List PlainMove))). LoadedGives (loaded_as replay_task h) Done (replayed_text (tree_text named.graph.order t) (length told.moves)))
+          (sym read)
+          (inl (inl (record { derivation = told.script.first; reached = t; turns = told.script.turns; done = refl; text = refl })))
 
   -- what `script` gives where it is done
   gives : (named : NamedGraph) (s t : Shape) → tree_given again graph first ≡ All (named, s) → trees_given files graph first second ≡ All (named, (s, t)) → ScriptGives named.graph s t Done output → ReplaysScript files again graph first second script output
@@ -78,14 +94,14 @@ module _ (files again : List Named) (graph first second script output : List ℕ
       ∙ ap (loaded_as (λ (t : Shape). (named, (s, t)))) is)
       done
   second_read named s (Bad file line kind) is given before done = let no = done.0 in cc no
-  second_read named s Absent is given before done = absurd done
+  second_read named s (Absent file) is given before done = absurd done
 
   -- by what the files of the graph and of the first tree are read as
   first_read : (h : Loaded (NamedGraph × Shape)) → tree_given files graph first ≡ h → tree_given again graph first ≡ h →
       LoadedGives (loaded_as script_task (and_then h (λ given. loaded_as (λ t. (given.0, (given.1, t))) (tree_file files 3 second given.0.graph.order)))) Done output → ReplaysScript files again graph first second script output
   first_read (All given) before now done = second_read given.0 given.1 (tree_file files 3 second given.0.graph.order) refl now before done
   first_read (Bad file line kind) before now done = let no = done.0 in cc no
-  first_read Absent before now done = absurd done
+  first_read (Absent file) before now done = absurd done
 
 -- what was written is replayed
 pub script-replayed : (files again : List Named) (graph first second script output : List ℕ) → LoadedGives (loaded_as script_task (trees_given files graph first second)) Done output →

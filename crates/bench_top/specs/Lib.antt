@@ -13,5 +13,8 @@ pub mod Comparisons
 pub mod Growths
 pub mod Outcome
 pub mod Loads
+pub mod Reads
+pub mod Success
+pub mod Fixed
 pub mod Calm
 pub mod RoundTrips

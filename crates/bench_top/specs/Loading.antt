@@ -28,11 +28,11 @@ abbrev pub most_bytes : ℕ
 most_bytes = 1048576
 
 -- all is held and good; or the file at this place, counted from 1, is the first that is bad, at this line by this kind; or
--- a file is not held, and all before it are held and good
+-- the file at this place is not held, and all before it are held and good
 pub data Loaded (A : Type 0) : Type 0 where
   All : (inputs : A) → Loaded A
   Bad : (file line kind : ℕ) → Loaded A
-  Absent : Loaded A
+  Absent : (file : ℕ) → Loaded A
 
 -- what a file's text is read as
 abbrev pub from_reading : {A : Type 0} → ℕ → Result A (ℕ × FaultKind) → Loaded A
@@ -41,20 +41,20 @@ from_reading place (Err fault) = Bad place fault.0 (kind_number fault.1)
 
 -- one file: not held; over the limit of bytes, which is line 0 and kind 6 whatever else is wrong; or what its text is read as
 abbrev pub file_read : {A : Type 0} → ℕ → (List ℕ → Result A (ℕ × FaultKind)) → Option (List ℕ) → Loaded A
-file_read place reading None = Absent
+file_read place reading None = Absent place
 file_read place reading (Some bytes) = if nat_lt most_bytes (length bytes) then Bad place 0 6 else from_reading place (reading bytes)
 
 -- what is made of what files hold
 abbrev pub loaded_as : {A B : Type 0} → (A → B) → Loaded A → Loaded B
 loaded_as make (All value) = All (make value)
 loaded_as make (Bad file line kind) = Bad file line kind
-loaded_as make Absent = Absent
+loaded_as make (Absent file) = Absent file
 
 -- what is loaded where a further file is asked only if those before it are held and good
 abbrev pub and_then : {A B : Type 0} → Loaded A → (A → Loaded B) → Loaded B
 and_then (All value) next = next value
 and_then (Bad file line kind) next = Bad file line kind
-and_then Absent next = Absent
+and_then (Absent file) next = Absent file
 
 -- the graph of the file of that name, in either version of the graph format; or in graph6
 abbrev pub graph_file : List Named → List ℕ → Loaded NamedGraph

@@ -57,7 +57,7 @@ task_of (code.Grow growth) = task.Grow growth.seed growth.pieces
 -- a stop names the first bad file; nothing is said of a failed read or of want of memory
 abbrev pub StopsAs : {A : Type 0} → Stop → Loaded A → Type 0
 StopsAs (stop.Bad file line kind) loaded = loaded ≡ Bad file line kind
-StopsAs stop.ReadFault loaded = Unit {0}
+StopsAs (stop.ReadFault file) loaded = Unit {0}
 StopsAs stop.Memory loaded = Unit {0}
 
 -- what was loaded, seen by view, is what the files hold

@@ -112,7 +112,7 @@ ResultOf (task.Grow seed pieces) status output = Grown seed pieces status output
 abbrev pub LoadedGives : Loaded Task → Status → List ℕ → Type 0
 LoadedGives (All given) status output = ResultOf given status output
 LoadedGives (Bad file line kind) status output = (status ≡ BadInput) × (output ≡ bad_input_text file line kind)
-LoadedGives Absent status output = ⊥
+LoadedGives (Absent file) status output = ⊥
 
 -- the same for the words, which may match no row
 abbrev pub CommandGives : List Named → Option Command → Status → List ℕ → Type 0

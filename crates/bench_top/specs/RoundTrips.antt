@@ -1,5 +1,6 @@
--- What one command makes of the output of another: of a script that was written, `replay` makes the tree to which it leads.
-use Rattle.std.specs.Prelude.{◌≡◌, List, [], ◌∷◌, ℕ, codes, length}
+-- What one command makes of the output of another: with what was written it succeeds, and of a script `replay` makes the tree to which it
+-- leads.
+use Rattle.std.specs.Prelude.{◌≡◌, List, [], ◌∷◌, ℕ, Some, codes, length}
 use Rattle.outside.specs.Shelf.{Named}
 use Rattle.graph_text.specs.EitherVersion.{NamedGraph}
 use Rattle.tree_core.specs.Moves.{PlainMove}
@@ -7,12 +8,24 @@ use Rattle.tree_core.specs.Shapes.{Shape, leaf_count}
 use Rattle.tree_text.specs.Writing.{tree_text}
 use Rattle.move_text.specs.Writing.{moves_text}
 use Rattle.report_text.specs.Scripts.{replayed_text, script_report_text}
-use Rattle.bench_top.specs.Loading.{All, trees_given}
+use Rattle.bench_top.specs.Commands.{Command, command_of}
+use Rattle.bench_top.specs.Loading.{All, loaded, trees_given}
 use Rattle.bench_top.specs.Outcome.{Outcome}
+use Rattle.bench_top.specs.Success.{Succeeds}
+use Rattle.bench_top.specs.Tasks.{Task}
+use Rattle.bench_top.specs.declared.status.Status.{Status}
 use Rattle.bench_top.specs.declared.status.Status.TheVariants.{Done}
 
+-- by these files the words ask for a task that succeeds; so `run` does it, where the outside does not fail and memory lasts
+pub record AsksDone (words : List (List ℕ)) (files : List Named) : Type 0 where
+  pub command : Command
+  pub row : command_of words ≡ Some command
+  pub task : Task
+  pub held : loaded files command ≡ All task
+  pub succeeds : Succeeds task
+
 -- the output tells a script from the first tree of the files to the second, and by the files again the replay of the file of this name
--- on the same graph and first tree is done: it tells the second tree and the number of the script's moves
+-- on the same graph and first tree is done: it tells the second tree and the number of the script's moves, and nothing else
 pub record ReplaysScript (files again : List Named) (graph first second script output : List ℕ) : Type 0 where
   pub named : NamedGraph
   pub source : Shape
@@ -21,3 +34,6 @@ pub record ReplaysScript (files again : List Named) (graph first second script o
   pub moves : List PlainMove
   pub told : output ≡ script_report_text (moves_text named.graph.order moves) (leaf_count source) (length moves)
   pub replayed : Outcome (codes "replay" ∷ graph ∷ first ∷ script ∷ []) again Done (replayed_text (tree_text named.graph.order target) (length moves))
+  pub only : (status : Status) (text : List ℕ) → Outcome (codes "replay" ∷ graph ∷ first ∷ script ∷ []) again status text
+      → (status ≡ Done) × (text ≡ replayed_text (tree_text named.graph.order target) (length moves))
+  pub asks : AsksDone (codes "replay" ∷ graph ∷ first ∷ script ∷ []) again

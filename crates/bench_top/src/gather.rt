@@ -1,10 +1,11 @@
 //! Reading and parsing the files that a command names.
-ghost use Rattle.std.specs.Prelude.{◌≡◌, ◌≤◌, ◌<◌, ◌-◌, ◌^◌, List, ℕ, length, IfOk, OnErr, IsErrOf, IsTrue, Some, None};
+ghost use Rattle.std.specs.Prelude.{◌≡◌, ◌≤◌, ◌<◌, ◌-◌, ◌^◌, List, [], ◌∷◌, ℕ, length, IfOk, IfErr, Some};
 ghost use Rattle.outside.specs.Faults.{Rose};
-ghost use Rattle.outside.specs.Shelf.{Named, TellsFile, file_named};
+ghost use Rattle.outside.specs.Shelf.{Named, ReadsInTurn, TellsFile, file_named};
 ghost use Rattle.bench_top.specs.Asked.{asked};
-ghost use Rattle.bench_top.specs.Loading.{Loaded, Absent, file_read, loaded, tree_given, trees_given, moves_given};
+ghost use Rattle.bench_top.specs.Loading.{Loaded, file_read, loaded, tree_given, trees_given, moves_given};
 ghost use Rattle.bench_top.specs.Loads.{LoadsAs, given_tree, given_trees, given_moves, task_of};
+ghost use Rattle.bench_top.specs.Reads.{FailsAs, IsReadFault, ReadsAs, StopsAt, file_names};
 ghost use Rattle.bench_top.specs.Outcome.{MayRefuse, GatheredMayRefuse};
 
 use crate::formats::{EarFile, FileFormat, Graph6File, GraphFile, MoveFile, PickFile, TreeFile};
@@ -29,14 +30,18 @@ fn load<S: Shelf, F: FileFormat>(
     ensures files { S.files shelf.new ≡ S.files shelf.old }
     ensures steady { S.steady shelf.new ≡ S.steady shelf.old }
     ensures later { S.faults shelf.old ≤ S.faults shelf.new }
-    ensures failed { IsErrOf result Stop.ReadFault → Rose (S.faults shelf.old) (S.faults shelf.new) }
-    ensures loads { (files : List Named) → S.files shelf.old ≡ Some files → LoadsAs F.meaning result (file_read place (F.reading format.now) (file_named name.now files)) }
-    ensures absent { (files : List Named) → S.files shelf.old ≡ Some files → IsErrOf result Stop.ReadFault → IsTrue (S.steady shelf.old) → file_read place (F.reading format.now) (file_named name.now files) ≡ Absent }
+    ensures reads { S.reads shelf.old name.now shelf.new }
+    ensures stops { IfErr result (StopsAt place) }
+    ensures failed { IsReadFault result → Rose (S.faults shelf.old) (S.faults shelf.new) }
+    ensures loads { (files : List Named) → S.files shelf.old ≡ Some files
+        → LoadsAs F.meaning result (file_read place (F.reading format.now) (file_named name.now files)) }
+    ensures absent { (files : List Named) → S.files shelf.old ≡ Some files
+        → FailsAs (S.steady shelf.old) result (file_read place (F.reading format.now) (file_named name.now files)) }
     ensures keeps { IfOk result (F.keeps format.now) }
 {
     let bytes = match shelf.read(alloc, name, MOST_BYTES) {
         Ok(bytes) => bytes,
-        Err(ShelfFault::Failed) => return Err(Stop::ReadFault),
+        Err(ShelfFault::Failed) => return Err(Stop::ReadFault { file: place }),
         Err(ShelfFault::TooLong) => {
             return Err(Stop::Bad {
                 file: place,
@@ -57,6 +62,27 @@ fn load<S: Shelf, F: FileFormat>(
     }
 }
 
+// What the first named file holds.
+fn load_first<S: Shelf, F: FileFormat>(
+    alloc: Global,
+    format: &F,
+    name: &str,
+    shelf: &mut S,
+) -> Result<F::Value, Stop>
+    ensures files { S.files shelf.new ≡ S.files shelf.old }
+    ensures steady { S.steady shelf.new ≡ S.steady shelf.old }
+    ensures later { S.faults shelf.old ≤ S.faults shelf.new }
+    ensures reads { ReadsAs S.reads (name.now ∷ []) result shelf.old shelf.new }
+    ensures failed { IsReadFault result → Rose (S.faults shelf.old) (S.faults shelf.new) }
+    ensures loads { (files : List Named) → S.files shelf.old ≡ Some files
+        → LoadsAs F.meaning result (file_read 1 (F.reading format.now) (file_named name.now files)) }
+    ensures absent { (files : List Named) → S.files shelf.old ≡ Some files
+        → FailsAs (S.steady shelf.old) result (file_read 1 (F.reading format.now) (file_named name.now files)) }
+    ensures keeps { IfOk result (F.keeps format.now) }
+{
+    load(alloc, format, name, 1, shelf)
+}
+
 // What the files of a graph and of a tree for it hold.
 fn load_tree<S: Shelf>(
     alloc: Global,
@@ -67,11 +93,14 @@ fn load_tree<S: Shelf>(
     ensures files { S.files shelf.new ≡ S.files shelf.old }
     ensures steady { S.steady shelf.new ≡ S.steady shelf.old }
     ensures later { S.faults shelf.old ≤ S.faults shelf.new }
-    ensures failed { IsErrOf result Stop.ReadFault → Rose (S.faults shelf.old) (S.faults shelf.new) }
-    ensures loads { (files : List Named) → S.files shelf.old ≡ Some files → LoadsAs given_tree result (tree_given files graph.now tree.now) }
-    ensures absent { (files : List Named) → S.files shelf.old ≡ Some files → IsErrOf result Stop.ReadFault → IsTrue (S.steady shelf.old) → tree_given files graph.now tree.now ≡ Absent }
+    ensures reads { ReadsAs S.reads (graph.now ∷ tree.now ∷ []) result shelf.old shelf.new }
+    ensures failed { IsReadFault result → Rose (S.faults shelf.old) (S.faults shelf.new) }
+    ensures loads { (files : List Named) → S.files shelf.old ≡ Some files
+        → LoadsAs given_tree result (tree_given files graph.now tree.now) }
+    ensures absent { (files : List Named) → S.files shelf.old ≡ Some files
+        → FailsAs (S.steady shelf.old) result (tree_given files graph.now tree.now) }
 {
-    let named = load(alloc, &GraphFile, graph, 1, shelf)?;
+    let named = load_first(alloc, &GraphFile, graph, shelf)?;
     let format = TreeFile {
         graph: &named.graph,
     };
@@ -90,9 +119,12 @@ fn load_trees<S: Shelf>(
     ensures files { S.files shelf.new ≡ S.files shelf.old }
     ensures steady { S.steady shelf.new ≡ S.steady shelf.old }
     ensures later { S.faults shelf.old ≤ S.faults shelf.new }
-    ensures failed { IsErrOf result Stop.ReadFault → Rose (S.faults shelf.old) (S.faults shelf.new) }
-    ensures loads { (files : List Named) → S.files shelf.old ≡ Some files → LoadsAs given_trees result (trees_given files graph.now first.now second.now) }
-    ensures absent { (files : List Named) → S.files shelf.old ≡ Some files → IsErrOf result Stop.ReadFault → IsTrue (S.steady shelf.old) → trees_given files graph.now first.now second.now ≡ Absent }
+    ensures reads { ReadsAs S.reads (graph.now ∷ first.now ∷ second.now ∷ []) result shelf.old shelf.new }
+    ensures failed { IsReadFault result → Rose (S.faults shelf.old) (S.faults shelf.new) }
+    ensures loads { (files : List Named) → S.files shelf.old ≡ Some files
+        → LoadsAs given_trees result (trees_given files graph.now first.now second.now) }
+    ensures absent { (files : List Named) → S.files shelf.old ≡ Some files
+        → FailsAs (S.steady shelf.old) result (trees_given files graph.now first.now second.now) }
 {
     let GivenTree { named, tree } = load_tree(alloc, graph, first, shelf)?;
     let format = TreeFile {
@@ -117,9 +149,12 @@ fn load_moves<S: Shelf>(
     ensures files { S.files shelf.new ≡ S.files shelf.old }
     ensures steady { S.steady shelf.new ≡ S.steady shelf.old }
     ensures later { S.faults shelf.old ≤ S.faults shelf.new }
-    ensures failed { IsErrOf result Stop.ReadFault → Rose (S.faults shelf.old) (S.faults shelf.new) }
-    ensures loads { (files : List Named) → S.files shelf.old ≡ Some files → LoadsAs given_moves result (moves_given files graph.now tree.now moves.now) }
-    ensures absent { (files : List Named) → S.files shelf.old ≡ Some files → IsErrOf result Stop.ReadFault → IsTrue (S.steady shelf.old) → moves_given files graph.now tree.now moves.now ≡ Absent }
+    ensures reads { ReadsAs S.reads (graph.now ∷ tree.now ∷ moves.now ∷ []) result shelf.old shelf.new }
+    ensures failed { IsReadFault result → Rose (S.faults shelf.old) (S.faults shelf.new) }
+    ensures loads { (files : List Named) → S.files shelf.old ≡ Some files
+        → LoadsAs given_moves result (moves_given files graph.now tree.now moves.now) }
+    ensures absent { (files : List Named) → S.files shelf.old ≡ Some files
+        → FailsAs (S.steady shelf.old) result (moves_given files graph.now tree.now moves.now) }
 {
     let GivenTree { named, tree } = load_tree(alloc, graph, tree, shelf)?;
     let format = MoveFile {
@@ -131,28 +166,33 @@ fn load_moves<S: Shelf>(
 
 /// Reads and parses the files of the command, in the order of the words, up to the first that stops it.
 pub fn gather<S: Shelf>(alloc: Global, command: Command<'_>, shelf: &mut S) -> Result<Task, Stop>
+    ensures files { S.files shelf.new ≡ S.files shelf.old }
+    ensures steady { S.steady shelf.new ≡ S.steady shelf.old }
     ensures later { S.faults shelf.old ≤ S.faults shelf.new }
-    ensures failed { IsErrOf result Stop.ReadFault → Rose (S.faults shelf.old) (S.faults shelf.new) }
-    ensures loads { (files : List Named) → S.files shelf.old ≡ Some files → LoadsAs task_of result (loaded files (asked command.entry)) }
-    ensures absent { (files : List Named) → S.files shelf.old ≡ Some files → IsErrOf result Stop.ReadFault → IsTrue (S.steady shelf.old) → loaded files (asked command.entry) ≡ Absent }
+    ensures reads { ReadsAs S.reads (file_names (asked command.entry)) result shelf.old shelf.new }
+    ensures failed { IsReadFault result → Rose (S.faults shelf.old) (S.faults shelf.new) }
+    ensures loads { (files : List Named) → S.files shelf.old ≡ Some files
+        → LoadsAs task_of result (loaded files (asked command.entry)) }
+    ensures absent { (files : List Named) → S.files shelf.old ≡ Some files
+        → FailsAs (S.steady shelf.old) result (loaded files (asked command.entry)) }
     ensures refuses { GatheredMayRefuse result → MayRefuse (Some (asked command.entry)) }
 {
     match command {
         Command::Analyse { graph } => Ok(Task::Analyse {
-            named: load(alloc, &GraphFile, graph, 1, shelf)?,
+            named: load_first(alloc, &GraphFile, graph, shelf)?,
         }),
         Command::Convert { graph } => Ok(Task::Convert {
-            named: load(alloc, &GraphFile, graph, 1, shelf)?,
+            named: load_first(alloc, &GraphFile, graph, shelf)?,
         }),
         Command::Analyse6 { graph } => Ok(Task::Analyse6 {
-            simple: load(alloc, &Graph6File, graph, 1, shelf)?,
+            simple: load_first(alloc, &Graph6File, graph, shelf)?,
         }),
         Command::Decompose { graph, order } => Ok(Task::Decompose {
-            named: load(alloc, &GraphFile, graph, 1, shelf)?,
+            named: load_first(alloc, &GraphFile, graph, shelf)?,
             order,
         }),
         Command::DecomposeBy { graph, picks } => {
-            let named = load(alloc, &GraphFile, graph, 1, shelf)?;
+            let named = load_first(alloc, &GraphFile, graph, shelf)?;
             let picks = load(alloc, &PickFile, picks, 2, shelf)?;
             Ok(Task::DecomposeBy { named, picks })
         }
@@ -160,7 +200,7 @@ pub fn gather<S: Shelf>(alloc: Global, command: Command<'_>, shelf: &mut S) -> R
             given: load_tree(alloc, graph, tree, shelf)?,
         }),
         Command::CheckEars { graph, ears } => {
-            let named = load(alloc, &GraphFile, graph, 1, shelf)?;
+            let named = load_first(alloc, &GraphFile, graph, shelf)?;
             let format = EarFile {
                 graph: &named.graph,
             };
@@ -170,7 +210,7 @@ pub fn gather<S: Shelf>(alloc: Global, command: Command<'_>, shelf: &mut S) -> R
             })
         }
         Command::Ears { graph } => Ok(Task::Ears {
-            named: load(alloc, &GraphFile, graph, 1, shelf)?,
+            named: load_first(alloc, &GraphFile, graph, shelf)?,
         }),
         Command::Replay { graph, tree, moves } => Ok(Task::Replay {
             given: load_moves(alloc, graph, tree, moves, shelf)?,

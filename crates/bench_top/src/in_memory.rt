@@ -1,8 +1,12 @@
 //! Completeness over files in memory: with no outside that could fail only the words, the files and memory decide.
 ghost use Rattle.std.specs.Prelude.{◌≡◌, ◌⊎◌, ◌↔◌, ℕ, List, [], map, string_bytes, Some, None};
+ghost use Rattle.outside.specs.MemShelf.{IsRead};
+ghost use Rattle.outside.specs.Shelf.{ReadsFirst, ReadsInTurn};
 ghost use Rattle.bench_top.specs.Commands.{Command, command_of};
 ghost use Rattle.bench_top.specs.Loading.{All, Bad, Absent, loaded};
-ghost use Rattle.bench_top.specs.Outcome.{IsSettled, MayRefuse};
+ghost use Rattle.bench_top.specs.Outcome.{IsReported, IsSettled, MayRefuse, Outcome};
+ghost use Rattle.bench_top.specs.Reads.{file_names, names_in, names_until};
+ghost use Rattle.bench_top.specs.Success.{Succeeds};
 ghost use Rattle.bench_top.specs.Tasks.{Task};
 
 use crate::running::run;
@@ -22,11 +26,32 @@ pub fn run_in_memory(
 ) -> Status
     requires { shelf.old.failing ≡ [] }
     ensures usage { result ≡ Status.Usage ↔ (command_of (map string_bytes words.now) ≡ None) }
+    ensures unread { result ≡ Status.Usage → shelf.new ≡ shelf.old }
+    ensures nothing { (result ≡ Status.Usage) ⊎ ((result ≡ Status.ReadFault) ⊎ (result ≡ Status.Memory))
+        → sink.new ≡ sink.old }
     ensures negative { result ≡ Status.Negative → MayRefuse (command_of (map string_bytes words.now)) }
     ensures writes { ¬ (result ≡ Status.WriteFault) }
-    ensures absent { (command : Command) → command_of (map string_bytes words.now) ≡ Some command → loaded shelf.old.files command ≡ Absent → (result ≡ Status.ReadFault) ⊎ (result ≡ Status.Memory) }
-    ensures bad { (command : Command) (file line kind : ℕ) → command_of (map string_bytes words.now) ≡ Some command → loaded shelf.old.files command ≡ Bad file line kind → (result ≡ Status.BadInput) ⊎ (result ≡ Status.Memory) }
-    ensures good { (command : Command) (task : Task) → command_of (map string_bytes words.now) ≡ Some command → loaded shelf.old.files command ≡ All task → IsSettled result ⊎ (result ≡ Status.Memory) }
+    ensures files { shelf.new.files ≡ shelf.old.files }
+    // The names that are read are the first few in the words, and where memory lasts those up to the first file that is
+    // not held or is bad.
+    ensures asks { ReadsFirst IsRead (names_in (command_of (map string_bytes words.now))) shelf.old shelf.new }
+    ensures asks_until { (command : Command) → command_of (map string_bytes words.now) ≡ Some command
+        → (result ≡ Status.Memory)
+        ⊎ ReadsInTurn IsRead (names_until (loaded shelf.old.files command) (file_names command))
+        shelf.old shelf.new }
+    // The status has an output for which the words and the files stand with it.
+    ensures outcome { IsReported result
+        → (output : List ℕ) × Outcome (map string_bytes words.now) shelf.old.files result output }
+    ensures absent { (command : Command) (file : ℕ) → command_of (map string_bytes words.now) ≡ Some command
+        → loaded shelf.old.files command ≡ Absent file → (result ≡ Status.ReadFault) ⊎ (result ≡ Status.Memory) }
+    ensures bad { (command : Command) (file line kind : ℕ) → command_of (map string_bytes words.now) ≡ Some command
+        → loaded shelf.old.files command ≡ Bad file line kind
+        → (result ≡ Status.BadInput) ⊎ (result ≡ Status.Memory) }
+    ensures good { (command : Command) (task : Task) → command_of (map string_bytes words.now) ≡ Some command
+        → loaded shelf.old.files command ≡ All task → IsSettled result ⊎ (result ≡ Status.Memory) }
+    ensures succeeds { (command : Command) (task : Task) → command_of (map string_bytes words.now) ≡ Some command
+        → loaded shelf.old.files command ≡ All task → Succeeds task
+        → (result ≡ Status.Done) ⊎ (result ≡ Status.Memory) }
 {
     run(alloc, words, shelf, sink)
 }

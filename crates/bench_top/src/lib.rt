@@ -33,6 +33,7 @@ mod stop;
 mod structures;
 mod tasks;
 mod uncovered;
+pub mod written_back;
 
 pub use in_memory::run_in_memory;
 pub use running::run;

@@ -1,11 +1,12 @@
 //! A command from its files to its report.
-ghost use Rattle.std.specs.Prelude.{◌≡◌, ◌≢◌, ◌⊎◌, ◌↔◌, ℕ, List, map, string_bytes, IsTrue, IsErrOf, IfOk, IfErr, Some, None};
+ghost use Rattle.std.specs.Prelude.{◌≡◌, ◌≢◌, ◌⊎◌, ◌↔◌, ℕ, List, IsTrue, IsErrOf, IsOk, IfOk, IfErr, Some};
 ghost use Rattle.outside.specs.Faults.{Rose};
-ghost use Rattle.outside.specs.Shelf.{Named};
+ghost use Rattle.outside.specs.Shelf.{Named, ReadsFirst, ReadsInTurn};
 ghost use Rattle.bench_top.specs.Asked.{asked};
-ghost use Rattle.bench_top.specs.Loading.{Loaded, Absent, loaded};
+ghost use Rattle.bench_top.specs.Loading.{Absent, loaded};
 ghost use Rattle.bench_top.specs.Loads.{LoadsAs, task_of, Held};
-ghost use Rattle.bench_top.specs.Outcome.{LoadedGives, Appended, CutShort, IsReported, MayRefuse, GatheredMayRefuse};
+ghost use Rattle.bench_top.specs.Reads.{HasRead, IsRead, IsReadFault, file_names, names_until};
+ghost use Rattle.bench_top.specs.Outcome.{LoadedGives, Appended, CutShort, IsReported, IsSettled, MayRefuse, GatheredMayRefuse};
 
 use crate::emit::emit;
 use crate::gather::gather;
@@ -24,12 +25,14 @@ fn report_on(alloc: Global, gathered: Result<Task, Stop>) -> Result<Report, Stat
     ensures gives { IfOk result (λ report. (held : Held) → LoadsAs task_of gathered held → LoadedGives held report.status report.bytes.items) }
     ensures reported { IfOk result (λ report. IsReported report.status) }
     ensures refuses { IfOk result (λ report. report.status ≡ Status.Negative → GatheredMayRefuse gathered) }
-    ensures read_fault { IsErrOf result Status.ReadFault ↔ IsErrOf gathered Stop.ReadFault }
+    ensures read { IfOk result (λ report. IsRead gathered) }
+    ensures whole { IfOk result (λ report. IsSettled report.status → IsOk gathered) }
+    ensures read_fault { IsErrOf result Status.ReadFault ↔ IsReadFault gathered }
     ensures stops { IfErr result (λ status. (status ≡ Status.ReadFault) ⊎ (status ≡ Status.Memory)) }
 {
     match gathered {
         Ok(task) => judge(alloc, task).map_err(|_| Status::Memory),
-        Err(Stop::ReadFault) => Err(Status::ReadFault),
+        Err(Stop::ReadFault { .. }) => Err(Status::ReadFault),
         Err(Stop::Memory) => Err(Status::Memory),
         Err(Stop::Bad { file, line, kind }) => match bad_input(alloc, file, line, kind) {
             Ok(bytes) => Ok(Report {
@@ -50,12 +53,27 @@ pub fn perform<S: Shelf, K: Sink>(
 ) -> Status
     ensures usage { result ≢ Status.Usage }
     ensures negative { result ≡ Status.Negative → MayRefuse (Some (asked command.entry)) }
+    ensures files { S.files shelf.new ≡ S.files shelf.old }
+    ensures steady { S.steady shelf.new ≡ S.steady shelf.old }
+    ensures asks { ReadsFirst S.reads (file_names (asked command.entry)) shelf.old shelf.new }
+    ensures asks_all { IsSettled result
+        → ReadsInTurn S.reads (file_names (asked command.entry)) shelf.old shelf.new }
+    ensures asks_until { (files : List Named) → S.files shelf.old ≡ Some files
+        → HasRead (S.steady shelf.old) result
+        → let names = names_until (loaded files (asked command.entry)) (file_names (asked command.entry))
+        in ReadsInTurn S.reads names shelf.old shelf.new }
     ensures read_fault { result ≡ Status.ReadFault → Rose (S.faults shelf.old) (S.faults shelf.new) }
     ensures write_fault { result ≡ Status.WriteFault → Rose (K.faults sink.old) (K.faults sink.new) }
-    ensures nothing { (result ≡ Status.ReadFault) ⊎ (result ≡ Status.Memory) → K.written sink.new ≡ K.written sink.old }
-    ensures outcome { (files : List Named) → S.files shelf.old ≡ Some files → IsReported result → Appended (LoadedGives (loaded files (asked command.entry))) result (K.written sink.old) (K.written sink.new) }
-    ensures cut { (files : List Named) → S.files shelf.old ≡ Some files → result ≡ Status.WriteFault → CutShort (LoadedGives (loaded files (asked command.entry))) (K.written sink.old) (K.written sink.new) }
-    ensures missing { (files : List Named) → S.files shelf.old ≡ Some files → result ≡ Status.ReadFault → IsTrue (S.steady shelf.old) → loaded files (asked command.entry) ≡ Absent }
+    ensures nothing { (result ≡ Status.ReadFault) ⊎ (result ≡ Status.Memory) → sink.new ≡ sink.old }
+    ensures outcome { (files : List Named) → S.files shelf.old ≡ Some files → IsReported result
+        → Appended (LoadedGives (loaded files (asked command.entry))) result
+        (K.written sink.old) (K.written sink.new) }
+    ensures cut { (files : List Named) → S.files shelf.old ≡ Some files → result ≡ Status.WriteFault
+        → CutShort (LoadedGives (loaded files (asked command.entry)))
+        (K.written sink.old) (K.written sink.new) }
+    ensures missing { (files : List Named) → S.files shelf.old ≡ Some files
+        → result ≡ Status.ReadFault → IsTrue (S.steady shelf.old)
+        → (file : ℕ) × (loaded files (asked command.entry) ≡ Absent file) }
 {
     let gathered = gather(alloc, command, shelf);
     match report_on(alloc, gathered) {

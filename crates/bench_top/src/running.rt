@@ -1,11 +1,13 @@
 //! The top call.
 ghost use Rattle.std.specs.Prelude.{◌≡◌, ◌⊎◌, ◌↔◌, ℕ, List, map, string_bytes, IsTrue, Some, None};
 ghost use Rattle.outside.specs.Faults.{Rose};
-ghost use Rattle.outside.specs.Shelf.{Named};
+ghost use Rattle.outside.specs.Shelf.{Named, ReadsFirst, ReadsInTurn};
 ghost use Rattle.bench_top.specs.Commands.{Command, command_of};
 ghost use Rattle.bench_top.specs.Tasks.{Task};
 ghost use Rattle.bench_top.specs.Loading.{All, Bad, Absent, loaded};
 ghost use Rattle.bench_top.specs.Outcome.{Outcome, Appended, CutShort, IsReported, IsSettled, MayRefuse};
+ghost use Rattle.bench_top.specs.Reads.{HasRead, file_names, names_in, names_until};
+ghost use Rattle.bench_top.specs.Success.{Succeeds};
 ghost use Rattle.bench_top.specs.Calm.{IsCalm};
 
 use crate::command::plan;
@@ -24,27 +26,67 @@ pub fn run<S: Shelf, K: Sink>(
     shelf: &mut S,
     sink: &mut K,
 ) -> Status
-    // Usage comes exactly where the words match no command.
+    // Usage comes exactly where the words match no command, and then nothing was read.
     ensures usage { result ≡ Status.Usage ↔ (command_of (map string_bytes words.now) ≡ None) }
+    ensures unread { result ≡ Status.Usage → shelf.new ≡ shelf.old }
     // Some commands never refuse.
     ensures negative { result ≡ Status.Negative → MayRefuse (command_of (map string_bytes words.now)) }
     // A fault of the outside comes only where its count rose in this call.
     ensures read_fault { result ≡ Status.ReadFault → Rose (S.faults shelf.old) (S.faults shelf.new) }
     ensures write_fault { result ≡ Status.WriteFault → Rose (K.faults sink.old) (K.faults sink.new) }
     // Nothing is written before the whole report is made.
-    ensures nothing { (result ≡ Status.Usage) ⊎ ((result ≡ Status.ReadFault) ⊎ (result ≡ Status.Memory)) → K.written sink.new ≡ K.written sink.old }
+    ensures nothing { (result ≡ Status.Usage) ⊎ ((result ≡ Status.ReadFault) ⊎ (result ≡ Status.Memory))
+        → sink.new ≡ sink.old }
+
+    // The reads are those of the first few names of files in the words, in their order: of all of them where good files were
+    // reported on, and where the files are told, of those up to the first that is not held or is bad.
+    ensures asks { ReadsFirst S.reads (names_in (command_of (map string_bytes words.now)))
+        shelf.old shelf.new }
+    ensures asks_all { IsSettled result
+        → ReadsInTurn S.reads (names_in (command_of (map string_bytes words.now))) shelf.old shelf.new }
+    ensures asks_until { (files : List Named) (command : Command) → S.files shelf.old ≡ Some files
+        → command_of (map string_bytes words.now) ≡ Some command
+        → HasRead (S.steady shelf.old) result
+        → ReadsInTurn S.reads (names_until (loaded files command) (file_names command))
+        shelf.old shelf.new }
+    // They change no file, and a steady shelf stays so.
+    ensures files { S.files shelf.new ≡ S.files shelf.old }
+    ensures steady { S.steady shelf.new ≡ S.steady shelf.old }
 
     // What was written is the output that the words and the files stand for, or a proper prefix of it.
-    ensures outcome { (files : List Named) → S.files shelf.old ≡ Some files → IsReported result → Appended (Outcome (map string_bytes words.now) files) result (K.written sink.old) (K.written sink.new) }
-    ensures cut { (files : List Named) → S.files shelf.old ≡ Some files → result ≡ Status.WriteFault → CutShort (Outcome (map string_bytes words.now) files) (K.written sink.old) (K.written sink.new) }
+    ensures outcome { (files : List Named) → S.files shelf.old ≡ Some files → IsReported result
+        → Appended (Outcome (map string_bytes words.now) files) result
+        (K.written sink.old) (K.written sink.new) }
+    ensures cut { (files : List Named) → S.files shelf.old ≡ Some files → result ≡ Status.WriteFault
+        → CutShort (Outcome (map string_bytes words.now) files) (K.written sink.old) (K.written sink.new) }
 
     // Over a steady shelf a read fails only where a named file is not held and all before it are held and good.
-    ensures missing { (files : List Named) (command : Command) → S.files shelf.old ≡ Some files → command_of (map string_bytes words.now) ≡ Some command → result ≡ Status.ReadFault → IsTrue (S.steady shelf.old) → loaded files command ≡ Absent }
+    ensures missing { (files : List Named) (command : Command) → S.files shelf.old ≡ Some files
+        → command_of (map string_bytes words.now) ≡ Some command
+        → result ≡ Status.ReadFault → IsTrue (S.steady shelf.old)
+        → (file : ℕ) × (loaded files command ≡ Absent file) }
 
     // What the files hold decides the status, where the outside does not fail and memory lasts.
-    ensures absent { (files : List Named) (command : Command) → S.files shelf.old ≡ Some files → command_of (map string_bytes words.now) ≡ Some command → loaded files command ≡ Absent → (result ≡ Status.ReadFault) ⊎ (result ≡ Status.Memory) }
-    ensures bad { (files : List Named) (command : Command) (file line kind : ℕ) → S.files shelf.old ≡ Some files → command_of (map string_bytes words.now) ≡ Some command → loaded files command ≡ Bad file line kind → IsCalm (S.steady shelf.old) (S.faults shelf.old) (S.faults shelf.new) (K.faults sink.old) (K.faults sink.new) → (result ≡ Status.BadInput) ⊎ (result ≡ Status.Memory) }
-    ensures good { (files : List Named) (command : Command) (task : Task) → S.files shelf.old ≡ Some files → command_of (map string_bytes words.now) ≡ Some command → loaded files command ≡ All task → IsCalm (S.steady shelf.old) (S.faults shelf.old) (S.faults shelf.new) (K.faults sink.old) (K.faults sink.new) → IsSettled result ⊎ (result ≡ Status.Memory) }
+    ensures absent { (files : List Named) (command : Command) (file : ℕ) → S.files shelf.old ≡ Some files
+        → command_of (map string_bytes words.now) ≡ Some command → loaded files command ≡ Absent file
+        → (result ≡ Status.ReadFault) ⊎ (result ≡ Status.Memory) }
+    ensures bad { (files : List Named) (command : Command) (file line kind : ℕ) → S.files shelf.old ≡ Some files
+        → command_of (map string_bytes words.now) ≡ Some command → loaded files command ≡ Bad file line kind
+        → IsCalm (S.steady shelf.old) (S.faults shelf.old) (S.faults shelf.new)
+        (K.faults sink.old) (K.faults sink.new)
+        → (result ≡ Status.BadInput) ⊎ (result ≡ Status.Memory) }
+    ensures good { (files : List Named) (command : Command) (task : Task) → S.files shelf.old ≡ Some files
+        → command_of (map string_bytes words.now) ≡ Some command → loaded files command ≡ All task
+        → IsCalm (S.steady shelf.old) (S.faults shelf.old) (S.faults shelf.new)
+        (K.faults sink.old) (K.faults sink.new)
+        → IsSettled result ⊎ (result ≡ Status.Memory) }
+    // It is done where the task succeeds.
+    ensures succeeds { (files : List Named) (command : Command) (task : Task) → S.files shelf.old ≡ Some files
+        → command_of (map string_bytes words.now) ≡ Some command → loaded files command ≡ All task
+        → Succeeds task
+        → IsCalm (S.steady shelf.old) (S.faults shelf.old) (S.faults shelf.new)
+        (K.faults sink.old) (K.faults sink.new)
+        → (result ≡ Status.Done) ⊎ (result ≡ Status.Memory) }
 {
     match plan(words) {
         Some(command) => perform(alloc, command, shelf, sink),

@@ -4,8 +4,10 @@ ghost use Rattle.decomposer.specs.Choices.{IsBalanced, IsChoice, PicksInRange};
 
 use tight_cuts::Candidate;
 
-/// A function that picks one of a nonempty list of candidates, given how many cuts stand before the node in preorder. It may be
-/// called at every choice, and its answer is below the length of the list.
+/// A function that picks one of a nonempty list of candidates, given how many cuts stand before the node in preorder.
+///
+/// That it may be called at every choice, and that its answer is then below the length of the list (`PicksInRange`), is no part of the
+/// type: `new` asks for it and ensures it, and whoever uses an order, as `decompose`, asks for it again.
 #[derive(Drop)]
 pub struct Order<F: Fn(&[Candidate], usize) -> usize> {
     pub(crate) f: F,

@@ -1,6 +1,6 @@
 -- A shelf in memory as its users see it.
-use Rattle.std.specs.Prelude.{◌≡◌, ℕ, List, Contains, ◌⊎◌}
-use Rattle.std.specs.declared.option.Option.TheVariants.{None}
+use Rattle.std.specs.Prelude.{◌≡◌, ℕ, List, Contains, ◌⊎◌, length}
+use Rattle.std.specs.declared.option.Option.TheVariants.{None, Some}
 use Rattle.outside.specs.Faults.{next_call}
 use Rattle.outside.specs.Shelf.{Named, file_named}
 
@@ -16,3 +16,14 @@ pub record ShelfState : Type 0 where
 -- the next read of that name fails: its number is kept, or the name is not held
 abbrev pub FailsNext : ShelfState → List ℕ → Type 0
 FailsNext shelf name = Contains shelf.failing (next_call shelf.calls) ⊎ (file_named name shelf.files ≡ None)
+
+-- the bytes that a read of that name may take: those of its whole file, or none
+abbrev pub MayTake : List Named → List ℕ → ℕ → Type 0
+MayTake files name taken = (taken ≡ 0) ⊎ ((bytes : List ℕ) × ((file_named name files ≡ Some bytes) × (length bytes ≡ taken)))
+
+-- a read of that name leads from the first state to the second: it is counted, and changes no file and no plan
+pub record IsRead (before : ShelfState) (name : List ℕ) (now : ShelfState) : Type 0 where
+  pub files : now.files ≡ before.files
+  pub failing : now.failing ≡ before.failing
+  pub calls : now.calls ≡ next_call before.calls
+  pub taken : MayTake before.files name now.taken

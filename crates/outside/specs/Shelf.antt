@@ -1,5 +1,5 @@
 -- What a shelf tells of its files.
-use Rattle.std.specs.Prelude.{◌≡◌, ℕ, ◌<◌, List, [], ◌∷◌, length, if◌then◌else◌}
+use Rattle.std.specs.Prelude.{◌≡◌, ℕ, ◌<◌, ◌≤◌, List, [], ◌∷◌, length, take, if◌then◌else◌}
 use Rattle.std.specs.declared.option.Option.{Option}
 use Rattle.std.specs.declared.option.Option.TheVariants.{Some, None}
 use Rattle.std.specs.Str.{bytes_eq}
@@ -16,6 +16,15 @@ file_named name (file ∷ files) = if bytes_eq file.0 name then Some file.1 else
 -- the name is held, and its file has more bytes than the limit
 abbrev pub HoldsLonger : List Named → List ℕ → ℕ → Type 0
 HoldsLonger files name limit = (bytes : List ℕ) × (file_named name files ≡ Some bytes) × (limit < length bytes)
+
+-- reads of these names, one after another, lead from the first shelf to the last
+abbrev pub ReadsInTurn : {S : Type 0} → (S → List ℕ → S → Type 0) → List (List ℕ) → S → S → Type 0
+ReadsInTurn reads [] first last = last ≡ first
+ReadsInTurn {S} reads (name ∷ names) first last = (next : S) × (reads first name next × ReadsInTurn reads names next last)
+
+-- reads of the first few of these names do
+abbrev pub ReadsFirst : {S : Type 0} → (S → List ℕ → S → Type 0) → List (List ℕ) → S → S → Type 0
+ReadsFirst reads names first last = (count : ℕ) × ((count ≤ length names) × ReadsInTurn reads (take count names) first last)
 
 -- where the files are told, this is the file of that name, or none
 abbrev pub TellsFile : Option (List Named) → List ℕ → Option (List ℕ) → Type 0

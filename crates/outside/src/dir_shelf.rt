@@ -2,6 +2,7 @@
 ghost use Rattle.std.specs.Prelude.{◌≡◌, ◌≤◌, ◌<◌, ◌-◌, ◌+◌, ◌^◌, ◌⊎◌, length, false, IfOk, IsErrOf};
 ghost use Rattle.std.specs.declared.option.Option.TheVariants.{None};
 ghost use Rattle.std.proofs.Common.{rules};
+ghost use Rattle.outside.specs.DirShelf.{IsOpened};
 ghost use Rattle.outside.specs.Faults.{next_fault};
 
 use crate::{Shelf, ShelfFault};
@@ -53,6 +54,8 @@ impl<R: Files> Shelf for DirShelf<'_, R> {
     ghost taken = { λ shelf. shelf.taken };
 
     ghost faults = { λ shelf. shelf.faults };
+
+    ghost reads = { λ before _ now. IsOpened before now };
 
     ghost steady = { λ shelf. false };
 

@@ -5,7 +5,7 @@ ghost use Rattle.std.specs.Option.{option_map};
 ghost use Rattle.std.proofs.Common.{rules};
 ghost use Rattle.outside.specs.Faults.{next_call, next_fault};
 ghost use Rattle.outside.specs.Shelf.{file_named, HoldsLonger};
-ghost use Rattle.outside.specs.MemShelf.{FailsNext};
+ghost use Rattle.outside.specs.MemShelf.{FailsNext, IsRead};
 ghost use Rattle.outside.specs.StoredFile.{named_files};
 
 use crate::planned::is_failing;
@@ -106,6 +106,8 @@ impl Shelf for MemShelf {
     ghost taken = { λ shelf. shelf.taken };
 
     ghost faults = { λ shelf. shelf.faults };
+
+    ghost reads = { IsRead };
 
     ghost steady = { λ shelf. length shelf.failing == 0 };
 

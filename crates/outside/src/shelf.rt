@@ -49,6 +49,10 @@ pub trait Shelf {
     /// A read fails only at a name that is not held.
     ghost steady: { Self → Bool };
 
+    /// A read of that name leads from the first shelf to the second. Code that is generic over its shelf knows no other way
+    /// from one shelf to the next, so by this it tells which names it asked for, and in which order (`ReadsInTurn`).
+    ghost reads: { Self → List ℕ → Self → Type 0 };
+
     /// The bytes of the first file of that name, if they are at most `limit`.
     ///
     /// `Failed` comes only where the count of faults rose in this call, and over a steady shelf only where the name is
@@ -57,6 +61,7 @@ pub trait Shelf {
     fn read(&mut self, alloc: Global, name: &str, limit: usize) -> Result<Vec<u8>, ShelfFault>
         requires { limit < 2 ^ 64 - 1 }
 
+        ensures reads { reads self.old name.now self.new }
         ensures files { files self.new ≡ files self.old }
         ensures steady { steady self.new ≡ steady self.old }
         ensures later { faults self.old ≤ faults self.new }

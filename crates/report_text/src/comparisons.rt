@@ -64,6 +64,14 @@ impl MapLines {
         self.items.is_empty()
     }
 
+    /// What is told of a leaf, counted from 0. Takes no memory.
+    pub fn get(&self, i: usize) -> &MapLine
+        requires { i < length self.now }
+        ensures { slice_get self.now i ≡ Some result.now }
+    {
+        &self.items[i]
+    }
+
     /// What is told of the leaves, as a slice. Takes no memory.
     pub fn as_slice(&self) -> &[MapLine]
         ensures { result.now ≡ self.now }

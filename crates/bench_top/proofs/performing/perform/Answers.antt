@@ -1,6 +1,27 @@
-use Rattle.std.proofs.Common.{List, ℕ, ◌≡◌, length, take, subst, ◌<◌}
+use Rattle.std.proofs.Common.{List, ℕ, ◌≡◌, length, take, subst, ap, Err, ◌<◌}
 use Rattle.outside.specs.Sink.{appended}
+use Rattle.bench_top.specs.Asked.{asked}
+use Rattle.bench_top.specs.Loading.{loaded}
+use Rattle.bench_top.specs.Reads.{file_names}
+use Rattle.bench_top.proofs.ReadsMade.{absent-fault, first-reads}
 use Rattle.bench_top.proofs.performing.perform.Goals as goal
+
+pub returns-in-Ok-emit-clause-asks : goal.returns-in-Ok-emit-clause-asks
+returns-in-Ok-emit-clause-asks g c =
+    first-reads g.S.Shelf.reads (file_names (asked c.args.command)) c.args.shelf.now c.gather-gathered.new.shelf c.gather-gathered.result c.gather-gathered.ensures.reads
+
+pub returns-in-Ok-clause-asks : goal.returns-in-Ok-clause-asks
+returns-in-Ok-clause-asks g c =
+    first-reads g.S.Shelf.reads (file_names (asked c.args.command)) c.args.shelf.now c.gather-gathered.new.shelf c.gather-gathered.result c.gather-gathered.ensures.reads
+
+pub returns-clause-asks : goal.returns-clause-asks
+returns-clause-asks g c =
+    first-reads g.S.Shelf.reads (file_names (asked c.args.command)) c.args.shelf.now c.gather-gathered.new.shelf c.gather-gathered.result c.gather-gathered.ensures.reads
+
+pub returns-clause-missing : goal.returns-clause-missing
+returns-clause-missing g c = λ files told fault steady.
+    absent-fault (g.S.Shelf.steady c.args.shelf.now) c.gather-gathered.result (loaded files (asked c.args.command)) (c.in-Err.ensures.read_fault.0 (ap Err fault)) steady
+    (c.gather-gathered.ensures.absent files told)
 
 pub returns-in-Ok-clause-cut : goal.returns-in-Ok-clause-cut
 returns-in-Ok-clause-cut g c = λ files told fault.

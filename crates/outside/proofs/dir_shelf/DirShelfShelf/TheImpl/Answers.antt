@@ -1,10 +1,11 @@
-use Rattle.std.proofs.Common.{◌≡◌, ◌+◌, refl, rules, arith}
+use Rattle.std.proofs.Common.{◌≡◌, ◌+◌, inl, inr, refl, rules, arith}
 use Rattle.std.proofs.lemmas.Result.{IfOk-weaker}
 use Rattle.outside.proofs.FaultCounts.{Rose-next_fault}
 use Rattle.outside.proofs.dir_shelf.DirShelfShelf.TheImpl.Goals as goal
 
 pub read-tells : goal.read-tells
 read-tells g c = record {
+  reads = elim c.ensures.stays [ inl is ↦ inr (c.ensures.rises is) | inr same ↦ inl same ];
   files = refl;
   steady = refl;
   later = c.ensures.later;

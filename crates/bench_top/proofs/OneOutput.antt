@@ -1,0 +1,238 @@
+-- A task that is done has one output, where its text is not free. An order picks one tree: at each node it picks one place, and there stands
+-- one candidate. The kinds of the leaves are determined, since a quotient is bipartite or not, and so are their counts.
+use Rattle.std.proofs.Common.{◌≡◌, ◌∙◌, ℕ, ◌+◌, ◌-◌, ◌<◌, ◌≤◌, List, [], ◌∷◌, length, map, true, Option, Some, None, ◌⊎◌, inl, inr, refl, sym, subst, ap, arith, slice_get, option_map}
+use Rattle.std.proofs.lemmas.Bool.{cases_lt}
+use Rattle.std.proofs.lemmas.List.{ext_get_or, length-map}
+use Rattle.std.proofs.lemmas.Option.{none-some, same_Some, slice_get-map}
+use Rattle.outside.specs.Shelf.{Named}
+use Rattle.graph_core.specs.Graph.{Graph}
+use Rattle.graph_core.specs.Partitions.{singles}
+use Rattle.graph_text.specs.EitherVersion.{NamedGraph}
+use Rattle.tight_cuts.specs.Candidates.{Candidate}
+use Rattle.tight_cuts.specs.CandidatesAt.{candidates_at}
+use Rattle.tight_cuts.specs.View.{candidate_of}
+use Rattle.tight_cuts.specs.declared.candidate.Candidate.{Candidate as StoredCandidate}
+use Rattle.decomposer.specs.Choices.{gap, gap_of}
+use Rattle.decomposer.specs.Picked.{IsPickedAt, PicksShore}
+use Rattle.tree_core.specs.Derivations.{kept_at, merged_at}
+use Rattle.ear_core.specs.EarLists.{PlainEars}
+use Rattle.tree_core.specs.Leaves.{leaves}
+use Rattle.tree_core.specs.Moves.{PlainMove}
+use Rattle.tree_core.specs.Shapes.{Shape, leaf, cut, cut_count}
+use Rattle.tree_check.proofs.ReplayAnswers.{last-once}
+use Rattle.tree_text.specs.Writing.{tree_text}
+use Rattle.report_text.specs.Derivations.{derivation_text}
+use Rattle.report_text.specs.Growths.{grown_text}
+use Rattle.report_text.specs.Judgements.{judgement_text}
+use Rattle.report_text.specs.Scripts.{replayed_text}
+use Rattle.report_text.specs.Tallies.{AreLeafKinds, IsLeafKind, IsTally, kind_at, leaf_at, tally_of}
+use Rattle.report_text.specs.declared.judgements.TreeLine.TheVariants as line
+use Rattle.report_text.specs.declared.tallies.LeafKind.{LeafKind}
+use Rattle.report_text.specs.declared.tallies.LeafKind.TheVariants.{Brick, Brace}
+use Rattle.report_text.specs.declared.tallies.Tally.{Tally}
+use Rattle.graph_text.specs.Writing.{graph_text}
+use Rattle.grow_gen.specs.Growth.{grown}
+use Rattle.bench_top.specs.Checks.{CheckGives, Refuses}
+use Rattle.bench_top.specs.Commands.{Command, command_of}
+use Rattle.bench_top.specs.EarChecks.{EarCheckGives}
+use Rattle.bench_top.specs.Fixed.{HasOneOutput}
+use Rattle.bench_top.specs.Growths.{Grown, IsCounted}
+use Rattle.bench_top.specs.Loading.{Loaded, All, Bad, Absent, loaded}
+use Rattle.bench_top.specs.Orders.{NamedPicks, PicksBalanced, ScriptPicks}
+use Rattle.bench_top.specs.Outcome.{CommandGives, DecomposeGives, LoadedGives, Outcome, ResultOf, TellsDerivation, with_given_names}
+use Rattle.bench_top.specs.Replays.{ReplayGives, ReplayedTree}
+use Rattle.bench_top.specs.Tasks.{Task}
+use Rattle.bench_top.specs.Tasks as task
+use Rattle.bench_top.specs.declared.order.NamedOrder.{NamedOrder}
+use Rattle.bench_top.specs.declared.order.NamedOrder.TheVariants.{First, Last, Balanced}
+use Rattle.bench_top.specs.declared.status.Status.TheVariants.{Done, Negative, BadInput}
+use Rattle.bench_top.proofs.LoadedGraphs.{Holds, loaded-graph}
+use Rattle.bench_top.proofs.Settled.{KeepsGraph, settled}
+
+-- an order that picks one place
+abbrev PicksOnce : (List Candidate → ℕ → ℕ → Type 0) → Type 0
+PicksOnce picks = (list : List Candidate) (k a b : ℕ) → picks list k a → picks list k b → a ≡ b
+
+-- how far the sides of a candidate differ
+abbrev gap_in : Option Candidate → ℕ
+gap_in None = 0
+gap_in (Some c) = (c.inside - c.outside) + (c.outside - c.inside)
+
+gap-seen : (stored : List StoredCandidate) (i : ℕ) → gap stored i ≡ gap_in (slice_get (map candidate_of stored) i)
+gap-seen stored i = go (slice_get stored i) ∙ ap gap_in (sym (slice_get-map candidate_of stored i))
+  where
+    go : (o : Option StoredCandidate) → gap_of o ≡ gap_in (option_map candidate_of o)
+    go None = refl
+    go (Some c) = refl
+
+-- the first place with the least gap is one
+gap-same : (list : List Candidate) (a b : ℕ) (one : PicksBalanced list a) (two : PicksBalanced list b) → (i : ℕ) → gap one.stored i ≡ gap two.stored i
+gap-same list a b one two i = gap-seen one.stored i ∙ ap (λ (l : List Candidate). gap_in (slice_get l i)) (one.shows ∙ sym two.shows) ∙ sym (gap-seen two.stored i)
+
+balanced-later : (list : List Candidate) (a b : ℕ) → PicksBalanced list a → PicksBalanced list b → a < b → ⊥
+balanced-later list a b one two before =
+    let long = length-map one.stored candidate_of in
+    let wide = length-map two.stored candidate_of in
+    let same = ap length (one.shows ∙ sym two.shows) in
+    let held = two.balanced.held in
+    let least = one.balanced.least b (omega arith) in
+    let first = two.balanced.first a before in
+    let here = gap-same list a b one two a in
+    let there = gap-same list a b one two b in
+    omega arith
+
+balanced-once : PicksOnce (λ list k place. PicksBalanced list place)
+balanced-once list k a b one two = elim (cases_lt a b) [
+  | inl before ↦ absurd (balanced-later list a b one two before)
+  | inr not_before ↦ elim (cases_lt b a) [
+    | inl behind ↦ absurd (balanced-later list b a two one behind)
+    | inr not_behind ↦ omega arith
+  ]
+]
+
+named-once : (order : NamedOrder) → PicksOnce (NamedPicks order)
+named-once First list k a b one two = one ∙ sym two
+named-once Last list k a b one two = one ∙ sym two
+named-once Balanced list k a b one two = balanced-once list k a b one two
+
+script-once : (picks : List ℕ) → PicksOnce (ScriptPicks picks)
+script-once picks list k a b one two = one ∙ sym two
+
+-- such an order picks one tree
+abbrev shore_in : Candidate → List ℕ
+shore_in c = c.shore
+
+module _ (picks : List Candidate → ℕ → ℕ → Type 0) (once : PicksOnce picks) where
+  shore-once : (list : List Candidate) (k : ℕ) (x y : List ℕ) → PicksShore picks list k x → PicksShore picks list k y → x ≡ y
+  shore-once list k x y one two =
+      let place : one.0 ≡ two.0 = once list k one.0 two.0 one.2 two.2 in
+      let candidate : one.1 ≡ two.1 = same_Some _ _ (sym one.3 ∙ ap (slice_get list) place ∙ two.3) in
+      sym one.4 ∙ ap shore_in candidate ∙ two.4
+
+  picked-once : (g : Graph) (p : List (List ℕ)) (k : ℕ) (s t : Shape) → IsPickedAt picks g p k s → IsPickedAt picks g p k t → s ≡ t
+  picked-once g p k leaf leaf one two = refl
+  picked-once g p k leaf (cut y b n) one two = absurd (none-some _ (ap (λ (l : List Candidate). slice_get l two.0.0) (sym one) ∙ two.0.3))
+  picked-once g p k (cut x a m) leaf one two = absurd (none-some _ (ap (λ (l : List Candidate). slice_get l one.0.0) (sym two) ∙ one.0.3))
+  picked-once g p k (cut x a m) (cut y b n) one two =
+      let shore : x ≡ y = shore-once (candidates_at g p) k x y one.0 two.0 in
+      let kept : a ≡ b = picked-once g (kept_at g.order p x) (k + 1) a b one.1 (subst (λ (z : List ℕ). IsPickedAt picks g (kept_at g.order p z) (k + 1) b) (sym shore) two.1) in
+      let later : IsPickedAt picks g (merged_at g.order p x) (k + 1 + cut_count a) n =
+      subst (λ (c : Shape). IsPickedAt picks g (merged_at g.order p x) (k + 1 + cut_count c) n) (sym kept)
+      (subst (λ (z : List ℕ). IsPickedAt picks g (merged_at g.order p z) (k + 1 + cut_count b) n) (sym shore) two.2) in
+      let merged : m ≡ n = picked-once g (merged_at g.order p x) (k + 1 + cut_count a) m n one.2 later in
+      ap (λ (z : List ℕ). cut z a m) shore ∙ ap (λ (c : Shape). cut y c m) kept ∙ ap (cut y b) merged
+
+-- the kinds of leaves
+kind-once : (g : Graph) (p : List (List ℕ)) (a b : LeafKind) → IsLeafKind g p a → IsLeafKind g p b → a ≡ b
+kind-once g p Brick Brick one two = refl
+kind-once g p Brick Brace one two = absurd (one two)
+kind-once g p Brace Brick one two = absurd (two one)
+kind-once g p Brace Brace one two = refl
+
+kinds-once : (g : Graph) (ps : List (List (List ℕ))) (a b : List LeafKind) → AreLeafKinds g ps a → AreLeafKinds g ps b → a ≡ b
+kinds-once g ps a b one two =
+    let long = one.each_one in
+    ext_get_or Brick a b (long ∙ sym two.each_one)
+    (λ i less. kind-once g (leaf_at ps i) (kind_at a i) (kind_at b i) (one.right i (omega arith)) (two.right i (omega arith)))
+
+tally-once : (g : Graph) (ps : List (List (List ℕ))) (a b : Tally) → IsTally g ps a → IsTally g ps b → a ≡ b
+tally-once g ps a b one two = one.is ∙ ap tally_of (kinds-once g ps one.kinds two.kinds one.right two.right) ∙ sym two.is
+
+-- what is told of a derivation
+tells-once : (named : NamedGraph) (t : Shape) (output other : List ℕ) → TellsDerivation named t Done output → TellsDerivation named t Done other → output ≡ other
+tells-once named t output other one two =
+    one.text
+    ∙ ap (λ (ks : List LeafKind). with_given_names (derivation_text (tree_text named.graph.order t) named.graph (leaves named.graph.order t) ks) named.names true)
+    (kinds-once named.graph (leaves named.graph.order t) one.kinds two.kinds one.right two.right)
+    ∙ sym two.text
+
+decompose-once : (picks : List Candidate → ℕ → ℕ → Type 0) → PicksOnce picks → (named : NamedGraph) (output other : List ℕ) → DecomposeGives picks named Done output → DecomposeGives picks named Done other → output ≡ other
+decompose-once picks once named output other (inl one) (inl two) =
+    let same : one.tree ≡ two.tree = picked-once picks once named.graph (singles named.graph.order) 0 one.tree two.tree one.picked two.picked in
+    tells-once named two.tree output other (subst (λ (t : Shape). TellsDerivation named t Done output) same one.told) two.told
+decompose-once picks once named output other (inl one) (inr not_covered) = let no = not_covered.negative in cc no
+decompose-once picks once named output other (inr not_covered) two = let no = not_covered.negative in cc no
+
+-- a tree that is refused is not done
+not-done : (g : Graph) (t : Shape) (place : ℕ) (output : List ℕ) → Refuses g t place Done output → ⊥
+not-done g t place output (inl refused) = let no = refused.negative in cc no
+not-done g t place output (inr not_covered) = let no = not_covered.negative in cc no
+
+check-once : (g : Graph) (t : Shape) (output other : List ℕ) → CheckGives g t Done output → CheckGives g t Done other → output ≡ other
+check-once g t output other (inl one) (inl two) =
+    one.text ∙ ap (λ (tally : Tally). judgement_text (line.Accepted tally)) (tally-once g (leaves g.order t) one.tally two.tally one.counts two.counts) ∙ sym two.text
+check-once g t output other (inl one) (inr refused) = absurd (not-done g t 1 other refused)
+check-once g t output other (inr refused) two = absurd (not-done g t 1 output refused)
+
+ears-once : (g : Graph) (list : PlainEars) (output other : List ℕ) → EarCheckGives g list Done output → EarCheckGives g list Done other → output ≡ other
+ears-once g list output other (inl one) (inl two) = one.text ∙ sym two.text
+ears-once g list output other (inl one) (inr (inl refused)) = let no = refused.negative in cc no
+ears-once g list output other (inl one) (inr (inr not_covered)) = let no = not_covered.negative in cc no
+ears-once g list output other (inr (inl refused)) two = let no = refused.negative in cc no
+ears-once g list output other (inr (inr not_covered)) two = let no = not_covered.negative in cc no
+
+-- moves lead to one last tree
+replay-tree : (g : Graph) (t : Shape) (moves : List PlainMove) (output : List ℕ) → ReplayGives g t moves Done output → ReplayedTree g t moves Done output
+replay-tree g t moves output (inl (inl replayed)) = replayed
+replay-tree g t moves output (inl (inr (inl stuck))) = let no = stuck.negative in cc no
+replay-tree g t moves output (inl (inr (inr refused))) = let no = refused.negative in cc no
+replay-tree g t moves output (inr refused) = absurd (not-done g t 1 output refused)
+
+replay-once : (g : Graph) (t : Shape) (moves : List PlainMove) (output other : List ℕ) → ReplayedTree g t moves Done output → ReplayedTree g t moves Done other → output ≡ other
+replay-once g t moves output other one two =
+    one.text ∙ ap (λ (r : Shape). replayed_text (tree_text g.order r) (length moves)) (last-once g t one.reached two.reached moves one.turns two.turns) ∙ sym two.text
+
+-- a graph that grew
+grown-tree : (g : Graph) (order : NamedOrder) (s t : Shape) (a b : Tally) → IsCounted (NamedPicks order) g s a → IsCounted (NamedPicks order) g t b → (s ≡ t) × (a ≡ b)
+grown-tree g order s t a b one two =
+    let same : s ≡ t = picked-once (NamedPicks order) (named-once order) g (singles g.order) 0 s t one.picked two.picked in
+    (same, tally-once g (leaves g.order t) a b (subst (λ (r : Shape). IsTally g (leaves g.order r) a) same one.counts) two.counts)
+
+grow-once : (seed pieces : ℕ) (output other : List ℕ) → Grown seed pieces Done output → Grown seed pieces Done other → output ≡ other
+grow-once seed pieces output other one two =
+    let g = grown seed pieces in
+    let first = grown-tree g First one.s two.s one.first two.first one.by_first two.by_first in
+    let last = grown-tree g Last one.t two.t one.last two.last one.by_last two.by_last in
+    let pairs : one.pairs ≡ two.pairs =
+    one.paired.so_many ∙ one.paired.paired.one_each ∙ ap (λ (s : Shape). length (leaves g.order s)) first.0 ∙ sym two.paired.paired.one_each ∙ sym two.paired.so_many in
+    one.text
+    ∙ ap (λ (a : Tally). grown_text (graph_text g) a one.last one.pairs) first.1
+    ∙ ap (λ (b : Tally). grown_text (graph_text g) two.first b one.pairs) last.1
+    ∙ ap (grown_text (graph_text g) two.first two.last) pairs
+    ∙ sym two.text
+
+-- each task whose text is not free
+task-once : (t : Task) → HasOneOutput t → (output other : List ℕ) → ResultOf t Done output → ResultOf t Done other → output ≡ other
+task-once (task.Analyse named) fixed output other one two = absurd fixed
+task-once (task.Convert named) fixed output other one two = one.text ∙ sym two.text
+task-once (task.Analyse6 g) fixed output other one two = absurd fixed
+task-once (task.Decompose named order) fixed output other one two = decompose-once (NamedPicks order) (named-once order) named output other one two
+task-once (task.DecomposeBy named picks) fixed output other one two = decompose-once (ScriptPicks picks) (script-once picks) named output other one two
+task-once (task.Check named tree) fixed output other one two = check-once named.graph tree output other one two
+task-once (task.CheckEars named list) fixed output other one two = ears-once named.graph list output other one two
+task-once (task.Ears named) fixed output other one two = absurd fixed
+task-once (task.Replay named tree moves) fixed output other one two =
+    replay-once named.graph tree moves output other (replay-tree named.graph tree moves output one) (replay-tree named.graph tree moves other two)
+task-once (task.Compare named first second) fixed output other one two = absurd fixed
+task-once (task.Script named first second) fixed output other one two = absurd fixed
+task-once (task.Grow seed pieces) fixed output other one two = grow-once seed pieces output other one two
+
+pub output-once : (words : List (List ℕ)) (files : List Named) (command : Command) (t : Task) (output other : List ℕ) →
+    command_of words ≡ Some command → loaded files command ≡ All t → HasOneOutput t → Outcome words files Done output → Outcome words files Done other → output ≡ other
+output-once words files command t output other row held fixed one two = task-once t fixed output other (gives output one) (gives other two)
+  where
+    gives : (o : List ℕ) → Outcome words files Done o → ResultOf t Done o
+    gives o done = subst (λ (h : Loaded Task). LoadedGives h Done o) held (subst (λ (c : Option Command). CommandGives files c Done o) row done)
+
+-- a bad file is named by one line
+held-bad : (held : Loaded Task) (output other : List ℕ) → Holds KeepsGraph held → LoadedGives held BadInput output → LoadedGives held BadInput other → output ≡ other
+held-bad (All t) output other keeps one two = elim (settled t keeps BadInput output one) [ inl done ↦ (let no = done.0 in cc no) | inr refused ↦ (let no = refused.0 in cc no) ]
+held-bad (Bad file line kind) output other keeps one two = one.1 ∙ sym two.1
+held-bad (Absent file) output other keeps one two = absurd one
+
+row-bad : (files : List Named) (row : Option Command) (output other : List ℕ) → CommandGives files row BadInput output → CommandGives files row BadInput other → output ≡ other
+row-bad files None output other one two = absurd one
+row-bad files (Some command) output other one two = held-bad (loaded files command) output other (loaded-graph files command) one two
+
+pub bad-once : (words : List (List ℕ)) (files : List Named) (output other : List ℕ) → Outcome words files BadInput output → Outcome words files BadInput other → output ≡ other
+bad-once words files output other one two = row-bad files (command_of words) output other one two

@@ -1,0 +1,259 @@
+-- What is written is read back. An output that stands for a value is read as this value by a file that holds it, and the value is one with
+-- which a further command succeeds: a derivation, an ear list, a matching covered graph.
+use Rattle.std.proofs.Common.{◌≡◌, ◌∙◌, ℕ, ◌≤◌, ◌<◌, ◌^◌, ◌&&◌, nat_le, Bool, true, false, cond, List, [], ◌∷◌, length, Option, Some, None, Result, Ok, Err, ◌⊎◌, inl, inr, refl, sym, subst, ap, arith, option_map, nat_lt}
+use Rattle.std.specs.Prelude.{codes}
+use Rattle.std.proofs.lemmas.Bool.{and_parts, leb-true}
+use Rattle.outside.specs.Shelf.{Named, file_named}
+use Rattle.line_text.specs.Format.{Stands}
+use Rattle.line_text.specs.Numerals.{is_number, value_of}
+use Rattle.line_text.specs.Reading.{reading_of}
+use Rattle.line_text.proofs.ExactlyOne.{Stands-from_reading, Stands-reading_of}
+use Rattle.graph_core.specs.Graph.{size}
+use Rattle.graph_core.specs.declared.faults.FaultKind.{FaultKind}
+use Rattle.graph_text.specs.EitherVersion.{NamedGraph, either_version}
+use Rattle.graph_text.specs.VersionOne.{FitsVersionOne}
+use Rattle.grow_gen.specs.Growth.{grown}
+use Rattle.tight_cuts.specs.Candidates.{Candidate}
+use Rattle.tree_core.specs.Derivations.{IsDerivation}
+use Rattle.tree_core.specs.Moves.{PlainMove}
+use Rattle.tree_core.specs.Shapes.{Shape}
+use Rattle.tree_text.specs.TreeFormat.{tree_format}
+use Rattle.tree_check.proofs.ReplaySteps.{reached-derivation}
+use Rattle.move_text.specs.MoveFormat.{move_format}
+use Rattle.move_text.proofs.MovesRead.{writable-read}
+use Rattle.ear_text.specs.EarFormat.{ear_format}
+use Rattle.bench_top.specs.Commands.{Command, Check, CheckEars, Decompose, Ears, Grow, command_of, most_pieces, order_named}
+use Rattle.bench_top.specs.EarChecks.{BuiltEars, EarsGives}
+use Rattle.bench_top.specs.Growths.{Grown}
+use Rattle.bench_top.specs.Loading.{Loaded, All, Bad, Absent, and_then, ear_file, file_read, from_reading, graph_file, loaded, loaded_as, most_bytes, move_file, moves_given, pick_file, tree_file, tree_given}
+use Rattle.bench_top.specs.Outcome.{CommandGives, DecomposeGives, LoadedGives, Outcome, ResultOf}
+use Rattle.bench_top.specs.Replays.{ReplayGives}
+use Rattle.bench_top.specs.RoundTrips.{AsksDone}
+use Rattle.bench_top.specs.Success.{Succeeds}
+use Rattle.bench_top.specs.Tasks.{Task}
+use Rattle.bench_top.specs.Tasks as task
+use Rattle.bench_top.specs.declared.order.NamedOrder.{NamedOrder}
+use Rattle.bench_top.specs.declared.order.NamedOrder.TheVariants.{First}
+use Rattle.bench_top.specs.declared.status.Status.{Status}
+use Rattle.bench_top.specs.declared.status.Status.TheVariants.{Done, Negative}
+use Rattle.bench_top.proofs.FileReads.{file_read-value}
+use Rattle.bench_top.proofs.GrownSizes.{few-edges, few-vertices, grown-multigraph}
+use Rattle.bench_top.proofs.LoadedGraphs.{Holds, graph-holds, loaded-graph}
+use Rattle.bench_top.proofs.ReadGraphs.{HasGraph, IsRead}
+use Rattle.bench_top.proofs.Settled.{KeepsGraph, settled}
+use Rattle.bench_top.proofs.TextsStand.{few-leaves_of, stands-ears, stands-grown, stands-replayed}
+
+-- what was held where a command was done
+given : {A : Type 0} (make : A → Task) (held : Loaded A) (output : List ℕ) → LoadedGives (loaded_as make held) Done output → (a : A) × ((held ≡ All a) × ResultOf (make a) Done output)
+given make (All a) output gives = (a, (refl, gives))
+given make (Bad file line kind) output gives = let no = gives.0 in cc no
+given make (Absent file) output gives = absurd gives
+
+then-given : {A : Type 0} (held : Loaded A) (next : A → Loaded Task) (output : List ℕ) → LoadedGives (and_then held next) Done output → (a : A) × ((held ≡ All a) × LoadedGives (next a) Done output)
+then-given (All a) next output gives = (a, (refl, gives))
+then-given (Bad file line kind) next output gives = let no = gives.0 in cc no
+then-given (Absent file) next output gives = absurd gives
+
+-- what all is made of
+abbrev value_or : {A : Type 0} → A → Loaded A → A
+value_or other (All a) = a
+value_or other (Bad file line kind) = other
+value_or other (Absent file) = other
+
+as-held : {A B : Type 0} (make : A → B) (held : Loaded A) (b : B) → loaded_as make held ≡ All b → (a : A) × ((held ≡ All a) × (make a ≡ b))
+as-held make (All a) b is = (a, (refl, ap (value_or b) is))
+as-held make (Bad file line kind) b is = cc is
+as-held make (Absent file) b is = cc is
+
+then-held : {A B : Type 0} (held : Loaded A) (next : A → Loaded B) (b : B) → and_then held next ≡ All b → (a : A) × ((held ≡ All a) × (next a ≡ All b))
+then-held (All a) next b is = (a, (refl, is))
+then-held (Bad file line kind) next b is = cc is
+then-held (Absent file) next b is = cc is
+
+-- the text that was read
+read-held : {A : Type 0} (place : ℕ) (reading : List ℕ → Result A (ℕ × FaultKind)) (file : Option (List ℕ)) (a : A) → file_read place reading file ≡ All a → (bytes : List ℕ) × (reading bytes ≡ Ok a)
+read-held {A} place reading None a is = cc is
+read-held {A} place reading (Some bytes) a is = (bytes, at (nat_lt most_bytes (length bytes)) (reading bytes) is)
+  where
+    at : (b : Bool) (r : Result A (ℕ × FaultKind)) → cond b (Bad place 0 6) (from_reading place r) ≡ All a → r ≡ Ok a
+    at true r e = cc e
+    at false (Ok value) e = ap Ok (ap (value_or a) e)
+    at false (Err fault) e = cc e
+
+-- a command that is done succeeds
+held-asks : (words : List (List ℕ)) (files : List Named) (command : Command) (held : Loaded Task) (output : List ℕ) → command_of words ≡ Some command → loaded files command ≡ held → Holds KeepsGraph held → LoadedGives held Done output → AsksDone words files
+held-asks words files command (All t) output row is keeps gives = record {
+  command = command;
+  row = row;
+  task = t;
+  held = is;
+  succeeds = elim (settled t keeps Done output gives) [ inl done ↦ done.1 | inr refused ↦ (let no = refused.0 in cc no) ];
+}
+held-asks words files command (Bad file line kind) output row is keeps gives = let no = gives.0 in cc no
+held-asks words files command (Absent file) output row is keeps gives = absurd gives
+
+row-asks : (words : List (List ℕ)) (files : List Named) (row : Option Command) (output : List ℕ) → command_of words ≡ row → CommandGives files row Done output → AsksDone words files
+row-asks words files None output is gives = absurd gives
+row-asks words files (Some command) output is gives = held-asks words files command (loaded files command) output is refl (loaded-graph files command) gives
+
+pub done-asks : (words : List (List ℕ)) (files : List Named) (output : List ℕ) → Outcome words files Done output → AsksDone words files
+done-asks words files output done = row-asks words files (command_of words) output refl done
+
+-- the graph that was read
+graph-read : (files : List Named) (graph : List ℕ) (named : NamedGraph) → graph_file files graph ≡ All named → IsRead named.graph
+graph-read files graph named is = subst (Holds HasGraph) is (graph-holds files graph)
+
+-- the parts of what was held
+abbrev graph_in : NamedGraph × Shape → NamedGraph
+graph_in given = given.0
+
+abbrev graph_of : NamedGraph × (Shape × List PlainMove) → NamedGraph
+graph_of given = given.0
+
+abbrev moves_in : NamedGraph × (Shape × List PlainMove) → List PlainMove
+moves_in given = given.1.1
+
+few-moves : (named : NamedGraph) (moves : List PlainMove) → IsRead named.graph → (text : List ℕ) → reading_of (move_format named.graph.order) text ≡ Ok moves → length moves < 10 ^ 9
+few-moves named moves read text is =
+    let vertices = read.vertices in
+    let writable = writable-read named.graph.order text moves (omega arith) (Stands-from_reading (move_format named.graph.order) text moves is) in
+    let few = writable.few in
+    omega arith
+
+module _ (files again : List Named) (graph : List ℕ) (same : file_named graph again ≡ file_named graph files) where
+  graph-again : (named : NamedGraph) → graph_file files graph ≡ All named → graph_file again graph ≡ All named
+  graph-again named is = ap (file_read 1 (reading_of either_version)) same ∙ is
+
+  module _ (name output : List ℕ) (held : file_named name again ≡ Some output) (within : length output ≤ most_bytes) where
+    -- a text of a derivation is checked
+    check-done : (named : NamedGraph) (t : Shape) → graph_file files graph ≡ All named → Stands (tree_format named.graph.order) output t → IsDerivation named.graph t → AsksDone (codes "check" ∷ graph ∷ name ∷ []) again
+    check-done named t is stands derived = record {
+      command = Check graph name;
+      row = refl;
+      task = task.Check named t;
+      held = ap (loaded_as (λ (given : NamedGraph × Shape). task.Check given.0 given.1)) read;
+      succeeds = derived;
+    }
+      where
+        read : tree_given again graph name ≡ All (named, t)
+        read = ap (λ (h : Loaded NamedGraph). and_then h (λ named. loaded_as (λ t. (named, t)) (tree_file again 2 name named.graph.order))) (graph-again named is)
+            ∙ ap (loaded_as (λ (t : Shape). (named, t)))
+            (file_read-value 2 (reading_of (tree_format named.graph.order)) (file_named name again) output t held within (Stands-reading_of (tree_format named.graph.order) output t stands))
+
+    decomposed : (picks : List Candidate → ℕ → ℕ → Type 0) (named : NamedGraph) → graph_file files graph ≡ All named → DecomposeGives picks named Done output → AsksDone (codes "check" ∷ graph ∷ name ∷ []) again
+    decomposed picks named is (inl made) = check-done named made.tree is made.told.stands made.told.derivation
+    decomposed picks named is (inr not_covered) = let no = not_covered.negative in cc no
+
+    in-order : (order : Option NamedOrder) → CommandGives files (option_map (Decompose graph) order) Done output → AsksDone (codes "check" ∷ graph ∷ name ∷ []) again
+    in-order None gives = absurd gives
+    in-order (Some order) gives =
+        let made = given (λ named. task.Decompose named order) (graph_file files graph) output gives in
+        decomposed _ made.0 made.1.0 made.1.1
+
+    pub decomposed-checked : (order : List ℕ) → Outcome (codes "decompose" ∷ graph ∷ order ∷ []) files Done output → AsksDone (codes "check" ∷ graph ∷ name ∷ []) again
+    decomposed-checked order gives = in-order (order_named order) gives
+
+    pub picked-checked : (picks : List ℕ) → Outcome (codes "decompose" ∷ graph ∷ codes "script" ∷ picks ∷ []) files Done output → AsksDone (codes "check" ∷ graph ∷ name ∷ []) again
+    picked-checked picks gives =
+        let first = then-given (graph_file files graph) (λ named. loaded_as (task.DecomposeBy named) (pick_file files picks)) output gives in
+        let made = given (task.DecomposeBy first.0) (pick_file files picks) output first.1.1 in
+        decomposed _ first.0 first.1.0 made.1.1
+
+    -- a list of ears that was built is checked
+    built : (named : NamedGraph) → graph_file files graph ≡ All named → EarsGives named.graph Done output → AsksDone (codes "checkears" ∷ graph ∷ name ∷ []) again
+    built named is (inl made) = record {
+      command = CheckEars graph name;
+      row = refl;
+      task = task.CheckEars named made.list;
+      held = ap (λ (h : Loaded NamedGraph). and_then h (λ named. loaded_as (task.CheckEars named) (ear_file again name named.graph))) (graph-again named is)
+          ∙ ap (loaded_as (task.CheckEars named)) (file_read-value 2 (reading_of (ear_format named.graph.order (size named.graph))) (file_named name again) output made.list held within
+          (Stands-reading_of (ear_format named.graph.order (size named.graph)) output made.list
+          (subst (λ (o : List ℕ). Stands (ear_format named.graph.order (size named.graph)) o made.list) (sym made.text) (stands-ears named.graph made.list (graph-read files graph named is) made.is))));
+      succeeds = (made.covered, made.is);
+    }
+    built named is (inr not_covered) = let no = not_covered.negative in cc no
+
+    pub built-checked : Outcome (codes "ears" ∷ graph ∷ []) files Done output → AsksDone (codes "checkears" ∷ graph ∷ name ∷ []) again
+    built-checked gives = let made = given task.Ears (graph_file files graph) output gives in built made.0 made.1.0 made.1.1
+
+    -- a tree that was reached is checked
+    reached : (named : NamedGraph) (t : Shape) (moves : List PlainMove) → graph_file files graph ≡ All named → length moves < 10 ^ 9 → ReplayGives named.graph t moves Done output → AsksDone (codes "check" ∷ graph ∷ name ∷ []) again
+    reached named t moves is few (inl (inl replayed)) =
+        let derived = reached-derivation named.graph t replayed.reached moves replayed.derivation replayed.turns in
+        check-done named replayed.reached is
+        (subst (λ (o : List ℕ). Stands (tree_format named.graph.order) o replayed.reached) (sym replayed.text)
+        (stands-replayed named.graph replayed.reached (length moves) (graph-read files graph named is) derived few))
+        derived
+    reached named t moves is few (inl (inr (inl stuck))) = let no = stuck.negative in cc no
+    reached named t moves is few (inl (inr (inr refused))) = let no = refused.negative in cc no
+    reached named t moves is few (inr (inl refused)) = let no = refused.negative in cc no
+    reached named t moves is few (inr (inr not_covered)) = let no = not_covered.negative in cc no
+
+    pub replayed-checked : (tree moves : List ℕ) → Outcome (codes "replay" ∷ graph ∷ tree ∷ moves ∷ []) files Done output → AsksDone (codes "check" ∷ graph ∷ name ∷ []) again
+    replayed-checked tree moves gives =
+        let made = given (λ (given : NamedGraph × (Shape × List PlainMove)). task.Replay given.0 given.1.0 given.1.1) (moves_given files graph tree moves) output gives in
+        let trees = then-held (tree_given files graph tree) (λ given. loaded_as (λ ms. (given.0, (given.1, ms))) (move_file files moves given.0.graph.order)) made.0 made.1.0 in
+        let all = as-held (λ (ms : List PlainMove). (trees.0.0, (trees.0.1, ms))) (move_file files moves trees.0.0.graph.order) made.0 trees.1.1 in
+        let first = then-held (graph_file files graph) (λ named. loaded_as (λ t. (named, t)) (tree_file files 2 tree named.graph.order)) trees.0 trees.1.0 in
+        let both = as-held (λ (t : Shape). (first.0, t)) (tree_file files 2 tree first.0.graph.order) trees.0 first.1.1 in
+        let is : graph_file files graph ≡ All made.0.0 = first.1.0 ∙ ap All (ap graph_in both.1.1 ∙ ap graph_of all.1.1) in
+        let text = read-held 3 (reading_of (move_format trees.0.0.graph.order)) (file_named moves files) all.0 all.1.0 in
+        reached made.0.0 made.0.1.0 made.0.1.1 is
+        (subst (λ (ms : List PlainMove). length ms < 10 ^ 9) (ap moves_in all.1.1)
+        (few-moves trees.0.0 all.0 (graph-read files graph trees.0.0 (first.1.0 ∙ ap All (ap graph_in both.1.1))) text.0 text.1))
+        made.1.1
+
+-- a graph that grew is covered, and is read back
+abbrev grown_named : (seed pieces : ℕ) → NamedGraph
+grown_named seed pieces = record { graph = grown seed pieces; names = None }
+
+grown-few : (seed pieces : ℕ) (output : List ℕ) → FitsVersionOne (grown seed pieces) → (made : Grown seed pieces Done output) → made.pairs ≤ 64
+grown-few seed pieces output fits made =
+    let vertices = fits.vertices in
+    let listed = few-leaves_of (grown seed pieces) made.s fits.multigraph.ends (omega arith) made.by_first.derivation in
+    let each = made.paired.paired.one_each in
+    let so_many = made.paired.so_many in
+    omega arith
+
+module _ (again : List Named) (name output : List ℕ) (held : file_named name again ≡ Some output) (within : length output ≤ most_bytes) where
+  grown-read : (seed pieces : ℕ) → FitsVersionOne (grown seed pieces) → Grown seed pieces Done output → graph_file again name ≡ All (grown_named seed pieces)
+  grown-read seed pieces fits made =
+      file_read-value 1 (reading_of either_version) (file_named name again) output (grown_named seed pieces) held within
+      (Stands-reading_of either_version output (grown_named seed pieces)
+      (subst (λ (o : List ℕ). Stands either_version o (grown_named seed pieces)) (sym made.text)
+      (stands-grown (grown seed pieces) made.first made.last made.pairs made.s made.t fits made.by_first.derivation made.by_last.derivation made.by_first.counts made.by_last.counts
+      (grown-few seed pieces output fits made))))
+
+  grown-asks : (seed pieces : ℕ) → 1 ≤ pieces → pieces ≤ 16 → Grown seed pieces Done output → AsksDone (codes "ears" ∷ name ∷ []) again × AsksDone (codes "decompose" ∷ name ∷ codes "first" ∷ []) again
+  grown-asks seed pieces some few made =
+      let fits : FitsVersionOne (grown seed pieces) = record { multigraph = grown-multigraph seed pieces; vertices = few-vertices seed pieces some few; edges = few-edges seed pieces some few } in
+      let read = grown-read seed pieces fits made in (
+        record {
+          command = Ears name;
+          row = refl;
+          task = task.Ears (grown_named seed pieces);
+          held = ap (loaded_as task.Ears) read;
+          succeeds = made.by_first.derivation.covered;
+        },
+        record {
+          command = Decompose name First;
+          row = refl;
+          task = task.Decompose (grown_named seed pieces) First;
+          held = ap (loaded_as (λ named. task.Decompose named First)) read;
+          succeeds = made.by_first.derivation.covered;
+        },
+      )
+
+  pub grown-served : (files : List Named) (seed pieces : List ℕ) → Outcome (codes "grow" ∷ seed ∷ pieces ∷ []) files Done output →
+      AsksDone (codes "ears" ∷ name ∷ []) again × AsksDone (codes "decompose" ∷ name ∷ codes "first" ∷ []) again
+  grown-served files seed pieces gives = go (is_number seed && (is_number pieces && (nat_le 1 (value_of pieces) && nat_le (value_of pieces) most_pieces))) refl gives
+    where
+      go : (b : Bool) → (is_number seed && (is_number pieces && (nat_le 1 (value_of pieces) && nat_le (value_of pieces) most_pieces))) ≡ b →
+          CommandGives files (cond b (Some (Grow (value_of seed) (value_of pieces))) None) Done output →
+          AsksDone (codes "ears" ∷ name ∷ []) again × AsksDone (codes "decompose" ∷ name ∷ codes "first" ∷ []) again
+      go true is made =
+          let numbers = (and_parts (is_number seed) (is_number pieces && (nat_le 1 (value_of pieces) && nat_le (value_of pieces) most_pieces)) is).1 in
+          let range = (and_parts (is_number pieces) (nat_le 1 (value_of pieces) && nat_le (value_of pieces) most_pieces) numbers).1 in
+          let both = and_parts (nat_le 1 (value_of pieces)) (nat_le (value_of pieces) most_pieces) range in
+          grown-asks (value_of seed) (value_of pieces) (leb-true 1 (value_of pieces) both.0) (leb-true (value_of pieces) 16 both.1) made
+      go false is made = absurd made
