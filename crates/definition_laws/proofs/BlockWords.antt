@@ -1,6 +1,6 @@
 -- A perfect matching and a tight shore at a partition, in words that do not name the contracted graph.
 -- They are the wordings for the contracted graph, whose ends are places of blocks and whose cuts are those of the graph.
-use Rattle.std.proofs.Common.{◌≡◌, ℕ, ◌-◌, true, List, length, refl, sym, ap, ◌∙◌, arith, inl, inr, subst, ◌↔◌}
+use Rattle.std.proofs.Common.{◌≡◌, ℕ, true, List, length, refl, sym, ap, ◌∙◌, arith, inl, inr, subst, ◌↔◌}
 use Rattle.counting.specs.Counts.{Within, is_odd}
 use Rattle.counting.specs.Lists.{mem}
 use Rattle.counting.specs.Sets.{Set, complement, none}

@@ -6,3 +6,4 @@ pub mod MatchingSizes
 pub mod MatchingWords
 pub mod Reasons
 pub mod ThreeSets
+pub mod ListOrders

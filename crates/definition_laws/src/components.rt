@@ -2,7 +2,8 @@
 //!
 //! A component is named by its least vertex, and the numbers of components are counts of these. Each law here is the contract of
 //! a function that does nothing.
-ghost use Rattle.std.specs.Prelude.{◌≡◌, ℕ, List, ◌≤◌, ◌&&◌, true, false, length, ◌↔◌, All, Any};
+ghost use Rattle.std.specs.Prelude.{◌≡◌, ℕ, List, ◌≤◌, ◌&&◌, true, false, length, map, count_by, slice_index, ◌↔◌, All, Any};
+ghost use Rattle.std.specs.List.Sorted.{IsStrictlyIncreasing};
 ghost use Rattle.counting.specs.Counts.{Within, count, is_odd};
 ghost use Rattle.counting.specs.Lists.{item, mem};
 ghost use Rattle.counting.specs.Sets.{Set};
@@ -19,7 +20,8 @@ pub fn adjacency_law()
 {}
 
 /// Components: being joined by a walk is an equivalence, each vertex outside S is joined to exactly one vertex that is the least of
-/// its component, and the numbers of components count these. The lists are as many, each is a component, and each vertex outside S is in exactly one.
+/// its component, and the numbers of components count these. The lists are as many, each is a component, each vertex outside S is in
+/// exactly one, and they stand by their least vertices; o(S) is the number of those of odd length.
 pub fn component_law()
     ensures same { (g : Graph) (s : Set) (u v w : ℕ) → Joined g s u u × (Joined g s u v → Joined g s v u) × (Joined g s u v → Joined g s v w → Joined g s u w) }
     ensures least { (g : Graph) (s : Set) (u : ℕ) → IsGraph g → Within g.order u →
@@ -34,4 +36,6 @@ pub fn component_law()
     ensures cover { (g : Graph) (s : Set) (v : ℕ) → IsGraph g → Within g.order v → s v ≡ false → Any (λ (c : List ℕ). mem c v ≡ true) (components g s) }
     ensures once { (g : Graph) (s : Set) (i j v : ℕ) → IsGraph g → Within (length (components g s)) i → Within (length (components g s)) j →
         mem (item (components g s) i) v ≡ true → mem (item (components g s) j) v ≡ true → i ≡ j }
+    ensures odd_lists { (g : Graph) (s : Set) → odd_component_count g s ≡ count_by (λ (c : List ℕ). is_odd (length c)) (components g s) }
+    ensures order { (g : Graph) (s : Set) → IsGraph g → IsStrictlyIncreasing (map (λ (c : List ℕ). slice_index c 0) (components g s)) }
 {}

@@ -1,7 +1,8 @@
 //! Matching covered graphs, the reasons why a graph is not one, the canonical partition and the pairs, in the words of a textbook.
 //!
 //! Each law here is the contract of a function that does nothing.
-ghost use Rattle.std.specs.Prelude.{◌≡◌, ℕ, List, ◌≤◌, ◌⊎◌, true, length, ◌↔◌, All, Any, Some};
+ghost use Rattle.std.specs.Prelude.{◌≡◌, ℕ, List, ◌≤◌, ◌⊎◌, true, length, map, slice_index, ◌↔◌, All, Any, Some};
+ghost use Rattle.std.specs.List.Sorted.{IsStrictlyIncreasing};
 ghost use Rattle.counting.specs.Counts.{Within};
 ghost use Rattle.counting.specs.Lists.{item, mem};
 ghost use Rattle.counting.specs.Sets.{pair_set};
@@ -21,13 +22,15 @@ pub fn reason_law()
 {}
 
 /// The test `is_equivalent` says that two vertices are equal or leave no perfect matching, and each list of the canonical
-/// partition is the class of one of its vertices. In a covered graph each vertex is in exactly one of the lists.
+/// partition is the class of one of its vertices. The lists stand by their least vertices. In a covered graph each vertex is in exactly
+/// one of them.
 pub fn canonical_partition_law()
     ensures test { (g : Graph) (a b : ℕ) → ((is_equivalent g a b ≡ true) ↔ Equivalent g a b) }
     ensures lists { (g : Graph) → All (IsListOfClass g) (classes g) }
     ensures cover { (g : Graph) (a : ℕ) → IsGraph g → IsCovered g → Within g.order a → Any (λ (c : List ℕ). mem c a ≡ true) (classes g) }
     ensures once { (g : Graph) (i j a : ℕ) → IsGraph g → IsCovered g → Within (length (classes g)) i → Within (length (classes g)) j →
         mem (item (classes g) i) a ≡ true → mem (item (classes g) j) a ≡ true → i ≡ j }
+    ensures order { (g : Graph) → IsStrictlyIncreasing (map (λ (c : List ℕ). slice_index c 0) (classes g)) }
 {}
 
 /// The pairs that `unlike_pair` and `cut_pair` answer are the first in lexicographic order: the first a < b without which there

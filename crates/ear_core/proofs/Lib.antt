@@ -20,3 +20,4 @@ pub mod Searching
 pub mod BipartiteStages
 pub mod Stepping
 pub mod Following
+pub mod WholeStages

@@ -1,10 +1,11 @@
 //! Laws of ear lists. Each is the contract of a function that does nothing.
 ghost use Rattle.std.specs.Prelude.{◌≡◌, ◌↔◌, ℕ, true, List, [], None};
 ghost use Rattle.counting.specs.Counts.{Within};
-ghost use Rattle.counting.specs.Sets.{Set};
-ghost use Rattle.graph_core.specs.Graph.{Graph, IsGraph, size};
-ghost use Rattle.ear_core.specs.Stages.{IsStage, AllowedBy};
-ghost use Rattle.ear_core.specs.EarLists.{PlainStep, next_stage, IsStep, AreSteps};
+ghost use Rattle.counting.specs.Sets.{Set, everything};
+ghost use Rattle.graph_core.specs.Covered.{IsCovered};
+ghost use Rattle.graph_core.specs.Graph.{Graph, IsGraph, IsMultigraph, size};
+ghost use Rattle.ear_core.specs.Stages.{IsStage, AllowedBy, is_met};
+ghost use Rattle.ear_core.specs.EarLists.{PlainEars, PlainStep, next_stage, IsEarList, IsStep, AreSteps};
 ghost use Rattle.ear_core.specs.Refusals.{step_fault, IsFirstRefusal};
 ghost use Rattle.ear_core.specs.Ears.{IsEar, IsEarPair};
 ghost use Rattle.ear_core.specs.EarTests.{Passes, Why, inner_vertices};
@@ -30,4 +31,13 @@ pub fn first_refusal_law()
         → IsFirstRefusal g f k steps number why → AreSteps g f steps → ⊥ }
     ensures one { (g : Graph) (f : Set) (k : ℕ) (steps : List PlainStep) (i j : ℕ) (a b : Why)
         → IsFirstRefusal g f k steps i a → IsFirstRefusal g f k steps j b → (i ≡ j) × (a ≡ b) }
+{}
+
+/// A stage that holds every edge and meets every vertex is matching covered exactly where the graph is. So a graph without isolated
+/// vertices that has an ear list is matching covered (Lovász and Plummer).
+pub fn whole_stage_law()
+    ensures stage { (g : Graph) (f : Set) → IsMultigraph g → ((e : ℕ) → Within (size g) e → f e ≡ true)
+        → ((v : ℕ) → Within g.order v → is_met g f v ≡ true) → (IsStage g f ↔ IsCovered g) }
+    ensures list { (g : Graph) (list : PlainEars) → IsMultigraph g → IsEarList g list
+        → ((v : ℕ) → Within g.order v → is_met g everything v ≡ true) → IsCovered g }
 {}

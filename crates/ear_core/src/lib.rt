@@ -9,7 +9,8 @@
 //! of each matching covered graph, of single ears alone where the graph is bipartite.
 //!
 //! `laws::ear_tests_law`: the tests say that an ear is one. `laws::new_stage_law`: behind them a new stage can fail by an edge in no
-//! perfect matching alone. `laws::first_refusal_law`: an ear list has no refusal, and another list one at most. Inside, a step is taken
+//! perfect matching alone. `laws::first_refusal_law`: an ear list has no refusal, and another list one at most. `laws::whole_stage_law`:
+//! the stage of all vertices and edges is matching covered exactly where the graph is. Inside, a step is taken
 //! on a row of marks, and the edges of its ears are asked of the matching engine one by one. The builder keeps one perfect matching;
 //! at each stage another one leads out and makes ears together with it (`AreMatedEars` of `specs/AlternatingEars`), of which one serves
 //! or two do by the two-ear theorem.

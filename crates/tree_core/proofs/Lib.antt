@@ -3,6 +3,7 @@ pub mod DerivationStands
 pub mod DerivationShores
 pub mod Shores
 pub mod Sizes
+pub mod TreePaths
 pub mod CutsBelow
 pub mod RotateSteps
 pub mod SwitchSets

@@ -1,11 +1,13 @@
 -- The leaves of a tree of cuts, each as the partition at which it stands.
-use Rattle.std.specs.Prelude.{◌<◌, ℕ, List, [], ◌∷◌, ◌++◌, length, map}
+use Rattle.std.specs.Prelude.{◌≡◌, ◌<◌, ℕ, List, [], ◌∷◌, ◌++◌, length, map}
 use Rattle.counting.specs.Lists.{mem, IsRisingIn}
 use Rattle.graph_core.specs.Partitions.{singles}
 use Rattle.graph_core.specs.Shores.{IsUnion}
 use Rattle.contraction.specs.Partition.{PartitionValue}
 use Rattle.tree_core.specs.Shapes.{Shape, leaf, cut}
 use Rattle.tree_core.specs.Derivations.{kept_at, merged_at}
+use Rattle.tree_core.specs.declared.path.Side.{Side}
+use Rattle.tree_core.specs.declared.path.Side.TheVariants.{Kept, Merged}
 
 -- the partitions at the leaves of the tree at p, in preorder with `kept` before `merged`
 abbrev pub leaves_at : ℕ → List (List ℕ) → Shape → List (List (List ℕ))
@@ -25,3 +27,10 @@ StandsAt n p (cut x k m) =
 -- partitions of 1 to n with these blocks
 abbrev pub partitions_of : ℕ → List (List (List ℕ)) → List PartitionValue
 partitions_of n ps = map (λ p. record { order = n; blocks = p }) ps
+
+-- the path leads from the root of t, which stands at the partition p, to the root of s, which stands at q
+abbrev pub LeadsTo : ℕ → List Side → List (List ℕ) → Shape → List (List ℕ) → Shape → Type 0
+LeadsTo n [] p t q s = (p ≡ q) × (t ≡ s)
+LeadsTo n (side ∷ path) p leaf q s = ⊥
+LeadsTo n (Kept ∷ path) p (cut x k m) q s = LeadsTo n path (kept_at n p x) k q s
+LeadsTo n (Merged ∷ path) p (cut x k m) q s = LeadsTo n path (merged_at n p x) m q s

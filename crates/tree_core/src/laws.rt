@@ -1,12 +1,13 @@
 //! Laws of derivations and of plain trees. Each is the contract of a function that does nothing.
-ghost use Rattle.std.specs.Prelude.{◌≡◌, ◌+◌, ◌*◌, ◌≤◌, ◌↔◌, ℕ, length, List, All};
+ghost use Rattle.std.specs.Prelude.{◌≡◌, ◌+◌, ◌*◌, ◌≤◌, ◌↔◌, ℕ, length, List, All, Any};
 ghost use Rattle.graph_core.specs.Covered.{IsCovered};
 ghost use Rattle.graph_core.specs.Graph.{Graph, IsGraph};
 ghost use Rattle.graph_core.specs.Partitions.{IsPartition, singles};
 ghost use Rattle.graph_core.specs.Quotients.{quotient};
-ghost use Rattle.tree_core.specs.Shapes.{Shape, Fits, cut_count, leaf_count, node_count, shores};
+ghost use Rattle.tree_core.specs.Shapes.{Shape, Fits, cut, cut_count, depth, leaf, leaf_count, node_count, shores};
 ghost use Rattle.tree_core.specs.Derivations.{IsCutAt, IsDerivation, IsLeafAt, IsTightShore};
-ghost use Rattle.tree_core.specs.Leaves.{StandsAt, leaves};
+ghost use Rattle.tree_core.specs.Leaves.{LeadsTo, StandsAt, leaves};
+ghost use Rattle.tree_core.specs.declared.path.Side.{Side};
 
 /// A derivation of a graph fits the graph's order, and each of its shores is a nonempty union of blocks where it stands. So its
 /// leaves may be asked for.
@@ -34,6 +35,17 @@ pub fn tree_sizes()
     ensures leaves { (t : Shape) → leaf_count t ≡ cut_count t + 1 }
     ensures nodes { (t : Shape) → node_count t ≡ 2 * cut_count t + 1 }
     ensures list { (n : ℕ) (t : Shape) → length (leaves n t) ≡ leaf_count t }
+{}
+
+/// What a tree has, by the paths from its root: the leaves are the partitions of the leaves that some path leads to, the shores those
+/// of the cuts that some path leads to, and the depth is the greatest number of nodes on a path to a leaf.
+pub fn tree_paths()
+    ensures leaf { (n : ℕ) (t : Shape) (q : List (List ℕ)) → (Any (λ (p : List (List ℕ)). p ≡ q) (leaves n t) ↔
+        ((path : List Side) × LeadsTo n path (singles n) t q leaf)) }
+    ensures shore { (n : ℕ) (t : Shape) (x : List ℕ) → (Any (λ (y : List ℕ). y ≡ x) (shores t) ↔
+        ((path : List Side) × (q : List (List ℕ)) × (k : Shape) × (m : Shape) × LeadsTo n path (singles n) t q (cut x k m))) }
+    ensures within { (n : ℕ) (t : Shape) (q : List (List ℕ)) (path : List Side) → LeadsTo n path (singles n) t q leaf → length path + 1 ≤ depth t }
+    ensures deepest { (n : ℕ) (t : Shape) → (path : List Side) × (q : List (List ℕ)) × LeadsTo n path (singles n) t q leaf × (length path + 1 ≡ depth t) }
 {}
 
 /// A derivation of a graph with at least four vertices has at most half as many leaves as vertices, less one: n vertices and c leaves

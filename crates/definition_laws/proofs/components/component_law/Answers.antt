@@ -1,6 +1,7 @@
 use Rattle.graph_core.proofs.Components.{length-components}
 use Rattle.definition_laws.proofs.Covering.{components-cover, components-once}
 use Rattle.definition_laws.proofs.Leaders.{components-are, count-leaders, count-odd_leaders, leader, least_found, least_says}
+use Rattle.definition_laws.proofs.ListOrders.{components-order, odd-lists}
 use Rattle.graph_core.proofs.Trees.{least_same}
 use Rattle.graph_core.proofs.Walks.{joined_back, joined_on, joined_self}
 use Rattle.definition_laws.proofs.components.component_law.Goals as goal
@@ -31,3 +32,9 @@ returns-clause-cover c g s v is w out = components-cover g s is v w out
 
 pub returns-clause-once : goal.returns-clause-once
 returns-clause-once c g s i j v is wi wj hi hj = components-once g s is i j v wi wj hi hj
+
+pub returns-clause-odd_lists : goal.returns-clause-odd_lists
+returns-clause-odd_lists c g s = odd-lists g s
+
+pub returns-clause-order : goal.returns-clause-order
+returns-clause-order c g s is = components-order g s is

@@ -1,0 +1,60 @@
+-- A stage that holds every edge and meets every vertex has the walks and the perfect matchings of the graph itself, so it is matching
+-- covered exactly where the graph is. An ear list leads to such a stage where no vertex is isolated.
+use Rattle.std.proofs.Common.{◌≡◌, ℕ, true, not, ◌&&◌, ◌==◌, List, [], ◌∷◌, refl, sym, ap, ◌∙◌, arith}
+use Rattle.std.proofs.lemmas.Bool.{and_from, and_parts, true≢false}
+use Rattle.counting.proofs.Tests.{some_true, true_some}
+use Rattle.counting.specs.Counts.{Within}
+use Rattle.counting.specs.Sets.{Set, everything, none, singleton}
+use Rattle.graph_core.proofs.Decide.{degree_congr}
+use Rattle.graph_core.specs.Covered.{IsCovered}
+use Rattle.graph_core.specs.Graph.{Graph, IsMultigraph, has_ends, size}
+use Rattle.graph_core.specs.Walks.{Joined, Walk, adjacent}
+use Rattle.ear_core.proofs.Stepping.{covered-allowed, covered-edge}
+use Rattle.ear_core.specs.EarLists.{AreSteps, IsEarList, PlainEars, PlainStep, next_stage}
+use Rattle.ear_core.specs.Stages.{IsStage, adjacent_by, is_met}
+
+-- each edge of g is in f
+abbrev pub HoldsEdges : Graph → Set → Type 0
+HoldsEdges g f = (e : ℕ) → Within (size g) e → f e ≡ true
+
+module _ (g : Graph) (f : Set) (edges : HoldsEdges g f) where
+  walk-of_graph : (u : ℕ) (ws : List ℕ) (v : ℕ) → Walk (adjacent_by g f) u ws v → Walk (adjacent g none) u ws v
+  walk-of_graph u [] v walk = walk
+  walk-of_graph u (x ∷ ws) v walk =
+      let e = some_true (size g) (λ e. f e && has_ends g u x e) walk.0 in
+      (true_some (size g) (has_ends g u x) e.0 e.1 (and_parts (f e.0) (has_ends g u x e.0) e.2).1, walk-of_graph x ws v walk.1)
+
+  walk-of_stage : (u : ℕ) (ws : List ℕ) (v : ℕ) → Walk (adjacent g none) u ws v → Walk (adjacent_by g f) u ws v
+  walk-of_stage u [] v walk = walk
+  walk-of_stage u (x ∷ ws) v walk =
+      let e = some_true (size g) (has_ends g u x) walk.0 in
+      (true_some (size g) (λ e. f e && has_ends g u x e) e.0 e.1 (and_from (f e.0) (has_ends g u x e.0) (edges e.0 e.1) e.2), walk-of_stage x ws v walk.1)
+
+  module _ (is : IsMultigraph g) (vertices : (v : ℕ) → Within g.order v → is_met g f v ≡ true) where
+    pub stage-covered : IsStage g f → IsCovered g
+    unfolding Joined
+    stage-covered stage = record {
+      two = let e = stage.some_edge in let ends = is.ends e.0 e.1 in let a = ends.0 in let b = ends.1 in let differ = is.no_loop e.0 e.1 in omega arith;
+      connected = λ u v wu wv. let walk = stage.connected u v wu wv (vertices u wu) (vertices v wv) in (walk.0, walk-of_graph u walk.0 v walk.1);
+      allowed = λ e w differ. let m = stage.allowed e w (edges e w) in
+          (m.0, record { once = λ v wv outside. m.1.once v wv (vertices v wv); away = λ v wv removed. absurd (true≢false (sym removed)) }, m.2);
+    }
+
+    pub covered-stage : IsCovered g → IsStage g f
+    unfolding Joined
+    covered-stage covered = record {
+      some_edge = let w = covered-edge g is covered in (1, w, edges 1 w);
+      connected = λ u v wu wv tu tv. let walk = covered.connected u v wu wv in (walk.0, walk-of_stage u walk.0 v walk.1);
+      allowed = λ e w held. let m = covered-allowed g is covered e w in
+          (m.0, record { part = λ d wd h. edges d wd; once = λ v wv met. m.1.once v wv refl }, m.2);
+    }
+
+-- steps lead to a stage of all edges
+last-stage : (g : Graph) (f : Set) (steps : List PlainStep) → IsStage g f → AreSteps g f steps → (l : Set) × IsStage g l × HoldsEdges g l
+last-stage g f [] stage all = (f, stage, all)
+last-stage g f (s ∷ steps) stage are = last-stage g (next_stage f s) steps are.1 are.2
+
+pub listed-covered : (g : Graph) (list : PlainEars) → IsMultigraph g → IsEarList g list → ((v : ℕ) → Within g.order v → is_met g everything v ≡ true) → IsCovered g
+listed-covered g list is ears met =
+    let last = last-stage g (singleton list.start) list.steps ears.first_stage ears.steps in
+    stage-covered g last.0 last.2 is (λ v w. ap (λ k. not (k == 0)) (degree_congr g last.0 everything v last.2) ∙ met v w) last.1
