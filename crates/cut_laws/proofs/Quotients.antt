@@ -1,0 +1,72 @@
+-- A leaf and its quotient: a set of blocks is the set of the vertices in them, so no set of blocks is tight and nontrivial in the quotient
+-- exactly where no union of blocks is at the partition. And each graph is bipartite or not, since its sets can be looked through.
+use Rattle.std.proofs.Common.{◌≡◌, ℕ, not, ◌&&◌, ◌||◌, List, length, sym, ap, ap₂, ◌∙◌, subst, inl, inr, ◌⊎◌}
+use Rattle.std.proofs.lemmas.Bool.{both_ways}
+use Rattle.std.specs.Prelude.{All}
+use Rattle.counting.proofs.Choice.{choose_set}
+use Rattle.counting.proofs.Tests.{every_congr, every_true, true_every}
+use Rattle.counting.specs.Counts.{Within}
+use Rattle.counting.specs.Sets.{Set}
+use Rattle.counting.specs.Tests.{every}
+use Rattle.contraction.proofs.QuotientLaws.{tight_at_down, tight_at_up}
+use Rattle.graph_core.proofs.BlockSets.{at_rep, rep_place}
+use Rattle.graph_core.proofs.QuotientTight.{quotient_graph}
+use Rattle.graph_core.proofs.Quotients.{quotient-order}
+use Rattle.graph_core.proofs.SameSets.{nontrivial-same, tight-same}
+use Rattle.graph_core.specs.Covered.{IsCovered}
+use Rattle.graph_core.specs.Graph.{Graph, IsBipartite, IsGraph, first_end, in_cut, second_end, size}
+use Rattle.graph_core.specs.Partitions.{AreBlocks, place}
+use Rattle.graph_core.specs.Quotients.{quotient}
+use Rattle.graph_core.specs.Shores.{IsUnion, blocks_in}
+use Rattle.graph_core.specs.Tight.{IsNontrivial}
+use Rattle.leaf_kinds.specs.LeafKinds.{HasNoTightCut}
+use Rattle.tree_core.proofs.CutsBelow.{covered-leaves}
+use Rattle.tree_core.proofs.DerivationLeaves.{partitions-leaves, uncut-leaves}
+use Rattle.tree_core.specs.Derivations.{IsDerivation, IsLeafAt}
+use Rattle.tree_core.specs.Leaves.{leaves}
+use Rattle.tree_core.specs.Shapes.{Shape}
+use Rattle.cut_laws.specs.Words.{EndsInBrickOrBrace}
+
+module _ (g : Graph) (p : List (List ℕ)) (is : IsGraph g) (pp : AreBlocks g.order p) where
+  pub leaf-quotient : IsLeafAt g p → HasNoTightCut (quotient g p)
+  unfolding IsLeafAt
+  leaf-quotient none x tight nontrivial =
+      none y
+      (tight_at_down g p is pp y union (tight-same (quotient g p) x (blocks_in p y) (quotient_graph g p is pp) (λ i w. blocks i (subst (λ n. Within n i) (quotient-order g p) w)) tight))
+      (nontrivial-same (length p) x (blocks_in p y) blocks (subst (λ n. IsNontrivial n x) (quotient-order g p) nontrivial))
+    where
+      y : Set
+      y v = x (place p v)
+
+      union : IsUnion g.order p y
+      union u v wu wv same = ap x same
+
+      blocks : (i : ℕ) → Within (length p) i → x i ≡ blocks_in p y i
+      blocks i w = sym (at_rep g.order p pp y union i w ∙ ap x (rep_place g.order p pp i w))
+
+  pub quotient-leaf : HasNoTightCut (quotient g p) → IsLeafAt g p
+  unfolding IsLeafAt
+  quotient-leaf none x tight nontrivial =
+      none (blocks_in p x) (tight_at_up g p is pp x tight) (subst (λ n. IsNontrivial n (blocks_in p x)) (sym (quotient-order g p)) nontrivial)
+
+-- a graph is bipartite or not
+pub bipartite-or : (g : Graph) → IsGraph g → IsBipartite g ⊎ (¬ IsBipartite g)
+bipartite-or g is =
+    elim (choose_set g.order (λ x. every (size g) (in_cut g x)) (record {
+      same = λ x y same.
+          every_congr (size g) (in_cut g x) (in_cut g y) (λ e w. ap₂ (λ a b. (a && not b) || (not a && b)) (same (first_end g e) (is e w).0) (same (second_end g e) (is e w).1));
+    })) [
+      | inl found ↦ inl (found.0, λ e w. every_true (size g) (in_cut g found.0) found.1 e w)
+      | inr none ↦ inr (λ sides. both_ways (every (size g) (in_cut g sides.0)) (none sides.0) (true_every (size g) (in_cut g sides.0) sides.1))
+    ]
+
+-- a covered quotient at a leaf is a brick or a brace
+ends-at : (g : Graph) (p : List (List ℕ)) → IsGraph g → AreBlocks g.order p → IsLeafAt g p → IsCovered (quotient g p) → EndsInBrickOrBrace g p
+ends-at g p is pp none covered = elim (bipartite-or (quotient g p) (quotient_graph g p is pp)) [
+  | inl sides ↦ inr (covered, (sides, leaf-quotient g p is pp none))
+  | inr odd ↦ inl (covered, (odd, leaf-quotient g p is pp none))
+]
+
+pub bricks-and_braces : (g : Graph) (t : Shape) → IsGraph g → IsDerivation g t → All (EndsInBrickOrBrace g) (leaves g.order t)
+bricks-and_braces g t is derives k d less =
+    ends-at g _ is (partitions-leaves g t derives k d less).partition (uncut-leaves g t derives k d less) (covered-leaves g t is derives k d less)

@@ -1,0 +1,14 @@
+//! What do tight cut decompositions and their candidates say in the words of the literature?
+//!
+//! `bricks_and_braces_law`: a derivation of a matching covered graph ends in bricks and braces. `leaf_law`: a leaf is a partition whose
+//! quotient has no nontrivial tight cut. `third_part_law`: the third part of the candidates, which is defined by tests over all sets, by
+//! "some tight set" and "in all tight sets". No other crate stands on this one.
+//!
+//! Stands on `tree_core`, `tight_cuts` and `leaf_kinds`. Source: Lovász, "Matching structure and the matching lattice" (1987).
+#![tactic(auto)]
+
+mod candidates;
+mod decompositions;
+
+pub use candidates::third_part_law;
+pub use decompositions::{bricks_and_braces_law, leaf_law};
