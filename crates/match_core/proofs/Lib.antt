@@ -9,6 +9,16 @@ pub mod Forests
 pub mod Growth
 pub mod ClosingEdges
 pub mod StepTheorem
+pub mod MatePairs
+pub mod ParentForests
+pub mod Reaching
+pub mod WaysUp
+pub mod ClosingPairs
+pub mod ForestWays
+pub mod ShrunkInstances
+pub mod OpenedPairs
+pub mod BlossomSteps
+pub mod MateSteps
 pub mod OddComponents
 pub mod OuterComponents
 pub mod SymmetricDifference

@@ -13,20 +13,27 @@
 //! "Matching Theory", chapters 1, 3 and 9.
 #![tactic(auto)]
 
+mod alternating;
+mod augment;
 mod best;
+mod blossom;
 mod closing;
 mod cycle;
 mod exchange;
 mod forest;
 mod frames;
+mod growing;
+mod instance;
 mod laws;
 mod matching;
+mod mates;
 mod questions;
 mod repairs;
 mod ring;
 mod rows;
 mod search;
 mod step;
+mod ways;
 
 pub use frames::{Found, FrameSets, frame, maximum};
 pub use laws::tutte_berge_law;
