@@ -19,6 +19,7 @@ pub mod ShrunkInstances
 pub mod OpenedPairs
 pub mod BlossomSteps
 pub mod MateSteps
+pub mod NamedMates
 pub mod OddComponents
 pub mod OuterComponents
 pub mod SymmetricDifference

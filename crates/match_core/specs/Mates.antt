@@ -1,11 +1,13 @@
 -- Matchings by mates: for each vertex the other end of its edge, 0 where it is exposed. Which of parallel edges joins two
 -- mates is not told.
-use Rattle.std.specs.Prelude.{◌≡◌, ◌≢◌, ℕ, zero, suc, ◌+◌, ◌==◌, cond, true}
+use Rattle.std.specs.Prelude.{◌≡◌, ◌≢◌, ℕ, zero, suc, ◌+◌, ◌<◌, ◌⊎◌, ◌==◌, cond, true, List}
 use Rattle.counting.specs.Counts.{Within}
 use Rattle.counting.specs.Sets.{Set}
 use Rattle.graph_core.specs.Graph.{Graph, HasEnds, degree, size}
 use Rattle.graph_core.specs.Matchings.{IsMatching}
 use Rattle.match_core.specs.OddCycles.{every_other, listed, next}
+use Rattle.match_core.specs.Rows.{numbers, end_a, end_b}
+use Rattle.graph_core.specs.declared.ends.Ends.{Ends}
 
 -- m is a matching of g without r, and its edges join each vertex to its mate
 pub record HasMates (g : Graph) (r m : Set) (mate : ℕ → ℕ) : Type 0 where
@@ -36,3 +38,8 @@ cleared_mates mate n c u = cond (listed n c u) 0 (mate u)
 abbrev pub paired_round : (ℕ → ℕ) → ℕ → (ℕ → ℕ) → ℕ → ℕ → ℕ → ℕ
 paired_round mate n c t zero u = mate u
 paired_round mate n c t (suc k) u = cond (every_other t (suc k)) (with_pair (paired_round mate n c t k) (c (suc k)) (c (next n (suc k))) u) (paired_round mate n c t k u)
+
+-- of the first k edges of a row, each vertex with a mate has a marked one that joins it to its mate, and one with the mate 0 none
+pub record NamesMates (ends : List Ends) (m : Set) (mate : List ℕ) (k : ℕ) : Type 0 where
+  pub met : (v : ℕ) → numbers mate v ≢ 0 → (j : ℕ) × (j < k) × (m (j + 1) ≡ true) × (((end_a ends j ≡ v) × (end_b ends j ≡ numbers mate v)) ⊎ ((end_a ends j ≡ numbers mate v) × (end_b ends j ≡ v)))
+  pub missed : (v : ℕ) → numbers mate v ≡ 0 → (j : ℕ) → j < k → m (j + 1) ≡ true → (end_a ends j ≢ v) × (end_b ends j ≢ v)

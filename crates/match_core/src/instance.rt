@@ -2,6 +2,9 @@
 ghost use Rattle.std.specs.Prelude.{◌≡◌, ◌≢◌, ℕ, ◌+◌, ◌-◌, ◌<◌, ◌≤◌, true, false, length, IfOk, cond, ◌==◌, ◌&&◌, not, ◌||◌};
 ghost use Rattle.counting.specs.Counts.{Within};
 ghost use Rattle.counting.specs.Lists.{mem, item};
+ghost use Rattle.graph_core.specs.Graph.{Graph, IsGraph};
+ghost use Rattle.graph_core.specs.Rows.{AreRows};
+ghost use Rattle.match_core.specs.Instances.{IsInstance};
 ghost use Rattle.match_core.specs.Shrinkings.{AreNear, IsShrinking, shrunk_row};
 
 use std::alloc::{AllocError as Memory, Global};
@@ -13,6 +16,19 @@ use vset_core::{MOST_VERTICES, VSet};
 pub struct Instance {
     pub rows: Vec<VSet>,
     pub left: VSet,
+}
+
+/// The graph with these rows of neighbours, without a set of vertices.
+pub fn instance_of(alloc: Global, rows: &[VSet], removed: VSet) -> Result<Instance, Memory>
+    requires { length rows.now ≤ MOST_VERTICES }
+    ensures { IfOk result (λ s. (g : Graph) → IsGraph g → AreRows g rows.now → IsInstance g (mem removed) s) }
+{
+    let n = rows.len() as u32;
+    let rows = rows.to_vec(alloc)?;
+    Ok(Instance {
+        rows,
+        left: VSet::full(n).minus(removed),
+    })
 }
 
 // Whether two sets have a common member.

@@ -1,11 +1,17 @@
 //! Matchings by mates: for each vertex the other end of its edge, 0 where it is exposed.
-ghost use Rattle.std.specs.Prelude.{◌≡◌, ℕ, ◌+◌, ◌-◌, ◌^◌, ◌<◌, ◌≤◌, cond, length};
+ghost use Rattle.std.specs.Prelude.{◌≡◌, ℕ, ◌+◌, ◌-◌, ◌^◌, ◌<◌, ◌≤◌, cond, length, IfOk};
 ghost use Rattle.counting.specs.Counts.{Within};
+ghost use Rattle.counting.specs.Sets.{Set};
+ghost use Rattle.graph_core.specs.Matchings.{IsMatching};
+ghost use Rattle.graph_core.specs.View.{graph_of};
+ghost use Rattle.match_core.specs.Searches.{AreEnds, IsGraphRow};
 ghost use Rattle.match_core.specs.OddCycles.{every_other, next};
-ghost use Rattle.match_core.specs.Mates.{with_mate, with_pair, flipped_mates, cleared_mates, paired_round};
-ghost use Rattle.match_core.specs.Rows.{numbers, part};
+ghost use Rattle.match_core.specs.Mates.{HasMates, NamesMates, with_mate, with_pair, flipped_mates, cleared_mates, paired_round};
+ghost use Rattle.match_core.specs.Rows.{marks, numbers, part};
 
 use crate::cycle::is_every_other;
+use graph_core::Ends;
+use std::alloc::{AllocError as Memory, Global};
 
 /// Makes a vertex exposed. Its mate, if it has one, is not told of it.
 pub fn expose(mate: &mut [u32], v: u32)
@@ -79,5 +85,31 @@ pub fn pair_round(mate: &mut [u32], ring: &[u32], tip: usize)
 {
     for i in 0..ring.len() - 1 {
         pair_place(mate, ring, tip, i + 1);
+    }
+}
+
+/// The mates of a matching, which is given by marks on a row of edges.
+pub fn mates_of(alloc: Global, n: u32, ends: &[Ends], mark: &[bool]) -> Result<Vec<u32>, Memory>
+    requires row { IsGraphRow n ends.now }
+    requires long { length mark.now ≡ length ends.now + 1 }
+    ensures long { IfOk result (λ mate. length mate.items ≡ n + 1) }
+    ensures mates { IfOk result (λ mate. (r : Set) → IsMatching (graph_of n ends.now) r (marks mark.now) → HasMates (graph_of n ends.now) r (marks mark.now) (numbers mate.items)) }
+{
+    let mut mate = vec![in alloc; 0; n as usize + 1]?;
+    write_mates(&mut mate, ends, mark);
+    Ok(mate)
+}
+
+// Writes the mates into a row of zeros.
+fn write_mates(mate: &mut [u32], ends: &[Ends], mark: &[bool])
+    requires row { AreEnds (length mate.old - 1) ends.now }
+    requires long { length mark.now ≡ length ends.now + 1 }
+    requires zeros { (v : ℕ) → numbers mate.old v ≡ 0 }
+    ensures { NamesMates ends.now (marks mark.now) mate.new (length ends.now) }
+{
+    for (k, e) in ends.iter().enumerate() {
+        if mark[k + 1] {
+            join(mate, e.a, e.b);
+        }
     }
 }
