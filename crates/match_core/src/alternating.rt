@@ -26,7 +26,8 @@ pub struct AlternatingForest {
 pub fn exposed_in(n: u32, left: VSet, mate: &[u32]) -> VSet
     requires most { n ≤ MOST_VERTICES }
     requires long { length mate.now ≡ suc n }
-    ensures { (v : ℕ) → mem result v ≡ ((nat_lt 0 v && nat_le v n) && (mem left v && (numbers mate.now v == 0))) }
+    ensures { (v : ℕ) →
+        mem result v ≡ ((nat_lt 0 v && nat_le v n) && (mem left v && (numbers mate.now v == 0))) }
 {
     let mut exposed = VSet::empty();
     for i in 0..n {

@@ -22,7 +22,8 @@ use std::alloc::{AllocError as Memory, Global};
 /// then be those of another matching of the same size.
 pub fn augment_once(alloc: Global, instance: &Instance, mate: &mut [u32]) -> Result<Answer, Memory>
     requires { (g : Graph) × (r : Set) × (f : Set) × HoldsMatching g r f instance.now mate.old }
-    ensures { IfOk result (λ s. (g : Graph) (r f : Set) → HoldsMatching g r f instance.now mate.old → IsMateStep g r f mate.new s) }
+    ensures { IfOk result (λ s. (g : Graph) (r f : Set) →
+        HoldsMatching g r f instance.now mate.old → IsMateStep g r f mate.new s) }
 {
     let Growth { forest, closing } = grow_forest(alloc, instance, mate)?;
     match closing {

@@ -34,7 +34,8 @@ pub fn blossom_of(
 ) -> Result<Blossom, Memory>
     requires ways { (g : Graph) × (r : Set) × (f : Set) × AreClosingWays g r f mate.old ways.now }
     requires last { IsLastMeeting ways.now.row.items 0 (suc (ways.now.first + ways.now.first)) (second_start ways.now) (suc (ways.now.second + ways.now.second)) meeting }
-    ensures { IfOk result (λ b. (g : Graph) (r f : Set) → AreClosingWays g r f mate.old ways.now → HoldsBlossom g r f mate.new b) }
+    ensures { IfOk result (λ b. (g : Graph) (r f : Set) →
+        AreClosingWays g r f mate.old ways.now → HoldsBlossom g r f mate.new b) }
 {
     let start = ways.first + ways.first + 1;
     let forth = ways.second + ways.second - meeting.j;
@@ -56,8 +57,11 @@ pub fn blossom_of(
 // Exchanges the pairs along two ways that do not meet, and makes their last vertices a pair.
 fn augment(ways: &Ways, mate: &mut [u32])
     requires ways { (g : Graph) × (r : Set) × (f : Set) × AreClosingWays g r f mate.old ways.now }
-    requires apart { (i j : ℕ) → i < suc (ways.now.first + ways.now.first) → j < suc (ways.now.second + ways.now.second) → part ways.now.row.items 0 i ≢ part ways.now.row.items (second_start ways.now) j }
-    ensures { (g : Graph) (r f : Set) → AreClosingWays g r f mate.old ways.now → IsAugmented g r f mate.new }
+    requires apart { (i j : ℕ) → i < suc (ways.now.first + ways.now.first) →
+        j < suc (ways.now.second + ways.now.second) →
+        part ways.now.row.items 0 i ≢ part ways.now.row.items (second_start ways.now) j }
+    ensures { (g : Graph) (r f : Set) → AreClosingWays g r f mate.old ways.now →
+        IsAugmented g r f mate.new }
 {
     let last = ways.first + ways.first;
     let start = last + 1;
@@ -74,7 +78,8 @@ fn augment(ways: &Ways, mate: &mut [u32])
 /// exposed.
 pub fn close(alloc: Global, ways: &Ways, mate: &mut [u32]) -> Result<Option<Blossom>, Memory>
     requires { (g : Graph) × (r : Set) × (f : Set) × AreClosingWays g r f mate.old ways.now }
-    ensures { IfOk result (λ b. (g : Graph) (r f : Set) → AreClosingWays g r f mate.old ways.now → IsClosed g r f mate.new b) }
+    ensures { IfOk result (λ b. (g : Graph) (r f : Set) →
+        AreClosingWays g r f mate.old ways.now → IsClosed g r f mate.new b) }
 {
     let first = ways.first + ways.first + 1;
     let second = ways.second + ways.second + 1;
@@ -90,8 +95,10 @@ pub fn close(alloc: Global, ways: &Ways, mate: &mut [u32]) -> Result<Option<Blos
 // The place of a vertex of the ring that is in a row.
 fn place_in(row: VSet, ring: &[u32]) -> usize
     requires some { 1 ≤ length ring.now }
-    requires within { (i : ℕ) → Within (length ring.now - 1) i → Within MOST_VERTICES (numbers ring.now i) }
-    requires member { (i : ℕ) × Within (length ring.now - 1) i × (mem row (numbers ring.now i) ≡ true) }
+    requires within { (i : ℕ) → Within (length ring.now - 1) i →
+        Within MOST_VERTICES (numbers ring.now i) }
+    requires member { (i : ℕ) × Within (length ring.now - 1) i ×
+        (mem row (numbers ring.now i) ≡ true) }
     ensures within { Within (length ring.now - 1) result }
     ensures member { mem row (numbers ring.now result) ≡ true }
 {
@@ -106,8 +113,10 @@ fn place_in(row: VSet, ring: &[u32]) -> usize
 /// Opens a blossom after its shrinking: where the base has a mate, this becomes the mate of a neighbour of it in the ring, and
 /// the other vertices of the ring are paired round from there; else they are paired round from the base.
 pub fn open(instance: &Instance, blossom: &Blossom, mate: &mut [u32])
-    requires { (g : Graph) × (r : Set) × (f : Set) × (m : Set) × (n : Set) × MayOpen g r f m n instance.now mate.old blossom.now }
-    ensures { (g : Graph) (r f m n : Set) → MayOpen g r f m n instance.now mate.old blossom.now → IsCompleted g r f m n mate.new }
+    requires { (g : Graph) × (r : Set) × (f : Set) × (m : Set) × (n : Set) ×
+        MayOpen g r f m n instance.now mate.old blossom.now }
+    ensures { (g : Graph) (r f m n : Set) → MayOpen g r f m n instance.now mate.old blossom.now →
+        IsCompleted g r f m n mate.new }
 {
     let base = blossom.ring[1];
     let outside = mate[base as usize];

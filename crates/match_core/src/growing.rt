@@ -30,7 +30,8 @@ pub struct Growth {
 /// Grows the forest of the matching with these mates.
 pub fn grow_forest(alloc: Global, instance: &Instance, mate: &[u32]) -> Result<Growth, Memory>
     requires { (g : Graph) × (r : Set) × (f : Set) × HoldsMatching g r f instance.now mate.now }
-    ensures { IfOk result (λ t. (g : Graph) (r f : Set) → HoldsMatching g r f instance.now mate.now → IsGrowth g r f instance.now mate.now t) }
+    ensures { IfOk result (λ t. (g : Graph) (r f : Set) →
+        HoldsMatching g r f instance.now mate.now → IsGrowth g r f instance.now mate.now t) }
 {
     let n = instance.rows.len() as u32;
     let mut forest = AlternatingForest::of_roots(alloc, n, exposed_in(n, instance.left, mate))?;

@@ -21,7 +21,8 @@ pub struct Instance {
 /// The graph with these rows of neighbours, without a set of vertices.
 pub fn instance_of(alloc: Global, rows: &[VSet], removed: VSet) -> Result<Instance, Memory>
     requires { length rows.now ≤ MOST_VERTICES }
-    ensures { IfOk result (λ s. (g : Graph) → IsGraph g → AreRows g rows.now → IsInstance g (mem removed) s) }
+    ensures { IfOk result (λ s. (g : Graph) → IsGraph g → AreRows g rows.now →
+        IsInstance g (mem removed) s) }
 {
     let n = rows.len() as u32;
     let rows = rows.to_vec(alloc)?;
@@ -89,7 +90,8 @@ pub fn shrink(alloc: Global, instance: &Instance, ring: VSet, base: u32) -> Resu
 fn write_row(rows: &mut [VSet], v: u32, row: VSet)
     requires { Within (length rows.old) v }
     ensures own { item rows.new v ≡ row }
-    ensures others { (u : ℕ) → Within (length rows.old) u → v ≢ u → item rows.new u ≡ item rows.old u }
+    ensures others { (u : ℕ) → Within (length rows.old) u → v ≢ u →
+        item rows.new u ≡ item rows.old u }
 {
     rows[v as usize - 1] = row;
 }
@@ -99,7 +101,8 @@ fn write_rows_after(shrunk: &mut [VSet], rows: &[VSet], ring: VSet, near: VSet, 
     requires few { length rows.now ≤ MOST_VERTICES }
     requires one_each { length shrunk.old ≡ length rows.now }
     requires base { Within MOST_VERTICES base }
-    ensures { (v w : ℕ) → Within (length rows.now) v → mem (item shrunk.new v) w ≡ shrunk_row (item rows.now v) (mem ring) (mem near) base v w }
+    ensures { (v w : ℕ) → Within (length rows.now) v →
+        mem (item shrunk.new v) w ≡ shrunk_row (item rows.now v) (mem ring) (mem near) base v w }
 {
     for i in 0..rows.len() {
         let v = i as u32 + 1;
@@ -118,7 +121,8 @@ fn rows_after(
     requires few { length rows.now ≤ MOST_VERTICES }
     requires base { Within MOST_VERTICES base }
     ensures one_each { IfOk result (λ shrunk. length shrunk.items ≡ length rows.now) }
-    ensures each { IfOk result (λ shrunk. (v w : ℕ) → Within (length rows.now) v → mem (item shrunk.items v) w ≡ shrunk_row (item rows.now v) (mem ring) (mem near) base v w) }
+    ensures each { IfOk result (λ shrunk. (v w : ℕ) → Within (length rows.now) v →
+        mem (item shrunk.items v) w ≡ shrunk_row (item rows.now v) (mem ring) (mem near) base v w) }
 {
     let mut shrunk = vec![in alloc; VSet::empty(); rows.len()]?;
     write_rows_after(&mut shrunk, rows, ring, near, base);

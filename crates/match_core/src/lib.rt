@@ -9,6 +9,9 @@
 //! of its paths, or shrinks an odd cycle, after which all vertices and edges keep their numbers (`Frame`, `IsForest`,
 //! `IsOddCycle`, `IsStep`). The law of Tutte and Berge stands beside it (`tutte_berge_law`).
 //!
+//! `augment_once` is the same step on a row of neighbours for each vertex and a mate for each vertex, without a list of edges
+//! (`HoldsMatching`, `HoldsAlternating`, `HoldsBlossom`, `IsMateStep`); the calls do not stand on it yet.
+//!
 //! Stands on `graph_core` and `vset_core`. Sources: Tutte 1947, Berge 1958, Gallai 1964, Edmonds 1965; Lovász and Plummer,
 //! "Matching Theory", chapters 1, 3 and 9.
 #![tactic(auto)]

@@ -36,7 +36,8 @@ pub fn join(mate: &mut [u32], v: u32, w: u32)
 pub fn flip(mate: &mut [u32], way: &[u32], from: usize, pairs: usize)
     requires long { from + (pairs + pairs) < length way.now }
     requires in_mates { (j : ℕ) → j ≤ pairs + pairs → numbers way.now (from + j) < length mate.old }
-    ensures { (u : ℕ) → numbers mate.new u ≡ flipped_mates (numbers mate.old) (part way.now from) pairs u }
+    ensures { (u : ℕ) →
+        numbers mate.new u ≡ flipped_mates (numbers mate.old) (part way.now from) pairs u }
 {
     for i in 0..pairs {
         join(mate, way[from + (i + i)], way[from + (i + i + 1)]);
@@ -47,8 +48,10 @@ pub fn flip(mate: &mut [u32], way: &[u32], from: usize, pairs: usize)
 /// Exposes the vertices of a cycle, which stand in a row from place 1 on.
 pub fn clear(mate: &mut [u32], ring: &[u32])
     requires some { 1 ≤ length ring.now }
-    requires in_mates { (i : ℕ) → Within (length ring.now - 1) i → numbers ring.now i < length mate.old }
-    ensures { (u : ℕ) → numbers mate.new u ≡ cleared_mates (numbers mate.old) (length ring.now - 1) (numbers ring.now) u }
+    requires in_mates { (i : ℕ) → Within (length ring.now - 1) i →
+        numbers ring.now i < length mate.old }
+    ensures { (u : ℕ) →
+        numbers mate.new u ≡ cleared_mates (numbers mate.old) (length ring.now - 1) (numbers ring.now) u }
 {
     for i in 0..ring.len() - 1 {
         expose(mate, ring[i + 1]);
@@ -67,7 +70,8 @@ fn place_after(places: usize, place: usize) -> usize
 fn pair_place(mate: &mut [u32], ring: &[u32], tip: usize, place: usize)
     requires within { Within (length ring.now - 1) place }
     requires few { length ring.now ≤ 2 ^ 32 }
-    requires in_mates { (i : ℕ) → Within (length ring.now - 1) i → numbers ring.now i < length mate.old }
+    requires in_mates { (i : ℕ) → Within (length ring.now - 1) i →
+        numbers ring.now i < length mate.old }
     ensures { (u : ℕ) → numbers mate.new u ≡
         cond (every_other tip place) (with_pair (numbers mate.old) (numbers ring.now place) (numbers ring.now (next (length ring.now - 1) place)) u) (numbers mate.old u) }
 {
@@ -80,8 +84,10 @@ fn pair_place(mate: &mut [u32], ring: &[u32], tip: usize, place: usize)
 pub fn pair_round(mate: &mut [u32], ring: &[u32], tip: usize)
     requires some { 1 ≤ length ring.now }
     requires few { length ring.now ≤ 2 ^ 32 }
-    requires in_mates { (i : ℕ) → Within (length ring.now - 1) i → numbers ring.now i < length mate.old }
-    ensures { (u : ℕ) → numbers mate.new u ≡ paired_round (numbers mate.old) (length ring.now - 1) (numbers ring.now) tip (length ring.now - 1) u }
+    requires in_mates { (i : ℕ) → Within (length ring.now - 1) i →
+        numbers ring.now i < length mate.old }
+    ensures { (u : ℕ) →
+        numbers mate.new u ≡ paired_round (numbers mate.old) (length ring.now - 1) (numbers ring.now) tip (length ring.now - 1) u }
 {
     for i in 0..ring.len() - 1 {
         pair_place(mate, ring, tip, i + 1);
@@ -93,7 +99,9 @@ pub fn mates_of(alloc: Global, n: u32, ends: &[Ends], mark: &[bool]) -> Result<V
     requires row { IsGraphRow n ends.now }
     requires long { length mark.now ≡ length ends.now + 1 }
     ensures long { IfOk result (λ mate. length mate.items ≡ n + 1) }
-    ensures mates { IfOk result (λ mate. (r : Set) → IsMatching (graph_of n ends.now) r (marks mark.now) → HasMates (graph_of n ends.now) r (marks mark.now) (numbers mate.items)) }
+    ensures mates { IfOk result (λ mate. (r : Set) →
+        IsMatching (graph_of n ends.now) r (marks mark.now) →
+        HasMates (graph_of n ends.now) r (marks mark.now) (numbers mate.items)) }
 {
     let mut mate = vec![in alloc; 0; n as usize + 1]?;
     write_mates(&mut mate, ends, mark);

@@ -15,7 +15,8 @@ use std::alloc::{AllocError as Memory, Global};
 /// Writes two numbers of a row, the second of them at a place and the first before it.
 fn write_pair(row: &mut [u32], place: usize, first: u32, second: u32)
     requires { suc place < length row.old }
-    ensures { (j : ℕ) → numbers row.new j ≡ with_mate (with_mate (numbers row.old) (suc place) second) place first j }
+    ensures { (j : ℕ) →
+        numbers row.new j ≡ with_mate (with_mate (numbers row.old) (suc place) second) place first j }
 {
     row[place + 1] = second;
     row[place] = first;
@@ -23,7 +24,8 @@ fn write_pair(row: &mut [u32], place: usize, first: u32, second: u32)
 
 /// Writes the vertices of the path from a root to the outer vertex `x` into a row, from a place on.
 pub fn write_way(row: &mut [u32], start: usize, forest: &AlternatingForest, mate: &[u32], x: u32)
-    requires forest { (g : Graph) × (r : Set) × (f : Set) × HoldsAlternating g r f mate.now forest.now × (length mate.now ≡ suc g.order) }
+    requires forest { (g : Graph) × (r : Set) × (f : Set) ×
+        HoldsAlternating g r f mate.now forest.now × (length mate.now ≡ suc g.order) }
     requires outer { mem forest.now.outer x ≡ true }
     requires room { start + (numbers forest.now.pairs.items x + numbers forest.now.pairs.items x) < length row.old }
     ensures path { (g : Graph) (r f : Set) (h : HoldsAlternating g r f mate.now forest.now) (j : ℕ) → j ≤ numbers forest.now.pairs.items x + numbers forest.now.pairs.items x → numbers row.new (start + j) ≡ h.v x j }
@@ -56,7 +58,8 @@ fn write_ways(
     mate: &[u32],
     gap: Adjacent,
 )
-    requires closes { (g : Graph) × (r : Set) × (f : Set) × ClosesForest g r f mate.now forest.now gap }
+    requires closes { (g : Graph) × (r : Set) × (f : Set) ×
+        ClosesForest g r f mate.now forest.now gap }
     requires start_is { start ≡ suc (numbers forest.now.pairs.items gap.v + numbers forest.now.pairs.items gap.v) }
     requires room { start + (numbers forest.now.pairs.items gap.w + numbers forest.now.pairs.items gap.w) < length row.old }
     ensures first { (g : Graph) (r f : Set) (h : HoldsAlternating g r f mate.now forest.now) (j : ℕ) → j < start → numbers row.new (0 + j) ≡ h.v gap.v j }
@@ -74,7 +77,8 @@ pub fn ways_to(
     gap: Adjacent,
 ) -> Result<Ways, Memory>
     requires { (g : Graph) × (r : Set) × (f : Set) × ClosesForest g r f mate.now forest.now gap }
-    ensures { IfOk result (λ w. (g : Graph) (r f : Set) → ClosesForest g r f mate.now forest.now gap → AreClosingWays g r f mate.now w) }
+    ensures { IfOk result (λ w. (g : Graph) (r f : Set) →
+        ClosesForest g r f mate.now forest.now gap → AreClosingWays g r f mate.now w) }
 {
     let first = forest.pairs[gap.v as usize];
     let second = forest.pairs[gap.w as usize];
