@@ -20,6 +20,7 @@ pub mod OpenedPairs
 pub mod BlossomSteps
 pub mod MateSteps
 pub mod NamedMates
+pub mod SameMates
 pub mod OddComponents
 pub mod OuterComponents
 pub mod SymmetricDifference
