@@ -1,4 +1,3 @@
-pub mod AllowedMarks
 pub mod Leaving
 pub mod EdgeTables
 pub mod PairTables

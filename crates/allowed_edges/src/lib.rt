@@ -4,13 +4,15 @@
 //! it has at least two vertices, is connected, and all its edges are allowed (`IsCovered`). `allowed` lists exactly the
 //! allowed edges. `covered` answers whether the graph is matching covered and, where it is not, the first reason that
 //! applies (`IsVerdict`): fewer than two vertices, no connection, no perfect matching, or the least edge that is not allowed.
+//! Both are read off the table of partners: an edge is allowed exactly where its ends are partners. `allowed_in` and `covered_in`
+//! take a table that is at hand.
 //!
 //! Two edges lie together if some perfect matching contains both (`Together`). `together` answers a `PairTable`: `both` is
 //! true exactly for the edges that lie together, and `list` is a pair list (`IsPairList`), in which each matching holds an
 //! edge or a pair of edges that no earlier one holds (`IsLean`).
 //!
-//! Each question is answered from a perfect matching at hand by one augmentation at most. Stands on `match_core`, which
-//! repairs a matching along one path. Source: Lovász and Plummer, "Matching Theory", chapter 5; Lucchesi and Murty,
+//! Each question on a pair is answered from a perfect matching at hand by one augmentation at most. Stands on `match_core`,
+//! which makes the table of partners and repairs a matching along one path. Source: Lovász and Plummer, "Matching Theory", chapter 5; Lucchesi and Murty,
 //! "Perfect Matchings".
 #![tactic(auto)]
 
@@ -21,10 +23,7 @@ mod short_paths;
 mod table;
 mod verdict;
 
-pub use edges::allowed;
+pub use edges::{allowed, allowed_in, is_allowed_in};
 pub use pairs::{PairTable, share_end, together};
 pub use questions::{perfect_with_edge, perfect_with_pair};
-pub use verdict::covered;
-
-#[cfg(test)]
-mod tests;
+pub use verdict::{covered, covered_in};

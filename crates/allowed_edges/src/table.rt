@@ -5,7 +5,6 @@ ghost use Rattle.match_core.specs.MatchingRows.{edges_of};
 ghost use Rattle.match_core.specs.Rows.{marks};
 ghost use Rattle.allowed_edges.specs.EdgeTables.{IsSquare, row_of};
 
-use crate::edges::mark_edges;
 use graph_core::MOST_EDGES;
 use match_core::Matching;
 use std::alloc::{AllocError as Memory, Global};
@@ -73,5 +72,17 @@ pub fn mark_pairs(table: &mut EdgeTable, m: &Matching)
 {
     for i in 0..m.len() {
         table.mark_row(m.row(i).edge, m);
+    }
+}
+
+// Marks the edges of a matching.
+fn mark_edges(mark: &mut Vec<bool>, m: &Matching)
+    requires { All (λ row. row.edge < length mark.old.items) m.now.rows }
+    ensures length { length mark.new.items ≡ length mark.old.items }
+    ensures each { (i : ℕ) → marks mark.new.items i ≡ (marks mark.old.items i || mem (edges_of m.now) i) }
+{
+    for i in 0..m.len() {
+        let edge = m.row(i).edge as usize;
+        mark[edge] = true;
     }
 }

@@ -1,14 +1,14 @@
 -- The classes found one after the other: a vertex is the least of its class exactly where no class before it holds it.
 -- A class is met by its least vertex, and by transitivity a vertex that was met adds no vertex to those met.
-use Rattle.std.proofs.Common.{◌≡◌, ℕ, suc, inl, inr, ◌+◌, ◌<◌, ◌≤◌, Bool, true, false, ◌==◌, refl, sym, ap, ap₂, ◌∙◌, arith, ◌&&◌, ◌||◌, not, cond, List, [], ◌∷◌, ◌++◌, map, nat_lt, ltb-true, lt-ltb, subst, append-nil, Option, Some, None}
+use Rattle.std.proofs.Common.{◌≡◌, ℕ, suc, inl, inr, ◌+◌, ◌<◌, ◌≤◌, ◌↔◌, Bool, true, false, ◌==◌, refl, sym, ap, ap₂, ◌∙◌, arith, ◌&&◌, ◌||◌, not, cond, List, [], ◌∷◌, ◌++◌, map, nat_lt, ltb-true, lt-ltb, subst, append-nil, Option, Some, None}
 use Rattle.std.proofs.lemmas.Bool.{cases_Bool, and_parts, and_from, both_ways, false_from_ne_true}
 use Rattle.std.proofs.lemmas.List.{map-append}
 use Rattle.std.specs.Option.{is_some}
 use Rattle.counting.specs.Counts.{Within}
 use Rattle.counting.specs.Lists.{IsRisingIn, mem, rising_list}
-use Rattle.counting.specs.Sets.{Set}
+use Rattle.counting.specs.Sets.{Set, none, pair_set}
 use Rattle.counting.specs.Tests.{some}
-use Rattle.counting.proofs.Lists.{mem-append}
+use Rattle.counting.proofs.Lists.{mem-append, rising_only}
 use Rattle.counting.proofs.RisingLists.{mem-rising_list, rising_list-rises, same_answers, same_rising_list, set-wider}
 use Rattle.counting.proofs.Tests.{some_true, true_some}
 use Rattle.graph_core.proofs.Decide.{has_perfect_found, has_perfect_says, is_equivalent_found, is_equivalent_says}
@@ -16,7 +16,8 @@ use Rattle.graph_core.specs.Covered.{IsCovered}
 use Rattle.graph_core.specs.Graph.{Graph, IsGraph}
 use Rattle.graph_core.specs.Matchings.{HasPerfect, has_perfect}
 use Rattle.graph_core.specs.Structure.{classes, is_equivalent, is_least_of_class}
-use Rattle.barrier_kit.proofs.ClassLaw.{equivalent_back, equivalent_on}
+use Rattle.match_core.specs.Partners.{are_partners}
+use Rattle.barrier_kit.proofs.ClassLaw.{equivalent_on}
 use Rattle.barrier_kit.proofs.Matched.{perfect_congr}
 
 -- the test is true exactly where there is a perfect matching
@@ -35,29 +36,23 @@ rising_list-more k x =
     let e : suc k ≡ k + 1 = omega arith in
     subst (λ j. rising_list j x ≡ rising_list k x ++ cond (x j) (j ∷ []) []) e refl
 
-pub members-taken : (k : ℕ) (x : Set) (before after : List ℕ) → x (k + 1) ≡ true → ((v : ℕ) → mem before v ≡ mem (rising_list k x) v) → ((v : ℕ) → mem after v ≡ (mem before v || k + 1 == v)) → (v : ℕ) → mem after v ≡ mem (rising_list (k + 1) x) v
-members-taken k x before after t old new v =
-    new v ∙ ap (λ b. b || k + 1 == v) (old v)
-    ∙ ap (λ b. mem (rising_list k x) v || b) (sym (or_false (k + 1 == v)))
-    ∙ sym (mem-append (rising_list k x) ((k + 1) ∷ []) v)
-    ∙ ap (λ ys. mem (rising_list k x ++ ys) v) (sym (ap (λ b. cond b ((k + 1) ∷ []) []) t))
-    ∙ ap (λ ys. mem ys v) (sym (rising_list-more k x))
+-- all of 1 to n but the partners of a are the class of a
+pub class-row : (g : Graph) (full row class : List ℕ) (a : ℕ) → g.order ≤ 128 → IsRisingIn 128 class → ((v : ℕ) → (mem full v ≡ true) ↔ Within g.order v) →
+    ((v : ℕ) → mem class v ≡ (mem full v && not (mem row v))) → ((v : ℕ) → Within g.order v → mem row v ≡ are_partners g none a v) → class ≡ rising_list g.order (is_equivalent g a)
+class-row g full row class a few rises all outside partners =
+    same_rising_list 128 class (rising_list g.order (is_equivalent g a)) rises (set-wider g.order 128 (rising_list g.order (is_equivalent g a)) few (rising_list-rises g.order (is_equivalent g a))) (λ v w. here v)
   where
-    or_false : (b : Bool) → (b || false) ≡ b
-    or_false true = refl
-    or_false false = refl
+    unlike : (d p : Bool) → not (true && true && not d && p) ≡ (d || not p)
+    unlike d p = grind arith
 
-pub members-passed : (k : ℕ) (x : Set) (before : List ℕ) → x (k + 1) ≡ false → ((v : ℕ) → mem before v ≡ mem (rising_list k x) v) → (v : ℕ) → mem before v ≡ mem (rising_list (k + 1) x) v
-members-passed k x before f old v =
-    old v
-    ∙ ap (λ ys. mem ys v) (sym (append-nil (rising_list k x)))
-    ∙ ap (λ ys. mem (rising_list k x ++ ys) v) (sym (ap (λ b. cond b ((k + 1) ∷ []) []) f))
-    ∙ ap (λ ys. mem ys v) (sym (rising_list-more k x))
-
--- a set with these members is their rising list
-pub members-all : (m n k : ℕ) (x : Set) (set : List ℕ) → n ≤ m → k ≡ n → IsRisingIn m set → ((v : ℕ) → mem set v ≡ mem (rising_list k x) v) → set ≡ rising_list n x
-members-all m n k x set few e rises same =
-    same_rising_list m set (rising_list n x) rises (set-wider n m (rising_list n x) few (rising_list-rises n x)) (λ v w. same v ∙ ap (λ j. mem (rising_list j x) v) e)
+    here : (v : ℕ) → mem class v ≡ mem (rising_list g.order (is_equivalent g a)) v
+    here v = elim (cases_Bool (mem full v)) [
+      | inl t ↦ let w = (all v).0 t in
+          outside v ∙ ap (λ b. b && not (mem row v)) t ∙ ap not (partners v w) ∙ unlike (a == v) (has_perfect g (pair_set a v))
+          ∙ sym (mem-rising_list g.order (is_equivalent g a) v w)
+      | inr f ↦ outside v ∙ ap (λ b. b && not (mem row v)) f ∙ sym (false_from_ne_true (mem (rising_list g.order (is_equivalent g a)) v) (λ m.
+          both_ways (mem full v) f ((all v).1 (rising_only g.order (is_equivalent g a) v m).0)))
+    ]
 
 -- some number below k + 1 passes exactly where one of 1 to k does
 some_below : (n k : ℕ) (p : Set) → k < n → some n (λ b. nat_lt b (k + 1) && p b) ≡ some k p
@@ -95,14 +90,6 @@ module _ (g : Graph) (is : IsGraph g) (cov : IsCovered g) where
 
       grown : (v : ℕ) → (some k (λ a. is_equivalent g a v) || is_equivalent g (k + 1) v) ≡ some (k + 1) (λ a. is_equivalent g a v)
       grown v = let e : suc k ≡ k + 1 = omega arith in subst (λ j. (some k (λ a. is_equivalent g a v) || is_equivalent g j v) ≡ some j (λ a. is_equivalent g a v)) e refl
-
-  -- a vertex outside the classes before is equivalent to none of their vertices
-  pub classes-apart : (k : ℕ) (met : Set) → k < g.order → ((v : ℕ) → Within g.order v → met v ≡ some k (λ a. is_equivalent g a v)) → met (k + 1) ≡ false → (v : ℕ) → Within g.order v → met v ≡ true → is_equivalent g (k + 1) v ≡ false
-  classes-apart k met l old out v w m = false_from_ne_true (is_equivalent g (k + 1) v) (λ t.
-      let a = some_true k (λ a. is_equivalent g a v) (sym (old v w) ∙ m) in
-      let wa = a.1 in
-      both_ways (met (k + 1)) out (old (k + 1) (omega arith) ∙ true_some k (λ a. is_equivalent g a (k + 1)) a.0 a.1 (is_equivalent_found g a.0 (k + 1)
-      (equivalent_on g a.0 v (k + 1) is cov (omega arith) w (omega arith) (is_equivalent_says g a.0 v a.2) (equivalent_back g (k + 1) v (is_equivalent_says g (k + 1) v t))))))
 
   -- a vertex of a class before it begins none
   pub classes-passed : (k : ℕ) (list : List (List ℕ)) (met : Set) → k < g.order →

@@ -1,70 +1,16 @@
 //! The canonical partition of a covered graph into its classes.
-ghost use Rattle.std.specs.Prelude.{◌≡◌, ℕ, true, false, IfOk};
+ghost use Rattle.std.specs.Prelude.{◌≡◌, IfOk};
 ghost use Rattle.counting.specs.Counts.{Within};
-ghost use Rattle.counting.specs.Sets.{pair_set};
-ghost use Rattle.counting.specs.Lists.{mem, rising_list};
+ghost use Rattle.counting.specs.Lists.{rising_list};
+ghost use Rattle.counting.specs.Sets.{none};
 ghost use Rattle.graph_core.specs.Covered.{IsCovered};
-ghost use Rattle.graph_core.specs.Matchings.{has_perfect};
 ghost use Rattle.graph_core.specs.Structure.{classes, is_equivalent};
+ghost use Rattle.match_core.specs.Partners.{ArePartners};
 
 use graph_core::{MultiGraph, SetList};
-use match_core::perfect_without;
+use match_core::{PartnerTable, all_partners};
 use std::alloc::{AllocError as Memory, Global};
 use vset_core::VSet;
-
-/// Whether `g` without the vertices `a` and `b` has a perfect matching.
-pub fn is_matched_without(alloc: Global, g: &MultiGraph, a: u32, b: u32) -> Result<bool, Memory>
-    requires first { Within g.now.order a }
-    requires second { Within g.now.order b }
-    ensures { IfOk result (λ matched. matched ≡ has_perfect g.now (pair_set a b)) }
-{
-    g.keeps_limits();
-    let removed = VSet::one(a).with(b);
-    Ok(perfect_without(alloc, g, removed)?.is_some())
-}
-
-/// Whether `a` and `b` are equivalent: equal, or without them there is no perfect matching.
-fn are_equivalent(alloc: Global, g: &MultiGraph, a: u32, b: u32) -> Result<bool, Memory>
-    requires first { Within g.now.order a }
-    requires second { Within g.now.order b }
-    ensures { IfOk result (λ same. same ≡ is_equivalent g.now a b) }
-{
-    if a == b {
-        return Ok(true);
-    }
-    Ok(!is_matched_without(alloc, g, a, b)?)
-}
-
-// Whether b is equivalent to a, where no vertex of the classes before is.
-fn joins_class(alloc: Global, g: &MultiGraph, met: VSet, a: u32, b: u32) -> Result<bool, Memory>
-    requires first { Within g.now.order a }
-    requires second { Within g.now.order b }
-    requires met { mem met b ≡ true → is_equivalent g.now a b ≡ false }
-    ensures { IfOk result (λ joins. joins ≡ is_equivalent g.now a b) }
-{
-    g.keeps_limits();
-    if met.contains(b) {
-        return Ok(false);
-    }
-    are_equivalent(alloc, g, a, b)
-}
-
-// The vertices that are equivalent to a, which is in none of the classes before.
-fn class_of(alloc: Global, g: &MultiGraph, met: VSet, a: u32) -> Result<VSet, Memory>
-    requires vertex { Within g.now.order a }
-    requires met { (v : ℕ) → Within g.now.order v → mem met v ≡ true → is_equivalent g.now a v ≡ false }
-    ensures { IfOk result (λ class. class ≡ rising_list g.now.order (is_equivalent g.now a)) }
-{
-    g.keeps_limits();
-    let mut class = VSet::empty();
-    for k in 0..g.order() {
-        if joins_class(alloc, g, met, a, k + 1)? {
-            class = class.with(k + 1);
-        }
-    }
-    class.rises();
-    Ok(class)
-}
 
 /// The canonical partition of a covered graph: its classes by least vertex. Two vertices are in one class if they are equal
 /// or the graph without them has no perfect matching (Kotzig 1959; Lovász and Plummer, "Matching Theory", chapter 5).
@@ -72,15 +18,37 @@ pub fn classes(alloc: Global, g: &MultiGraph) -> Result<SetList, Memory>
     requires { IsCovered g.now }
     ensures { IfOk result (λ list. list ≡ classes g.now) }
 {
+    let table = all_partners(alloc, g)?;
+    classes_in(alloc, g, &table)
+}
+
+/// The classes that `classes` answers, read off the table of partners of `g`.
+pub fn classes_in(alloc: Global, g: &MultiGraph, table: &PartnerTable) -> Result<SetList, Memory>
+    requires covered { IsCovered g.now }
+    requires table { ArePartners g.now none table.now }
+    ensures { IfOk result (λ list. list ≡ classes g.now) }
+{
     g.keeps_limits();
     let mut list = SetList::new(alloc);
     let mut met = VSet::empty();
     for k in 0..g.order() {
         if !met.contains(k + 1) {
-            let class = class_of(alloc, g, met, k + 1)?;
+            let class = class_of(g, table, k + 1);
             list.push(class)?;
             met = met.union(class);
         }
     }
     Ok(list)
+}
+
+// The class of a vertex: all vertices but its partners.
+fn class_of(g: &MultiGraph, table: &PartnerTable, a: u32) -> VSet
+    requires vertex { Within g.now.order a }
+    requires table { ArePartners g.now none table.now }
+    ensures { result ≡ rising_list g.now.order (is_equivalent g.now a) }
+{
+    g.keeps_limits();
+    let class = VSet::full(g.order()).minus(table.of(a));
+    class.rises();
+    class
 }

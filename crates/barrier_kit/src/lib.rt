@@ -7,7 +7,8 @@
 //!
 //! The laws: the classes are the greatest barriers (`equivalence_law`, `class_law`), what a barrier leaves has tight cuts
 //! (`barrier_law`, `barrier_cuts_law`), and a graph that is neither bicritical nor bipartite has such a cut
-//! (`wide_class_law`). `add_cut` and `is_matched_without` serve the other finders of cuts.
+//! (`wide_class_law`). `add_cut` serves the other finders of cuts. `classes_in` and `barrier_cuts_in` take a table of partners
+//! that is at hand.
 //!
 //! Stands on `match_core`. Source: Lovász and Plummer, "Matching Theory", chapters 3 and 5; Edmonds, Lovász and
 //! Pulleyblank 1982.
@@ -19,6 +20,8 @@ mod laws;
 mod shores;
 
 pub use barrier::is_barrier;
-pub use canonical_partition::{classes, is_matched_without};
+pub use canonical_partition::{classes, classes_in};
 pub use laws::{barrier_cuts_law, barrier_law, class_law, equivalence_law, wide_class_law};
-pub use shores::{add_cut, add_cuts, barrier_cuts, canonical_shore, is_nontrivial};
+pub use shores::{
+    add_cut, add_cuts, barrier_cuts, barrier_cuts_in, canonical_shore, is_nontrivial,
+};

@@ -2,13 +2,16 @@
 ghost use Rattle.std.specs.Prelude.{◌≡◌, ◌≤◌, fold, IfOk, OnOk, OnErr};
 ghost use Rattle.counting.specs.Counts.{Within};
 ghost use Rattle.counting.specs.Lists.{mem, IsRisingIn};
+ghost use Rattle.counting.specs.Sets.{none};
 ghost use Rattle.graph_core.specs.Covered.{IsCovered};
 ghost use Rattle.graph_core.specs.Tight.{is_nontrivial};
+ghost use Rattle.match_core.specs.Partners.{ArePartners};
 ghost use Rattle.barrier_kit.specs.BarrierShores.{barrier_cuts};
 ghost use Rattle.barrier_kit.specs.CanonicalCuts.{canonical_list, is_listed, with_cut};
 
-use crate::canonical_partition::classes;
+use crate::canonical_partition::classes_in;
 use graph_core::{MultiGraph, SetList};
+use match_core::{PartnerTable, all_partners};
 use std::alloc::{AllocError as Memory, Global};
 use vset_core::{MOST_VERTICES, VSet};
 
@@ -76,9 +79,23 @@ pub fn barrier_cuts(alloc: Global, g: &MultiGraph) -> Result<SetList, Memory>
     requires { IsCovered g.now }
     ensures { IfOk result (λ cuts. cuts ≡ barrier_cuts g.now) }
 {
+    let table = all_partners(alloc, g)?;
+    barrier_cuts_in(alloc, g, &table)
+}
+
+/// The cuts that `barrier_cuts` answers, from the table of partners of `g`.
+pub fn barrier_cuts_in(
+    alloc: Global,
+    g: &MultiGraph,
+    table: &PartnerTable,
+) -> Result<SetList, Memory>
+    requires covered { IsCovered g.now }
+    requires table { ArePartners g.now none table.now }
+    ensures { IfOk result (λ cuts. cuts ≡ barrier_cuts g.now) }
+{
     g.keeps_limits();
     let mut cuts = SetList::new(alloc);
-    let list = classes(alloc, g)?;
+    let list = classes_in(alloc, g, table)?;
     for class in list.as_slice() {
         let parts = g.components_without(alloc, *class)?;
         add_cuts(&mut cuts, g.order(), &parts)?;

@@ -13,7 +13,7 @@ use crate::order::NamedOrder;
 use crate::report::Report;
 use crate::status::Status;
 use crate::uncovered::uncovered_report;
-use decomposer::{Order, Refused, balanced_place, decompose, first_place, last_place};
+use decomposer::{Order, Refused, balanced_place, decompose, decompose_first, last_place};
 use graph_core::Numbers;
 use graph_text::Named;
 use report_text::derivation;
@@ -55,13 +55,15 @@ fn decomposed_in<F: Fn(&[Candidate], usize) -> usize>(
     }
 }
 
-// The report of a decomposition in which the first candidate is picked.
+// The report of a decomposition in which the first candidate is picked. No other candidate is looked for.
 fn decomposed_first(alloc: Global, named: &Named) -> Result<Report, Memory>
     ensures { IfOk result (λ report. DecomposeGives (NamedPicks NamedOrder.First) (named_graph named.now) report.status report.bytes.items) }
 {
-    let order = Order::new(|list: &[Candidate], cuts: usize| first_place(list, cuts));
-    let report = decomposed_in(alloc, named, &order)?;
-    Ok(report)
+    match decompose_first(alloc, &named.graph) {
+        Ok(tree) => derivation_report(alloc, named, &tree),
+        Err(Refused::NotCovered(reason)) => uncovered_report(alloc, &named.graph, reason),
+        Err(Refused::Memory) => Err(Memory),
+    }
 }
 
 // The same with the last candidate.

@@ -10,7 +10,7 @@ use crate::checking::tally_of_tree;
 use crate::order::{Growth, NamedOrder};
 use crate::report::Report;
 use crate::status::Status;
-use decomposer::{Order, Refused, decompose, first_place, last_place};
+use decomposer::{Order, Refused, decompose, decompose_first, last_place};
 use graph_core::MultiGraph;
 use graph_text::write_graph;
 use grow_gen::grow;
@@ -40,14 +40,19 @@ fn counted_in<F: Fn(&[Candidate], usize) -> usize>(
     }
 }
 
-// The derivation for which the first candidate is picked, with its leaves counted.
+// The derivation for which the first candidate is picked, with its leaves counted. No other candidate is looked for.
 fn counted_first(alloc: Global, g: &MultiGraph) -> Result<(Tree, Tally), Memory>
     requires { IsCovered g.now }
     ensures { IfOk result (λ found. IsCounted (NamedPicks NamedOrder.First) g.now (shape_of found.0) found.1) }
 {
-    let order = Order::new(|list: &[Candidate], cuts: usize| first_place(list, cuts));
-    let found = counted_in(alloc, g, &order)?;
-    Ok(found)
+    match decompose_first(alloc, g) {
+        Ok(tree) => {
+            let tally = tally_of_tree(alloc, g, &tree)?;
+            Ok((tree, tally))
+        }
+        Err(Refused::NotCovered(_)) => unreachable!(),
+        Err(Refused::Memory) => Err(Memory),
+    }
 }
 
 // The same with the last candidate.

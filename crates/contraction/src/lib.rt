@@ -25,6 +25,3 @@ pub use laws::{
 };
 pub use lifting::lift;
 pub use partition::Partition;
-
-#[cfg(test)]
-mod tests;

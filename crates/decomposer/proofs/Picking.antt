@@ -38,13 +38,16 @@ passed g p stored few blocks all k d l = go stored all k l
         (set-wider g.order 128 s.shore few c.rising, omega arith, omega arith)
     go (s ∷ stored) all (suc k) l = go stored (λ j e m. all (suc j) e (omega arith)) k (omega arith)
 
--- the picked candidate is a cut
+-- a candidate is a cut
+pub cut-from_candidate : (g : Graph) (p : List (List ℕ)) (c : Candidate) → IsCandidateAt g p c → IsCutAt g p c.shore
+cut-from_candidate g p c t = record { set = t.rising; tight = t.tight; nontrivial = t.nontrivial; canonical = t.canonical }
+
+-- and so is the picked one
 pub picked-shore : (g : Graph) (p : List (List ℕ)) (stored : List StoredCandidate) (place : ℕ) (c : StoredCandidate) → All (IsCandidateAt g p) (map candidate_of stored) → slice_get (map candidate_of stored) place ≡ Some (candidate_of c) → IsCutAt g p c.shore
 picked-shore g p stored place c all is =
     let e : place < length (map candidate_of stored) = slice_get_within (map candidate_of stored) place (candidate_of c) is in
     let v = get_or_from_slice_get (map candidate_of stored) place (candidate_of c) (candidate_of c) is in
-    let t = subst (IsCandidateAt g p) v (all place (candidate_of c) e) in
-    record { set = t.rising; tight = t.tight; nontrivial = t.nontrivial; canonical = t.canonical }
+    cut-from_candidate g p (candidate_of c) (subst (IsCandidateAt g p) v (all place (candidate_of c) e))
 
 module _ (g : Graph) (p q r : List (List ℕ)) (x : List ℕ) (t kept merged : Shape) (is_t : t ≡ cut x kept merged) (is_q : q ≡ kept_at g.order p x) (is_r : r ≡ merged_at g.order p x) (cuts : IsCutAt g p x) where
   pub cut-derives : IsDerivationAt g q kept → IsDerivationAt g r merged → IsDerivationAt g p t

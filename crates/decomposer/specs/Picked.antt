@@ -7,6 +7,10 @@ use Rattle.tight_cuts.specs.CandidatesAt.{candidates_at}
 use Rattle.tree_core.specs.Shapes.{Shape, leaf, cut, cut_count}
 use Rattle.tree_core.specs.Derivations.{kept_at, merged_at}
 
+-- the first place is picked
+abbrev pub PicksFirst : List Candidate → ℕ → ℕ → Type 0
+PicksFirst list k place = place ≡ 0
+
 -- the shore is that of the candidate at a place that is picked
 abbrev pub PicksShore : (List Candidate → ℕ → ℕ → Type 0) → List Candidate → ℕ → List ℕ → Type 0
 PicksShore picks list k x = (place : ℕ) × (c : Candidate) × picks list k place × (slice_get list place ≡ Some c) × (c.shore ≡ x)

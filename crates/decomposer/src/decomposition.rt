@@ -3,19 +3,19 @@ ghost use Rattle.std.specs.Prelude.{◌≡◌, ◌≤◌, ◌<◌, ◌+◌, ◌-
 ghost use Rattle.graph_core.specs.Covered.{IsCovered, IsReason};
 ghost use Rattle.graph_core.specs.Quotients.{quotient};
 ghost use Rattle.graph_core.specs.Verdicts.{reason_of};
-ghost use Rattle.tight_cuts.specs.CandidatesAt.{candidates_at};
-ghost use Rattle.tree_core.specs.Derivations.{IsCutAt, IsDerivation, IsDerivationAt, IsLeafAt};
+ghost use Rattle.tree_core.specs.Derivations.{IsDerivation, IsDerivationAt};
 ghost use Rattle.tree_core.specs.Shapes.{cut, cut_count};
 ghost use Rattle.tree_core.specs.View.{shape_of};
 ghost use Rattle.decomposer.specs.Choices.{FnPicks, PicksInRange};
-ghost use Rattle.decomposer.specs.Picked.{IsPicked, IsPickedAt, PicksShore};
+ghost use Rattle.decomposer.specs.Picked.{IsPicked, IsPickedAt, PicksFirst};
 
 use crate::orders::Order;
+use crate::pickers::{FirstPicker, Picker};
 use allowed_edges::covered;
 use contraction::Partition;
 use graph_core::{MultiGraph, Reason, Verdict};
 use std::alloc::{AllocError, Global};
-use tight_cuts::{Candidate, candidates_at};
+use tight_cuts::Candidate;
 use tree_core::{Tree, kept_partition, merged_partition, root_partition};
 use vset_core::VSet;
 
@@ -42,58 +42,52 @@ pub fn decompose<F: Fn(&[Candidate], usize) -> usize>(
     ensures reason { (r : _) → result ≡ Err (Refused.NotCovered r) → IsReason g.now (reason_of r) }
     ensures uncovered { (r : _) → result ≡ Err (Refused.NotCovered r) → ¬ IsCovered g.now }
 {
+    decompose_by(alloc, g, order)
+}
+
+/// What `decompose` answers where the order picks the first candidate at each node. At a node no other candidate is looked for.
+pub fn decompose_first(alloc: Global, g: &MultiGraph) -> Result<Tree, Refused>
+    ensures derivation { IfOk result (λ tree. IsDerivation g.now (shape_of tree)) }
+    ensures picked { IfOk result (λ tree. IsPicked PicksFirst g.now (shape_of tree)) }
+    ensures reason { (r : _) → result ≡ Err (Refused.NotCovered r) → IsReason g.now (reason_of r) }
+    ensures uncovered { (r : _) → result ≡ Err (Refused.NotCovered r) → ¬ IsCovered g.now }
+{
+    decompose_by(alloc, g, &FirstPicker)
+}
+
+// The tree that the picker picks.
+fn decompose_by<P: Picker>(alloc: Global, g: &MultiGraph, picker: &P) -> Result<Tree, Refused>
+    requires { P.is_ready picker.now }
+    ensures derivation { IfOk result (λ tree. IsDerivation g.now (shape_of tree)) }
+    ensures picked { IfOk result (λ tree. IsPicked (P.picks picker.now) g.now (shape_of tree)) }
+    ensures reason { (r : _) → result ≡ Err (Refused.NotCovered r) → IsReason g.now (reason_of r) }
+    ensures uncovered { (r : _) → result ≡ Err (Refused.NotCovered r) → ¬ IsCovered g.now }
+{
     g.keeps_limits();
     match covered(alloc, g) {
         Err(_) => Err(Refused::Memory),
         Ok(Verdict::NotCovered(reason)) => Err(Refused::NotCovered(reason)),
-        Ok(Verdict::Covered) => match decompose_covered(alloc, g, order) {
+        Ok(Verdict::Covered) => match decompose_covered(alloc, g, picker) {
             Ok(tree) => Ok(tree),
             Err(_) => Err(Refused::Memory),
         },
     }
 }
 
-// The tree that the order picks from a covered graph.
-fn decompose_covered<F: Fn(&[Candidate], usize) -> usize>(
+// The tree that the picker picks from a covered graph.
+fn decompose_covered<P: Picker>(
     alloc: Global,
     g: &MultiGraph,
-    order: &Order<F>,
+    picker: &P,
 ) -> Result<Tree, AllocError>
-    requires order { PicksInRange F.Fn order.now.f }
+    requires ready { P.is_ready picker.now }
     requires covered { IsCovered g.now }
     ensures derivation { IfOk result (λ tree. IsDerivation g.now (shape_of tree)) }
-    ensures picked { IfOk result (λ tree. IsPicked (FnPicks F.Fn order.now.f) g.now (shape_of tree)) }
+    ensures picked { IfOk result (λ tree. IsPicked (P.picks picker.now) g.now (shape_of tree)) }
 {
     let root = root_partition(alloc, g)?;
-    let (tree, _) = decompose_at(alloc, g, order, &root, 0)?;
+    let (tree, _) = decompose_at(alloc, g, picker, &root, 0)?;
     Ok(tree)
-}
-
-// The shore of the candidate at p that the order picks, with so many cuts before it; none exactly where there is no candidate.
-fn pick_shore<F: Fn(&[Candidate], usize) -> usize>(
-    alloc: Global,
-    g: &MultiGraph,
-    order: &Order<F>,
-    p: &Partition,
-    before: usize,
-) -> Result<Option<VSet>, AllocError>
-    requires order { PicksInRange F.Fn order.now.f }
-    requires partition { p.now.order ≡ g.now.order }
-    requires covered { IsCovered (quotient g.now p.now.blocks) }
-    ensures none { IfOk result (λ o. o ≡ None → candidates_at g.now p.now.blocks ≡ []) }
-    ensures leaf { IfOk result (λ o. o ≡ None → IsLeafAt g.now p.now.blocks) }
-    ensures picks { IfOk result (λ o. (s : List ℕ) → o ≡ Some s → PicksShore (FnPicks F.Fn order.now.f) (candidates_at g.now p.now.blocks) before s) }
-    ensures cut { IfOk result (λ o. (s : List ℕ) → o ≡ Some s → IsCutAt g.now p.now.blocks s) }
-{
-    g.keeps_limits();
-    p.keeps_partition();
-    let list = candidates_at(alloc, g, p)?;
-    if list.is_empty() {
-        return Ok(None);
-    }
-    let place = (order.f)(list.as_slice(), before);
-    let picked = list.get(place);
-    Ok(Some(picked.shore))
 }
 
 // The tree of a cut.
@@ -107,30 +101,30 @@ fn cut_tree(alloc: Global, shore: VSet, kept: Tree, merged: Tree) -> Result<Tree
     })
 }
 
-// The tree that the order picks at p with so many cuts before it, and the number of cuts before what follows it.
-fn decompose_at<F: Fn(&[Candidate], usize) -> usize>(
+// The tree that the picker picks at p with so many cuts before it, and the number of cuts before what follows it.
+fn decompose_at<P: Picker>(
     alloc: Global,
     g: &MultiGraph,
-    order: &Order<F>,
+    picker: &P,
     p: &Partition,
     before: usize,
 ) -> Result<(Tree, usize), AllocError>
-    requires order { PicksInRange F.Fn order.now.f }
+    requires ready { P.is_ready picker.now }
     requires partition { p.now.order ≡ g.now.order }
     requires covered { IsCovered (quotient g.now p.now.blocks) }
     requires few { before + length p.now.blocks ≤ 256 }
     ensures derives { IfOk result (λ made. IsDerivationAt g.now p.now.blocks (shape_of made.0)) }
-    ensures picked { IfOk result (λ made. IsPickedAt (FnPicks F.Fn order.now.f) g.now p.now.blocks before (shape_of made.0)) }
+    ensures picked { IfOk result (λ made. IsPickedAt (P.picks picker.now) g.now p.now.blocks before (shape_of made.0)) }
     ensures after { IfOk result (λ made. made.1 ≡ before + cut_count (shape_of made.0)) }
     ensures few { IfOk result (λ made. 4 ≤ length p.now.blocks → cut_count (shape_of made.0) + 3 ≤ length p.now.blocks) }
 {
-    match pick_shore(alloc, g, order, p, before)? {
+    match picker.pick_shore(alloc, g, p, before)? {
         None => Ok((Tree::Leaf, before)),
         Some(shore) => {
             let kept_at = kept_partition(alloc, g, p, shore)?;
-            let (kept, between) = decompose_at(alloc, g, order, &kept_at, before + 1)?;
+            let (kept, between) = decompose_at(alloc, g, picker, &kept_at, before + 1)?;
             let merged_at = merged_partition(alloc, g, p, shore)?;
-            let (merged, after) = decompose_at(alloc, g, order, &merged_at, between)?;
+            let (merged, after) = decompose_at(alloc, g, picker, &merged_at, between)?;
             let tree = cut_tree(alloc, shore, kept, merged)?;
             Ok((tree, after))
         }

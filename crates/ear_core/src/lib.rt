@@ -33,6 +33,3 @@ pub use building::build_ears;
 pub use checking::check_ears;
 pub use ears::{Ear, EarList, Step, Steps};
 pub use judgement::{EarJudgement, EarWhy};
-
-#[cfg(test)]
-mod tests;

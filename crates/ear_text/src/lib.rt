@@ -16,6 +16,3 @@ mod writing;
 
 pub use ear_format::read_ears;
 pub use writing::write_ears;
-
-#[cfg(test)]
-mod tests;

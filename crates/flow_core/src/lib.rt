@@ -29,6 +29,3 @@ pub use flow::Flow;
 pub use laws::flow_law;
 pub use net::Net;
 pub use signed_list::SignedList;
-
-#[cfg(test)]
-mod tests;

@@ -2,7 +2,7 @@
 //!
 //! For every graph, covered or not: D holds the vertices that some maximum matching misses, A the other vertices that are
 //! adjacent to one of D, and C the rest (`InD`, `InA`, `InC` of `graph_core`). `sets` answers the three as sets, each the
-//! list of exactly these vertices.
+//! list of exactly these vertices; `sets_in` reads them off a frame that is at hand.
 //!
 //! Stands on `match_core`, whose last search forest shows them. Source: Gallai 1964, Edmonds 1965; Lovász and Plummer,
 //! "Matching Theory", chapter 3.
@@ -10,4 +10,4 @@
 
 mod three_sets;
 
-pub use three_sets::{ThreeSets, sets};
+pub use three_sets::{ThreeSets, sets, sets_in};

@@ -25,6 +25,3 @@ mod write;
 pub use laws::{canonical_law, read_back_law};
 pub use read::read_graph6;
 pub use write::write_graph6;
-
-#[cfg(test)]
-mod tests;

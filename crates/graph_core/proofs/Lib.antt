@@ -27,6 +27,7 @@ pub mod MergedShores
 pub mod Adjacency
 pub mod Simplicity
 pub mod EndLists
+pub mod OneMoreEdge
 pub mod Rows
 pub mod Perfect
 pub mod SingleBlocks

@@ -7,9 +7,7 @@ use Rattle.std.proofs.lemmas.List.Folds.{list_any_more}
 use Rattle.counting.specs.Counts.{Within}
 use Rattle.counting.specs.Sets.{none}
 use Rattle.counting.specs.Tests.{some}
-use Rattle.counting.specs.Lists.{item, mem}
 use Rattle.graph_core.specs.Graph.{IsGraph, first_end, second_end, has_ends, size}
-use Rattle.graph_core.specs.Rows.{AreRows}
 use Rattle.graph_core.specs.View.{pair_of, graph_of, are_ends}
 use Rattle.graph_core.specs.Walks.{adjacent}
 use Rattle.graph_core.proofs.Walks.{adjacent_from}
@@ -49,13 +47,6 @@ ends_within n es i d is h =
     let p = pair-graph_of n es i d h in
     let w = is (suc i) (let s = size-graph_of n es in omega arith) in
     (subst (Within n) p.0 w.0, subst (Within n) p.1 w.1)
-
--- rows that hold the neighbours by the list of edges
-pub rows-graph_of : (es : List Ends) (rows : List (List ℕ)) (n : ℕ) → length rows ≡ n → ((u w : ℕ) → Within (length rows) u → mem (item rows u) w ≡ list_any (are_ends u w) es) → AreRows (graph_of n es) rows
-rows-graph_of es rows n len h = record {
-  one_each = len;
-  adjacent_is = λ v w i. h v w (omega arith) ∙ sym (some-graph_of n es v w);
-}
 
 -- an edge of the list has two vertices as its ends, which it makes adjacent
 pub contained_edge : (n : ℕ) (es : List Ends) (edge : Ends) → IsGraph (graph_of n es) → Contains es edge → Within n edge.a × Within n edge.b × (adjacent (graph_of n es) none edge.a edge.b ≡ true)

@@ -1,4 +1,5 @@
--- The rows of a graph's adjacency matrix: for each vertex the set of its neighbours. Any textbook.
+-- The rows of a graph's adjacency matrix: for each vertex, in order, the set of its neighbours. Any textbook; differs in that
+-- parallel edges count once, since a row is a set.
 use Rattle.std.specs.Prelude.{◌≡◌, ℕ, List, length}
 use Rattle.counting.specs.Counts.{Within}
 use Rattle.counting.specs.Lists.{item, mem}
@@ -6,7 +7,7 @@ use Rattle.counting.specs.Sets.{none}
 use Rattle.graph_core.specs.Graph.{Graph}
 use Rattle.graph_core.specs.Walks.{adjacent}
 
--- row v holds the vertices that an edge joins to v
+-- there is one row for each vertex, and row v holds exactly the vertices that an edge joins to v
 pub record AreRows (g : Graph) (rows : List (List ℕ)) : Type 0 where
   pub one_each : length rows ≡ g.order
   pub adjacent_is : (v w : ℕ) → Within g.order v → mem (item rows v) w ≡ adjacent g none v w

@@ -1,6 +1,7 @@
 -- How the code's multigraph is seen: its order and its list of ends, within the limits of size.
 use Rattle.std.specs.Prelude.{ℕ, ◌≤◌, ◌==◌, ◌&&◌, ◌||◌, Bool, List, map}
 use Rattle.graph_core.specs.Graph.{Graph, IsMultigraph, size}
+use Rattle.graph_core.specs.Rows.{AreRows}
 use Rattle.graph_core.specs.declared.ends.Ends.{Ends}
 
 -- the two ends as a pair
@@ -20,3 +21,8 @@ pub record IsWithinLimits (g : Graph) : Type 0 where
   pub vertices : g.order ≤ 128
   pub edges : size g ≤ 2048
   pub multigraph : IsMultigraph g
+
+-- what the code's multigraph keeps: the limits of size, and beside its ends the rows of its adjacency matrix
+pub record IsKept (g : Graph) (rows : List (List ℕ)) : Type 0 where
+  pub limits : IsWithinLimits g
+  pub neighbours : AreRows g rows

@@ -7,8 +7,10 @@ ghost use Rattle.graph_core.specs.Components.{component_count, components};
 ghost use Rattle.graph_core.specs.Graph.{IsBipartite, size, first_end, second_end, with_edge};
 ghost use Rattle.graph_core.specs.Sides.{AreSides, IsEven};
 ghost use Rattle.graph_core.specs.Walks.{adjacent};
-ghost use Rattle.graph_core.specs.View.{graph_of, IsWithinLimits};
+ghost use Rattle.graph_core.specs.Rows.{AreRows};
+ghost use Rattle.graph_core.specs.View.{graph_of, IsKept, IsWithinLimits};
 
+use crate::neighbours::join;
 use crate::search::grow_forest;
 use crate::sides::sides_by_depth;
 use crate::{AddFault, Ends, SetList, Sides};
@@ -20,22 +22,24 @@ use vset_core::{MOST_VERTICES, VSet};
 pub const MOST_EDGES: u32 = 2048;
 
 /// A finite undirected multigraph without loops, of at most `MOST_VERTICES` vertices and `MOST_EDGES` edges. Vertices and
-/// edges are numbered from 1; parallel edges are different edges. Contracts see it as its order and its list of ends.
+/// edges are numbered from 1; parallel edges are different edges. Contracts see it as its order and its list of ends. Beside
+/// the ends it keeps for each vertex the set of its neighbours, which `add_edge` alone changes.
 #[derive(Drop)]
 pub struct MultiGraph {
     order: u32,
     edges: Vec<Ends>,
+    rows: Vec<VSet>,
 }
 
 impl Model for MultiGraph {
     ghost use Rattle.graph_core.specs.Graph.{Graph};
-    ghost use Rattle.graph_core.specs.View.{graph_of, IsWithinLimits};
+    ghost use Rattle.graph_core.specs.View.{graph_of, IsKept};
 
     ghost Value = { Graph };
 
     ghost view = { λ g. graph_of g.order g.edges.items };
 
-    ghost invariant = { λ g. IsWithinLimits (graph_of g.order g.edges.items) };
+    ghost invariant = { λ g. IsKept (graph_of g.order g.edges.items) g.rows.items };
 }
 
 impl MultiGraph {
@@ -46,9 +50,11 @@ impl MultiGraph {
         requires { n ≤ MOST_VERTICES }
         ensures { IfOk result (λ g. g ≡ record { order = n; ends = [] }) }
     {
+        let rows = vec![in alloc; VSet::empty(); n as usize]?;
         Ok(MultiGraph {
             order: n,
             edges: Vec::new(alloc),
+            rows,
         })
     }
 
@@ -93,14 +99,14 @@ impl MultiGraph {
         requires second { Within self.now.order b }
         ensures { result ≡ adjacent self.now none a b }
     {
-        self.edges.iter().any(|edge| edge.are(a, b))
+        self.rows[a as usize - 1].contains(b)
     }
 
     /// The number of components.
     pub fn components(&self, alloc: Global) -> Result<u32, Memory>
         ensures { IfOk result (λ found. found ≡ component_count self.now none) }
     {
-        let forest = grow_forest(alloc, self.order, &self.edges, VSet::empty())?;
+        let forest = grow_forest(alloc, &self.rows, VSet::empty())?;
         Ok(forest.parts.len() as u32)
     }
 
@@ -108,7 +114,7 @@ impl MultiGraph {
     pub fn components_without(&self, alloc: Global, set: VSet) -> Result<SetList, Memory>
         ensures { IfOk result (λ found. found ≡ components self.now (mem set)) }
     {
-        let forest = grow_forest(alloc, self.order, &self.edges, set)?;
+        let forest = grow_forest(alloc, &self.rows, set)?;
         Ok(forest.parts)
     }
 
@@ -118,7 +124,7 @@ impl MultiGraph {
         ensures even { IfOk result (λ sides. IsEven sides ↔ IsBipartite self.now) }
         ensures sides { IfOk result (AreSides self.now) }
     {
-        let forest = grow_forest(alloc, self.order, &self.edges, VSet::empty())?;
+        let forest = grow_forest(alloc, &self.rows, VSet::empty())?;
         sides_by_depth(alloc, &self.edges, &forest.nodes)
     }
 
@@ -128,6 +134,13 @@ impl MultiGraph {
         ensures limits { IsWithinLimits self.now }
     {
         &self.edges
+    }
+
+    /// For each vertex, in order, the set of its neighbours: the rows of the adjacency matrix. Takes no memory.
+    pub fn rows(&self) -> &[VSet]
+        ensures { AreRows self.now result.now }
+    {
+        &self.rows
     }
 
     /// Appends an edge and answers its number. `Range` comes exactly where an end is no vertex, `Loop` exactly where both
@@ -152,6 +165,7 @@ impl MultiGraph {
         self.edges
             .push(Ends { a, b })
             .map_err(|_| AddFault::Memory)?;
+        join(&mut self.rows, a, b);
         Ok(self.edges.len() as u32)
     }
 
@@ -173,6 +187,3 @@ impl MultiGraph {
         }
     }
 }
-
-#[cfg(test)]
-mod tests;

@@ -1,7 +1,8 @@
 //! Finite undirected multigraphs without loops, and the definitions of the whole theory of their matchings.
 //!
 //! `MultiGraph` keeps up to 128 vertices and 2,048 edges, both numbered from 1, and answers by the definitions: `components_without`,
-//! `two_sides`, `adjacent`, `simple`. Contracts see it as a plain `Graph` (specs/Graph, specs/View).
+//! `two_sides`, `adjacent`, `simple`, and `rows`, the sets of neighbours, which it keeps and on which its searches stand.
+//! Contracts see it as a plain `Graph` (specs/Graph, specs/View).
 //!
 //! The definitions, in specs/: matchings and perfect matchings of a graph without a vertex set (`Matchings`), walks and components
 //! (`Walks`, `Components`), Berge sets and the Gallai-Edmonds sets (`BergeSets`, `GallaiEdmonds`), matching covered graphs and the
@@ -18,7 +19,8 @@
 mod ends;
 mod faults;
 mod graph;
-mod laws;
+pub mod laws;
+mod neighbours;
 mod numbers;
 mod search;
 mod set_list;
@@ -30,11 +32,6 @@ mod verdict;
 pub use ends::Ends;
 pub use faults::{AddFault, FaultKind, TextFault};
 pub use graph::{MOST_EDGES, MultiGraph};
-pub use laws::{
-    complement_law, contraction_law, cut_at_law, left_side_law, matching_law, merge_law,
-    other_shore_law, parity_law, perfect_matching_law, quotient_law, singles_law, uncrossing_law,
-    walk_law, weak_duality_law,
-};
 pub use numbers::Numbers;
 pub use set_list::SetList;
 pub use sides::Sides;

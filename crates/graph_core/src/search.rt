@@ -7,47 +7,11 @@ ghost use Rattle.graph_core.specs.Graph.{Graph, IsGraph};
 ghost use Rattle.graph_core.specs.Growth.{IsGrown};
 ghost use Rattle.graph_core.specs.Nodes.{node_at, parent_at, depth_at, AreTrees};
 ghost use Rattle.graph_core.specs.Rows.{AreRows};
-ghost use Rattle.graph_core.specs.View.{graph_of};
 
+use crate::SetList;
 use crate::tree::TreeNode;
-use crate::{Ends, SetList};
 use std::alloc::{AllocError as Memory, Global};
 use vset_core::{MOST_VERTICES, VSet};
-
-/// Adds `w` to the neighbours of `v`.
-fn add_neighbour(rows: &mut [VSet], v: u32, w: u32)
-    requires first { Within (length rows.old) v }
-    requires second { Within MOST_VERTICES w }
-    ensures { (u x : ℕ) → Within (length rows.old) u →
-        mem (item rows.new u) x ≡ (mem (item rows.old u) x || (v == u && w == x)) }
-{
-    let i = v as usize - 1;
-    rows[i] = rows[i].with(w);
-}
-
-/// Writes into the empty rows the neighbours of each vertex.
-fn write_neighbours(rows: &mut [VSet], edges: &[Ends])
-    requires few { length rows.old ≤ MOST_VERTICES }
-    requires graph { IsGraph (graph_of (length rows.old) edges.now) }
-    requires empty { All (λ row. row ≡ []) rows.old }
-    ensures { AreRows (graph_of (length rows.old) edges.now) rows.new }
-{
-    for edge in edges {
-        add_neighbour(rows, edge.a, edge.b);
-        add_neighbour(rows, edge.b, edge.a);
-    }
-}
-
-/// For each vertex, in order, the set of its neighbours.
-fn neighbours(alloc: Global, n: u32, edges: &[Ends]) -> Result<Vec<VSet>, Memory>
-    requires few { n ≤ MOST_VERTICES }
-    requires graph { IsGraph (graph_of n edges.now) }
-    ensures { IfOk result (λ rows. AreRows (graph_of n edges.now) rows.items) }
-{
-    let mut rows = vec![in alloc; VSet::empty(); n as usize]?;
-    write_neighbours(&mut rows, edges);
-    Ok(rows)
-}
 
 /// Hangs `v` on `parent`.
 fn hang(nodes: &mut [TreeNode], v: u32, parent: u32)
@@ -135,25 +99,21 @@ pub(crate) struct Forest {
     pub(crate) nodes: Vec<TreeNode>,
 }
 
-/// Searches through the graph of `n` vertices with these edges, without the vertices of `removed`.
-pub(crate) fn grow_forest(
-    alloc: Global,
-    n: u32,
-    edges: &[Ends],
-    removed: VSet,
-) -> Result<Forest, Memory>
-    requires few { n ≤ MOST_VERTICES }
-    requires graph { IsGraph (graph_of n edges.now) }
-    ensures parts { IfOk result (λ forest. forest.parts ≡ components (graph_of n edges.now) (mem removed)) }
-    ensures each { IfOk result (λ forest. length forest.nodes.items ≡ n) }
-    ensures trees { IfOk result (λ forest. AreTrees (graph_of n edges.now) (mem removed) forest.nodes.items) }
+/// Searches through the graph with these rows, without the vertices of `removed`.
+pub(crate) fn grow_forest(alloc: Global, rows: &[VSet], removed: VSet) -> Result<Forest, Memory>
+    requires few { length rows.now ≤ MOST_VERTICES }
+    requires graph { (g : Graph) × IsGraph g × AreRows g rows.now }
+    ensures parts { IfOk result (λ forest. (g : Graph) → IsGraph g → AreRows g rows.now →
+        forest.parts ≡ components g (mem removed)) }
+    ensures each { IfOk result (λ forest. length forest.nodes.items ≡ length rows.now) }
+    ensures trees { IfOk result (λ forest. (g : Graph) → IsGraph g → AreRows g rows.now →
+        AreTrees g (mem removed) forest.nodes.items) }
 {
-    let rows = neighbours(alloc, n, edges)?;
     let unplaced = TreeNode {
         parent: 0,
         depth: 0,
     };
-    let mut nodes = vec![in alloc; unplaced; n as usize]?;
-    let parts = search(alloc, &rows, &mut nodes, removed)?;
+    let mut nodes = vec![in alloc; unplaced; rows.len()]?;
+    let parts = search(alloc, rows, &mut nodes, removed)?;
     Ok(Forest { parts, nodes })
 }

@@ -25,6 +25,3 @@ pub use named::Named;
 pub use names::{Names, plain_names};
 pub use version_one::read_graph;
 pub use writing::{write_graph, write_named};
-
-#[cfg(test)]
-mod tests;

@@ -21,6 +21,3 @@ mod splices;
 
 pub use generator::{MOST_PIECES, grow};
 pub use laws::splice_law;
-
-#[cfg(test)]
-mod tests;

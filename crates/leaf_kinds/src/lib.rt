@@ -13,6 +13,3 @@ mod laws;
 
 pub use kinds::kind;
 pub use laws::brick_law;
-
-#[cfg(test)]
-mod tests;

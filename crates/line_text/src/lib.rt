@@ -27,6 +27,3 @@ pub use lines::split_line;
 pub use numerals::{number, numbers};
 pub use reading::read;
 pub use words::{has_form, is_skipped, split_words, word};
-
-#[cfg(test)]
-mod tests;

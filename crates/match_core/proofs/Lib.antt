@@ -38,3 +38,4 @@ pub mod FrameFacts
 pub mod Gluing
 pub mod RepairWalks
 pub mod ClearedMatchings
+pub mod PartnerRows

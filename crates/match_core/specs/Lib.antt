@@ -15,3 +15,4 @@ pub mod Steps
 pub mod MatchingRows
 pub mod Optimal
 pub mod Questions
+pub mod Partners

@@ -27,9 +27,10 @@ mod forest;
 mod frames;
 mod growing;
 mod instance;
-mod laws;
+pub mod laws;
 mod matching;
 mod mates;
+mod partner_table;
 mod questions;
 mod repairs;
 mod ring;
@@ -39,10 +40,7 @@ mod step;
 mod ways;
 
 pub use frames::{Found, FrameSets, frame, maximum};
-pub use laws::tutte_berge_law;
 pub use matching::{MatchRow, Matching};
+pub use partner_table::{PartnerTable, all_partners, partners};
 pub use questions::{perfect_with, perfect_without};
 pub use repairs::repair;
-
-#[cfg(test)]
-mod tests;

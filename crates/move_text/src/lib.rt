@@ -17,6 +17,3 @@ mod writing;
 
 pub use move_format::read_moves;
 pub use writing::{push_move, write_moves};
-
-#[cfg(test)]
-mod tests;

@@ -22,8 +22,6 @@ mod out_sink;
 mod planned;
 mod shelf;
 mod sink;
-#[cfg(test)]
-mod tests;
 
 pub use count_sink::CountSink;
 pub use dir_shelf::DirShelf;

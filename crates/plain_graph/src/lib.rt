@@ -17,8 +17,6 @@ mod edge_sets;
 mod matchings;
 mod parts;
 mod small;
-#[cfg(test)]
-mod tests;
 
 pub use cuts::{edges_in_cut, is_tight};
 pub use degrees::{degree, is_matching, is_perfect};

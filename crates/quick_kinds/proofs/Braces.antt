@@ -2,33 +2,34 @@
 -- any two vertices of each side. A tight set has one vertex more of one side, and no edge leaves it from the other; where
 -- no perfect matching is left, Hall's condition fails for some vertices, and these with their neighbours are a tight set.
 use Rattle.std.proofs.Common.{◌≡◌, ℕ, suc, zero, ◌+◌, ◌*◌, ◌≤◌, ◌<◌, ◌≢◌, Bool, true, false, ◌==◌, refl, sym, ap, ap₂, ◌∙◌, arith, ◌&&◌, ◌||◌, not, eq-eqb, ne_eqb, eqb-true, nat_lt, ltb-true, ltb-false, ◌⊎◌, inl, inr, ◌↔◌}
-use Rattle.std.proofs.lemmas.Bool.{cases_eq, cases_Bool, true≢false, both_ways, and_parts, and_from, or_cases}
+use Rattle.std.proofs.lemmas.Bool.{cases_Bool, true≢false, both_ways, and_parts, and_from, or_cases}
 use Rattle.barrier_kit.proofs.Families.{glue_family}
 use Rattle.barrier_kit.proofs.Hall.{hall, hits}
 use Rattle.barrier_kit.proofs.Joining.{cut_split}
-use Rattle.barrier_kit.proofs.Matched.{inner, cut_matching, loop_free, perfect_congr}
+use Rattle.barrier_kit.proofs.Matched.{cut_matching, loop_free, perfect_congr}
 use Rattle.barrier_kit.specs.BarrierCuts.{IsSide}
 use Rattle.barrier_kit.specs.Choices.{neighbours, Picks}
 use Rattle.counting.proofs.Choice.{Respects, choose_set}
 use Rattle.counting.proofs.Counts.{count_congr}
-use Rattle.counting.proofs.Members.{count_minus, count_member, count_zero, two_members, two_of}
+use Rattle.counting.proofs.Members.{count_minus, count_member, two_members, two_of}
 use Rattle.counting.proofs.Odd.{odd_three}
 use Rattle.counting.proofs.RisingLists.{same_answers}
-use Rattle.counting.proofs.SetSizes.{count_singleton}
+use Rattle.counting.proofs.SetSizes.{count_singleton, count_split}
 use Rattle.counting.proofs.Tests.{some_true, true_some, some_congr}
-use Rattle.counting.proofs.Totals.{total_congr, total_add, total_le, total_none, total_at}
+use Rattle.counting.proofs.Totals.{total_congr, total_add, total_le, total_at}
 use Rattle.counting.specs.Counts.{bit, count, Within}
 use Rattle.counting.specs.Sets.{Set, none, union, minus, meet, complement, singleton}
 use Rattle.counting.specs.Tests.{some}
+use Rattle.matching_digraph.proofs.Balance.{balance, crossing, equal_sides, leaves_left, leaves_right, left_of, no_inner, none_right, other_side, right_of, side_count}
 use Rattle.quick_kinds.specs.Braces.{AreFoursMatched, four_set}
 use Rattle.graph_core.proofs.Contraction.{tight_from_cut}
 use Rattle.graph_core.proofs.Decide.{covered_perfect}
 use Rattle.graph_core.proofs.Edits.{ends_of, degree_sum, ends_of_is}
-use Rattle.graph_core.proofs.Parity.{degrees, parity}
+use Rattle.graph_core.proofs.Parity.{degrees}
 use Rattle.graph_core.proofs.Perfect.{perfect_matching}
 use Rattle.graph_core.proofs.Walks.{has_ends-cases, has_ends-own, has_ends-back}
 use Rattle.graph_core.specs.Covered.{IsCovered}
-use Rattle.graph_core.specs.Graph.{Graph, size, first_end, second_end, IsGraph, connects, in_cut, degree, has_ends, edges_in_cut}
+use Rattle.graph_core.specs.Graph.{Graph, size, first_end, second_end, IsGraph, in_cut, degree, has_ends, edges_in_cut}
 use Rattle.graph_core.specs.Matchings.{IsPerfect}
 use Rattle.graph_core.specs.Tight.{IsTight, IsNontrivial}
 
@@ -56,113 +57,16 @@ one_edge g e x y w h d = record {
         ∙ (let a : bit (singleton e e) * ends_of g e v ≡ 1 * ends_of g e v = ap (λ k. bit k * ends_of g e v) (eq-eqb e e refl) in let b = ends_of_is g e x y (has_ends-cases g x y e h) v in omega arith)
 
 module _ (g : Graph) (is : IsGraph g) (cov : IsCovered g) where
-  -- a perfect matching has no loop, so its edges cross
-  crossing : (x r m : Set) → IsSide g x → IsPerfect g r m → (e : ℕ) → Within (size g) e → m e ≡ true → in_cut g x e ≡ true
-  crossing x r m two p e w t = two e w (loop_free g r m is p e w t)
-
-  -- one side of a set: no edge is inside
-  no_inner : (x y r m : Set) → IsSide g x → ((v : ℕ) → y v ≡ true → x v ≡ true) → IsPerfect g r m → inner g m y ≡ 0
-  no_inner x y r m two h p = total_none (size g) _ (λ e w. ap bit (out (m e) (x (first_end g e)) (x (second_end g e)) (y (first_end g e)) (y (second_end g e)) (crossing x r m two p e w) (h (first_end g e)) (h (second_end g e))))
-    where
-      out : (k a b c d : Bool) → (k ≡ true → ((a && not b) || (not a && b)) ≡ true) → (c ≡ true → a ≡ true) → (d ≡ true → b ≡ true) → (k && (c && d)) ≡ false
-      out false a b c d h i j = refl
-      out true a b c d h i j = one a b c d (h refl) i j
-        where
-          one : (a b c d : Bool) → ((a && not b) || (not a && b)) ≡ true → (c ≡ true → a ≡ true) → (d ≡ true → b ≡ true) → (c && d) ≡ false
-          one a b c d h i j = grind arith
-
-  other_side : (x : Set) → IsSide g x → IsSide g (complement x)
-  other_side x two e w d = turn (x (first_end g e)) (x (second_end g e)) (two e w d)
-    where
-      turn : (a b : Bool) → ((a && not b) || (not a && b)) ≡ true → ((not a && not (not b)) || (not (not a) && not b)) ≡ true
-      turn a b h = grind arith
-
-  -- a set on one side has as many vertices as edges in its cut
-  side_count : (x y m : Set) → IsSide g x → ((v : ℕ) → y v ≡ true → x v ≡ true) → IsPerfect g none m → count g.order y ≡ edges_in_cut g m y
-  side_count x y m two h p = let a = parity g is m y p in let b = no_inner x y none m two h p in omega arith
-
-  same_cut : (x m : Set) → edges_in_cut g m x ≡ edges_in_cut g m (complement x)
-  same_cut x m = total_congr (size g) _ _ (λ e w. ap bit (turn (m e) (x (first_end g e)) (x (second_end g e))))
-    where
-      turn : (k a b : Bool) → (k && ((a && not b) || (not a && b))) ≡ (k && ((not a && not (not b)) || (not (not a) && not b)))
-      turn k a b = grind arith
-
   module _ (x : Set) (two : IsSide g x) where
-    left_of : (y : Set) (v : ℕ) → meet y x v ≡ true → x v ≡ true
-    left_of y v h = (and_parts (y v) (x v) h).1
-
-    right_of : (y : Set) (v : ℕ) → minus y x v ≡ true → complement x v ≡ true
-    right_of y v h = (and_parts (y v) (not (x v)) h).1
-
-    equal_sides : count g.order x ≡ count g.order (complement x)
-    equal_sides = let m = covered_perfect g is cov in
-        let a = side_count x x m.0 two (λ v h. h) m.1 in let b = side_count (complement x) (complement x) m.0 (other_side x two) (λ v h. h) m.1 in let c = same_cut x m.0 in omega arith
-
-    split_count : (y z : Set) → count g.order y ≡ count g.order (meet y z) + count g.order (minus y z)
-    split_count y z = total_congr g.order _ _ (λ v w. bits (y v) (z v)) ∙ total_add g.order (λ v. bit (meet y z v)) (λ v. bit (minus y z v))
-      where
-        bits : (a b : Bool) → bit a ≡ bit (a && b) + bit (a && not b)
-        bits true true = refl
-        bits true false = refl
-        bits false b = refl
-
-    -- edges that leave y from the left, from the right
-    abbrev leaves_left : Set → Set
-    leaves_left y = connects g (meet y x) (minus (complement y) x)
-
-    abbrev leaves_right : Set → Set
-    leaves_right y = connects g (minus y x) (meet (complement y) x)
-
-    balance : (y m : Set) → IsPerfect g none m → (count g.order (meet y x) + count (size g) (λ e. m e && leaves_right y e) ≡ count g.order (minus y x) + count (size g) (λ e. m e && leaves_left y e)) × (count (size g) (λ e. m e && leaves_left y e) + count (size g) (λ e. m e && leaves_right y e) ≡ edges_in_cut g m y)
-    balance y m p =
-        let a = side_count x (meet y x) m two (left_of y) p in
-        let b = side_count (complement x) (minus y x) m (other_side x two) (right_of y) p in
-        let c = total_add (size g) (λ e. bit (m e && in_cut g (meet y x) e)) (λ e. bit (m e && leaves_right y e)) in
-        let d = total_add (size g) (λ e. bit (m e && in_cut g (minus y x) e)) (λ e. bit (m e && leaves_left y e)) in
-        let e = total_congr (size g) (λ e. bit (m e && in_cut g (meet y x) e) + bit (m e && leaves_right y e)) (λ e. bit (m e && in_cut g (minus y x) e) + bit (m e && leaves_left y e)) (λ e w. first (m e) (x (first_end g e)) (x (second_end g e)) (y (first_end g e)) (y (second_end g e)) (crossing x none m two p e w)) in
-        let f = total_add (size g) (λ e. bit (m e && leaves_left y e)) (λ e. bit (m e && leaves_right y e)) in
-        let h = total_congr (size g) (λ e. bit (m e && leaves_left y e) + bit (m e && leaves_right y e)) (λ e. bit (m e && in_cut g y e)) (λ e w. second (m e) (x (first_end g e)) (x (second_end g e)) (y (first_end g e)) (y (second_end g e)) (crossing x none m two p e w)) in
-        (omega arith, omega arith)
-      where
-        first : (k a b c d : Bool) → (k ≡ true → ((a && not b) || (not a && b)) ≡ true) →
-            bit (k && (((c && a) && not (d && b)) || (not (c && a) && (d && b)))) + bit (k && (((c && not a) && (not d && b)) || ((not c && a) && (d && not b))))
-            ≡ bit (k && (((c && not a) && not (d && not b)) || (not (c && not a) && (d && not b)))) + bit (k && (((c && a) && (not d && not b)) || ((not c && not a) && (d && b))))
-        first false a b c d h = refl
-        first true true true c d h = absurd (true≢false (sym (h refl)))
-        first true false false c d h = absurd (true≢false (sym (h refl)))
-        first true true false true true h = refl
-        first true true false true false h = refl
-        first true true false false true h = refl
-        first true true false false false h = refl
-        first true false true true true h = refl
-        first true false true true false h = refl
-        first true false true false true h = refl
-        first true false true false false h = refl
-
-        second : (k a b c d : Bool) → (k ≡ true → ((a && not b) || (not a && b)) ≡ true) →
-            bit (k && (((c && a) && (not d && not b)) || ((not c && not a) && (d && b)))) + bit (k && (((c && not a) && (not d && b)) || ((not c && a) && (d && not b))))
-            ≡ bit (k && ((c && not d) || (not c && d)))
-        second false a b c d h = refl
-        second true true true c d h = absurd (true≢false (sym (h refl)))
-        second true false false c d h = absurd (true≢false (sym (h refl)))
-        second true true false true true h = refl
-        second true true false true false h = refl
-        second true true false false true h = refl
-        second true true false false false h = refl
-        second true false true true true h = refl
-        second true false true true false h = refl
-        second true false true false true h = refl
-        second true false true false false h = refl
-
     -- a nontrivial tight set with more on the left: four_set vertices that leave no perfect matching
     more_left : (y : Set) → IsTight g y → IsNontrivial g.order y → count g.order (meet y x) ≡ count g.order (minus y x) + 1 →
         ((a c b d : ℕ) → Within g.order a → Within g.order c → Within g.order b → Within g.order d → a ≢ c → b ≢ d → x a ≡ true → x c ≡ true → x b ≡ false → x d ≡ false → (m : Set) × IsPerfect g (four_set a c b d) m) → ⊥
     more_left y t n more match =
-        let a = split_count y x in
-        let b = split_count (complement y) x in
-        let c = split_count x y in
-        let d = split_count (complement x) y in
-        let e = equal_sides in
+        let a = count_split g.order y x in
+        let b = count_split g.order (complement y) x in
+        let c = count_split g.order x y in
+        let d = count_split g.order (complement x) y in
+        let e = equal_sides g is x two cov in
         let f : count g.order (meet x y) ≡ count g.order (meet y x) = count_congr g.order _ _ (λ v w. turn (x v) (y v)) in
         let h : count g.order (minus x y) ≡ count g.order (meet (complement y) x) = count_congr g.order _ _ (λ v w. turn (x v) (not (y v))) in
         let i : count g.order (meet (complement x) y) ≡ count g.order (minus y x) = count_congr g.order _ _ (λ v w. turn (not (x v)) (y v)) in
@@ -184,34 +88,17 @@ module _ (g : Graph) (is : IsGraph g) (cov : IsCovered g) where
         flip : (a : Bool) → not a ≡ true → a ≡ false
         flip a h = grind arith
 
-        -- no edge leaves y from the right
-        none_right : (e : ℕ) → Within (size g) e → leaves_right y e ≡ false
-        none_right e w = elim (cases_eq (first_end g e) (second_end g e)) [
-          | inl l ↦ loop (x (first_end g e)) (x (second_end g e)) (y (first_end g e)) (y (second_end g e)) (ap x l) (ap y l)
-          | inr d ↦
-              let a = cov.allowed e w d in
-              let b = balance y a.0 a.1 in
-              let c = t.cut a.0 a.1 in
-              let z = count_zero (size g) (λ e. a.0 e && leaves_right y e) (let k = b.0 in let l = b.1 in omega arith) e w in right (a.0 e) (leaves_right y e) a.2 z
-        ]
-          where
-            loop : (a b c d : Bool) → a ≡ b → c ≡ d → (((c && not a) && (not d && b)) || ((not c && a) && (d && not b))) ≡ false
-            loop a b c d h k = grind arith
-
-            right : (a b : Bool) → a ≡ true → (a && b) ≡ false → b ≡ false
-            right a b p q = grind arith
-
         few : (a c b d : ℕ) → Within g.order a → Within g.order c → a ≢ c → meet y x a ≡ true → meet y x c ≡ true → y b ≡ false → y d ≡ false → x b ≡ false → x d ≡ false → (m : Set) → IsPerfect g (four_set a c b d) m → ⊥
         few a c b d wa wc ac ha hc yb yd xb xd m p =
             let e = degrees g is m (minus y x) in
             let f = degrees g is m (meet y x) in
-            let i = no_inner (complement x) (minus y x) (four_set a c b d) m (other_side x two) (right_of y) p in
-            let j = no_inner x (meet y x) (four_set a c b d) m two (left_of y) p in
+            let i = no_inner g is (complement x) (minus y x) (four_set a c b d) m (other_side g is x two) (right_of g is x two y) p in
+            let j = no_inner g is x (meet y x) (four_set a c b d) m two (left_of g is x two y) p in
             let k = total_congr g.order (λ v. bit (minus y x v)) (λ v. bit (minus y x v) * degree g m v) (λ v w. ones v w (minus y x v) refl) in
             let l = total_le g.order (λ v. bit (meet y x v) * degree g m v) (λ v. bit (minus (minus (meet y x) (singleton a)) (singleton c) v)) (λ v w. less v w (meet y x v) (a == v) (c == v) refl refl refl) in
             let s = count_minus g.order (meet y x) a wa ha in
             let u = count_minus g.order (minus (meet y x) (singleton a)) c wc (rw (hc, ne_eqb a c ac) refl) in
-            let cut = total_le (size g) (λ e. bit (m e && in_cut g (minus y x) e)) (λ e. bit (m e && in_cut g (meet y x) e)) (λ e w. over (m e) (x (first_end g e)) (x (second_end g e)) (y (first_end g e)) (y (second_end g e)) (crossing x (four_set a c b d) m two p e w) (none_right e w)) in
+            let cut = total_le (size g) (λ e. bit (m e && in_cut g (minus y x) e)) (λ e. bit (m e && in_cut g (meet y x) e)) (λ e w. over (m e) (x (first_end g e)) (x (second_end g e)) (y (first_end g e)) (y (second_end g e)) (crossing g is x (four_set a c b d) m two p e w) (none_right g is x two cov y t.cut more e w)) in
             omega arith
           where
             ones : (v : ℕ) → Within g.order v → (k : Bool) → minus y x v ≡ k → bit (minus y x v) ≡ bit (minus y x v) * degree g m v
@@ -249,9 +136,9 @@ module _ (g : Graph) (is : IsGraph g) (cov : IsCovered g) where
   pub no_tight : (x : Set) → IsSide g x → AreFoursMatched g x → (y : Set) → IsTight g y → IsNontrivial g.order y → ⊥
   no_tight x two match y t n =
       let m = covered_perfect g is cov in
-      let b = balance x two y m.0 m.1 in
+      let b = balance g is x two y m.0 m.1 in
       let c = t.cut m.0 m.1 in
-      go (count (size g) (λ e. m.0 e && leaves_left x two y e)) (count (size g) (λ e. m.0 e && leaves_right x two y e)) b.0 (b.1 ∙ c)
+      go (count (size g) (λ e. m.0 e && leaves_left g is x two y e)) (count (size g) (λ e. m.0 e && leaves_right g is x two y e)) b.0 (b.1 ∙ c)
     where
       flip : (a : Bool) → not a ≡ true → a ≡ false
       flip a h = grind arith
@@ -265,7 +152,7 @@ module _ (g : Graph) (is : IsGraph g) (cov : IsCovered g) where
       go : (l r : ℕ) → count g.order (meet y x) + r ≡ count g.order (minus y x) + l → l + r ≡ 1 → ⊥
       go (suc l) r e f = more_left x two y t n (omega arith) match
       go zero r e f =
-          more_left (complement x) (other_side x two) y t n
+          more_left (complement x) (other_side g is x two) y t n
           (let s : count g.order (minus y (complement x)) ≡ count g.order (meet y x) = count_congr g.order _ _ (λ v w. double (y v) (x v)) in omega arith)
           (λ a c b d wa wc wb wd ac bd xa xc xb xd. let k = match b d a c wb wd wa wc bd ac (unflip (x b) xb) (unflip (x d) xd) (flip (x a) xa) (flip (x c) xc) in
           (k.0, perfect_congr g (four_set b d a c) (four_set a c b d) k.0 (λ v w. swap (b == v) (d == v) (a == v) (c == v)) k.1))
@@ -329,7 +216,7 @@ module _ (g : Graph) (is : IsGraph g) (cov : IsCovered g) where
 
         as_many : count g.order lefts ≡ count g.order rights
         as_many =
-            let e = equal_sides x two in
+            let e = equal_sides g is x two cov in
             let p = count_minus g.order x a wa xa in
             let q = count_minus g.order (minus x (singleton a)) c wc (rw (xc, ne_eqb a c ac) refl) in
             let r = count_minus g.order (complement x) b wb (ap not xb) in
@@ -418,8 +305,8 @@ module _ (g : Graph) (is : IsGraph g) (cov : IsCovered g) where
       cut_is : (m : Set) → IsPerfect g none m → count g.order near_set ≡ count g.order some_left + edges_in_cut g m (union some_left near_set)
       cut_is m p =
           let s = cut_split g m some_left near_set (λ e w t. into e w (loop_free g none m is p e w t)) (λ e w. (left_out (first_end g e), left_out (second_end g e))) in
-          let i = side_count x some_left m two in_left p in
-          let j = side_count (complement x) near_set m (other_side x two) in_right p in omega arith
+          let i = side_count g is x some_left m two in_left p in
+          let j = side_count g is (complement x) near_set m (other_side g is x two) in_right p in omega arith
 
       near_few : count g.order near_set ≤ count g.order (neighbours g.order beside rights some_left) + 2
       near_few =

@@ -1,3 +1,2 @@
 pub mod Braces
-pub mod FourSearch
 pub mod QuickBricks

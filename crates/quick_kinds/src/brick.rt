@@ -1,8 +1,10 @@
 //! The quick test for bricks.
 ghost use Rattle.std.specs.Prelude.{◌≡◌, ◌↔◌, ◌++◌, ℕ, None, IfOk, IfSome, slice_get};
+ghost use Rattle.counting.specs.Sets.{Set};
 ghost use Rattle.graph_core.specs.Covered.{IsCovered};
 ghost use Rattle.graph_core.specs.Graph.{IsBipartite};
 ghost use Rattle.graph_core.specs.Structure.{IsBicritical, IsCutPair};
+ghost use Rattle.graph_core.specs.Tight.{IsNontrivial, IsTight};
 ghost use Rattle.barrier_kit.specs.BarrierShores.{barrier_cuts};
 ghost use Rattle.barrier_kit.specs.CanonicalCuts.{IsCanonicalCut};
 ghost use Rattle.separation_kit.specs.SeparationShores.{separation_cuts};
@@ -13,13 +15,15 @@ use separation_kit::separation_cuts;
 use std::alloc::{AllocError as Memory, Global};
 use vset_core::VSet;
 
-/// A nontrivial tight cut of a covered graph that is not bipartite, where classes or cut pairs give one, by its canonical
-/// shore: the first of `barrier_cuts`, or the first of `separation_cuts` where there is none. `None` comes exactly where the
-/// graph is bicritical and has no cut pair. Then it is a brick (Edmonds, Lovász and Pulleyblank 1982), which is not proved here.
+/// A nontrivial tight cut of a covered graph that is not bipartite, by its canonical shore: the first of `barrier_cuts`, or the
+/// first of `separation_cuts` where there is none. `None` comes exactly where no nontrivial shore is tight, so for the bricks
+/// (clause `brick`), which are those that are bicritical and have no cut pair (Edmonds, Lovász and Pulleyblank 1982).
 pub fn quick_brick(alloc: Global, g: &MultiGraph) -> Result<Option<VSet>, Memory>
     requires covered { IsCovered g.now }
     requires odd { ¬ (IsBipartite g.now) }
     ensures none { IfOk result (λ found. (found ≡ None) ↔ (IsBicritical g.now × ((u v : ℕ) → ¬ (IsCutPair g.now u v)))) }
+    ensures brick { IfOk result (λ found.
+        (found ≡ None) ↔ ((x : Set) → IsTight g.now x → ¬ (IsNontrivial g.now.order x))) }
     ensures first { IfOk result (λ found. found ≡ slice_get (barrier_cuts g.now ++ separation_cuts g.now) 0) }
     ensures cut { IfOk result (λ found. IfSome found (IsCanonicalCut g.now)) }
 {

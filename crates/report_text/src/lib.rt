@@ -44,6 +44,3 @@ pub use scripts::{replay_refused, replay_stuck, replayed, script_report};
 pub use structures::Structure;
 pub use tallies::{LeafKind, Tally, count_leaves};
 pub use verdicts::verdict_line;
-
-#[cfg(test)]
-mod tests;

@@ -1,15 +1,16 @@
-// Faults of the outside, over all commands: each read and each write fails in turn, the room is too small, and nothing fails.
+// Faults of the outside, over all commands: each read and each write fails in turn, each file is missing in turn, the room is too small,
+// and nothing fails.
 use crate::graphs::{
     CUBE, HEXAGON, HEXAGON_TREE, K4, NAMED_CYCLE, OTHER_HEXAGON_TREE, PATH, PRISM, TWO_EDGES,
 };
-use crate::trial::{ran, shelf_of, words_of};
+use crate::trial::{ran, ran_over, shelf_of, shelf_without, words_of};
 use bench_top::{Status, run};
-use outside::{CountSink, MemShelf, MemSink};
+use outside::{CountSink, MemSink};
 use std::alloc::Global;
 use std::test::Fail;
 
 // Runs of each command that are done or refused: the words, the files that they name, and whether the run is done.
-const RUNS: [(&[&str], &[&str], bool); 22] = [
+static RUNS: [(&[&str], &[&str], bool); 22] = [
     (&["analyse", "g"], &[K4], true),
     (&["analyse", "g"], &[TWO_EDGES], true),
     (&["convert", "g"], &[NAMED_CYCLE], true),
@@ -79,129 +80,105 @@ fn status_of(done: bool) -> Status {
     if done { Status::Done } else { Status::Negative }
 }
 
+// Whether the run has its status, and the same with as many bytes over a sink that only counts.
+fn counts_alike(alloc: Global, words: &[&str], files: &[&str], done: bool) -> Result<bool, Fail> {
+    let (status, written) = ran(alloc, words, files)?;
+    let mut shelf = shelf_of(alloc, files)?;
+    let mut sink = CountSink::new();
+    let words = words_of(alloc, words)?;
+    let counted = run(alloc, &words, &mut shelf, &mut sink);
+    Ok(status == status_of(done) && counted == status && sink.count() == written.len() as u64)
+}
+
 #[test]
 fn nothing_fails(rt: HostRuntime) -> Result<(), Fail> {
-    for (words, files, done) in RUNS {
-        let (status, written) = ran(rt.alloc(), words, files)?;
-        assert_eq!(rt; status, status_of(done));
-        let mut shelf = shelf_of(rt.alloc(), files)?;
-        let mut sink = CountSink::new();
-        let words = words_of(rt.alloc(), words)?;
-        assert_eq!(rt; run(rt.alloc(), &words, &mut shelf, &mut sink), status);
-        assert_eq!(rt; sink.count(), written.len() as u64);
+    for (words, files, done) in &RUNS {
+        assert!(rt; counts_alike(rt.alloc(), words, files, *done)?);
     }
     Ok(())
 }
 
-// What the words answer and write where the read call of this number fails.
-fn ran_to_read(
-    alloc: Global,
-    words: &[&str],
-    files: &[&str],
-    call: u32,
-) -> Result<(Status, Vec<u8>), Fail> {
-    let mut shelf = shelf_of(alloc, files)?;
-    shelf.fail_read(call)?;
-    let mut sink = MemSink::new(alloc, 100, 16)?;
-    let words = words_of(alloc, words)?;
-    let status = run(alloc, &words, &mut shelf, &mut sink);
-    let mut written = Vec::new(alloc);
-    written.extend_from_slice(sink.bytes())?;
-    Ok((status, written))
+// Whether a read fault comes, and nothing is written, where the read call of each file fails in turn, and where each file is missing in
+// turn.
+fn needs_each_file(alloc: Global, words: &[&str], files: &[&str]) -> Result<bool, Fail> {
+    for (call, (place, _)) in (1..=3).zip(files.iter().enumerate()) {
+        let mut failing = shelf_of(alloc, files)?;
+        failing.fail_read(call)?;
+        for shelf in [failing, shelf_without(alloc, files, place)?] {
+            let sink = MemSink::new(alloc, 100, 16)?;
+            let (status, written) = ran_over(alloc, words, shelf, sink)?;
+            if status != Status::ReadFault || !written.is_empty() {
+                return Ok(false);
+            }
+        }
+    }
+    Ok(true)
 }
 
 #[test]
 fn each_read_fails(rt: HostRuntime) -> Result<(), Fail> {
-    for (words, files, _) in RUNS {
-        for (call, _) in (1..=3).zip(files) {
-            let (status, written) = ran_to_read(rt.alloc(), words, files, call)?;
-            assert_eq!(rt; status, Status::ReadFault);
-            assert_eq!(rt; written.as_slice(), b"".as_slice());
-        }
+    for (words, files, _) in &RUNS {
+        assert!(rt; needs_each_file(rt.alloc(), words, files)?);
     }
     Ok(())
 }
 
-#[test]
-fn files_that_are_not_held(rt: HostRuntime) -> Result<(), Fail> {
-    let table: [(&[&str], &str); 9] = [
-        (&["analyse", "s"], K4),
-        (&["convert", "s"], K4),
-        (&["analyse6", "s"], "C~\n"),
-        (&["decompose", "s", "first"], K4),
-        (&["ears", "s"], K4),
-        (&["decompose", "g", "script", "s"], HEXAGON),
-        (&["check", "g", "s"], PRISM),
-        (&["checkears", "g", "s"], K4),
-        (&["compare", "g", "s", "t"], K4),
-    ];
-    for (words, graph) in table {
-        let (status, written) = ran(rt.alloc(), words, &[graph])?;
-        assert_eq!(rt; status, Status::ReadFault);
-        assert_eq!(rt; written.as_slice(), b"".as_slice());
-    }
-    Ok(())
-}
-
-// What the words answer and write over a sink of this room, which takes 16 bytes a call.
-fn ran_in_room(
+// Whether a write fault comes over a sink of this room, which takes 16 bytes a call, and the room is full of the beginning of the report.
+fn fills_room(
     alloc: Global,
     words: &[&str],
     files: &[&str],
+    whole: &str,
     room: usize,
-) -> Result<(Status, Vec<u8>), Fail> {
-    let mut shelf = shelf_of(alloc, files)?;
-    let mut sink = MemSink::new(alloc, room, 16)?;
-    let words = words_of(alloc, words)?;
-    let status = run(alloc, &words, &mut shelf, &mut sink);
-    let mut written = Vec::new(alloc);
-    written.extend_from_slice(sink.bytes())?;
-    Ok((status, written))
+) -> Result<bool, Fail> {
+    let shelf = shelf_of(alloc, files)?;
+    let sink = MemSink::new(alloc, room, 16)?;
+    let (status, written) = ran_over(alloc, words, shelf, sink)?;
+    let is_full = written.len() == room && whole.starts_with(written.as_str());
+    Ok(status == Status::WriteFault && is_full)
+}
+
+// Whether this is so of four small rooms, and of the room that is one byte less than the report.
+fn fills_rooms(alloc: Global, words: &[&str], files: &[&str]) -> Result<bool, Fail> {
+    let (_, whole) = ran(alloc, words, files)?;
+    for room in [0, 1, 16, 17, whole.len().saturating_sub(1)] {
+        if !fills_room(alloc, words, files, &whole, room)? {
+            return Ok(false);
+        }
+    }
+    Ok(true)
 }
 
 #[test]
 fn rooms_that_are_too_small(rt: HostRuntime) -> Result<(), Fail> {
-    for (words, files, _) in RUNS {
-        let (_, whole) = ran(rt.alloc(), words, files)?;
-        for room in [0, 1, 16, 17] {
-            let (status, written) = ran_in_room(rt.alloc(), words, files, room)?;
-            assert_eq!(rt; status, Status::WriteFault);
-            assert_eq!(rt; written.len(), room);
-            assert!(rt; whole.starts_with(&written));
-        }
+    for (words, files, _) in &RUNS {
+        assert!(rt; fills_rooms(rt.alloc(), words, files)?);
     }
     Ok(())
 }
 
-// What the words answer and write over a sink that takes 16 bytes a call, where the write call of this number fails.
-fn ran_to_write(
-    alloc: Global,
-    words: &[&str],
-    files: &[&str],
-    call: u32,
-) -> Result<(Status, Vec<u8>), Fail> {
-    let mut shelf = shelf_of(alloc, files)?;
-    let mut sink = MemSink::new(alloc, 65_536, 16)?;
-    sink.fail_write(call)?;
-    let words = words_of(alloc, words)?;
-    let status = run(alloc, &words, &mut shelf, &mut sink);
-    let mut written = Vec::new(alloc);
-    written.extend_from_slice(sink.bytes())?;
-    Ok((status, written))
+// Whether a write fault comes over a sink that takes 16 bytes a call, where each write call fails in turn, and what was written is the
+// pieces of the report before it.
+fn stops_at_each_write(alloc: Global, words: &[&str], files: &[&str]) -> Result<bool, Fail> {
+    let (_, whole) = ran(alloc, words, files)?;
+    let mut before = Vec::new(alloc);
+    for (call, piece) in (1..=4096).zip(whole.as_bytes().chunks(16)) {
+        let shelf = shelf_of(alloc, files)?;
+        let mut sink = MemSink::new(alloc, 65_536, 16)?;
+        sink.fail_write(call)?;
+        let (status, written) = ran_over(alloc, words, shelf, sink)?;
+        if status != Status::WriteFault || written.as_bytes() != before.as_slice() {
+            return Ok(false);
+        }
+        before.extend_from_slice(piece)?;
+    }
+    Ok(before.as_slice() == whole.as_bytes())
 }
 
 #[test]
 fn each_write_fails(rt: HostRuntime) -> Result<(), Fail> {
-    for (words, files, _) in RUNS {
-        let (_, whole) = ran(rt.alloc(), words, files)?;
-        let mut before = Vec::new(rt.alloc());
-        for (call, piece) in (1..=4096).zip(whole.chunks(16)) {
-            let (status, written) = ran_to_write(rt.alloc(), words, files, call)?;
-            assert_eq!(rt; status, Status::WriteFault);
-            assert_eq!(rt; written.as_slice(), before.as_slice());
-            before.extend_from_slice(piece)?;
-        }
-        assert_eq!(rt; before.as_slice(), whole.as_slice());
+    for (words, files, _) in &RUNS {
+        assert!(rt; stops_at_each_write(rt.alloc(), words, files)?);
     }
     Ok(())
 }

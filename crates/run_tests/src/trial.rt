@@ -1,13 +1,17 @@
-// One run of the top call over files in memory.
+// Runs of the top call over files in memory.
 use bench_top::{Status, run};
 use outside::{MemShelf, MemSink};
 use std::alloc::Global;
+use std::str;
 use std::test::Fail;
 
 // The names of the files, in order.
 const NAMES: [&str; 3] = ["g", "s", "t"];
 
-// The words of a command.
+/// The files of a run, and the report that is wanted.
+pub type Row = (&'static [&'static str], &'static str);
+
+/// The words of a command.
 pub fn words_of(alloc: Global, words: &[&str]) -> Result<Vec<String>, Fail> {
     let mut list = Vec::new(alloc);
     for word in words {
@@ -16,7 +20,7 @@ pub fn words_of(alloc: Global, words: &[&str]) -> Result<Vec<String>, Fail> {
     Ok(list)
 }
 
-// A shelf with these files, which are named `g`, `s` and `t`.
+/// A shelf with these files, which are named `g`, `s` and `t`.
 pub fn shelf_of(alloc: Global, files: &[&str]) -> Result<MemShelf, Fail> {
     let mut shelf = MemShelf::new(alloc);
     for (name, file) in NAMES.iter().zip(files) {
@@ -25,13 +29,69 @@ pub fn shelf_of(alloc: Global, files: &[&str]) -> Result<MemShelf, Fail> {
     Ok(shelf)
 }
 
-// What the words answer and write over these files.
-pub fn ran(alloc: Global, words: &[&str], files: &[&str]) -> Result<(Status, Vec<u8>), Fail> {
-    let mut shelf = shelf_of(alloc, files)?;
-    let mut sink = MemSink::new(alloc, 65_536, 65_536)?;
+/// A shelf as `shelf_of` makes it, without the file at a place.
+pub fn shelf_without(alloc: Global, files: &[&str], place: usize) -> Result<MemShelf, Fail> {
+    let mut shelf = MemShelf::new(alloc);
+    for (i, (name, file)) in NAMES.iter().zip(files).enumerate() {
+        if i != place {
+            shelf.put(name, file.as_bytes())?;
+        }
+    }
+    Ok(shelf)
+}
+
+/// What the words answer and write over a shelf and a sink.
+pub fn ran_over(
+    alloc: Global,
+    words: &[&str],
+    mut shelf: MemShelf,
+    mut sink: MemSink,
+) -> Result<(Status, String), Fail> {
     let words = words_of(alloc, words)?;
     let status = run(alloc, &words, &mut shelf, &mut sink);
-    let mut written = Vec::new(alloc);
-    written.extend_from_slice(sink.bytes())?;
+    let written = String::from_str(alloc, str::from_utf8(sink.bytes())?)?;
     Ok((status, written))
+}
+
+/// What the words answer and write over these files.
+pub fn ran(alloc: Global, words: &[&str], files: &[&str]) -> Result<(Status, String), Fail> {
+    let shelf = shelf_of(alloc, files)?;
+    let sink = MemSink::new(alloc, 65_536, 65_536)?;
+    ran_over(alloc, words, shelf, sink)
+}
+
+/// What is written where the words are done over these files.
+pub fn report(alloc: Global, words: &[&str], files: &[&str]) -> Result<String, Fail> {
+    let (status, written) = ran(alloc, words, files)?;
+    if status == Status::Done {
+        return Ok(written);
+    }
+    Err("a run that is not done".into())
+}
+
+/// Whether the words answer this status and write this report over these files.
+pub fn answers(
+    alloc: Global,
+    words: &[&str],
+    files: &[&str],
+    status: Status,
+    report: &str,
+) -> Result<bool, Fail> {
+    let (answer, written) = ran(alloc, words, files)?;
+    Ok(answer == status && written.as_str() == report)
+}
+
+/// The place of the first row whose files give another answer than this status, or another report than the row's.
+pub fn first_wrong(
+    alloc: Global,
+    words: &[&str],
+    status: Status,
+    rows: &[Row],
+) -> Result<Option<usize>, Fail> {
+    for (place, (files, report)) in rows.iter().enumerate() {
+        if !answers(alloc, words, files, status, report)? {
+            return Ok(Some(place));
+        }
+    }
+    Ok(None)
 }

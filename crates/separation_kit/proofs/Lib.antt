@@ -3,3 +3,4 @@ pub mod CutPairs
 pub mod PairSearch
 pub mod PairShores
 pub mod SeparationFacts
+pub mod Flooding

@@ -1,2 +1,3 @@
 pub mod SeparationShores
 pub mod Pairs
+pub mod Floods

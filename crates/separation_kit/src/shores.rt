@@ -8,7 +8,7 @@ ghost use Rattle.graph_core.specs.Structure.{IsBicritical};
 ghost use Rattle.barrier_kit.specs.CanonicalCuts.{with_cut};
 ghost use Rattle.separation_kit.specs.SeparationShores.{separation_cuts};
 
-use crate::critical::parts_without;
+use crate::critical::{is_cut_pair, parts_without};
 use crate::pair::all_pairs;
 use barrier_kit::add_cut;
 use graph_core::{MultiGraph, SetList};
@@ -52,8 +52,8 @@ pub fn separation_cuts(alloc: Global, g: &MultiGraph) -> Result<SetList, Memory>
     let mut cuts = SetList::new(alloc);
     let pairs = all_pairs(alloc, g.order())?;
     for pair in &pairs {
-        let parts = parts_without(alloc, g, pair.a, pair.b)?;
-        if parts.len() >= 2 {
+        if is_cut_pair(g, *pair) {
+            let parts = parts_without(alloc, g, pair.a, pair.b)?;
             add_with_vertex(&mut cuts, g.order(), &parts, pair.a)?;
         }
     }

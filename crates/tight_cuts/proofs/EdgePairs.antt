@@ -10,7 +10,7 @@ use Rattle.graph_core.specs.Graph.{Graph, size}
 use Rattle.graph_core.specs.View.{IsWithinLimits}
 use Rattle.tight_cuts.proofs.EdgeLoop.{first_pair, no_pair, ends_between}
 use Rattle.tight_cuts.proofs.EdgeShores.{lesser_within, greater_within, least_leads}
-use Rattle.tight_cuts.proofs.FirstPairs.{before_first, first_leads}
+use Rattle.tight_cuts.proofs.FirstPairs.{before_first, first_leads, no_first}
 use Rattle.tight_cuts.proofs.LeastShores.{parted_says}
 use Rattle.tight_cuts.specs.Candidates.{lesser_end, greater_end, is_parted, first_parted}
 use Rattle.tight_cuts.specs.EdgeSearch.{AreLeaders, IsShoreOfEdge, IsShoreOfPair, Leads, NoneBefore, at_place}
@@ -80,11 +80,7 @@ module _ (g : Graph) (lim : IsWithinLimits g) (cov : IsCovered g) (e : ℕ) (we 
 
   -- none before the end: there is no pair
   pub none_at_all : (x : ℕ) → g.order < x → NoneBefore g e x 1 → first_parted g e ≡ None
-  none_at_all x l h = go (first_parted g e) refl
-    where
-      go : (o : Option (ℕ × ℕ)) → first_parted g e ≡ o → o ≡ None
-      go None q = refl
-      go (Some k) q = let f = first_pair g.order (is_parted g (lesser_end g e) (greater_end g e)) k q in let w = f.1 in absurd (both_ways (parted k) (h k.0 k.1 f.1 f.2 (inl (omega arith))) f.0)
+  none_at_all x l h = no_first g.order (is_parted g (lesser_end g e) (greater_end g e)) (λ c d wc wd. h c d wc wd (inl (let w = wc.1 in omega arith)))
 
   -- a pair that gives its shore with none before it: the edge gives that
   pub found_shore : (x y : ℕ) → Within g.order x → Within g.order y → NoneBefore g e x y → (answer : Option (List ℕ)) → IsShoreOfPair g e (x, y) answer → (s : List ℕ) → answer ≡ Some s → IsShoreOfEdge g e (Some s)

@@ -1,11 +1,11 @@
--- What one pair gives, as the code finds it: a least cut of the network of groups within the length of the pair list.
+-- What the groups of two pieces, or of one, give as the code finds it: a least cut of their network within the length of the pair list.
 -- Idea: the network of the rows is the contracted network of the pair list, and the leaders give its groups.
-use Rattle.std.proofs.Common.{◌≡◌, ℕ, suc, zero, ◌*◌, ◌≤◌, ◌<◌, ◌^◌, ◌≢◌, Bool, true, false, refl, sym, ap, ap₂, ◌∙◌, arith, inl, inr, List, [], ◌∷◌, ◌++◌, length, subst, Some, None, ◌↔◌}
+use Rattle.std.proofs.Common.{◌≡◌, ℕ, suc, zero, ◌*◌, ◌≤◌, ◌<◌, ◌^◌, ◌≢◌, Bool, true, false, refl, sym, ap, ap₂, ◌∙◌, arith, inl, inr, List, [], ◌∷◌, ◌++◌, length, subst, Option, Some, None, ◌↔◌}
 use Rattle.std.proofs.lemmas.Bool.{cases_lt, false_from_ne_true}
 use Rattle.std.proofs.lemmas.List.Sums.{sum_by-cons}
 use Rattle.counting.specs.Counts.{bit, Within, total}
 use Rattle.counting.specs.Lists.{mem}
-use Rattle.counting.specs.Sets.{pair_set}
+use Rattle.counting.specs.Sets.{Set, pair_set}
 use Rattle.flow_core.specs.Cuts.{IfCut, IsCut}
 use Rattle.flow_core.specs.Nets.{Net, HasCutWithin, IsLeastCut}
 use Rattle.flow_core.specs.declared.cut.CutAnswer.{CutAnswer}
@@ -18,14 +18,15 @@ use Rattle.graph_core.specs.Matchings.{Allowed}
 use Rattle.graph_core.specs.View.{IsWithinLimits}
 use Rattle.tight_cuts.proofs.EdgeLoop.{ends_between}
 use Rattle.tight_cuts.proofs.LeanLists.{grown_length}
-use Rattle.tight_cuts.proofs.Leaders.{leaders_group, leader-least, leader-fixed}
-use Rattle.tight_cuts.proofs.LeastShores.{parted_says}
-use Rattle.tight_cuts.proofs.Networks.{least_common, least_parted, parts_nodes}
+use Rattle.tight_cuts.proofs.LeaderGroups.{leaders_group}
+use Rattle.tight_cuts.proofs.Leaders.{leader-least, leader-fixed}
+use Rattle.tight_cuts.proofs.LeastShores.{parted_found, parted_says}
+use Rattle.tight_cuts.proofs.Networks.{back, least_back, least_common, parts_nodes}
 use Rattle.tight_cuts.proofs.PiecesOfEdges.{beside_graph}
 use Rattle.tight_cuts.specs.Candidates.{lesser_end, greater_end, is_parted, common_shore}
-use Rattle.tight_cuts.specs.EdgeSearch.{AreLeaders, AreWeights, IsShoreOfPair, Leads, arc_between, arcs_by, at_place, group_net, row_group}
+use Rattle.tight_cuts.specs.EdgeSearch.{AreLeaders, AreWeights, IsBeyond, IsCommonShore, IsCutOfGroups, IsShoreOfPair, Leads, arc_between, arcs_by, at_place, group_net, row_group}
 use Rattle.tight_cuts.specs.PairSums.{weight}
-use Rattle.tight_cuts.specs.Pieces.{arcs_of, contracted_net, group_of, leader, IsGrouping}
+use Rattle.tight_cuts.specs.Pieces.{PartsTightly, arcs_of, contracted_net, group_of, leader, IsGrouping}
 
 -- a total of numbers up to 2048
 pub total_small : (n : ℕ) (f : ℕ → ℕ) → ((v : ℕ) → Within n v → f v ≤ 2048) → total n f ≤ 2048 * n
@@ -69,7 +70,7 @@ module _ (g : Graph) (lim : IsWithinLimits g) (cov : IsCovered g) (e : ℕ) (we 
   pub greater_within : Within g.order (greater_end g e)
   greater_within = let w = is e we in let a = w.0 in let b = w.1 in elim (cases_lt (first_end g e) (second_end g e)) [ inl l ↦ omega arith | inr l ↦ omega arith ]
 
-  allowed : Allowed g e
+  pub allowed : Allowed g e
   allowed = cov.allowed e we (lim.multigraph.no_loop e we)
 
   module _ (leaders : List ℕ) (ld : AreLeaders g e leaders) where
@@ -93,12 +94,16 @@ module _ (g : Graph) (lim : IsWithinLimits g) (cov : IsCovered g) (e : ℕ) (we 
       itself = ld.each x wx ∙ leader-fixed ld.beside (pair_set (lesser_end g e) (greater_end g e)) beside_is x (inside x wx) l;
     }
 
-    module _ (x y : ℕ) (lx : Leads g e leaders x) (ly : Leads g e leaders y) (xy : x ≢ y) where
+    module _ (x y : ℕ) (lx : Leads g e leaders x) (beyond : IsBeyond g e leaders x y) where
       abbrev pub groups : ℕ → ℕ
       groups v = group_of (lesser_end g e) (greater_end g e) x y (leader (components ld.beside (pair_set (lesser_end g e) (greater_end g e))) v)
 
+      y_within : Within g.order y
+      y_within = elim beyond [ inl l ↦ l.0.within | inr q ↦ subst (Within g.order) (sym q) greater_within ]
+
       grouping : IsGrouping g ld.beside (lesser_end g e) (greater_end g e) (x, y) g.order groups
-      grouping = leaders_group g ld.beside beside_is ld.is.order (lesser_end g e) (greater_end g e) lesser_within greater_within ends_apart x y lx.within ly.within (leads_least x lx) (leads_least y ly) xy
+      grouping = leaders_group g ld.beside beside_is ld.is.order (lesser_end g e) (greater_end g e) lesser_within greater_within ends_apart x y lx.within y_within (leads_least x lx)
+          (elim beyond [ inl l ↦ inl (leads_least y l.0, l.1) | inr q ↦ inr q ])
 
       row_same : (v : ℕ) → Within g.order v → row_group (lesser_end g e) (greater_end g e) x y leaders v ≡ groups v
       row_same v w = ap (group_of (lesser_end g e) (greater_end g e) x y) (ld.each v w)
@@ -121,60 +126,79 @@ module _ (g : Graph) (lim : IsWithinLimits g) (cov : IsCovered g) (e : ℕ) (we 
 
         -- a least cut within the bound gives the common shore
         pub cut_parts : (set : List ℕ) (value : ℕ) → IsLeastCut (group_net g weights leaders (lesser_end g e) (greater_end g e) x y) (lesser_end g e) (greater_end g e) set value → value ≤ bound →
-            (is_parted g (lesser_end g e) (greater_end g e) (x, y) ≡ true) × ((v : ℕ) → Within g.order v → mem set (row_group (lesser_end g e) (greater_end g e) x y leaders v) ≡ common_shore g (lesser_end g e) (greater_end g e) (x, y) v)
+            ((z : Set) × PartsTightly g (lesser_end g e) (greater_end g e) (x, y) z) × ((v : ℕ) → Within g.order v → mem set (row_group (lesser_end g e) (greater_end g e) x y leaders v) ≡ common_shore g (lesser_end g e) (greater_end g e) (x, y) v)
         cut_parts set value c l =
             let cut = subst (λ net. IsLeastCut net (lesser_end g e) (greater_end g e) set value) same_net c in
             let m : value ≤ length wt.list = let b = wt.is in omega arith in (
-              (least_parted g ld.beside is (lesser_end g e) (greater_end g e) e lesser_within greater_within we (ends_between g e) ld.is allowed wt.list wt.pairs (x, y) lx.within ly.within g.order groups grouping set value cut lx.outside ly.outside).0 m,
-              λ v w. ap (mem set) (row_same v w) ∙ least_common g ld.beside is (lesser_end g e) (greater_end g e) e lesser_within greater_within we (ends_between g e) ld.is allowed wt.list wt.pairs (x, y) lx.within ly.within g.order groups grouping set value cut m v w,
+              (
+                back g ld.beside is (lesser_end g e) (greater_end g e) e lesser_within greater_within we (ends_between g e) ld.is allowed wt.list wt.pairs (x, y) lx.within y_within g.order groups grouping (mem set),
+                least_back g ld.beside is (lesser_end g e) (greater_end g e) e lesser_within greater_within we (ends_between g e) ld.is allowed wt.list wt.pairs (x, y) lx.within y_within g.order groups grouping set value cut m,
+              ),
+              λ v w. ap (mem set) (row_same v w) ∙ least_common g ld.beside is (lesser_end g e) (greater_end g e) e lesser_within greater_within we (ends_between g e) ld.is allowed wt.list wt.pairs (x, y) lx.within y_within g.order groups grouping set value cut m v w,
             )
 
-        -- where no cut is within the bound the pair is not parted
-        pub no_cut_parts : (HasCutWithin (group_net g weights leaders (lesser_end g e) (greater_end g e) x y) (lesser_end g e) (greater_end g e) bound → ⊥) → is_parted g (lesser_end g e) (greater_end g e) (x, y) ≡ false
-        no_cut_parts h = false_from_ne_true (is_parted g (lesser_end g e) (greater_end g e) (x, y)) (λ t.
-            let q = parted_says g (lesser_end g e) (greater_end g e) (x, y) t in
-            let n = parts_nodes g ld.beside is (lesser_end g e) (greater_end g e) e lesser_within greater_within we (ends_between g e) ld.is allowed wt.list wt.pairs (x, y) lx.within ly.within g.order groups grouping q.2.0 q.2.1 in
-            h (subst (λ net. HasCutWithin net (lesser_end g e) (greater_end g e) bound) (sym same_net) (record { set = n.0; separates = n.1; within = let b = wt.is in let v = n.3 in omega arith })))
+        -- where no cut is within the bound no tight set parts the groups
+        pub no_cut_parts : (HasCutWithin (group_net g weights leaders (lesser_end g e) (greater_end g e) x y) (lesser_end g e) (greater_end g e) bound → ⊥) → (z : Set) → PartsTightly g (lesser_end g e) (greater_end g e) (x, y) z → ⊥
+        no_cut_parts h z p =
+            let n = parts_nodes g ld.beside is (lesser_end g e) (greater_end g e) e lesser_within greater_within we (ends_between g e) ld.is allowed wt.list wt.pairs (x, y) lx.within y_within g.order groups grouping z p in
+            h (subst (λ net. HasCutWithin net (lesser_end g e) (greater_end g e) bound) (sym same_net) (record { set = n.0; separates = n.1; within = let b = wt.is in let v = n.3 in omega arith }))
 
--- all that the code asks at one pair, for the two ends of the edge under any names
-pub record PairFacts (g : Graph) (e : ℕ) (leaders weights : List ℕ) (bound x y a b : ℕ) : Type 0 where
+-- all that the code asks at the groups, for the two ends of the edge under any names
+pub record GroupFacts (g : Graph) (e : ℕ) (leaders weights : List ℕ) (bound x y a b : ℕ) : Type 0 where
   pub small : total (size g) (at_place weights) < 2 ^ 63
   pub nodes : (v : ℕ) → Within g.order v → Within g.order (row_group a b x y leaders v)
   pub source : Within g.order a
   pub sink : Within g.order b
   pub differ : a ≢ b
   pub cut : (set : List ℕ) (value : ℕ) → IsLeastCut (group_net g weights leaders a b x y) a b set value → value ≤ bound →
-      (is_parted g (lesser_end g e) (greater_end g e) (x, y) ≡ true) × ((v : ℕ) → Within g.order v → mem set (row_group a b x y leaders v) ≡ common_shore g (lesser_end g e) (greater_end g e) (x, y) v)
-  pub none : (HasCutWithin (group_net g weights leaders a b x y) a b bound → ⊥) → is_parted g (lesser_end g e) (greater_end g e) (x, y) ≡ false
+      ((z : Set) × PartsTightly g (lesser_end g e) (greater_end g e) (x, y) z) × ((v : ℕ) → Within g.order v → mem set (row_group a b x y leaders v) ≡ common_shore g (lesser_end g e) (greater_end g e) (x, y) v)
+  pub none : (HasCutWithin (group_net g weights leaders a b x y) a b bound → ⊥) → (z : Set) → PartsTightly g (lesser_end g e) (greater_end g e) (x, y) z → ⊥
 
-pub pair_facts : (g : Graph) (e : ℕ) (leaders weights : List ℕ) (bound x y a b : ℕ) → IsWithinLimits g → IsCovered g → Within (size g) e → AreLeaders g e leaders → AreWeights g weights bound → Leads g e leaders x → Leads g e leaders y → x ≢ y → a ≡ lesser_end g e → b ≡ greater_end g e →
-    PairFacts g e leaders weights bound x y a b
-pair_facts g e leaders weights bound x y a b lim cov we ld wt lx ly xy qa qb =
-    subst (λ b. PairFacts g e leaders weights bound x y a b) (sym qb) (subst (λ a. PairFacts g e leaders weights bound x y a (greater_end g e)) (sym qa) (record {
+pub group_facts : (g : Graph) (e : ℕ) (leaders weights : List ℕ) (bound x y a b : ℕ) → IsWithinLimits g → IsCovered g → Within (size g) e → AreLeaders g e leaders → AreWeights g weights bound → Leads g e leaders x → IsBeyond g e leaders x y → a ≡ lesser_end g e → b ≡ greater_end g e →
+    GroupFacts g e leaders weights bound x y a b
+group_facts g e leaders weights bound x y a b lim cov we ld wt lx beyond qa qb =
+    subst (λ b. GroupFacts g e leaders weights bound x y a b) (sym qb) (subst (λ a. GroupFacts g e leaders weights bound x y a (greater_end g e)) (sym qa) (record {
       small = weights_small g weights bound lim wt;
-      nodes = groups_within g lim cov e we leaders ld x y lx ly xy;
+      nodes = groups_within g lim cov e we leaders ld x y lx beyond;
       source = lesser_within g lim cov e we;
       sink = greater_within g lim cov e we;
       differ = ends_apart g lim cov e we;
-      cut = cut_parts g lim cov e we leaders ld x y lx ly xy weights bound wt;
-      none = no_cut_parts g lim cov e we leaders ld x y lx ly xy weights bound wt;
+      cut = cut_parts g lim cov e we leaders ld x y lx beyond weights bound wt;
+      none = no_cut_parts g lim cov e we leaders ld x y lx beyond weights bound wt;
     }))
 
-module _ (g : Graph) (e : ℕ) (leaders weights : List ℕ) (bound x y a b : ℕ) (facts : PairFacts g e leaders weights bound x y a b) (net : Net) (is_net : net ≡ group_net g weights leaders a b x y) where
-  -- a cut within the bound is what the pair gives
+-- what the cut of the groups gives is the common shore
+pub common-from_cut : (g : Graph) (e : ℕ) (leaders weights : List ℕ) (bound x y a b : ℕ) → GroupFacts g e leaders weights bound x y a b → (answer : Option (List ℕ)) → IsCutOfGroups g weights leaders bound a b x y answer →
+    IsCommonShore g (lesser_end g e) (greater_end g e) (x, y) answer
+common-from_cut g e leaders weights bound x y a b facts answer h = record {
+  some = λ s q. let c = h.some s q in let p = facts.cut c.0 c.1 c.2 c.3 in (p.0, λ v w. c.4 v w ∙ p.1 v w);
+  none = λ q. facts.none (h.none q);
+}
+
+-- the common shore of two pieces is what their pair gives
+pub pair-from_common : (g : Graph) (e : ℕ) (leaders : List ℕ) (x y : ℕ) → IsWithinLimits g → IsCovered g → Within (size g) e → Leads g e leaders x → Leads g e leaders y → (answer : Option (List ℕ)) → IsCommonShore g (lesser_end g e) (greater_end g e) (x, y) answer → IsShoreOfPair g e (x, y) answer
+pair-from_common g e leaders x y lim cov we lx ly answer h = record {
+  some = λ s q. let c = h.some s q in (
+    parted_found g (lesser_end g e) (greater_end g e) (x, y) c.0.0 lim.multigraph.ends (lesser_within g lim cov e we) (greater_within g lim cov e we) lx.within ly.within lx.outside ly.outside c.0.1,
+    c.1,
+  );
+  none = λ q. false_from_ne_true (is_parted g (lesser_end g e) (greater_end g e) (x, y)) (λ t. let p = parted_says g (lesser_end g e) (greater_end g e) (x, y) t in h.none q p.2.0 p.2.1);
+}
+
+module _ (g : Graph) (weights leaders : List ℕ) (bound x y a b : ℕ) (net : Net) (is_net : net ≡ group_net g weights leaders a b x y) where
+  -- a cut within the bound
   pub cut_answer : (answer : CutAnswer) → IfCut answer (λ set value. IsLeastCut net a b set value × (value ≤ bound)) → (set : List ℕ) (value : ℕ) → answer ≡ Cut set value →
-      (shore : List ℕ) → ((v : ℕ) → Within g.order v → mem shore v ≡ mem set (row_group a b x y leaders v)) → IsShoreOfPair g e (x, y) (Some shore)
+      (shore : List ℕ) → ((v : ℕ) → Within g.order v → mem shore v ≡ mem set (row_group a b x y leaders v)) → IsCutOfGroups g weights leaders bound a b x y (Some shore)
   cut_answer answer h set value q shore same =
       let c = subst (λ o. IfCut o (λ set value. IsLeastCut net a b set value × (value ≤ bound))) q h in
-      let p = facts.cut set value (subst (λ n. IsLeastCut n a b set value) is_net c.0) c.1 in
       record {
-        some = λ s r. let t : shore ≡ s = cc in (p.0, λ v w. ap (λ z. mem z v) (sym t) ∙ same v w ∙ p.1 v w);
+        some = λ s r. let t : shore ≡ s = cc in (set, value, subst (λ n. IsLeastCut n a b set value) is_net c.0, c.1, λ v w. ap (λ z. mem z v) (sym t) ∙ same v w);
         none = λ r. absurd cc;
       }
 
-  -- a flow above it shows that the pair gives nothing
-  pub flow_answer : (answer : CutAnswer) → IsCut answer ↔ HasCutWithin net a b bound → (flow : Flow) → answer ≡ Exceeds flow → IsShoreOfPair g e (x, y) None
+  -- a flow above it shows that there is none
+  pub flow_answer : (answer : CutAnswer) → IsCut answer ↔ HasCutWithin net a b bound → (flow : Flow) → answer ≡ Exceeds flow → IsCutOfGroups g weights leaders bound a b x y None
   flow_answer answer h flow q = record {
     some = λ s r. absurd cc;
-    none = λ r. facts.none (λ t. subst IsCut q (h.1 (subst (λ n. HasCutWithin n a b bound) (sym is_net) t)));
+    none = λ r t. subst IsCut q (h.1 (subst (λ n. HasCutWithin n a b bound) (sym is_net) t));
   }

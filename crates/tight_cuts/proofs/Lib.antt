@@ -8,13 +8,19 @@ pub mod EdgeLoop
 pub mod Completeness
 pub mod LeanLists
 pub mod Leaders
+pub mod LeaderGroups
 pub mod EdgeNetworks
 pub mod EdgeShores
 pub mod EdgePairs
+pub mod EdgePieces
 pub mod CandidateLists
 pub mod Weighing
 pub mod BesideGraphs
 pub mod FrontCandidates
+pub mod FirstCandidates
 mod CrossingMatchings
 pub mod SingleVertices
 pub mod LiftedCandidates
+pub mod PartitionCandidates
+pub mod FrontEmpty
+pub mod BipartiteShores

@@ -26,7 +26,7 @@ use Rattle.tight_cuts.proofs.SingleVertices.{as_many-singles, last-place}
 use Rattle.tight_cuts.specs.Candidates.{Candidate, IsTightCandidate, candidates}
 use Rattle.tight_cuts.specs.CandidatesAt.{IsCandidateAt, candidates_at, lifted_candidate}
 
-map-none : {X Y : Type 0} (f : X → Y) (xs : List X) → map f xs ≡ [] → xs ≡ []
+pub map-none : {X Y : Type 0} (f : X → Y) (xs : List X) → map f xs ≡ [] → xs ≡ []
 map-none f [] e = refl
 map-none f (x ∷ xs) e = absurd (let l = ap length e in omega arith)
 

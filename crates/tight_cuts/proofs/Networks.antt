@@ -19,10 +19,10 @@ use Rattle.graph_core.specs.Matchings.{Allowed}
 use Rattle.graph_core.specs.PairLists.{IsPairList}
 use Rattle.graph_core.specs.Tight.{IsTight}
 use Rattle.graph_core.specs.Walks.{joined}
-use Rattle.tight_cuts.proofs.LeastShores.{common_in, common_from, parted_says, parted_found}
+use Rattle.tight_cuts.proofs.LeastShores.{common_in, common_from}
 use Rattle.tight_cuts.proofs.PairsOfEdges.{pair_list_bound, pair_list_tight, tight_pair_list, cut_between}
 use Rattle.tight_cuts.proofs.PiecesOfEdges.{pieces_odd, tight_piece, beside_graph}
-use Rattle.tight_cuts.specs.Candidates.{is_parted, common_shore}
+use Rattle.tight_cuts.specs.Candidates.{common_shore}
 use Rattle.tight_cuts.specs.PairSums.{weight, cut_sum}
 use Rattle.tight_cuts.specs.Pieces.{PartsTightly, IsBeside, arcs_of, contracted_net, with_piece, IsGrouping}
 
@@ -164,10 +164,3 @@ module _ (g h : Graph) (is : IsGraph g) (a b e : ℕ) (wa : Within g.order a) (w
     least_common l v w = same_answers (mem set (group v)) (common_shore g a b k v)
         (λ t. common_from g is a b k wa wb wx wy v (λ z p. least_inside l z p v w t))
         (λ t. common_in g is a b k wa wb wx wy v w t (back (mem set)) (least_back l))
-
-    -- the least cut has at most the list's length exactly where the pair is parted
-    pub least_parted : pair_set a b k.0 ≡ false → pair_set a b k.1 ≡ false → (value ≤ length ms) ↔ (is_parted g a b k ≡ true)
-    least_parted ox oy = (
-      λ l. parted_found g a b k (back (mem set)) is wa wb wx wy ox oy (least_back l),
-      λ t. let q = parted_says g a b k t in let n = parts_nodes q.2.0 q.2.1 in let s = cut.least n.0 n.1 in let d = n.3 in omega arith,
-    )

@@ -101,6 +101,11 @@ pub record IsTightCandidate (g : Graph) (c : Candidate) : Type 0 where
 abbrev pub candidate_at : ℕ → Origin → List ℕ → Candidate
 candidate_at n origin s = record { shore = s; inside = count n (mem s); outside = count n (complement (mem s)); origin = origin }
 
+-- the first candidate
+abbrev pub first_of : List Candidate → Option Candidate
+first_of [] = None
+first_of (c ∷ list) = Some c
+
 -- the shore of the first candidate
 abbrev pub first_shore : List Candidate → Option (List ℕ)
 first_shore [] = None

@@ -1,15 +1,15 @@
 -- What the search at one edge keeps in rows, and what it answers.
-use Rattle.std.specs.Prelude.{◌≡◌, ℕ, zero, suc, ◌+◌, ◌<◌, ◌⊎◌, false, true, List, [], ◌∷◌, ◌++◌, ◌==◌, Option, Some, None, cond, length, slice_index_or}
+use Rattle.std.specs.Prelude.{◌≡◌, ◌≢◌, ℕ, zero, suc, ◌+◌, ◌<◌, ◌≤◌, ◌⊎◌, false, true, List, [], ◌∷◌, ◌++◌, ◌==◌, Option, Some, None, cond, length, slice_index_or}
 use Rattle.counting.specs.Counts.{Within}
-use Rattle.counting.specs.Sets.{pair_set}
+use Rattle.counting.specs.Sets.{Set, pair_set}
 use Rattle.counting.specs.Lists.{mem}
 use Rattle.graph_core.specs.Components.{components}
 use Rattle.graph_core.specs.Graph.{Graph, size, first_end, second_end}
 use Rattle.graph_core.specs.PairLists.{IsPairList, IsLean}
-use Rattle.flow_core.specs.Nets.{Arc, Net}
+use Rattle.flow_core.specs.Nets.{Arc, Net, HasCutWithin, IsLeastCut}
 use Rattle.tight_cuts.specs.Candidates.{lesser_end, greater_end, is_parted, common_shore, first_parted}
 use Rattle.tight_cuts.specs.PairSums.{weight}
-use Rattle.tight_cuts.specs.Pieces.{IsBeside, leader, group_of}
+use Rattle.tight_cuts.specs.Pieces.{IsBeside, PartsTightly, leader, group_of}
 
 -- the number at place i of a row
 abbrev pub at_place : List ℕ → ℕ → ℕ
@@ -53,6 +53,20 @@ pub record Leads (g : Graph) (e : ℕ) (leaders : List ℕ) (x : ℕ) : Type 0 w
   pub within : Within g.order x
   pub outside : pair_set (lesser_end g e) (greater_end g e) x ≡ false
   pub itself : at_place leaders x ≡ x
+
+-- y leads another piece than x, or is the greater end of edge e
+abbrev pub IsBeyond : Graph → ℕ → List ℕ → ℕ → ℕ → Type 0
+IsBeyond g e leaders x y = (Leads g e leaders y × (x ≢ y)) ⊎ (y ≡ greater_end g e)
+
+-- the vertices of the least cut of the groups' network, where some cut is within the bound
+pub record IsCutOfGroups (g : Graph) (weights leaders : List ℕ) (bound a b x y : ℕ) (answer : Option (List ℕ)) : Type 0 where
+  pub some : (s : List ℕ) → answer ≡ Some s → (set : List ℕ) × (value : ℕ) × IsLeastCut (group_net g weights leaders a b x y) a b set value × (value ≤ bound) × ((v : ℕ) → Within g.order v → mem s v ≡ mem set (row_group a b x y leaders v))
+  pub none : answer ≡ None → HasCutWithin (group_net g weights leaders a b x y) a b bound → ⊥
+
+-- the intersection of all tight sets with a and the first vertex of the pair and with neither b nor the second, where there is one
+pub record IsCommonShore (g : Graph) (a b : ℕ) (k : ℕ × ℕ) (answer : Option (List ℕ)) : Type 0 where
+  pub some : (s : List ℕ) → answer ≡ Some s → ((z : Set) × PartsTightly g a b k z) × ((v : ℕ) → Within g.order v → mem s v ≡ common_shore g a b k v)
+  pub none : answer ≡ None → (z : Set) → PartsTightly g a b k z → ⊥
 
 -- what a pair gives at edge e: the common shore where the pair is parted, and nothing where it is not
 pub record IsShoreOfPair (g : Graph) (e : ℕ) (k : ℕ × ℕ) (answer : Option (List ℕ)) : Type 0 where

@@ -5,3 +5,4 @@ pub mod Tightness
 pub mod EdgeSearch
 pub mod View
 pub mod CandidatesAt
+pub mod EdgeDigraphs

@@ -1,5 +1,6 @@
-//! The candidates at a partition.
-ghost use Rattle.std.specs.Prelude.{◌≡◌, ℕ, [], ◌↔◌, All, List, IfOk, length, map};
+//! The candidates at a partition, and the first of them.
+ghost use Rattle.std.specs.Prelude.{◌≡◌, ℕ, [], ◌↔◌, All, List, IfOk, None, Some, length, map};
+ghost use Rattle.std.specs.Option.{option_map};
 ghost use Rattle.counting.specs.Sets.{Set};
 ghost use Rattle.graph_core.specs.Covered.{IsCovered};
 ghost use Rattle.graph_core.specs.Graph.{Graph};
@@ -7,11 +8,12 @@ ghost use Rattle.graph_core.specs.Quotients.{quotient};
 ghost use Rattle.graph_core.specs.Shores.{IsTightAt, blocks_in};
 ghost use Rattle.graph_core.specs.Tight.{IsNontrivial};
 ghost use Rattle.contraction.specs.Contracted.{contraction};
+ghost use Rattle.tight_cuts.specs.Candidates.{first_of};
 ghost use Rattle.tight_cuts.specs.CandidatesAt.{IsCandidateAt, candidates_at, lifted_candidate};
 ghost use Rattle.tight_cuts.specs.View.{candidate_of};
 
 use crate::candidate::{Candidate, CandidateList};
-use crate::finder::candidates;
+use crate::finder::{candidates, first_candidate};
 use contraction::{Contracted, Partition, quotient};
 use graph_core::MultiGraph;
 use std::alloc::{AllocError as Memory, Global};
@@ -35,6 +37,44 @@ pub fn candidates_at(alloc: Global, g: &MultiGraph, p: &Partition) -> Result<Can
     let q = quotient(alloc, g, p)?;
     let found = candidates(alloc, q.graph())?;
     lifted(alloc, &q, &found)
+}
+
+// The first candidate at the partition.
+fn first_at(alloc: Global, g: &MultiGraph, p: &Partition) -> Result<Option<Candidate>, Memory>
+    requires order { p.now.order ≡ g.now.order }
+    requires covered { IsCovered (quotient g.now p.now.blocks) }
+    ensures { IfOk result (λ found. option_map candidate_of found ≡ first_of (candidates_at g.now p.now.blocks)) }
+{
+    g.keeps_limits();
+    p.keeps_partition();
+    if p.len() == g.order() as usize {
+        return first_candidate(alloc, g);
+    }
+    let q = quotient(alloc, g, p)?;
+    match first_candidate(alloc, q.graph())? {
+        Some(candidate) => Ok(Some(lifted_one(&q, candidate))),
+        None => Ok(None),
+    }
+}
+
+/// The first candidate at the partition `p` of the vertices of `g`, whose quotient is matching covered, and `None` exactly where no
+/// nontrivial shore is tight at `p`. The search ends with it.
+pub fn first_candidate_at(
+    alloc: Global,
+    g: &MultiGraph,
+    p: &Partition,
+) -> Result<Option<Candidate>, Memory>
+    requires order { p.now.order ≡ g.now.order }
+    requires covered { IsCovered (quotient g.now p.now.blocks) }
+    ensures first { IfOk result (λ found. option_map candidate_of found ≡ first_of (candidates_at g.now p.now.blocks)) }
+    ensures some { IfOk result (λ found. (c : _) → found ≡ Some c → IsCandidateAt g.now p.now.blocks (candidate_of c)) }
+    ensures none { IfOk result (λ found. (found ≡ None) ↔
+        ((x : Set) → IsTightAt g.now p.now.blocks x → IsNontrivial (length p.now.blocks) (blocks_in p.now.blocks x) → ⊥)) }
+{
+    g.keeps_limits();
+    p.keeps_partition();
+    let found = first_at(alloc, g, p)?;
+    Ok(found)
 }
 
 // The candidates of the quotient, led back to the graph.

@@ -1,5 +1,10 @@
-//! The search at one edge for tight cuts through it: pairs of pieces, and a least minimum cut for each.
-ghost use Rattle.std.specs.Prelude.{◌≡◌, ◌≢◌, ℕ, ◌+◌, ◌<◌, ◌≤◌, ◌^◌, ◌==◌, ◌||◌, ◌&&◌, ◌++◌, not, true, false, length, Some, None, IfOk, OnOk};
+//! The search at one edge for tight cuts through it: one least minimum cut for each piece.
+//!
+//! Let a and b be the ends of the edge. The tight sets with a and without b are closed under union and intersection. So let S(x) be the
+//! intersection of those that hold x, where there is one: it is a least minimum cut of a and the piece of x against b. A pair (x, y) is
+//! parted exactly where S(x) is there and lacks y, and S(x) is then the common shore of all that part it. Hence the first pair is the
+//! first x whose S(x) is there and is not everything but b, with the least y that S(x) lacks (Picard and Queyranne 1980).
+ghost use Rattle.std.specs.Prelude.{◌≡◌, ◌≢◌, ℕ, ◌+◌, ◌<◌, ◌≤◌, ◌^◌, ◌==◌, ◌||◌, ◌&&◌, ◌++◌, not, true, false, length, Some, None, IfNone, IfOk, IfSome, OnOk, ◌↔◌};
 ghost use Rattle.counting.specs.Counts.{Within, total};
 ghost use Rattle.counting.specs.Lists.{mem};
 ghost use Rattle.counting.specs.Sets.{pair_set};
@@ -7,10 +12,14 @@ ghost use Rattle.flow_core.specs.Nets.{total_capacity, with_arc};
 ghost use Rattle.graph_core.specs.Components.{components};
 ghost use Rattle.graph_core.specs.Covered.{IsCovered};
 ghost use Rattle.graph_core.specs.Graph.{first_end, second_end, size};
+ghost use Rattle.graph_core.specs.Matchings.{Together};
+ghost use Rattle.allowed_edges.specs.PairTables.{edge_lists, holds_both};
 ghost use Rattle.tight_cuts.specs.Candidates.{greater_end, lesser_end};
-ghost use Rattle.tight_cuts.specs.EdgeSearch.{AreLeaders, AreWeights, arc_between, IsShoreOfEdge, IsShoreOfPair, Leads, NoneBefore, arcs_by, at_place, group_net, row_group};
+ghost use Rattle.tight_cuts.specs.EdgeSearch.{AreLeaders, AreWeights, arc_between, IsBeyond, IsCommonShore, IsCutOfGroups, IsShoreOfEdge, Leads, NoneBefore, arcs_by, at_place, group_net, row_group};
 ghost use Rattle.tight_cuts.specs.Pieces.{group_of, head_or, leader};
 
+use crate::pieces::graph_beside;
+use allowed_edges::PairTable;
 use flow_core::{CutAnswer, Net, min_cut};
 use graph_core::MultiGraph;
 use std::alloc::{AllocError as Memory, Global};
@@ -41,9 +50,9 @@ fn leader_in(pieces: &[VSet], v: u32) -> u32
     v
 }
 
-/// For each vertex the least vertex of its component in `h` without `a` and `b`; these two stand for themselves. The row is by
-/// vertex number.
-pub(crate) fn leaders_of(alloc: Global, h: &MultiGraph, a: u32, b: u32) -> Result<Vec<u32>, Memory>
+// For each vertex the least vertex of its component in `h` without `a` and `b`; these two stand for themselves. The row is by
+// vertex number.
+fn leaders_of(alloc: Global, h: &MultiGraph, a: u32, b: u32) -> Result<Vec<u32>, Memory>
     requires first { Within h.now.order a }
     requires second { Within h.now.order b }
     ensures long { IfOk result (λ row. length row.items ≡ h.now.order + 1) }
@@ -59,14 +68,34 @@ pub(crate) fn leaders_of(alloc: Global, h: &MultiGraph, a: u32, b: u32) -> Resul
     Ok(row)
 }
 
+/// For each vertex the least vertex of its piece at edge `e`; the ends of `e` stand for themselves.
+pub(crate) fn leaders_at(
+    alloc: Global,
+    g: &MultiGraph,
+    pairs: &PairTable,
+    e: u32,
+) -> Result<Vec<u32>, Memory>
+    requires edge { Within (size g.now) e }
+    requires size { pairs.now.size ≡ size g.now }
+    requires both { (e f : ℕ) → Within (size g.now) e → Within (size g.now) f → (holds_both (edge_lists pairs.now) e f ≡ true) ↔ Together g.now e f }
+    ensures { IfOk result (λ row. AreLeaders g.now e row.items) }
+{
+    g.keeps_limits();
+    let ends = g.ends(e);
+    let a = ends.a.min(ends.b);
+    let b = ends.a.max(ends.b);
+    let beside = graph_beside(alloc, g, pairs, e)?;
+    leaders_of(alloc, &beside, a, b)
+}
+
 /// The ends `a` and `b` of an edge, and the vertices `x` and `y` that lead two of its pieces: `a` and the piece of `x` make one
-/// group, `b` and the piece of `y` another, and each other piece is a group.
+/// group, `b` and the piece of `y` another, and each other piece is a group. Where `y` is `b`, `b` alone is a group.
 #[derive(Clone, Copy, Drop)]
-struct Grouping {
-    a: u32,
-    b: u32,
-    x: u32,
-    y: u32,
+pub(crate) struct Grouping {
+    pub(crate) a: u32,
+    pub(crate) b: u32,
+    pub(crate) x: u32,
+    pub(crate) y: u32,
 }
 
 impl Grouping {
@@ -140,27 +169,22 @@ fn vertices_of(set: VSet, leaders: &[u32], n: u32, groups: Grouping) -> VSet
     vertices
 }
 
-// What a pair of vertices that lead pieces gives: the common shore of all tight sets that have `a` and `x` and neither `b` nor `y`,
-// where there is one. It is the vertices of the least minimum cut of the groups' network, if its value is at most the number of
-// matchings in the pair list.
-fn shore_of_pair(
+// The vertices of the least minimum cut of the groups' network, if its value is at most the number of matchings in the pair list.
+fn cut_of_groups(
     alloc: Global,
     g: &MultiGraph,
     weights: &Weights,
     leaders: &[u32],
     groups: Grouping,
-    e: u32,
 ) -> Result<Option<VSet>, Memory>
-    requires covered { IsCovered g.now }
-    requires edge { Within (size g.now) e }
-    requires weights { AreWeights g.now weights.now.row.items weights.now.matchings }
-    requires leaders { AreLeaders g.now e leaders.now }
-    requires first { groups.a ≡ lesser_end g.now e }
-    requires second { groups.b ≡ greater_end g.now e }
-    requires x { Leads g.now e leaders.now groups.x }
-    requires y { Leads g.now e leaders.now groups.y }
-    requires differ { groups.x ≢ groups.y }
-    ensures { IfOk result (IsShoreOfPair g.now e (groups.x, groups.y)) }
+    requires weights { length weights.now.row.items ≡ size g.now + 1 }
+    requires leaders { length leaders.now ≡ g.now.order + 1 }
+    requires small { total (size g.now) (at_place weights.now.row.items) < 2 ^ 63 }
+    requires within { (v : ℕ) → Within g.now.order v → Within g.now.order (row_group groups.a groups.b groups.x groups.y leaders.now v) }
+    requires source { Within g.now.order groups.a }
+    requires sink { Within g.now.order groups.b }
+    requires differ { groups.a ≢ groups.b }
+    ensures { IfOk result (IsCutOfGroups g.now weights.now.row.items leaders.now weights.now.matchings groups.a groups.b groups.x groups.y) }
 {
     g.keeps_limits();
     let net = network(alloc, g, &weights.row, leaders, groups)?;
@@ -170,16 +194,9 @@ fn shore_of_pair(
     }
 }
 
-// Whether x leads a piece of the edge with the ends a and b.
-fn leads(leaders: &[u32], a: u32, b: u32, x: u32) -> bool
-    requires { x < length leaders.now }
-    ensures { result ≡ (not (pair_set a b x) && (at_place leaders.now x == x)) }
-{
-    x != a && x != b && leaders[x as usize] == x
-}
-
-// What the pair (x, y) gives, where no pair before it is parted; nothing unless y leads a piece of its own.
-fn shore_at(
+/// The common shore of all tight sets that have `a` and `x` and neither `b` nor `y`, where there is one. Here `x` leads a piece of
+/// edge `e`, and `y` leads another or is `b` itself.
+pub(crate) fn common_shore(
     alloc: Global,
     g: &MultiGraph,
     weights: &Weights,
@@ -194,22 +211,32 @@ fn shore_at(
     requires first { groups.a ≡ lesser_end g.now e }
     requires second { groups.b ≡ greater_end g.now e }
     requires x { Leads g.now e leaders.now groups.x }
-    requires y { Within g.now.order groups.y }
-    requires before { NoneBefore g.now e groups.x groups.y }
-    ensures some { IfOk result (λ o. (s : _) → o ≡ Some s → IsShoreOfEdge g.now e o) }
-    ensures none { IfOk result (λ o. o ≡ None → NoneBefore g.now e groups.x (groups.y + 1)) }
+    requires y { IsBeyond g.now e leaders.now groups.x groups.y }
+    ensures { IfOk result (IsCommonShore g.now (lesser_end g.now e) (greater_end g.now e) (groups.x, groups.y)) }
 {
     g.keeps_limits();
-    if groups.x == groups.y {
-        return Ok(None);
-    }
-    if !leads(leaders, groups.a, groups.b, groups.y) {
-        return Ok(None);
-    }
-    shore_of_pair(alloc, g, weights, leaders, groups, e)
+    cut_of_groups(alloc, g, weights, leaders, groups)
 }
 
-// What the pairs (x, y) give, for one x and all y in order, where no pair before them is parted; nothing unless x leads a piece.
+/// Whether `x` leads a piece of the edge with the ends `a` and `b`.
+pub(crate) fn leads(leaders: &[u32], a: u32, b: u32, x: u32) -> bool
+    requires { x < length leaders.now }
+    ensures { result ≡ (not (pair_set a b x) && (at_place leaders.now x == x)) }
+{
+    x != a && x != b && leaders[x as usize] == x
+}
+
+/// The least vertex other than `b` that the shore lacks; `None` exactly where it lacks none.
+pub(crate) fn first_lacking(shore: VSet, n: u32, b: u32) -> Option<u32>
+    requires few { n ≤ MOST_VERTICES }
+    requires vertex { Within n b }
+    ensures some { IfSome result (λ y. Within n y × (y ≢ b) × (mem shore y ≡ false)) }
+    ensures none { IfNone result ((y : ℕ) → Within n y → y ≢ b → mem shore y ≡ true) }
+{
+    VSet::full(n).minus(shore).without(b).first()
+}
+
+// What the pairs (x, y) give, for one x and all y, where no pair before them is parted; nothing unless x leads a piece.
 fn shore_from(
     alloc: Global,
     g: &MultiGraph,
@@ -234,17 +261,18 @@ fn shore_from(
     if !leads(leaders, a, b, x) {
         return Ok(None);
     }
-    for k in 0..g.order() {
-        let groups = Grouping { a, b, x, y: k + 1 };
-        if let Some(shore) = shore_at(alloc, g, weights, leaders, groups, e)? {
-            return Ok(Some(shore));
-        }
+    let groups = Grouping { a, b, x, y: b };
+    let Some(shore) = common_shore(alloc, g, weights, leaders, groups, e)? else {
+        return Ok(None);
+    };
+    match first_lacking(shore, g.order(), b) {
+        Some(_) => Ok(Some(shore)),
+        None => Ok(None),
     }
-    Ok(None)
 }
 
 /// What edge `e` gives: the common shore of all tight sets that part the first pair in lexicographic order that any parts; `None`
-/// exactly where no pair is parted. Only pairs of vertices that lead pieces are asked: a pair is parted by its pieces alone.
+/// exactly where no pair is parted. One minimum cut is made for each piece of the edge at most.
 pub(crate) fn shore_of_edge(
     alloc: Global,
     g: &MultiGraph,

@@ -1,69 +1,32 @@
 //! The candidates of a matching covered graph.
-ghost use Rattle.std.specs.Prelude.{◌≡◌, ℕ, [], ◌↔◌, ◌≤◌, true, All, IfOk, OnOk, Some, None, map};
+ghost use Rattle.std.specs.Prelude.{◌≡◌, ℕ, [], ◌↔◌, ◌≤◌, true, All, IfOk, OnOk, Some, None};
 ghost use Rattle.std.specs.List.{AllPairs, list_any};
+ghost use Rattle.std.specs.Option.{option_map};
 ghost use Rattle.counting.specs.Counts.{Within};
 ghost use Rattle.counting.specs.Lists.{mem};
-ghost use Rattle.counting.specs.Sets.{Set};
+ghost use Rattle.counting.specs.Sets.{Set, none};
 ghost use Rattle.graph_core.specs.Covered.{IsCovered};
 ghost use Rattle.graph_core.specs.Graph.{in_cut, size};
-ghost use Rattle.graph_core.specs.Matchings.{Together};
-ghost use Rattle.graph_core.specs.PairLists.{IsLean, IsPairList};
-ghost use Rattle.graph_core.specs.Structure.{IsBicritical};
+ghost use Rattle.graph_core.specs.Matchings.{IsPerfect, Together};
 ghost use Rattle.graph_core.specs.Tight.{IsNontrivial, IsTight};
-ghost use Rattle.match_core.specs.MatchingRows.{IsOf};
+ghost use Rattle.match_core.specs.MatchingRows.{IsOf, edges_of};
 ghost use Rattle.allowed_edges.specs.PairTables.{edge_lists, holds_both};
-ghost use Rattle.barrier_kit.specs.BarrierShores.{barrier_cuts};
-ghost use Rattle.separation_kit.specs.SeparationShores.{separation_cuts};
-ghost use Rattle.tight_cuts.specs.Candidates.{Barrier, Separation, IsTightCandidate, candidate_at, ShoresDiffer, candidates, cuts, first_shore, front_candidates, with_edge_cut};
+ghost use Rattle.barrier_kit.specs.BarrierCuts.{IsSide};
+ghost use Rattle.tight_cuts.specs.Candidates.{IsTightCandidate, ShoresDiffer, candidates, cuts, first_of, first_shore, front_candidates, with_edge_cut};
 ghost use Rattle.tight_cuts.specs.EdgeSearch.{AreWeights};
+ghost use Rattle.tight_cuts.specs.View.{candidate_of};
 
-use crate::candidate::{CandidateList, Origin, add_shore, any_cuts, candidates_of};
-use crate::edge_search::{Weights, leaders_of, shore_of_edge};
-use crate::pieces::{graph_beside, weights_of};
+use crate::bipartite::bipartite_shore_of_edge;
+use crate::candidate::{Candidate, CandidateList, Origin, add_shore, any_cuts};
+use crate::edge_search::{Weights, leaders_at, shore_of_edge};
+use crate::front::front_candidates;
+use crate::pieces::weights_of;
 use allowed_edges::{PairTable, together};
-use barrier_kit::barrier_cuts;
 use graph_core::MultiGraph;
-use separation_kit::{not_bicritical, separation_cuts};
+use match_core::{Matching, perfect_without};
+use matching_digraph::side_of;
 use std::alloc::{AllocError as Memory, Global};
 use vset_core::VSet;
-
-// The cuts of barriers, as candidates.
-fn barrier_candidates(alloc: Global, g: &MultiGraph) -> Result<CandidateList, Memory>
-    requires { IsCovered g.now }
-    ensures { IfOk result (λ list. list ≡ map (candidate_at g.now.order Barrier) (barrier_cuts g.now)) }
-{
-    g.keeps_limits();
-    let shores = barrier_cuts(alloc, g)?;
-    candidates_of(alloc, g.order(), Origin::Barrier, &shores)
-}
-
-// The cuts of separations, as candidates.
-fn separation_candidates(alloc: Global, g: &MultiGraph) -> Result<CandidateList, Memory>
-    requires covered { IsCovered g.now }
-    requires bicritical { IsBicritical g.now }
-    requires four { 4 ≤ g.now.order }
-    ensures { IfOk result (λ list. list ≡ map (candidate_at g.now.order Separation) (separation_cuts g.now)) }
-{
-    g.keeps_limits();
-    let shores = separation_cuts(alloc, g)?;
-    candidates_of(alloc, g.order(), Origin::Separation, &shores)
-}
-
-// The candidates of the first two parts: the cuts of barriers where the graph is not bicritical, and those of separations where it
-// is.
-fn first_candidates(alloc: Global, g: &MultiGraph) -> Result<CandidateList, Memory>
-    requires { IsCovered g.now }
-    ensures { IfOk result (λ list. list ≡ front_candidates g.now) }
-{
-    g.keeps_limits();
-    if let Some(_) = not_bicritical(alloc, g)? {
-        return barrier_candidates(alloc, g);
-    }
-    if g.order() < 4 {
-        return barrier_candidates(alloc, g);
-    }
-    separation_candidates(alloc, g)
-}
 
 // What one edge adds to the list.
 fn add_edge_cut(
@@ -85,11 +48,7 @@ fn add_edge_cut(
     if any_cuts(list, g, e) {
         return Ok(());
     }
-    let ends = g.ends(e);
-    let a = ends.a.min(ends.b);
-    let b = ends.a.max(ends.b);
-    let beside = graph_beside(alloc, g, pairs, e)?;
-    let leaders = leaders_of(alloc, &beside, a, b)?;
+    let leaders = leaders_at(alloc, g, pairs, e)?;
     match shore_of_edge(alloc, g, weights, &leaders, e)? {
         Some(shore) => {
             add_shore(list, g.order(), Origin::Flow, shore)?;
@@ -97,6 +56,143 @@ fn add_edge_cut(
         }
         None => Ok(()),
     }
+}
+
+// The number of edges before the first that is in the cut of no candidate.
+fn edges_cut(list: &CandidateList, g: &MultiGraph) -> u32
+    ensures within { result ≤ size g.now }
+    ensures cut { (e : ℕ) → Within result e → list_any (cuts g.now e) list.now ≡ true }
+{
+    g.keeps_limits();
+    for k in 0..g.size() {
+        if !any_cuts(list, g, k + 1) {
+            return k;
+        }
+    }
+    g.size()
+}
+
+// Adds what the edges of any graph give. The table of pairs is made where an edge is in the cut of no earlier candidate, and else not at all.
+fn add_edge_cuts(alloc: Global, g: &MultiGraph, list: &mut CandidateList) -> Result<(), Memory>
+    requires covered { IsCovered g.now }
+    requires front { list.old ≡ front_candidates g.now }
+    ensures { OnOk result (list.new ≡ candidates g.now) }
+{
+    g.keeps_limits();
+    let known = edges_cut(list, g);
+    if known == g.size() {
+        return Ok(());
+    }
+    let pairs = together(alloc, g)?;
+    let weights = weights_of(alloc, g, &pairs)?;
+    for k in known..g.size() {
+        add_edge_cut(alloc, g, &pairs, &weights, k + 1, list)?;
+    }
+    Ok(())
+}
+
+// What one edge of a bipartite graph adds to the list.
+fn add_bipartite_cut(
+    alloc: Global,
+    g: &MultiGraph,
+    side: VSet,
+    kept: &Matching,
+    e: u32,
+    list: &mut CandidateList,
+) -> Result<(), Memory>
+    requires covered { IsCovered g.now }
+    requires edge { Within (size g.now) e }
+    requires side { IsSide g.now (mem side) }
+    requires of { IsOf g.now kept.now }
+    requires perfect { IsPerfect g.now none (mem (edges_of kept.now)) }
+    ensures { OnOk result (list.new ≡ with_edge_cut g.now list.old e) }
+{
+    g.keeps_limits();
+    if any_cuts(list, g, e) {
+        return Ok(());
+    }
+    match bipartite_shore_of_edge(alloc, g, side, kept, e)? {
+        Some(shore) => {
+            add_shore(list, g.order(), Origin::Flow, shore)?;
+            Ok(())
+        }
+        None => Ok(()),
+    }
+}
+
+// A perfect matching of a covered graph.
+fn perfect_of(alloc: Global, g: &MultiGraph) -> Result<Matching, Memory>
+    requires { IsCovered g.now }
+    ensures of { IfOk result (λ kept. IsOf g.now kept) }
+    ensures perfect { IfOk result (λ kept. IsPerfect g.now none (mem (edges_of kept))) }
+{
+    g.keeps_limits();
+    match perfect_without(alloc, g, VSet::empty())? {
+        Some(kept) => Ok(kept),
+        None => unreachable!(),
+    }
+}
+
+// Adds what the edges of a bipartite graph give.
+fn add_bipartite_cuts(
+    alloc: Global,
+    g: &MultiGraph,
+    side: VSet,
+    list: &mut CandidateList,
+) -> Result<(), Memory>
+    requires covered { IsCovered g.now }
+    requires side { IsSide g.now (mem side) }
+    requires front { list.old ≡ front_candidates g.now }
+    ensures { OnOk result (list.new ≡ candidates g.now) }
+{
+    g.keeps_limits();
+    let kept = perfect_of(alloc, g)?;
+    for k in 0..g.size() {
+        add_bipartite_cut(alloc, g, side, &kept, k + 1, list)?;
+    }
+    Ok(())
+}
+
+// The first candidate that an edge of a bipartite graph gives, where the first two parts give none.
+fn first_bipartite_cut(
+    alloc: Global,
+    g: &MultiGraph,
+    side: VSet,
+) -> Result<Option<Candidate>, Memory>
+    requires covered { IsCovered g.now }
+    requires side { IsSide g.now (mem side) }
+    requires front { front_candidates g.now ≡ [] }
+    ensures { IfOk result (λ found. option_map candidate_of found ≡ first_of (candidates g.now)) }
+{
+    g.keeps_limits();
+    let kept = perfect_of(alloc, g)?;
+    let mut list = CandidateList::new(alloc);
+    for k in 0..g.size() {
+        add_bipartite_cut(alloc, g, side, &kept, k + 1, &mut list)?;
+        if !list.is_empty() {
+            return Ok(Some(list.get(0)));
+        }
+    }
+    Ok(None)
+}
+
+// The list of the candidates. A graph that is not bipartite and has none of the first two parts has none at all (Edmonds, Lovász and
+// Pulleyblank 1982).
+fn all_candidates(alloc: Global, g: &MultiGraph) -> Result<CandidateList, Memory>
+    requires { IsCovered g.now }
+    ensures { IfOk result (λ list. list ≡ candidates g.now) }
+{
+    g.keeps_limits();
+    let mut list = front_candidates(alloc, g)?;
+    if let Some(side) = side_of(alloc, g)? {
+        add_bipartite_cuts(alloc, g, side, &mut list)?;
+        return Ok(list);
+    }
+    if list.is_empty() {
+        return Ok(list);
+    }
+    add_edge_cuts(alloc, g, &mut list)?;
+    Ok(list)
 }
 
 /// The candidates of a matching covered graph, in order: first the cuts of barriers and of separations, then, for each edge by number
@@ -112,13 +208,37 @@ pub fn candidates(alloc: Global, g: &MultiGraph) -> Result<CandidateList, Memory
     ensures none { IfOk result (λ list. (list ≡ []) ↔ ((x : Set) → IsTight g.now x → IsNontrivial g.now.order x → ⊥)) }
 {
     g.keeps_limits();
-    let mut list = first_candidates(alloc, g)?;
-    let pairs = together(alloc, g)?;
-    let weights = weights_of(alloc, g, &pairs)?;
-    for k in 0..g.size() {
-        add_edge_cut(alloc, g, &pairs, &weights, k + 1, &mut list)?;
-    }
+    let list = all_candidates(alloc, g)?;
     Ok(list)
+}
+
+/// The first candidate, and `None` exactly where the covered graph has no nontrivial tight cut. The search ends with it: the edges are
+/// asked only where the graph has no cut of a barrier or a separation.
+pub fn first_candidate(alloc: Global, g: &MultiGraph) -> Result<Option<Candidate>, Memory>
+    requires { IsCovered g.now }
+    ensures first { IfOk result (λ found. option_map candidate_of found ≡ first_of (candidates g.now)) }
+    ensures some { IfOk result (λ found. (c : _) → found ≡ Some c → IsTightCandidate g.now (candidate_of c)) }
+    ensures none { IfOk result (λ found. (found ≡ None) ↔ ((x : Set) → IsTight g.now x → IsNontrivial g.now.order x → ⊥)) }
+{
+    g.keeps_limits();
+    let found = first_found(alloc, g)?;
+    Ok(found)
+}
+
+// The first candidate.
+fn first_found(alloc: Global, g: &MultiGraph) -> Result<Option<Candidate>, Memory>
+    requires { IsCovered g.now }
+    ensures { IfOk result (λ found. option_map candidate_of found ≡ first_of (candidates g.now)) }
+{
+    g.keeps_limits();
+    let front = front_candidates(alloc, g)?;
+    if !front.is_empty() {
+        return Ok(Some(front.get(0)));
+    }
+    match side_of(alloc, g)? {
+        Some(side) => first_bipartite_cut(alloc, g, side),
+        None => Ok(None),
+    }
 }
 
 /// The shore of the first candidate, which is a canonical nontrivial tight shore, and `None` exactly where the covered graph has no
@@ -129,10 +249,8 @@ pub fn find_any(alloc: Global, g: &MultiGraph) -> Result<Option<VSet>, Memory>
     ensures some { IfOk result (λ found. (s : _) → found ≡ Some s → IsTight g.now (mem s) × IsNontrivial g.now.order (mem s)) }
     ensures none { IfOk result (λ found. (found ≡ None) ↔ ((x : Set) → IsTight g.now x → IsNontrivial g.now.order x → ⊥)) }
 {
-    let list = candidates(alloc, g)?;
-    if list.is_empty() {
-        Ok(None)
-    } else {
-        Ok(Some(list.get(0).shore))
+    match first_candidate(alloc, g)? {
+        Some(candidate) => Ok(Some(candidate.shore)),
+        None => Ok(None),
     }
 }

@@ -5,26 +5,31 @@
 //! canonical shores: first those of barriers and separations, then, for each edge that no earlier cut has, one that a least
 //! minimum cut gives. Each listed cut is tight (`IsTightCandidate`), none comes twice, each edge of each nontrivial tight cut is
 //! in a listed one (clause `cover`), and so the list is empty exactly where there is no nontrivial tight cut (clause `none`).
-//! `find_any` answers the first.
+//! `first_candidate` and `find_any` answer the first, and search no further.
 //!
 //! How an edge is searched: a tight set through an edge is a union of the edge's pieces beside one of its ends (`Pieces`); over a
 //! pair list each odd set is met at least as often as the list is long, and exactly so often where it is tight (`PairSums`); so
-//! the least minimum cut of the network of the pieces is the intersection of all tight sets that part two pieces (`Networks`).
+//! the least minimum cut of the network of the pieces is the intersection of all tight sets that have a piece (`Networks`), and one cut
+//! for each piece tells what the edge gives (`EdgePieces`). `candidates_by_pairs` answers the same by a cut for each pair of pieces.
 //! `candidates_at` lists the candidates at a partition of the vertices into blocks: those of the quotient, led back to vertices of
-//! the graph (`IsCandidateAt`).
+//! the graph (`IsCandidateAt`); `first_candidate_at` answers the first.
 //!
 //! Stands on `contraction`, `allowed_edges`, `barrier_kit`, `separation_kit` and `flow_core`. Sources: Edmonds, Lovász and Pulleyblank 1982;
 //! Lovász, "Matching structure and the matching lattice" (1987); Picard and Queyranne (1980) for least minimum cuts.
 #![tactic(auto)]
 
 mod at_partition;
+mod bipartite;
+mod by_pairs;
 mod candidate;
 mod edge_search;
 mod finder;
+mod front;
 mod pieces;
 mod tightness;
 
-pub use at_partition::candidates_at;
+pub use at_partition::{candidates_at, first_candidate_at};
+pub use by_pairs::candidates_by_pairs;
 pub use candidate::{Candidate, CandidateList, Origin};
-pub use finder::{candidates, find_any};
+pub use finder::{candidates, find_any, first_candidate};
 pub use tightness::{Tightness, is_tight};

@@ -27,6 +27,3 @@ mod walk;
 pub use judgement::{Judgement, Why};
 pub use replaying::{Replayed, replay};
 pub use walk::check;
-
-#[cfg(test)]
-mod tests;

@@ -15,7 +15,7 @@ use crate::judgement::Why;
 use contraction::{Partition, lift, quotient};
 use graph_core::{MultiGraph, Numbers};
 use std::alloc::{AllocError as Memory, Global};
-use tight_cuts::{Tightness, candidates_at, is_tight};
+use tight_cuts::{Tightness, first_candidate_at, is_tight};
 use vset_core::VSet;
 
 /// The first rule that the cut of `shore` breaks at `p`, whose quotient is matching covered; `None` exactly where `shore` is a canonical
@@ -100,10 +100,8 @@ pub(crate) fn first_cut_at(
     ensures first { IfOk result (λ o. o ≡ first_shore (candidates_at g.now p.now.blocks)) }
     ensures none { IfOk result (λ o. o ≡ None → IsLeafAt g.now p.now.blocks) }
 {
-    let list = candidates_at(alloc, g, p)?;
-    if list.is_empty() {
-        Ok(None)
-    } else {
-        Ok(Some(list.get(0).shore))
+    match first_candidate_at(alloc, g, p)? {
+        Some(candidate) => Ok(Some(candidate.shore)),
+        None => Ok(None),
     }
 }

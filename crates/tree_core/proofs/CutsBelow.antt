@@ -1,5 +1,6 @@
 -- What stands below a cut: both partitions are partitions, their quotients are matching covered where that of the node is, and each
 -- has one block for the merged side and the blocks of the other side. So a tree of cuts has few leaves, by induction.
+use Rattle.std.proofs.lemmas.List.Elements.{All-append}
 use Rattle.std.proofs.Common.{◌≡◌, ℕ, zero, suc, ◌+◌, ◌*◌, ◌≤◌, ◌<◌, ◌-◌, List, length, All, subst, refl, sym, ap, ◌∙◌, arith}
 use Rattle.counting.proofs.Counts.{count_congr, count_complement}
 use Rattle.counting.proofs.Lists.{mem-within, member-of_set}
@@ -23,6 +24,8 @@ use Rattle.contraction.proofs.QuotientLaws.{covered_up}
 use Rattle.contraction.specs.Partition.{IsUnionAt}
 use Rattle.tree_core.specs.Shapes.{Shape, leaf, cut, cut_count, leaf_count}
 use Rattle.tree_core.specs.Derivations.{IsCutAt, IsDerivation, IsDerivationAt, kept_at, merged_at}
+use Rattle.tree_core.specs.Leaves.{leaves, leaves_at}
+use Rattle.tree_core.proofs.DerivationLeaves.{all-one}
 use Rattle.tree_core.proofs.Sizes.{leaf_count-cuts}
 use Rattle.tree_core.proofs.DerivationStands.{cut-below, cut-nonempty, partition-kept, partition-merged}
 
@@ -91,6 +94,21 @@ few-leaves g t is derives four =
     let few = few-cuts_at g (singles g.order) t is (singles-partition g.order) derives.derives (omega arith) in
     let leaves = leaf_count-cuts t in
     omega arith
+
+-- the quotient at a partition is matching covered
+abbrev pub HasCoveredQuotient : Graph → List (List ℕ) → Type 0
+HasCoveredQuotient g p = IsCovered (quotient g p)
+
+covered-leaves_at : (g : Graph) (p : List (List ℕ)) (t : Shape) → IsGraph g → IsPartition g.order p → IsCovered (quotient g p) → IsDerivationAt g p t → All (HasCoveredQuotient g) (leaves_at g.order p t)
+covered-leaves_at g p leaf is pp covered derives = all-one (HasCoveredQuotient g) p covered
+covered-leaves_at g p (cut x k m) is pp covered derives =
+    let cuts = derives.0 in
+    All-append (HasCoveredQuotient g) (leaves_at g.order (kept_at g.order p x) k) (leaves_at g.order (merged_at g.order p x) m)
+    (covered-leaves_at g (kept_at g.order p x) k is (kept-partition g p x is pp cuts) (kept-covers g p x is pp cuts covered) derives.1)
+    (covered-leaves_at g (merged_at g.order p x) m is (merged-partition g p x is pp cuts) (merged-covers g p x is pp cuts covered) derives.2)
+
+pub covered-leaves : (g : Graph) (t : Shape) → IsGraph g → IsDerivation g t → All (λ (p : List (List ℕ)). IsCovered (quotient g p)) (leaves g.order t)
+covered-leaves g t is derives = covered-leaves_at g (singles g.order) t is (singles-partition g.order) (root-covered g (singles g.order) is refl derives.covered) derives.derives
 
 -- what the code is asked and answers at a cut, for a partition whose number of vertices is that of the graph
 module _ (g : Graph) (n : ℕ) (p : List (List ℕ)) (x : List ℕ) (is : IsGraph g) (pp : IsPartition n p) (same : n ≡ g.order) (cuts : IsCutAt g p x) where

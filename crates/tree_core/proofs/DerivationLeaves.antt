@@ -11,7 +11,7 @@ use Rattle.tree_core.specs.Leaves.{leaves_at, leaves}
 use Rattle.tree_core.proofs.DerivationStands.{cut-nonempty, cut-below, partition-merged, partition-kept}
 
 -- of the one item of a list
-all-one : {A : Type 0} (P : A → Type 0) (x : A) → P x → All P (x ∷ [])
+pub all-one : {A : Type 0} (P : A → Type 0) (x : A) → P x → All P (x ∷ [])
 all-one P x is zero d less = is
 all-one P x is (suc k) d less = absurd (omega arith)
 

@@ -1,5 +1,6 @@
 pub mod DerivationLeaves
 pub mod DerivationStands
+pub mod DerivationShores
 pub mod Shores
 pub mod Sizes
 pub mod CutsBelow

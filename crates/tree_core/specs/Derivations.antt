@@ -4,7 +4,7 @@ use Rattle.counting.specs.Sets.{Set}
 use Rattle.counting.specs.Lists.{mem, IsRisingIn}
 use Rattle.graph_core.specs.Graph.{Graph}
 use Rattle.graph_core.specs.Covered.{IsCovered}
-use Rattle.graph_core.specs.Tight.{IsNontrivial}
+use Rattle.graph_core.specs.Tight.{IsNontrivial, IsTight}
 use Rattle.graph_core.specs.Partitions.{complement_of, merged, singles}
 use Rattle.graph_core.specs.Shores.{IsTightAt, blocks_in}
 use Rattle.tree_core.specs.Shapes.{Shape, leaf, cut}
@@ -39,3 +39,11 @@ IsDerivationAt g p (cut x k m) = IsCutAt g p x × IsDerivationAt g (kept_at g.or
 pub record IsDerivation (g : Graph) (t : Shape) : Type 0 where
   pub covered : IsCovered g
   pub derives : IsDerivationAt g (singles g.order) t
+
+-- a canonical nontrivial tight shore of the graph itself: a rising list without the greatest vertex, tight, with at least three
+-- vertices inside and outside
+pub record IsTightShore (g : Graph) (x : List ℕ) : Type 0 where
+  pub set : IsRisingIn g.order x
+  pub tight : IsTight g (mem x)
+  pub nontrivial : IsNontrivial g.order (mem x)
+  pub canonical : mem x g.order ≡ false

@@ -1,5 +1,5 @@
 -- Plain trees of cuts: what a tree says, whatever boxes hold its nodes.
-use Rattle.std.specs.Prelude.{ℕ, ◌+◌, ◌-◌, List, max, All}
+use Rattle.std.specs.Prelude.{ℕ, ◌+◌, ◌-◌, List, [], ◌∷◌, ◌++◌, max, All}
 use Rattle.counting.specs.Counts.{Within}
 
 -- a tree of cuts: a leaf, or a cut by its shore with two trees, one where the shore is kept and one where it is merged
@@ -31,3 +31,8 @@ leaf_count (cut x k m) = leaf_count k + leaf_count m
 abbrev pub depth : Shape → ℕ
 depth leaf = 1
 depth (cut x k m) = 1 + max (depth k) (depth m)
+
+-- the shores of the cuts, in preorder with `kept` before `merged`
+abbrev pub shores : Shape → List (List ℕ)
+shores leaf = []
+shores (cut x k m) = x ∷ (shores k ++ shores m)

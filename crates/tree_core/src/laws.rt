@@ -1,9 +1,11 @@
 //! Laws of derivations and of plain trees. Each is the contract of a function that does nothing.
-ghost use Rattle.std.specs.Prelude.{◌≡◌, ◌+◌, ◌*◌, ◌≤◌, ℕ, length, List, All};
+ghost use Rattle.std.specs.Prelude.{◌≡◌, ◌+◌, ◌*◌, ◌≤◌, ◌↔◌, ℕ, length, List, All};
+ghost use Rattle.graph_core.specs.Covered.{IsCovered};
 ghost use Rattle.graph_core.specs.Graph.{Graph, IsGraph};
 ghost use Rattle.graph_core.specs.Partitions.{IsPartition, singles};
-ghost use Rattle.tree_core.specs.Shapes.{Shape, Fits, cut_count, leaf_count, node_count};
-ghost use Rattle.tree_core.specs.Derivations.{IsDerivation, IsLeafAt};
+ghost use Rattle.graph_core.specs.Quotients.{quotient};
+ghost use Rattle.tree_core.specs.Shapes.{Shape, Fits, cut_count, leaf_count, node_count, shores};
+ghost use Rattle.tree_core.specs.Derivations.{IsCutAt, IsDerivation, IsLeafAt, IsTightShore};
 ghost use Rattle.tree_core.specs.Leaves.{StandsAt, leaves};
 
 /// A derivation of a graph fits the graph's order, and each of its shores is a nonempty union of blocks where it stands. So its
@@ -13,10 +15,18 @@ pub fn derivation_stands()
     ensures stands { (g : Graph) (t : Shape) → IsDerivation g t → StandsAt g.order (singles g.order) t }
 {}
 
-/// Each leaf of a derivation is a partition at which no nontrivial shore is tight.
+/// Each leaf of a derivation is a partition at which no nontrivial shore is tight, and its quotient is matching covered.
 pub fn derivation_leaves()
     ensures partitions { (g : Graph) (t : Shape) → IsDerivation g t → All (IsPartition g.order) (leaves g.order t) }
     ensures uncut { (g : Graph) (t : Shape) → IsDerivation g t → All (IsLeafAt g) (leaves g.order t) }
+    ensures covered { (g : Graph) (t : Shape) → IsGraph g → IsDerivation g t → All (λ (p : List (List ℕ)). IsCovered (quotient g p)) (leaves g.order t) }
+{}
+
+/// Each shore of a derivation is a canonical nontrivial tight shore of the graph itself, and not only at the partition where it
+/// stands (Lovász 1987). At the partition into single vertices a cut of a derivation names nothing else.
+pub fn derivation_shores()
+    ensures root { (g : Graph) (x : List ℕ) → IsGraph g → (IsCutAt g (singles g.order) x ↔ IsTightShore g x) }
+    ensures tight { (g : Graph) (t : Shape) → IsGraph g → IsDerivation g t → All (IsTightShore g) (shores t) }
 {}
 
 /// A tree with c cuts has c + 1 leaves and 2 c + 1 nodes, and its list of leaves has that length.

@@ -37,6 +37,3 @@ pub use rotation::{are_apart, rotate};
 pub use switched_shores::holds_greatest;
 pub use switching::switch;
 pub use tree::{Tree, copy, depth, fits, nodes};
-
-#[cfg(test)]
-mod tests;

@@ -22,6 +22,3 @@ mod writing;
 pub use pick_format::read_picks;
 pub use tree_format::read_tree;
 pub use writing::write_tree;
-
-#[cfg(test)]
-mod tests;

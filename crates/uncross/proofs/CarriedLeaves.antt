@@ -23,7 +23,7 @@ use Rattle.tree_core.specs.LeafMaps.{numbers}
 use Rattle.tree_core.specs.Leaves.{leaves_at}
 use Rattle.tree_core.specs.Shapes.{Shape, cut, leaf, leaf_count}
 use Rattle.uncross.proofs.CarriedTrees.{inner, iso_merged, nontrivial_congr, nontrivial_rest, outer, rest_tight}
-use Rattle.uncross.proofs.Images.{image_covered, image_nontrivial, image_tight, move_is}
+use Rattle.uncross.proofs.Images.{image_nontrivial, image_tight, move_is}
 use Rattle.uncross.proofs.Parts.{Part, part-join, part-one, part-turn}
 use Rattle.uncross.proofs.Rising.{bounds}
 use Rattle.graph_core.proofs.SameBlocks.{Finer}
@@ -66,20 +66,17 @@ parts_node g is h k name_of base x a b ia ib l p q lp lq cov iso finer fits d = 
     last = let w = nx.1 in (omega arith, omega arith)
 
     ki : IsTightAt g q (pre k (mem x))
-    ki = image_tight g is p q h k pp qp iso cov (mem x) c.tight
+    ki = image_tight g is p q h k pp qp iso (mem x) c.tight
 
     kn : IsNontrivial (length q) (blocks_in q (pre k (mem x)))
-    kn = image_nontrivial g is p q h k pp qp iso cov (mem x) c.tight.union c.nontrivial
-
-    cq : IsCovered (contracted g q)
-    cq = image_covered g is p q h k pp qp iso cov
+    kn = image_nontrivial g is p q h k pp qp iso (mem x) c.tight.union c.nontrivial
 
     pass : (l : ℕ) (t : Shape) → LeafParts g h k name_of base t → (xs ys : List ℕ) → IsTightAt g p (mem xs) → IsTightAt g q (mem ys) → IsRisingIn g.order xs → IsRisingIn g.order ys → Some g.order (mem xs) → Some g.order (mem ys) →
         ((v : ℕ) → Within g.order v → mem ys v ≡ mem xs (k v)) → AreRising g.order t → IsDerivationAt g (merged p xs) t →
         Part g l (leaves_at g.order (merged p xs) t) (leaves_at g.order (merged q ys) (carry g.order k t)) (carry_order g.order k l t) (map (λ (r : List (List ℕ)). map name_of r) (leaves_at g.order (merged p xs) t))
     pass l t i xs ys txs tys sxs sys nxs nys e f d =
         i l (merged p xs) (merged q ys) (merged_blocks g.order p xs lp txs.union sxs.rising nxs (bounds sxs)) (merged_blocks g.order q ys lq tys.union sys.rising nys (bounds sys))
-        (covered_merged g is p xs pp txs nxs (bounds sxs) cov) (iso_merged g is p q h k pp qp iso xs ys txs tys sxs sys nxs nys e)
+        (covered_merged g is p xs pp txs nxs (bounds sxs) cov) (iso_merged g is p q h k pp qp iso xs ys txs.union tys.union sxs sys nxs nys e)
         (λ u v wu wv same. alike_up g.order p (merged p xs) (mem xs) pp txs.union (merge_of g is p xs pp txs nxs (bounds sxs)) u v wu wv (finer u v wu wv same)) f d
 
     rests : (y : List ℕ) → ((v : ℕ) → Within g.order v → mem y v ≡ mem x (k v)) → (v : ℕ) → Within g.order v → mem (complement_of g.order y) v ≡ mem (complement_of g.order x) (k v)

@@ -11,6 +11,7 @@ use Rattle.counting.specs.Sets.{Set, complement}
 use Rattle.graph_core.proofs.BlockSets.{at_rep, block_count_congr, block_count_rest, rep, rep_in, tight_congr, tight_rest, union_congr, union_rest}
 use Rattle.graph_core.proofs.Complements.{complement_of-rises, mem-complement_of}
 use Rattle.graph_core.proofs.MergedShores.{Some, alike_down, alike_in, alike_up, covered_merged, merge_of, same_side}
+use Rattle.graph_core.proofs.Merging.{merged_merges}
 use Rattle.graph_core.specs.Covered.{IsCovered}
 use Rattle.graph_core.specs.Graph.{Graph, IsGraph, first_end, second_end}
 use Rattle.graph_core.specs.Partitions.{AreBlocks, IsMerge, complement_of, contracted, merged, place}
@@ -18,7 +19,7 @@ use Rattle.graph_core.specs.Shores.{IsTightAt, IsUnion, block_count, blocks_in}
 use Rattle.graph_core.specs.Tight.{IsNontrivial}
 use Rattle.tree_core.specs.Derivations.{IsCutAt, IsDerivationAt, IsLeafAt, kept_at, merged_at}
 use Rattle.tree_core.specs.Shapes.{Shape, cut, leaf}
-use Rattle.uncross.proofs.Images.{image_at, image_covered, image_nontrivial, image_tight, turned}
+use Rattle.uncross.proofs.Images.{image_at, image_nontrivial, image_tight, turned}
 use Rattle.uncross.proofs.Rising.{bounds}
 use Rattle.uncross.specs.Isomorphisms.{Isomorphism, OneWay, carry, carry_cut, pre}
 
@@ -48,17 +49,17 @@ over_merge g is p q r s h k x y pp qp ux uy mx my xy kw o = record {
 
 -- merging corresponds, with the same maps
 pub iso_merged : (g : Graph) (is : IsGraph g) (p q : List (List ℕ)) (h k : ℕ → ℕ) (pp : AreBlocks g.order p) (qp : AreBlocks g.order q) (iso : Isomorphism g p q h k) (x y : List ℕ) →
-    IsTightAt g p (mem x) → IsTightAt g q (mem y) → IsRisingIn g.order x → IsRisingIn g.order y → Some g.order (mem x) → Some g.order (mem y) → ((v : ℕ) → Within g.order v → mem y v ≡ mem x (k v)) → Isomorphism g (merged p x) (merged q y) h k
-iso_merged g is p q h k pp qp iso x y tx ty sx sy nx ny e = record {
-  there = over_merge g is p q (merged p x) (merged q y) h k (mem x) (mem y) pp qp tx.union ty.union mx my (λ v w. e (h v) (iso.there.within v w) ∙ image_at g is p q h k pp qp iso (mem x) tx.union v w) iso.back.within iso.there;
-  back = over_merge g is q p (merged q y) (merged p x) k h (mem y) (mem x) qp pp ty.union tx.union my mx (λ v w. sym (e v w)) iso.there.within iso.back;
+    IsUnion g.order p (mem x) → IsUnion g.order q (mem y) → IsRisingIn g.order x → IsRisingIn g.order y → Some g.order (mem x) → Some g.order (mem y) → ((v : ℕ) → Within g.order v → mem y v ≡ mem x (k v)) → Isomorphism g (merged p x) (merged q y) h k
+iso_merged g is p q h k pp qp iso x y ux uy sx sy nx ny e = record {
+  there = over_merge g is p q (merged p x) (merged q y) h k (mem x) (mem y) pp qp ux uy mx my (λ v w. e (h v) (iso.there.within v w) ∙ image_at g is p q h k pp qp iso (mem x) ux v w) iso.back.within iso.there;
+  back = over_merge g is q p (merged q y) (merged p x) k h (mem y) (mem x) qp pp uy ux my mx (λ v w. sym (e v w)) iso.there.within iso.back;
 }
   where
     mx : IsMerge g.order p (mem x) (merged p x)
-    mx = merge_of g is p x pp tx nx (bounds sx)
+    mx = merged_merges g.order p x pp ux nx (bounds sx)
 
     my : IsMerge g.order q (mem y) (merged q y)
-    my = merge_of g is q y qp ty ny (bounds sy)
+    my = merged_merges g.order q y qp uy ny (bounds sy)
 
 -- some vertex is in a set that holds a block
 pub some_of : (n : ℕ) (p : List (List ℕ)) → AreBlocks n p → (x : Set) → IsUnion n p x → 1 ≤ block_count p x → Some n x
@@ -111,17 +112,16 @@ nontrivial_congr n p pp x y u h t =
 
 -- t is carried from each partition to each that is the same by h and k
 abbrev pub Carries : Graph → (h k : ℕ → ℕ) → Shape → Type 0
-Carries g h k t = (p q : List (List ℕ)) → AreBlocks g.order p → AreBlocks g.order q → IsCovered (contracted g p) → Isomorphism g p q h k → AreRising g.order t → IsDerivationAt g p t → IsDerivationAt g q (carry g.order k t)
+Carries g h k t = (p q : List (List ℕ)) → AreBlocks g.order p → AreBlocks g.order q → Isomorphism g p q h k → AreRising g.order t → IsDerivationAt g p t → IsDerivationAt g q (carry g.order k t)
 
 carry_leaf : (g : Graph) → IsGraph g → (h k : ℕ → ℕ) → Carries g h k leaf
 unfolding IsLeafAt
-carry_leaf g is h k p q pp qp cov iso fits none y ty ny =
+carry_leaf g is h k p q pp qp iso fits none y ty ny =
     let back = turned g p q h k iso in
-    let cq = image_covered g is p q h k pp qp iso cov in
-    none (pre h y) (image_tight g is q p k h qp pp back cq y ty) (image_nontrivial g is q p k h qp pp back cq y ty.union ny)
+    none (pre h y) (image_tight g is q p k h qp pp back y ty) (image_nontrivial g is q p k h qp pp back y ty.union ny)
 
 carry_node : (g : Graph) → IsGraph g → (h k : ℕ → ℕ) → (x : List ℕ) (a b : Shape) → Carries g h k a → Carries g h k b → Carries g h k (cut x a b)
-carry_node g is h k x a b ia ib p q pp qp cov iso fits d = go (mem x (k g.order)) refl
+carry_node g is h k x a b ia ib p q pp qp iso fits d = go (mem x (k g.order)) refl
   where
     c : IsCutAt g p x
     c = d.0
@@ -136,19 +136,16 @@ carry_node g is h k x a b ia ib p q pp qp cov iso fits d = go (mem x (k g.order)
     last = let w = nx.1 in (omega arith, omega arith)
 
     ki : IsTightAt g q (pre k (mem x))
-    ki = image_tight g is p q h k pp qp iso cov (mem x) c.tight
+    ki = image_tight g is p q h k pp qp iso (mem x) c.tight
 
     kn : IsNontrivial (length q) (blocks_in q (pre k (mem x)))
-    kn = image_nontrivial g is p q h k pp qp iso cov (mem x) c.tight.union c.nontrivial
-
-    cq : IsCovered (contracted g q)
-    cq = image_covered g is p q h k pp qp iso cov
+    kn = image_nontrivial g is p q h k pp qp iso (mem x) c.tight.union c.nontrivial
 
     pass : (t : Shape) → Carries g h k t → (xs ys : List ℕ) → IsTightAt g p (mem xs) → IsTightAt g q (mem ys) → IsRisingIn g.order xs → IsRisingIn g.order ys → Some g.order (mem xs) → Some g.order (mem ys) →
         ((v : ℕ) → Within g.order v → mem ys v ≡ mem xs (k v)) → AreRising g.order t → IsDerivationAt g (merged p xs) t → IsDerivationAt g (merged q ys) (carry g.order k t)
     pass t i xs ys txs tys sxs sys nxs nys e f d =
         i (merged p xs) (merged q ys) (merge_of g is p xs pp txs nxs (bounds sxs)).partition (merge_of g is q ys qp tys nys (bounds sys)).partition
-        (covered_merged g is p xs pp txs nxs (bounds sxs) cov) (iso_merged g is p q h k pp qp iso xs ys txs tys sxs sys nxs nys e) f d
+        (iso_merged g is p q h k pp qp iso xs ys txs.union tys.union sxs sys nxs nys e) f d
 
     rests : (y : List ℕ) → ((v : ℕ) → Within g.order v → mem y v ≡ mem x (k v)) → (v : ℕ) → Within g.order v → mem (complement_of g.order y) v ≡ mem (complement_of g.order x) (k v)
     rests y e v w = mem-complement_of g.order y v w ∙ ap not (e v w) ∙ sym (mem-complement_of g.order x (k v) (iso.back.within v w))

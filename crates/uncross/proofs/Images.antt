@@ -1,15 +1,13 @@
 -- Images under an isomorphism of blocks: tight shores, their numbers of blocks and being covered go over, both ways.
-use Rattle.std.proofs.Common.{Bool, List, ap, arith, false, inl, inr, length, refl, subst₂, suc, sym, true, zero, ℕ, ◌-◌, ◌∙◌, ◌≡◌, ◌≢◌}
+use Rattle.std.proofs.Common.{Bool, List, ap, arith, false, inl, inr, length, refl, subst₂, suc, sym, true, zero, ℕ, ◌∙◌, ◌≡◌, ◌≢◌}
 use Rattle.std.proofs.lemmas.Bool.{both_ways}
 use Rattle.counting.proofs.Tests.{some_true, true_some}
-use Rattle.counting.specs.Counts.{Within, count}
+use Rattle.counting.specs.Counts.{Within, count, is_odd}
 use Rattle.counting.specs.Sets.{Set, complement}
 use Rattle.counting.specs.Tests.{some}
 use Rattle.graph_core.proofs.Adjacency.{Alike, covered_over, has_ends-from, tight_back}
 use Rattle.graph_core.proofs.BlockSets.{at_place, at_rep, block_count_rest, count_over, place_rep, rep, rep_in, rep_place, tight_congr, union_rest}
 use Rattle.graph_core.proofs.Blocks.{contracted-ends, contracted-graph, contracted-size, place_in}
-use Rattle.graph_core.proofs.Contraction.{tight_from_cut}
-use Rattle.graph_core.proofs.Decide.{covered_perfect}
 use Rattle.graph_core.proofs.SameSets.{cut_congr}
 use Rattle.graph_core.proofs.Walks.{has_ends-back, has_ends-cases}
 use Rattle.graph_core.specs.Covered.{IsCovered}
@@ -79,6 +77,13 @@ module _ (g : Graph) (is : IsGraph g) (p q : List (List ℕ)) (h k : ℕ → ℕ
   image_number x u = count_over (length p) (length q) (blocks_in p x) (blocks_in q (pre k x)) move back
       (λ i w t. (move_in i w, image_block x u i w ∙ t, back_move i w))
       (λ j w t. (back_in j w, sym (image_block x u (back j) (back_in j w)) ∙ ap (blocks_in q (pre k x)) (move_back j w) ∙ t, move_back j w))
+
+  -- and outside
+  pub image_rest : (x : Set) → IsUnion g.order p x → count (length p) (complement (blocks_in p x)) ≡ count (length q) (complement (blocks_in q (pre k x)))
+  image_rest x u =
+      block_count_rest g.order p pp x u
+      ∙ image_number (complement x) (union_rest g.order p pp x u)
+      ∙ sym (block_count_rest g.order q qp (pre k x) (image_union x u))
 
   pub image_length : length p ≡ length q
   image_length = all (length p) ∙ count_over (length p) (length q) (λ i. true) (λ j. true) move back (λ i w t. (move_in i w, refl, back_move i w)) (λ j w t. (back_in j w, refl, move_back j w)) ∙ sym (all (length q))
@@ -160,40 +165,43 @@ module _ (g : Graph) (is : IsGraph g) (p q : List (List ℕ)) (h k : ℕ → ℕ
   }
 
 -- a shore whose image is tight is tight
-tight_under : (g : Graph) (is : IsGraph g) (p q : List (List ℕ)) (h k : ℕ → ℕ) (pp : AreBlocks g.order p) (qp : AreBlocks g.order q) (iso : Isomorphism g p q h k) (cov : IsCovered (contracted g p)) (x : Set) → IsUnion g.order p x → IsTightAt g q (pre k x) → IsTightAt g p x
+pub tight_image : (g : Graph) (is : IsGraph g) (p q : List (List ℕ)) (h k : ℕ → ℕ) (pp : AreBlocks g.order p) (qp : AreBlocks g.order q) (iso : Isomorphism g p q h k) (x : Set) → IsUnion g.order p x → IsTightAt g q (pre k x) → IsTightAt g p x
 unfolding contracted
-tight_under g is p q h k pp qp iso cov x u t =
-    let base = covered_perfect (contracted g p) (contracted-graph g p is pp) cov in
-    record {
-      union = u;
-      tight = tight_from_cut (contracted g p) (blocks_in p x) base.0 (contracted-graph g p is pp) base.1
-          (cut_congr (contracted g p) _ _ (contracted-graph g p is pp) (λ i w. block_of i w)
-          (tight_back (contracted g p) (contracted g q) (moved g is p q h k pp qp iso) (contracted-graph g p is pp) (alike g is p q h k pp qp iso) (blocks_in q (pre k x)) t.tight.cut));
-    }
+tight_image g is p q h k pp qp iso x u t = record {
+  union = u;
+  tight = record {
+    odd = ap is_odd (image_number g is p q h k pp qp iso x u) ∙ t.tight.odd;
+    odd_complement = ap is_odd (image_rest g is p q h k pp qp iso x u) ∙ t.tight.odd_complement;
+    cut = cut_congr (contracted g p) _ _ (contracted-graph g p is pp) (λ i w. block_of i w)
+        (tight_back (contracted g p) (contracted g q) (moved g is p q h k pp qp iso) (contracted-graph g p is pp) (alike g is p q h k pp qp iso) (blocks_in q (pre k x)) t.tight.cut);
+  };
+}
   where
     block_of : (i : ℕ) → Within (contracted g p).order i → blocks_in q (pre k x) (move g is p q h k pp qp iso i) ≡ blocks_in p x i
     block_of i w = image_block g is p q h k pp qp iso x u i w
 
-module _ (g : Graph) (is : IsGraph g) (p q : List (List ℕ)) (h k : ℕ → ℕ) (pp : AreBlocks g.order p) (qp : AreBlocks g.order q) (iso : Isomorphism g p q h k) (cov : IsCovered (contracted g p)) where
-  pub image_covered : IsCovered (contracted g q)
-  image_covered = covered_over (contracted g p) (contracted g q) (moved g is p q h k pp qp iso) (contracted-graph g p is pp) (alike g is p q h k pp qp iso) (contracted-graph g q is qp) cov
+module _ (g : Graph) (is : IsGraph g) (p q : List (List ℕ)) (h k : ℕ → ℕ) (pp : AreBlocks g.order p) (qp : AreBlocks g.order q) (iso : Isomorphism g p q h k) where
+  pub image_covered : IsCovered (contracted g p) → IsCovered (contracted g q)
+  image_covered cov = covered_over (contracted g p) (contracted g q) (moved g is p q h k pp qp iso) (contracted-graph g p is pp) (alike g is p q h k pp qp iso) (contracted-graph g q is qp) cov
 
   -- tight shores correspond
   pub image_tight : (x : Set) → IsTightAt g p x → IsTightAt g q (pre k x)
   image_tight x t =
       let u = image_union g is p q h k pp qp iso x t.union in
-      tight_under g is q p k h qp pp (turned g p q h k iso) image_covered (pre k x) u
+      tight_image g is q p k h qp pp (turned g p q h k iso) (pre k x) u
       (tight_congr g is p pp x (pre h (pre k x)) (λ v w. sym (image_at g is p q h k pp qp iso x t.union v w)) t)
 
-  pub tight_image : (x : Set) → IsUnion g.order p x → IsTightAt g q (pre k x) → IsTightAt g p x
-  tight_image = tight_under g is p q h k pp qp iso cov
-
+  -- and nontrivial ones
   pub image_nontrivial : (x : Set) → IsUnion g.order p x → IsNontrivial (length p) (blocks_in p x) → IsNontrivial (length q) (blocks_in q (pre k x))
   image_nontrivial x u t =
       let a = image_number g is p q h k pp qp iso x u in
-      let b = image_number g is p q h k pp qp iso (complement x) (union_rest g.order p pp x u) in
-      let c = block_count_rest g.order p pp x u in
-      let d = block_count_rest g.order q qp (pre k x) (image_union g is p q h k pp qp iso x u) in
-      let e : block_count q (pre k (complement x)) ≡ block_count q (complement (pre k x)) = refl in
+      let b = image_rest g is p q h k pp qp iso x u in
+      let i = t.inside in let o = t.outside in
+      record { inside = omega arith; outside = omega arith }
+
+  pub nontrivial_image : (x : Set) → IsUnion g.order p x → IsNontrivial (length q) (blocks_in q (pre k x)) → IsNontrivial (length p) (blocks_in p x)
+  nontrivial_image x u t =
+      let a = image_number g is p q h k pp qp iso x u in
+      let b = image_rest g is p q h k pp qp iso x u in
       let i = t.inside in let o = t.outside in
       record { inside = omega arith; outside = omega arith }

@@ -3,9 +3,12 @@ pub mod Rising
 pub mod CommutingMerges
 pub mod Images
 pub mod CarriedTrees
+pub mod CarriedBack
+pub mod CarryingLaws
 pub mod Exchange
 pub mod BigShores
 pub mod Rotations
+pub mod ExchangedParts
 pub mod Switches
 pub mod SameLeaves
 pub mod Scripts

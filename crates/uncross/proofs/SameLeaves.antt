@@ -116,6 +116,11 @@ module _ (g : Graph) (is : IsGraph g) (p q : List (List ℕ)) (pp : AreBlocks g.
       first : (a b c d : ℕ) → a ≡ c → b ≡ d → ((a == c && b == d) || (a == d && b == c)) ≡ true
       first a b c d s t = rw (eq-eqb a c s, eq-eqb b d t) refl
 
+  -- the name that a vertex has in p is the name of a block
+  pub from_name-own : (w : ℕ) → Within g.order w → last_of (block p (place p (from_name p q names w))) ≡ from_name p q names w
+  unfolding src places
+  from_name-own w ww = ap (λ j. last_of (block p j)) (name_place g.order p pp (src w) (at_src w ww).0)
+
   edge_to : (r : List (List ℕ)) (i j : ℕ) → blocks_adjacent g r i j ≡ true → (f : ℕ) × Within (size g) f × EndsAt g r f i j
   edge_to r i j h =
       let s = some_true (size g) (has_ends (contracted g r) i j) (and_parts (not (i == j)) (some (size g) (has_ends (contracted g r) i j)) h).1 in

@@ -16,11 +16,12 @@ use Rattle.graph_core.specs.Shores.{IsUnion}
 use Rattle.tree_core.specs.Derivations.{kept_at, merged_at}
 use Rattle.tree_core.specs.LeafMaps.{kept_image, merged_image}
 use Rattle.tree_core.specs.Moves.{inner_rest, list_if, meet_list, outer_rest, union_list}
-use Rattle.uncross.proofs.BigShores.{Big, Stage, big_merge, big_rest}
+use Rattle.uncross.proofs.BigShores.{Stage}
 use Rattle.uncross.proofs.CarriedLeaves.{NamesImages}
 use Rattle.uncross.proofs.Rising.{bounds}
 use Rattle.graph_core.proofs.SameBlocks.{block_rises}
-use Rattle.uncross.proofs.Switches.{in_inner_rest, in_outer_rest, inner_rest-mem, map_a, map_b, outer_rest-mem, subset_test}
+use Rattle.uncross.proofs.ExchangedParts.{in_inner_rest, in_outer_rest, inner_rest-mem, kept_merge, map_a, map_b, merged_merge, outer_rest-mem, rest-union}
+use Rattle.uncross.proofs.Switches.{subset_test}
 use Rattle.uncross.specs.Exchange.{Corner}
 use Rattle.uncross.specs.Isomorphisms.{Isomorphism}
 
@@ -72,27 +73,25 @@ if_mem : (b : Bool) (x : List ℕ) (w : ℕ) → mem (list_if b x) w ≡ (b && m
 if_mem true x w = refl
 if_mem false x w = refl
 
-module _ (g : Graph) (p : List (List ℕ)) (stage : Stage g p) (x u v : List ℕ) (s t : ℕ) (bx : Big g p x) (canonical : mem x g.order ≡ false) (su : IsRisingIn g.order u) (sv : IsRisingIn g.order v) (corner : Corner g p (mem x) (mem u) (mem v) s t) where
+module _ (g : Graph) (p : List (List ℕ)) (stage : Stage g p) (x u v : List ℕ) (s t : ℕ) (sx : IsRisingIn g.order x) (su : IsRisingIn g.order u) (sv : IsRisingIn g.order v) (corner : Corner g p (mem x) (mem u) (mem v) s t) where
   -- a block that is a union of blocks below a child
   abbrev Whole : List (List ℕ) → List ℕ → Type 0
   Whole base b = (u v : ℕ) → Within g.order u → Within g.order v → place base u ≡ place base v → mem b u ≡ mem b v
 
   outside_alike : (w z : ℕ) → Within g.order w → Within g.order z → mem x w ≡ false → mem x z ≡ false → place (kept_at g.order p x) w ≡ place (kept_at g.order p x) z
   outside_alike w z ww wz hw hz =
-      let r = big_rest g p stage x bx in
-      alike_in g.order p (kept_at g.order p x) (mem (complement_of g.order x)) stage.list.partition r.tight.union (big_merge g p stage (complement_of g.order x) r) w z ww wz
+      alike_in g.order p (kept_at g.order p x) (mem (complement_of g.order x)) stage.list.partition (rest-union g p stage x u v s t sx su sv corner) (kept_merge g p stage x u v s t sx su sv corner) w z ww wz
       (mem-complement_of g.order x w ww ∙ ap not hw) (mem-complement_of g.order x z wz ∙ ap not hz)
 
   pub u_alike : (w : ℕ) → Within g.order w → mem u w ≡ true → place (kept_at g.order p x) w ≡ place (kept_at g.order p x) s
   u_alike w ww m =
-      let r = big_rest g p stage x bx in
-      alike_up g.order p (kept_at g.order p x) (mem (complement_of g.order x)) stage.list.partition r.tight.union (big_merge g p stage (complement_of g.order x) r) w s ww corner.left.within (corner.left.one w ww m)
+      alike_up g.order p (kept_at g.order p x) (mem (complement_of g.order x)) stage.list.partition (rest-union g p stage x u v s t sx su sv corner) (kept_merge g p stage x u v s t sx su sv corner) w s ww corner.left.within (corner.left.one w ww m)
 
   inside_alike : (w z : ℕ) → Within g.order w → Within g.order z → mem x w ≡ true → mem x z ≡ true → place (merged_at g.order p x) w ≡ place (merged_at g.order p x) z
-  inside_alike = alike_in g.order p (merged_at g.order p x) (mem x) stage.list.partition bx.tight.union (big_merge g p stage x bx)
+  inside_alike = alike_in g.order p (merged_at g.order p x) (mem x) stage.list.partition corner.shore.union (merged_merge g p stage x u v s t sx su sv corner)
 
   v_alike : (w : ℕ) → Within g.order w → mem v w ≡ true → place (merged_at g.order p x) w ≡ place (merged_at g.order p x) t
-  v_alike w ww m = alike_up g.order p (merged_at g.order p x) (mem x) stage.list.partition bx.tight.union (big_merge g p stage x bx) w t ww corner.right.within (corner.right.one w ww m)
+  v_alike w ww m = alike_up g.order p (merged_at g.order p x) (mem x) stage.list.partition corner.shore.union (merged_merge g p stage x u v s t sx su sv corner) w t ww corner.right.within (corner.right.one w ww m)
 
   s_inside : mem x s ≡ true
   s_inside = corner.inside s corner.left.within corner.left.holds
@@ -100,13 +99,13 @@ module _ (g : Graph) (p : List (List ℕ)) (stage : Stage g p) (x u v : List ℕ
   t_outside : mem x t ≡ false
   t_outside = corner.outside t corner.right.within corner.right.holds
 
-  kept_tells : (b : List ℕ) → Whole (kept_at g.order p x) b → (w : ℕ) → Within g.order w → mem (kept_image g.order x u v b) w ≡ mem b (map_a g p stage x u v s t bx canonical su sv corner w)
+  kept_tells : (b : List ℕ) → Whole (kept_at g.order p x) b → (w : ℕ) → Within g.order w → mem (kept_image g.order x u v b) w ≡ mem b (map_a g p stage x u v s t sx su sv corner w)
   kept_tells b whole w ww =
       mem-rising_list g.order (union (mem (meet_list g.order b (inner_rest g.order x u))) (mem (union_list g.order (list_if (is_subset u b) (union_list g.order (outer_rest g.order x v) u)) (list_if (is_subset (union_list g.order (outer_rest g.order x v) v) b) v)))) w ww
-      ∙ ap₂ ◌||◌ (mem-rising_list g.order (meet (mem b) (mem (inner_rest g.order x u))) w ww ∙ ap (λ k. mem b w && k) (inner_rest-mem g p stage x u v s t bx canonical su sv corner w ww))
+      ∙ ap₂ ◌||◌ (mem-rising_list g.order (meet (mem b) (mem (inner_rest g.order x u))) w ww ∙ ap (λ k. mem b w && k) (inner_rest-mem g p stage x u v s t sx su sv corner w ww))
       (mem-rising_list g.order (union (mem (list_if (is_subset u b) (union_list g.order (outer_rest g.order x v) u))) (mem (list_if (is_subset (union_list g.order (outer_rest g.order x v) v) b) v))) w ww
       ∙ ap₂ ◌||◌ (if_mem (is_subset u b) (union_list g.order (outer_rest g.order x v) u) w
-      ∙ ap₂ ◌&&◌ with_u (mem-rising_list g.order (union (mem (outer_rest g.order x v)) (mem u)) w ww ∙ ap (λ k. k || mem u w) (outer_rest-mem g p stage x u v s t bx canonical su sv corner w ww)))
+      ∙ ap₂ ◌&&◌ with_u (mem-rising_list g.order (union (mem (outer_rest g.order x v)) (mem u)) w ww ∙ ap (λ k. k || mem u w) (outer_rest-mem g p stage x u v s t sx su sv corner w ww)))
       (if_mem (is_subset (union_list g.order (outer_rest g.order x v) v) b) v w ∙ ap (λ k. k && mem v w) with_outer))
       ∙ bits (mem x w) (mem u w) (mem v w) (mem b w) (mem b s) (mem b t) (corner.inside w ww) (corner.outside w ww) (λ m. whole w s ww corner.left.within (u_alike w ww m)) (λ m. whole w t ww corner.right.within (outside_alike w t ww corner.right.within m t_outside))
       ∙ sym (turned (minus (complement (mem x)) (mem v) w))
@@ -117,7 +116,7 @@ module _ (g : Graph) (p : List (List ℕ)) (stage : Stage g p) (x u v : List ℕ
       out : (z : ℕ) → mem (union_list g.order (outer_rest g.order x v) v) z ≡ true → mem x z ≡ false
       out z m =
           let wz = bounds (rising_list-rises g.order (union (mem (outer_rest g.order x v)) (mem v))) z m in
-          off (mem x z) (mem v z) (corner.outside z wz) (ap (λ k. k || mem v z) (sym (outer_rest-mem g p stage x u v s t bx canonical su sv corner z wz)) ∙ sym (mem-rising_list g.order (union (mem (outer_rest g.order x v)) (mem v)) z wz) ∙ m)
+          off (mem x z) (mem v z) (corner.outside z wz) (ap (λ k. k || mem v z) (sym (outer_rest-mem g p stage x u v s t sx su sv corner z wz)) ∙ sym (mem-rising_list g.order (union (mem (outer_rest g.order x v)) (mem v)) z wz) ∙ m)
         where
           off : (x v : Bool) → (v ≡ true → x ≡ false) → ((not x && not v) || v) ≡ true → x ≡ false
           off x v h k = grind arith
@@ -141,13 +140,13 @@ module _ (g : Graph) (p : List (List ℕ)) (stage : Stage g p) (x u v : List ℕ
       bits false u true b d e h k l m = grind arith
       bits false u false b d e h k l m = grind arith
 
-  merged_tells : (b : List ℕ) → Whole (merged_at g.order p x) b → (w : ℕ) → Within g.order w → mem (merged_image g.order x u v b) w ≡ mem b (map_b g p stage x u v s t bx canonical su sv corner w)
+  merged_tells : (b : List ℕ) → Whole (merged_at g.order p x) b → (w : ℕ) → Within g.order w → mem (merged_image g.order x u v b) w ≡ mem b (map_b g p stage x u v s t sx su sv corner w)
   merged_tells b whole w ww =
       mem-rising_list g.order (union (mem (meet_list g.order b (outer_rest g.order x v))) (mem (union_list g.order (list_if (is_subset v b) (union_list g.order (inner_rest g.order x u) v)) (list_if (is_subset x b) u)))) w ww
-      ∙ ap₂ ◌||◌ (mem-rising_list g.order (meet (mem b) (mem (outer_rest g.order x v))) w ww ∙ ap (λ k. mem b w && k) (outer_rest-mem g p stage x u v s t bx canonical su sv corner w ww))
+      ∙ ap₂ ◌||◌ (mem-rising_list g.order (meet (mem b) (mem (outer_rest g.order x v))) w ww ∙ ap (λ k. mem b w && k) (outer_rest-mem g p stage x u v s t sx su sv corner w ww))
       (mem-rising_list g.order (union (mem (list_if (is_subset v b) (union_list g.order (inner_rest g.order x u) v))) (mem (list_if (is_subset x b) u))) w ww
       ∙ ap₂ ◌||◌ (if_mem (is_subset v b) (union_list g.order (inner_rest g.order x u) v) w
-      ∙ ap₂ ◌&&◌ with_v (mem-rising_list g.order (union (mem (inner_rest g.order x u)) (mem v)) w ww ∙ ap (λ k. k || mem v w) (inner_rest-mem g p stage x u v s t bx canonical su sv corner w ww)))
+      ∙ ap₂ ◌&&◌ with_v (mem-rising_list g.order (union (mem (inner_rest g.order x u)) (mem v)) w ww ∙ ap (λ k. k || mem v w) (inner_rest-mem g p stage x u v s t sx su sv corner w ww)))
       (if_mem (is_subset x b) u w ∙ ap (λ k. k && mem u w) with_x))
       ∙ bits (mem x w) (mem u w) (mem v w) (mem b w) (mem b t) (mem b s) (corner.inside w ww) (corner.outside w ww) (λ m. whole w t ww corner.right.within (v_alike w ww m)) (λ m. whole w s ww corner.left.within (inside_alike w s ww corner.left.within m s_inside))
       ∙ sym (turned (minus (mem x) (mem u) w))
@@ -156,7 +155,7 @@ module _ (g : Graph) (p : List (List ℕ)) (stage : Stage g p) (x u v : List ℕ
       with_v = subset_test v (mem b) t corner.right.holds (λ z m. let wz = bounds sv z m in whole z t wz corner.right.within (v_alike z wz m))
 
       with_x : is_subset x b ≡ mem b s
-      with_x = subset_test x (mem b) s s_inside (λ z m. let wz = bounds bx.shore z m in whole z s wz corner.left.within (inside_alike z s wz corner.left.within m s_inside))
+      with_x = subset_test x (mem b) s s_inside (λ z m. let wz = bounds sx z m in whole z s wz corner.left.within (inside_alike z s wz corner.left.within m s_inside))
 
       turned : (c : Bool) → mem b (cond c t w) ≡ cond c (mem b t) (mem b w)
       turned true = refl
@@ -169,11 +168,11 @@ module _ (g : Graph) (p : List (List ℕ)) (stage : Stage g p) (x u v : List ℕ
       bits false u false b d e h k l m = grind arith
 
   -- the names of the images below `kept`
-  pub kept_names : NamesImages g (λ w. cond (in_outer_rest g p stage x u v s t bx canonical su sv corner w) t w) (map_a g p stage x u v s t bx canonical su sv corner) (λ b. last_of (kept_image g.order x u v b)) (kept_at g.order p x)
-  kept_names = names_from g stage.graph (λ w. cond (in_outer_rest g p stage x u v s t bx canonical su sv corner w) t w) (map_a g p stage x u v s t bx canonical su sv corner) (kept_image g.order x u v) (kept_at g.order p x)
+  pub kept_names : NamesImages g (λ w. cond (in_outer_rest g p stage x u v s t sx su sv corner w) t w) (map_a g p stage x u v s t sx su sv corner) (λ b. last_of (kept_image g.order x u v b)) (kept_at g.order p x)
+  kept_names = names_from g stage.graph (λ w. cond (in_outer_rest g p stage x u v s t sx su sv corner w) t w) (map_a g p stage x u v s t sx su sv corner) (kept_image g.order x u v) (kept_at g.order p x)
       (λ b. rising_list-rises g.order _) kept_tells
 
   -- and below `merged`
-  pub merged_names : NamesImages g (λ w. cond (in_inner_rest g p stage x u v s t bx canonical su sv corner w) s w) (map_b g p stage x u v s t bx canonical su sv corner) (λ b. last_of (merged_image g.order x u v b)) (merged_at g.order p x)
-  merged_names = names_from g stage.graph (λ w. cond (in_inner_rest g p stage x u v s t bx canonical su sv corner w) s w) (map_b g p stage x u v s t bx canonical su sv corner) (merged_image g.order x u v) (merged_at g.order p x)
+  pub merged_names : NamesImages g (λ w. cond (in_inner_rest g p stage x u v s t sx su sv corner w) s w) (map_b g p stage x u v s t sx su sv corner) (λ b. last_of (merged_image g.order x u v b)) (merged_at g.order p x)
+  merged_names = names_from g stage.graph (λ w. cond (in_inner_rest g p stage x u v s t sx su sv corner w) s w) (map_b g p stage x u v s t sx su sv corner) (merged_image g.order x u v) (merged_at g.order p x)
       (λ b. rising_list-rises g.order _) merged_tells

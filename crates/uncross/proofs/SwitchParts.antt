@@ -23,7 +23,8 @@ use Rattle.uncross.proofs.CarriedLeaves.{carried_parts, carry_order}
 use Rattle.uncross.proofs.Parts.{Part, part-join, part-turn}
 use Rattle.uncross.proofs.Rising.{bounds}
 use Rattle.uncross.proofs.SwitchImages.{kept_names, merged_names, u_alike}
-use Rattle.uncross.proofs.Switches.{Each, each_of, in_inner_rest, in_outer_rest, inner_rest-mem, iso_a, iso_b, kept_in_q, kept_in_v, map_a, map_b, merge_congr, merged_in_q, merged_in_v, outer_rest-mem, subset_test, switch_in_q, switch_in_v}
+use Rattle.uncross.proofs.ExchangedParts.{merge_congr}
+use Rattle.uncross.proofs.Switches.{Each, each_of, in_inner_rest, in_outer_rest, inner_rest-mem, iso_a, iso_b, kept_in_q, kept_in_v, map_a, map_b, merged_in_q, merged_in_v, outer_rest-mem, subset_test, switch_in_q, switch_in_v}
 use Rattle.uncross.specs.Exchange.{Corner}
 use Rattle.uncross.specs.Isomorphisms.{carry}
 
@@ -60,7 +61,7 @@ module _ (g : Graph) (p : List (List ℕ)) (stage : Stage g p) (x u v : List ℕ
       Part g k (leaves_at g.order (kept_at g.order p x) a) (leaves_at g.order q c) (carry_order g.order (map_a g p stage x u v s t bx canonical su sv corner) k a) (map (λ (r : List (List ℕ)). map (λ b. last_of (kept_image g.order x u v b)) r) (leaves_at g.order (kept_at g.order p x) a))
   below_kept k a c q f d sq mq e =
       subst (λ c. Part g k (leaves_at g.order (kept_at g.order p x) a) (leaves_at g.order q c) (carry_order g.order (map_a g p stage x u v s t bx canonical su sv corner) k a) (map (λ (r : List (List ℕ)). map (λ b. last_of (kept_image g.order x u v b)) r) (leaves_at g.order (kept_at g.order p x) a))) (sym e)
-      (carried_parts g stage.graph (λ w. cond (in_outer_rest g p stage x u v s t bx canonical su sv corner w) t w) (map_a g p stage x u v s t bx canonical su sv corner) (λ b. last_of (kept_image g.order x u v b)) (kept_at g.order p x) (kept_names g p stage x u v s t bx canonical su sv corner) a
+      (carried_parts g stage.graph (λ w. cond (in_outer_rest g p stage x u v s t bx canonical su sv corner w) t w) (map_a g p stage x u v s t bx canonical su sv corner) (λ b. last_of (kept_image g.order x u v b)) (kept_at g.order p x) (kept_names g p stage x u v s t bx.shore su sv corner) a
       k (kept_at g.order p x) q kept_stage.list sq.list kept_stage.covered (iso_a g p stage x u v s t bx canonical su sv corner q mq) (λ u v wu wv same. same) f d)
 
   below_merged : (k : ℕ) (b c : Shape) (q : List (List ℕ)) → AreRising g.order b → IsDerivationAt g (merged_at g.order p x) b → Stage g q → IsMerge g.order p (union (in_inner_rest g p stage x u v s t bx canonical su sv corner) (mem v)) q →
@@ -68,7 +69,7 @@ module _ (g : Graph) (p : List (List ℕ)) (stage : Stage g p) (x u v : List ℕ
       Part g k (leaves_at g.order (merged_at g.order p x) b) (leaves_at g.order q c) (carry_order g.order (map_b g p stage x u v s t bx canonical su sv corner) k b) (map (λ (r : List (List ℕ)). map (λ b. last_of (merged_image g.order x u v b)) r) (leaves_at g.order (merged_at g.order p x) b))
   below_merged k b c q f d sq mq e =
       subst (λ c. Part g k (leaves_at g.order (merged_at g.order p x) b) (leaves_at g.order q c) (carry_order g.order (map_b g p stage x u v s t bx canonical su sv corner) k b) (map (λ (r : List (List ℕ)). map (λ b. last_of (merged_image g.order x u v b)) r) (leaves_at g.order (merged_at g.order p x) b))) (sym e)
-      (carried_parts g stage.graph (λ w. cond (in_inner_rest g p stage x u v s t bx canonical su sv corner w) s w) (map_b g p stage x u v s t bx canonical su sv corner) (λ b. last_of (merged_image g.order x u v b)) (merged_at g.order p x) (merged_names g p stage x u v s t bx canonical su sv corner) b
+      (carried_parts g stage.graph (λ w. cond (in_inner_rest g p stage x u v s t bx canonical su sv corner w) s w) (map_b g p stage x u v s t bx canonical su sv corner) (λ b. last_of (merged_image g.order x u v b)) (merged_at g.order p x) (merged_names g p stage x u v s t bx.shore su sv corner) b
       k (merged_at g.order p x) q merged_stage.list sq.list merged_stage.covered (iso_b g p stage x u v s t bx canonical su sv corner q mq) (λ u v wu wv same. same) f d)
 
   -- the order below `merged` stays
@@ -86,7 +87,7 @@ module _ (g : Graph) (p : List (List ℕ)) (stage : Stage g p) (x u v : List ℕ
 
   kept_turned : mem v g.order ≡ false → (a : Shape) → Each g.order (kept_at g.order p x) a → (k : ℕ) → kept_order_if_in_q u k a ≡ carry_order g.order (map_a g p stage x u v s t bx canonical su sv corner) k a
   kept_turned nv a e k = turned_order g.order (map_a g p stage x u v s t bx canonical su sv corner) u (kept_at g.order p x) a e (λ y low closed.
-      subset_test u (mem y) s corner.left.holds (λ w m. let ww = bounds su w m in closed w s ww corner.left.within (u_alike g p stage x u v s t bx canonical su sv corner w ww m))
+      subset_test u (mem y) s corner.left.holds (λ w m. let ww = bounds su w m in closed w s ww corner.left.within (u_alike g p stage x u v s t bx.shore su sv corner w ww m))
       ∙ sym (ap (λ c. mem y (cond c s g.order)) (on (mem x g.order) (mem v g.order) canonical nv))) k
     where
       on : (x v : Bool) → x ≡ false → v ≡ false → (not x && not v) ≡ true

@@ -5,7 +5,7 @@ use Rattle.std.proofs.lemmas.Bool.{both_ways, cases_Bool}
 use Rattle.counting.proofs.RisingLists.{mem-rising_list, rising_list-rises, same_rising_list, true_all_in, all_in_true}
 use Rattle.counting.specs.Counts.{Within}
 use Rattle.counting.specs.Lists.{IsRisingIn, all_in, is_subset, mem, rising_list}
-use Rattle.counting.specs.Sets.{Set, complement, minus, union}
+use Rattle.counting.specs.Sets.{Set, minus, union}
 use Rattle.graph_core.proofs.Complements.{mem-complement_of}
 use Rattle.graph_core.proofs.MergedShores.{alike_in, alike_up, closed_up}
 use Rattle.graph_core.specs.Graph.{Graph}
@@ -16,24 +16,18 @@ use Rattle.tree_core.specs.Moves.{inner_rest, kept_if_in_q, kept_if_in_v, list_i
 use Rattle.tree_core.specs.Shapes.{Shape, cut, leaf}
 use Rattle.uncross.proofs.BigShores.{Big, Stage, big_cut, big_merge, big_rest, big_some, cut_big, stage_merged}
 use Rattle.uncross.proofs.CarriedTrees.{carried_derives}
-use Rattle.uncross.proofs.Exchange.{exchange_kept, exchange_merged}
+use Rattle.uncross.proofs.ExchangedParts
+use Rattle.uncross.proofs.ExchangedParts.{merge_congr}
 use Rattle.uncross.proofs.Rising.{bounds}
 use Rattle.uncross.specs.Exchange.{Corner}
 use Rattle.uncross.specs.Isomorphisms.{Isomorphism, carry, carry_cut}
-
-pub merge_congr : (n : ℕ) (p q : List (List ℕ)) (x y : Set) → ((v : ℕ) → Within n v → x v ≡ y v) → IsMerge n p x q → IsMerge n p y q
-merge_congr n p q x y h m = record {
-  partition = m.partition;
-  new = (m.new.0, m.new.1, λ v w. m.new.2 v w ∙ h v w);
-  old = λ u v wu wv yu yv. m.old u v wu wv (h u wu ∙ yu) (h v wv ∙ yv);
-}
 
 -- each shore of the tree is canonical and a union of blocks of q
 abbrev pub Each : ℕ → List (List ℕ) → Shape → Type 0
 Each n q leaf = Unit {0}
 Each n q (cut s a b) = (mem s n ≡ false) × IsUnion n q (mem s) × Each n q a × Each n q b
 
-each_up : (n : ℕ) (q r : List (List ℕ)) → ((y : Set) → IsUnion n r y → IsUnion n q y) → (t : Shape) → Each n r t → Each n q t
+pub each_up : (n : ℕ) (q r : List (List ℕ)) → ((y : Set) → IsUnion n r y → IsUnion n q y) → (t : Shape) → Each n r t → Each n q t
 each_up n q r f leaf e = tt
 each_up n q r f (cut s a b) e = (e.0, f (mem s) e.1, each_up n q r f a e.2, each_up n q r f b e.3)
 
@@ -60,49 +54,36 @@ cond_mem : (y : Set) (s w : ℕ) (b : Bool) → y (cond b s w) ≡ cond b (y s) 
 cond_mem y s w true = refl
 cond_mem y s w false = refl
 
-three : {x y : List ℕ} {c c' d d' : Shape} → x ≡ y → c ≡ c' → d ≡ d' → cut x c d ≡ cut y c' d'
+pub three : {x y : List ℕ} {c c' d d' : Shape} → x ≡ y → c ≡ c' → d ≡ d' → cut x c d ≡ cut y c' d'
 three e k m = rw e (rw k (rw m refl))
 
 module _ (g : Graph) (p : List (List ℕ)) (stage : Stage g p) (x u v : List ℕ) (s t : ℕ) (bx : Big g p x) (canonical : mem x g.order ≡ false) (su : IsRisingIn g.order u) (sv : IsRisingIn g.order v) (corner : Corner g p (mem x) (mem u) (mem v) s t) where
   abbrev pub in_inner_rest : Set
-  in_inner_rest = minus (mem x) (mem u)
+  in_inner_rest = ExchangedParts.in_inner_rest g p stage x u v s t bx.shore su sv corner
 
   abbrev pub in_outer_rest : Set
-  in_outer_rest = minus (complement (mem x)) (mem v)
+  in_outer_rest = ExchangedParts.in_outer_rest g p stage x u v s t bx.shore su sv corner
 
   abbrev pub map_a : ℕ → ℕ
-  map_a w = cond (in_outer_rest w) s w
+  map_a = ExchangedParts.map_a g p stage x u v s t bx.shore su sv corner
 
   abbrev pub map_b : ℕ → ℕ
-  map_b w = cond (in_inner_rest w) t w
+  map_b = ExchangedParts.map_b g p stage x u v s t bx.shore su sv corner
 
   last : Within g.order g.order
   last = let z = big_some g p stage x bx in let w = z.1 in (omega arith, omega arith)
 
   pub outer_rest-mem : (w : ℕ) → Within g.order w → mem (outer_rest g.order x v) w ≡ in_outer_rest w
-  outer_rest-mem w ww = mem-rising_list g.order (minus (mem (complement_of g.order x)) (mem v)) w ww ∙ ap (λ b. b && not (mem v w)) (mem-complement_of g.order x w ww)
+  outer_rest-mem = ExchangedParts.outer_rest-mem g p stage x u v s t bx.shore su sv corner
 
   pub inner_rest-mem : (w : ℕ) → Within g.order w → mem (inner_rest g.order x u) w ≡ in_inner_rest w
-  inner_rest-mem w ww = mem-rising_list g.order (minus (mem x) (mem u)) w ww
-
-  -- the partitions of the two children
-  kept_is : IsMerge g.order p (union in_outer_rest (mem v)) (kept_at g.order p x)
-  kept_is = merge_congr g.order p (kept_at g.order p x) (mem (complement_of g.order x)) (union in_outer_rest (mem v)) (λ w ww. mem-complement_of g.order x w ww ∙ regions (mem x w) (mem v w) (corner.outside w ww)) (big_merge g p stage (complement_of g.order x) (big_rest g p stage x bx))
-    where
-      regions : (a b : Bool) → (b ≡ true → a ≡ false) → not a ≡ ((not a && not b) || b)
-      regions a b h = grind arith
-
-  merged_is : IsMerge g.order p (union in_inner_rest (mem u)) (merged_at g.order p x)
-  merged_is = merge_congr g.order p (merged_at g.order p x) (mem x) (union in_inner_rest (mem u)) (λ w ww. regions (mem x w) (mem u w) (corner.inside w ww)) (big_merge g p stage x bx)
-    where
-      regions : (a b : Bool) → (b ≡ true → a ≡ true) → a ≡ ((a && not b) || b)
-      regions a b h = grind arith
+  inner_rest-mem = ExchangedParts.inner_rest-mem g p stage x u v s t bx.shore su sv corner
 
   pub iso_a : (q : List (List ℕ)) → IsMerge g.order p (union in_outer_rest (mem u)) q → Isomorphism g (kept_at g.order p x) q (λ w. cond (in_outer_rest w) t w) map_a
-  iso_a q m = exchange_kept g stage.graph p stage.list.partition stage.covered (mem x) (mem u) (mem v) s t corner (kept_at g.order p x) q kept_is m
+  iso_a = ExchangedParts.iso_a g p stage x u v s t bx.shore su sv corner
 
   pub iso_b : (q : List (List ℕ)) → IsMerge g.order p (union in_inner_rest (mem v)) q → Isomorphism g (merged_at g.order p x) q (λ w. cond (in_inner_rest w) s w) map_b
-  iso_b q m = exchange_merged g stage.graph p stage.list.partition stage.covered (mem x) (mem u) (mem v) s t corner (merged_at g.order p x) q merged_is m
+  iso_b = ExchangedParts.iso_b g p stage x u v s t bx.shore su sv corner
 
   -- what a shore below `kept` is like
   module _ (y : List ℕ) (low : mem y g.order ≡ false) (closed : IsUnion g.order (kept_at g.order p x) (mem y)) where
@@ -264,9 +245,9 @@ module _ (g : Graph) (p : List (List ℕ)) (stage : Stage g p) (x u v : List ℕ
       let sma = stage_merged g p stage x bx in (
         big_cut g p stage z bz (zm g.order last ∙ gone (mem x g.order) (mem u g.order) (mem v g.order) nv canonical (corner.inside g.order last)),
         subst (IsDerivationAt g (kept_at g.order p z)) (sym (merged_in_v nv b f.2 (each_of g (merged_at g.order p x) b sma f.2 d.2)))
-            (carried_derives g stage.graph (λ w. cond (in_inner_rest w) s w) map_b b (merged_at g.order p x) (kept_at g.order p z) sma.list.partition mk.partition sma.covered (iso_b (kept_at g.order p z) mk) f.2 d.2),
+            (carried_derives g stage.graph (λ w. cond (in_inner_rest w) s w) map_b b (merged_at g.order p x) (kept_at g.order p z) sma.list.partition mk.partition (iso_b (kept_at g.order p z) mk) f.2 d.2),
         subst (IsDerivationAt g (merged_at g.order p z)) (sym (kept_in_v nv a f.1 (each_of g (kept_at g.order p x) a ska f.1 d.1)))
-            (carried_derives g stage.graph (λ w. cond (in_outer_rest w) t w) map_a a (kept_at g.order p x) (merged_at g.order p z) ska.list.partition ms.partition ska.covered (iso_a (merged_at g.order p z) ms) f.1 d.1),
+            (carried_derives g stage.graph (λ w. cond (in_outer_rest w) t w) map_a a (kept_at g.order p x) (merged_at g.order p z) ska.list.partition ms.partition (iso_a (merged_at g.order p z) ms) f.1 d.1),
       )
     where
       other : (x u v : Bool) → (u ≡ true → x ≡ true) → (v ≡ true → x ≡ false) → not ((not x && not v) || u) ≡ ((x && not u) || v)
@@ -289,9 +270,9 @@ module _ (g : Graph) (p : List (List ℕ)) (stage : Stage g p) (x u v : List ℕ
       let sma = stage_merged g p stage x bx in (
         big_cut g p stage z bz (zm g.order last ∙ gone (mem x g.order) (mem u g.order) (mem v g.order) nv canonical),
         subst (IsDerivationAt g (kept_at g.order p z)) (sym (kept_in_q nv a f.1 (each_of g (kept_at g.order p x) a ska f.1 d.1)))
-            (carried_derives g stage.graph (λ w. cond (in_outer_rest w) t w) map_a a (kept_at g.order p x) (kept_at g.order p z) ska.list.partition mk.partition ska.covered (iso_a (kept_at g.order p z) mk) f.1 d.1),
+            (carried_derives g stage.graph (λ w. cond (in_outer_rest w) t w) map_a a (kept_at g.order p x) (kept_at g.order p z) ska.list.partition mk.partition (iso_a (kept_at g.order p z) mk) f.1 d.1),
         subst (IsDerivationAt g (merged_at g.order p z)) (sym (merged_in_q nv b f.2 (each_of g (merged_at g.order p x) b sma f.2 d.2)))
-            (carried_derives g stage.graph (λ w. cond (in_inner_rest w) s w) map_b b (merged_at g.order p x) (merged_at g.order p z) sma.list.partition ms.partition sma.covered (iso_b (merged_at g.order p z) ms) f.2 d.2),
+            (carried_derives g stage.graph (λ w. cond (in_inner_rest w) s w) map_b b (merged_at g.order p x) (merged_at g.order p z) sma.list.partition ms.partition (iso_b (merged_at g.order p z) ms) f.2 d.2),
       )
     where
       other : (x u v : Bool) → (u ≡ true → x ≡ true) → (v ≡ true → x ≡ false) → not ((x && not u) || v) ≡ ((not x && not v) || u)

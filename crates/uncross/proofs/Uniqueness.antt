@@ -1,25 +1,17 @@
 -- The laws in their last form: what a same leaf carries along, and that any two derivations of a graph are joined by few moves
 -- (Lovász 1987).
 use Rattle.uncross.specs.Walks.{AreRising, Walk}
-use Rattle.std.proofs.Common.{List, [], length, sym, ℕ, ◌*◌, ◌+◌, ◌∷◌, ◌≡◌, ◌≤◌}
-use Rattle.counting.specs.Counts.{Within}
-use Rattle.counting.specs.Lists.{IsRisingIn, mem}
-use Rattle.counting.specs.Sets.{Set}
-use Rattle.graph_core.proofs.BlockSets.{tight_congr}
-use Rattle.graph_core.proofs.MergedShores.{Some}
+use Rattle.std.proofs.Common.{List, [], length, ℕ, ◌*◌, ◌+◌, ◌∷◌, ◌≡◌, ◌≤◌}
+use Rattle.counting.specs.Lists.{IsRisingIn}
 use Rattle.graph_core.specs.Covered.{IsCovered}
 use Rattle.graph_core.specs.Graph.{Graph, IsGraph}
-use Rattle.graph_core.specs.Partitions.{AreBlocks, contracted, merged, singles}
-use Rattle.graph_core.specs.Shores.{IsTightAt, IsUnion, blocks_in}
-use Rattle.graph_core.specs.Tight.{IsNontrivial}
+use Rattle.graph_core.specs.Partitions.{singles}
 use Rattle.tree_core.specs.Derivations.{IsCutAt, IsDerivation, IsDerivationAt}
 use Rattle.tree_core.specs.Moves.{PlainMove, TurnsThrough}
 use Rattle.tree_core.specs.Shapes.{Shape, cut, cut_count}
 use Rattle.uncross.proofs.BigShores.{Stage, cut_big}
-use Rattle.uncross.proofs.CarriedTrees.{carried_derives, iso_merged}
 use Rattle.uncross.proofs.Comparison.{compare}
 use Rattle.uncross.proofs.CrossingShores.{crossed}
-use Rattle.uncross.proofs.Images.{image_nontrivial, image_tight}
 use Rattle.uncross.proofs.NestedShores.{Compared, Exposes, expose}
 use Rattle.std.proofs.Common.{Some as Just}
 use Rattle.std.proofs.lemmas.Option.{none-some}
@@ -32,10 +24,7 @@ use Rattle.uncross.proofs.Rising.{rising-derivation_at}
 use Rattle.uncross.proofs.Rotations.{path_keeps, rotate_keeps}
 use Rattle.uncross.proofs.ScriptPairs.{script_pairs}
 use Rattle.uncross.specs.Pairings.{IsPairing}
-use Rattle.uncross.proofs.SameLeaves.{same_leaf_iso}
 use Rattle.uncross.proofs.SingleVertices.{singles_stage}
-use Rattle.uncross.specs.Isomorphisms.{Isomorphism, carry, pre}
-use Rattle.uncross.specs.SameLeaf.{IsSameLeaf, from_name, to_name}
 
 -- expose: a script of at most 3 c − 2 moves through derivations, each Switch proper, whose last tree has the shore at its root
 pub expose_law : (g : Graph) (t : Shape) → Exposes g t
@@ -60,25 +49,6 @@ expose_through g s y is fs ds sy c =
     let st = singles_stage g is ds.covered in
     let r = expose_law g s (singles g.order) y st fs ds.derives (cut_big g (singles g.order) st y sy c) c.canonical in
     (r.0, r.1, r.2, walk_through g s r.0 (cut y r.1 r.2) ds.covered r.3, r.4)
-
--- a same leaf by names carries tight shores and derivations
-pub same_leaf_tight : (g : Graph) → IsGraph g → (p q : List (List ℕ)) → AreBlocks g.order p → AreBlocks g.order q → IsCovered (contracted g p) → (names : List ℕ) → IsSameLeaf g p q names → (x : Set) → IsTightAt g p x → IsTightAt g q (pre (from_name p q names) x)
-same_leaf_tight g is p q pp qp cov names same x t = image_tight g is p q (to_name p names) (from_name p q names) pp qp (same_leaf_iso g is p q pp qp names same) cov x t
-
-pub same_leaf_nontrivial : (g : Graph) → IsGraph g → (p q : List (List ℕ)) → AreBlocks g.order p → AreBlocks g.order q → IsCovered (contracted g p) → (names : List ℕ) → IsSameLeaf g p q names → (x : Set) → IsUnion g.order p x → IsNontrivial (length p) (blocks_in p x) → IsNontrivial (length q) (blocks_in q (pre (from_name p q names) x))
-same_leaf_nontrivial g is p q pp qp cov names same x u t = image_nontrivial g is p q (to_name p names) (from_name p q names) pp qp (same_leaf_iso g is p q pp qp names same) cov x u t
-
-pub same_leaf_carries : (g : Graph) → IsGraph g → (p q : List (List ℕ)) → AreBlocks g.order p → AreBlocks g.order q → IsCovered (contracted g p) → (names : List ℕ) → IsSameLeaf g p q names → (t : Shape) → AreRising g.order t → IsDerivationAt g p t → IsDerivationAt g q (carry g.order (from_name p q names) t)
-same_leaf_carries g is p q pp qp cov names same t f d = carried_derives g is (to_name p names) (from_name p q names) t p q pp qp cov (same_leaf_iso g is p q pp qp names same) f d
-
--- and its merged partitions: after merging x and its image the same vertex maps serve, and any list of the names of the images makes the two the same leaf
-pub same_leaf_merged : (g : Graph) (is : IsGraph g) (p q : List (List ℕ)) (pp : AreBlocks g.order p) (qp : AreBlocks g.order q) (cov : IsCovered (contracted g p)) (names : List ℕ) (same : IsSameLeaf g p q names) (x y : List ℕ) →
-    IsRisingIn g.order x → IsRisingIn g.order y → IsTightAt g p (mem x) → Some g.order (mem x) → Some g.order (mem y) → ((v : ℕ) → Within g.order v → mem y v ≡ mem x (from_name p q names v)) →
-    Isomorphism g (merged p x) (merged q y) (to_name p names) (from_name p q names)
-same_leaf_merged g is p q pp qp cov names same x y sx sy tx nx ny e =
-    let iso = same_leaf_iso g is p q pp qp names same in
-    let ty = tight_congr g is q qp (pre (from_name p q names) (mem x)) (mem y) (λ v w. sym (e v w)) (image_tight g is p q (to_name p names) (from_name p q names) pp qp iso cov (mem x) tx) in
-    iso_merged g is p q (to_name p names) (from_name p q names) pp qp iso x y tx ty sx sy nx ny e
 
 -- the laws without what follows from being a derivation
 pub rotate_derives_law : (g : Graph) (path : List Side) (s t : Shape) → IsGraph g → IsDerivation g s → rotate_result path s ≡ Just t → IsDerivation g t

@@ -2,7 +2,7 @@
 -- multiplicities of edges").
 use Rattle.std.specs.Prelude.{◌≡◌, ℕ, ◌==◌, List, length, map}
 use Rattle.counting.specs.Counts.{count, Within}
-use Rattle.counting.specs.Lists.{last_of}
+use Rattle.counting.specs.Lists.{last_of, mem, rising_list}
 use Rattle.graph_core.specs.Graph.{Graph}
 use Rattle.graph_core.specs.Partitions.{block, place}
 use Rattle.graph_core.specs.Quotients.{blocks_adjacent}
@@ -26,3 +26,15 @@ to_name p names v = name names (place p v)
 -- the name of the block of p that the names give the block of q with v
 abbrev pub from_name : (p q : List (List ℕ)) → List ℕ → ℕ → ℕ
 from_name p q names v = last_of (block p (position (map (place q) names) (place q v)))
+
+-- the names turned round: for each block of q the name of the block of p that the names take to it
+abbrev pub turned_names : (p q : List (List ℕ)) → List ℕ → List ℕ
+turned_names p q names = map (λ b. from_name p q names (last_of b)) q
+
+-- the image of a set of blocks of p: the vertices in the blocks of q that the names give those in x
+abbrev pub image_shore : ℕ → (p q : List (List ℕ)) → List ℕ → List ℕ → List ℕ
+image_shore n p q names x = rising_list n (λ v. mem x (from_name p q names v))
+
+-- the names after blocks of p were merged to r and their images to s: for each block of r the name of the block of s with its image
+abbrev pub merged_names : (p r s : List (List ℕ)) → List ℕ → List ℕ
+merged_names p r s names = map (λ b. last_of (block s (place s (to_name p names (last_of b))))) r

@@ -1,5 +1,5 @@
 //! Laws of moves on derivations. Each is the contract of a function that does nothing.
-ghost use Rattle.std.specs.Prelude.{◌≡◌, ◌+◌, ◌*◌, ◌≤◌, ◌&&◌, ℕ, Some, List, [], length, map};
+ghost use Rattle.std.specs.Prelude.{◌≡◌, ◌+◌, ◌*◌, ◌<◌, ◌≤◌, ◌↔◌, ℕ, Some, List, [], length, map};
 ghost use Rattle.counting.specs.Counts.{Within};
 ghost use Rattle.counting.specs.Lists.{IsRisingIn, last_of, mem};
 ghost use Rattle.counting.specs.Sets.{Set};
@@ -10,30 +10,51 @@ ghost use Rattle.graph_core.specs.Shores.{IsTightAt, IsUnion, blocks_in};
 ghost use Rattle.graph_core.specs.Tight.{IsNontrivial};
 ghost use Rattle.tree_core.specs.Derivations.{IsCutAt, IsDerivation, IsDerivationAt, kept_at, merged_at};
 ghost use Rattle.tree_core.specs.LeafMaps.{PlainLeafMap, kept_image, merged_image, move_maps};
-ghost use Rattle.tree_core.specs.Leaves.{leaves};
+ghost use Rattle.tree_core.specs.Leaves.{StandsAt, leaves};
 ghost use Rattle.tree_core.specs.Moves.{BlocksAt, IsProper, PlainMove, TurnsThrough, inner_rest, move_result, outer_rest, rotate_result, switch_result_at, union_list};
-ghost use Rattle.tree_core.specs.Shapes.{Shape, cut, cut_count};
+ghost use Rattle.tree_core.specs.Shapes.{Fits, Shape, cut, cut_count};
 ghost use Rattle.tree_core.specs.declared.path.Side.{Side};
 ghost use Rattle.uncross.specs.Exchange.{Corner};
 ghost use Rattle.uncross.specs.Isomorphisms.{carry, pre};
 ghost use Rattle.uncross.specs.Pairings.{IsPairing};
-ghost use Rattle.uncross.specs.SameLeaf.{IsSameLeaf, from_name};
+ghost use Rattle.uncross.specs.SameLeaf.{IsSameLeaf, from_name, image_shore, merged_names, to_name, turned_names};
 
-/// Exchange (Lovász 1987, in the form of two single blocks): let x be a canonical nontrivial tight shore at p, u a block inside and v
-/// a block outside, such that u with the rest of the outside is tight too. Then the partition with the complement of x merged and that
-/// with the new shore merged are the same leaf, and so are the two others, by the names of the images that the maps of moves give.
+/// Exchange (Lovász 1987, in the form of two single blocks): let x be a tight shore at p, u a block inside and v a block outside, such
+/// that u with the rest of the outside is tight too. Then the partition with the complement of x merged and that with the new shore
+/// merged are the same leaf, and so are the two others, by the names of the images that the maps of moves give. Neither shore need be
+/// nontrivial, nor be without the greatest vertex.
 pub fn exchange()
-    ensures kept { (g : Graph) (p : List (List ℕ)) (x u v : List ℕ) (s t : ℕ) → IsGraph g → IsPartition g.order p → IsCovered (contracted g p) → IsCutAt g p x → IsRisingIn g.order u → IsRisingIn g.order v → Corner g p (mem x) (mem u) (mem v) s t → IsSameLeaf g (kept_at g.order p x) (merged p (union_list g.order (outer_rest g.order x v) u)) (map (λ b. last_of (kept_image g.order x u v b)) (kept_at g.order p x)) }
-    ensures merged { (g : Graph) (p : List (List ℕ)) (x u v : List ℕ) (s t : ℕ) → IsGraph g → IsPartition g.order p → IsCovered (contracted g p) → IsCutAt g p x → IsRisingIn g.order u → IsRisingIn g.order v → Corner g p (mem x) (mem u) (mem v) s t → IsSameLeaf g (merged_at g.order p x) (merged p (union_list g.order (inner_rest g.order x u) v)) (map (λ b. last_of (merged_image g.order x u v b)) (merged_at g.order p x)) }
+    ensures kept { (g : Graph) (p : List (List ℕ)) (x u v : List ℕ) (s t : ℕ) → IsGraph g → IsPartition g.order p → IsCovered (contracted g p) →
+        IsRisingIn g.order x → IsRisingIn g.order u → IsRisingIn g.order v → Corner g p (mem x) (mem u) (mem v) s t →
+        IsSameLeaf g (kept_at g.order p x) (merged p (union_list g.order (outer_rest g.order x v) u)) (map (λ b. last_of (kept_image g.order x u v b)) (kept_at g.order p x)) }
+    ensures merged { (g : Graph) (p : List (List ℕ)) (x u v : List ℕ) (s t : ℕ) → IsGraph g → IsPartition g.order p → IsCovered (contracted g p) →
+        IsRisingIn g.order x → IsRisingIn g.order u → IsRisingIn g.order v → Corner g p (mem x) (mem u) (mem v) s t →
+        IsSameLeaf g (merged_at g.order p x) (merged p (union_list g.order (inner_rest g.order x u) v)) (map (λ b. last_of (merged_image g.order x u v b)) (merged_at g.order p x)) }
 {}
 
-/// Carrying: let two partitions be the same leaf by a list of names. A set of blocks is a nontrivial tight shore at the one where its
-/// image is at the other, and the image of a derivation at the one is a derivation at the other: each shore is replaced by the
-/// canonical one of its image and the image's complement, and the two trees change places where the complement is taken.
+/// Carrying: let two partitions be the same leaf by a list of names. A set of blocks is tight, or nontrivial, at the one exactly where
+/// its image is at the other. A tree is a derivation at the one exactly where its shores stand there, each without the greatest vertex,
+/// and the carried tree is a derivation at the other: each shore is replaced by the canonical one of its image and the image's
+/// complement, and the two trees change places where the complement is taken. Carried back, such a tree is what it was.
 pub fn carrying()
-    ensures tight { (g : Graph) (p q : List (List ℕ)) (names : List ℕ) (x : Set) → IsGraph g → IsPartition g.order p → IsPartition g.order q → IsCovered (contracted g p) → IsSameLeaf g p q names → IsTightAt g p x → IsTightAt g q (pre (from_name p q names) x) }
-    ensures nontrivial { (g : Graph) (p q : List (List ℕ)) (names : List ℕ) (x : Set) → IsGraph g → IsPartition g.order p → IsPartition g.order q → IsCovered (contracted g p) → IsSameLeaf g p q names → IsUnion g.order p x → IsNontrivial (length p) (blocks_in p x) → IsNontrivial (length q) (blocks_in q (pre (from_name p q names) x)) }
-    ensures derivation { (g : Graph) (p q : List (List ℕ)) (names : List ℕ) (t : Shape) → IsGraph g → IsPartition g.order p → IsPartition g.order q → IsCovered (contracted g p) → IsSameLeaf g p q names → IsDerivationAt g p t → IsDerivationAt g q (carry g.order (from_name p q names) t) }
+    ensures tight { (g : Graph) (p q : List (List ℕ)) (names : List ℕ) (x : Set) → IsGraph g → IsPartition g.order p → IsPartition g.order q → IsSameLeaf g p q names →
+        IsUnion g.order p x → (IsTightAt g p x ↔ IsTightAt g q (pre (from_name p q names) x)) }
+    ensures nontrivial { (g : Graph) (p q : List (List ℕ)) (names : List ℕ) (x : Set) → IsGraph g → IsPartition g.order p → IsPartition g.order q → IsSameLeaf g p q names →
+        IsUnion g.order p x → (IsNontrivial (length p) (blocks_in p x) ↔ IsNontrivial (length q) (blocks_in q (pre (from_name p q names) x))) }
+    ensures derivation { (g : Graph) (p q : List (List ℕ)) (names : List ℕ) (t : Shape) → IsGraph g → IsPartition g.order p → IsPartition g.order q → IsSameLeaf g p q names →
+        (IsDerivationAt g p t ↔ (Fits g.order t × StandsAt g.order p t × IsDerivationAt g q (carry g.order (from_name p q names) t))) }
+    ensures again { (g : Graph) (p q : List (List ℕ)) (names : List ℕ) (t : Shape) → IsGraph g → IsPartition g.order p → IsPartition g.order q → IsSameLeaf g p q names →
+        Fits g.order t → StandsAt g.order p t → carry g.order (to_name p names) (carry g.order (from_name p q names) t) ≡ t }
+{}
+
+/// Names: let two partitions be the same leaf by a list of names. Then the second and the first are the same leaf by the names turned
+/// round, and after a union of blocks is merged in the one and its image in the other, the two are the same leaf again.
+pub fn same_leaves()
+    ensures turned { (g : Graph) (p q : List (List ℕ)) (names : List ℕ) → IsGraph g → IsPartition g.order p → IsPartition g.order q → IsSameLeaf g p q names →
+        IsSameLeaf g q p (turned_names p q names) }
+    ensures merged { (g : Graph) (p q : List (List ℕ)) (names x : List ℕ) → IsGraph g → IsPartition g.order p → IsPartition g.order q → IsSameLeaf g p q names →
+        IsRisingIn g.order x → 0 < length x → IsUnion g.order p (mem x) →
+        (let y = image_shore g.order p q names x in IsSameLeaf g (merged p x) (merged q y) (merged_names p (merged p x) (merged q y) names)) }
 {}
 
 /// Rotate takes a derivation to a derivation, wherever it has a result.

@@ -33,6 +33,3 @@ pub use between::moves_between;
 pub use exposed::{Exposed, expose};
 pub use leaf_maps::{LeafMap, LeafMaps};
 pub use pairing::{Pairing, compare};
-
-#[cfg(test)]
-mod tests;

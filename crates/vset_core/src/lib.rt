@@ -16,6 +16,3 @@ mod vertex_set;
 
 pub use members::Members;
 pub use vertex_set::{MOST_VERTICES, VSet};
-
-#[cfg(test)]
-mod tests;

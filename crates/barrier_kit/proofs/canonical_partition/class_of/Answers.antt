@@ -1,17 +1,12 @@
-use Rattle.std.proofs.Common.{ap, sym, ◌∙◌, arith}
+use Rattle.std.proofs.Common.{◌≡◌, ◌∙◌, ◌↔◌, ℕ, ap, subst, true}
+use Rattle.counting.specs.Counts.{Within}
 use Rattle.counting.specs.Lists.{mem}
-use Rattle.graph_core.specs.Structure.{is_equivalent}
-use Rattle.barrier_kit.proofs.ListedClasses.{members-all, members-passed, members-taken}
-use Rattle.barrier_kit.proofs.canonical_partition.class_of.Goals.{then-branch, else-branch}
+use Rattle.barrier_kit.proofs.ListedClasses.{class-row}
 use Rattle.barrier_kit.proofs.canonical_partition.class_of.Goals as goal
-
-pub loop-k-preserved : goal.loop-k-preserved
-loop-k-preserved c = elim c.if-branch.branch [
-  | then-branch w ↦ λ v. ap (λ s. mem s v) w.class-is ∙ members-taken c.loop-k.k (is_equivalent c.args.g.now c.args.a) c.loop-k.class w.with-class.result (sym c.in_ok-joins_class.ensures ∙ w.if-branch.true) c.loop-k.invariant w.with-class.ensures v
-  | else-branch w ↦ λ v. ap (λ s. mem s v) w.class-is ∙ members-passed c.loop-k.k (is_equivalent c.args.g.now c.args.a) c.loop-k.class (sym c.in_ok-joins_class.ensures ∙ w.if-branch.false) c.loop-k.invariant v
-]
 
 pub returns : goal.returns
 returns c =
-    let few = c.keeps_limits.ensures.vertices in let n = c.order-k-end.ensures.is in let k = c.loop-k-test.false in let j = c.loop-k.auto.k-end in
-    members-all 128 c.args.g.now.order c.loop-k.k (is_equivalent c.args.g.now c.args.a) c.loop-k.class few (omega arith) c.rises.ensures c.loop-k.invariant
+    class-row c.args.g.now c.full.result c.of.result c.minus-class.result c.args.a c.keeps_limits.ensures.vertices c.rises.ensures
+    (subst (λ n. (v : ℕ) → (mem c.full.result v ≡ true) ↔ Within n v) c.order.ensures.is c.full.ensures.members)
+    c.minus-class.ensures
+    (λ v w. ap (λ xs. mem xs v) c.of.ensures ∙ c.requires.table.partner_is c.args.a v c.requires.vertex w)

@@ -15,7 +15,7 @@ decompose_at-requires g t c κs within =
     let few = kept-few c.args.g.now c.args.p.now.blocks c.in-Some.shore cuts (length c.in_ok-kept_at-in-Some.kept_at.blocks) 0 c.args.before c.in_ok-kept_at-in-Some.ensures.length in
     let bound = c.requires.few in
     let falls = c.decreases in
-    (first_of (omega arith, search rules), (within, (c.requires.order, (c.in_ok-kept_at-in-Some.ensures.order, (c.in_ok-kept_at-in-Some.ensures.covered, omega arith)))))
+    (first_of (omega arith, search rules), (within, (c.requires.ready, (c.in_ok-kept_at-in-Some.ensures.order, (c.in_ok-kept_at-in-Some.ensures.covered, omega arith)))))
 
 pub decompose_at-requires-in-Some : goal.decompose_at-requires-in-Some
 decompose_at-requires-in-Some g t c κs within =
@@ -26,7 +26,7 @@ decompose_at-requires-in-Some g t c κs within =
     let after = c.in_ok-kept-in-Some.ensures.after in
     let bound = c.requires.few in
     let falls = c.decreases in
-    (first_of (omega arith, search rules), (within, (c.requires.order, (c.in_ok-merged_at-in-Some.ensures.order, (c.in_ok-merged_at-in-Some.ensures.covered, omega arith)))))
+    (first_of (omega arith, search rules), (within, (c.requires.ready, (c.in_ok-merged_at-in-Some.ensures.order, (c.in_ok-merged_at-in-Some.ensures.covered, omega arith)))))
 
 pub returns-in_ok-tree-in-Some-clause-few : goal.returns-in_ok-tree-in-Some-clause-few
 returns-in_ok-tree-in-Some-clause-few g t c some =

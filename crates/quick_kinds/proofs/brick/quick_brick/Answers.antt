@@ -5,13 +5,16 @@ use Rattle.barrier_kit.specs.CanonicalCuts.{IsCanonicalCut}
 use Rattle.barrier_kit.proofs.ShoreFacts.{barrier_cuts-canonical}
 use Rattle.separation_kit.specs.SeparationShores.{separation_cuts}
 use Rattle.separation_kit.proofs.SeparationFacts.{separation_cuts-canonical}
-use Rattle.quick_kinds.proofs.QuickBricks.{at_least_four, class-none, empty-list, first-left, first-of, first-right, no_cut-pair, no_cuts-bicritical, pair-none}
+use Rattle.quick_kinds.proofs.QuickBricks.{at_least_four, class-none, empty-list, first-left, first-of, first-right, no_cut-pair, no_cuts-bicritical, none-brick, pair-none}
 use Rattle.quick_kinds.proofs.brick.quick_brick.Goals as goal
 
 pub returns-then-not-is_empty-clause-none : goal.returns-then-not-is_empty-clause-none
 returns-then-not-is_empty-clause-none c =
     let h = ap (λ cuts. slice_get cuts 0) (sym c.in_ok-cuts.ensures) ∙ c.get.ensures in
     ((λ e. absurd cc), (λ both. absurd (class-none c.args.g.now c.keeps_limits.ensures.multigraph c.requires.covered c.requires.odd c.get.result h both.0)))
+
+pub returns-then-not-is_empty-clause-brick : goal.returns-then-not-is_empty-clause-brick
+returns-then-not-is_empty-clause-brick c = none-brick c.args.g.now _ c.keeps_limits.ensures.multigraph c.requires.covered c.requires.odd (returns-then-not-is_empty-clause-none c)
 
 pub returns-then-not-is_empty-clause-first : goal.returns-then-not-is_empty-clause-first
 returns-then-not-is_empty-clause-first c =
@@ -33,6 +36,9 @@ returns-then-not-is_empty-2-clause-none c =
     let h = ap (λ cuts. slice_get cuts 0) (sym c.in_ok-others.ensures) ∙ c.get-then-not-is_empty-2.ensures in
     ((λ e. absurd cc), (λ both. absurd (pair-none c.args.g.now c.keeps_limits.ensures.multigraph c.requires.covered c.requires.odd c.get-then-not-is_empty-2.result h both.1)))
 
+pub returns-then-not-is_empty-2-clause-brick : goal.returns-then-not-is_empty-2-clause-brick
+returns-then-not-is_empty-2-clause-brick c = none-brick c.args.g.now _ c.keeps_limits.ensures.multigraph c.requires.covered c.requires.odd (returns-then-not-is_empty-2-clause-none c)
+
 pub returns-then-not-is_empty-2-clause-first : goal.returns-then-not-is_empty-2-clause-first
 returns-then-not-is_empty-2-clause-first c =
     first-right (barrier_cuts c.args.g.now) (separation_cuts c.args.g.now) (Some c.get-then-not-is_empty-2.result) (sym c.in_ok-cuts.ensures ∙ empty-list c.in_ok-cuts.cuts (sym c.is_empty.ensures ∙ c.if-not-is_empty.false))
@@ -47,3 +53,6 @@ returns-clause-none c =
     let e = sym c.in_ok-cuts.ensures ∙ empty-list c.in_ok-cuts.cuts (sym c.is_empty.ensures ∙ c.if-not-is_empty.false) in
     let f = sym c.in_ok-others.ensures ∙ empty-list c.in_ok-others.others (sym c.is_empty-2.ensures ∙ c.if-not-is_empty-2.false) in
     ((λ _. (no_cuts-bicritical c.args.g.now c.keeps_limits.ensures.multigraph c.requires.covered c.requires.odd e, no_cut-pair c.args.g.now c.keeps_limits.ensures.multigraph c.requires.covered c.requires.odd e f)), (λ _. refl))
+
+pub returns-clause-brick : goal.returns-clause-brick
+returns-clause-brick c = none-brick c.args.g.now _ c.keeps_limits.ensures.multigraph c.requires.covered c.requires.odd (returns-clause-none c)

@@ -32,20 +32,16 @@ returns-then-len-order-clause-none c = IfOk-weaker c.candidates.result (λ (list
     (λ (list : List Candidate). (list ≡ []) ↔ ((x : Set) → IsTightAt c.args.g.now c.args.p.now.blocks x → IsNontrivial (length c.args.p.now.blocks) (blocks_in c.args.p.now.blocks x) → ⊥))
     (singles-none c.args.g.now c.keeps_limits.ensures.multigraph.ends c.args.p.now.blocks (subst (λ n. IsPartition n c.args.p.now.blocks) c.requires.order c.keeps_partition.ensures.partition) (many c)) c.candidates.ensures.none
 
--- the graph of the quotient
-of_quotient : (c : goal.After-drop-q-inside-7) → c.graph.result.now ≡ quotient c.args.g.now c.args.p.now.blocks
-of_quotient c = c.graph.ensures ∙ ap (λ q. q.graph) c.in_ok-q.ensures
-
 pub returns-clause-list : goal.returns-clause-list
 returns-clause-list c = IfOk-weaker c.lifted.result (λ (list : List Candidate). list ≡ map (lifted_candidate c.args.g.now c.args.p.now.blocks) c.in_ok-found.found) (λ (list : List Candidate). list ≡ candidates_at c.args.g.now c.args.p.now.blocks)
-    (λ list is. is ∙ ap (map (lifted_candidate c.args.g.now c.args.p.now.blocks)) (c.in_ok-found.ensures.list ∙ ap candidates (of_quotient c)) ∙ sym (at-blocks c.args.g.now c.args.p.now.blocks (λ e. c.if-len-order.false (c.len.ensures ∙ e ∙ sym c.order.ensures.is))))
+    (λ list is. is ∙ ap (map (lifted_candidate c.args.g.now c.args.p.now.blocks)) (c.in_ok-found.ensures.list ∙ ap candidates (c.graph.ensures ∙ ap (λ q. q.graph) c.in_ok-q.ensures)) ∙ sym (at-blocks c.args.g.now c.args.p.now.blocks (λ e. c.if-len-order.false (c.len.ensures ∙ e ∙ sym c.order.ensures.is))))
     (c.lifted.ensures c.args.g.now c.args.p.now.blocks c.in_ok-q.ensures)
 
 pub returns-clause-tight : goal.returns-clause-tight
 returns-clause-tight c = IfOk-weaker c.lifted.result (λ (list : List Candidate). list ≡ map (lifted_candidate c.args.g.now c.args.p.now.blocks) c.in_ok-found.found) (All (IsCandidateAt c.args.g.now c.args.p.now.blocks))
     (λ list is. subst (All (IsCandidateAt c.args.g.now c.args.p.now.blocks)) (sym is)
     (quotient-found c.args.g.now c.args.p.now.blocks c.keeps_limits.ensures.multigraph.ends (subst (λ n. IsPartition n c.args.p.now.blocks) c.requires.order c.keeps_partition.ensures.partition) c.in_ok-found.found
-    (subst (λ h. All (IsTightCandidate h) c.in_ok-found.found) (of_quotient c) c.in_ok-found.ensures.tight)))
+    (subst (λ h. All (IsTightCandidate h) c.in_ok-found.found) (c.graph.ensures ∙ ap (λ q. q.graph) c.in_ok-q.ensures) c.in_ok-found.ensures.tight)))
     (c.lifted.ensures c.args.g.now c.args.p.now.blocks c.in_ok-q.ensures)
 
 pub returns-clause-none : goal.returns-clause-none
@@ -53,5 +49,5 @@ returns-clause-none c = IfOk-weaker c.lifted.result (λ (list : List Candidate).
     (λ (list : List Candidate). (list ≡ []) ↔ ((x : Set) → IsTightAt c.args.g.now c.args.p.now.blocks x → IsNontrivial (length c.args.p.now.blocks) (blocks_in c.args.p.now.blocks x) → ⊥))
     (λ list is. subst (λ (l : List Candidate). (l ≡ []) ↔ ((x : Set) → IsTightAt c.args.g.now c.args.p.now.blocks x → IsNontrivial (length c.args.p.now.blocks) (blocks_in c.args.p.now.blocks x) → ⊥)) (sym is)
     (quotient-none c.args.g.now c.args.p.now.blocks c.keeps_limits.ensures.multigraph.ends (subst (λ n. IsPartition n c.args.p.now.blocks) c.requires.order c.keeps_partition.ensures.partition) c.in_ok-found.found
-    (subst (λ (h : Graph). (c.in_ok-found.found ≡ []) ↔ ((x : Set) → IsTight h x → IsNontrivial h.order x → ⊥)) (of_quotient c) c.in_ok-found.ensures.none)))
+    (subst (λ (h : Graph). (c.in_ok-found.found ≡ []) ↔ ((x : Set) → IsTight h x → IsNontrivial h.order x → ⊥)) (c.graph.ensures ∙ ap (λ q. q.graph) c.in_ok-q.ensures) c.in_ok-found.ensures.none)))
     (c.lifted.ensures c.args.g.now c.args.p.now.blocks c.in_ok-q.ensures)

@@ -1,6 +1,6 @@
-use Rattle.std.proofs.Common.{◌∙◌, sym}
-use Rattle.tree_check.proofs.LeafRules.{leaf-from_none}
+use Rattle.tree_core.specs.Derivations.{IsLeafAt}
 use Rattle.tree_check.proofs.rules.first_cut_at.Goals as goal
 
-pub returns-then-is_empty-clause-none : goal.returns-then-is_empty-clause-none
-returns-then-is_empty-clause-none c none = leaf-from_none c.args.g.now c.args.p.now.blocks c.in_ok-list.list c.in_ok-list.ensures.none (sym c.is_empty.ensures ∙ c.if-is_empty.true)
+pub returns-in-None-clause-none : goal.returns-in-None-clause-none
+unfolding IsLeafAt
+returns-in-None-clause-none c is = c.in_ok-candidate.ensures.none.0 c.in-None.is

@@ -1,0 +1,66 @@
+-- An edge is allowed exactly where its ends are partners; the list of the allowed edges, the least edge that is none, and whether a
+-- maximum matching is perfect.
+-- A perfect matching with the edge, less the edge, is perfect without its ends, and back. A perfect matching is as large as any.
+use Rattle.std.proofs.Common.{◌≡◌, ◌≢◌, ◌↔◌, ℕ, ◌==◌, ◌&&◌, ◌||◌, not, Bool, true, false, List, refl, sym, ap, ◌∙◌, arith, subst, ne_eqb, eq-eqb}
+use Rattle.std.proofs.lemmas.Bool.{and_parts, both_ways, cases_Bool, false_from_ne_true, or_right}
+use Rattle.counting.specs.Counts.{Within, count}
+use Rattle.counting.specs.Lists.{Lists, item, mem, rising_list}
+use Rattle.counting.specs.Sets.{Set, none, pair_set, union}
+use Rattle.counting.specs.Tests.{IsLeastWithout}
+use Rattle.counting.proofs.Lists.{rising_only}
+use Rattle.counting.proofs.RisingLists.{mem-rising_list, rising_list-rises, same_answers}
+use Rattle.graph_core.specs.Graph.{Graph, IsGraph, IsMultigraph, first_end, second_end, size}
+use Rattle.graph_core.specs.Matchings.{Allowed, HasPerfect, IsMatching, IsMaximum, has_perfect, is_allowed, missed_count}
+use Rattle.graph_core.proofs.Decide.{has_perfect_found, has_perfect_says, is_allowed_found, is_allowed_says}
+use Rattle.graph_core.proofs.Edits.{missed_edges}
+use Rattle.graph_core.proofs.Perfect.{none_missed-perfect, perfect_matching, perfect_misses}
+use Rattle.match_core.specs.Partners.{ArePartners, are_partners}
+use Rattle.allowed_edges.proofs.ThroughEdges.{one_cut, one_glued}
+
+module _ (g : Graph) (is : IsMultigraph g) (e : ℕ) (we : Within (size g) e) where
+  -- the ends of an allowed edge are partners
+  allowed-perfect : Allowed g e → HasPerfect g (pair_set (first_end g e) (second_end g e))
+  allowed-perfect = one_cut g is e we none (pair_set (first_end g e) (second_end g e)) (λ v. refl) (λ v. refl)
+
+  -- an edge whose ends are partners is allowed
+  perfect-allowed : HasPerfect g (pair_set (first_end g e) (second_end g e)) → Allowed g e
+  perfect-allowed p = (
+    λ i. p.0 i || (e == i),
+    one_glued g is e we none (pair_set (first_end g e) (second_end g e)) (λ v. refl) (λ v. refl) p.0 (λ i. p.0 i || (e == i)) p.1 (λ i. refl),
+    or_right (p.0 e) (e == e) (eq-eqb e e refl),
+  )
+
+  pub partners-allowed : are_partners g none (first_end g e) (second_end g e) ≡ is_allowed g e
+  partners-allowed = without_itself (first_end g e == second_end g e) (has_perfect g (pair_set (first_end g e) (second_end g e))) (ne_eqb (first_end g e) (second_end g e) (is.no_loop e we))
+      ∙ same_answers _ _
+      (λ t. is_allowed_found g e we (perfect-allowed (has_perfect_says g (pair_set (first_end g e) (second_end g e)) t)))
+      (λ t. has_perfect_found g (pair_set (first_end g e) (second_end g e)) (allowed-perfect (is_allowed_says g e t)))
+    where
+      without_itself : (d p : Bool) → d ≡ false → (true && true && not d && p) ≡ p
+      without_itself d p h = grind arith
+
+-- the row of one end tells whether the edge is allowed
+pub row-allowed : (g : Graph) (table : List (List ℕ)) (row : List ℕ) (e a b : ℕ) → IsMultigraph g → Within (size g) e → ArePartners g none table → row ≡ item table a → a ≡ first_end g e → b ≡ second_end g e → mem row b ≡ is_allowed g e
+row-allowed g table row e a b is we are row_is first second =
+    let w = is.ends e we in
+    ap (λ xs. mem xs b) (row_is ∙ ap (item table) first) ∙ ap (mem (item table (first_end g e))) second
+    ∙ are.partner_is (first_end g e) (second_end g e) w.0 w.1 ∙ partners-allowed g is e we
+
+-- the allowed edges as a list
+pub listed-allowed : (g : Graph) (es : List ℕ) → es ≡ rising_list (size g) (is_allowed g) → Lists (size g) es (Allowed g)
+listed-allowed g es q = subst (λ xs. Lists (size g) xs (Allowed g)) (sym q) (record {
+  rising = rising_list-rises (size g) (is_allowed g);
+  sound = λ e m. let r = rising_only (size g) (is_allowed g) e m in is_allowed_says g e r.1;
+  complete = λ e w a. mem-rising_list (size g) (is_allowed g) e w ∙ is_allowed_found g e w a;
+})
+
+-- a maximum matching misses no vertex exactly where there is a perfect matching
+pub maximum-perfect : (g : Graph) (m : Set) → IsGraph g → IsMaximum g none m → (missed_count g none m ≡ 0) ↔ HasPerfect g none
+maximum-perfect g m is max = (
+  λ z. (m, none_missed-perfect g none m max.is z),
+  λ p.
+      let most = max.most p.0 (perfect_matching g none p.0 p.1) in
+      let own = missed_edges g none m is max.is in
+      let all = missed_edges g none p.0 is (perfect_matching g none p.0 p.1) in
+      let misses = perfect_misses g none p.0 p.1 in omega arith,
+)

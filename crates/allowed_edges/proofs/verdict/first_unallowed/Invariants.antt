@@ -1,0 +1,7 @@
+use Rattle.std.proofs.Common.{ℕ, ◌-◌}
+use Rattle.counting.specs.Counts.{Within}
+use Rattle.graph_core.specs.Matchings.{Allowed}
+use Rattle.allowed_edges.proofs.verdict.first_unallowed.Given as goal
+
+abbrev pub invariant-loop-e : goal.invariant-loop-e
+invariant-loop-e l = (j : ℕ) → Within (l.e - 1) j → Allowed l.g j

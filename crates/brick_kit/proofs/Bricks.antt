@@ -1,0 +1,69 @@
+-- A nontrivial tight shore of a covered multigraph has a reason: a barrier of two vertices or more, or a cut pair.
+-- A shore of a bicritical graph gives a list of balanced shores, which is uncrossed to a cut pair; a graph that is not bicritical has
+-- a barrier by the law of Tutte and Berge.
+use Rattle.std.proofs.Common.{ℕ, suc, ◌+◌, ◌≤◌, ◌≢◌, ◌∷◌, ◌⊎◌, ◌↔◌, inl, inr, arith}
+use Rattle.std.proofs.lemmas.Bool.{cases_eq}
+use Rattle.counting.proofs.Members.{two_members}
+use Rattle.counting.proofs.Tests.{scan}
+use Rattle.counting.specs.Counts.{Within, bit, count}
+use Rattle.counting.specs.Sets.{Set, pair_set}
+use Rattle.graph_core.proofs.Decide.{covered_perfect}
+use Rattle.graph_core.specs.Covered.{IsCovered}
+use Rattle.graph_core.specs.Graph.{Graph, IsBipartite, IsMultigraph, in_cut}
+use Rattle.graph_core.specs.Matchings.{HasPerfect, IsPerfect}
+use Rattle.graph_core.specs.Structure.{IsBarrier, IsBicritical, IsCutPair}
+use Rattle.graph_core.specs.Tight.{IsNontrivial, IsTight}
+use Rattle.barrier_kit.proofs.Barriers.{equivalent_barrier}
+use Rattle.barrier_kit.proofs.CriticalPairs.{no_sides}
+use Rattle.separation_kit.proofs.CutPairs.{brick_facts}
+use Rattle.barrier_kit.proofs.ClassLaw.{perfect_or_not}
+use Rattle.weight_kit.proofs.Duality.{dual}
+use Rattle.brick_kit.proofs.PairsFromShores.{pair_below}
+use Rattle.brick_kit.proofs.TightCovers.{dual_balance}
+use Rattle.brick_kit.proofs.UncrossedLists.{spread}
+
+pub critical_or_pair : (g : Graph) → (IsBicritical g) ⊎ ((a : ℕ) × (b : ℕ) × Within g.order a × Within g.order b × (a ≢ b) × ((m : Set) → IsPerfect g (pair_set a b) m → ⊥))
+critical_or_pair g = elim (scan g.order (λ a. (b : ℕ) × Within g.order b × (a ≢ b) × ((m : Set) → IsPerfect g (pair_set a b) m → ⊥)) (λ a. (b : ℕ) → Within g.order b → a ≢ b → HasPerfect g (pair_set a b)) (λ a wa. row a)) [
+  | inl p ↦ inr (p.0, p.2.0, p.1, p.2.1, p.2.2, p.2.3)
+  | inr h ↦ inl (λ a b wa wb d. h a wa b wb d)
+]
+  where
+    row : (a : ℕ) → ((b : ℕ) × Within g.order b × (a ≢ b) × ((m : Set) → IsPerfect g (pair_set a b) m → ⊥)) ⊎ ((b : ℕ) → Within g.order b → a ≢ b → HasPerfect g (pair_set a b))
+    row a = elim (scan g.order (λ b. (a ≢ b) × ((m : Set) → IsPerfect g (pair_set a b) m → ⊥)) (λ b. a ≢ b → HasPerfect g (pair_set a b)) (λ b wb. one b)) [
+      | inl p ↦ inl (p.0, p.1, p.2.0, p.2.1)
+      | inr h ↦ inr h
+    ]
+      where
+        one : (b : ℕ) → ((a ≢ b) × ((m : Set) → IsPerfect g (pair_set a b) m → ⊥)) ⊎ (a ≢ b → HasPerfect g (pair_set a b))
+        one b = elim (cases_eq a b) [
+          | inl e ↦ inr (λ d. absurd (d e))
+          | inr d ↦ elim (perfect_or_not g (pair_set a b)) [
+            | inl m ↦ inr (λ d. m)
+            | inr n ↦ inl (d, n)
+          ]
+        ]
+
+-- by the dual of the weight "n, and one more in the cut of x"
+pub shore_pair : (g : Graph) (x : Set) → IsMultigraph g → IsCovered g → IsBicritical g → IsTight g x → IsNontrivial g.order x → (a : ℕ) × (b : ℕ) × IsCutPair g a b
+shore_pair g x is cov bi tx wide =
+    let r = dual_balance g x is cov tx (dual g (λ e. g.order + bit (in_cut g x e)) is.ends) in
+    pair_below (suc (spread g.order (x ∷ x ∷ r.2))) g r.0 r.1 x (x ∷ r.2) is cov bi r.3 wide (omega arith)
+
+pub shore_reason : (g : Graph) (x : Set) → IsMultigraph g → IsCovered g → IsTight g x → IsNontrivial g.order x → ((s : Set) × IsBarrier g s × (2 ≤ count g.order s)) ⊎ ((a : ℕ) × (b : ℕ) × IsCutPair g a b)
+shore_reason g x is cov tx wide = elim (critical_or_pair g) [
+  | inl bi ↦ inr (shore_pair g x is cov bi tx wide)
+  | inr p ↦
+      let m = covered_perfect g is.ends cov in
+      let b = equivalent_barrier g m.0 p.0 p.1 is.ends m.1 p.2 p.3 p.4 p.5 in
+      inl (b.0, b.1, two_members g.order b.0 p.0 p.1 p.2 p.3 p.4 b.2 b.3)
+]
+
+pub no_shore : (g : Graph) → IsMultigraph g → IsCovered g → IsBicritical g → ((a b : ℕ) → IsCutPair g a b → ⊥) → (x : Set) → IsTight g x → IsNontrivial g.order x → ⊥
+no_shore g is cov bi none_pair x tx wide = let p = shore_pair g x is cov bi tx wide in none_pair p.0 p.1 p.2
+
+-- a covered multigraph that is not bipartite is a brick exactly where it is bicritical and has no cut pair
+pub brick_or_not : (g : Graph) → IsMultigraph g → IsCovered g → (IsBipartite g → ⊥) → ((x : Set) → IsTight g x → IsNontrivial g.order x → ⊥) ↔ (IsBicritical g × ((u v : ℕ) → IsCutPair g u v → ⊥))
+brick_or_not g is cov odd_cycle = (
+  (λ brick. let f = brick_facts g is.ends cov (no_sides g is.no_loop odd_cycle) brick in (f.1, λ u v p. f.2 u v p.first p.second p)),
+  (λ h x tx wide. no_shore g is cov h.0 h.1 x tx wide),
+)

@@ -1,0 +1,155 @@
+-- Two tight shores that cross: the meet or the union is nontrivial, or the vertex in both and the one in neither separate.
+-- Where the meet is even the complement of the second is taken. No edge joins the two differences.
+use Rattle.std.proofs.Common.{◌≡◌, ℕ, ◌≤◌, Bool, true, false, cond, ◌==◌, ◌&&◌, ◌||◌, not, refl, sym, ap, ◌∙◌, arith, inl, inr, ◌⊎◌, ne_eqb}
+use Rattle.std.proofs.lemmas.Bool.{and_from, and_parts, both_ways, cases_Bool, eqb-false, not-true, or_from, or_parts, true≢false}
+use Rattle.counting.proofs.Counts.{only_one}
+use Rattle.counting.proofs.Members.{count_member}
+use Rattle.counting.proofs.Odd.{odd-add, odd_three}
+use Rattle.counting.proofs.SetSizes.{count_mono, count_split}
+use Rattle.counting.specs.Counts.{Within, count, is_odd}
+use Rattle.counting.specs.Sets.{Set, complement, meet, minus, pair_set, union}
+use Rattle.graph_core.proofs.Uncrossing.{no_edge_joins, union_tight}
+use Rattle.graph_core.specs.Covered.{IsCovered}
+use Rattle.graph_core.specs.Graph.{Graph, HasEnds, IsGraph, connects, first_end, in_cut, second_end, size}
+use Rattle.graph_core.specs.Structure.{IsCutPair}
+use Rattle.graph_core.specs.Tight.{IsNontrivial, IsTight}
+use Rattle.barrier_kit.proofs.CutFacts.{tight-turned}
+use Rattle.weight_kit.proofs.CutEnds.{cut_ends, ends_within}
+use Rattle.brick_kit.proofs.PairSeparations.{beside_ends, separates}
+use Rattle.brick_kit.proofs.PartingShores.{ApartEdges}
+
+-- tight x and t, an odd number of vertices in both, a in x alone, b in t alone
+pub record Crossing (g : Graph) (x t : Set) (a b : ℕ) : Type 0 where
+  pub first : IsTight g x
+  pub second : IsTight g t
+  pub odd : is_odd (count g.order (meet x t)) ≡ true
+  pub a_real : Within g.order a
+  pub b_real : Within g.order b
+  pub left : (x a ≡ true) × (t a ≡ false)
+  pub right : (x b ≡ false) × (t b ≡ true)
+
+pub odd_crossing : (g : Graph) (x t : Set) (d : ApartEdges g x) → IsGraph g → IsTight g x → IsTight g t → is_odd (count g.order (meet x t)) ≡ true → t d.u ≡ t d.v → t d.u' ≡ t d.v' → t d.u ≡ not (t d.u') →
+    (a : ℕ) × (b : ℕ) × Crossing g x t a b
+odd_crossing g x t d is tx tt odd p p' q = go (t d.u) (t d.u') refl refl q
+  where
+    go : (i j : Bool) → t d.u ≡ i → t d.u' ≡ j → i ≡ not j → (a : ℕ) × (b : ℕ) × Crossing g x t a b
+    go true true k l r = absurd (true≢false r)
+    go false false k l r = absurd (true≢false (sym r))
+    go true false k l r = (
+      d.u',
+      d.v,
+      record {
+        first = tx;
+        second = tt;
+        odd = odd;
+        a_real = (ends_within g is d.f d.u' d.v' d.f_real d.f_ends).0;
+        b_real = (ends_within g is d.e d.u d.v d.e_real d.e_ends).1;
+        left = (d.ins.1, l);
+        right = (d.outs.0, sym p ∙ k);
+      },
+    )
+    go false true k l r = (
+      d.u,
+      d.v',
+      record {
+        first = tx;
+        second = tt;
+        odd = odd;
+        a_real = (ends_within g is d.e d.u d.v d.e_real d.e_ends).0;
+        b_real = (ends_within g is d.f d.u' d.v' d.f_real d.f_ends).1;
+        left = (d.ins.0, k);
+        right = (d.outs.1, sym p' ∙ l);
+      },
+    )
+
+pub turned : (g : Graph) (x t : Set) (d : ApartEdges g x) → IsGraph g → IsTight g x → IsTight g t → t d.u ≡ t d.v → t d.u' ≡ t d.v' → t d.u ≡ not (t d.u') →
+    ((a : ℕ) × (b : ℕ) × Crossing g x t a b) ⊎ ((a : ℕ) × (b : ℕ) × Crossing g x (complement t) a b)
+turned g x t d is tx tt p p' q = elim (cases_Bool (is_odd (count g.order (meet x t)))) [
+  | inl o ↦ inl (odd_crossing g x t d is tx tt o p p' q)
+  | inr o ↦ inr (odd_crossing g x (complement t) d is tx (tight-turned g t tt)
+      (other (is_odd (count g.order (meet x t))) (is_odd (count g.order (minus x t))) (sym (ap is_odd (count_split g.order x t) ∙ odd-add (count g.order (meet x t)) (count g.order (minus x t))) ∙ tx.odd) o)
+      (ap not p) (ap not p') (ap not q))
+]
+  where
+    other : (a b : Bool) → cond a (not b) b ≡ true → a ≡ false → b ≡ true
+    other true b h k = absurd (true≢false k)
+    other false b h k = h
+
+pub meet_wide : (g : Graph) (x t : Set) (a b : ℕ) → Crossing g x t a b → IsNontrivial g.order x → 2 ≤ count g.order (meet x t) → IsNontrivial g.order (meet x t)
+meet_wide g x t a b c wide two = record {
+  inside = odd_three (count g.order (meet x t)) c.odd two;
+  outside = let o = wide.outside in let m = count_mono g.order (complement x) (complement (meet x t)) (λ v w h. out (x v) (t v) h) in omega arith;
+}
+  where
+    out : (i j : Bool) → not i ≡ true → not (i && j) ≡ true
+    out true j h = absurd (true≢false (sym h))
+    out false j h = refl
+
+pub union_wide : (g : Graph) (x t : Set) (a b : ℕ) → IsGraph g → IsCovered g → Crossing g x t a b → IsNontrivial g.order x → 2 ≤ count g.order (complement (union x t)) → IsNontrivial g.order (union x t)
+union_wide g x t a b is cov c wide two = record {
+  inside = let o = wide.inside in let m = count_mono g.order x (union x t) (λ v w h. in_first (x v) (t v) h) in omega arith;
+  outside = let u = union_tight g is cov x t c.first c.second c.odd in odd_three (count g.order (complement (union x t))) u.odd_complement two;
+}
+  where
+    in_first : (i j : Bool) → i ≡ true → (i || j) ≡ true
+    in_first true j h = refl
+    in_first false j h = absurd (true≢false (sym h))
+
+-- an edge with one end in y and the other in z connects them
+pub joins : (g : Graph) (y z : Set) (e u v : ℕ) → HasEnds g e u v → y u ≡ true → z v ≡ true → connects g y z e ≡ true
+joins g y z e u v ends yu zv = elim ends [
+  | inl p ↦ left (y (first_end g e)) (z (second_end g e)) (z (first_end g e) && y (second_end g e)) (ap y p.0 ∙ yu) (ap z p.1 ∙ zv)
+  | inr p ↦ right (z (first_end g e)) (y (second_end g e)) (y (first_end g e) && z (second_end g e)) (ap z p.0 ∙ zv) (ap y p.1 ∙ yu)
+]
+  where
+    left : (i j k : Bool) → i ≡ true → j ≡ true → ((i && j) || k) ≡ true
+    left i j k p q = grind arith
+
+    right : (i j k : Bool) → i ≡ true → j ≡ true → (k || (i && j)) ≡ true
+    right i j k p q = grind arith
+
+pub single_corners : (g : Graph) (x t : Set) (a b : ℕ) → IsGraph g → IsCovered g → Crossing g x t a b → count g.order (meet x t) ≡ 1 → count g.order (complement (union x t)) ≡ 1 → (c : ℕ) × (d : ℕ) × IsCutPair g c d
+single_corners g x t a b is cov k one one' = (
+  c.0,
+  d.0,
+  separates g c.0 d.0 x a b is c.1 d.1 (λ q. both_ways (x d.0) dd.0 (ap x (sym q) ∙ cc.0)) k.a_real k.b_real
+      (or_from (c.0 == a) (d.0 == a) (ne_eqb c.0 a (λ q. both_ways (t a) k.left.1 (ap t (sym q) ∙ cc.1))) (ne_eqb d.0 a (λ q. both_ways (x d.0) dd.0 (ap x q ∙ k.left.0))))
+      (or_from (c.0 == b) (d.0 == b) (ne_eqb c.0 b (λ q. both_ways (x b) k.right.0 (ap x (sym q) ∙ cc.0))) (ne_eqb d.0 b (λ q. both_ways (t d.0) dd.1 (ap t q ∙ k.right.1))))
+      k.left.0 k.right.0 stays,
+)
+  where
+    c : (w : ℕ) × Within g.order w × (meet x t w ≡ true)
+    c = count_member g.order (meet x t) (omega arith)
+
+    d : (w : ℕ) × Within g.order w × (complement (union x t) w ≡ true)
+    d = count_member g.order (complement (union x t)) (omega arith)
+
+    cc : (x c.0 ≡ true) × (t c.0 ≡ true)
+    cc = and_parts (x c.0) (t c.0) c.2
+
+    dd : (x d.0 ≡ false) × (t d.0 ≡ false)
+    dd = or_parts (x d.0) (t d.0) (not-true (x d.0 || t d.0) d.2)
+
+    stays : (e : ℕ) → Within (size g) e → pair_set c.0 d.0 (first_end g e) ≡ false → pair_set c.0 d.0 (second_end g e) ≡ false → in_cut g x e ≡ false
+    stays e we p q = elim (cases_Bool (in_cut g x e)) [
+      | inr f ↦ f
+      | inl h ↦
+          let n = cut_ends g x e h in
+          let o = beside_ends g (pair_set c.0 d.0) e n.0 n.1 n.2 p q in
+          let wu = (ends_within g is e n.0 n.1 we n.2).0 in
+          let wv = (ends_within g is e n.0 n.1 we n.2).1 in
+          absurd (both_ways (connects g (minus x t) (minus t x) e) (no_edge_joins g is cov x t k.first k.second k.odd e we)
+          (joins g (minus x t) (minus t x) e n.0 n.1 n.2
+          (first_alone (x n.0) (t n.0) n.3 (λ tu. eqb-false c.0 n.0 (or_parts (c.0 == n.0) (d.0 == n.0) o.0).0 (only_one g.order (meet x t) one c.0 n.0 c.1 wu c.2 (and_from (x n.0) (t n.0) n.3 tu))))
+          (second_alone (x n.1) (t n.1) n.4 (λ tv. eqb-false d.0 n.1 (or_parts (c.0 == n.1) (d.0 == n.1) o.1).1 (only_one g.order (complement (union x t)) one' d.0 n.1 d.1 wv d.2 (ap not (or_from (x n.1) (t n.1) n.4 tv)))))))
+    ]
+      where
+        first_alone : (i j : Bool) → i ≡ true → (j ≡ true → ⊥) → (i && not j) ≡ true
+        first_alone true true h l = absurd (l refl)
+        first_alone true false h l = refl
+        first_alone false j h l = absurd (true≢false (sym h))
+
+        second_alone : (i j : Bool) → i ≡ false → (j ≡ false → ⊥) → (j && not i) ≡ true
+        second_alone false true h l = refl
+        second_alone false false h l = absurd (l refl)
+        second_alone true j h l = absurd (true≢false h)

@@ -1,0 +1,10 @@
+pub mod CutWeights
+pub mod TightCovers
+pub mod PairBounds
+pub mod PairSeparations
+pub mod ApartEdges
+pub mod PartingShores
+pub mod UncrossedLists
+pub mod Crossings
+pub mod PairsFromShores
+pub mod Bricks

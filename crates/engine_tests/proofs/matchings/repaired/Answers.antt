@@ -1,0 +1,10 @@
+use Rattle.std.proofs.Common.{sym, subst}
+use Rattle.counting.specs.Lists.{mem}
+use Rattle.graph_core.specs.Matchings.{IsMatching}
+use Rattle.match_core.specs.MatchingRows.{edges_of}
+use Rattle.match_core.proofs.MatchingEdges.{rows-matching}
+use Rattle.engine_tests.proofs.matchings.repaired.Goals as goal
+
+pub repair-requires-clause-matching : goal.repair-requires-clause-matching
+repair-requires-clause-matching c =
+    subst (λ xs. IsMatching c.args.graph.now (mem xs) (mem (edges_of c.args.m.now))) (sym c.empty.ensures) (rows-matching c.args.graph.now c.args.m.now c.requires c.keeps_matching.ensures)

@@ -1,0 +1,118 @@
+//! Two derivations of the cycle of eight vertices: compared, their moves made again, and a shore exposed.
+ghost use Rattle.std.specs.Prelude.{◌≡◌, IfOk};
+ghost use Rattle.tree_core.specs.Derivations.{IsDerivation};
+ghost use Rattle.tree_core.specs.View.{shape_of};
+
+use crate::choices::{Choice, decomposed};
+use crate::made::made;
+use decomposer::Refused;
+use graph_core::MultiGraph;
+use std::alloc::{AllocError as Memory, Global};
+use std::test::Fail;
+use tree_core::laws::derivation_stands;
+use tree_core::{Moves, Tree, apply, fits};
+use uncross::{compare, expose};
+use worked_graphs::CYCLE_OF_8;
+
+// The derivation in an order; none where the graph is refused, which the cycle is not.
+fn derived(alloc: Global, g: &MultiGraph, choice: Choice) -> Result<Option<Tree>, Memory>
+    ensures { IfOk result (λ o. (t : _) → o ≡ Some t → IsDerivation g.now (shape_of t)) }
+{
+    match decomposed(alloc, g, choice) {
+        Ok(tree) => Ok(Some(tree)),
+        Err(Refused::NotCovered(_)) => Ok(None),
+        Err(Refused::Memory) => Err(Memory),
+    }
+}
+
+// Whether two trees say the same.
+fn same_tree(first: &Tree, second: &Tree) -> bool {
+    match first {
+        Tree::Leaf => matches!(second, Tree::Leaf),
+        Tree::Cut {
+            shore,
+            kept,
+            merged,
+        } => match second {
+            Tree::Leaf => false,
+            Tree::Cut {
+                shore: other,
+                kept: other_kept,
+                merged: other_merged,
+            } => *shore == *other && same_tree(kept, other_kept) && same_tree(merged, other_merged),
+        },
+    }
+}
+
+// What the moves make of a tree, as far as they fit.
+fn replayed(tree: Tree, n: u32, moves: &Moves) -> Tree {
+    let mut tree = tree;
+    for i in 0..moves.len() {
+        if !fits(&tree, n) {
+            return tree;
+        }
+        tree = match apply(tree, n, moves.get(i)) {
+            Ok(made) => made,
+            Err((same, _)) => same,
+        };
+    }
+    tree
+}
+
+#[test]
+fn derivations_of_the_cycle_of_eight(rt: HostRuntime) -> Result<(), Fail> {
+    let g = made(rt.alloc(), 8, &CYCLE_OF_8)?;
+    let Some(first) = derived(rt.alloc(), &g, Choice::First)? else {
+        assert!(rt; false);
+        return Ok(());
+    };
+    let Some(second) = derived(rt.alloc(), &g, Choice::Last)? else {
+        assert!(rt; false);
+        return Ok(());
+    };
+    let itself = compare(rt.alloc(), &g, &first, &first)?;
+    assert!(rt; itself.moves.is_empty());
+    let pairing = compare(rt.alloc(), &g, &first, &second)?;
+    assert!(rt; !pairing.moves.is_empty() && pairing.maps.len() == 3);
+    let made = replayed(first, g.order(), &pairing.moves);
+    assert!(rt; same_tree(&made, &second));
+    Ok(())
+}
+
+// Whether the root shore of a derivation is brought to the root of another, with a map for each of so many leaves.
+fn root_exposed(
+    alloc: Global,
+    g: &MultiGraph,
+    first: Tree,
+    second: &Tree,
+    many: usize,
+) -> Result<bool, Memory>
+    requires first { IsDerivation g.now (shape_of first) }
+    requires second { IsDerivation g.now (shape_of second.now) }
+{
+    match second {
+        Tree::Leaf => Ok(false),
+        Tree::Cut { shore, .. } => {
+            let exposed = expose(alloc, g, first, *shore)?;
+            match &exposed.tree {
+                Tree::Leaf => Ok(false),
+                Tree::Cut { shore: root, .. } => Ok(*root == *shore && exposed.maps.len() == many),
+            }
+        }
+    }
+}
+
+#[test]
+fn a_shore_of_the_cycle_of_eight_exposed(rt: HostRuntime) -> Result<(), Fail> {
+    let g = made(rt.alloc(), 8, &CYCLE_OF_8)?;
+    let Some(first) = derived(rt.alloc(), &g, Choice::First)? else {
+        assert!(rt; false);
+        return Ok(());
+    };
+    let Some(second) = derived(rt.alloc(), &g, Choice::Last)? else {
+        assert!(rt; false);
+        return Ok(());
+    };
+    assert!(rt; root_exposed(rt.alloc(), &g, first, &second, 3)?);
+    Ok(())
+}

@@ -1,0 +1,94 @@
+//! The worked examples of the definitions, asked of the plain program.
+ghost use Rattle.plain_graph.specs.Small.{IsSmall};
+
+use crate::made::{made, set_of};
+use graph_core::MultiGraph;
+use plain_graph::{
+    edges_in_cut, greatest_matching, has_perfect, is_allowed, is_matching, is_perfect, is_small,
+    is_tight, odd_component_count, perfect_matchings,
+};
+use std::alloc::Global;
+use std::test::Fail;
+use vset_core::VSet;
+use worked_graphs::{HEXAGON, K4, PATH, PRISM, STAR, TRIANGLE};
+
+// A graph, by its order and its edges, and its edges in perfect matchings.
+static ALLOWED: [(u32, &[(u32, u32)], &[u32]); 4] = [
+    (4, &K4, &[1, 2, 3, 4, 5, 6]),
+    (4, &PATH, &[1, 3]),
+    (3, &TRIANGLE, &[]),
+    (4, &STAR, &[]),
+];
+
+// Whether these edges of the graph, and no others, are in perfect matchings.
+fn allows(alloc: Global, graph: &MultiGraph, edges: &[u32]) -> Result<bool, Fail>
+    requires { IsSmall graph.now }
+{
+    for e in 1..=graph.size() {
+        if is_allowed(alloc, graph, e)? != edges.contains(&e) {
+            return Ok(false);
+        }
+    }
+    Ok(has_perfect(alloc, graph, VSet::empty())? != edges.is_empty())
+}
+
+#[test]
+fn edges_in_perfect_matchings(rt: HostRuntime) -> Result<(), Fail> {
+    for (order, edges, wanted) in &ALLOWED {
+        let graph = made(rt.alloc(), *order, edges)?;
+        assert!(rt; is_small(&graph));
+        assert!(rt; allows(rt.alloc(), &graph, wanted)?);
+    }
+    Ok(())
+}
+
+#[test]
+fn the_matchings_of_k4(rt: HostRuntime) -> Result<(), Fail> {
+    let graph = made(rt.alloc(), 4, &K4)?;
+    assert!(rt; is_small(&graph));
+    let matchings = perfect_matchings(rt.alloc(), &graph, VSet::empty())?;
+    let wanted = [set_of(&[3, 4]), set_of(&[2, 5]), set_of(&[1, 6])];
+    assert!(rt; matchings.as_slice() == wanted.as_slice());
+    assert!(rt; is_matching(&graph, VSet::empty(), VSet::one(1)));
+    assert!(rt; !is_matching(&graph, VSet::one(1), VSet::one(1)));
+    assert!(rt; has_perfect(rt.alloc(), &graph, set_of(&[1, 2]))?);
+    Ok(())
+}
+
+// A graph, a Berge set, and the number of vertices that a greatest matching misses.
+static DEFICIENCIES: [(u32, &[(u32, u32)], &[u32], u64); 3] = [
+    (3, &TRIANGLE, &[], 1),
+    (4, &STAR, &[1], 2),
+    (4, &K4, &[], 0),
+];
+
+#[test]
+fn the_deficiency_is_that_of_a_berge_set(rt: HostRuntime) -> Result<(), Fail> {
+    for (order, edges, berge, deficiency) in &DEFICIENCIES {
+        let graph = made(rt.alloc(), *order, edges)?;
+        assert!(rt; is_small(&graph) && *deficiency < 3);
+        let most = u64::from(greatest_matching(rt.alloc(), &graph, VSet::empty())?);
+        assert!(rt; 2 * most + deficiency == u64::from(*order));
+        let berge = set_of(berge);
+        let odd = u64::from(odd_component_count(&graph, berge));
+        assert!(rt; odd == u64::from(berge.len()) + deficiency);
+    }
+    Ok(())
+}
+
+#[test]
+fn tight_shores(rt: HostRuntime) -> Result<(), Fail> {
+    let hexagon = made(rt.alloc(), 6, &HEXAGON)?;
+    assert!(rt; is_small(&hexagon));
+    assert!(rt; is_tight(rt.alloc(), &hexagon, set_of(&[2, 3, 4]))?);
+    assert!(rt; !is_tight(rt.alloc(), &hexagon, set_of(&[1, 3, 5]))?);
+    assert!(rt; !is_tight(rt.alloc(), &hexagon, set_of(&[2, 3]))?);
+    let prism = made(rt.alloc(), 6, &PRISM)?;
+    assert!(rt; is_small(&prism));
+    let crossing = set_of(&[7, 8, 9]);
+    let triangle = set_of(&[1, 2, 3]);
+    assert!(rt; is_perfect(&prism, VSet::empty(), crossing));
+    assert!(rt; edges_in_cut(&prism, crossing, triangle) == 3);
+    assert!(rt; !is_tight(rt.alloc(), &prism, triangle)?);
+    Ok(())
+}

@@ -1,0 +1,52 @@
+//! A generated graph edge by edge, the sizes of larger ones, and the reference words of the random generator.
+
+use graph_core::Ends;
+use grow_gen::grow;
+use rand_core::utils::NextWord;
+use rand_pcg::Lcg64Xsh32;
+use std::alloc::AllocError;
+
+// The edges of one piece: the complete bipartite graph of three and three vertices.
+static ONE_PIECE: [Ends; 9] = [
+    Ends { a: 1, b: 4 },
+    Ends { a: 1, b: 5 },
+    Ends { a: 1, b: 6 },
+    Ends { a: 2, b: 4 },
+    Ends { a: 2, b: 5 },
+    Ends { a: 2, b: 6 },
+    Ends { a: 3, b: 4 },
+    Ends { a: 3, b: 5 },
+    Ends { a: 3, b: 6 },
+];
+
+#[test]
+fn one_piece(rt: HostRuntime) -> Result<(), AllocError> {
+    let g = grow(rt.alloc(), 5, 1)?;
+    assert!(rt; g.order() == 6);
+    assert!(rt; g.edges() == ONE_PIECE.as_slice());
+    Ok(())
+}
+
+// The number of pieces, of vertices and of edges.
+static SIZES: [(u32, u32, u32); 3] = [(2, 8, 12), (12, 48, 72), (16, 64, 96)];
+
+#[test]
+fn sizes(rt: HostRuntime) -> Result<(), AllocError> {
+    for (pieces, order, size) in &SIZES {
+        assert!(rt; 1 <= *pieces && *pieces <= 16);
+        let g = grow(rt.alloc(), 7, *pieces)?;
+        assert!(rt; g.order() == *order && g.size() == *size);
+    }
+    Ok(())
+}
+
+// The first words of the published example of the generator, from its seed 42 and its stream 54.
+static WORDS: [u32; 4] = [0xa15c02b7, 0x7b47f409, 0xba1d3330, 0x83d2f293];
+
+#[test]
+fn reference_words(rt: HostRuntime) {
+    let mut words = Lcg64Xsh32::new(42, 54);
+    for want in &WORDS {
+        assert!(rt; words.next_word() == *want);
+    }
+}

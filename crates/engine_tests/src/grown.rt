@@ -1,0 +1,106 @@
+//! Generated graphs and the leaves of their decomposition: the quick tests beside the complete finder, and their ear lists.
+ghost use Rattle.graph_core.specs.Covered.{IsCovered};
+
+use crate::asked::{is_bipartite, is_covered};
+use crate::choices::{Choice, decomposed};
+use allowed_edges::together;
+use contraction::{Partition, quotient};
+use decomposer::Refused;
+use ear_core::{EarJudgement, build_ears, check_ears};
+use graph_core::MultiGraph;
+use grow_gen::grow;
+use quick_kinds::{quick_brace, quick_brick};
+use std::alloc::{AllocError as Memory, Global};
+use tight_cuts::find_any;
+use tree_core::laws::derivation_stands;
+use tree_core::leaves;
+
+// Whether the graph is covered, and the quick test for its sort finds a nontrivial tight cut exactly where the finder does.
+fn agrees(alloc: Global, g: &MultiGraph) -> Result<bool, Memory> {
+    if !is_covered(alloc, g)? {
+        return Ok(false);
+    }
+    let is_whole = find_any(alloc, g)?.is_none();
+    if is_bipartite(alloc, g)? {
+        if g.order() < 4 {
+            return Ok(is_whole);
+        }
+        return Ok(quick_brace(alloc, g)? == is_whole);
+    }
+    Ok(quick_brick(alloc, g)?.is_none() == is_whole)
+}
+
+// Whether the graph and each of the leaves of its decomposition, as many as wanted, agree.
+fn leaves_agree(alloc: Global, g: &MultiGraph, many: usize) -> Result<bool, Memory>
+    requires { IsCovered g.now }
+{
+    derivation_stands();
+    let tree = match decomposed(alloc, g, Choice::First) {
+        Ok(tree) => tree,
+        Err(Refused::NotCovered(_)) => return Ok(false),
+        Err(Refused::Memory) => return Err(Memory),
+    };
+    let partitions = leaves(alloc, &tree, g.order())?;
+    for i in 0..partitions.len() {
+        if !leaf_agrees(alloc, g, partitions.get(i))? {
+            return Ok(false);
+        }
+    }
+    Ok(partitions.len() == many)
+}
+
+fn leaf_agrees(alloc: Global, g: &MultiGraph, leaf: &Partition) -> Result<bool, Memory> {
+    if leaf.order() != g.order() {
+        return Ok(false);
+    }
+    let piece = quotient(alloc, g, leaf)?;
+    agrees(alloc, piece.graph())
+}
+
+fn number_agrees(alloc: Global, number: u64) -> Result<bool, Memory> {
+    let g = grow(alloc, number, 6)?;
+    Ok(agrees(alloc, &g)? && leaves_agree(alloc, &g, 6)?)
+}
+
+#[test]
+fn quick_tests_agree_with_the_finder(rt: HostRuntime) -> Result<(), Memory> {
+    let mut agree = true;
+    for number in 1..21u64 {
+        agree = agree && number_agrees(rt.alloc(), number)?;
+    }
+    assert!(rt; agree);
+    Ok(())
+}
+
+// Whether the ear list that is built of a grown graph is accepted.
+fn ears_are_accepted(alloc: Global, number: u64) -> Result<bool, Memory> {
+    let g = grow(alloc, number, 6)?;
+    let list = build_ears(alloc, &g)?;
+    match check_ears(alloc, &g, &list)? {
+        EarJudgement::Accepted => Ok(true),
+        EarJudgement::Refused { .. } => Ok(false),
+    }
+}
+
+#[test]
+fn ear_lists_of_grown_graphs_are_accepted(rt: HostRuntime) -> Result<(), Memory> {
+    let mut accepted = true;
+    for number in 1..11u64 {
+        accepted = accepted && ears_are_accepted(rt.alloc(), number)?;
+    }
+    assert!(rt; accepted);
+    Ok(())
+}
+
+#[test]
+fn table_of_pairs_of_a_large_graph(rt: HostRuntime) -> Result<(), Memory> {
+    let g = grow(rt.alloc(), 7, 16)?;
+    let pairs = together(rt.alloc(), &g)?;
+    assert!(rt; g.size() >= 2 && pairs.list().len() > 0);
+    let mut listed = true;
+    for e in 1..=g.size() {
+        listed = listed && pairs.both(e, e);
+    }
+    assert!(rt; listed);
+    Ok(())
+}

@@ -1,0 +1,216 @@
+//! Worked trees, each answer once.
+ghost use Rattle.std.specs.Prelude.{◌≤◌, length};
+
+use crate::made::{made, set_of};
+use graph_core::{MultiGraph, Reason};
+use std::alloc::{AllocError as Memory, Global};
+use std::test::Fail;
+use tree_check::{Judgement, Replayed, Why, check, replay};
+use tree_core::{Move, Moves, Path, Tree, fits};
+use vset_core::VSet;
+use worked_graphs::{HEXAGON, PETERSEN, PRISM, TRIANGLE_IN_K33, TWO_EDGES};
+
+fn cut(alloc: Global, shore: VSet, kept: Tree, merged: Tree) -> Result<Tree, Memory> {
+    Ok(Tree::Cut {
+        shore,
+        kept: Box::new(alloc, kept)?,
+        merged: Box::new(alloc, merged)?,
+    })
+}
+
+// The answer to a tree, and none where it does not fit the graph.
+fn judged(alloc: Global, g: &MultiGraph, tree: &Tree) -> Result<Option<Judgement>, Memory> {
+    if fits(tree, g.order()) {
+        Ok(Some(check(alloc, g, tree)?))
+    } else {
+        Ok(None)
+    }
+}
+
+// The answer to a cut with two leaves.
+fn judged_cut(alloc: Global, g: &MultiGraph, shore: VSet) -> Result<Option<Judgement>, Memory> {
+    let tree = cut(alloc, shore, Tree::Leaf, Tree::Leaf)?;
+    judged(alloc, g, &tree)
+}
+
+// Whether the node is refused, and by the rule of that number.
+fn is_refused(judgement: &Option<Judgement>, at: u32, number: u32) -> bool {
+    match judgement {
+        Some(Judgement::Refused { node, why }) => *node == at && number_of(why) == number,
+        _ => false,
+    }
+}
+
+fn number_of(why: &Why) -> u32 {
+    match why {
+        Why::NotBlocks => 1,
+        Why::Even => 2,
+        Why::Trivial => 3,
+        Why::NotTight { .. } => 4,
+        Why::NotLeaf { .. } => 5,
+    }
+}
+
+// Whether the root is refused as a cut that is not tight, by a matching of these edges.
+fn is_crossed_by(judgement: &Option<Judgement>, edges: &[u32]) -> bool {
+    match judgement {
+        Some(
+            Judgement::Refused {
+                node,
+                why: Why::NotTight { matching },
+            },
+        ) => *node == 1 && matching.as_slice() == edges,
+        _ => false,
+    }
+}
+
+// Whether the root is refused as a leaf that this shore cuts.
+fn is_cut_further(judgement: &Option<Judgement>, shore: VSet) -> bool {
+    match judgement {
+        Some(
+            Judgement::Refused {
+                node,
+                why: Why::NotLeaf { cut },
+            },
+        ) => *node == 1 && *cut == shore,
+        _ => false,
+    }
+}
+
+#[test]
+fn cuts_that_are_not_tight(rt: HostRuntime) -> Result<(), Fail> {
+    let prism = made(rt.alloc(), 6, &PRISM)?;
+    let answer = judged_cut(rt.alloc(), &prism, VSet::full(3))?;
+    assert!(rt; is_crossed_by(&answer, &[7, 8, 9]));
+    let petersen = made(rt.alloc(), 10, &PETERSEN)?;
+    let answer = judged_cut(rt.alloc(), &petersen, VSet::full(5))?;
+    assert!(rt; is_crossed_by(&answer, &[6, 7, 8, 9, 10]));
+    Ok(())
+}
+
+#[test]
+fn a_hexagon_that_is_no_leaf(rt: HostRuntime) -> Result<(), Fail> {
+    let hexagon = made(rt.alloc(), 6, &HEXAGON)?;
+    let answer = judged(rt.alloc(), &hexagon, &Tree::Leaf)?;
+    assert!(rt; is_cut_further(&answer, set_of(&[2, 3, 4])));
+    Ok(())
+}
+
+#[test]
+fn shores_of_a_hexagon(rt: HostRuntime) -> Result<(), Fail> {
+    let hexagon = made(rt.alloc(), 6, &HEXAGON)?;
+    let even = judged_cut(rt.alloc(), &hexagon, VSet::full(2))?;
+    assert!(rt; is_refused(&even, 1, 2));
+    let trivial = judged_cut(rt.alloc(), &hexagon, VSet::one(1))?;
+    assert!(rt; is_refused(&trivial, 1, 3));
+    let below = cut(rt.alloc(), set_of(&[1, 4, 5]), Tree::Leaf, Tree::Leaf)?;
+    let tree = cut(rt.alloc(), VSet::full(3), below, Tree::Leaf)?;
+    let answer = judged(rt.alloc(), &hexagon, &tree)?;
+    assert!(rt; is_refused(&answer, 2, 1));
+    Ok(())
+}
+
+#[test]
+fn accepted_and_not_covered(rt: HostRuntime) -> Result<(), Fail> {
+    let g = made(rt.alloc(), 8, &TRIANGLE_IN_K33)?;
+    match judged_cut(rt.alloc(), &g, VSet::full(3))? {
+        Some(Judgement::Accepted) => {}
+        _ => assert!(rt; false),
+    }
+    let parted = made(rt.alloc(), 4, &TWO_EDGES)?;
+    match judged(rt.alloc(), &parted, &Tree::Leaf)? {
+        Some(Judgement::NotCovered(Reason::Parted { a, b })) => assert!(rt; a == 1 && b == 3),
+        _ => assert!(rt; false),
+    }
+    Ok(())
+}
+
+// A Switch at the root.
+fn switch_root(alloc: Global, u: VSet, v: VSet) -> Move {
+    let path = Path::new(alloc);
+    Move::Switch { path, u, v }
+}
+
+// The answer to moves on the cut of a hexagon with the shore 1 2 3, and none where it is no derivation.
+fn replayed_hexagon(alloc: Global, moves: &Moves) -> Result<Option<Replayed>, Fail>
+    requires { length moves.now ≤ 3 }
+{
+    let hexagon = made(alloc, 6, &HEXAGON)?;
+    let tree = cut(alloc, VSet::full(3), Tree::Leaf, Tree::Leaf)?;
+    if !fits(&tree, hexagon.order()) {
+        return Ok(None);
+    }
+    match check(alloc, &hexagon, &tree)? {
+        Judgement::Accepted => Ok(Some(replay(alloc, &hexagon, tree, moves)?)),
+        _ => Ok(None),
+    }
+}
+
+// Whether the last tree is a cut with that shore.
+fn is_done_with(answer: &Option<Replayed>, expected: VSet) -> bool {
+    match answer {
+        Some(
+            Replayed::Done {
+                tree: Tree::Cut { shore, .. },
+            },
+        ) => *shore == expected,
+        _ => false,
+    }
+}
+
+// Whether the move of that number has no result.
+fn is_stuck(answer: &Option<Replayed>, number: u32) -> bool {
+    match answer {
+        Some(Replayed::Stuck { at }) => *at == number,
+        _ => false,
+    }
+}
+
+// Whether the result of the move of that number has a root that is not tight, by a matching of these edges.
+fn is_refused_move(answer: &Option<Replayed>, number: u32, edges: &[u32]) -> bool {
+    match answer {
+        Some(
+            Replayed::Refused {
+                at,
+                node,
+                why: Why::NotTight { matching },
+            },
+        ) => *at == number && *node == 1 && matching.as_slice() == edges,
+        _ => false,
+    }
+}
+
+#[test]
+fn a_script_replayed(rt: HostRuntime) -> Result<(), Fail> {
+    let mut moves = Moves::new(rt.alloc());
+    moves.push(switch_root(rt.alloc(), VSet::one(1), VSet::one(4)))?;
+    let answer = replayed_hexagon(rt.alloc(), &moves)?;
+    assert!(rt; is_done_with(&answer, set_of(&[2, 3, 4])));
+    moves.push(Move::Rotate {
+        path: Path::new(rt.alloc()),
+    })?;
+    let answer = replayed_hexagon(rt.alloc(), &moves)?;
+    assert!(rt; is_stuck(&answer, 2));
+    Ok(())
+}
+
+#[test]
+fn a_move_without_result(rt: HostRuntime) -> Result<(), Fail> {
+    let mut moves = Moves::new(rt.alloc());
+    moves.push(Move::Rotate {
+        path: Path::new(rt.alloc()),
+    })?;
+    let answer = replayed_hexagon(rt.alloc(), &moves)?;
+    assert!(rt; is_stuck(&answer, 1));
+    Ok(())
+}
+
+#[test]
+fn a_tree_on_the_way_refused(rt: HostRuntime) -> Result<(), Fail> {
+    let mut moves = Moves::new(rt.alloc());
+    moves.push(switch_root(rt.alloc(), VSet::one(2), VSet::one(4)))?;
+    moves.push(switch_root(rt.alloc(), VSet::one(4), VSet::one(2)))?;
+    let answer = replayed_hexagon(rt.alloc(), &moves)?;
+    assert!(rt; is_refused_move(&answer, 1, &[2, 4, 6]));
+    Ok(())
+}

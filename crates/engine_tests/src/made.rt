@@ -1,0 +1,26 @@
+//! What the tests ask about: sets by their members, and graphs by their edges.
+
+use graph_core::MultiGraph;
+use std::alloc::Global;
+use std::test::Fail;
+use vset_core::{MOST_VERTICES, VSet};
+use worked_graphs::graph_with;
+
+// The set of those numbers that a set can hold.
+pub fn set_of(numbers: &[u32]) -> VSet {
+    let mut set = VSet::empty();
+    for v in numbers {
+        if 1 <= *v && *v <= MOST_VERTICES {
+            set = set.with(*v);
+        }
+    }
+    set
+}
+
+// The graph of these edges. The proofs of the tests need no more of it than that it is one.
+pub fn made(alloc: Global, order: u32, edges: &[(u32, u32)]) -> Result<MultiGraph, Fail> {
+    if order > MOST_VERTICES {
+        return Err("more vertices than a graph has".into());
+    }
+    Ok(graph_with(alloc, order, edges)?)
+}

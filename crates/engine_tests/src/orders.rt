@@ -1,0 +1,79 @@
+//! Worked graphs, each in the orders that have names.
+
+use crate::choices::{Choice, decomposed};
+use crate::made::{made, set_of};
+use decomposer::Refused;
+use graph_core::Reason;
+use std::alloc::Global;
+use std::test::Fail;
+use tree_core::Tree;
+use vset_core::VSet;
+use worked_graphs::{HEXAGON, PATH, TRIANGLE_IN_K33};
+
+// The shore of the only cut of a tree; none where it is a leaf or has more cuts.
+fn only_shore(tree: &Tree) -> Option<VSet> {
+    match tree {
+        Tree::Leaf => None,
+        Tree::Cut {
+            shore,
+            kept,
+            merged,
+        } => {
+            if is_leaf(kept) && is_leaf(merged) {
+                return Some(*shore);
+            }
+            None
+        }
+    }
+}
+
+fn is_leaf(tree: &Tree) -> bool {
+    matches!(tree, Tree::Leaf)
+}
+
+// A graph, by its order and its edges, an order of choice, and the shore of the only cut.
+static ONE_CUT: [(u32, &[(u32, u32)], Choice, &[u32]); 8] = [
+    (6, &HEXAGON, Choice::First, &[2, 3, 4]),
+    (6, &HEXAGON, Choice::FirstAlone, &[2, 3, 4]),
+    (6, &HEXAGON, Choice::Last, &[1, 2, 3]),
+    (6, &HEXAGON, Choice::Balanced, &[2, 3, 4]),
+    (8, &TRIANGLE_IN_K33, Choice::First, &[1, 2, 3]),
+    (8, &TRIANGLE_IN_K33, Choice::FirstAlone, &[1, 2, 3]),
+    (8, &TRIANGLE_IN_K33, Choice::Last, &[1, 2, 3]),
+    (8, &TRIANGLE_IN_K33, Choice::Balanced, &[1, 2, 3]),
+];
+
+// Whether the decomposition of the graph has one cut, with this shore.
+fn has_one_cut(
+    alloc: Global,
+    order: u32,
+    edges: &[(u32, u32)],
+    choice: Choice,
+    shore: &[u32],
+) -> Result<bool, Fail> {
+    let g = made(alloc, order, edges)?;
+    match decomposed(alloc, &g, choice) {
+        Ok(tree) => Ok(only_shore(&tree) == Some(set_of(shore))),
+        Err(_) => Ok(false),
+    }
+}
+
+#[test]
+fn graphs_with_one_cut(rt: HostRuntime) -> Result<(), Fail> {
+    for (order, edges, choice, shore) in &ONE_CUT {
+        assert!(rt; has_one_cut(rt.alloc(), *order, edges, *choice, shore)?);
+    }
+    Ok(())
+}
+
+#[test]
+fn a_leaf_and_a_refusal(rt: HostRuntime) -> Result<(), Fail> {
+    let parallel = made(rt.alloc(), 2, &[(1, 2), (1, 2)])?;
+    assert!(rt; decomposed(rt.alloc(), &parallel, Choice::First).is_ok_and(|tree| is_leaf(&tree)));
+    let path = made(rt.alloc(), 4, &PATH)?;
+    match decomposed(rt.alloc(), &path, Choice::Last) {
+        Err(Refused::NotCovered(reason)) => assert!(rt; reason == Reason::Unallowed { edge: 2 }),
+        _ => assert!(rt; false),
+    }
+    Ok(())
+}

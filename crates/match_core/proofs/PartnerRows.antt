@@ -1,0 +1,158 @@
+-- The outer vertices of a maximum matching that misses one vertex are exactly the vertices without which there is a perfect matching.
+-- A matching as large that misses v misses v alone, so it is perfect without v; and a perfect matching without v is as large, since
+-- both leave one vertex of an odd number. Where more than one vertex is missed, no matching misses one alone.
+use Rattle.std.proofs.Common.{◌≡◌, ◌≢◌, ℕ, zero, suc, ◌+◌, ◌-◌, ◌*◌, ◌<◌, ◌≤◌, ◌↔◌, List, length, Bool, true, false, ◌==◌, ◌&&◌, ◌||◌, not, refl, sym, ap, ◌∙◌, arith, inl, inr, subst, eq-eqb, eqb-true, ne_eqb}
+use Rattle.std.proofs.lemmas.Bool.{both_ways, cases_Bool, cases_eq, false_from_ne_true, and_from, and_parts, not-true}
+use Rattle.counting.specs.Counts.{Within, count}
+use Rattle.counting.specs.Sets.{Set, complement, singleton, union}
+use Rattle.counting.specs.Lists.{mem, IsRisingIn}
+use Rattle.counting.proofs.Counts.{count_congr, count_le_one, only_one}
+use Rattle.counting.proofs.Lists.{count_mem_length}
+use Rattle.counting.proofs.RisingLists.{set-narrower}
+use Rattle.graph_core.specs.Graph.{Graph, IsGraph, degree, size}
+use Rattle.graph_core.specs.Matchings.{HasPerfect, IsMatching, IsPerfect, has_perfect, missed_count}
+use Rattle.graph_core.proofs.Decide.{has_perfect_found, has_perfect_says}
+use Rattle.graph_core.proofs.Edits.{missed_edges}
+use Rattle.graph_core.proofs.Perfect.{missed_one, perfect_matching}
+use Rattle.match_core.specs.Frames.{Frame}
+use Rattle.match_core.specs.Optimal.{IsBest}
+use Rattle.match_core.specs.Rows.{marks}
+use Rattle.match_core.specs.declared.best.Best.{Best}
+use Rattle.match_core.proofs.OddComponents.{certificate_maximum, missable_outer, outer_missable}
+
+or_true_right : (a b : Bool) → b ≡ true → (a || b) ≡ true
+or_true_right a b h = grind arith
+
+or_false : (a b : Bool) → a ≡ false → b ≡ false → (a || b) ≡ false
+or_false a b h k = grind arith
+
+or_none : (a b : Bool) → (a || b) ≡ false → (a ≡ false) × (b ≡ false)
+or_none a b h = grind arith
+
+-- r and v
+module _ (r : Set) (v : ℕ) where
+  with_own : union r (singleton v) v ≡ true
+  with_own = or_true_right (r v) (v == v) (eq-eqb v v refl)
+
+  with_other : (w : ℕ) → v ≢ w → union r (singleton v) w ≡ r w
+  with_other w d = rw (ne_eqb v w d) (or_zero (r w))
+    where
+      or_zero : (b : Bool) → (b || false) ≡ b
+      or_zero true = refl
+      or_zero false = refl
+
+-- a matching that misses one vertex, v, is perfect without v
+pub alone-perfect : (g : Graph) (r m : Set) (v : ℕ) → IsMatching g r m → missed_count g r m ≡ 1 → Within g.order v → r v ≡ false → degree g m v ≡ 0 → IsPerfect g (union r (singleton v)) m
+unfolding missed_count
+alone-perfect g r m v mm one w rv z = record { once = once; away = away }
+  where
+    passes : (u : ℕ) → r u ≡ false → degree g m u ≡ 0 → (not (r u) && (degree g m u == 0)) ≡ true
+    passes u a b = rw (a, b) refl
+
+    once : (u : ℕ) → Within g.order u → union r (singleton v) u ≡ false → degree g m u ≡ 1
+    once u wu out =
+        let o = or_none (r u) (v == u) out in
+        met (degree g m u) (mm.once u wu) (λ du. both_ways (v == u) o.1 (eq-eqb v u
+        (only_one g.order (λ t. not (r t) && (degree g m t == 0)) one v u w wu (passes v rv z) (passes u o.0 du))))
+      where
+        met : (d : ℕ) → d ≤ 1 → (d ≡ 0 → ⊥) → d ≡ 1
+        met zero l n = absurd (n refl)
+        met (suc zero) l n = refl
+        met (suc (suc d)) l n = absurd (omega arith)
+
+    away : (u : ℕ) → Within g.order u → union r (singleton v) u ≡ true → degree g m u ≡ 0
+    away u wu out = elim (cases_eq v u) [
+      | inl e ↦ ap (degree g m) (sym e) ∙ z
+      | inr d ↦ mm.away u wu (sym (with_other r v u d) ∙ out)
+    ]
+
+-- a perfect matching without r and v is a matching without r that misses v alone
+pub perfect-alone : (g : Graph) (r p : Set) (v : ℕ) → Within g.order v → r v ≡ false → IsPerfect g (union r (singleton v)) p → IsMatching g r p × (degree g p v ≡ 0) × (missed_count g r p ≡ 1)
+unfolding missed_count
+perfect-alone g r p v w rv perfect = (record { once = once; away = away }, z, one)
+  where
+    z : degree g p v ≡ 0
+    z = perfect.away v w (with_own r v)
+
+    once : (u : ℕ) → Within g.order u → degree g p u ≤ 1
+    once u wu = elim (cases_Bool (union r (singleton v) u)) [
+      | inl t ↦ let d = perfect.away u wu t in omega arith
+      | inr f ↦ let d = perfect.once u wu f in omega arith
+    ]
+
+    away : (u : ℕ) → Within g.order u → r u ≡ true → degree g p u ≡ 0
+    away u wu ru = perfect.away u wu (with_other r v u (λ e. both_ways (r v) rv (ap r e ∙ ru)) ∙ ru)
+
+    only : (u : ℕ) → Within g.order u → (not (r u) && (degree g p u == 0)) ≡ true → v ≡ u
+    only u wu h = elim (cases_eq v u) [
+      | inl e ↦ e
+      | inr d ↦ let b = and_parts (not (r u)) (degree g p u == 0) h in
+          let k = perfect.once u wu (with_other r v u d ∙ not-true (r u) b.0) in
+          let k0 = eqb-true (degree g p u) 0 b.1 in absurd (omega arith)
+    ]
+
+    few : count g.order (λ u. not (r u) && (degree g p u == 0)) ≤ 1
+    few = count_le_one g.order (λ u. not (r u) && (degree g p u == 0)) (λ a b wa wb l pa pb. let x = only a wa pa in let y = only b wb pb in absurd (omega arith))
+
+    one : count g.order (λ u. not (r u) && (degree g p u == 0)) ≡ 1
+    one = let some = missed_one g r p v w rv z in let f = few in omega arith
+
+-- m is a matching of g without r, with its frame
+module _ (g : Graph) (is : IsGraph g) (r m outer inner : Set) (mm : IsMatching g r m) (frame : Frame g r (count (size g) m) outer inner) where
+  -- where one vertex is missed, an outer vertex is missed alone by some matching
+  outer-perfect : (v : ℕ) → count g.order (complement r) ≡ 2 * count (size g) m + 1 → Within g.order v → outer v ≡ true → HasPerfect g (union r (singleton v))
+  outer-perfect v odd w t =
+      let f = frame.missable v w t in
+      let o = outer_missable g is r (count (size g) m) outer inner frame m mm refl v w t in
+      let sum = missed_edges g r f.0 is f.1 in
+      let same = f.2 in
+      (f.0, alone-perfect g r f.0 v f.1 (omega arith) w o.0 f.3)
+
+  -- a vertex without which there is a perfect matching is outer, and m misses one vertex
+  perfect-outer : (v : ℕ) → Within g.order v → r v ≡ false → HasPerfect g (union r (singleton v)) → (count g.order (complement r) ≡ 2 * count (size g) m + 1) × (outer v ≡ true)
+  perfect-outer v w rv p =
+      let a = perfect-alone g r p.0 v w rv p.1 in
+      let max = certificate_maximum g r inner (count (size g) m) frame.label frame.classes is frame.certificate m mm refl in
+      let most = max.most p.0 a.0 in
+      let sum = missed_edges g r p.0 is a.0 in
+      let own = missed_edges g r m is mm in
+      let one = a.2 in
+      let same : count (size g) p.0 ≡ count (size g) m = omega arith in (
+        omega arith,
+        missable_outer g is r (count (size g) m) outer inner frame m mm refl v w rv p.0
+            (certificate_maximum g r inner (count (size g) m) frame.label frame.classes is frame.certificate p.0 a.0 same) a.1,
+      )
+
+  -- the outer vertices are the row
+  pub outer-row : count g.order (complement r) ≡ 2 * count (size g) m + 1 → (v : ℕ) → Within g.order v → outer v ≡ (not (r v) && has_perfect g (union r (singleton v)))
+  outer-row odd v w = elim (cases_Bool (outer v)) [
+    | inl t ↦ t ∙ sym (and_from (not (r v)) (has_perfect g (union r (singleton v)))
+        (ap not (outer_missable g is r (count (size g) m) outer inner frame m mm refl v w t).0) (has_perfect_found g (union r (singleton v)) (outer-perfect v odd w t)))
+    | inr f ↦ f ∙ sym (false_from_ne_true (not (r v) && has_perfect g (union r (singleton v))) (λ h.
+        let b = and_parts (not (r v)) (has_perfect g (union r (singleton v))) h in
+        both_ways (outer v) f (perfect-outer v w (not-true (r v) b.0) (has_perfect_says g (union r (singleton v)) b.1)).1))
+  ]
+
+  -- where another number of vertices is missed, the row is empty
+  pub no_row : count g.order (complement r) ≢ 2 * count (size g) m + 1 → (v : ℕ) → Within g.order v → (not (r v) && has_perfect g (union r (singleton v))) ≡ false
+  no_row d v w = false_from_ne_true (not (r v) && has_perfect g (union r (singleton v))) (λ h.
+      let b = and_parts (not (r v)) (has_perfect g (union r (singleton v))) h in
+      d (perfect-outer v w (not-true (r v) b.0) (has_perfect_says g (union r (singleton v)) b.1)).0)
+
+-- the vertices of 1 to n outside a set, as a list
+pub left-length : (n : ℕ) (full left removed : List ℕ) → IsRisingIn 128 left → ((v : ℕ) → (mem full v ≡ true) ↔ Within n v) → ((v : ℕ) → mem left v ≡ (mem full v && not (mem removed v))) →
+    length left ≡ count n (complement (mem removed))
+left-length n full left removed rises all outside =
+    sym (count_mem_length n left (set-narrower 128 n left rises (λ v q. ((all v).0 (and_parts (mem full v) (not (mem removed v)) (sym (outside v) ∙ q)).0).1)))
+    ∙ count_congr n (mem left) (complement (mem removed)) (λ v w. outside v ∙ ap (λ b. b && not (mem removed v)) ((all v).1 w))
+
+-- what the code counts tells whether one vertex is missed
+module _ (g : Graph) (is : IsGraph g) (r : Set) (b : Best) (best : IsBest g r b) (mark : List Bool) (left found : ℕ) (left_is : left ≡ count g.order (complement r)) (same : mark ≡ b.mark.items) (found_is : found ≡ count (length mark - 1) (marks mark)) where
+  pub found-edges : found ≡ count (size g) (marks b.mark.items)
+  found-edges = found_is ∙ ap (λ (xs : List Bool). count (length xs - 1) (marks xs)) same ∙ ap (λ k. count k (marks b.mark.items)) (let long = best.long in omega arith)
+
+  pub one_missed-row : left ≡ 2 * found + 1 → (v : ℕ) → Within g.order v → mem b.sets.outer v ≡ (not (r v) && has_perfect g (union r (singleton v)))
+  one_missed-row odd = outer-row g is r (marks b.mark.items) (mem b.sets.outer) (mem b.sets.inner) best.matching best.frame (let e = found-edges in omega arith)
+
+  pub more_missed-row : left ≢ 2 * found + 1 → (v : ℕ) → Within g.order v → (not (r v) && has_perfect g (union r (singleton v))) ≡ false
+  more_missed-row other = no_row g is r (marks b.mark.items) (mem b.sets.outer) (mem b.sets.inner) best.matching best.frame (λ q. other (let e = found-edges in omega arith))

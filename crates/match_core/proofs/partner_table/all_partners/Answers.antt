@@ -1,0 +1,11 @@
+use Rattle.std.proofs.Common.{List, ℕ, subst}
+use Rattle.std.proofs.lemmas.Result.{IfOk-weaker}
+use Rattle.counting.specs.Lists.{mem}
+use Rattle.counting.specs.Sets.{none}
+use Rattle.match_core.specs.Partners.{ArePartners}
+use Rattle.match_core.proofs.partner_table.all_partners.Goals as goal
+
+pub returns : goal.returns
+returns c =
+    IfOk-weaker c.partners.result (ArePartners c.args.g.now (mem c.empty.result)) (ArePartners c.args.g.now none)
+    (λ table are. subst (λ (xs : List ℕ). ArePartners c.args.g.now (mem xs) table) c.empty.ensures are) c.partners.ensures

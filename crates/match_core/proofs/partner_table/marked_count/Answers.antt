@@ -1,0 +1,12 @@
+use Rattle.std.proofs.Common.{◌-◌, arith}
+use Rattle.counting.proofs.Counts.{count_le}
+use Rattle.match_core.specs.Rows.{marks}
+use Rattle.match_core.proofs.partner_table.marked_count.Goals as goal
+
+pub overflow_add-found : goal.overflow_add-found
+overflow_add-found c =
+    let few = count_le (c.loop-k.k - 1) (marks c.args.mark.now) in
+    let found = c.loop-k.invariant in
+    let below = c.loop-k-test.true in
+    let size = c.args.mark in
+    omega arith

@@ -1,0 +1,7 @@
+use Rattle.std.proofs.Common.{◌≡◌, ◌-◌}
+use Rattle.counting.specs.Counts.{count}
+use Rattle.match_core.specs.Rows.{marks}
+use Rattle.match_core.proofs.partner_table.marked_count.Given as goal
+
+abbrev pub invariant-loop-k : goal.invariant-loop-k
+invariant-loop-k l = l.found ≡ count (l.k - 1) (marks l.mark)

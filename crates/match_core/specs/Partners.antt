@@ -1,0 +1,17 @@
+-- Partners: the vertices that can be missed together (Lovász and Plummer, "Matching Theory", chapter 5).
+use Rattle.std.specs.Prelude.{◌≡◌, ℕ, Bool, true, List, ◌==◌, ◌&&◌, not, length}
+use Rattle.counting.specs.Counts.{Within}
+use Rattle.counting.specs.Sets.{Set, pair_set, union}
+use Rattle.counting.specs.Lists.{item, mem}
+use Rattle.graph_core.specs.Graph.{Graph}
+use Rattle.graph_core.specs.Matchings.{has_perfect}
+
+-- u and v are two different vertices outside r, and g without r and without these two has a perfect matching
+abbrev pub are_partners : Graph → Set → ℕ → ℕ → Bool
+are_partners g r u v = not (r u) && not (r v) && not (u == v) && has_perfect g (union r (pair_set u v))
+
+-- there is one row for each vertex, and row u holds exactly the partners of u in g without r
+pub record ArePartners (g : Graph) (r : Set) (table : List (List ℕ)) : Type 0 where
+  pub one_each : length table ≡ g.order
+  pub within : (u v : ℕ) → Within g.order u → mem (item table u) v ≡ true → Within g.order v
+  pub partner_is : (u v : ℕ) → Within g.order u → Within g.order v → mem (item table u) v ≡ are_partners g r u v

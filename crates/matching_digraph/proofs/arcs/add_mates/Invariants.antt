@@ -1,0 +1,9 @@
+use Rattle.std.proofs.Common.{◌≡◌, ◌||◌, ℕ, length, take}
+use Rattle.std.specs.List.{list_any}
+use Rattle.counting.specs.Counts.{Within}
+use Rattle.counting.specs.Lists.{item, mem}
+use Rattle.matching_digraph.specs.MatchedPairs.{row_joins}
+use Rattle.matching_digraph.proofs.arcs.add_mates.Given as goal
+
+abbrev pub invariant-loop-i : goal.invariant-loop-i
+invariant-loop-i l = (u v : ℕ) → Within (length l.rows) u → mem (item l.rows u) v ≡ (mem (item l.initial.rows u) v || list_any (row_joins u v) (take l.i l.m.rows))

@@ -1,0 +1,12 @@
+use Rattle.std.proofs.Common.{◌≡◌, ◌&&◌, not, ℕ, length}
+use Rattle.counting.specs.Counts.{Within}
+use Rattle.counting.specs.Lists.{item, mem}
+use Rattle.counting.specs.Sets.{none}
+use Rattle.graph_core.specs.Walks.{adjacent}
+use Rattle.matching_digraph.proofs.arcs.outer_rows.Given as goal
+
+abbrev pub invariant-loop-k : goal.invariant-loop-k
+invariant-loop-k l = record {
+  long : length l.rows.items ≡ l.k;
+  each : (v w : ℕ) → Within l.k v → mem (item l.rows.items v) w ≡ (not (mem l.side v) && adjacent l.g none v w);
+}

@@ -1,0 +1,3 @@
+pub mod Digraph
+pub mod MatchedPairs
+pub mod Digraphs

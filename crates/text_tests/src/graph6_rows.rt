@@ -1,0 +1,139 @@
+//! Texts of graph6: known texts with their edges, and texts with each fault.
+
+use crate::formats::{Format, Row, first_wrong, has_answer};
+use graph_core::FaultKind;
+use graph6_text::read_graph6;
+use std::alloc::{AllocError as Memory, Global};
+use std::test::Fail;
+
+// Header and line end are set aside; then each fault of a text.
+static TEXTS: [Row; 21] = [
+    ("?", Ok("?")),
+    ("Bw", Ok("Bw")),
+    (">>graph6<<Bw", Ok("Bw")),
+    ("Bw\n", Ok("Bw")),
+    ("Bw\r\n", Ok("Bw")),
+    (">>graph6<<Bw\r\n", Ok("Bw")),
+    ("Ch", Ok("Ch")),
+    ("C~", Ok("C~")),
+    ("", Err((1, FaultKind::Missing))),
+    (">>graph6<<", Err((1, FaultKind::Missing))),
+    ("\r\n", Err((1, FaultKind::Missing))),
+    ("C~\nC~", Err((2, FaultKind::Extra))),
+    ("C~\n\n", Err((2, FaultKind::Extra))),
+    ("C~\r", Err((1, FaultKind::Range))),
+    (">>sparse6<<:Bw", Err((1, FaultKind::Range))),
+    ("~~??????", Err((1, FaultKind::Limit))),
+    ("~??C~", Err((1, FaultKind::LongForm))),
+    ("~?A@", Err((1, FaultKind::Limit))),
+    ("C", Err((1, FaultKind::Missing))),
+    ("C~~", Err((1, FaultKind::Extra))),
+    ("B~", Err((1, FaultKind::Padding))),
+];
+
+#[test]
+fn texts_of_graph6(rt: HostRuntime) {
+    assert_eq!(rt; first_wrong(rt.alloc(), Format::Graph6, &TEXTS), None);
+}
+
+// Texts, with the number of vertices and the edges, column by column.
+static KNOWN: [(&str, u32, &[(u32, u32)]); 5] = [
+    ("?", 0, &[]),
+    ("Bw", 3, &[(1, 2), (1, 3), (2, 3)]),
+    ("Ch", 4, &[(1, 2), (2, 3), (3, 4)]),
+    ("C~", 4, &[(1, 2), (1, 3), (2, 3), (1, 4), (2, 4), (3, 4)]),
+    ("IheA@GUAo", 10, &PETERSEN),
+];
+
+const PETERSEN: [(u32, u32); 15] = [
+    (1, 2),
+    (2, 3),
+    (3, 4),
+    (1, 5),
+    (4, 5),
+    (1, 6),
+    (2, 7),
+    (3, 8),
+    (6, 8),
+    (4, 9),
+    (6, 9),
+    (7, 9),
+    (5, 10),
+    (7, 10),
+    (8, 10),
+];
+
+// Whether the text stands for the graph of `n` vertices with these edges.
+fn stands_for(alloc: Global, text: &[u8], n: u32, edges: &[(u32, u32)]) -> Result<bool, Fail> {
+    let g = read_graph6(alloc, text)?;
+    if g.order() != n || g.size() as usize != edges.len() {
+        return Ok(false);
+    }
+    for (ends, (a, b)) in g.edges().iter().zip(edges) {
+        if ends.a != *a || ends.b != *b {
+            return Ok(false);
+        }
+    }
+    Ok(true)
+}
+
+#[test]
+fn known_texts(rt: HostRuntime) -> Result<(), Fail> {
+    for (text, n, edges) in &KNOWN {
+        assert!(rt; stands_for(rt.alloc(), text.as_bytes(), *n, edges)?);
+    }
+    Ok(())
+}
+
+// A text of this beginning, so many bytes that set no bit, or all, and this end.
+fn long_text(
+    alloc: Global,
+    front: &str,
+    many: usize,
+    byte: &str,
+    end: &str,
+) -> Result<String, Memory> {
+    let mut text = format!(in alloc; "{front}")?;
+    for _ in 0..many {
+        text.push_str(byte)?;
+    }
+    text.push_str(end)?;
+    Ok(text)
+}
+
+// Whether the text stands for the graph of `n` vertices with the first edge and this last one, and is the text of this graph.
+fn has_two_edges(alloc: Global, text: &str, n: u32, last: (u32, u32)) -> Result<bool, Fail> {
+    let stands = stands_for(alloc, text.as_bytes(), n, &[(1, 2), last])?;
+    Ok(stands && has_answer(alloc, Format::Graph6, text.as_bytes(), Ok(text)))
+}
+
+#[test]
+fn long_texts(rt: HostRuntime) -> Result<(), Fail> {
+    let text = long_text(rt.alloc(), "~??~_", 324, "?", "G")?;
+    assert!(rt; has_two_edges(rt.alloc(), &text, 63, (62, 63))?);
+    let text = long_text(rt.alloc(), "~?A?_", 1353, "?", "C")?;
+    assert!(rt; has_two_edges(rt.alloc(), &text, 128, (127, 128))?);
+    let full = long_text(rt.alloc(), "~?@@", 346, "~", "{")?;
+    let fault = Err((1, FaultKind::Limit));
+    assert!(rt; has_answer(rt.alloc(), Format::Graph6, full.as_bytes(), fault));
+    Ok(())
+}
+
+// Whether each shorter beginning of the text is refused for what is missing.
+fn misses_each_end(alloc: Global, text: &[u8]) -> bool {
+    for end in 0..text.len() {
+        let fault = Err((1, FaultKind::Missing));
+        if !has_answer(alloc, Format::Graph6, &text[..end], fault) {
+            return false;
+        }
+    }
+    true
+}
+
+#[test]
+fn each_prefix(rt: HostRuntime) -> Result<(), Fail> {
+    assert!(rt; misses_each_end(rt.alloc(), b"IheA@GUAo"));
+    let long = long_text(rt.alloc(), "~??~_", 324, "?", "G")?;
+    assert!(rt; misses_each_end(rt.alloc(), long.as_bytes()));
+    Ok(())
+}

@@ -1,0 +1,86 @@
+//! Texts of graphs in both versions, and the plain names.
+
+use crate::formats::{Format, Row, first_wrong};
+use graph_core::FaultKind;
+use graph_text::plain_names;
+use std::test::Fail;
+
+// The graph format in version 1.
+static VERSION_ONE: [Row; 15] = [
+    ("p mcg 0 0", Ok("p mcg 0 0\n")),
+    ("p mcg 2 2\ne 1 2\ne 1 2\n", Ok("p mcg 2 2\ne 1 2\ne 1 2\n")),
+    (
+        "p mcg 4 6\ne 1 2\ne 1 3\ne 1 4\ne 2 3\ne 2 4\ne 3 4\n",
+        Ok("p mcg 4 6\ne 1 2\ne 1 3\ne 1 4\ne 2 3\ne 2 4\ne 3 4\n"),
+    ),
+    (
+        "c from the lab\r\n\r\np  mcg 04 6\r\ne 1 2\r\ne 1  3\r\ne 1 4\r\n e 2\t3\r\ne 2 4\r\ne 3 4",
+        Ok("p mcg 4 6\ne 1 2\ne 1 3\ne 1 4\ne 2 3\ne 2 4\ne 3 4\n"),
+    ),
+    ("", Err((1, FaultKind::Header))),
+    ("p mcg2 2 1\nv a\nv b\ne a b\n", Err((1, FaultKind::Header))),
+    ("p mcg x 1\n", Err((1, FaultKind::Number))),
+    ("p mcg 65 65\n", Err((1, FaultKind::Limit))),
+    ("p mcg 2 1\nf 1 2\n", Err((2, FaultKind::Word))),
+    ("p mcg 2 1\ne 1 x\n", Err((2, FaultKind::Number))),
+    ("p mcg 2 1\ne 1 3\n", Err((2, FaultKind::Range))),
+    ("p mcg 3 2\ne 1 2\ne 3 3\n", Err((3, FaultKind::Loop))),
+    ("p mcg 3 2\ne 1 2\n", Err((3, FaultKind::Missing))),
+    ("p mcg 2 1\ne 1 2\ne 1 2\n", Err((3, FaultKind::Extra))),
+    ("p mcg 0 5\n\n", Err((3, FaultKind::Missing))),
+];
+
+#[test]
+fn graphs_in_version_one(rt: HostRuntime) {
+    assert_eq!(rt;
+        first_wrong(rt.alloc(), Format::VersionOne, &VERSION_ONE),
+        None
+    );
+}
+
+// The graph format in both versions.
+static EITHER_VERSION: [Row; 11] = [
+    (
+        "p mcg2 4 4\nv a\nv b\nv c\nv d\ne a b\ne b c\ne c d\ne d a\n",
+        Ok("p mcg2 4 4\nv a\nv b\nv c\nv d\ne a b\ne b c\ne c d\ne d a\n"),
+    ),
+    ("p mcg 2 2\ne 1 2\ne 1 2\n", Ok("p mcg 2 2\ne 1 2\ne 1 2\n")),
+    ("p mcg2 2 1\nv a\nv a\n", Err((3, FaultKind::SameName))),
+    ("p mcg2 2 1\nv a\nv b!\n", Err((3, FaultKind::BadName))),
+    (
+        "p mcg2 2 1\nv a\nv b\ne a c\n",
+        Err((4, FaultKind::Unnamed)),
+    ),
+    ("p mcg2 2 1\nv a\nv b\ne a a\n", Err((4, FaultKind::Loop))),
+    (
+        "p mcg2 2 1\nv a\nv b\ne a b\ne a b\n",
+        Err((5, FaultKind::Extra)),
+    ),
+    ("p mcg2 2 1\ne 1 2\n", Err((2, FaultKind::Word))),
+    ("p mcg2 129 129\n", Err((1, FaultKind::Limit))),
+    ("p mcg 65 65\n", Err((1, FaultKind::Limit))),
+    ("p mcg3 2 1\n", Err((1, FaultKind::Header))),
+];
+
+#[test]
+fn graphs_in_either_version(rt: HostRuntime) {
+    assert_eq!(rt;
+        first_wrong(rt.alloc(), Format::EitherVersion, &EITHER_VERSION),
+        None
+    );
+}
+
+// Some names of 128 plain ones, by their places.
+static PLAIN: [(usize, &str); 4] = [(0, "v1"), (1, "v2"), (9, "v10"), (127, "v128")];
+
+#[test]
+fn plain_names_by_number(rt: HostRuntime) -> Result<(), Fail> {
+    assert!(rt; plain_names(rt.alloc(), 0)?.len() == 0);
+    let names = plain_names(rt.alloc(), 128)?;
+    assert!(rt; names.len() == 128);
+    for (i, name) in &PLAIN {
+        assert!(rt; *i < names.len());
+        assert!(rt; names.get(*i) == *name);
+    }
+    Ok(())
+}

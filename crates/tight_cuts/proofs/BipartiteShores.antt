@@ -1,0 +1,79 @@
+-- What an edge of a bipartite graph gives, by the digraph of a perfect matching that holds it.
+-- Idea: the least tight shore with an end of the edge and x, and without the other end, is the intersection of all; and a pair is
+-- parted by a nontrivial one alone.
+use Rattle.std.proofs.Common.{IfOk, Result, Ok, Err, ◌≡◌, ◌≢◌, ℕ, ◌+◌, ◌≤◌, Bool, true, false, ◌==◌, ◌&&◌, ◌||◌, not, refl, sym, ap, ap₂, ◌∙◌, arith, inl, inr, ◌⊎◌, List, Option, Some, None, eq-eqb, ne_eqb}
+use Rattle.std.proofs.lemmas.Bool.{both_ways, false_from_ne_true, or_from, or_left, or_right}
+use Rattle.counting.proofs.RisingLists.{same_answers}
+use Rattle.counting.specs.Counts.{Within}
+use Rattle.counting.specs.Lists.{mem}
+use Rattle.counting.specs.Sets.{Set, complement, pair_set}
+use Rattle.graph_core.specs.Covered.{IsCovered}
+use Rattle.graph_core.specs.Graph.{Graph, IsGraph, first_end, second_end, size}
+use Rattle.graph_core.specs.View.{IsWithinLimits}
+use Rattle.match_core.specs.MatchingRows.{MatchingValue, edges_of}
+use Rattle.matching_digraph.proofs.TightShores.{mates_from}
+use Rattle.matching_digraph.specs.Digraph.{IsLeastShore, NoneParts, are_mates}
+use Rattle.matching_digraph.specs.Digraphs.{IsDigraphOf}
+use Rattle.matching_digraph.specs.declared.digraph.Digraph.{Digraph}
+use Rattle.tight_cuts.proofs.EdgeLoop.{ends_between}
+use Rattle.tight_cuts.specs.EdgeDigraphs.{IsDigraphAt}
+use Rattle.tight_cuts.proofs.EdgeShores.{greater_within, lesser_within}
+use Rattle.tight_cuts.proofs.FirstPairs.{no_first}
+use Rattle.tight_cuts.proofs.LeastShores.{common_from, common_in, parted_says, parts_nontrivial}
+use Rattle.tight_cuts.specs.Candidates.{common_shore, first_parted, greater_end, is_parted, lesser_end}
+use Rattle.tight_cuts.specs.EdgeSearch.{IsCommonShore, IsShoreOfEdge}
+use Rattle.tight_cuts.specs.Pieces.{PartsTightly}
+
+module _ (g : Graph) (lim : IsWithinLimits g) (cov : IsCovered g) (e : ℕ) (we : Within (size g) e) where
+  abbrev a : ℕ
+  a = lesser_end g e
+
+  abbrev b : ℕ
+  b = greater_end g e
+
+  -- the least shore with x is the common shore of x and the greater end
+  pub least_common : (x : ℕ) → Within g.order x → (z : List ℕ) → IsLeastShore g a b x (mem z) → IsCommonShore g a b (x, b) (Some z)
+  least_common x wx z least = record {
+    some = λ s q. let same : z ≡ s = cc in (
+      (mem z, parts),
+      λ v w. ap (λ k. mem k v) (sym same) ∙ same_answers (mem z v) (common_shore g a b (x, b) v)
+          (λ t. common_from g lim.multigraph.ends a b (x, b) wa wb wx wb v (λ y p. least.least y p.tight p.has_a p.has_x p.lacks_b v w t))
+          (λ t. common_in g lim.multigraph.ends a b (x, b) wa wb wx wb v w t (mem z) parts),
+    );
+    none = λ q. absurd cc;
+  }
+    where
+      wa : Within g.order (lesser_end g e)
+      wa = lesser_within g lim cov e we
+
+      wb : Within g.order (greater_end g e)
+      wb = greater_within g lim cov e we
+
+      parts : PartsTightly g (lesser_end g e) (greater_end g e) (x, greater_end g e) (mem z)
+      parts = record { tight = least.tight; has_a = least.has_a; has_x = least.has_r; lacks_b = least.lacks_b; lacks_y = least.lacks_b }
+
+  -- where no nontrivial tight shore has the lesser end and not the greater, no pair is parted
+  pub unparted_none : NoneParts g a b → first_parted g e ≡ None
+  unparted_none clear = no_first g.order (is_parted g a b) (λ x y wx wy. false_from_ne_true (is_parted g a b (x, y)) (λ t.
+      let p = parted_says g a b (x, y) t in
+      let z = p.2.0 in
+      let q = p.2.1 in
+      clear z q.tight
+      (parts_nontrivial g a b (x, y) z (lesser_within g lim cov e we) (greater_within g lim cov e we) wx wy
+      (λ i. both_ways (pair_set a b x) p.0 (or_left (a == x) (b == x) (eq-eqb a x i)))
+      (λ i. both_ways (pair_set a b y) p.1 (or_right (a == y) (b == y) (eq-eqb b y i))) q)
+      q.has_a q.lacks_b))
+
+-- an answer of nothing is right where no pair is parted
+pub nothing_at : (g : Graph) (e : ℕ) → first_parted g e ≡ None → IsShoreOfEdge g e None
+nothing_at g e h = record { some = λ s q. absurd cc; none = λ q. h }
+
+-- a digraph of g with that side and that matching is one at the edge
+pub digraph_found : {E : Type 0} (g : Graph) (e : ℕ) (side : List ℕ) (matching : MatchingValue) (r : Result Digraph E) → IfOk r (IsDigraphOf g) → IfOk r (λ d. d.side ≡ side) → IfOk r (λ d. d.matching ≡ matching) →
+    mem side (lesser_end g e) ≡ true → Within (size g) e → mem (edges_of matching) e ≡ true → IfOk r (IsDigraphAt g e)
+digraph_found g e side matching (Ok d) of s m has we held = record {
+  of = of;
+  side = ap (λ (xs : List ℕ). mem xs (lesser_end g e)) s ∙ has;
+  mates = ap (λ (k : MatchingValue). are_mates g (mem (edges_of k)) (lesser_end g e) (greater_end g e)) m ∙ mates_from g (mem (edges_of matching)) (lesser_end g e) (greater_end g e) e we held (ends_between g e);
+}
+digraph_found g e side matching (Err x) of s m has we held = tt

@@ -1,0 +1,84 @@
+-- The first candidate stays while edges add more, and edges in the cut of a candidate add none.
+-- Idea: an edge leaves the list or appends to it.
+use Rattle.std.proofs.Common.{◌≡◌, ℕ, suc, zero, ◌+◌, ◌≤◌, Bool, true, false, refl, sym, ap, ◌∙◌, arith, List, [], ◌∷◌, ◌++◌, Option, Some, None, map, slice_get, inl, inr, ◌↔◌, subst, All}
+use Rattle.std.specs.Prelude.{if◌then◌else◌}
+use Rattle.std.specs.List.{list_any}
+use Rattle.std.specs.Option.{option_map}
+use Rattle.std.proofs.lemmas.Bool.{cases_eq}
+use Rattle.std.proofs.lemmas.List.Elements.{All-head}
+use Rattle.counting.specs.Counts.{Within}
+use Rattle.counting.specs.Sets.{Set}
+use Rattle.graph_core.specs.Graph.{Graph, size}
+use Rattle.tight_cuts.proofs.EdgeLoop.{after_edges, after_suc}
+use Rattle.tight_cuts.proofs.FrontCandidates.{edge-known, edges-all}
+use Rattle.tight_cuts.specs.Candidates.{Candidate, Flow, Origin, candidates, common_shore, cuts, first_of, first_parted, front_candidates, greater_end, lesser_end, with_edge_cut, with_pair, with_shore}
+use Rattle.tight_cuts.specs.View.{candidate_of}
+use Rattle.tight_cuts.specs.declared.candidate.Candidate.{Candidate as StoredCandidate}
+
+-- the first candidate is that at place 0
+pub first-place : (list : List Candidate) → slice_get list 0 ≡ first_of list
+first-place [] = refl
+first-place (d ∷ list) = refl
+
+-- the list without a first candidate is empty
+pub first-nil : (list : List Candidate) → None ≡ first_of list → list ≡ []
+first-nil [] q = refl
+first-nil (d ∷ list) q = absurd cc
+
+first-append : (list : List Candidate) (c d : Candidate) → first_of list ≡ Some c → first_of (list ++ d ∷ []) ≡ Some c
+first-append [] c d h = absurd cc
+first-append (b ∷ list) c d h = h
+
+first-shore_more : (n : ℕ) (o : Origin) (list : List Candidate) (x : Set) (c : Candidate) → first_of list ≡ Some c → first_of (with_shore n o list x) ≡ Some c
+first-shore_more n o list x c h = go _ _
+  where
+    go : (b : Bool) (d : Candidate) → first_of (if b then list ++ d ∷ [] else list) ≡ Some c
+    go true d = first-append list c d h
+    go false d = h
+
+first-edge_more : (g : Graph) (list : List Candidate) (e : ℕ) (c : Candidate) → first_of list ≡ Some c → first_of (with_edge_cut g list e) ≡ Some c
+first-edge_more g list e c h = go (list_any (cuts g e) list) (first_parted g e)
+  where
+    go : (b : Bool) (k : Option (ℕ × ℕ)) → first_of (if b then list else with_pair g (lesser_end g e) (greater_end g e) list k) ≡ Some c
+    go true k = h
+    go false None = h
+    go false (Some k) = first-shore_more g.order Flow list (common_shore g (lesser_end g e) (greater_end g e) k) c h
+
+-- the first candidate after some edges is that after more
+first-later : (g : Graph) (list : List Candidate) (k m : ℕ) → k ≤ m → (c : Candidate) → first_of (after_edges g list k) ≡ Some c → first_of (after_edges g list m) ≡ Some c
+first-later g list k zero l c h = let z : k ≡ zero = omega arith in ap (λ i. first_of (after_edges g list i)) (sym z) ∙ h
+first-later g list k (suc m) l c h = elim (cases_eq k (suc m)) [
+  | inl q ↦ ap (λ i. first_of (after_edges g list i)) (sym q) ∙ h
+  | inr q ↦ ap first_of (after_suc g list m) ∙ first-edge_more g (after_edges g list m) (suc m) c (first-later g list k m (omega arith) c h)
+]
+
+-- the first candidate after some edges is the first of all
+pub first-candidates : (g : Graph) (list : List Candidate) (k : ℕ) → k ≤ size g → list ≡ after_edges g (front_candidates g) k → (c : Candidate) → slice_get list 0 ≡ Some c → first_of (candidates g) ≡ Some c
+unfolding candidates
+first-candidates g list k l h c q = first-later g (front_candidates g) k (size g) l c (ap first_of (sym h) ∙ sym (first-place list) ∙ q)
+
+-- edges in the cut of a candidate add nothing
+pub edges-known : (g : Graph) (list : List Candidate) (k : ℕ) → ((e : ℕ) → Within k e → list_any (cuts g e) list ≡ true) → list ≡ after_edges g list k
+edges-known g list zero h = refl
+edges-known g list (suc k) h = edge-known g list (suc k) (h (suc k) (omega arith, omega arith)) ∙ ap (λ l. with_edge_cut g l (suc k)) (edges-known g list k (λ e w. h e (omega arith))) ∙ sym (after_suc g list k)
+
+-- where some edges have given nothing and no edge is left, there is no candidate
+pub first-none : (g : Graph) (list : List Candidate) (k : ℕ) → k ≡ size g → list ≡ after_edges g (front_candidates g) k → list ≡ [] → None ≡ first_of (candidates g)
+first-none g list k q h z = ap first_of (sym z ∙ edges-all g list k q h)
+
+-- the first candidate is one of them
+pub first-one : (g : Graph) (P : Candidate → Type 0) (list : List Candidate) → All P list → (c : Candidate) → first_of list ≡ Some c → P c
+first-one g P [] a c h = absurd cc
+first-one g P (d ∷ list) a c h = let q : d ≡ c = cc in subst P q (All-head P d list a)
+
+-- there is no first candidate exactly where there is none
+pub first-empty : (list : List Candidate) (found : Option StoredCandidate) (Q : Type 0) → ((list ≡ []) ↔ Q) → option_map candidate_of found ≡ first_of list → (found ≡ None) ↔ Q
+first-empty [] None Q h q = (λ e. h.0 refl, λ e. refl)
+first-empty [] (Some c) Q h q = absurd cc
+first-empty (d ∷ list) None Q h q = absurd cc
+first-empty (d ∷ list) (Some c) Q h q = (λ e. absurd cc, λ e. absurd (let r = h.1 e in cc))
+
+-- the first of the candidates led back
+pub first-lifted : (f : Candidate → Candidate) (list : List Candidate) (o : Option Candidate) → o ≡ first_of list → option_map f o ≡ first_of (map f list)
+first-lifted f [] o q = ap (option_map f) q
+first-lifted f (c ∷ list) o q = ap (option_map f) q

@@ -1,0 +1,40 @@
+-- A covered graph that is not bipartite and has no candidate of the first two parts has none at all.
+-- It is bicritical, since else a barrier gives a cut, and has no cut pair, since else a separation does; so by the theorem on bricks
+-- no nontrivial shore is tight.
+use Rattle.std.proofs.Common.{◌≡◌, ◌≤◌, ℕ, Option, Some, None, [], refl, sym, ◌∙◌, arith}
+use Rattle.barrier_kit.proofs.CriticalPairs.{no_sides}
+use Rattle.barrier_kit.proofs.ShoreFacts.{barrier_shores-tight, bicritical_no_cuts, some_cut}
+use Rattle.barrier_kit.specs.BarrierShores.{barrier_cuts}
+use Rattle.brick_kit.proofs.Bricks.{no_shore}
+use Rattle.counting.proofs.Counts.{count_complement}
+use Rattle.counting.specs.Sets.{Set}
+use Rattle.graph_core.specs.Covered.{IsCovered}
+use Rattle.graph_core.specs.Graph.{Graph, IsBipartite, IsMultigraph}
+use Rattle.graph_core.specs.Structure.{IsBicritical, unlike_pair}
+use Rattle.graph_core.specs.Tight.{IsNontrivial, IsTight}
+use Rattle.separation_kit.proofs.SeparationFacts.{pair_some_cut, separation_shores-tight, unlike-none}
+use Rattle.separation_kit.specs.SeparationShores.{separation_cuts}
+use Rattle.tight_cuts.proofs.Completeness.{candidates_none}
+use Rattle.tight_cuts.proofs.FrontCandidates.{front-barriers, front-separations, unlike-some}
+use Rattle.tight_cuts.proofs.LiftedCandidates.{map-none}
+use Rattle.tight_cuts.specs.Candidates.{Barrier, Separation, candidate_at, candidates, front_candidates}
+
+module _ (g : Graph) (is : IsMultigraph g) (cov : IsCovered g) (odd_cycle : IsBipartite g → ⊥) (front : front_candidates g ≡ []) where
+  no_tight : (x : Set) → IsTight g x → IsNontrivial g.order x → ⊥
+  no_tight x tx wide = at (unlike_pair g) refl
+    where
+      four : 4 ≤ g.order
+      four = let a = wide.inside in let b = wide.outside in let c = count_complement g.order x in omega arith
+
+      bicritical : IsBicritical g → ⊥
+      bicritical bi =
+          let none = map-none (candidate_at g.order Separation) (separation_cuts g) (front-separations g (bicritical_no_cuts g is.ends cov bi) ∙ front) in
+          no_shore g is cov bi (λ u v pair. pair_some_cut g is.ends bi four u v pair none) x tx wide
+
+      at : (o : Option (ℕ × ℕ)) → unlike_pair g ≡ o → ⊥
+      at (Some k) q = some_cut g is.ends cov (no_sides g is.no_loop odd_cycle) bicritical
+          (map-none (candidate_at g.order Barrier) (barrier_cuts g) (front-barriers g (unlike-some g k (sym q)) ∙ front))
+      at None q = bicritical ((unlike-none g).0 q)
+
+  pub front_empty : candidates g ≡ []
+  front_empty = (candidates_none g is.ends cov (barrier_shores-tight g is.ends cov) (separation_shores-tight g is.ends)).1 no_tight

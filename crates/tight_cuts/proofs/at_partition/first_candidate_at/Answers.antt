@@ -1,0 +1,18 @@
+use Rattle.std.proofs.Common.{◌∙◌, ap, sym, subst}
+use Rattle.std.specs.Option.{option_map}
+use Rattle.graph_core.specs.Partitions.{IsPartition}
+use Rattle.tight_cuts.specs.CandidatesAt.{IsCandidateAt, candidates_at}
+use Rattle.tight_cuts.specs.View.{candidate_of}
+use Rattle.tight_cuts.proofs.FirstCandidates.{first-empty, first-one}
+use Rattle.tight_cuts.proofs.PartitionCandidates.{found-at, none-at}
+use Rattle.tight_cuts.proofs.at_partition.first_candidate_at.Goals as goal
+
+pub returns-clause-some : goal.returns-clause-some
+returns-clause-some c d is = first-one c.args.g.now (IsCandidateAt c.args.g.now c.args.p.now.blocks) (candidates_at c.args.g.now c.args.p.now.blocks)
+    (found-at c.args.g.now c.args.p.now.blocks c.keeps_limits.ensures.multigraph.ends (subst (λ n. IsPartition n c.args.p.now.blocks) c.requires.order c.keeps_partition.ensures.partition) c.requires.covered)
+    (candidate_of d) (sym c.in_ok-found.ensures ∙ ap (option_map candidate_of) is)
+
+pub returns-clause-none : goal.returns-clause-none
+returns-clause-none c = first-empty (candidates_at c.args.g.now c.args.p.now.blocks) c.in_ok-found.found _
+    (none-at c.args.g.now c.args.p.now.blocks c.keeps_limits.ensures.multigraph.ends (subst (λ n. IsPartition n c.args.p.now.blocks) c.requires.order c.keeps_partition.ensures.partition) c.requires.covered)
+    c.in_ok-found.ensures

@@ -1,0 +1,12 @@
+use Rattle.std.proofs.Common.{sym, subst}
+use Rattle.std.specs.Prelude.{All}
+use Rattle.separation_kit.proofs.SeparationFacts.{separation_cuts-canonical}
+use Rattle.barrier_kit.specs.CanonicalCuts.{IsCanonicalCut}
+use Rattle.counting.specs.Lists.{IsRisingIn}
+use Rattle.tight_cuts.proofs.FrontCandidates.{canonical-rising}
+use Rattle.tight_cuts.proofs.front.separation_candidates.Goals as goal
+
+pub candidates_of-requires-clause-shores : goal.candidates_of-requires-clause-shores
+candidates_of-requires-clause-shores c =
+    subst (λ n. All (IsRisingIn n) c.in_ok-shores.shores) (sym c.order.ensures.is)
+    (canonical-rising c.args.g.now c.in_ok-shores.shores (subst (All (IsCanonicalCut c.args.g.now)) (sym c.in_ok-shores.ensures) (separation_cuts-canonical c.args.g.now c.keeps_limits.ensures.multigraph.ends c.requires.covered)))
