@@ -39,3 +39,5 @@ pub mod Gluing
 pub mod RepairWalks
 pub mod ClearedMatchings
 pub mod PartnerRows
+pub mod MarkedMates
+pub mod AugmentedMates

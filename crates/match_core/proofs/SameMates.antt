@@ -1,9 +1,9 @@
 -- Two matchings with the same mates have the same degrees, so they have as many edges.
-use Rattle.std.proofs.Common.{◌≡◌, ◌≢◌, ℕ, ◌+◌, ◌==◌, sym, ap, ◌∙◌, arith, inl, inr, not, ◌&&◌, eq-eqb, ne_eqb}
+use Rattle.std.proofs.Common.{◌≡◌, ℕ, ◌+◌, ◌*◌, ◌==◌, Bool, true, false, refl, sym, ap, ◌∙◌, arith, inl, inr, not, ◌&&◌, eq-eqb, ne_eqb}
 use Rattle.std.proofs.lemmas.Bool.{cases_eq}
 use Rattle.counting.proofs.Totals.{total_congr}
 use Rattle.counting.specs.Counts.{Within, bit, count}
-use Rattle.counting.specs.Sets.{Set}
+use Rattle.counting.specs.Sets.{Set, complement}
 use Rattle.graph_core.proofs.Edits.{missed_edges}
 use Rattle.graph_core.specs.Graph.{Graph, IsGraph, degree, size}
 use Rattle.graph_core.specs.Matchings.{missed_count}
@@ -28,3 +28,15 @@ same_mates_count g is r m n mate hm hn =
     let a = missed_edges g r m is hm.matching in
     let b = missed_edges g r n is hn.matching in
     let c = same_mates_missed g r m n mate hm hn in omega arith
+
+-- the exposed vertices outside r, by their mates, and twice the edges of the matching are the vertices outside r
+pub exposed_mates : (g : Graph) → IsGraph g → (r m : Set) (mate : ℕ → ℕ) → HasMates g r m mate → count g.order (λ v. not (r v) && (mate v == 0)) + 2 * count (size g) m ≡ count g.order (complement r)
+unfolding missed_count
+exposed_mates g is r m mate has =
+    ap (λ k. k + 2 * count (size g) m) (total_congr g.order (λ v. bit (not (r v) && (mate v == 0))) (λ v. bit (not (r v) && (degree g m v == 0)))
+    (λ v w. ap (λ b. bit (not (r v) && b)) (sym (ap (λ d. d == 0) (mates_degree g r m mate has v w) ∙ zero_test (mate v == 0)))))
+    ∙ missed_edges g r m is has.matching
+  where
+    zero_test : (b : Bool) → (bit (not b) == 0) ≡ b
+    zero_test true = refl
+    zero_test false = refl

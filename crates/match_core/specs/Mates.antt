@@ -1,9 +1,9 @@
 -- Matchings by mates: for each vertex the other end of its edge, 0 where it is exposed. Which of parallel edges joins two
 -- mates is not told.
-use Rattle.std.specs.Prelude.{◌≡◌, ◌≢◌, ℕ, zero, suc, ◌+◌, ◌<◌, ◌⊎◌, ◌==◌, cond, true, List}
+use Rattle.std.specs.Prelude.{◌≡◌, ◌≢◌, ℕ, zero, suc, ◌+◌, ◌<◌, ◌⊎◌, ◌==◌, cond, true, false, List}
 use Rattle.counting.specs.Counts.{Within}
-use Rattle.counting.specs.Sets.{Set}
-use Rattle.graph_core.specs.Graph.{Graph, HasEnds, degree, size}
+use Rattle.counting.specs.Sets.{Set, none}
+use Rattle.graph_core.specs.Graph.{Graph, HasEnds, degree, first_end, second_end, size}
 use Rattle.graph_core.specs.Matchings.{IsMatching}
 use Rattle.match_core.specs.OddCycles.{every_other, listed, next}
 use Rattle.match_core.specs.Rows.{numbers, end_a, end_b}
@@ -43,3 +43,15 @@ paired_round mate n c t (suc k) u = cond (every_other t (suc k)) (with_pair (pai
 pub record NamesMates (ends : List Ends) (m : Set) (mate : List ℕ) (k : ℕ) : Type 0 where
   pub met : (v : ℕ) → numbers mate v ≢ 0 → (j : ℕ) × (j < k) × (m (j + 1) ≡ true) × (((end_a ends j ≡ v) × (end_b ends j ≡ numbers mate v)) ⊎ ((end_a ends j ≡ numbers mate v) × (end_b ends j ≡ v)))
   pub missed : (v : ℕ) → numbers mate v ≡ 0 → (j : ℕ) → j < k → m (j + 1) ≡ true → (end_a ends j ≢ v) × (end_b ends j ≢ v)
+
+-- an edge of m joins v to its mate, told by either of the two
+abbrev pub JoinsMates : Graph → (ℕ → ℕ) → Set → ℕ → Type 0
+JoinsMates g mate m v = (e w : ℕ) × Within (size g) e × (m e ≡ true) × HasEnds g e v w × ((mate v ≡ w) ⊎ (mate w ≡ v))
+
+-- of the first k edges of g, those that join two mates have an end in the set `seen`, and the vertices of this set are the ends
+-- of the marked edges, which are a matching and join mates
+pub record MarksMates (g : Graph) (mate : ℕ → ℕ) (m seen : Set) (k : ℕ) : Type 0 where
+  pub matching : IsMatching g none m
+  pub free : (v : ℕ) → Within g.order v → seen v ≡ false → (none v ≡ false) × (degree g m v ≡ 0)
+  pub marked : (v : ℕ) → seen v ≡ true → JoinsMates g mate m v
+  pub covered : (e : ℕ) → Within k e → mate (first_end g e) ≡ second_end g e → first_end g e ≢ second_end g e → (seen (first_end g e) ≡ true) ⊎ (seen (second_end g e) ≡ true)
