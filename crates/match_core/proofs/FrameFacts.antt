@@ -1,6 +1,6 @@
 -- What a matching with a frame is: maximum, with the Gallai-Edmonds sets as its outer and inner vertices; perfect exactly
 -- where there is no outer vertex. A missed vertex is outer, and an outer vertex is missed by some matching as large.
-use Rattle.std.proofs.Common.{◌≡◌, ℕ, suc, zero, ◌≤◌, ◌<◌, Bool, true, false, ◌==◌, ◌↔◌, refl, sym, ap, ◌∙◌, arith, List, [], ◌∷◌, length, subst, inl, inr, eq-eqb, ◌-◌}
+use Rattle.std.proofs.Common.{◌≡◌, ℕ, suc, zero, ◌≤◌, ◌<◌, true, false, ◌==◌, ◌↔◌, refl, sym, ap, ◌∙◌, arith, List, [], ◌∷◌, length, subst, inl, inr, eq-eqb, ◌-◌}
 use Rattle.std.proofs.lemmas.Bool.{both_ways, true≢false, false_from_ne_true}
 use Rattle.counting.specs.Counts.{Within, count, is_odd}
 use Rattle.counting.specs.Sets.{Set, none}
@@ -12,6 +12,7 @@ use Rattle.graph_core.specs.Matchings.{IsMatching, IsMaximum, IsPerfect, HasPerf
 use Rattle.graph_core.specs.BergeSets.{Attains}
 use Rattle.graph_core.specs.GallaiEdmonds.{InD, InA}
 use Rattle.graph_core.specs.Walks.{joined}
+use Rattle.graph_core.specs.Rows.{AreRows}
 use Rattle.graph_core.specs.View.{graph_of, IsWithinLimits}
 use Rattle.graph_core.specs.declared.ends.Ends.{Ends}
 use Rattle.graph_core.proofs.Decide.{degree_congr}
@@ -53,6 +54,10 @@ limits_row g n ends order same limits =
       few = let a = here.edges in let b = size_is n ends in omega arith;
       within = graph_ends n ends here.multigraph.ends;
     }
+
+-- the rows of a graph are those of its ends
+pub ends_rows : (g : Graph) (n : ℕ) (ends : List Ends) (rows : List (List ℕ)) → n ≡ g.order → graph_of g.order ends ≡ g → AreRows g rows → AreRows (graph_of n ends) rows
+ends_rows g n ends rows order same = subst (λ (h : Graph). AreRows h rows) (sym (ap (λ n. graph_of n ends) order ∙ same))
 
 -- a matching of g without r is one of g
 pub whole_matching : (g : Graph) (r m : Set) → IsMatching g r m → IsMatching g none m

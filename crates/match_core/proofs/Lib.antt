@@ -9,6 +9,18 @@ pub mod Forests
 pub mod Growth
 pub mod ClosingEdges
 pub mod StepTheorem
+pub mod MatePairs
+pub mod ParentForests
+pub mod Reaching
+pub mod WaysUp
+pub mod ClosingPairs
+pub mod ForestWays
+pub mod ShrunkInstances
+pub mod OpenedPairs
+pub mod BlossomSteps
+pub mod MateSteps
+pub mod NamedMates
+pub mod SameMates
 pub mod OddComponents
 pub mod OuterComponents
 pub mod SymmetricDifference
@@ -27,3 +39,5 @@ pub mod Gluing
 pub mod RepairWalks
 pub mod ClearedMatchings
 pub mod PartnerRows
+pub mod MarkedMates
+pub mod AugmentedMates

@@ -1,7 +1,7 @@
 -- The outer vertices of a maximum matching that misses one vertex are exactly the vertices without which there is a perfect matching.
 -- A matching as large that misses v misses v alone, so it is perfect without v; and a perfect matching without v is as large, since
 -- both leave one vertex of an odd number. Where more than one vertex is missed, no matching misses one alone.
-use Rattle.std.proofs.Common.{◌≡◌, ◌≢◌, ℕ, zero, suc, ◌+◌, ◌-◌, ◌*◌, ◌<◌, ◌≤◌, ◌↔◌, List, length, Bool, true, false, ◌==◌, ◌&&◌, ◌||◌, not, refl, sym, ap, ◌∙◌, arith, inl, inr, subst, eq-eqb, eqb-true, ne_eqb}
+use Rattle.std.proofs.Common.{◌≡◌, ◌≢◌, ℕ, zero, suc, ◌+◌, ◌-◌, ◌*◌, ◌≤◌, ◌↔◌, List, length, Bool, true, false, ◌==◌, ◌&&◌, ◌||◌, not, refl, sym, ap, ◌∙◌, arith, inl, inr, eq-eqb, eqb-true, ne_eqb}
 use Rattle.std.proofs.lemmas.Bool.{both_ways, cases_Bool, cases_eq, false_from_ne_true, and_from, and_parts, not-true}
 use Rattle.counting.specs.Counts.{Within, count}
 use Rattle.counting.specs.Sets.{Set, complement, singleton, union}
@@ -13,7 +13,7 @@ use Rattle.graph_core.specs.Graph.{Graph, IsGraph, degree, size}
 use Rattle.graph_core.specs.Matchings.{HasPerfect, IsMatching, IsPerfect, has_perfect, missed_count}
 use Rattle.graph_core.proofs.Decide.{has_perfect_found, has_perfect_says}
 use Rattle.graph_core.proofs.Edits.{missed_edges}
-use Rattle.graph_core.proofs.Perfect.{missed_one, perfect_matching}
+use Rattle.graph_core.proofs.Perfect.{missed_one}
 use Rattle.match_core.specs.Frames.{Frame}
 use Rattle.match_core.specs.Optimal.{IsBest}
 use Rattle.match_core.specs.Rows.{marks}

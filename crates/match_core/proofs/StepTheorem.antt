@@ -1,6 +1,6 @@
 -- A matching of G - R can be made larger by one edge, or has a frame.
 -- Induction on the vertices outside R and on the forest: a closing edge augments, or its cycle is shrunk.
-use Rattle.std.proofs.Common.{◌≡◌, ℕ, suc, zero, ◌+◌, ◌-◌, ◌≤◌, ◌<◌, ◌≢◌, Bool, true, false, ◌==◌, refl, sym, ap, ap₂, ◌∙◌, arith, ◌&&◌, not, eq-eqb, ne_eqb, eqb-true, ◌⊎◌, inl, inr, subst, List, length, map}
+use Rattle.std.proofs.Common.{◌≡◌, ℕ, suc, zero, ◌+◌, ◌-◌, ◌≤◌, ◌<◌, ◌≢◌, Bool, true, false, ◌==◌, refl, sym, ap, ap₂, ◌∙◌, arith, ◌&&◌, not, eq-eqb, ne_eqb, eqb-true, ◌⊎◌, inl, inr, subst, List, length}
 use Rattle.std.proofs.lemmas.Bool.{cases_eq, cases_Bool, both_ways, and_parts, and_from, not-true}
 use Rattle.std.proofs.lemmas.List.{get_or-map, length-map}
 use Rattle.counting.proofs.Counts.{count_le}
@@ -19,11 +19,7 @@ use Rattle.match_core.proofs.AlternatingPaths.{two_paths}
 use Rattle.match_core.proofs.Shrinking.{frame_up, shrunk_graph, complement_size, tip, down, up}
 use Rattle.match_core.specs.OddCycles.{IsOddCycle, listed, every_other, picked}
 use Rattle.match_core.specs.Forests.{IsAlternating, IsForest}
-use Rattle.match_core.specs.Frames.{Frame, IsNearPerfect, IsShrunk, with_ends, shrunk_vertex, shrunk_removed}
-
--- the ends of g with each vertex of c replaced by z
-abbrev pub shrunk_ends : Graph → Set → ℕ → List (ℕ × ℕ)
-shrunk_ends g c z = map (λ d. (shrunk_vertex c z d.0, shrunk_vertex c z d.1)) g.ends
+use Rattle.match_core.specs.Frames.{Frame, IsNearPerfect, IsShrunk, with_ends, shrunk_ends, shrunk_vertex, shrunk_removed}
 
 pub shrunk_ends_shrunk : (g : Graph) (c : Set) (z : ℕ) → IsShrunk g c z (shrunk_ends g c z)
 shrunk_ends_shrunk g c z = record {

@@ -1,6 +1,6 @@
 -- Frames: why a matching of G - R is maximum, with the vertices that some maximum matching misses (Edmonds 1965; Lovász
 -- and Plummer, "Matching Theory", chapters 1 and 3), and the shrinking of a vertex set to one of its vertices.
-use Rattle.std.specs.Prelude.{◌≡◌, ℕ, ◌+◌, ◌*◌, ◌≤◌, true, false, List, ◌==◌, nat_lt, ◌&&◌, ◌||◌, not, length, cond}
+use Rattle.std.specs.Prelude.{◌≡◌, ℕ, ◌+◌, ◌*◌, ◌≤◌, true, false, List, ◌==◌, nat_lt, ◌&&◌, ◌||◌, not, length, map, cond}
 use Rattle.counting.specs.Counts.{Within, bit, count, is_odd}
 use Rattle.counting.specs.Sets.{Set, complement, union}
 use Rattle.graph_core.specs.Graph.{Graph, HasEnds, degree, first_end, second_end, size}
@@ -19,6 +19,10 @@ pub record IsShrunk (g : Graph) (c : Set) (z : ℕ) (es : List (ℕ × ℕ)) : T
   pub same : length es ≡ size g
   pub first_ends : (e : ℕ) → Within (size g) e → first_end (with_ends g es) e ≡ shrunk_vertex c z (first_end g e)
   pub second_ends : (e : ℕ) → Within (size g) e → second_end (with_ends g es) e ≡ shrunk_vertex c z (second_end g e)
+
+-- the ends of g with each vertex of c replaced by z
+abbrev pub shrunk_ends : Graph → Set → ℕ → List (ℕ × ℕ)
+shrunk_ends g c z = map (λ d. (shrunk_vertex c z d.0, shrunk_vertex c z d.1)) g.ends
 
 -- what is removed after the shrinking: r, and c but for z
 abbrev pub shrunk_removed : Set → Set → ℕ → Set

@@ -2,14 +2,19 @@
 ghost use Rattle.std.specs.Prelude.{◌≡◌, ℕ, ◌+◌, ◌≤◌, ◌==◌, ◌&&◌, not, length, IfOk};
 ghost use Rattle.counting.specs.Counts.{Within};
 ghost use Rattle.counting.specs.Lists.{mem};
+ghost use Rattle.graph_core.specs.Rows.{AreRows};
 ghost use Rattle.graph_core.specs.View.{graph_of};
 ghost use Rattle.graph_core.specs.Matchings.{IsMatching};
 ghost use Rattle.match_core.specs.Rows.{marks};
 ghost use Rattle.match_core.specs.Searches.{AreEnds, IsGraphRow};
 ghost use Rattle.match_core.specs.Optimal.{IsBest};
 
+use crate::augment::augment_once;
+use crate::instance::instance_of;
+use crate::marked::marks_of;
+use crate::mates::mates_of;
 use crate::rows::{falses, mark_place};
-use crate::step::{Answer, FinalSets, step};
+use crate::step::{Answer, FinalSets};
 use graph_core::Ends;
 use std::alloc::{AllocError as Memory, Global};
 use vset_core::{MOST_VERTICES, VSet};
@@ -22,15 +27,46 @@ pub struct Best {
 }
 
 /// Makes a maximum matching of G - removed: one edge after the other at first, then by augmentations.
-pub fn find_best(alloc: Global, n: u32, ends: &[Ends], removed: VSet) -> Result<Best, Memory>
-    requires { IsGraphRow n ends.now }
+pub fn find_best(
+    alloc: Global,
+    n: u32,
+    ends: &[Ends],
+    rows: &[VSet],
+    removed: VSet,
+) -> Result<Best, Memory>
+    requires row { IsGraphRow n ends.now }
+    requires neighbours { AreRows (graph_of n ends.now) rows.now }
     ensures { IfOk result (λ b. IsBest (graph_of n ends.now) (mem removed) b) }
 {
-    let mut mark = first_marks(alloc, n, ends, removed)?;
+    let mark = first_marks(alloc, n, ends, removed)?;
+    best_from(alloc, n, ends, rows, removed, &mark)
+}
+
+/// Enlarges a matching of G - removed, given by its marks, until it is maximum. It is enlarged by mates; the edges are read
+/// at the beginning and at the end alone.
+pub fn best_from(
+    alloc: Global,
+    n: u32,
+    ends: &[Ends],
+    rows: &[VSet],
+    removed: VSet,
+    given: &[bool],
+) -> Result<Best, Memory>
+    requires row { IsGraphRow n ends.now }
+    requires neighbours { AreRows (graph_of n ends.now) rows.now }
+    requires long { length given.now ≡ length ends.now + 1 }
+    requires matching { IsMatching (graph_of n ends.now) (mem removed) (marks given.now) }
+    ensures { IfOk result (λ b. IsBest (graph_of n ends.now) (mem removed) b) }
+{
+    let instance = instance_of(alloc, rows, removed)?;
+    let mut mate = mates_of(alloc, n, ends, given)?;
     'augmenting: loop {
-        match step(alloc, n, ends, removed, &mut mark)? {
+        match augment_once(alloc, &instance, &mut mate)? {
             Answer::Grown => {}
-            Answer::Final(sets) => return Ok(Best { mark, sets }),
+            Answer::Final(sets) => {
+                let mark = marks_of(alloc, n, ends, &mate)?;
+                return Ok(Best { mark, sets });
+            }
         }
     }
 }

@@ -94,7 +94,7 @@ fn is_odd_place(i: usize) -> bool
 }
 
 // Whether place i is every other one on the way round from place t to place t.
-fn is_every_other(t: usize, i: usize) -> bool
+pub fn is_every_other(t: usize, i: usize) -> bool
     ensures { result ≡ every_other t i }
 {
     if i < t {

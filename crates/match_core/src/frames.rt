@@ -60,7 +60,7 @@ pub fn frame(alloc: Global, g: &MultiGraph) -> Result<FrameSets, Memory>
 {
     let n = g.order();
     let ends = g.edges();
-    let Best { mark, sets } = find_best(alloc, n, ends, VSet::empty())?;
+    let Best { mark, sets } = find_best(alloc, n, ends, g.rows(), VSet::empty())?;
     let FinalSets { outer, inner } = sets;
     outer.rises();
     inner.rises();

@@ -5,22 +5,31 @@
 //! read off the last forest of the search. `perfect_without` and `perfect_with` answer a perfect matching under conditions, and
 //! `None` exactly where there is none; `Matching::cleared` and `Matching::joined` take rows out of a matching and put one in.
 //!
-//! Inside, one `step` makes a matching larger by one edge or answers a frame: it grows an alternating forest, augments along two
-//! of its paths, or shrinks an odd cycle, after which all vertices and edges keep their numbers (`Frame`, `IsForest`,
-//! `IsOddCycle`, `IsStep`). The law of Tutte and Berge stands beside it (`tutte_berge_law`).
+//! Inside, `augment_once` makes a matching larger by one edge or answers a frame, on a row of neighbours for each vertex and a
+//! mate for each vertex, without a list of edges: it grows an alternating forest, augments along two of its paths, or shrinks
+//! a blossom, after which all vertices keep their numbers (`HoldsMatching`, `HoldsAlternating`, `HoldsBlossom`, `IsMateStep`,
+//! `Frame`). `best_from` repeats it until the matching is maximum, and marks the edges at the end. The law of Tutte and Berge
+//! stands beside it (`tutte_berge_law`).
 //!
 //! Stands on `graph_core` and `vset_core`. Sources: Tutte 1947, Berge 1958, Gallai 1964, Edmonds 1965; Lovász and Plummer,
 //! "Matching Theory", chapters 1, 3 and 9.
 #![tactic(auto)]
 
+mod alternating;
+mod augment;
 mod best;
+mod blossom;
 mod closing;
 mod cycle;
 mod exchange;
 mod forest;
 mod frames;
+mod growing;
+mod instance;
 pub mod laws;
+mod marked;
 mod matching;
+mod mates;
 mod partner_table;
 mod questions;
 mod repairs;
@@ -28,6 +37,7 @@ mod ring;
 mod rows;
 mod search;
 mod step;
+mod ways;
 
 pub use frames::{Found, FrameSets, frame, maximum};
 pub use matching::{MatchRow, Matching};

@@ -11,19 +11,15 @@ ghost use Rattle.std.specs.Prelude.{◌≡◌, ℕ, ◌+◌, ◌-◌, ◌≤◌,
 ghost use Rattle.counting.specs.Counts.{Within, count};
 ghost use Rattle.counting.specs.Sets.{none, singleton, union};
 ghost use Rattle.counting.specs.Lists.{item, mem};
-ghost use Rattle.graph_core.specs.Matchings.{IsMatching, has_perfect};
-ghost use Rattle.graph_core.specs.View.{graph_of};
+ghost use Rattle.graph_core.specs.Matchings.{has_perfect};
 ghost use Rattle.match_core.specs.MatchingRows.{IsOf};
-ghost use Rattle.match_core.specs.Optimal.{IsBest};
 ghost use Rattle.match_core.specs.Partners.{ArePartners, are_partners};
 ghost use Rattle.match_core.specs.Rows.{marks};
-ghost use Rattle.match_core.specs.Searches.{IsGraphRow};
 
-use crate::best::Best;
+use crate::best::{Best, best_from};
 use crate::frames::maximum;
 use crate::matching::Matching;
-use crate::step::{Answer, step};
-use graph_core::{Ends, MultiGraph};
+use graph_core::MultiGraph;
 use std::alloc::{AllocError as Memory, Global};
 use std::marker::Model;
 use vset_core::VSet;
@@ -115,35 +111,13 @@ fn missable_alone(
     let n = g.order();
     let ends = g.edges();
     let mark = m.cleared(alloc, removed)?.marks(alloc, ends.len())?;
-    let Best { mark, sets } = best_from(alloc, n, ends, removed, mark)?;
+    let Best { mark, sets } = best_from(alloc, n, ends, g.rows(), removed, &mark)?;
     let left = VSet::full(n).minus(removed);
     left.rises();
     if left.len() as usize == 2 * marked_count(&mark) + 1 {
         return Ok(sets.outer);
     }
     Ok(VSet::empty())
-}
-
-// Enlarges a matching of G - removed, given by its marks, until it is maximum.
-fn best_from(
-    alloc: Global,
-    n: u32,
-    ends: &[Ends],
-    removed: VSet,
-    given: Vec<bool>,
-) -> Result<Best, Memory>
-    requires row { IsGraphRow n ends.now }
-    requires long { length given.items ≡ length ends.now + 1 }
-    requires matching { IsMatching (graph_of n ends.now) (mem removed) (marks given.items) }
-    ensures { IfOk result (λ b. IsBest (graph_of n ends.now) (mem removed) b) }
-{
-    let mut mark = given;
-    'augmenting: loop {
-        match step(alloc, n, ends, removed, &mut mark)? {
-            Answer::Grown => {}
-            Answer::Final(sets) => return Ok(Best { mark, sets }),
-        }
-    }
 }
 
 // How many places from 1 on are marked.

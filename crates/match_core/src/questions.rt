@@ -4,6 +4,7 @@ ghost use Rattle.counting.specs.Counts.{Within};
 ghost use Rattle.counting.specs.Sets.{none};
 ghost use Rattle.counting.specs.Lists.{mem};
 ghost use Rattle.graph_core.specs.Graph.{size};
+ghost use Rattle.graph_core.specs.Rows.{AreRows};
 ghost use Rattle.graph_core.specs.View.{graph_of};
 ghost use Rattle.graph_core.specs.Matchings.{IsPerfect, HasPerfect};
 ghost use Rattle.match_core.specs.Rows.{marks};
@@ -30,7 +31,7 @@ pub fn perfect_without(
 {
     let n = g.order();
     let ends = g.edges();
-    match perfect_marks(alloc, n, ends, removed)? {
+    match perfect_marks(alloc, n, ends, g.rows(), removed)? {
         Some(mark) => Ok(Some(matching_of(alloc, n, ends, &mark)?)),
         None => Ok(None),
     }
@@ -50,7 +51,7 @@ pub fn perfect_with(
 {
     let n = g.order();
     let ends = g.edges();
-    match marks_with(alloc, n, ends, edges.as_slice())? {
+    match marks_with(alloc, n, ends, g.rows(), edges.as_slice())? {
         Some(mark) => Ok(Some(matching_of(alloc, n, ends, &mark)?)),
         None => Ok(None),
     }
@@ -61,9 +62,11 @@ fn marks_with(
     alloc: Global,
     n: u32,
     ends: &[Ends],
+    rows: &[VSet],
     edges: &[u32],
 ) -> Result<Option<Vec<bool>>, Memory>
     requires row { IsGraphRow n ends.now }
+    requires neighbours { AreRows (graph_of n ends.now) rows.now }
     requires edges { All (Within (length ends.now)) edges.now }
     ensures long { IfOk result (λ o. (mark : _) → o ≡ Some mark → length mark.items ≡ length ends.now + 1) }
     ensures perfect { IfOk result (λ o. (mark : _) → o ≡ Some mark → IsPerfect (graph_of n ends.now) none (marks mark.items)) }
@@ -72,7 +75,7 @@ fn marks_with(
 {
     match ends_met(alloc, n, ends, edges)? {
         None => Ok(None),
-        Some(met) => match perfect_marks(alloc, n, ends, met)? {
+        Some(met) => match perfect_marks(alloc, n, ends, rows, met)? {
             None => Ok(None),
             Some(mut mark) => {
                 mark_places(&mut mark, edges);
@@ -109,14 +112,16 @@ fn perfect_marks(
     alloc: Global,
     n: u32,
     ends: &[Ends],
+    rows: &[VSet],
     removed: VSet,
 ) -> Result<Option<Vec<bool>>, Memory>
-    requires { IsGraphRow n ends.now }
+    requires row { IsGraphRow n ends.now }
+    requires neighbours { AreRows (graph_of n ends.now) rows.now }
     ensures long { IfOk result (λ o. (mark : _) → o ≡ Some mark → length mark.items ≡ length ends.now + 1) }
     ensures perfect { IfOk result (λ o. (mark : _) → o ≡ Some mark → IsPerfect (graph_of n ends.now) (mem removed) (marks mark.items)) }
     ensures none { IfOk result (λ o. (o ≡ None) ↔ (HasPerfect (graph_of n ends.now) (mem removed) → ⊥)) }
 {
-    let Best { mark, sets } = find_best(alloc, n, ends, removed)?;
+    let Best { mark, sets } = find_best(alloc, n, ends, rows, removed)?;
     if sets.outer.len() == 0 {
         return Ok(Some(mark));
     }

@@ -2,6 +2,7 @@
 ghost use Rattle.std.specs.Prelude.{◌≡◌, ℕ, ◌+◌, ◌-◌, ◌/◌, ◌≢◌, ◌==◌, cond, true, ◌<◌, ◌≤◌, length, ◌↔◌, IfOk, Some, None};
 ghost use Rattle.counting.specs.Counts.{Within};
 ghost use Rattle.counting.specs.Lists.{mem};
+ghost use Rattle.graph_core.specs.Rows.{AreRows};
 ghost use Rattle.graph_core.specs.View.{graph_of};
 ghost use Rattle.graph_core.specs.Matchings.{IsMatching, IsPerfect, HasPerfect, missed_count};
 ghost use Rattle.counting.specs.Sets.{put};
@@ -11,12 +12,12 @@ ghost use Rattle.match_core.specs.Searches.{IsGraphRow};
 ghost use Rattle.match_core.specs.MatchingRows.{IsOf, edges_of};
 ghost use Rattle.match_core.specs.RepairPaths.{DiffersByPath, IsRepairRow, Misses};
 
+use crate::best::{Best, best_from};
 use crate::exchange::exchange;
 use crate::forest::{Mate, free};
 use crate::matching::{Matching, matching_of};
 use crate::rows::mark_place;
 use crate::search::{matched_edges, other_end};
-use crate::step::{Answer, step};
 use graph_core::{Ends, MultiGraph};
 use std::alloc::{AllocError as Memory, Global};
 use vset_core::VSet;
@@ -40,26 +41,25 @@ pub fn repair(
     let n = g.order();
     let ends = g.edges();
     let given = m.marks(alloc, ends.len())?;
-    let found = m.marks(alloc, ends.len())?;
-    match repaired_marks(alloc, n, ends, removed, given, found)? {
+    match repaired_marks(alloc, n, ends, g.rows(), removed, given)? {
         Some(mark) => Ok(Some(matching_of(alloc, n, ends, &mark)?)),
         None => Ok(None),
     }
 }
 
-// The marks of the repaired matching, by one step from the same marks.
+// The marks of the repaired matching. The engine enlarges the given one, if it can; its exchange with what is found then is
+// the path.
 fn repaired_marks(
     alloc: Global,
     n: u32,
     ends: &[Ends],
+    rows: &[VSet],
     removed: VSet,
     mark: Vec<bool>,
-    same: Vec<bool>,
 ) -> Result<Option<Vec<bool>>, Memory>
     requires row { IsGraphRow n ends.now }
+    requires neighbours { AreRows (graph_of n ends.now) rows.now }
     requires long { length mark.items ≡ length ends.now + 1 }
-    requires same_long { length same.items ≡ length ends.now + 1 }
-    requires same { (e : ℕ) → marks same.items e ≡ marks mark.items e }
     requires matching { IsMatching (graph_of n ends.now) (mem removed) (marks mark.items) }
     requires two { missed_count (graph_of n ends.now) (mem removed) (marks mark.items) ≡ 2 }
     ensures long { IfOk result (λ o. (new : _) → o ≡ Some new → length new.items ≡ length ends.now + 1) }
@@ -67,14 +67,12 @@ fn repaired_marks(
     ensures path { IfOk result (λ o. (new : _) → o ≡ Some new → DiffersByPath (graph_of n ends.now) (mem removed) (marks mark.items) (marks new.items)) }
     ensures none { IfOk result (λ o. (o ≡ None) ↔ (HasPerfect (graph_of n ends.now) (mem removed) → ⊥)) }
 {
-    let mut found = same;
-    match step(alloc, n, ends, removed, &mut found)? {
-        Answer::Final(_) => Ok(None),
-        Answer::Grown => {
-            let edges = repair_path(alloc, n, ends, removed, &mark, &found)?;
-            Ok(Some(flipped_along(mark, &edges)))
-        }
+    let Best { mark: found, sets } = best_from(alloc, n, ends, rows, removed, &mark)?;
+    if sets.outer.len() == 0 {
+        let edges = repair_path(alloc, n, ends, removed, &mark, &found)?;
+        return Ok(Some(flipped_along(mark, &edges)));
     }
+    Ok(None)
 }
 
 // The marks exchanged along a path with an odd number of edges.

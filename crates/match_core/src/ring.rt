@@ -87,7 +87,7 @@ pub fn open_ring(
 }
 
 // The set of the numbers of a row from place 1 on.
-fn members_of(row: &[u32]) -> VSet
+pub fn members_of(row: &[u32]) -> VSet
     requires some { 1 ≤ length row.now }
     requires within { (i : ℕ) → Within (length row.now - 1) i → Within MOST_VERTICES (numbers row.now i) }
     ensures { (v : ℕ) → mem result v ≡ listed (length row.now - 1) (numbers row.now) v }

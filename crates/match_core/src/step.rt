@@ -66,7 +66,7 @@ pub fn step(
 }
 
 // The vertices of the shrunk cycle are outer as its first vertex is.
-fn widen(below: Answer, members: VSet) -> Answer
+pub fn widen(below: Answer, members: VSet) -> Answer
     ensures { IsWidened below (mem members) result }
 {
     match below {

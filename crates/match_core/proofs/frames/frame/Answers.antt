@@ -8,11 +8,14 @@ use Rattle.match_core.specs.Rows.{marks}
 use Rattle.match_core.specs.MatchingRows.{edges_of}
 use Rattle.match_core.specs.Optimal.{IsBest}
 use Rattle.match_core.proofs.SearchRows.{size_is}
-use Rattle.match_core.proofs.FrameFacts.{limits_row, best_maximum, best_attains, best_odd, best_missed, best_next, outer_rises, inner_rises}
+use Rattle.match_core.proofs.FrameFacts.{ends_rows, limits_row, best_maximum, best_attains, best_odd, best_missed, best_next, outer_rises, inner_rises}
 use Rattle.match_core.proofs.frames.frame.Goals as goal
 
-pub find_best-requires : goal.find_best-requires
-find_best-requires c = limits_row c.args.g.now c.order-n.result c.edges-ends.result.now c.order-n.ensures.is c.edges-ends.ensures.edges c.edges-ends.ensures.limits
+pub find_best-requires-clause-row : goal.find_best-requires-clause-row
+find_best-requires-clause-row c = limits_row c.args.g.now c.order-n.result c.edges-ends.result.now c.order-n.ensures.is c.edges-ends.ensures.edges c.edges-ends.ensures.limits
+
+pub find_best-requires-clause-neighbours : goal.find_best-requires-clause-neighbours
+find_best-requires-clause-neighbours c = ends_rows c.args.g.now c.order-n.result c.edges-ends.result.now c.rows.result.now c.order-n.ensures.is c.edges-ends.ensures.edges c.rows.ensures
 
 pub matching_of-requires-clause-row : goal.matching_of-requires-clause-row
 matching_of-requires-clause-row c = limits_row c.args.g.now c.order-n.result c.edges-ends.result.now c.order-n.ensures.is c.edges-ends.ensures.edges c.edges-ends.ensures.limits

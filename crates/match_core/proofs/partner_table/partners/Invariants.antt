@@ -1,4 +1,4 @@
-use Rattle.std.proofs.Common.{◌≡◌, ◌≤◌, ℕ, true, length}
+use Rattle.std.proofs.Common.{◌≡◌, ℕ, true, length}
 use Rattle.counting.specs.Counts.{Within}
 use Rattle.counting.specs.Lists.{item, mem}
 use Rattle.match_core.specs.Partners.{are_partners}

@@ -1,4 +1,4 @@
-use Rattle.std.proofs.Common.{◌≡◌, ℕ, List, Bool, false, ◌==◌, ◌&&◌, ◌||◌, not, ap, sym, ◌∙◌, refl, arith}
+use Rattle.std.proofs.Common.{◌≡◌, ℕ, List, Bool, false, ◌==◌, ◌&&◌, ◌||◌, not, ap, sym, ◌∙◌, arith}
 use Rattle.std.proofs.lemmas.Result.{IfOk-weaker}
 use mathlib.Core.Path.{fun_ext}
 use Rattle.counting.specs.Counts.{Within}

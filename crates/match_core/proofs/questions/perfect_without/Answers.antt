@@ -8,11 +8,14 @@ use Rattle.graph_core.proofs.Perfect.{perfect_matching}
 use Rattle.match_core.specs.Rows.{marks}
 use Rattle.match_core.specs.MatchingRows.{edges_of, MatchingValue}
 use Rattle.match_core.proofs.SearchRows.{size_is}
-use Rattle.match_core.proofs.FrameFacts.{limits_row, whole_matching, listed_perfect}
+use Rattle.match_core.proofs.FrameFacts.{ends_rows, limits_row, whole_matching, listed_perfect}
 use Rattle.match_core.proofs.questions.perfect_without.Goals as goal
 
-pub perfect_marks-requires : goal.perfect_marks-requires
-perfect_marks-requires c = limits_row c.args.g.now c.order-n.result c.edges-ends.result.now c.order-n.ensures.is c.edges-ends.ensures.edges c.edges-ends.ensures.limits
+pub perfect_marks-requires-clause-row : goal.perfect_marks-requires-clause-row
+perfect_marks-requires-clause-row c = limits_row c.args.g.now c.order-n.result c.edges-ends.result.now c.order-n.ensures.is c.edges-ends.ensures.edges c.edges-ends.ensures.limits
+
+pub perfect_marks-requires-clause-neighbours : goal.perfect_marks-requires-clause-neighbours
+perfect_marks-requires-clause-neighbours c = ends_rows c.args.g.now c.order-n.result c.edges-ends.result.now c.rows.result.now c.order-n.ensures.is c.edges-ends.ensures.edges c.rows.ensures
 
 pub matching_of-requires-clause-row : goal.matching_of-requires-clause-row
 matching_of-requires-clause-row c = limits_row c.args.g.now c.order-n.result c.edges-ends.result.now c.order-n.ensures.is c.edges-ends.ensures.edges c.edges-ends.ensures.limits

@@ -1,4 +1,4 @@
-use Rattle.std.proofs.Common.{◌≡◌, ℕ, ◌+◌, ◌==◌, ◌&&◌, not, nat_lt, nat_le, List, [], ◌++◌, ◌∷◌, length, sym, ap, ◌∙◌, subst, arith}
+use Rattle.std.proofs.Common.{◌≡◌, ℕ, ◌==◌, ◌&&◌, not, nat_lt, nat_le, List, [], ◌++◌, ◌∷◌, length, sym, ap, ◌∙◌, subst, arith}
 use Rattle.counting.specs.Lists.{mem}
 use Rattle.graph_core.specs.View.{graph_of}
 use Rattle.match_core.specs.Rows.{marks, numbers}

@@ -1,4 +1,4 @@
-use Rattle.std.proofs.Common.{arith, ◌≡◌, ℕ, true, false, ◌≤◌, length, subst, cond, ◌==◌}
+use Rattle.std.proofs.Common.{arith, ◌≡◌, ℕ, true, false, ◌≤◌, subst, cond, ◌==◌}
 use Rattle.counting.proofs.Counts.{count_le}
 use Rattle.counting.specs.Lists.{mem}
 use Rattle.match_core.specs.Rows.{marks}

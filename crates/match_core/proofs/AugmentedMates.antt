@@ -1,0 +1,41 @@
+-- What an augmentation by mates hands on: its matching is held again, with fewer exposed vertices; and where it ends, the marks
+-- of a matching with its mates and its frame are the best.
+use Rattle.std.proofs.Common.{◌≡◌, ℕ, ◌+◌, ◌<◌, ◌==◌, ◌&&◌, not, sym, ap, ◌∙◌, subst, arith, List, length}
+use Rattle.counting.specs.Counts.{count}
+use Rattle.counting.specs.Lists.{mem}
+use Rattle.counting.specs.Sets.{Set}
+use Rattle.graph_core.specs.Graph.{Graph, IsGraph, size}
+use Rattle.match_core.specs.AlternatingForests.{HoldsMatching}
+use Rattle.match_core.specs.Blossoms.{IsMateStep}
+use Rattle.match_core.specs.Frames.{Frame}
+use Rattle.match_core.specs.Instances.{IsInstance}
+use Rattle.match_core.specs.Mates.{HasMates}
+use Rattle.match_core.specs.Optimal.{IsBest}
+use Rattle.match_core.specs.Rows.{marks, numbers}
+use Rattle.match_core.specs.declared.best.Best.{Best}
+use Rattle.match_core.specs.declared.instance.Instance.{Instance}
+use Rattle.match_core.specs.declared.step.Answer.TheVariants.{Final}
+use Rattle.match_core.proofs.SameMates.{exposed_mates, same_mates_count}
+
+pub holds_mates : (g : Graph) (r f : Set) (s : Instance) (mate row : List ℕ) → IsInstance g r s → row ≡ mate → length mate ≡ g.order + 1 → HasMates g r f (numbers mate) → HoldsMatching g r f s row
+holds_mates g r f s mate row is same long has = record {
+  instance_is = is;
+  long = let a = ap (λ (row : List ℕ). length row) same in omega arith;
+  mates = subst (λ (row : List ℕ). HasMates g r f (numbers row)) (sym same) has;
+}
+
+-- a matching with one edge more has fewer exposed vertices
+pub fewer_exposed : (g : Graph) → IsGraph g → (r f m : Set) (mate new : ℕ → ℕ) → HasMates g r f mate → HasMates g r m new → count (size g) m ≡ count (size g) f + 1 →
+    count g.order (λ v. not (r v) && (new v == 0)) < count g.order (λ v. not (r v) && (mate v == 0))
+fewer_exposed g is r f m mate new before after more =
+    let a = exposed_mates g is r f mate before in
+    let b = exposed_mates g is r m new after in omega arith
+
+-- marks with the mates of a last step, and its frame
+pub marked_best : (g : Graph) → IsGraph g → (r f : Set) (mate : List ℕ) (b : Best) (step : IsMateStep g r f mate (Final b.sets)) → length b.mark.items ≡ size g + 1 → HasMates g r (marks b.mark.items) (numbers mate) → IsBest g r b
+marked_best g is r f mate b step long has = record {
+  long = long;
+  matching = has.matching;
+  frame = subst (λ k. Frame g r k (mem b.sets.outer) (mem b.sets.inner)) (sym step.answer.0 ∙ same_mates_count g is r step.m (marks b.mark.items) (numbers mate) step.mates has) step.answer.1;
+  sets = step.answer.2;
+}

@@ -1,0 +1,92 @@
+-- One augmentation by mates: what its parts hand to one another.
+use Rattle.std.proofs.Common.{◌≡◌, ℕ, ◌<◌, refl, ap, ◌∙◌, arith, subst₂, length, List, not, ◌&&◌, nat_lt, nat_le, lt-ltb, Some, None}
+use mathlib.Core.Path.{fun_ext}
+use Rattle.std.proofs.lemmas.Bool.{and_from, le-leb}
+use Rattle.counting.proofs.Totals.{total_congr}
+use Rattle.counting.specs.Counts.{bit, count}
+use Rattle.counting.specs.Sets.{Set, complement}
+use Rattle.counting.specs.Lists.{mem}
+use Rattle.graph_core.specs.Graph.{Graph}
+use Rattle.match_core.specs.AlternatingForests.{HoldsMatching, IsGrowth}
+use Rattle.match_core.specs.Blossoms.{ClosesForest, HoldsBlossom, IsCompleted, IsMateStep, MayOpen, blossom_length, removed_with, without_blossom}
+use Rattle.match_core.specs.Instances.{IsInstance}
+use Rattle.match_core.specs.OddCycles.{listed}
+use Rattle.match_core.specs.Rows.{numbers}
+use Rattle.match_core.specs.Shrinkings.{IsShrinking}
+use Rattle.match_core.specs.Steps.{IsWidened}
+use Rattle.match_core.specs.declared.blossom.Blossom.{Blossom}
+use Rattle.match_core.specs.declared.growing.Adjacent.{Adjacent}
+use Rattle.match_core.specs.declared.growing.Growth.{Growth}
+use Rattle.match_core.specs.declared.instance.Instance.{Instance}
+use Rattle.match_core.specs.declared.step.Answer.{Answer}
+use Rattle.match_core.specs.declared.step.Answer.TheVariants.{Final}
+use Rattle.match_core.proofs.BlossomSteps.{below_mates, below_size, cr, cw, cz, graph, pulls, same_count, smaller, step_up}
+use Rattle.match_core.proofs.ParentForests.{done_frame, near_edge}
+use Rattle.match_core.proofs.ShrunkInstances.{shrunk_instance}
+
+-- the vertices that are left are counted by the instance
+pub left_count : (g : Graph) (r : Set) (s : Instance) → IsInstance g r s → count (length s.rows.items) (mem s.left) ≡ count g.order (complement r)
+left_count g r s is = ap (λ (n : ℕ). count n (mem s.left)) is.one_each
+    ∙ total_congr g.order (λ v. bit (mem s.left v)) (λ v. bit (not (r v))) (λ v w. ap bit (is.left v ∙ ap (λ b. b && not (r v)) (and_from (nat_lt 0 v) (nat_le v g.order) (lt-ltb 0 v (omega arith)) (le-leb v g.order (omega arith)))))
+
+module _ (g : Graph) (r f : Set) (s : Instance) (mate : List ℕ) (is : HoldsMatching g r f s mate) where
+  pub growth_closes : (t : Growth) (o : Adjacent) → IsGrowth g r f s mate t → t.closing ≡ Some o → ClosesForest g r f mate t.forest o
+  growth_closes t o growth q =
+      let pair = growth.closing_pair o q in
+      let at = growth.holds.forest.outer_in o.v pair.v_outer in
+      record {
+        graph = is.instance_is.graph;
+        few = is.instance_is.few;
+        long = is.long;
+        mates = is.mates;
+        holds = growth.holds;
+        v_outer = pair.v_outer;
+        w_outer = pair.w_outer;
+        different = pair.different;
+        edge = near_edge g r s is.instance_is o.v o.w at.0 at.1 pair.adjacent pair.w_left pair.different;
+      }
+
+  pub growth_final : (t : Growth) → IsGrowth g r f s mate t → t.closing ≡ None → IsMateStep g r f mate (Final (record { outer = t.forest.outer; inner = t.forest.inner }))
+  growth_final t growth q = record {
+    m = f;
+    mates = is.mates;
+    answer = (refl, done_frame g r f s mate is t.forest growth.holds (growth.done q), λ v. (λ o. (growth.holds.forest.outer_in v o).0, λ o. (growth.holds.forest.inner_in v o).0));
+  }
+
+  module _ (mate2 : List ℕ) (long2 : length mate2 ≡ length mate) (b : Blossom) (held : HoldsBlossom g r f mate2 b) (base : ℕ) (base_is : base ≡ numbers b.ring.items 1) (h : Instance) (shrink : IsShrinking s (mem b.members) base h) where
+    abbrev c : ℕ → ℕ
+    c = numbers b.ring.items
+
+    abbrev n : ℕ
+    n = blossom_length b
+
+    shrinking : IsShrinking s (listed n c) (c 1) h
+    shrinking = subst₂ (λ (x : Set) (z : ℕ). IsShrinking s x z h) (fun_ext held.members) base_is shrink
+
+    pub below_holds : HoldsMatching (without_blossom g b) (removed_with r b) held.m h mate2
+    below_holds = record {
+      instance_is = shrunk_instance g (listed n c) (c 1) _ (pulls g is.instance_is.graph r f held.m n c held.edge held.opened) (cz g is.instance_is.graph r f held.m n c held.edge held.opened) r s h is.instance_is
+          (cr g is.instance_is.graph r f held.m n c held.edge held.opened) (cw g is.instance_is.graph r f held.m n c held.edge held.opened) shrinking (graph g is.instance_is.graph r f held.m n c held.edge held.opened);
+      long = long2 ∙ is.long;
+      mates = below_mates g is.instance_is.graph r f held.m n c held.edge held.opened (numbers mate2) held.mates;
+    }
+
+    pub below_less : count (length h.rows.items) (mem h.left) < count (length s.rows.items) (mem s.left)
+    below_less =
+        let a = left_count (without_blossom g b) (removed_with r b) h below_holds.instance_is in
+        let d = left_count g r s is.instance_is in
+        let e = smaller g is.instance_is.graph r f held.m n c held.edge held.opened in omega arith
+
+    module _ (mate3 : List ℕ) (long3 : length mate3 ≡ length mate2) (below : Answer) (step : IsMateStep (without_blossom g b) (removed_with r b) held.m mate3 below) where
+      pub may_open : MayOpen g r f held.m step.m s mate3 b
+      may_open = record { instance_is = is.instance_is; long = long3 ∙ long2 ∙ is.long; edge = held.edge; opened = held.opened; mates = step.mates }
+
+      pub step_completed : (mate4 : List ℕ) (result : Answer) → IsCompleted g r f held.m step.m mate4 → IsWidened below (mem b.members) result → IsMateStep g r f mate4 result
+      step_completed mate4 result done wide = record {
+        m = done.0;
+        mates = done.1;
+        answer = step_up g is.instance_is.graph r f held.m n c held.edge held.opened step.m done.0
+            (let d = done.2 in let low = below_size g is.instance_is.graph r f held.m n c held.edge held.opened in
+            let sm = same_count g is.instance_is.graph r f held.m n c held.edge held.opened held.m in let sn = same_count g is.instance_is.graph r f held.m n c held.edge held.opened step.m in omega arith)
+            below result b.members held.members step.answer wide;
+      }

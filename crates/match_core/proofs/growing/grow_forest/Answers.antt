@@ -1,0 +1,241 @@
+use Rattle.std.proofs.Common.{◌≡◌, ◌≢◌, ℕ, suc, ◌+◌, ◌-◌, ◌*◌, ◌<◌, ◌≤◌, Bool, true, false, ◌==◌, refl, sym, ap, ◌∙◌, arith, inl, inr, subst, length, List, [], None, Some, ◌&&◌, ◌||◌, not}
+use Rattle.std.proofs.lemmas.Bool.{both_ways, cases_Bool, cases_eq, and_parts, and_from, false_from_ne_true, or_cases, or_left, or_right}
+use Rattle.std.proofs.lemmas.List.{get_or_read}
+use Rattle.counting.specs.Counts.{count}
+use Rattle.counting.specs.Lists.{mem}
+use Rattle.match_core.specs.AlternatingForests.{IsDone, IsClosingPair}
+use Rattle.match_core.specs.declared.growing.Adjacent.{Adjacent}
+use Rattle.match_core.proofs.ParentForests.{branch_holds, branch_mate, left_parts, oz, roots_hold}
+use Rattle.match_core.proofs.Reaching.{branch_less, done_stays, drop_less, none_reached, pairs_few, reach_parts, unmet}
+use Rattle.match_core.specs.Rows.{numbers}
+use Rattle.match_core.proofs.growing.grow_forest.Goals as goal
+
+or_false_parts : (a b : Bool) → (a || b) ≡ false → (a ≡ false) × (b ≡ false)
+or_false_parts true b q = absurd (Rattle.std.proofs.lemmas.Bool.true≢false q)
+or_false_parts false b q = (refl, q)
+
+pub growing-init : goal.growing-init
+growing-init c = record {
+  holds = λ g r f is.
+      let e = is.instance_is.one_each in
+      let n : c.len-n.result ≡ g.order = cc in
+      roots_hold g r f c.args.instance.now c.args.mate.now is c.in_ok-forest.forest
+      (λ v. ap (λ (x : List ℕ). mem x v) c.in_ok-forest.ensures.outer ∙ subst (λ (k : ℕ). mem c.exposed_in.result v ≡ ((Rattle.std.proofs.Common.nat_lt 0 v && Rattle.std.proofs.Common.nat_le v k) && (mem c.args.instance.now.left v && (numbers c.args.mate.now v == 0)))) n (c.exposed_in.ensures v))
+      c.in_ok-forest.ensures.inner (c.in_ok-forest.ensures.parents_long ∙ ap suc n) (c.in_ok-forest.ensures.pairs_long ∙ ap suc n) c.in_ok-forest.ensures.pairs;
+  opens = λ x o. o;
+  done = λ x o n. absurd (both_ways (mem c.in_ok-forest.forest.outer x) n o);
+}
+
+pub index-requires : goal.index-requires
+index-requires c =
+    let q = c.requires in
+    let h = c.growing.invariant.holds q.0 q.1 q.2 q.3 in
+    let w = (h.forest.outer_in c.in-Some.x (c.growing.invariant.opens c.in-Some.x c.in-Some.ensures.some.member)).0 in
+    let e = q.3.instance_is.one_each in omega arith
+
+pub returns-in-Some-first : goal.returns-in-Some-first
+returns-in-Some-first c = λ g r f is. record {
+  holds = c.growing.invariant.holds g r f is;
+  done = λ q. cc;
+  closing_pair = λ o q.
+      let h = c.growing.invariant.holds g r f is in
+      let ox = c.growing.invariant.opens c.in-Some.x c.in-Some.ensures.some.member in
+      let w = (h.forest.outer_in c.in-Some.x ox).0 in
+      let e = is.instance_is.one_each in
+      let row = get_or_read c.args.instance.now.rows.items (c.in-Some.x - 1) c.index.result.now (omega arith) c.index.ensures [] in
+      let m = and_parts (mem c.minus-reach.result c.in-Some-first.y) (mem c.growing.forest.outer c.in-Some-first.y) (sym (c.meet-in-Some.ensures c.in-Some-first.y) ∙ c.in-Some-first.ensures.some.member) in
+      let p = reach_parts c.args.instance.now c.growing.forest c.in-Some.x c.index.result.now c.meet.result c.without-near.result c.minus-reach.result row c.meet.ensures c.without-near.ensures c.minus-reach.ensures c.in-Some-first.y m.0 in
+      let here : Adjacent = record { v = c.in-Some.x; w = c.in-Some-first.y } in
+      let same : here ≡ o = cc in
+      subst (IsClosingPair c.args.instance.now c.growing.forest) same (record { v_outer = ox; w_outer = m.1; different = p.2; w_left = p.1; adjacent = p.0 });
+}
+
+pub growing-smaller-in-None : goal.growing-smaller-in-None
+growing-smaller-in-None c =
+    let q = c.requires in
+    let h = c.growing.invariant.holds q.0 q.1 q.2 q.3 in
+    let member = c.in-Some.ensures.some.member in
+    let w = (h.forest.outer_in c.in-Some.x (c.growing.invariant.opens c.in-Some.x member)).0 in
+    let e = q.3.instance_is.one_each in
+    drop_less (length c.args.instance.now.rows.items) (2 * (length c.args.instance.now.rows.items - count (length c.args.instance.now.rows.items) (mem c.growing.forest.inner))) (mem c.growing.«open») (mem c.without-open.result) c.in-Some.x (omega arith) member c.without-open.ensures
+
+pub growing-preserved-in-None : goal.growing-preserved-in-None
+growing-preserved-in-None c = record {
+  holds = c.growing.invariant.holds;
+  opens = λ v o. c.growing.invariant.opens v (and_parts (mem c.growing.«open» v) (not (c.in-Some.x == v)) (sym (c.without-open.ensures v) ∙ o)).0;
+  done = λ v o n. elim (cases_eq c.in-Some.x v) [
+    | inl same ↦
+        let q = c.requires in
+        let h = c.growing.invariant.holds q.0 q.1 q.2 q.3 in
+        let w = (h.forest.outer_in c.in-Some.x (c.growing.invariant.opens c.in-Some.x c.in-Some.ensures.some.member)).0 in
+        let e = q.3.instance_is.one_each in
+        let row = get_or_read c.args.instance.now.rows.items (c.in-Some.x - 1) c.index.result.now (omega arith) c.index.ensures [] in
+        subst (λ (v : ℕ). IsDone c.args.instance.now c.growing.forest v) same
+        (none_reached c.args.instance.now c.growing.forest c.in-Some.x c.index.result.now c.meet.result c.without-near.result c.minus-reach.result row c.meet.ensures c.without-near.ensures c.minus-reach.ensures c.in-None.ensures.none)
+    | inr other ↦ c.growing.invariant.done v o (false_from_ne_true (mem c.growing.«open» v) (λ t. both_ways (mem c.without-open.result v) n (c.without-open.ensures v ∙ and_from (mem c.growing.«open» v) (not (c.in-Some.x == v)) t (ap not (Rattle.std.proofs.Common.ne_eqb c.in-Some.x v other)))))
+  ];
+}
+
+pub bounds-mate-y : goal.bounds-mate-y
+bounds-mate-y c =
+    let q = c.requires in
+    let h = c.growing.invariant.holds q.0 q.1 q.2 q.3 in
+    let ox = c.growing.invariant.opens c.in-Some.x c.in-Some.ensures.some.member in
+    let w = (h.forest.outer_in c.in-Some.x ox).0 in
+    let e = q.3.instance_is.one_each in
+    let row = get_or_read c.args.instance.now.rows.items (c.in-Some.x - 1) c.index.result.now (omega arith) c.index.ensures [] in
+    let reached = c.in-Some-first-2.ensures.some.member in
+    let p = reach_parts c.args.instance.now c.growing.forest c.in-Some.x c.index.result.now c.meet.result c.without-near.result c.minus-reach.result row c.meet.ensures c.without-near.ensures c.minus-reach.ensures c.in-Some-first-2.y reached in
+    let oy = unmet c.minus-reach.result c.growing.forest.outer c.meet-in-Some.result c.in-Some-first-2.y c.meet-in-Some.ensures c.in_default-first.ensures.none reached in
+    let wy = (left_parts q.0 q.1 c.args.instance.now q.3.instance_is c.in-Some-first-2.y p.1).0 in
+    let z = branch_mate q.0 q.1 q.2 c.args.instance.now c.args.mate.now q.3 c.growing.forest h c.in-Some.x c.in-Some-first-2.y ox p.0 p.1 p.2 oy p.3 in
+    let few = q.3.instance_is.few in
+    let l = q.3.long in omega arith
+
+pub branch-forest-requires-in-Some-first-2-clause-x_in : goal.branch-forest-requires-in-Some-first-2-clause-x_in
+branch-forest-requires-in-Some-first-2-clause-x_in c =
+    let q = c.requires in
+    let h = c.growing.invariant.holds q.0 q.1 q.2 q.3 in
+    let ox = c.growing.invariant.opens c.in-Some.x c.in-Some.ensures.some.member in
+    let w = (h.forest.outer_in c.in-Some.x ox).0 in
+    let e = q.3.instance_is.one_each in
+    let row = get_or_read c.args.instance.now.rows.items (c.in-Some.x - 1) c.index.result.now (omega arith) c.index.ensures [] in
+    let reached = c.in-Some-first-2.ensures.some.member in
+    let p = reach_parts c.args.instance.now c.growing.forest c.in-Some.x c.index.result.now c.meet.result c.without-near.result c.minus-reach.result row c.meet.ensures c.without-near.ensures c.minus-reach.ensures c.in-Some-first-2.y reached in
+    let oy = unmet c.minus-reach.result c.growing.forest.outer c.meet-in-Some.result c.in-Some-first-2.y c.meet-in-Some.ensures c.in_default-first.ensures.none reached in
+    let wy = (left_parts q.0 q.1 c.args.instance.now q.3.instance_is c.in-Some-first-2.y p.1).0 in
+    let z = branch_mate q.0 q.1 q.2 c.args.instance.now c.args.mate.now q.3 c.growing.forest h c.in-Some.x c.in-Some-first-2.y ox p.0 p.1 p.2 oy p.3 in
+    let few = q.3.instance_is.few in
+    let l = h.pairs_long in omega arith
+
+pub branch-forest-requires-in-Some-first-2-clause-y_in : goal.branch-forest-requires-in-Some-first-2-clause-y_in
+branch-forest-requires-in-Some-first-2-clause-y_in c =
+    let q = c.requires in
+    let h = c.growing.invariant.holds q.0 q.1 q.2 q.3 in
+    let ox = c.growing.invariant.opens c.in-Some.x c.in-Some.ensures.some.member in
+    let w = (h.forest.outer_in c.in-Some.x ox).0 in
+    let e = q.3.instance_is.one_each in
+    let row = get_or_read c.args.instance.now.rows.items (c.in-Some.x - 1) c.index.result.now (omega arith) c.index.ensures [] in
+    let reached = c.in-Some-first-2.ensures.some.member in
+    let p = reach_parts c.args.instance.now c.growing.forest c.in-Some.x c.index.result.now c.meet.result c.without-near.result c.minus-reach.result row c.meet.ensures c.without-near.ensures c.minus-reach.ensures c.in-Some-first-2.y reached in
+    let oy = unmet c.minus-reach.result c.growing.forest.outer c.meet-in-Some.result c.in-Some-first-2.y c.meet-in-Some.ensures c.in_default-first.ensures.none reached in
+    let wy = (left_parts q.0 q.1 c.args.instance.now q.3.instance_is c.in-Some-first-2.y p.1).0 in
+    let z = branch_mate q.0 q.1 q.2 c.args.instance.now c.args.mate.now q.3 c.growing.forest h c.in-Some.x c.in-Some-first-2.y ox p.0 p.1 p.2 oy p.3 in
+    let few = q.3.instance_is.few in
+    let l = h.parents_long in omega arith
+
+pub branch-forest-requires-in-Some-first-2-clause-z_in : goal.branch-forest-requires-in-Some-first-2-clause-z_in
+branch-forest-requires-in-Some-first-2-clause-z_in c =
+    let q = c.requires in
+    let h = c.growing.invariant.holds q.0 q.1 q.2 q.3 in
+    let ox = c.growing.invariant.opens c.in-Some.x c.in-Some.ensures.some.member in
+    let w = (h.forest.outer_in c.in-Some.x ox).0 in
+    let e = q.3.instance_is.one_each in
+    let row = get_or_read c.args.instance.now.rows.items (c.in-Some.x - 1) c.index.result.now (omega arith) c.index.ensures [] in
+    let reached = c.in-Some-first-2.ensures.some.member in
+    let p = reach_parts c.args.instance.now c.growing.forest c.in-Some.x c.index.result.now c.meet.result c.without-near.result c.minus-reach.result row c.meet.ensures c.without-near.ensures c.minus-reach.ensures c.in-Some-first-2.y reached in
+    let oy = unmet c.minus-reach.result c.growing.forest.outer c.meet-in-Some.result c.in-Some-first-2.y c.meet-in-Some.ensures c.in_default-first.ensures.none reached in
+    let wy = (left_parts q.0 q.1 c.args.instance.now q.3.instance_is c.in-Some-first-2.y p.1).0 in
+    let z = branch_mate q.0 q.1 q.2 c.args.instance.now c.args.mate.now q.3 c.growing.forest h c.in-Some.x c.in-Some-first-2.y ox p.0 p.1 p.2 oy p.3 in
+    let few = q.3.instance_is.few in
+    let l = h.pairs_long in let zw = z.0 in omega arith
+
+pub branch-forest-requires-in-Some-first-2-clause-z_vertex : goal.branch-forest-requires-in-Some-first-2-clause-z_vertex
+branch-forest-requires-in-Some-first-2-clause-z_vertex c =
+    let q = c.requires in
+    let h = c.growing.invariant.holds q.0 q.1 q.2 q.3 in
+    let ox = c.growing.invariant.opens c.in-Some.x c.in-Some.ensures.some.member in
+    let w = (h.forest.outer_in c.in-Some.x ox).0 in
+    let e = q.3.instance_is.one_each in
+    let row = get_or_read c.args.instance.now.rows.items (c.in-Some.x - 1) c.index.result.now (omega arith) c.index.ensures [] in
+    let reached = c.in-Some-first-2.ensures.some.member in
+    let p = reach_parts c.args.instance.now c.growing.forest c.in-Some.x c.index.result.now c.meet.result c.without-near.result c.minus-reach.result row c.meet.ensures c.without-near.ensures c.minus-reach.ensures c.in-Some-first-2.y reached in
+    let oy = unmet c.minus-reach.result c.growing.forest.outer c.meet-in-Some.result c.in-Some-first-2.y c.meet-in-Some.ensures c.in_default-first.ensures.none reached in
+    let wy = (left_parts q.0 q.1 c.args.instance.now q.3.instance_is c.in-Some-first-2.y p.1).0 in
+    let z = branch_mate q.0 q.1 q.2 c.args.instance.now c.args.mate.now q.3 c.growing.forest h c.in-Some.x c.in-Some-first-2.y ox p.0 p.1 p.2 oy p.3 in
+    let few = q.3.instance_is.few in
+    let zw = z.0 in (zw.0, omega arith)
+
+pub branch-forest-requires-in-Some-first-2-clause-shallow : goal.branch-forest-requires-in-Some-first-2-clause-shallow
+branch-forest-requires-in-Some-first-2-clause-shallow c =
+    let q = c.requires in
+    let h = c.growing.invariant.holds q.0 q.1 q.2 q.3 in
+    let ox = c.growing.invariant.opens c.in-Some.x c.in-Some.ensures.some.member in
+    let w = (h.forest.outer_in c.in-Some.x ox).0 in
+    let e = q.3.instance_is.one_each in
+    let row = get_or_read c.args.instance.now.rows.items (c.in-Some.x - 1) c.index.result.now (omega arith) c.index.ensures [] in
+    let reached = c.in-Some-first-2.ensures.some.member in
+    let p = reach_parts c.args.instance.now c.growing.forest c.in-Some.x c.index.result.now c.meet.result c.without-near.result c.minus-reach.result row c.meet.ensures c.without-near.ensures c.minus-reach.ensures c.in-Some-first-2.y reached in
+    let oy = unmet c.minus-reach.result c.growing.forest.outer c.meet-in-Some.result c.in-Some-first-2.y c.meet-in-Some.ensures c.in_default-first.ensures.none reached in
+    let wy = (left_parts q.0 q.1 c.args.instance.now q.3.instance_is c.in-Some-first-2.y p.1).0 in
+    let z = branch_mate q.0 q.1 q.2 c.args.instance.now c.args.mate.now q.3 c.growing.forest h c.in-Some.x c.in-Some-first-2.y ox p.0 p.1 p.2 oy p.3 in
+    let few = q.3.instance_is.few in
+    let k = pairs_few q.0 q.1 q.2 c.args.mate.now c.growing.forest h c.in-Some.x ox in omega arith
+
+pub with-open-requires : goal.with-open-requires
+with-open-requires c =
+    let q = c.requires in
+    let h = c.growing.invariant.holds q.0 q.1 q.2 q.3 in
+    let ox = c.growing.invariant.opens c.in-Some.x c.in-Some.ensures.some.member in
+    let w = (h.forest.outer_in c.in-Some.x ox).0 in
+    let e = q.3.instance_is.one_each in
+    let row = get_or_read c.args.instance.now.rows.items (c.in-Some.x - 1) c.index.result.now (omega arith) c.index.ensures [] in
+    let reached = c.in-Some-first-2.ensures.some.member in
+    let p = reach_parts c.args.instance.now c.growing.forest c.in-Some.x c.index.result.now c.meet.result c.without-near.result c.minus-reach.result row c.meet.ensures c.without-near.ensures c.minus-reach.ensures c.in-Some-first-2.y reached in
+    let oy = unmet c.minus-reach.result c.growing.forest.outer c.meet-in-Some.result c.in-Some-first-2.y c.meet-in-Some.ensures c.in_default-first.ensures.none reached in
+    let wy = (left_parts q.0 q.1 c.args.instance.now q.3.instance_is c.in-Some-first-2.y p.1).0 in
+    let z = branch_mate q.0 q.1 q.2 c.args.instance.now c.args.mate.now q.3 c.growing.forest h c.in-Some.x c.in-Some-first-2.y ox p.0 p.1 p.2 oy p.3 in
+    let few = q.3.instance_is.few in
+    let zw = z.0 in (zw.0, omega arith)
+
+pub growing-smaller : goal.growing-smaller
+growing-smaller c =
+    let q = c.requires in
+    let h = c.growing.invariant.holds q.0 q.1 q.2 q.3 in
+    let ox = c.growing.invariant.opens c.in-Some.x c.in-Some.ensures.some.member in
+    let w = (h.forest.outer_in c.in-Some.x ox).0 in
+    let e = q.3.instance_is.one_each in
+    let row = get_or_read c.args.instance.now.rows.items (c.in-Some.x - 1) c.index.result.now (omega arith) c.index.ensures [] in
+    let reached = c.in-Some-first-2.ensures.some.member in
+    let p = reach_parts c.args.instance.now c.growing.forest c.in-Some.x c.index.result.now c.meet.result c.without-near.result c.minus-reach.result row c.meet.ensures c.without-near.ensures c.minus-reach.ensures c.in-Some-first-2.y reached in
+    let oy = unmet c.minus-reach.result c.growing.forest.outer c.meet-in-Some.result c.in-Some-first-2.y c.meet-in-Some.ensures c.in_default-first.ensures.none reached in
+    let wy = (left_parts q.0 q.1 c.args.instance.now q.3.instance_is c.in-Some-first-2.y p.1).0 in
+    let z = branch_mate q.0 q.1 q.2 c.args.instance.now c.args.mate.now q.3 c.growing.forest h c.in-Some.x c.in-Some-first-2.y ox p.0 p.1 p.2 oy p.3 in
+    let few = q.3.instance_is.few in
+    let o = oz q.0 q.1 q.2 c.args.instance.now c.args.mate.now q.3 c.growing.forest h c.in-Some.x c.in-Some-first-2.y ox p.0 p.1 p.2 oy p.3 in
+    let zw = z.0 in
+    let shut = false_from_ne_true (mem c.growing.«open» (numbers c.args.mate.now c.in-Some-first-2.y)) (λ t. both_ways (mem c.growing.forest.outer (numbers c.args.mate.now c.in-Some-first-2.y)) o (c.growing.invariant.opens (numbers c.args.mate.now c.in-Some-first-2.y) t)) in
+    branch_less (length c.args.instance.now.rows.items) (mem c.growing.forest.inner) (mem c.branch-forest-in-Some-first-2.new.self.inner) (mem c.growing.«open») (mem c.with-open.result) c.in-Some-first-2.y (numbers c.args.mate.now c.in-Some-first-2.y) (omega arith) (omega arith) p.3 shut c.branch-forest-in-Some-first-2.ensures.inner c.with-open.ensures
+
+pub growing-preserved : goal.growing-preserved
+growing-preserved c = record {
+  holds = λ g r f is.
+      let h = c.growing.invariant.holds g r f is in
+      let w = (h.forest.outer_in c.in-Some.x ox).0 in
+      let e = is.instance_is.one_each in
+      let row = get_or_read c.args.instance.now.rows.items (c.in-Some.x - 1) c.index.result.now (omega arith) c.index.ensures [] in
+      let p = reach_parts c.args.instance.now c.growing.forest c.in-Some.x c.index.result.now c.meet.result c.without-near.result c.minus-reach.result row c.meet.ensures c.without-near.ensures c.minus-reach.ensures c.in-Some-first-2.y reached in
+      let oy = unmet c.minus-reach.result c.growing.forest.outer c.meet-in-Some.result c.in-Some-first-2.y c.meet-in-Some.ensures c.in_default-first.ensures.none reached in
+      branch_holds g r f c.args.instance.now c.args.mate.now is c.growing.forest h c.in-Some.x c.in-Some-first-2.y ox p.0 p.1 p.2 oy p.3 c.branch-forest-in-Some-first-2.new.self c.branch-forest-in-Some-first-2.ensures;
+  opens = λ v o. elim (or_cases (mem c.growing.«open» v) (numbers c.args.mate.now c.in-Some-first-2.y == v) (sym (c.with-open.ensures v) ∙ o)) [
+    | inl t ↦ c.branch-forest-in-Some-first-2.ensures.outer v ∙ or_left (mem c.growing.forest.outer v) (numbers c.args.mate.now c.in-Some-first-2.y == v) (c.growing.invariant.opens v t)
+    | inr t ↦ c.branch-forest-in-Some-first-2.ensures.outer v ∙ or_right (mem c.growing.forest.outer v) (numbers c.args.mate.now c.in-Some-first-2.y == v) t
+  ];
+  done = λ v o n.
+      let shut = or_false_parts (mem c.growing.«open» v) (numbers c.args.mate.now c.in-Some-first-2.y == v) (sym (c.with-open.ensures v) ∙ n) in
+      done_stays c.args.instance.now c.growing.forest c.branch-forest-in-Some-first-2.new.self c.in-Some-first-2.y (numbers c.args.mate.now c.in-Some-first-2.y) c.in-Some.x v c.branch-forest-in-Some-first-2.ensures
+      (c.growing.invariant.done v (elim (or_cases (mem c.growing.forest.outer v) (numbers c.args.mate.now c.in-Some-first-2.y == v) (sym (c.branch-forest-in-Some-first-2.ensures.outer v) ∙ o)) [ inl t ↦ t | inr t ↦ absurd (both_ways (numbers c.args.mate.now c.in-Some-first-2.y == v) shut.1 t) ]) shut.0);
+}
+  where
+    ox : mem c.growing.forest.outer c.in-Some.x ≡ true
+    ox = c.growing.invariant.opens c.in-Some.x c.in-Some.ensures.some.member
+
+    reached : mem c.minus-reach.result c.in-Some-first-2.y ≡ true
+    reached = c.in-Some-first-2.ensures.some.member
+
+pub returns : goal.returns
+returns c = λ g r f is. record {
+  holds = c.growing.invariant.holds g r f is;
+  done = λ q x o. c.growing.invariant.done x o (ap (λ (r : List ℕ). mem r x) c.in_default.ensures.none);
+  closing_pair = λ o q. cc;
+}

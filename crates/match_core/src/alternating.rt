@@ -1,0 +1,74 @@
+//! Alternating forests by parents.
+//!
+//! A vertex is outer if an alternating path of an even number of edges leads to it from an exposed vertex, and inner if it is
+//! the vertex before an outer one on such a path. An outer vertex is exposed, a root, or hangs on its mate, which is inner; an
+//! inner vertex hangs on its parent, an outer neighbour.
+ghost use Rattle.std.specs.Prelude.{◌≡◌, ℕ, ◌+◌, ◌<◌, ◌≤◌, ◌==◌, ◌&&◌, false, nat_lt, nat_le, length, suc, IfOk};
+ghost use Rattle.counting.specs.Counts.{Within};
+ghost use Rattle.counting.specs.Lists.{mem};
+ghost use Rattle.match_core.specs.AlternatingForests.{HasBranched};
+ghost use Rattle.match_core.specs.Rows.{numbers};
+
+use std::alloc::{AllocError as Memory, Global};
+use vset_core::{MOST_VERTICES, VSet};
+
+/// An alternating forest: its outer and its inner vertices, for each inner vertex its parent, and for each outer vertex the
+/// number of pairs of edges on its way to the root.
+#[derive(Drop)]
+pub struct AlternatingForest {
+    pub outer: VSet,
+    pub inner: VSet,
+    pub parent: Vec<u32>,
+    pub pairs: Vec<usize>,
+}
+
+/// The vertices of a set that are exposed.
+pub fn exposed_in(n: u32, left: VSet, mate: &[u32]) -> VSet
+    requires most { n ≤ MOST_VERTICES }
+    requires long { length mate.now ≡ suc n }
+    ensures { (v : ℕ) →
+        mem result v ≡ ((nat_lt 0 v && nat_le v n) && (mem left v && (numbers mate.now v == 0))) }
+{
+    let mut exposed = VSet::empty();
+    for i in 0..n {
+        if left.contains(i + 1) && mate[i as usize + 1] == 0 {
+            exposed = exposed.with(i + 1);
+        }
+    }
+    exposed
+}
+
+impl AlternatingForest {
+    /// The forest of 1 to `n` in which the vertices of a set are the roots, and all outer vertices.
+    pub fn of_roots(alloc: Global, n: u32, roots: VSet) -> Result<AlternatingForest, Memory>
+        requires { n ≤ MOST_VERTICES }
+        ensures outer { IfOk result (λ t. t.outer ≡ roots) }
+        ensures inner { IfOk result (λ t. (v : ℕ) → mem t.inner v ≡ false) }
+        ensures parents_long { IfOk result (λ t. length t.parent.items ≡ suc n) }
+        ensures pairs_long { IfOk result (λ t. length t.pairs.items ≡ suc n) }
+        ensures pairs { IfOk result (λ t. (v : ℕ) → numbers t.pairs.items v ≡ 0) }
+    {
+        Ok(AlternatingForest {
+            outer: roots,
+            inner: VSet::empty(),
+            parent: vec![in alloc; 0; n as usize + 1]?,
+            pairs: vec![in alloc; 0; n as usize + 1]?,
+        })
+    }
+
+    /// Hangs the vertex `y`, which becomes inner, on the outer vertex `x`, and its mate `z`, which becomes outer, on `y`.
+    pub fn branch(&mut self, x: u32, y: u32, z: u32)
+        requires x_in { x < length self.old.pairs.items }
+        requires y_in { y < length self.old.parent.items }
+        requires z_in { z < length self.old.pairs.items }
+        requires y_vertex { Within MOST_VERTICES y }
+        requires z_vertex { Within MOST_VERTICES z }
+        requires shallow { numbers self.old.pairs.items x ≤ MOST_VERTICES }
+        ensures { HasBranched self.old self.new x y z }
+    {
+        self.parent[y as usize] = x;
+        self.pairs[z as usize] = self.pairs[x as usize] + 1;
+        self.outer = self.outer.with(z);
+        self.inner = self.inner.with(y);
+    }
+}

@@ -1,0 +1,47 @@
+//! One augmentation on rows of neighbours, by mates.
+//!
+//! From the exposed vertices a forest of alternating paths grows. An edge between two of its outer vertices gives a path that
+//! augments the matching, or a blossom. A blossom is shrunk to its base: a matching of the smaller graph can be completed in
+//! it, and a proof that there is no larger one holds for the graph too. Where no edge leaves the forest, its inner vertices
+//! show that the matching is maximum: without them each outer vertex, a blossom or not, is in an odd component of its own.
+ghost use Rattle.std.specs.Prelude.{◌≡◌, ℕ, ◌+◌, ◌<◌, ◌≤◌, IfOk};
+ghost use Rattle.counting.specs.Sets.{Set};
+ghost use Rattle.counting.specs.Lists.{mem};
+ghost use Rattle.graph_core.specs.Graph.{Graph};
+ghost use Rattle.match_core.specs.AlternatingForests.{HoldsMatching};
+ghost use Rattle.match_core.specs.Blossoms.{IsMateStep};
+
+use crate::blossom::{close, open};
+use crate::growing::{Growth, grow_forest};
+use crate::instance::{Instance, shrink};
+use crate::step::{Answer, FinalSets, widen};
+use crate::ways::ways_to;
+use std::alloc::{AllocError as Memory, Global};
+
+/// Makes the matching with these mates larger by one edge, or answers a frame, which shows that none is larger; the mates may
+/// then be those of another matching of the same size.
+pub fn augment_once(alloc: Global, instance: &Instance, mate: &mut [u32]) -> Result<Answer, Memory>
+    requires { (g : Graph) × (r : Set) × (f : Set) × HoldsMatching g r f instance.now mate.old }
+    ensures { IfOk result (λ s. (g : Graph) (r f : Set) →
+        HoldsMatching g r f instance.now mate.old → IsMateStep g r f mate.new s) }
+{
+    let Growth { forest, closing } = grow_forest(alloc, instance, mate)?;
+    match closing {
+        None => Ok(Answer::Final(FinalSets {
+            outer: forest.outer,
+            inner: forest.inner,
+        })),
+        Some(gap) => {
+            let ways = ways_to(alloc, &forest, mate, gap)?;
+            match close(alloc, &ways, mate)? {
+                None => Ok(Answer::Grown),
+                Some(blossom) => {
+                    let smaller = shrink(alloc, instance, blossom.members, blossom.ring[1])?;
+                    let below = augment_once(alloc, &smaller, mate)?;
+                    open(instance, &blossom, mate);
+                    Ok(widen(below, blossom.members))
+                }
+            }
+        }
+    }
+}
