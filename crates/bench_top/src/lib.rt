@@ -3,9 +3,10 @@
 //! The words are a `Command`, a row of the table of words; what its files hold makes it a `Task`; a task has a status and a
 //! report, which is written. Main definitions, in specs/: `command_of` (what the words ask for), `loaded` (what the files of a
 //! command hold, up to the first that is not held or is bad), `ResultOf` (what a task gives) and `Outcome`, which puts them
-//! together. Main promises: the clauses of `run` say for each status its cause, and tie what was written to `Outcome`;
-//! `run_in_memory` says so over files in memory, with completeness; that what `convert` writes is canonical is `laws::convert_law`, and
-//! that `replay` makes the moves that `script` writes is `laws::replayed_script_law`.
+//! together. Main promises: the clauses of `run` say for each status its cause, which files are read, and tie what was written to
+//! `Outcome`; `run_in_memory` says so over files in memory, with completeness. `laws` says that an outcome is done exactly where its
+//! task succeeds (`Succeeds`), and that words and files decide the status and, where it is not free, the output; `written_back`, that
+//! mcg reads what it writes.
 //!
 //! Stands on all crates below: the texts, the engine, the reports, and `outside` for the shelf and the sink.
 #![tactic(auto)]
