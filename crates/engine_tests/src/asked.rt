@@ -4,7 +4,7 @@ ghost use Rattle.graph_core.specs.Covered.{IsCovered};
 ghost use Rattle.graph_core.specs.Graph.{IsBipartite};
 
 use allowed_edges::covered;
-use graph_core::{MultiGraph, Sides, Verdict};
+use graph_core::{MultiGraph, Reason, Sides, Verdict};
 use std::alloc::{AllocError as Memory, Global};
 
 /// Whether the graph is matching covered.
@@ -13,6 +13,8 @@ pub fn is_covered(alloc: Global, g: &MultiGraph) -> Result<bool, Memory>
 {
     match covered(alloc, g)? {
         Verdict::Covered => Ok(true),
+        // one reason is named, so that the borrow checker is told of their type
+        Verdict::NotCovered(Reason::Small) => Ok(false),
         Verdict::NotCovered(_) => Ok(false),
     }
 }
