@@ -1,7 +1,11 @@
 //! What a command makes of its inputs.
 ghost use Rattle.std.specs.Prelude.{◌≡◌, ◌↔◌, IfOk, IsTrue};
+ghost use Rattle.counting.specs.Lists.{mem};
+ghost use Rattle.counting.specs.Sets.{none};
 ghost use Rattle.graph_core.specs.Graph.{IsBipartite};
+ghost use Rattle.graph_core.specs.Matchings.{IsMaximum};
 ghost use Rattle.graph_text.specs.SoFar.{named_graph};
+ghost use Rattle.match_core.specs.MatchingRows.{IsOf, edges_of};
 ghost use Rattle.bench_top.specs.Loads.{graph_in, task_of};
 ghost use Rattle.bench_top.specs.Facts.{HasMaximum, IsAnalysis};
 ghost use Rattle.bench_top.specs.Outcome.{Analysed, Converted, Analysed6, ResultOf, IsReported, TaskMayRefuse};
@@ -17,14 +21,15 @@ use crate::report::Report;
 use crate::status::Status;
 use crate::structures::structure_where_covered;
 use crate::tasks::{GivenMoves, SimpleGraph, Task};
-use allowed_edges::{allowed, covered};
-use gallai_edmonds::sets;
+use allowed_edges::{allowed_in, covered_in};
+use gallai_edmonds::sets_in;
 use graph_core::{MultiGraph, Sides};
 use graph_text::{Named, write_named};
 use graph6_text::write_graph6;
-use match_core::maximum;
+use match_core::{Matching, frame, partners};
 use report_text::{AnalysisLines, analysis, graph6_line};
 use std::alloc::{AllocError as Memory, Global};
+use vset_core::VSet;
 
 // Whether some vertex set has all edges in its cut.
 fn is_bipartite(alloc: Global, g: &MultiGraph) -> Result<bool, Memory>
@@ -37,27 +42,31 @@ fn is_bipartite(alloc: Global, g: &MultiGraph) -> Result<bool, Memory>
 }
 
 // How many edges a maximum matching has, and how many vertices it misses.
-fn maximum_sizes(alloc: Global, g: &MultiGraph) -> Result<(u32, u32), Memory>
-    ensures { IfOk result (λ sizes. HasMaximum g.now sizes.0 sizes.1) }
+fn maximum_sizes(g: &MultiGraph, m: &Matching) -> (u32, u32)
+    requires of { IsOf g.now m.now }
+    requires maximum { IsMaximum g.now none (mem (edges_of m.now)) }
+    ensures { HasMaximum g.now result.0 result.1 }
 {
-    let found = maximum(alloc, g)?;
-    found.matching.keeps_matching();
+    m.keeps_matching();
     g.keeps_limits();
-    let edges = found.matching.len() as u32;
-    Ok((edges, g.order() - 2 * edges))
+    let edges = m.len() as u32;
+    (edges, g.order() - 2 * edges)
 }
 
-// What `analyse` tells of the graph.
+// What `analyse` tells of the graph: one maximum matching with its frame and one table of partners tell all but the components
+// and the cuts.
 fn analysis_lines(alloc: Global, g: &MultiGraph) -> Result<AnalysisLines, Memory>
     ensures { IfOk result (λ lines. IsAnalysis g.now lines) }
 {
     let components = g.components(alloc)?;
     let bipartite = is_bipartite(alloc, g)?;
-    let (matching, deficiency) = maximum_sizes(alloc, g)?;
-    let sets = sets(alloc, g)?;
-    let allowed = allowed(alloc, g)?;
-    let verdict = covered(alloc, g)?;
-    let structure = structure_where_covered(alloc, g, &verdict)?;
+    let frame = frame(alloc, g)?;
+    let table = partners(alloc, g, VSet::empty(), &frame.found.matching)?;
+    let (matching, deficiency) = maximum_sizes(g, &frame.found.matching);
+    let sets = sets_in(g, &frame);
+    let allowed = allowed_in(alloc, g, &table)?;
+    let verdict = covered_in(alloc, g, &frame.found, &table)?;
+    let structure = structure_where_covered(alloc, g, &table, &verdict)?;
     Ok(AnalysisLines {
         order: g.order(),
         size: g.size(),

@@ -1,17 +1,20 @@
 //! The structure of a covered graph, as `analyse` tells it.
 ghost use Rattle.std.specs.Prelude.{◌≡◌, IfOk};
 ghost use Rattle.std.specs.Option.{option_map};
+ghost use Rattle.counting.specs.Sets.{none};
 ghost use Rattle.graph_core.specs.Covered.{IsCovered};
 ghost use Rattle.graph_core.specs.Verdicts.{IsVerdict};
 ghost use Rattle.graph_core.specs.View.{pair_of};
+ghost use Rattle.match_core.specs.Partners.{ArePartners};
 ghost use Rattle.separation_kit.specs.Pairs.{pair_of as pair_in};
 ghost use Rattle.bench_top.specs.Facts.{IsStructure, TellsStructure};
 
-use barrier_kit::classes;
+use barrier_kit::classes_in;
 use graph_core::{Ends, MultiGraph, Verdict};
 use leaf_kinds::kind;
+use match_core::PartnerTable;
 use report_text::Structure;
-use separation_kit::{Pair, cut_pair, not_bicritical};
+use separation_kit::{Pair, cut_pair, not_bicritical_in};
 use std::alloc::{AllocError as Memory, Global};
 
 // The two vertices of a pair.
@@ -24,13 +27,14 @@ fn ends_of(pair: Option<Pair>) -> Option<Ends>
     }
 }
 
-// The structure of a covered graph.
-fn structure(alloc: Global, g: &MultiGraph) -> Result<Structure, Memory>
-    requires { IsCovered g.now }
+// The structure of a covered graph, from its table of partners.
+fn structure(alloc: Global, g: &MultiGraph, table: &PartnerTable) -> Result<Structure, Memory>
+    requires covered { IsCovered g.now }
+    requires table { ArePartners g.now none table.now }
     ensures { IfOk result (IsStructure g.now) }
 {
-    let classes = classes(alloc, g)?;
-    let unlike = ends_of(not_bicritical(alloc, g)?);
+    let classes = classes_in(alloc, g, table)?;
+    let unlike = ends_of(not_bicritical_in(alloc, g, table)?);
     let cutpair = ends_of(cut_pair(alloc, g)?);
     let kind = kind(alloc, g)?;
     Ok(Structure {
@@ -41,17 +45,19 @@ fn structure(alloc: Global, g: &MultiGraph) -> Result<Structure, Memory>
     })
 }
 
-/// The structure of a graph where the verdict is that it is covered.
+/// The structure of a graph where the verdict is that it is covered, from its table of partners.
 pub fn structure_where_covered(
     alloc: Global,
     g: &MultiGraph,
+    table: &PartnerTable,
     verdict: &Verdict,
 ) -> Result<Option<Structure>, Memory>
-    requires { IsVerdict g.now verdict.now }
+    requires table { ArePartners g.now none table.now }
+    requires verdict { IsVerdict g.now verdict.now }
     ensures { IfOk result (TellsStructure g.now verdict.now) }
 {
     match verdict {
-        Verdict::Covered => Ok(Some(structure(alloc, g)?)),
+        Verdict::Covered => Ok(Some(structure(alloc, g, table)?)),
         Verdict::NotCovered(_) => Ok(None),
     }
 }

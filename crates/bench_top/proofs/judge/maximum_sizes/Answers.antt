@@ -5,21 +5,21 @@ use Rattle.bench_top.proofs.judge.maximum_sizes.Goals as goal
 
 pub overflow_cast-edges : goal.overflow_cast-edges
 overflow_cast-edges c =
-    let a = missed_and_ends c.args.g.now c.keeps_limits.ensures.multigraph.ends c.in_ok-found.found.matching c.in_ok-found.ensures.of c.keeps_matching.ensures c.in_ok-found.ensures.maximum in
+    let a = missed_and_ends c.args.g.now c.keeps_limits.ensures.multigraph.ends c.args.m.now c.requires.of c.keeps_matching.ensures c.requires.maximum in
     let b = c.keeps_limits.ensures.vertices in
     let d = c.len-edges.ensures in
     omega arith
 
 pub overflow_mul-result : goal.overflow_mul-result
 overflow_mul-result c =
-    let a = missed_and_ends c.args.g.now c.keeps_limits.ensures.multigraph.ends c.in_ok-found.found.matching c.in_ok-found.ensures.of c.keeps_matching.ensures c.in_ok-found.ensures.maximum in
+    let a = missed_and_ends c.args.g.now c.keeps_limits.ensures.multigraph.ends c.args.m.now c.requires.of c.keeps_matching.ensures c.requires.maximum in
     let b = c.keeps_limits.ensures.vertices in
     let d = c.len-edges.ensures in
     omega arith
 
 pub overflow_sub-result : goal.overflow_sub-result
 overflow_sub-result c =
-    let a = missed_and_ends c.args.g.now c.keeps_limits.ensures.multigraph.ends c.in_ok-found.found.matching c.in_ok-found.ensures.of c.keeps_matching.ensures c.in_ok-found.ensures.maximum in
+    let a = missed_and_ends c.args.g.now c.keeps_limits.ensures.multigraph.ends c.args.m.now c.requires.of c.keeps_matching.ensures c.requires.maximum in
     let d = c.len-edges.ensures in
     let e = c.order.ensures.is in
     omega arith
@@ -27,4 +27,4 @@ overflow_sub-result c =
 pub returns : goal.returns
 returns c =
     subst₂ (λ (k n : ℕ). HasMaximum c.args.g.now k (n - 2 * k)) (sym c.len-edges.ensures) (sym c.order.ensures.is)
-    (has_maximum c.args.g.now c.keeps_limits.ensures.multigraph.ends c.in_ok-found.found.matching c.in_ok-found.ensures.of c.keeps_matching.ensures c.in_ok-found.ensures.maximum)
+    (has_maximum c.args.g.now c.keeps_limits.ensures.multigraph.ends c.args.m.now c.requires.of c.keeps_matching.ensures c.requires.maximum)
