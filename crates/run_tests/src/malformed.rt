@@ -9,11 +9,11 @@ use std::test::Fail;
 type Fault = (&'static str, u32, u32);
 
 // Whether the words refuse the text, which comes after these files, for its first fault.
-fn is_refused(
+fn is_refused<'a>(
     alloc: Global,
     words: &[&str],
-    before: &[&str],
-    text: &str,
+    before: &[&'a str],
+    text: &'a str,
     line: u32,
     kind: u32,
 ) -> Result<bool, Fail> {
