@@ -8,31 +8,30 @@ use std::test::Fail;
 /// A text, and the line and the kind of its first fault.
 type Fault = (&'static str, u32, u32);
 
-// Whether the words refuse the text, which comes after these files, for its first fault.
+// Whether the words refuse the last of these files for its first fault.
 fn is_refused(
     alloc: Global,
     words: &[&str],
-    before: &[&str],
-    text: &str,
+    files: &[&str],
     line: u32,
     kind: u32,
 ) -> Result<bool, Fail> {
-    let mut files = Vec::from_slice(alloc, before)?;
-    files.push(text)?;
     let file = files.len();
     let report = format!(in alloc; "file {file} line {line} kind {kind}\n")?;
-    answers(alloc, words, &files, Status::BadInput, &report)
+    answers(alloc, words, files, Status::BadInput, &report)
 }
 
-// The first text whose first fault is not that of its row.
+// The first text whose first fault is not that of its row, where it comes after these files.
 fn first_passed(
     alloc: Global,
     words: &[&str],
-    before: &[&str],
+    before: &[&'static str],
     rows: &[Fault],
 ) -> Result<Option<&'static str>, Fail> {
     for (text, line, kind) in rows {
-        if !is_refused(alloc, words, before, text, *line, *kind)? {
+        let mut files: Vec<&'static str> = Vec::from_slice(alloc, before)?;
+        files.push(*text)?;
+        if !is_refused(alloc, words, &files, *line, *kind)? {
             return Ok(Some(*text));
         }
     }
@@ -259,21 +258,32 @@ static SPACES: [(usize, u32, u32); 3] = [(131_073, 2, 1), (1_048_576, 2, 1), (1_
 fn files_of_spaces(rt: HostRuntime) -> Result<(), Fail> {
     for (size, line, kind) in &SPACES {
         let text = long_text(rt.alloc(), "", " ", *size)?;
-        assert!(rt; is_refused(rt.alloc(), &["analyse", "g"], &[], &text, *line, *kind)?);
+        let files = [text.as_str()];
+        assert!(rt; is_refused(rt.alloc(), &["analyse", "g"], &files, *line, *kind)?);
     }
     Ok(())
 }
 
 #[test]
-fn files_that_are_too_long(rt: HostRuntime) -> Result<(), Fail> {
+fn a_tree_that_is_too_long(rt: HostRuntime) -> Result<(), Fail> {
     let tree = long_text(rt.alloc(), "t mcg 6\n", "cut 1\n", 128)?;
-    assert!(rt; is_refused(rt.alloc(), &["check", "g", "s"], &[HEXAGON], &tree, 129, 6)?);
-    let words = ["replay", "g", "s", "t"];
-    let before = [HEXAGON, HEXAGON_TREE];
+    let files = [HEXAGON, tree.as_str()];
+    assert!(rt; is_refused(rt.alloc(), &["check", "g", "s"], &files, 129, 6)?);
+    Ok(())
+}
+
+// Whether these moves on the hexagon are refused for their first fault.
+fn moves_are_refused(alloc: Global, moves: &str, line: u32, kind: u32) -> Result<bool, Fail> {
+    let files = [HEXAGON, HEXAGON_TREE, moves];
+    is_refused(alloc, &["replay", "g", "s", "t"], &files, line, kind)
+}
+
+#[test]
+fn moves_that_are_too_long(rt: HostRuntime) -> Result<(), Fail> {
     let moves = long_text(rt.alloc(), "m mcg 6\n", "rotate .\n", 20_001)?;
-    assert!(rt; is_refused(rt.alloc(), &words, &before, &moves, 20_002, 6)?);
+    assert!(rt; moves_are_refused(rt.alloc(), &moves, 20_002, 6)?);
     let path = long_text(rt.alloc(), "m mcg 6\nrotate ", "k", 128)?;
-    assert!(rt; is_refused(rt.alloc(), &words, &before, &path, 2, 2)?);
+    assert!(rt; moves_are_refused(rt.alloc(), &path, 2, 2)?);
     Ok(())
 }
 
