@@ -1,5 +1,4 @@
 //! The candidates beside those of the plain way by pairs: the same list in the same order, and its first.
-ghost use Rattle.std.specs.Prelude.{◌≤◌};
 
 use crate::asked::is_covered;
 use crate::shapes::{TWO_K33, chordal_ring, pages, three_parts};

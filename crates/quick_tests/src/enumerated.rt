@@ -4,7 +4,7 @@ ghost use Rattle.plain_graph.specs.Small.{IsSmall};
 
 use crate::asked::{is_bipartite, is_covered};
 use crate::numbered::{Family, numbered};
-use graph_core::{MultiGraph, SetList};
+use graph_core::MultiGraph;
 use plain_graph::{edges_in_cut, is_small, perfect_matchings};
 use quick_kinds::{quick_brace, quick_brick};
 use rand_core::utils::NextWord;
