@@ -14,7 +14,7 @@ use Rattle.match_core.specs.Optimal.{IsBest}
 use Rattle.match_core.specs.Rows.{marks, numbers}
 use Rattle.match_core.specs.declared.best.Best.{Best}
 use Rattle.match_core.specs.declared.instance.Instance.{Instance}
-use Rattle.match_core.specs.declared.step.Answer.TheVariants.{Final}
+use Rattle.match_core.specs.declared.answer.Answer.TheVariants.{Final}
 use Rattle.match_core.proofs.SameMates.{exposed_mates, same_mates_count}
 
 pub holds_mates : (g : Graph) (r f : Set) (s : Instance) (mate row : List ℕ) → IsInstance g r s → row ≡ mate → length mate ≡ g.order + 1 → HasMates g r f (numbers mate) → HoldsMatching g r f s row

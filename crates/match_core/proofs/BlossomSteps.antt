@@ -1,6 +1,6 @@
 -- The step of the graph with a blossom shrunk is one of the graph, by mates.
 -- The matching of the smaller graph leaves the blossom at its base or at a neighbour of some vertex of it; it is completed there.
-use Rattle.std.proofs.Common.{◌≡◌, ◌≢◌, ℕ, suc, zero, ◌+◌, ◌-◌, ◌*◌, ◌≤◌, ◌<◌, Bool, true, false, cond, ◌==◌, refl, sym, ap, ap₂, ◌∙◌, arith, eq-eqb, ne_eqb, eqb-true, inl, inr, not, ◌&&◌, ◌||◌, subst, subst₂, List}
+use Rattle.std.proofs.Common.{◌≡◌, ◌≢◌, ℕ, suc, zero, ◌+◌, ◌-◌, ◌*◌, ◌≤◌, ◌<◌, true, false, ◌==◌, refl, sym, ap, ◌∙◌, arith, eq-eqb, ne_eqb, eqb-true, inl, inr, not, ◌&&◌, ◌||◌, subst, subst₂, List}
 use mathlib.Core.Path.{fun_ext}
 use Rattle.std.proofs.lemmas.Bool.{cases_Bool, cases_eq, both_ways, not-true, false_from_ne_true, and_from, or_cases, or_right}
 use Rattle.counting.proofs.Counts.{count_le}
@@ -10,15 +10,15 @@ use Rattle.counting.proofs.Totals.{at_le_total}
 use Rattle.counting.specs.Counts.{Within, bit, count, is_odd}
 use Rattle.counting.specs.Sets.{Set, complement, minus, put, union}
 use Rattle.counting.specs.Lists.{mem, item}
-use Rattle.graph_core.proofs.Edits.{add_edge, degree_put, ends_of_is}
+use Rattle.graph_core.proofs.Edits.{add_edge, ends_of_is}
 use Rattle.graph_core.specs.Graph.{Graph, HasEnds, IsGraph, degree, size}
 use Rattle.graph_core.specs.Matchings.{IsMatching}
 use Rattle.match_core.specs.Frames.{Frame, IsNearPerfect, IsShrunk, shrunk_removed, with_ends}
 use Rattle.match_core.specs.Mates.{HasMates, paired_round, with_mate, with_pair}
 use Rattle.match_core.specs.OddCycles.{IsOddCycle, every_other, listed, picked}
 use Rattle.match_core.specs.Steps.{IsOpened, IsWidened, StepAnswer}
-use Rattle.match_core.specs.declared.step.Answer.{Answer}
-use Rattle.match_core.specs.declared.step.Answer.TheVariants.{Grown, Final}
+use Rattle.match_core.specs.declared.answer.Answer.{Answer}
+use Rattle.match_core.specs.declared.answer.Answer.TheVariants.{Grown, Final}
 use Rattle.match_core.proofs.ClosingPairs.{cycle_missed, degree_elsewhere, mates_alike}
 use Rattle.match_core.proofs.Forests.{met, turned}
 use Rattle.match_core.proofs.LongerPaths.{end_within}

@@ -22,14 +22,14 @@ use Rattle.graph_core.proofs.Perfect.{perfect_matching, perfect_misses, missed_o
 use Rattle.graph_core.proofs.Walks.{adjacent_from}
 use Rattle.match_core.specs.Frames.{Frame}
 use Rattle.match_core.specs.Rows.{marks, end_a, end_b}
-use Rattle.match_core.specs.Searches.{AreEnds, IsGraphRow}
+use Rattle.match_core.specs.GraphRows.{AreEnds, IsGraphRow}
 use Rattle.match_core.specs.Optimal.{IsBest}
 use Rattle.match_core.specs.declared.best.Best.{Best}
 use Rattle.match_core.proofs.Alike.{matching_alike}
 use Rattle.match_core.proofs.Certificates.{certificate_bound}
 use Rattle.match_core.proofs.OddComponents.{certificate_components, certificate_maximum, outer_free, outer_missable, missable_outer, inner_next, next_inner}
 use Rattle.match_core.proofs.OuterComponents.{outer_odd, odd_outer}
-use Rattle.match_core.proofs.SearchRows.{size_is, near_is, far_is}
+use Rattle.match_core.proofs.GraphRows.{size_is, near_is, far_is}
 
 -- the ends of a graph are of 1 to its order
 pub graph_ends : (n : ℕ) (ends : List Ends) → IsGraph (graph_of n ends) → AreEnds n ends

@@ -26,11 +26,7 @@ pub mod OuterComponents
 pub mod SymmetricDifference
 pub mod Alike
 pub mod GrownRows
-pub mod SearchRows
-pub mod ClosedRows
-pub mod Closings
-pub mod ShrunkRows
-pub mod ShrunkSteps
+pub mod GraphRows
 pub mod Marks
 pub mod MatchingEdges
 pub mod FirstMarks

@@ -18,8 +18,8 @@ use Rattle.match_core.specs.declared.blossom.Blossom.{Blossom}
 use Rattle.match_core.specs.declared.growing.Adjacent.{Adjacent}
 use Rattle.match_core.specs.declared.growing.Growth.{Growth}
 use Rattle.match_core.specs.declared.instance.Instance.{Instance}
-use Rattle.match_core.specs.declared.step.Answer.{Answer}
-use Rattle.match_core.specs.declared.step.Answer.TheVariants.{Final}
+use Rattle.match_core.specs.declared.answer.Answer.{Answer}
+use Rattle.match_core.specs.declared.answer.Answer.TheVariants.{Final}
 use Rattle.match_core.proofs.BlossomSteps.{below_mates, below_size, cr, cw, cz, graph, pulls, same_count, smaller, step_up}
 use Rattle.match_core.proofs.ParentForests.{done_frame, near_edge}
 use Rattle.match_core.proofs.ShrunkInstances.{shrunk_instance}

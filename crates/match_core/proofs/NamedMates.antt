@@ -6,7 +6,7 @@ use Rattle.graph_core.specs.View.{graph_of}
 use Rattle.graph_core.specs.declared.ends.Ends.{Ends}
 use Rattle.match_core.specs.Mates.{HasMates, NamesMates}
 use Rattle.match_core.specs.Rows.{numbers, end_a, end_b}
-use Rattle.match_core.proofs.SearchRows.{far_is, near_is, size_is, unmet_degree}
+use Rattle.match_core.proofs.GraphRows.{far_is, near_is, size_is, unmet_degree}
 
 pub named_mates : (n : ℕ) (ends : List Ends) (m : Set) (mate : List ℕ) → NamesMates ends m mate (length ends) → (r : Set) → IsMatching (graph_of n ends) r m → HasMates (graph_of n ends) r m (numbers mate)
 named_mates n ends m mate named r mm = record {

@@ -1,7 +1,7 @@
 -- Forests by parents: the first one, one more branch, and the last one as a frame.
 -- The path of a new outer vertex is that of its grandparent, and on by its mate; all other paths stay.
-use Rattle.std.proofs.Common.{◌≡◌, ◌≢◌, ℕ, suc, ◌+◌, ◌≤◌, ◌<◌, Bool, true, false, cond, ◌==◌, refl, sym, ap, ap₂, ◌∙◌, arith, eq-eqb, ne_eqb, inl, inr, subst, not, ◌&&◌, ◌||◌, nat_lt, nat_le, length, List}
-use Rattle.std.proofs.lemmas.Bool.{cases_eq, both_ways, and_parts, and_from, true≢false, leb-true, false_from_ne_true}
+use Rattle.std.proofs.Common.{◌≡◌, ◌≢◌, ℕ, suc, ◌+◌, Bool, true, false, cond, ◌==◌, refl, sym, ap, ◌∙◌, arith, eq-eqb, ne_eqb, inl, inr, not, ◌&&◌, ◌||◌, nat_lt, nat_le, length, List}
+use Rattle.std.proofs.lemmas.Bool.{cases_eq, both_ways, and_parts, and_from, leb-true}
 use Rattle.counting.proofs.Tests.{true_some, some_true}
 use Rattle.counting.specs.Counts.{Within, count}
 use Rattle.counting.specs.Sets.{Set, none, put}
@@ -17,7 +17,7 @@ use Rattle.match_core.specs.Rows.{numbers}
 use Rattle.match_core.specs.declared.instance.Instance.{Instance}
 use Rattle.match_core.specs.declared.alternating.AlternatingForest.{AlternatingForest}
 use Rattle.match_core.proofs.Alike.{forest_alike}
-use Rattle.match_core.proofs.Forests.{first_outer, first_parts, forest_start, final_frame, met, turned}
+use Rattle.match_core.proofs.Forests.{first_outer, forest_start, final_frame, met, turned}
 use Rattle.match_core.proofs.Growth.{grown, more_e, more_inner, more_k, more_outer, more_v}
 use Rattle.match_core.proofs.LongerPaths.{end_within, longer, longer_below, longer_at}
 use Rattle.match_core.proofs.MatePairs.{mate_back, with_here, with_there}
@@ -74,9 +74,6 @@ module _ (g : Graph) (r f : Set) (s : Instance) (mate : List ℕ) (is : HoldsMat
           go (nat_lt 0 u && nat_le u g.order) (not (r u)) (numbers mate u == 0) (degree g f u == 0) (λ t. let b = and_parts (nat_lt 0 u) (nat_le u g.order) t in let x = Rattle.std.proofs.Common.ltb-true 0 u b.0 in let y = leb-true u g.order b.1 in exposed_is u (omega arith, omega arith))
 
   module _ (t : AlternatingForest) (holds : HoldsAlternating g r f mate t) where
-    pub outer_left : (v : ℕ) → mem t.outer v ≡ true → Within g.order v × (r v ≡ false)
-    outer_left v o = holds.forest.outer_in v o
-
     -- where no edge leaves the forest, it is a frame
     pub done_frame : ((x : ℕ) → mem t.outer x ≡ true → IsDone s t x) → Frame g r (count (size g) f) (mem t.outer) (mem t.inner)
     done_frame done = final_frame g is.instance_is.graph r f is.mates.matching (mem t.outer) (mem t.inner) (numbers t.pairs.items) holds.v holds.e holds.forest

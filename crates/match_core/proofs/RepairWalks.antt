@@ -12,16 +12,12 @@ use Rattle.counting.proofs.Totals.{total_none, two_le_total, total_add, total_co
 use Rattle.counting.specs.Lists.{mem}
 use Rattle.graph_core.specs.View.{graph_of}
 use Rattle.graph_core.specs.declared.ends.Ends.{Ends}
-use Rattle.match_core.specs.Searches.{NamesEdges}
-use Rattle.match_core.proofs.Certificates.{certificate_bound}
+use Rattle.match_core.specs.GraphRows.{NamesEdges}
 use Rattle.match_core.proofs.Forests.{met, turned}
 use Rattle.match_core.proofs.LongerPaths.{ends_by, end_within}
-use Rattle.match_core.specs.Frames.{Frame}
-use Rattle.graph_core.proofs.Edits.{missed_edges}
-use Rattle.graph_core.proofs.Perfect.{none_missed-perfect, perfect_matching, perfect_misses}
-use Rattle.match_core.proofs.SearchRows.{free_degree, missed_degree, pair_is, partner}
+use Rattle.match_core.proofs.GraphRows.{free_degree, missed_degree, pair_is, partner}
 use Rattle.graph_core.specs.Graph.{Graph, HasEnds, IsGraph, degree, size}
-use Rattle.graph_core.specs.Matchings.{HasPerfect, IsMatching, IsPerfect, missed_count}
+use Rattle.graph_core.specs.Matchings.{IsMatching, IsPerfect, missed_count}
 use Rattle.match_core.specs.Forests.{IsAlternating, flipped}
 use Rattle.match_core.specs.OddCycles.{same_answer}
 use Rattle.match_core.specs.Rows.{numbers, part, end_a, end_b}
@@ -336,20 +332,6 @@ module _ (n : ℕ) (ends : List Ends) (r m : Set) (at : List ℕ) (named : Names
         where
           both : (a b d : Bool) → a ≡ true → b ≡ true → ((a && b) && d) ≡ false → d ≡ false
           both a b d p q h = grind arith
-
--- a matching with one edge more than one that misses two vertices is perfect
-pub grown_perfect : (g : Graph) (r m f : Set) → IsGraph g → IsMatching g r m → missed_count g r m ≡ 2 → IsMatching g r f → count (size g) f ≡ count (size g) m + 1 → IsPerfect g r f
-grown_perfect g r m f is mm two ff more = none_missed-perfect g r f ff (let a = missed_edges g r m is mm in let b = missed_edges g r f is ff in omega arith)
-
--- and where a frame shows that there is none, there is no perfect one
-pub framed_imperfect : (g : Graph) (r m outer inner : Set) (k : ℕ) → IsGraph g → IsMatching g r m → missed_count g r m ≡ 2 → k ≡ count (size g) m → Frame g r k outer inner → HasPerfect g r → ⊥
-framed_imperfect g r m outer inner k is mm two same frame p =
-    let pp = perfect_matching g r p.0 p.1 in
-    let a = missed_edges g r m is mm in
-    let b = missed_edges g r p.0 is pp in
-    let c = perfect_misses g r p.0 p.1 in
-    let d = certificate_bound g is r inner frame.label frame.classes frame.certificate.labels p.0 pp k frame.certificate.sizes in
-    absurd (omega arith)
 
 -- the edges of the row are edges of the graph
 pub row_real : (g : Graph) (r m : Set) (x : ℕ) (es : List ℕ) → IsRepairRow g r m x es → (i : ℕ) → i < length es → Within (size g) (numbers es i)

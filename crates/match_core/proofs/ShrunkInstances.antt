@@ -1,9 +1,7 @@
 -- An instance with a blossom shrunk is the graph with the blossom's vertices made one.
 -- The base is near what some vertex of the blossom was near; all other rows lose the blossom and gain the base.
-use Rattle.std.proofs.Common.{◌≡◌, ◌≢◌, ℕ, suc, ◌+◌, ◌-◌, ◌≤◌, ◌<◌, Bool, true, false, cond, ◌==◌, refl, sym, ap, ap₂, ◌∙◌, arith, eq-eqb, ne_eqb, inl, inr, ◌⊎◌, not, ◌&&◌, ◌||◌, length, List, [], ◌∷◌, ◌++◌, subst, nat_lt, nat_le}
+use Rattle.std.proofs.Common.{◌≡◌, ◌≢◌, ℕ, ◌-◌, Bool, true, false, cond, ◌==◌, refl, sym, ap, ◌∙◌, arith, eq-eqb, ne_eqb, inl, inr, not, ◌&&◌, ◌||◌, length, List, subst, nat_lt, nat_le}
 use Rattle.std.proofs.lemmas.Bool.{cases_Bool, cases_eq, both_ways, true≢false, false_from_ne_true}
-use Rattle.std.proofs.Math.ListN.{get_or-append}
-use Rattle.std.proofs.Math.Seq.{get_or-append_seam}
 use Rattle.counting.proofs.Tests.{some_true, true_some}
 use Rattle.counting.specs.Counts.{Within}
 use Rattle.counting.specs.Sets.{Set}
@@ -17,16 +15,6 @@ use Rattle.match_core.specs.Instances.{IsInstance}
 use Rattle.match_core.specs.Shrinkings.{IsShrinking}
 use Rattle.match_core.specs.declared.instance.Instance.{Instance}
 use Rattle.match_core.proofs.Forests.{turned}
-
--- a list of rows with one row more
-pub item_before : (rows : List (List ℕ)) (row : List ℕ) (v : ℕ) → Within (length rows) v → item (rows ++ row ∷ []) v ≡ item rows v
-item_before rows row v w = get_or-append rows (row ∷ []) [] (v - 1) (omega arith)
-
-pub item_last : (rows : List (List ℕ)) (row : List ℕ) (v : ℕ) → v ≡ suc (length rows) → item (rows ++ row ∷ []) v ≡ row
-item_last rows row v q = ap (λ (i : ℕ). Rattle.std.specs.Prelude.slice_index_or (rows ++ row ∷ []) i []) (back (length rows) v q) ∙ get_or-append_seam rows row [] []
-  where
-    back : (n v : ℕ) → v ≡ suc n → v - 1 ≡ n
-    back n v q = omega arith
 
 both_same : (a b : Bool) → (a ≡ true → b ≡ true) → (b ≡ true → a ≡ true) → a ≡ b
 both_same true b f h = sym (f refl)

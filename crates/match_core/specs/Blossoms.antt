@@ -13,7 +13,7 @@ use Rattle.match_core.specs.Mates.{HasMates}
 use Rattle.match_core.specs.OddCycles.{listed}
 use Rattle.match_core.specs.Rows.{numbers, part}
 use Rattle.match_core.specs.Steps.{IsOpened, StepAnswer}
-use Rattle.match_core.specs.declared.step.Answer.{Answer}
+use Rattle.match_core.specs.declared.answer.Answer.{Answer}
 use Rattle.match_core.specs.declared.alternating.AlternatingForest.{AlternatingForest}
 use Rattle.match_core.specs.declared.growing.Adjacent.{Adjacent}
 use Rattle.match_core.specs.declared.instance.Instance.{Instance}

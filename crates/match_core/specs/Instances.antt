@@ -1,5 +1,5 @@
 -- A graph without its removed vertices, by rows of neighbours: what the search of the engine reads.
-use Rattle.std.specs.Prelude.{◌≡◌, ◌≢◌, ℕ, ◌≤◌, ◌&&◌, false, true, not, nat_lt, nat_le, length}
+use Rattle.std.specs.Prelude.{◌≡◌, ◌≢◌, ℕ, ◌≤◌, ◌&&◌, false, not, nat_lt, nat_le, length}
 use Rattle.counting.specs.Counts.{Within}
 use Rattle.counting.specs.Sets.{Set}
 use Rattle.counting.specs.Tests.{some}
@@ -14,7 +14,3 @@ pub record IsInstance (g : Graph) (r : Set) (s : Instance) : Type 0 where
   pub one_each : length s.rows.items ≡ g.order
   pub left : (v : ℕ) → mem s.left v ≡ ((nat_lt 0 v && nat_le v g.order) && not (r v))
   pub joined : (v w : ℕ) → Within g.order v → Within g.order w → r v ≡ false → r w ≡ false → v ≢ w → mem (item s.rows.items v) w ≡ some (size g) (has_ends g v w)
-
--- the vertex v has a neighbour in x, by its row
-abbrev pub Meets : Instance → Set → ℕ → Type 0
-Meets s x v = (w : ℕ) × (mem (item s.rows.items v) w ≡ true) × (x w ≡ true)

@@ -9,8 +9,7 @@ pub mod Blossoms
 pub mod Shrinkings
 pub mod Rows
 pub mod Meetings
-pub mod ForestRows
-pub mod Searches
+pub mod GraphRows
 pub mod Steps
 pub mod MatchingRows
 pub mod Optimal

@@ -4,17 +4,16 @@
 //! augments the matching, or a blossom. A blossom is shrunk to its base: a matching of the smaller graph can be completed in
 //! it, and a proof that there is no larger one holds for the graph too. Where no edge leaves the forest, its inner vertices
 //! show that the matching is maximum: without them each outer vertex, a blossom or not, is in an odd component of its own.
-ghost use Rattle.std.specs.Prelude.{◌≡◌, ℕ, ◌+◌, ◌<◌, ◌≤◌, IfOk};
+ghost use Rattle.std.specs.Prelude.{◌<◌, IfOk};
 ghost use Rattle.counting.specs.Sets.{Set};
-ghost use Rattle.counting.specs.Lists.{mem};
 ghost use Rattle.graph_core.specs.Graph.{Graph};
 ghost use Rattle.match_core.specs.AlternatingForests.{HoldsMatching};
 ghost use Rattle.match_core.specs.Blossoms.{IsMateStep};
 
+use crate::answer::{Answer, FinalSets, widen};
 use crate::blossom::{close, open};
 use crate::growing::{Growth, grow_forest};
 use crate::instance::{Instance, shrink};
-use crate::step::{Answer, FinalSets, widen};
 use crate::ways::ways_to;
 use std::alloc::{AllocError as Memory, Global};
 

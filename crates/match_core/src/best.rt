@@ -1,20 +1,20 @@
 //! A maximum matching of G - removed, with the frame that shows it to be one.
-ghost use Rattle.std.specs.Prelude.{◌≡◌, ℕ, ◌+◌, ◌≤◌, ◌==◌, ◌&&◌, not, length, IfOk};
+ghost use Rattle.std.specs.Prelude.{◌≡◌, ◌+◌, ◌==◌, ◌&&◌, not, length, IfOk};
 ghost use Rattle.counting.specs.Counts.{Within};
 ghost use Rattle.counting.specs.Lists.{mem};
 ghost use Rattle.graph_core.specs.Rows.{AreRows};
 ghost use Rattle.graph_core.specs.View.{graph_of};
 ghost use Rattle.graph_core.specs.Matchings.{IsMatching};
 ghost use Rattle.match_core.specs.Rows.{marks};
-ghost use Rattle.match_core.specs.Searches.{AreEnds, IsGraphRow};
+ghost use Rattle.match_core.specs.GraphRows.{IsGraphRow};
 ghost use Rattle.match_core.specs.Optimal.{IsBest};
 
+use crate::answer::{Answer, FinalSets};
 use crate::augment::augment_once;
 use crate::instance::instance_of;
 use crate::marked::marks_of;
 use crate::mates::mates_of;
 use crate::rows::{falses, mark_place};
-use crate::step::{Answer, FinalSets};
 use graph_core::Ends;
 use std::alloc::{AllocError as Memory, Global};
 use vset_core::{MOST_VERTICES, VSet};

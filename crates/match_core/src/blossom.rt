@@ -10,10 +10,9 @@ ghost use Rattle.match_core.specs.Blossoms.{AreClosingWays, HoldsBlossom, IsComp
 ghost use Rattle.match_core.specs.Meetings.{IsLastMeeting};
 ghost use Rattle.match_core.specs.Rows.{numbers, part};
 
-use crate::cycle::{Meeting, cycle_vertices, last_meeting};
+use crate::cycle::{Meeting, cycle_vertices, last_meeting, members_of};
 use crate::instance::Instance;
 use crate::mates::{clear, expose, flip, join, pair_round};
-use crate::ring::members_of;
 use crate::ways::Ways;
 use std::alloc::{AllocError as Memory, Global};
 use vset_core::{MOST_VERTICES, VSet};

@@ -1,12 +1,14 @@
-//! The odd cycle that a closing edge makes of two paths that meet.
-ghost use Rattle.std.specs.Prelude.{◌≡◌, ◌≢◌, ℕ, ◌+◌, ◌-◌, ◌<◌, ◌≤◌, Bool, cond, length, slice_index, IfOk, Some, None};
+//! The odd cycle that an edge between two outer vertices makes of their ways, which meet.
+ghost use Rattle.std.specs.Prelude.{◌≡◌, ◌≢◌, ℕ, ◌+◌, ◌-◌, ◌<◌, ◌≤◌, length, slice_index, IfOk, Some, None};
 ghost use Rattle.counting.specs.Counts.{Within, is_odd};
-ghost use Rattle.match_core.specs.OddCycles.{every_other, picked};
-ghost use Rattle.match_core.specs.Rows.{marks, numbers};
+ghost use Rattle.counting.specs.Lists.{mem};
+ghost use Rattle.match_core.specs.OddCycles.{every_other, listed};
+ghost use Rattle.match_core.specs.Rows.{numbers};
 ghost use Rattle.match_core.specs.Meetings.{IsLastMeeting};
 
 use crate::rows::{find_in, push_part, push_part_back};
 use std::alloc::{AllocError as Memory, Global};
+use vset_core::{MOST_VERTICES, VSet};
 
 /// A place of one part of a row and a place of another.
 #[derive(Clone, Copy, Debug, PartialEq, Eq, Drop)]
@@ -60,30 +62,18 @@ pub fn cycle_vertices(
     Ok(cs)
 }
 
-/// The edges of a cycle from place 1 on: a part of a row, the closing edge, and another part backwards. A 0 stands at
-/// place 0.
-pub fn cycle_edges(
-    alloc: Global,
-    row: &[u32],
-    from: usize,
-    m: usize,
-    d: u32,
-    back_from: usize,
-    x: usize,
-) -> Result<Vec<u32>, Memory>
-    requires within { from + m ≤ length row.now }
-    requires back_within { back_from + x ≤ length row.now }
-    ensures length { IfOk result (λ gs. length gs.items ≡ m + x + 2) }
-    ensures low { IfOk result (λ gs. (y : ℕ) → y < m → slice_index gs.items (1 + y) ≡ slice_index row.now (from + y)) }
-    ensures mid { IfOk result (λ gs. slice_index gs.items (1 + m) ≡ d) }
-    ensures high { IfOk result (λ gs. (y : ℕ) → y < x → slice_index gs.items (m + 2 + y) ≡ slice_index row.now (back_from + (x - 1 - y))) }
+/// The set of the numbers of a row from place 1 on.
+pub fn members_of(row: &[u32]) -> VSet
+    requires some { 1 ≤ length row.now }
+    requires within { (i : ℕ) → Within (length row.now - 1) i →
+        Within MOST_VERTICES (numbers row.now i) }
+    ensures { (v : ℕ) → mem result v ≡ listed (length row.now - 1) (numbers row.now) v }
 {
-    let mut gs = Vec::new(alloc);
-    gs.push(0)?;
-    push_part(&mut gs, row, from, m)?;
-    gs.push(d)?;
-    push_part_back(&mut gs, row, back_from, x)?;
-    Ok(gs)
+    let mut members = VSet::empty();
+    for i in 0..row.len() - 1 {
+        members = members.with(row[i + 1]);
+    }
+    members
 }
 
 #[tactic(auto, using(counting::proofs::Odd::is_odd_remainder))]
@@ -93,7 +83,7 @@ fn is_odd_place(i: usize) -> bool
     i % 2 == 1
 }
 
-// Whether place i is every other one on the way round from place t to place t.
+/// Whether place i is every other one on the way round from place t to place t.
 pub fn is_every_other(t: usize, i: usize) -> bool
     ensures { result ≡ every_other t i }
 {
@@ -101,18 +91,5 @@ pub fn is_every_other(t: usize, i: usize) -> bool
         is_odd_place(i) == is_odd_place(t)
     } else {
         t < i && is_odd_place(i) != is_odd_place(t)
-    }
-}
-
-/// Marks or unmarks every other edge of a cycle, on the way round from place t to place t.
-pub fn mark_every_other(mark: &mut [bool], edges: &[u32], t: usize, value: bool)
-    requires some { 1 ≤ length edges.now }
-    requires in_mark { (i : ℕ) → Within (length edges.now - 1) i → numbers edges.now i < length mark.old }
-    ensures { (e : ℕ) → marks mark.new e ≡ cond (picked (length edges.now - 1) (every_other t) (numbers edges.now) e) value (marks mark.old e) }
-{
-    for j in 0..edges.len() - 1 {
-        if is_every_other(t, j + 1) {
-            mark[edges[j + 1] as usize] = value;
-        }
     }
 }

@@ -1,5 +1,5 @@
 //! Maximum matchings with their Berge set, and the frame that gives the Gallai-Edmonds sets.
-ghost use Rattle.std.specs.Prelude.{◌≡◌, ◌≢◌, ℕ, ◌+◌, true, false, length, ◌↔◌, IfOk};
+ghost use Rattle.std.specs.Prelude.{◌≡◌, ℕ, true, false, ◌↔◌, IfOk};
 ghost use Rattle.counting.specs.Counts.{Within, count, is_odd};
 ghost use Rattle.counting.specs.Sets.{none};
 ghost use Rattle.counting.specs.Lists.{mem, IsRisingIn};
@@ -9,9 +9,9 @@ ghost use Rattle.graph_core.specs.GallaiEdmonds.{InD, InA};
 ghost use Rattle.graph_core.specs.Walks.{joined};
 ghost use Rattle.match_core.specs.MatchingRows.{IsOf, edges_of};
 
+use crate::answer::FinalSets;
 use crate::best::{Best, find_best};
 use crate::matching::{Matching, matching_of};
-use crate::step::FinalSets;
 use graph_core::MultiGraph;
 use std::alloc::{AllocError as Memory, Global};
 use vset_core::VSet;

@@ -16,13 +16,11 @@
 #![tactic(auto)]
 
 mod alternating;
+mod answer;
 mod augment;
 mod best;
 mod blossom;
-mod closing;
 mod cycle;
-mod exchange;
-mod forest;
 mod frames;
 mod growing;
 mod instance;
@@ -33,10 +31,7 @@ mod mates;
 mod partner_table;
 mod questions;
 mod repairs;
-mod ring;
 mod rows;
-mod search;
-mod step;
 mod ways;
 
 pub use frames::{Found, FrameSets, frame, maximum};

@@ -1,11 +1,10 @@
 //! From the mates of a matching back to its edges: of the parallel edges that join two mates the least is marked.
-ghost use Rattle.std.specs.Prelude.{◌≡◌, ℕ, ◌+◌, ◌<◌, ◌==◌, length, IfOk};
-ghost use Rattle.counting.specs.Counts.{Within};
+ghost use Rattle.std.specs.Prelude.{◌≡◌, ◌+◌, ◌<◌, ◌==◌, length, IfOk};
 ghost use Rattle.counting.specs.Sets.{Set};
 ghost use Rattle.graph_core.specs.View.{graph_of};
 ghost use Rattle.match_core.specs.Mates.{HasMates};
 ghost use Rattle.match_core.specs.Rows.{marks, numbers};
-ghost use Rattle.match_core.specs.Searches.{IsGraphRow};
+ghost use Rattle.match_core.specs.GraphRows.{IsGraphRow};
 
 use crate::best::is_addable;
 use crate::rows::{falses, mark_place};

@@ -7,7 +7,7 @@ ghost use Rattle.graph_core.specs.Graph.{Graph, size, degree, first_end, second_
 ghost use Rattle.graph_core.specs.View.{graph_of};
 ghost use Rattle.graph_core.specs.Matchings.{IsMatching};
 ghost use Rattle.match_core.specs.Rows.{marks};
-ghost use Rattle.match_core.specs.Searches.{IsGraphRow};
+ghost use Rattle.match_core.specs.GraphRows.{IsGraphRow};
 ghost use Rattle.match_core.specs.MatchingRows.{KeepsMatching, IsOf, edges_of, is_clear, left_over, row_at};
 
 use crate::rows::{falses, mark_place};

@@ -4,7 +4,7 @@ ghost use Rattle.counting.specs.Counts.{Within};
 ghost use Rattle.counting.specs.Sets.{Set};
 ghost use Rattle.graph_core.specs.Matchings.{IsMatching};
 ghost use Rattle.graph_core.specs.View.{graph_of};
-ghost use Rattle.match_core.specs.Searches.{AreEnds, IsGraphRow};
+ghost use Rattle.match_core.specs.GraphRows.{AreEnds, IsGraphRow};
 ghost use Rattle.match_core.specs.OddCycles.{every_other, next};
 ghost use Rattle.match_core.specs.Mates.{HasMates, NamesMates, with_mate, with_pair, flipped_mates, cleared_mates, paired_round};
 ghost use Rattle.match_core.specs.Rows.{marks, numbers, part};

@@ -1,5 +1,5 @@
 //! Perfect matchings on request.
-ghost use Rattle.std.specs.Prelude.{◌≡◌, ℕ, ◌+◌, true, length, ◌↔◌, IfOk, Some, None, All};
+ghost use Rattle.std.specs.Prelude.{◌≡◌, ◌+◌, length, ◌↔◌, IfOk, Some, None, All};
 ghost use Rattle.counting.specs.Counts.{Within};
 ghost use Rattle.counting.specs.Sets.{none};
 ghost use Rattle.counting.specs.Lists.{mem};
@@ -8,7 +8,7 @@ ghost use Rattle.graph_core.specs.Rows.{AreRows};
 ghost use Rattle.graph_core.specs.View.{graph_of};
 ghost use Rattle.graph_core.specs.Matchings.{IsPerfect, HasPerfect};
 ghost use Rattle.match_core.specs.Rows.{marks};
-ghost use Rattle.match_core.specs.Searches.{IsGraphRow};
+ghost use Rattle.match_core.specs.GraphRows.{IsGraphRow};
 ghost use Rattle.match_core.specs.MatchingRows.{IsOf, edges_of};
 ghost use Rattle.match_core.specs.Questions.{HoldsAll, HasPerfectWith, MeetOnce};
 

@@ -1,5 +1,5 @@
 //! A matching that misses two vertices made perfect along one path.
-ghost use Rattle.std.specs.Prelude.{◌≡◌, ℕ, ◌+◌, ◌-◌, ◌/◌, ◌≢◌, ◌==◌, cond, true, ◌<◌, ◌≤◌, length, ◌↔◌, IfOk, Some, None};
+ghost use Rattle.std.specs.Prelude.{◌≡◌, ℕ, ◌+◌, ◌-◌, ◌/◌, ◌≢◌, ◌==◌, ◌&&◌, not, nat_lt, nat_le, cond, true, ◌<◌, ◌≤◌, length, slice_index, ◌↔◌, IfOk, Some, None};
 ghost use Rattle.counting.specs.Counts.{Within};
 ghost use Rattle.counting.specs.Lists.{mem};
 ghost use Rattle.graph_core.specs.Rows.{AreRows};
@@ -8,19 +8,23 @@ ghost use Rattle.graph_core.specs.Matchings.{IsMatching, IsPerfect, HasPerfect, 
 ghost use Rattle.counting.specs.Sets.{put};
 ghost use Rattle.match_core.specs.Forests.{flipped};
 ghost use Rattle.match_core.specs.Rows.{marks, numbers, part, end_a, end_b};
-ghost use Rattle.match_core.specs.Searches.{IsGraphRow};
+ghost use Rattle.match_core.specs.GraphRows.{IsGraphRow, NamesEdges};
 ghost use Rattle.match_core.specs.MatchingRows.{IsOf, edges_of};
 ghost use Rattle.match_core.specs.RepairPaths.{DiffersByPath, IsRepairRow, Misses};
 
 use crate::best::{Best, best_from};
-use crate::exchange::exchange;
-use crate::forest::{Mate, free};
 use crate::matching::{Matching, matching_of};
 use crate::rows::mark_place;
-use crate::search::{matched_edges, other_end};
 use graph_core::{Ends, MultiGraph};
 use std::alloc::{AllocError as Memory, Global};
-use vset_core::VSet;
+use vset_core::{MOST_VERTICES, VSet};
+
+/// The edge of the matching at a vertex, and its other end.
+#[derive(Clone, Copy, Debug, PartialEq, Eq, Drop)]
+pub struct Mate {
+    pub edge: u32,
+    pub vertex: u32,
+}
 
 /// A perfect matching of G - removed, where `m` is a matching of it that misses exactly two vertices: the edges in exactly one
 /// of the two matchings form one path between these vertices. `None` exactly where G - removed has no perfect matching.
@@ -73,6 +77,19 @@ fn repaired_marks(
         return Ok(Some(flipped_along(mark, &edges)));
     }
     Ok(None)
+}
+
+// Exchanges the marks along a path, whose edges are a part of a row, pair by pair: the first edge of each pair is
+// marked, the second no more.
+fn exchange(mark: &mut [bool], edges: &[u32], from: usize, pairs: usize)
+    requires long { from + (pairs + pairs) ≤ length edges.now }
+    requires in_mark { (k : ℕ) → k < pairs + pairs → slice_index edges.now (from + k) < length mark.old }
+    ensures { (e : ℕ) → marks mark.new e ≡ flipped (marks mark.old) (part edges.now from) pairs e }
+{
+    for i in 0..pairs {
+        mark[edges[from + (i + i)] as usize] = true;
+        mark[edges[from + (i + i + 1)] as usize] = false;
+    }
 }
 
 // The marks exchanged along a path with an odd number of edges.
@@ -130,6 +147,38 @@ fn repair_path(
     }
 }
 
+// For each vertex the marked edge that meets it, 0 if there is none.
+fn matched_edges(alloc: Global, n: u32, ends: &[Ends], mark: &[bool]) -> Result<Vec<u32>, Memory>
+    requires row { IsGraphRow n ends.now }
+    requires long { length mark.now ≡ length ends.now + 1 }
+    ensures length { IfOk result (λ at. length at.items ≡ n + 1) }
+    ensures named { IfOk result (λ at. NamesEdges ends.now (marks mark.now) at.items (length ends.now)) }
+{
+    let mut at = vec![in alloc; 0; n as usize + 1]?;
+    for (k, e) in ends.iter().enumerate() {
+        if mark[k + 1] {
+            at[e.a as usize] = k as u32 + 1;
+            at[e.b as usize] = k as u32 + 1;
+        }
+    }
+    Ok(at)
+}
+
+// The vertices of 1 to `n` that are not removed and have no edge in the row.
+fn free(n: u32, removed: VSet, at: &[u32]) -> VSet
+    requires most { n ≤ MOST_VERTICES }
+    requires long { length at.now ≡ n + 1 }
+    ensures { (v : ℕ) → mem result v ≡ ((nat_lt 0 v && nat_le v n) && (not (mem removed v) && (numbers at.now v == 0))) }
+{
+    let mut outer = VSet::empty();
+    for i in 0..n {
+        if !removed.contains(i + 1) && at[i as usize + 1] == 0 {
+            outer = outer.with(i + 1);
+        }
+    }
+    outer
+}
+
 // The edge of the row at a vertex with its other end; none exactly where the row has 0 there.
 fn mate_at(ends: &[Ends], at: &[u32], v: u32) -> Option<Mate>
     requires within { v < length at.now }
@@ -144,4 +193,11 @@ fn mate_at(ends: &[Ends], at: &[u32], v: u32) -> Option<Mate>
     }
     let vertex = other_end(ends[edge as usize - 1], v);
     Some(Mate { edge, vertex })
+}
+
+// The end of an edge that is not `v`.
+fn other_end(e: Ends, v: u32) -> u32
+    ensures { result ≡ cond (e.a == v) e.b e.a }
+{
+    if e.a == v { e.b } else { e.a }
 }

@@ -1,24 +1,10 @@
-//! Rows of numbers: parts of a row put at the end of a row, and where a number stands.
+//! Rows of numbers and of marks: parts of a row put at the end of another, where a number stands, and marked places.
 ghost use Rattle.std.specs.Prelude.{◌≡◌, ◌≢◌, ℕ, ◌+◌, ◌-◌, ◌<◌, ◌≤◌, length, slice_index, IfOk, Some, None, All, ◌||◌, false, true};
 ghost use Rattle.counting.specs.Lists.{mem};
 ghost use Rattle.counting.specs.Sets.{put};
 ghost use Rattle.match_core.specs.Rows.{marks};
 
 use std::alloc::{AllocError as Memory, Global};
-
-/// Puts `count` numbers of the row, from a place on, once more at its end.
-pub fn repeat_part(row: &mut Vec<u32>, from: usize, count: usize) -> Result<(), Memory>
-    requires within { from + count ≤ length row.old.items }
-    ensures length { IfOk result (λ _. length row.new.items ≡ length row.old.items + count) }
-    ensures old { IfOk result (λ _. (j : ℕ) → j < length row.old.items → slice_index row.new.items j ≡ slice_index row.old.items j) }
-    ensures new { IfOk result (λ _. (j : ℕ) → j < count → slice_index row.new.items (length row.old.items + j) ≡ slice_index row.old.items (from + j)) }
-{
-    for i in 0..count {
-        let v = row[from + i];
-        row.push(v)?;
-    }
-    Ok(())
-}
 
 /// Puts `count` numbers of another row, from a place on, at the end of the row.
 pub fn push_part(row: &mut Vec<u32>, of: &[u32], from: usize, count: usize) -> Result<(), Memory>
@@ -65,64 +51,12 @@ pub fn find_in(row: &[u32], from: usize, count: usize, v: u32) -> Option<usize>
     None
 }
 
-/// The numbers from 0 up to, not with, `n`.
-pub fn numbered(alloc: Global, n: u32) -> Result<Vec<u32>, Memory>
-    ensures length { IfOk result (λ xs. length xs.items ≡ n) }
-    ensures each { IfOk result (λ xs. (v : ℕ) → v < n → slice_index xs.items v ≡ v) }
-{
-    let mut xs = Vec::new(alloc);
-    for i in 0..n {
-        xs.push(i)?;
-    }
-    Ok(xs)
-}
-
-/// The places from 0 up to, not with, `n`.
-pub fn places(alloc: Global, n: usize) -> Result<Vec<usize>, Memory>
-    ensures length { IfOk result (λ xs. length xs.items ≡ n) }
-    ensures each { IfOk result (λ xs. (v : ℕ) → v < n → slice_index xs.items v ≡ v) }
-{
-    let mut xs = Vec::new(alloc);
-    for i in 0..n {
-        xs.push(i)?;
-    }
-    Ok(xs)
-}
-
-/// A row of `n` zeros.
-pub fn zeros(alloc: Global, n: usize) -> Result<Vec<u32>, Memory>
-    ensures length { IfOk result (λ xs. length xs.items ≡ n) }
-    ensures each { IfOk result (λ xs. (v : ℕ) → slice_index xs.items v ≡ 0) }
-{
-    let mut xs = Vec::new(alloc);
-    for _i in 0..n {
-        xs.push(0)?;
-    }
-    Ok(xs)
-}
-
-/// A row of `n` places, each 0.
-pub fn zero_places(alloc: Global, n: usize) -> Result<Vec<usize>, Memory>
-    ensures length { IfOk result (λ xs. length xs.items ≡ n) }
-    ensures each { IfOk result (λ xs. (v : ℕ) → slice_index xs.items v ≡ 0) }
-{
-    let mut xs = Vec::new(alloc);
-    for _i in 0..n {
-        xs.push(0)?;
-    }
-    Ok(xs)
-}
-
 /// A row of `n` truth values, each false.
 pub fn falses(alloc: Global, n: usize) -> Result<Vec<bool>, Memory>
     ensures length { IfOk result (λ xs. length xs.items ≡ n) }
     ensures each { IfOk result (λ xs. (v : ℕ) → marks xs.items v ≡ false) }
 {
-    let mut xs = Vec::new(alloc);
-    for _i in 0..n {
-        xs.push(false)?;
-    }
-    Ok(xs)
+    vec![in alloc; false; n]
 }
 
 /// Marks one place.

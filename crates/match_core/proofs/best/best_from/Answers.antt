@@ -8,7 +8,7 @@ use Rattle.match_core.specs.Blossoms.{IsMateStep}
 use Rattle.match_core.specs.Mates.{HasMates}
 use Rattle.match_core.specs.Rows.{marks, numbers}
 use Rattle.match_core.proofs.AugmentedMates.{fewer_exposed, holds_mates, marked_best}
-use Rattle.match_core.proofs.SearchRows.{row_graph, size_is}
+use Rattle.match_core.proofs.GraphRows.{row_graph, size_is}
 use Rattle.match_core.proofs.best.best_from.Goals as goal
 
 pub augmenting-init : goal.augmenting-init

@@ -8,7 +8,7 @@ use Rattle.counting.specs.Counts.{Within}
 use Rattle.counting.specs.Lists.{mem}
 use Rattle.graph_core.specs.View.{graph_of}
 use Rattle.match_core.specs.Rows.{marks, end_a, end_b}
-use Rattle.match_core.proofs.SearchRows.{size_is, ends_here}
+use Rattle.match_core.proofs.GraphRows.{size_is, ends_here}
 use Rattle.match_core.proofs.FirstMarks.{empty_matching, empty_degree, added_edge}
 use Rattle.match_core.proofs.best.first_marks.Goals as goal
 use Rattle.match_core.proofs.best.first_marks.Goals.{then-is_addable, else-is_addable}

@@ -7,7 +7,7 @@ use Rattle.graph_core.specs.View.{graph_of}
 use Rattle.match_core.specs.Rows.{marks}
 use Rattle.match_core.specs.MatchingRows.{edges_of}
 use Rattle.match_core.specs.Optimal.{IsBest}
-use Rattle.match_core.proofs.SearchRows.{size_is}
+use Rattle.match_core.proofs.GraphRows.{size_is}
 use Rattle.match_core.proofs.FrameFacts.{ends_rows, limits_row, best_maximum, best_attains, best_odd, best_missed, best_next, outer_rises, inner_rises}
 use Rattle.match_core.proofs.frames.frame.Goals as goal
 

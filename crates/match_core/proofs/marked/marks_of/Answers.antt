@@ -7,7 +7,7 @@ use Rattle.counting.specs.Lists.{mem}
 use Rattle.graph_core.specs.View.{graph_of}
 use Rattle.match_core.specs.Mates.{MarksMates}
 use Rattle.match_core.specs.Rows.{marks, numbers, end_a, end_b}
-use Rattle.match_core.proofs.SearchRows.{ends_here, row_graph, size_is}
+use Rattle.match_core.proofs.GraphRows.{ends_here, row_graph, size_is}
 use Rattle.match_core.proofs.MarkedMates.{marked_mates, marks_more, marks_none, marks_passed}
 use Rattle.match_core.proofs.marked.marks_of.Goals as goal
 use Rattle.match_core.proofs.marked.marks_of.Goals.{then-is_pair+then-is_addable, then-is_pair+else-is_addable, else-is_pair}

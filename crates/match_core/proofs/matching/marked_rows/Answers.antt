@@ -4,7 +4,7 @@ use Rattle.graph_core.specs.View.{graph_of}
 use Rattle.match_core.specs.Rows.{marks, end_a, end_b}
 use Rattle.match_core.specs.MatchingRows.{row_at}
 use Rattle.match_core.specs.declared.matching.MatchRow.{MatchRow}
-use Rattle.match_core.proofs.SearchRows.{ends_here}
+use Rattle.match_core.proofs.GraphRows.{ends_here}
 use Rattle.match_core.proofs.MatchingEdges.{marked_more, marked_none}
 use Rattle.match_core.proofs.matching.marked_rows.Goals as goal
 use Rattle.match_core.proofs.matching.marked_rows.Goals.{then-mark-k+in_ok-push, else-mark-k}

@@ -5,7 +5,7 @@ use Rattle.graph_core.specs.View.{graph_of}
 use Rattle.match_core.specs.Rows.{marks}
 use Rattle.match_core.specs.MatchingRows.{KeepsMatching, IsOf, row_at}
 use Rattle.match_core.specs.declared.matching.MatchRow.{MatchRow}
-use Rattle.match_core.proofs.SearchRows.{row_graph, size_is}
+use Rattle.match_core.proofs.GraphRows.{row_graph, size_is}
 use Rattle.match_core.proofs.MatchingEdges.{marked-keeps, marked-of, marked-edges}
 use Rattle.match_core.proofs.matching.matching_of.Goals as goal
 

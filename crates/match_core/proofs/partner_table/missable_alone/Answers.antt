@@ -12,7 +12,7 @@ use Rattle.match_core.specs.Optimal.{IsBest}
 use Rattle.match_core.specs.Rows.{marks}
 use Rattle.match_core.proofs.FrameFacts.{ends_rows, limits_row}
 use Rattle.match_core.proofs.PartnerRows.{found-edges, left-length, more_missed-row, one_missed-row}
-use Rattle.match_core.proofs.SearchRows.{size_is}
+use Rattle.match_core.proofs.GraphRows.{size_is}
 use Rattle.match_core.proofs.partner_table.missable_alone.Goals as goal
 
 pub marks-requires-clause-within : goal.marks-requires-clause-within

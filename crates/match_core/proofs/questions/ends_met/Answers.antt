@@ -14,7 +14,7 @@ use Rattle.match_core.specs.Questions.{MeetOnce}
 use Rattle.match_core.proofs.GrownRows.{with_put}
 use Rattle.match_core.proofs.FirstMarks.{empty_degree}
 use Rattle.match_core.proofs.Gluing.{meet_more, meet_none, mem-more, mem-take, mem-again, mem-take_all}
-use Rattle.match_core.proofs.SearchRows.{size_is, row_graph, near_is, far_is}
+use Rattle.match_core.proofs.GraphRows.{size_is, row_graph, near_is, far_is}
 use Rattle.match_core.proofs.questions.ends_met.Goals as goal
 use Rattle.match_core.proofs.questions.ends_met.Goals.{then-not-is_marked+else-not-is_addable, else-not-is_marked}
 

@@ -7,7 +7,7 @@ use Rattle.graph_core.specs.Matchings.{IsPerfect}
 use Rattle.graph_core.specs.View.{graph_of}
 use Rattle.match_core.specs.Rows.{marks}
 use Rattle.match_core.proofs.Gluing.{glued, cut_off}
-use Rattle.match_core.proofs.SearchRows.{row_graph}
+use Rattle.match_core.proofs.GraphRows.{row_graph}
 use Rattle.match_core.proofs.questions.marks_with.Goals as goal
 
 pub returns-in-None-2-clause-none : goal.returns-in-None-2-clause-none

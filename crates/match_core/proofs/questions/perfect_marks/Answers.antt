@@ -3,7 +3,7 @@ use Rattle.counting.specs.Lists.{mem}
 use Rattle.graph_core.specs.Matchings.{IsPerfect}
 use Rattle.graph_core.specs.View.{graph_of}
 use Rattle.match_core.specs.Rows.{marks}
-use Rattle.match_core.proofs.SearchRows.{row_graph}
+use Rattle.match_core.proofs.GraphRows.{row_graph}
 use Rattle.match_core.proofs.FrameFacts.{no_outer-perfect, outer-no_perfect, empty-mem, some-mem}
 use Rattle.match_core.proofs.questions.perfect_marks.Goals as goal
 

@@ -7,7 +7,7 @@ use Rattle.graph_core.specs.View.{graph_of}
 use Rattle.graph_core.proofs.Perfect.{perfect_matching}
 use Rattle.match_core.specs.Rows.{marks}
 use Rattle.match_core.specs.MatchingRows.{edges_of, MatchingValue}
-use Rattle.match_core.proofs.SearchRows.{size_is}
+use Rattle.match_core.proofs.GraphRows.{size_is}
 use Rattle.match_core.proofs.FrameFacts.{ends_rows, limits_row, whole_matching, listed_perfect}
 use Rattle.match_core.proofs.questions.perfect_without.Goals as goal
 

@@ -2,7 +2,7 @@ use Rattle.std.proofs.Common.{◌≡◌, ◌+◌, ◌-◌, length}
 use Rattle.counting.specs.Lists.{mem}
 use Rattle.graph_core.specs.View.{graph_of}
 use Rattle.match_core.specs.Rows.{marks}
-use Rattle.match_core.specs.Searches.{NamesEdges}
+use Rattle.match_core.specs.GraphRows.{NamesEdges}
 use Rattle.match_core.specs.RepairPaths.{IsWalk, Misses}
 use Rattle.match_core.proofs.repairs.repair_path.Given as goal
 

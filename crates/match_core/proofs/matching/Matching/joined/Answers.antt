@@ -9,7 +9,7 @@ use Rattle.graph_core.specs.View.{graph_of}
 use Rattle.graph_core.proofs.Edits.{add_edge}
 use Rattle.match_core.specs.Rows.{marks}
 use Rattle.match_core.specs.MatchingRows.{MatchingValue, edges_of}
-use Rattle.match_core.proofs.SearchRows.{size_is}
+use Rattle.match_core.proofs.GraphRows.{size_is}
 use Rattle.match_core.proofs.GrownRows.{with_put}
 use Rattle.match_core.proofs.FrameFacts.{limits_row}
 use Rattle.match_core.proofs.MatchingEdges.{rows-matching, rows-rise, joined_edges}

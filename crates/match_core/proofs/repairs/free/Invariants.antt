@@ -1,7 +1,7 @@
 use Rattle.std.proofs.Common.{◌≡◌, ℕ, ◌&&◌, ◌==◌, not, nat_lt, nat_le}
 use Rattle.counting.specs.Lists.{mem}
 use Rattle.match_core.specs.Rows.{numbers}
-use Rattle.match_core.proofs.forest.free.Given as goal
+use Rattle.match_core.proofs.repairs.free.Given as goal
 
 abbrev pub invariant-loop-i : goal.invariant-loop-i
 invariant-loop-i l = (v : ℕ) → mem l.outer v ≡ ((nat_lt 0 v && nat_le v l.i) && (not (mem l.removed v) && (numbers l.at v == 0)))

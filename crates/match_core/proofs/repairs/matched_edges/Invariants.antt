@@ -1,7 +1,7 @@
 use Rattle.std.proofs.Common.{◌≡◌, ◌+◌, length}
 use Rattle.match_core.specs.Rows.{marks}
-use Rattle.match_core.specs.Searches.{NamesEdges}
-use Rattle.match_core.proofs.search.matched_edges.Given as goal
+use Rattle.match_core.specs.GraphRows.{NamesEdges}
+use Rattle.match_core.proofs.repairs.matched_edges.Given as goal
 
 abbrev pub invariant-loop-k : goal.invariant-loop-k
 invariant-loop-k l = record { long : length l.at.items ≡ l.n + 1; named : NamesEdges l.ends (marks l.mark) l.at.items l.k }

@@ -1,7 +1,7 @@
 use Rattle.std.proofs.Common.{◌≡◌, ℕ, length}
 use Rattle.match_core.specs.Forests.{flipped}
 use Rattle.match_core.specs.Rows.{marks, part}
-use Rattle.match_core.proofs.exchange.exchange.Given as goal
+use Rattle.match_core.proofs.repairs.exchange.Given as goal
 
 abbrev pub invariant-loop-i : goal.invariant-loop-i
 invariant-loop-i l = record { same : length l.mark ≡ length l.initial.mark; row : (e : ℕ) → marks l.mark e ≡ flipped (marks l.initial.mark) (part l.edges l.from) l.i e }

@@ -1,0 +1,32 @@
+//! What a step of the engine answers: one edge more, or a frame.
+ghost use Rattle.counting.specs.Lists.{mem};
+ghost use Rattle.match_core.specs.Steps.{IsWidened};
+
+use vset_core::VSet;
+
+/// The outer and the inner vertices of a frame.
+#[derive(Drop)]
+pub struct FinalSets {
+    pub outer: VSet,
+    pub inner: VSet,
+}
+
+/// What a step gives: one edge more, or a frame.
+#[derive(Drop)]
+pub enum Answer {
+    Grown,
+    Final(FinalSets),
+}
+
+/// The answer for the graph before the shrinking of a blossom: its vertices are outer as its base is.
+pub fn widen(below: Answer, members: VSet) -> Answer
+    ensures { IsWidened below (mem members) result }
+{
+    match below {
+        Answer::Grown => Answer::Grown,
+        Answer::Final(sets) => Answer::Final(FinalSets {
+            outer: sets.outer.union(members),
+            inner: sets.inner,
+        }),
+    }
+}
