@@ -9,7 +9,7 @@ use Rattle.counting.proofs.Tests.{some_true}
 use Rattle.counting.proofs.Totals.{at_le_total}
 use Rattle.counting.specs.Counts.{Within, bit, count, is_odd}
 use Rattle.counting.specs.Sets.{Set, complement, minus, put, union}
-use Rattle.counting.specs.Lists.{mem, item}
+use Rattle.counting.specs.Lists.{mem}
 use Rattle.graph_core.proofs.Edits.{add_edge, ends_of_is}
 use Rattle.graph_core.specs.Graph.{Graph, HasEnds, IsGraph, degree, size}
 use Rattle.graph_core.specs.Matchings.{IsMatching}
@@ -27,8 +27,8 @@ use Rattle.match_core.proofs.OddCycles.{cycle_holds, cycle_outside, cycle_size, 
 use Rattle.match_core.proofs.OpenedPairs.{full_count, full_pairs, less, less_count, less_pairs}
 use Rattle.match_core.proofs.Shrinking.{complement_size, degree_in, degree_out, degree_z, down, frame_up, near_perfect_count, shrunk_graph}
 use Rattle.match_core.proofs.ShrunkInstances.{edge_keeps, edge_stays, edge_was}
-use Rattle.match_core.proofs.ParentForests.{edge_near, left_from, near_edge}
-use Rattle.match_core.specs.Instances.{IsInstance}
+use Rattle.match_core.proofs.Instances.{left_from}
+use Rattle.match_core.specs.Instances.{IsInstance, Touches}
 use Rattle.match_core.specs.declared.instance.Instance.{Instance}
 use Rattle.match_core.specs.Frames.{shrunk_ends}
 use Rattle.match_core.proofs.StepTheorem.{shrunk_ends_shrunk}
@@ -213,19 +213,24 @@ module _ (g : Graph) (is : IsGraph g) (r f m : Set) (n : ℕ) (c e : ℕ → ℕ
     parted_below : HasMates g r fewer parted
     parted_below = free_mates fewer parted parted_has parted_free
 
-    -- in g, the mate of the base has a neighbour in the blossom
-    pub outside_near : (s : Instance) → IsInstance g r s → (i : ℕ) × Within n i × (mem (item s.rows.items (mate z)) (c i) ≡ true)
+    -- in g, the mate of the base touches a vertex of the blossom
+    pub outside_near : (s : Instance) → IsInstance g r s → (i : ℕ) × Within n i × (mem s.left (c i) ≡ true) × Touches s (mate z) (c i)
     outside_near s inst =
         let d = has.paired z wz taken in
         let w = edge_was g cs z es pulls cz x d.0 x_out (in_g d.0 d.1) (turned H d.0 z x d.3) in
         let at = some_true n (λ i. c i == w.0) w.2 in
-        (at.0, at.1, ap (mem (item s.rows.items x)) (eqb-true (c at.0) w.0 at.2) ∙ edge_near g r s inst d.0 x w.0 (in_g d.0 d.1) w.1 back.0 (cw w.0 w.2) rx (cr w.0 w.2) (λ q. both_ways (cs x) x_out (ap cs q ∙ w.2)))
+        let same = eqb-true (c at.0) w.0 at.2 in (
+          at.0,
+          at.1,
+          left_from g r s inst (c at.0) (cyc.within at.0 at.1) (cr (c at.0) (cycle_holds g r n c e cyc at.0 at.1)),
+          subst (Touches s x) (sym same) (inst.touched d.0 x w.0 (in_g d.0 d.1) w.1 back.0 (cw w.0 w.2) rx (cr w.0 w.2) (λ q. both_ways (cs x) x_out (ap cs q ∙ w.2))),
+        )
 
-    -- and a neighbour in the blossom is joined to it by an edge
-    pub outside_edge : (s : Instance) → IsInstance g r s → (t : ℕ) → Within n t → mem (item s.rows.items (mate z)) (c t) ≡ true → (d : ℕ) × Within (size g) d × HasEnds g d (mate z) (c t)
+    -- and a vertex of the blossom that it touches is joined to it by an edge
+    pub outside_edge : (s : Instance) → IsInstance g r s → (t : ℕ) → Within n t → Touches s (mate z) (c t) → (d : ℕ) × Within (size g) d × HasEnds g d (mate z) (c t)
     outside_edge s inst t wt q =
         let ct = cycle_holds g r n c e cyc t wt in
-        near_edge g r s inst x (c t) back.0 rx q (left_from g r s inst (c t) (cyc.within t wt) (cr (c t) ct)) (λ h. both_ways (cs x) x_out (ap cs h ∙ ct))
+        inst.joined x (c t) back.0 (cyc.within t wt) rx (cr (c t) ct) (λ h. both_ways (cs x) x_out (ap cs h ∙ ct)) q
 
     pub outside_within : Within g.order (mate z)
     outside_within = back.0

@@ -10,6 +10,7 @@ pub mod Growth
 pub mod ClosingEdges
 pub mod StepTheorem
 pub mod MatePairs
+pub mod Instances
 pub mod ParentForests
 pub mod Reaching
 pub mod WaysUp

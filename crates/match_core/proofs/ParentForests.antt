@@ -1,17 +1,14 @@
 -- Forests by parents: the first one, one more branch, and the last one as a frame.
 -- The path of a new outer vertex is that of its grandparent, and on by its mate; all other paths stay.
 use Rattle.std.proofs.Common.{◌≡◌, ◌≢◌, ℕ, suc, ◌+◌, Bool, true, false, cond, ◌==◌, refl, sym, ap, ◌∙◌, arith, eq-eqb, ne_eqb, inl, inr, not, ◌&&◌, ◌||◌, nat_lt, nat_le, length, List}
-use Rattle.std.proofs.lemmas.Bool.{cases_eq, both_ways, and_parts, and_from, leb-true}
-use Rattle.counting.proofs.Tests.{true_some, some_true}
+use Rattle.std.proofs.lemmas.Bool.{cases_eq, both_ways, and_parts, leb-true}
 use Rattle.counting.specs.Counts.{Within, count}
 use Rattle.counting.specs.Sets.{Set, none, put}
-use Rattle.counting.specs.Lists.{mem, item}
-use Rattle.graph_core.specs.Graph.{Graph, HasEnds, IsGraph, degree, has_ends, size}
-use Rattle.graph_core.proofs.Adjacency.{has_ends-from}
-use Rattle.graph_core.proofs.Walks.{has_ends-cases}
+use Rattle.counting.specs.Lists.{mem}
+use Rattle.graph_core.specs.Graph.{Graph, HasEnds, IsGraph, degree, size}
 use Rattle.match_core.specs.Forests.{IsForest}
 use Rattle.match_core.specs.Frames.{Frame}
-use Rattle.match_core.specs.Instances.{IsInstance}
+use Rattle.match_core.specs.Instances.{Touches}
 use Rattle.match_core.specs.AlternatingForests.{HoldsMatching, HoldsAlternating, HasBranched, GoesUp, IsDone}
 use Rattle.match_core.specs.Rows.{numbers}
 use Rattle.match_core.specs.declared.instance.Instance.{Instance}
@@ -19,30 +16,9 @@ use Rattle.match_core.specs.declared.alternating.AlternatingForest.{AlternatingF
 use Rattle.match_core.proofs.Alike.{forest_alike}
 use Rattle.match_core.proofs.Forests.{first_outer, forest_start, final_frame, met, turned}
 use Rattle.match_core.proofs.Growth.{grown, more_e, more_inner, more_k, more_outer, more_v}
+use Rattle.match_core.proofs.Instances.{left_from, left_parts, near_edge}
 use Rattle.match_core.proofs.LongerPaths.{end_within, longer, longer_below, longer_at}
 use Rattle.match_core.proofs.MatePairs.{mate_back, with_here, with_there}
-
--- what the vertices that are left are
-pub left_parts : (g : Graph) (r : Set) (s : Instance) → IsInstance g r s → (v : ℕ) → mem s.left v ≡ true → Within g.order v × (r v ≡ false)
-left_parts g r s is v t =
-    let a = and_parts (nat_lt 0 v && nat_le v g.order) (not (r v)) (sym (is.left v) ∙ t) in
-    let b = and_parts (nat_lt 0 v) (nat_le v g.order) a.0 in
-    let x = Rattle.std.proofs.Common.ltb-true 0 v b.0 in
-    let y = leb-true v g.order b.1 in
-    ((omega arith, omega arith), Rattle.std.proofs.lemmas.Bool.not-true (r v) a.1)
-
-pub left_from : (g : Graph) (r : Set) (s : Instance) → IsInstance g r s → (v : ℕ) → Within g.order v → r v ≡ false → mem s.left v ≡ true
-left_from g r s is v w rv = is.left v ∙ and_from (nat_lt 0 v && nat_le v g.order) (not (r v)) (and_from (nat_lt 0 v) (nat_le v g.order) (Rattle.std.proofs.Common.lt-ltb 0 v (omega arith)) (Rattle.std.proofs.lemmas.Bool.le-leb v g.order (omega arith))) (ap not rv)
-
--- neighbours that are left are joined by an edge, and the other way round
-pub near_edge : (g : Graph) (r : Set) (s : Instance) → IsInstance g r s → (x y : ℕ) → Within g.order x → r x ≡ false → mem (item s.rows.items x) y ≡ true → mem s.left y ≡ true → x ≢ y → (d : ℕ) × Within (size g) d × HasEnds g d x y
-near_edge g r s is x y wx rx n l d =
-    let p = left_parts g r s is y l in
-    let e = some_true (size g) (has_ends g x y) (sym (is.joined x y wx p.0 rx p.1 d) ∙ n) in
-    (e.0, e.1, has_ends-cases g x y e.0 e.2)
-
-pub edge_near : (g : Graph) (r : Set) (s : Instance) → IsInstance g r s → (d x y : ℕ) → Within (size g) d → HasEnds g d x y → Within g.order x → Within g.order y → r x ≡ false → r y ≡ false → x ≢ y → mem (item s.rows.items x) y ≡ true
-edge_near g r s is d x y wd ends wx wy rx ry n = is.joined x y wx wy rx ry n ∙ true_some (size g) (has_ends g x y) d wd (has_ends-from g x y d ends)
 
 module _ (g : Graph) (r f : Set) (s : Instance) (mate : List ℕ) (is : HoldsMatching g r f s mate) where
   -- each exposed vertex a root
@@ -80,10 +56,10 @@ module _ (g : Graph) (r f : Set) (s : Instance) (mate : List ℕ) (is : HoldsMat
         (λ d x y w ends rx ry n o.
         let wx = end_within g is.instance_is.graph d x y w ends in
         let wy = end_within g is.instance_is.graph d y x w (turned g d x y ends) in
-        done x o y (edge_near g r s is.instance_is d x y w ends wx wy rx ry n) (left_from g r s is.instance_is y wy ry) n)
+        done x o y (is.instance_is.touched d x y w ends wx wy rx ry n) (left_from g r s is.instance_is y wy ry) n)
 
     -- the forest with the neighbour y of an outer vertex x, and with the mate of y
-    module _ (x y : ℕ) (ox : mem t.outer x ≡ true) (near : mem (item s.rows.items x) y ≡ true) (ly : mem s.left y ≡ true) (xy : x ≢ y) (oy : mem t.outer y ≡ false) (iy : mem t.inner y ≡ false) where
+    module _ (x y : ℕ) (ox : mem t.outer x ≡ true) (near : Touches s x y) (ly : mem s.left y ≡ true) (xy : x ≢ y) (oy : mem t.outer y ≡ false) (iy : mem t.inner y ≡ false) where
       abbrev pub z : ℕ
       z = numbers mate y
 

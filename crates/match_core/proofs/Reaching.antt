@@ -4,29 +4,30 @@ use Rattle.std.proofs.lemmas.Bool.{cases_Bool, both_ways, and_parts, and_from, n
 use Rattle.counting.proofs.Counts.{count_le}
 use Rattle.counting.specs.Counts.{Within, count}
 use Rattle.counting.specs.Sets.{Set}
-use Rattle.counting.specs.Lists.{mem, item}
+use Rattle.counting.specs.Lists.{mem}
 use Rattle.graph_core.proofs.Growth.{count_gained, count_lost}
 use Rattle.graph_core.specs.Graph.{Graph}
 use Rattle.match_core.specs.AlternatingForests.{HoldsAlternating, IsDone, HasBranched}
+use Rattle.match_core.specs.Instances.{AreNear, Touches}
 use Rattle.match_core.specs.Rows.{numbers}
 use Rattle.match_core.specs.declared.instance.Instance.{Instance}
 use Rattle.match_core.specs.declared.alternating.AlternatingForest.{AlternatingForest}
 use Rattle.match_core.proofs.SymmetricDifference.{path_short}
 
-module _ (s : Instance) (t : AlternatingForest) (x : ℕ) (row met near reach : List ℕ) (row_is : row ≡ item s.rows.items x) (met_is : (v : ℕ) → mem met v ≡ (mem row v && mem s.left v)) (near_is : (v : ℕ) → mem near v ≡ (mem met v && not (x == v)))
+module _ (s : Instance) (t : AlternatingForest) (x : ℕ) (met near reach : List ℕ) (met_is : AreNear s x met) (near_is : (v : ℕ) → mem near v ≡ (mem met v && not (x == v)))
     (reach_is : (v : ℕ) → mem reach v ≡ (mem near v && not (mem t.inner v))) where
-  pub reach_parts : (y : ℕ) → mem reach y ≡ true → (mem (item s.rows.items x) y ≡ true) × (mem s.left y ≡ true) × (x ≢ y) × (mem t.inner y ≡ false)
+  pub reach_parts : (y : ℕ) → mem reach y ≡ true → Touches s x y × (mem s.left y ≡ true) × (x ≢ y) × (mem t.inner y ≡ false)
   reach_parts y h =
       let a = and_parts (mem near y) (not (mem t.inner y)) (sym (reach_is y) ∙ h) in
       let b = and_parts (mem met y) (not (x == y)) (sym (near_is y) ∙ a.0) in
-      let c = and_parts (mem row y) (mem s.left y) (sym (met_is y) ∙ b.0) in
-      (sym (ap (λ (r : List ℕ). mem r y) row_is) ∙ c.0, c.1, (λ q. both_ways (not (x == y)) (ap not (eq-eqb x y q)) b.1), not-true (mem t.inner y) a.1)
+      let c = (met_is y).0 b.0 in
+      (c.1, c.0, (λ q. both_ways (not (x == y)) (ap not (eq-eqb x y q)) b.1), not-true (mem t.inner y) a.1)
 
   -- where nothing is reached, the vertex is done
   pub none_reached : reach ≡ [] → IsDone s t x
   none_reached e y n l d = elim (cases_Bool (mem t.inner y)) [
     | inl i ↦ i
-    | inr i ↦ absurd (both_ways (mem reach y) (ap (λ (r : List ℕ). mem r y) e) (reach_is y ∙ and_from (mem near y) (not (mem t.inner y)) (near_is y ∙ and_from (mem met y) (not (x == y)) (met_is y ∙ and_from (mem row y) (mem s.left y) (ap (λ (r : List ℕ). mem r y) row_is ∙ n) l) (ap not (ne_eqb x y d))) (ap not i)))
+    | inr i ↦ absurd (both_ways (mem reach y) (ap (λ (r : List ℕ). mem r y) e) (reach_is y ∙ and_from (mem near y) (not (mem t.inner y)) (near_is y ∙ and_from (mem met y) (not (x == y)) ((met_is y).1 (l, n)) (ap not (ne_eqb x y d))) (ap not i)))
   ]
 
 -- a vertex that is done stays done when more vertices are inner

@@ -1,25 +1,17 @@
 -- An instance with a blossom shrunk is the graph with the blossom's vertices made one.
--- The base is near what some vertex of the blossom was near; all other rows lose the blossom and gain the base.
-use Rattle.std.proofs.Common.{◌≡◌, ◌≢◌, ℕ, ◌-◌, Bool, true, false, cond, ◌==◌, refl, sym, ap, ◌∙◌, arith, eq-eqb, ne_eqb, inl, inr, not, ◌&&◌, ◌||◌, length, List, subst, nat_lt, nat_le}
-use Rattle.std.proofs.lemmas.Bool.{cases_Bool, cases_eq, both_ways, true≢false, false_from_ne_true}
-use Rattle.counting.proofs.Tests.{some_true, true_some}
+-- The base has the neighbours and the members of the blossom's vertices: what one of them touched it touches, and what touched
+-- one of them touches it.
+use Rattle.std.proofs.Common.{◌≡◌, ◌≢◌, ℕ, Bool, true, false, cond, ◌==◌, refl, sym, ap, ◌∙◌, arith, eq-eqb, eqb-true, ne_eqb, inl, inr, not, ◌&&◌, ◌||◌, List, subst, nat_lt, nat_le}
+use Rattle.std.proofs.lemmas.Bool.{and_parts, cases_Bool, cases_eq, both_ways, or_cases, true≢false, false_from_ne_true}
 use Rattle.counting.specs.Counts.{Within}
 use Rattle.counting.specs.Sets.{Set}
-use Rattle.counting.specs.Tests.{some}
 use Rattle.counting.specs.Lists.{mem, item}
-use Rattle.graph_core.proofs.Adjacency.{has_ends-from}
-use Rattle.graph_core.proofs.Walks.{has_ends-cases}
-use Rattle.graph_core.specs.Graph.{Graph, HasEnds, IsGraph, first_end, has_ends, second_end, size}
+use Rattle.graph_core.specs.Graph.{Graph, HasEnds, IsGraph, first_end, second_end, size}
 use Rattle.match_core.specs.Frames.{IsShrunk, shrunk_removed, shrunk_vertex, with_ends}
-use Rattle.match_core.specs.Instances.{IsInstance}
+use Rattle.match_core.specs.Instances.{IsInstance, Touches}
 use Rattle.match_core.specs.Shrinkings.{IsShrinking}
 use Rattle.match_core.specs.declared.instance.Instance.{Instance}
 use Rattle.match_core.proofs.Forests.{turned}
-
-both_same : (a b : Bool) → (a ≡ true → b ≡ true) → (b ≡ true → a ≡ true) → a ≡ b
-both_same true b f h = sym (f refl)
-both_same false true f h = h refl
-both_same false false f h = refl
 
 module _ (g : Graph) (c : Set) (z : ℕ) (es : List (ℕ × ℕ)) (pulls : IsShrunk g c z es) (cz : c z ≡ true) where
   abbrev H : Graph
@@ -75,36 +67,6 @@ module _ (g : Graph) (c : Set) (z : ℕ) (es : List (ℕ × ℕ)) (pulls : IsShr
     abbrev rs : Set
     rs = shrunk_removed r c z
 
-    abbrev near : Set
-    near = shrink.near
-
-    rows_in : (v : ℕ) → Within g.order v → Within (length s.rows.items) v
-    rows_in v w = let e = is.one_each in omega arith
-
-    -- a vertex outside c is near it exactly where an edge joins it to the base of the shrunk graph
-    near_joined : (x : ℕ) → Within g.order x → r x ≡ false → c x ≡ false → near x ≡ some (size g) (has_ends H x z)
-    near_joined x wx rx cx = both_same (near x) (some (size g) (has_ends H x z))
-        (λ t.
-        let f = shrink.near_is.from x t in
-        let u = f.1.0 in
-        let e = some_true (size g) (has_ends g x u) (sym (is.joined x u wx (cw u f.1.2) rx (cr u f.1.2) (λ q. both_ways (c x) cx (ap c q ∙ f.1.2))) ∙ f.1.1) in
-        true_some (size g) (has_ends H x z) e.0 e.1 (has_ends-from H x z e.0 (edge_goes x u e.0 cx f.1.2 e.1 (has_ends-cases g x u e.0 e.2))))
-        (λ t.
-        let e = some_true (size g) (has_ends H x z) t in
-        let u = edge_was x e.0 cx e.1 (has_ends-cases H x z e.0 e.2) in
-        shrink.near_is.into x u.0 (rows_in x wx) (is.joined x u.0 wx (cw u.0 u.2) rx (cr u.0 u.2) (λ q. both_ways (c x) cx (ap c q ∙ u.2)) ∙ true_some (size g) (has_ends g x u.0) e.0 e.1 (has_ends-from g x u.0 e.0 u.1)) u.2)
-
-    swap : (x y : ℕ) → some (size g) (has_ends H x y) ≡ some (size g) (has_ends H y x)
-    swap x y = both_same (some (size g) (has_ends H x y)) (some (size g) (has_ends H y x)) (go x y) (go y x)
-      where
-        go : (x y : ℕ) → some (size g) (has_ends H x y) ≡ true → some (size g) (has_ends H y x) ≡ true
-        go x y t = let e = some_true (size g) (has_ends H x y) t in true_some (size g) (has_ends H y x) e.0 e.1 (has_ends-from H y x e.0 (turned H e.0 x y (has_ends-cases H x y e.0 e.2)))
-
-    same_joined : (x y : ℕ) → c x ≡ false → c y ≡ false → some (size g) (has_ends g x y) ≡ some (size g) (has_ends H x y)
-    same_joined x y cx cy = both_same (some (size g) (has_ends g x y)) (some (size g) (has_ends H x y))
-        (λ t. let e = some_true (size g) (has_ends g x y) t in true_some (size g) (has_ends H x y) e.0 e.1 (has_ends-from H x y e.0 (edge_keeps x y e.0 cx cy e.1 (has_ends-cases g x y e.0 e.2))))
-        (λ t. let e = some_true (size g) (has_ends H x y) t in true_some (size g) (has_ends g x y) e.0 e.1 (has_ends-from g x y e.0 (edge_stays x y e.0 cx cy e.1 (has_ends-cases H x y e.0 e.2))))
-
     -- what is left is not in r, and it is the base or outside c
     out_parts : (v : ℕ) → rs v ≡ false → (r v ≡ false) × (c v ≡ true → v ≡ z)
     out_parts v q = go (r v) (c v) (v == z) refl q
@@ -112,61 +74,106 @@ module _ (g : Graph) (c : Set) (z : ℕ) (es : List (ℕ × ℕ)) (pulls : IsShr
         go : (a b e : Bool) → (v == z) ≡ e → (a || (b && not e)) ≡ false → (a ≡ false) × (b ≡ true → v ≡ z)
         go true b e s q = absurd (true≢false q)
         go false true false s q = absurd (true≢false q)
-        go false true true s q = (refl, λ t. Rattle.std.proofs.Common.eqb-true v z s)
+        go false true true s q = (refl, λ t. eqb-true v z s)
         go false false e s q = (refl, λ t. absurd (true≢false (sym t)))
 
     not_base : (v : ℕ) → rs v ≡ false → v ≢ z → c v ≡ false
     not_base v q n = false_from_ne_true (c v) (λ t. n ((out_parts v q).1 t))
 
-    shrunk_joined : (v w : ℕ) → Within g.order v → Within g.order w → rs v ≡ false → rs w ≡ false → v ≢ w → mem (item h.rows.items v) w ≡ some (size g) (has_ends H v w)
-    shrunk_joined v w wv ww ov ow d = shrink.rows v w (rows_in v wv) ∙ elim (cases_eq v z) [
+    -- a vertex that is not in c is another than those that are
+    other : (v u : ℕ) → c v ≡ false → c u ≡ true → v ≢ u
+    other v u cv cu q = both_ways (c v) cv (ap c q ∙ cu)
+
+    row_kept : (v : ℕ) → Within g.order v → v ≢ z → item h.rows.items v ≡ item s.rows.items v
+    row_kept v w n = shrink.rows.others v (let e = is.one_each in omega arith) (λ q. n (sym q))
+
+    members_kept : (v : ℕ) → Within g.order v → v ≢ z → item h.members.items v ≡ item s.members.items v
+    members_kept v w n = shrink.members.others v (let e = is.members_each in omega arith) (λ q. n (sym q))
+
+    own_member : (v : ℕ) → Within g.order v → rs v ≡ false → mem (item h.members.items v) v ≡ true
+    own_member v w o = elim (cases_eq v z) [
+      | inl q ↦ subst (λ (x : ℕ). mem (item h.members.items x) x ≡ true) (sym q) ((shrink.members.own z).1 (z, cz, is.own z (cw z cz) (cr z cz)))
+      | inr n ↦ ap (λ (xs : List ℕ). mem xs v) (members_kept v w n) ∙ is.own v w (out_parts v o).0
+    ]
+
+    alone : (v w : ℕ) → Within g.order v → rs v ≡ false → mem h.blossoms v ≡ false → mem (item h.members.items v) w ≡ true → v ≡ w
+    alone v w wv o b t =
+        let p = apart (mem s.blossoms v) (c v) (z == v) (sym (shrink.blossoms v) ∙ b) in
+        let n : v ≢ z = λ q. both_ways (z == v) p.0 (eq-eqb z v (sym q)) in
+        is.single v w wv (out_parts v o).0 (p.1 (not_base v o n)) (sym (ap (λ (xs : List ℕ). mem xs w) (members_kept v wv n)) ∙ t)
+      where
+        apart : (a b e : Bool) → ((a && not b) || e) ≡ false → (e ≡ false) × (b ≡ false → a ≡ false)
+        apart true true e q = (q, λ t. absurd (true≢false t))
+        apart true false e q = absurd (true≢false q)
+        apart false b e q = (q, λ t. refl)
+
+    joins : (v w : ℕ) → Within g.order v → Within g.order w → rs v ≡ false → rs w ≡ false → v ≢ w → Touches h v w → (d : ℕ) × Within (size g) d × HasEnds H d v w
+    joins v w wv ww ov ow d t = elim (cases_eq v z) [
       | inl vz ↦
-          let cw' = not_base w ow (λ q. d (vz ∙ sym q)) in
-          ap (λ b. cond b (near w && not (c w)) (cond (near v) ((mem (item s.rows.items v) w && not (c w)) || (z == w)) (mem (item s.rows.items v) w))) (eq-eqb v z vz)
-          ∙ ap (λ b. near w && not b) cw' ∙ and_true (near w) ∙ near_joined w ww (out_parts w ow).0 cw' ∙ swap w z ∙ ap (λ (x : ℕ). some (size g) (has_ends H x w)) (sym vz)
+          let nw : w ≢ z = λ q. d (vz ∙ sym q) in
+          let cw' = not_base w ow nw in
+          let a = (shrink.rows.own t.0).0 (ap (λ (x : ℕ). mem (item h.rows.items x) t.0) (sym vz) ∙ t.1) in
+          let b = sym (ap (λ (xs : List ℕ). mem xs t.0) (members_kept w ww nw)) ∙ t.2 in
+          let e = is.joined a.0 w (cw a.0 a.1) ww (cr a.0 a.1) (out_parts w ow).0 (λ q. other w a.0 cw' a.1 (sym q)) (t.0, a.2, b) in
+          (e.0, e.1, subst (λ (x : ℕ). HasEnds H e.0 x w) (sym vz) (turned H e.0 w z (edge_goes w a.0 e.0 cw' a.1 e.1 (turned g e.0 a.0 w e.2))))
       | inr nv ↦
           let cv = not_base v ov nv in
-          ap (λ b. cond b (near w && not (c w)) (cond (near v) ((mem (item s.rows.items v) w && not (c w)) || (z == w)) (mem (item s.rows.items v) w))) (ne_eqb v z nv)
-          ∙ elim (cases_eq w z) [
-            | inl wz ↦ to_base v w wv (out_parts v ov).0 cv wz
+          let a = sym (ap (λ (xs : List ℕ). mem xs t.0) (row_kept v wv nv)) ∙ t.1 in
+          elim (cases_eq w z) [
+            | inl wz ↦
+                let b = (shrink.members.own t.0).0 (ap (λ (x : ℕ). mem (item h.members.items x) t.0) (sym wz) ∙ t.2) in
+                let e = is.joined v b.0 wv (cw b.0 b.1) (out_parts v ov).0 (cr b.0 b.1) (other v b.0 cv b.1) (t.0, a, b.2) in
+                (e.0, e.1, subst (λ (x : ℕ). HasEnds H e.0 v x) (sym wz) (edge_goes v b.0 e.0 cv b.1 e.1 e.2))
             | inr nw ↦
-                let cw' = not_base w ow nw in
-                rest (near v) (mem (item s.rows.items v) w) (c w) (z == w) cw' (ne_eqb z w (λ q. nw (sym q))) ∙ is.joined v w wv ww (out_parts v ov).0 (out_parts w ow).0 d ∙ same_joined v w cv cw'
+                let e = is.joined v w wv ww (out_parts v ov).0 (out_parts w ow).0 d (t.0, a, sym (ap (λ (xs : List ℕ). mem xs t.0) (members_kept w ww nw)) ∙ t.2) in
+                (e.0, e.1, edge_keeps v w e.0 cv (not_base w ow nw) e.1 e.2)
           ]
     ]
-      where
-        and_true : (b : Bool) → (b && not false) ≡ b
-        and_true true = refl
-        and_true false = refl
 
-        rest : (n m b e : Bool) → b ≡ false → e ≡ false → cond n ((m && not b) || e) m ≡ m
-        rest true true false false p q = refl
-        rest true false false false p q = refl
-        rest false m b e p q = refl
-        rest true m true e p q = absurd (true≢false p)
-        rest true m false true p q = absurd (true≢false q)
-
-        -- the row of a vertex outside c holds the base exactly where it held one of c
-        to_base : (v w : ℕ) → Within g.order v → r v ≡ false → c v ≡ false → w ≡ z → cond (near v) ((mem (item s.rows.items v) w && not (c w)) || (z == w)) (mem (item s.rows.items v) w) ≡ some (size g) (has_ends H v w)
-        to_base v w wv rv cv wz = go (near v) refl ∙ near_joined v wv rv cv ∙ ap (λ (x : ℕ). some (size g) (has_ends H v x)) (sym wz)
-          where
-            or_true : (b : Bool) → (b || true) ≡ true
-            or_true true = refl
-            or_true false = refl
-
-            go : (n : Bool) → near v ≡ n → cond n ((mem (item s.rows.items v) w && not (c w)) || (z == w)) (mem (item s.rows.items v) w) ≡ near v
-            go true q = ap (λ b. (mem (item s.rows.items v) w && not (c w)) || b) (eq-eqb z w (sym wz)) ∙ or_true (mem (item s.rows.items v) w && not (c w)) ∙ sym q
-            go false q = false_from_ne_true (mem (item s.rows.items v) w) (λ t. both_ways (near v) q (shrink.near_is.into v w (rows_in v wv) t (ap c wz ∙ cz))) ∙ sym q
+    touches : (d v w : ℕ) → Within (size g) d → HasEnds H d v w → Within g.order v → Within g.order w → rs v ≡ false → rs w ≡ false → v ≢ w → Touches h v w
+    touches d v w wd ends wv ww ov ow n = elim (cases_eq v z) [
+      | inl vz ↦
+          let nw : w ≢ z = λ q. n (vz ∙ sym q) in
+          let cw' = not_base w ow nw in
+          let u = edge_was w d cw' wd (turned H d z w (subst (λ (x : ℕ). HasEnds H d x w) vz ends)) in
+          let t = is.touched d u.0 w wd (turned g d w u.0 u.1) (cw u.0 u.2) ww (cr u.0 u.2) (out_parts w ow).0 (λ q. other w u.0 cw' u.2 (sym q)) in
+          (t.0, ap (λ (x : ℕ). mem (item h.rows.items x) t.0) vz ∙ (shrink.rows.own t.0).1 (u.0, u.2, t.1), ap (λ (xs : List ℕ). mem xs t.0) (members_kept w ww nw) ∙ t.2)
+      | inr nv ↦
+          let cv = not_base v ov nv in
+          elim (cases_eq w z) [
+            | inl wz ↦
+                let u = edge_was v d cv wd (subst (λ (x : ℕ). HasEnds H d v x) wz ends) in
+                let t = is.touched d v u.0 wd u.1 wv (cw u.0 u.2) (out_parts v ov).0 (cr u.0 u.2) (other v u.0 cv u.2) in
+                (t.0, ap (λ (xs : List ℕ). mem xs t.0) (row_kept v wv nv) ∙ t.1, ap (λ (x : ℕ). mem (item h.members.items x) t.0) wz ∙ (shrink.members.own t.0).1 (u.0, u.2, t.2))
+            | inr nw ↦
+                let t = is.touched d v w wd (edge_stays v w d cv (not_base w ow nw) wd ends) wv ww (out_parts v ov).0 (out_parts w ow).0 n in
+                (t.0, ap (λ (xs : List ℕ). mem xs t.0) (row_kept v wv nv) ∙ t.1, ap (λ (xs : List ℕ). mem xs t.0) (members_kept w ww nw) ∙ t.2)
+          ]
+    ]
 
     pub shrunk_instance : IsInstance H rs h
     shrunk_instance = record {
       graph = graph;
       few = is.few;
-      one_each = shrink.one_each ∙ is.one_each;
+      one_each = shrink.rows.one_each ∙ is.one_each;
+      members_each = shrink.members.one_each ∙ is.members_each;
       left = λ v. shrink.left v ∙ ap (λ b. b && not (c v && not (z == v))) (is.left v) ∙ go (nat_lt 0 v && nat_le v g.order) (r v) (c v) (z == v) (v == z) (same z v);
-      joined = λ v w wv ww ov ow d. shrunk_joined v w wv ww ov ow d ∙ ap (λ (n : ℕ). some n (has_ends H v w)) (sym pulls.same);
+      blossoms_in = λ v t. elim (or_cases (mem s.blossoms v && not (c v)) (z == v) (sym (shrink.blossoms v) ∙ t)) [
+        | inl q ↦ is.blossoms_in v (and_parts (mem s.blossoms v) (not (c v)) q).0
+        | inr q ↦ subst (Within g.order) (eqb-true z v q) (cw z cz)
+      ];
+      own = own_member;
+      single = alone;
+      joined = λ v w wv ww ov ow d t. let e = joins v w wv ww ov ow d t in (e.0, in_h e.0 e.1, e.2);
+      touched = λ d v w wd ends wv ww ov ow n. touches d v w (in_g d wd) ends wv ww ov ow n;
     }
       where
+        in_h : (d : ℕ) → Within (size g) d → Within (size H) d
+        in_h d w = let a = pulls.same in omega arith
+
+        in_g : (d : ℕ) → Within (size H) d → Within (size g) d
+        in_g d w = let a = pulls.same in omega arith
+
         same : (a b : ℕ) → (a == b) ≡ (b == a)
         same a b = elim (cases_eq a b) [ inl q ↦ eq-eqb a b q ∙ sym (eq-eqb b a (sym q)) | inr q ↦ ne_eqb a b q ∙ sym (ne_eqb b a (λ s. q (sym s))) ]
 

@@ -1,11 +1,11 @@
 -- How the code keeps an alternating forest: an inner vertex names its parent, and the way goes on from there by mates.
 use Rattle.std.specs.Prelude.{◌≢◌, ◌≡◌, ℕ, suc, ◌+◌, ◌≤◌, ◌==◌, ◌||◌, true, length, List, Some, None}
 use Rattle.counting.specs.Sets.{Set}
-use Rattle.counting.specs.Lists.{mem, item}
+use Rattle.counting.specs.Lists.{mem}
 use Rattle.graph_core.specs.Graph.{Graph}
 use Rattle.match_core.specs.Forests.{IsForest}
 use Rattle.match_core.specs.Mates.{HasMates, with_mate}
-use Rattle.match_core.specs.Instances.{IsInstance}
+use Rattle.match_core.specs.Instances.{IsInstance, Touches}
 use Rattle.match_core.specs.Rows.{numbers}
 use Rattle.match_core.specs.declared.instance.Instance.{Instance}
 use Rattle.match_core.specs.declared.alternating.AlternatingForest.{AlternatingForest}
@@ -46,7 +46,7 @@ pub record HasBranched (t h : AlternatingForest) (x y z : ℕ) : Type 0 where
 
 -- x is done: each neighbour of it that is left, but for itself, is inner
 abbrev pub IsDone : Instance → AlternatingForest → ℕ → Type 0
-IsDone s t x = (y : ℕ) → mem (item s.rows.items x) y ≡ true → mem s.left y ≡ true → x ≢ y → mem t.inner y ≡ true
+IsDone s t x = (y : ℕ) → Touches s x y → mem s.left y ≡ true → x ≢ y → mem t.inner y ≡ true
 
 -- two outer vertices of the forest, different ones, which an edge joins
 pub record IsClosingPair (s : Instance) (t : AlternatingForest) (o : Adjacent) : Type 0 where
@@ -54,7 +54,7 @@ pub record IsClosingPair (s : Instance) (t : AlternatingForest) (o : Adjacent) :
   pub w_outer : mem t.outer o.w ≡ true
   pub different : o.v ≢ o.w
   pub w_left : mem s.left o.w ≡ true
-  pub adjacent : mem (item s.rows.items o.v) o.w ≡ true
+  pub adjacent : Touches s o.v o.w
 
 -- a forest that has an edge between two outer vertices, or that no edge leaves
 pub record IsGrowth (g : Graph) (r f : Set) (s : Instance) (mate : List ℕ) (t : Growth) : Type 0 where

@@ -123,7 +123,7 @@ pub fn open(instance: &Instance, blossom: &Blossom, mate: &mut [u32])
         pair_round(mate, &blossom.ring, 1);
         return;
     }
-    let tip = place_in(instance.rows[outside as usize - 1], &blossom.ring);
+    let tip = place_in(instance.near(outside), &blossom.ring);
     expose(mate, base);
     join(mate, outside, blossom.ring[tip]);
     pair_round(mate, &blossom.ring, tip);

@@ -37,7 +37,7 @@ pub fn grow_forest(alloc: Global, instance: &Instance, mate: &[u32]) -> Result<G
     let mut forest = AlternatingForest::of_roots(alloc, n, exposed_in(n, instance.left, mate))?;
     let mut open = forest.outer;
     'growing: while let Some(x) = open.first() {
-        let near = instance.rows[x as usize - 1].meet(instance.left).without(x);
+        let near = instance.near(x).without(x);
         let reach = near.minus(forest.inner);
         if let Some(y) = reach.meet(forest.outer).first() {
             return Ok(Growth {

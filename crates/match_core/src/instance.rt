@@ -1,20 +1,26 @@
-//! A graph without its removed vertices as the search reads it: a row of neighbours for each vertex.
-ghost use Rattle.std.specs.Prelude.{◌≡◌, ◌≢◌, ℕ, ◌+◌, ◌-◌, ◌<◌, ◌≤◌, true, false, length, IfOk, cond, ◌==◌, ◌&&◌, not, ◌||◌};
+//! A graph without its removed vertices as the search reads it: a row of neighbours for each vertex. Shrinking a blossom takes
+//! two rows to be written: the neighbours and the members of the base. All others stay as they are, since a neighbour in a
+//! blossom is found by the blossom's members.
+ghost use Rattle.std.specs.Prelude.{◌≡◌, ◌≢◌, ℕ, ◌+◌, ◌-◌, ◌<◌, ◌≤◌, true, false, length, IfOk, ◌∷◌, [], ◌↔◌};
 ghost use Rattle.counting.specs.Counts.{Within};
+ghost use Rattle.counting.specs.Sets.{Set};
 ghost use Rattle.counting.specs.Lists.{mem, item};
 ghost use Rattle.graph_core.specs.Graph.{Graph, IsGraph};
 ghost use Rattle.graph_core.specs.Rows.{AreRows};
-ghost use Rattle.match_core.specs.Instances.{IsInstance};
-ghost use Rattle.match_core.specs.Shrinkings.{AreNear, IsShrinking, shrunk_row};
+ghost use Rattle.match_core.specs.Instances.{AreNear, IsInstance};
+ghost use Rattle.match_core.specs.Shrinkings.{IsGathered, IsShrinking, IsUnionOf};
 
 use std::alloc::{AllocError as Memory, Global};
 use vset_core::{MOST_VERTICES, VSet};
 
-/// The graph: for each vertex the set of its neighbours, and the vertices that are left. What the row of a removed vertex
-/// holds, and which removed vertices the other rows hold, means nothing.
+/// The graph: for each vertex its members, which are the vertices that became it by shrinkings, and the neighbours that these
+/// had before any shrinking; the vertices that a blossom was shrunk to; and the vertices that are left. What stands at a
+/// removed vertex, and which removed vertices the rows hold, means nothing.
 #[derive(Drop)]
 pub struct Instance {
     pub rows: Vec<VSet>,
+    pub members: Vec<VSet>,
+    pub blossoms: VSet,
     pub left: VSet,
 }
 
@@ -26,10 +32,26 @@ pub fn instance_of(alloc: Global, rows: &[VSet], removed: VSet) -> Result<Instan
 {
     let n = rows.len() as u32;
     let rows = rows.to_vec(alloc)?;
+    let members = singles(alloc, n)?;
     Ok(Instance {
         rows,
+        members,
+        blossoms: VSet::empty(),
         left: VSet::full(n).minus(removed),
     })
+}
+
+// For each vertex the set of it alone.
+fn singles(alloc: Global, n: u32) -> Result<Vec<VSet>, Memory>
+    requires { n ≤ MOST_VERTICES }
+    ensures one_each { IfOk result (λ rows. length rows.items ≡ n) }
+    ensures single { IfOk result (λ rows. (v : ℕ) → Within n v → item rows.items v ≡ v ∷ []) }
+{
+    let mut rows = Vec::with_capacity(alloc, n as usize)?;
+    for i in 0..n {
+        rows.push(VSet::one(i + 1))?;
+    }
+    Ok(rows)
 }
 
 // Whether two sets have a common member.
@@ -43,48 +65,38 @@ fn is_met(row: VSet, set: VSet) -> bool
     }
 }
 
-// The vertices whose rows hold a vertex of a set.
-fn neighbours_of(rows: &[VSet], set: VSet) -> VSet
-    requires { length rows.now ≤ MOST_VERTICES }
-    ensures { AreNear rows.now (mem set) (mem result) }
-{
-    let mut near = VSet::empty();
-    for i in 0..rows.len() {
-        if is_met(rows[i], set) {
-            near = near.with(i as u32 + 1);
+impl Instance {
+    /// The vertices that are left and adjacent to `v`, and maybe `v` itself.
+    pub fn near(&self, v: u32) -> VSet
+        requires vertex { Within (length self.now.rows.items) v }
+        requires instance { (g : Graph) × (r : Set) × IsInstance g r self.now }
+        ensures { AreNear self.now v result }
+    {
+        let row = self.rows[v as usize - 1];
+        let mut near = row;
+        let mut rest = self.blossoms;
+        'blossoms: while let Some((b, others)) = rest.split_first() {
+            rest = others;
+            if is_met(row, self.members[b as usize - 1]) {
+                near = near.with(b);
+            }
         }
-    }
-    near
-}
-
-// The row of vertex v after the shrinking of a ring to its base; `near` are the vertices that were near the ring.
-fn row_after(row: VSet, v: u32, ring: VSet, near: VSet, base: u32) -> VSet
-    requires v_in { Within MOST_VERTICES v }
-    requires base_in { Within MOST_VERTICES base }
-    ensures { (w : ℕ) → mem result w ≡ shrunk_row row (mem ring) (mem near) base v w }
-{
-    if v == base {
-        near.minus(ring)
-    } else if near.contains(v) {
-        row.minus(ring).with(base)
-    } else {
-        row
+        near.meet(self.left)
     }
 }
 
-/// The instance with a ring of vertices shrunk to its base: the base is now near all that the ring was near, and the other
-/// vertices of the ring are removed. The rows are the only memory that a shrinking asks for.
-pub fn shrink(alloc: Global, instance: &Instance, ring: VSet, base: u32) -> Result<Instance, Memory>
-    requires few { length instance.now.rows.items ≤ MOST_VERTICES }
-    requires base { Within MOST_VERTICES base }
-    ensures { IfOk result (λ h. IsShrinking instance.now (mem ring) base h) }
+// The union of the rows of the vertices of a set.
+fn union_of(rows: &[VSet], set: VSet) -> VSet
+    requires { (v : ℕ) → mem set v ≡ true → Within (length rows.now) v }
+    ensures { IsUnionOf rows.now (mem set) result }
 {
-    let near = neighbours_of(&instance.rows, ring);
-    let rows = rows_after(alloc, &instance.rows, ring, near, base)?;
-    Ok(Instance {
-        rows,
-        left: instance.left.minus(ring.without(base)),
-    })
+    let mut all = VSet::empty();
+    let mut rest = set;
+    'uniting: while let Some((v, others)) = rest.split_first() {
+        rest = others;
+        all = all.union(rows[v as usize - 1]);
+    }
+    all
 }
 
 fn write_row(rows: &mut [VSet], v: u32, row: VSet)
@@ -96,35 +108,30 @@ fn write_row(rows: &mut [VSet], v: u32, row: VSet)
     rows[v as usize - 1] = row;
 }
 
-// Writes the rows of all vertices after the shrinking.
-fn write_rows_after(shrunk: &mut [VSet], rows: &[VSet], ring: VSet, near: VSet, base: u32)
-    requires few { length rows.now ≤ MOST_VERTICES }
-    requires one_each { length shrunk.old ≡ length rows.now }
-    requires base { Within MOST_VERTICES base }
-    ensures { (v w : ℕ) → Within (length rows.now) v →
-        mem (item shrunk.new v) w ≡ shrunk_row (item rows.now v) (mem ring) (mem near) base v w }
+// The rows, that of the base as the union of those of the ring.
+fn gathered(alloc: Global, rows: &[VSet], ring: VSet, base: u32) -> Result<Vec<VSet>, Memory>
+    requires vertices { (v : ℕ) → mem ring v ≡ true → Within (length rows.now) v }
+    requires base { Within (length rows.now) base }
+    ensures { IfOk result (λ after. IsGathered rows.now (mem ring) base after.items) }
 {
-    for i in 0..rows.len() {
-        let v = i as u32 + 1;
-        write_row(shrunk, v, row_after(rows[i], v, ring, near, base));
-    }
+    let mut after = rows.to_vec(alloc)?;
+    write_row(&mut after, base, union_of(rows, ring));
+    Ok(after)
 }
 
-// The rows of all vertices after the shrinking.
-fn rows_after(
-    alloc: Global,
-    rows: &[VSet],
-    ring: VSet,
-    near: VSet,
-    base: u32,
-) -> Result<Vec<VSet>, Memory>
-    requires few { length rows.now ≤ MOST_VERTICES }
-    requires base { Within MOST_VERTICES base }
-    ensures one_each { IfOk result (λ shrunk. length shrunk.items ≡ length rows.now) }
-    ensures each { IfOk result (λ shrunk. (v w : ℕ) → Within (length rows.now) v →
-        mem (item shrunk.items v) w ≡ shrunk_row (item rows.now v) (mem ring) (mem near) base v w) }
+/// The instance with a ring of vertices shrunk to its base: the base has now the neighbours and the members of the ring, and
+/// the other vertices of the ring are removed. The rows are the only memory that a shrinking asks for.
+pub fn shrink(alloc: Global, instance: &Instance, ring: VSet, base: u32) -> Result<Instance, Memory>
+    requires few { length instance.now.rows.items ≤ MOST_VERTICES }
+    requires one_each { length instance.now.members.items ≡ length instance.now.rows.items }
+    requires vertices { (v : ℕ) → mem ring v ≡ true → Within (length instance.now.rows.items) v }
+    requires base { Within (length instance.now.rows.items) base }
+    ensures { IfOk result (λ h. IsShrinking instance.now (mem ring) base h) }
 {
-    let mut shrunk = vec![in alloc; VSet::empty(); rows.len()]?;
-    write_rows_after(&mut shrunk, rows, ring, near, base);
-    Ok(shrunk)
+    Ok(Instance {
+        rows: gathered(alloc, &instance.rows, ring, base)?,
+        members: gathered(alloc, &instance.members, ring, base)?,
+        blossoms: instance.blossoms.minus(ring).with(base),
+        left: instance.left.minus(ring.without(base)),
+    })
 }

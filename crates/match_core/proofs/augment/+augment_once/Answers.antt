@@ -1,8 +1,8 @@
-use Rattle.std.proofs.Common.{◌≡◌, ◌-◌, ◌∙◌, rules, arith, subst, length}
+use Rattle.std.proofs.Common.{◌≡◌, ◌-◌, ◌∙◌, sym, rules, arith, subst, length}
 use Rattle.std.proofs.lemmas.Grind.{get_or_default_zero}
 use Rattle.match_core.specs.Blossoms.{IsClosed, removed_with, without_blossom}
 use Rattle.match_core.specs.Rows.{numbers}
-use Rattle.match_core.proofs.BlossomSteps.{wz}
+use Rattle.match_core.proofs.BlossomSteps.{cw, wz}
 use Rattle.match_core.proofs.MateSteps.{below_holds, below_less, growth_closes, growth_final, may_open, step_completed}
 use Rattle.match_core.proofs.augment.+augment_once.Goals as goal
 
@@ -35,6 +35,13 @@ shrink-requires-clause-base t c =
     let base : c.index.result.now ≡ numbers c.in-Some-2.blossom.ring.items 1 = c.index.ensures ∙ get_or_default_zero c.in-Some-2.blossom.ring.items 1 c.index.result.now (omega arith) in
     let w = wz q.0 q.3.instance_is.graph q.1 q.2 held.m (length c.in-Some-2.blossom.ring.items - 1) (numbers c.in-Some-2.blossom.ring.items) held.edge held.opened in
     let few = q.3.instance_is.few in (omega arith, omega arith)
+
+pub shrink-requires-clause-vertices : goal.shrink-requires-clause-vertices
+shrink-requires-clause-vertices t c = λ v m.
+    let q = c.requires in
+    let held = subst (IsClosed q.0 q.1 q.2 c.close.new.mate) c.in-Some-2.is (c.in_ok-close-in-Some.ensures q.0 q.1 q.2 (c.in_ok-ways-in-Some.ensures q.0 q.1 q.2 (growth_closes q.0 q.1 q.2 c.args.instance.now c.args.mate.now q.3 c.in_ok-forest.field-0 c.in-Some.gap (c.in_ok-forest.ensures q.0 q.1 q.2 q.3) c.in-Some.is))) in
+    let w = cw q.0 q.3.instance_is.graph q.1 q.2 held.m (length c.in-Some-2.blossom.ring.items - 1) (numbers c.in-Some-2.blossom.ring.items) held.edge held.opened v (sym (held.members v) ∙ m) in
+    let each = q.3.instance_is.one_each in (w.0, omega arith)
 
 pub augment_once-requires : goal.augment_once-requires
 augment_once-requires t c =

@@ -1,11 +1,11 @@
 use Rattle.std.proofs.Common.{◌≡◌, ◌≢◌, ℕ, suc, ◌+◌, ◌-◌, ◌*◌, ◌<◌, ◌≤◌, Bool, true, false, ◌==◌, refl, sym, ap, ◌∙◌, arith, inl, inr, subst, length, List, [], None, Some, ◌&&◌, ◌||◌, not}
 use Rattle.std.proofs.lemmas.Bool.{both_ways, cases_Bool, cases_eq, and_parts, and_from, false_from_ne_true, or_cases, or_left, or_right}
-use Rattle.std.proofs.lemmas.List.{get_or_read}
 use Rattle.counting.specs.Counts.{count}
 use Rattle.counting.specs.Lists.{mem}
 use Rattle.match_core.specs.AlternatingForests.{IsDone, IsClosingPair}
 use Rattle.match_core.specs.declared.growing.Adjacent.{Adjacent}
-use Rattle.match_core.proofs.ParentForests.{branch_holds, branch_mate, left_parts, oz, roots_hold}
+use Rattle.match_core.proofs.Instances.{left_parts}
+use Rattle.match_core.proofs.ParentForests.{branch_holds, branch_mate, oz, roots_hold}
 use Rattle.match_core.proofs.Reaching.{branch_less, done_stays, drop_less, none_reached, pairs_few, reach_parts, unmet}
 use Rattle.match_core.specs.Rows.{numbers}
 use Rattle.match_core.proofs.growing.grow_forest.Goals as goal
@@ -26,8 +26,8 @@ growing-init c = record {
   done = λ x o n. absurd (both_ways (mem c.in_ok-forest.forest.outer x) n o);
 }
 
-pub index-requires : goal.index-requires
-index-requires c =
+pub near-requires-clause-vertex : goal.near-requires-clause-vertex
+near-requires-clause-vertex c =
     let q = c.requires in
     let h = c.growing.invariant.holds q.0 q.1 q.2 q.3 in
     let w = (h.forest.outer_in c.in-Some.x (c.growing.invariant.opens c.in-Some.x c.in-Some.ensures.some.member)).0 in
@@ -42,9 +42,8 @@ returns-in-Some-first c = λ g r f is. record {
       let ox = c.growing.invariant.opens c.in-Some.x c.in-Some.ensures.some.member in
       let w = (h.forest.outer_in c.in-Some.x ox).0 in
       let e = is.instance_is.one_each in
-      let row = get_or_read c.args.instance.now.rows.items (c.in-Some.x - 1) c.index.result.now (omega arith) c.index.ensures [] in
-      let m = and_parts (mem c.minus-reach.result c.in-Some-first.y) (mem c.growing.forest.outer c.in-Some-first.y) (sym (c.meet-in-Some.ensures c.in-Some-first.y) ∙ c.in-Some-first.ensures.some.member) in
-      let p = reach_parts c.args.instance.now c.growing.forest c.in-Some.x c.index.result.now c.meet.result c.without-near.result c.minus-reach.result row c.meet.ensures c.without-near.ensures c.minus-reach.ensures c.in-Some-first.y m.0 in
+      let m = and_parts (mem c.minus-reach.result c.in-Some-first.y) (mem c.growing.forest.outer c.in-Some-first.y) (sym (c.meet.ensures c.in-Some-first.y) ∙ c.in-Some-first.ensures.some.member) in
+      let p = reach_parts c.args.instance.now c.growing.forest c.in-Some.x c.near.result c.without-near.result c.minus-reach.result c.near.ensures c.without-near.ensures c.minus-reach.ensures c.in-Some-first.y m.0 in
       let here : Adjacent = record { v = c.in-Some.x; w = c.in-Some-first.y } in
       let same : here ≡ o = cc in
       subst (IsClosingPair c.args.instance.now c.growing.forest) same (record { v_outer = ox; w_outer = m.1; different = p.2; w_left = p.1; adjacent = p.0 });
@@ -69,9 +68,8 @@ growing-preserved-in-None c = record {
         let h = c.growing.invariant.holds q.0 q.1 q.2 q.3 in
         let w = (h.forest.outer_in c.in-Some.x (c.growing.invariant.opens c.in-Some.x c.in-Some.ensures.some.member)).0 in
         let e = q.3.instance_is.one_each in
-        let row = get_or_read c.args.instance.now.rows.items (c.in-Some.x - 1) c.index.result.now (omega arith) c.index.ensures [] in
         subst (λ (v : ℕ). IsDone c.args.instance.now c.growing.forest v) same
-        (none_reached c.args.instance.now c.growing.forest c.in-Some.x c.index.result.now c.meet.result c.without-near.result c.minus-reach.result row c.meet.ensures c.without-near.ensures c.minus-reach.ensures c.in-None.ensures.none)
+        (none_reached c.args.instance.now c.growing.forest c.in-Some.x c.near.result c.without-near.result c.minus-reach.result c.near.ensures c.without-near.ensures c.minus-reach.ensures c.in-None.ensures.none)
     | inr other ↦ c.growing.invariant.done v o (false_from_ne_true (mem c.growing.«open» v) (λ t. both_ways (mem c.without-open.result v) n (c.without-open.ensures v ∙ and_from (mem c.growing.«open» v) (not (c.in-Some.x == v)) t (ap not (Rattle.std.proofs.Common.ne_eqb c.in-Some.x v other)))))
   ];
 }
@@ -83,10 +81,9 @@ bounds-mate-y c =
     let ox = c.growing.invariant.opens c.in-Some.x c.in-Some.ensures.some.member in
     let w = (h.forest.outer_in c.in-Some.x ox).0 in
     let e = q.3.instance_is.one_each in
-    let row = get_or_read c.args.instance.now.rows.items (c.in-Some.x - 1) c.index.result.now (omega arith) c.index.ensures [] in
     let reached = c.in-Some-first-2.ensures.some.member in
-    let p = reach_parts c.args.instance.now c.growing.forest c.in-Some.x c.index.result.now c.meet.result c.without-near.result c.minus-reach.result row c.meet.ensures c.without-near.ensures c.minus-reach.ensures c.in-Some-first-2.y reached in
-    let oy = unmet c.minus-reach.result c.growing.forest.outer c.meet-in-Some.result c.in-Some-first-2.y c.meet-in-Some.ensures c.in_default-first.ensures.none reached in
+    let p = reach_parts c.args.instance.now c.growing.forest c.in-Some.x c.near.result c.without-near.result c.minus-reach.result c.near.ensures c.without-near.ensures c.minus-reach.ensures c.in-Some-first-2.y reached in
+    let oy = unmet c.minus-reach.result c.growing.forest.outer c.meet.result c.in-Some-first-2.y c.meet.ensures c.in_default-first.ensures.none reached in
     let wy = (left_parts q.0 q.1 c.args.instance.now q.3.instance_is c.in-Some-first-2.y p.1).0 in
     let z = branch_mate q.0 q.1 q.2 c.args.instance.now c.args.mate.now q.3 c.growing.forest h c.in-Some.x c.in-Some-first-2.y ox p.0 p.1 p.2 oy p.3 in
     let few = q.3.instance_is.few in
@@ -99,10 +96,9 @@ branch-forest-requires-in-Some-first-2-clause-x_in c =
     let ox = c.growing.invariant.opens c.in-Some.x c.in-Some.ensures.some.member in
     let w = (h.forest.outer_in c.in-Some.x ox).0 in
     let e = q.3.instance_is.one_each in
-    let row = get_or_read c.args.instance.now.rows.items (c.in-Some.x - 1) c.index.result.now (omega arith) c.index.ensures [] in
     let reached = c.in-Some-first-2.ensures.some.member in
-    let p = reach_parts c.args.instance.now c.growing.forest c.in-Some.x c.index.result.now c.meet.result c.without-near.result c.minus-reach.result row c.meet.ensures c.without-near.ensures c.minus-reach.ensures c.in-Some-first-2.y reached in
-    let oy = unmet c.minus-reach.result c.growing.forest.outer c.meet-in-Some.result c.in-Some-first-2.y c.meet-in-Some.ensures c.in_default-first.ensures.none reached in
+    let p = reach_parts c.args.instance.now c.growing.forest c.in-Some.x c.near.result c.without-near.result c.minus-reach.result c.near.ensures c.without-near.ensures c.minus-reach.ensures c.in-Some-first-2.y reached in
+    let oy = unmet c.minus-reach.result c.growing.forest.outer c.meet.result c.in-Some-first-2.y c.meet.ensures c.in_default-first.ensures.none reached in
     let wy = (left_parts q.0 q.1 c.args.instance.now q.3.instance_is c.in-Some-first-2.y p.1).0 in
     let z = branch_mate q.0 q.1 q.2 c.args.instance.now c.args.mate.now q.3 c.growing.forest h c.in-Some.x c.in-Some-first-2.y ox p.0 p.1 p.2 oy p.3 in
     let few = q.3.instance_is.few in
@@ -115,10 +111,9 @@ branch-forest-requires-in-Some-first-2-clause-y_in c =
     let ox = c.growing.invariant.opens c.in-Some.x c.in-Some.ensures.some.member in
     let w = (h.forest.outer_in c.in-Some.x ox).0 in
     let e = q.3.instance_is.one_each in
-    let row = get_or_read c.args.instance.now.rows.items (c.in-Some.x - 1) c.index.result.now (omega arith) c.index.ensures [] in
     let reached = c.in-Some-first-2.ensures.some.member in
-    let p = reach_parts c.args.instance.now c.growing.forest c.in-Some.x c.index.result.now c.meet.result c.without-near.result c.minus-reach.result row c.meet.ensures c.without-near.ensures c.minus-reach.ensures c.in-Some-first-2.y reached in
-    let oy = unmet c.minus-reach.result c.growing.forest.outer c.meet-in-Some.result c.in-Some-first-2.y c.meet-in-Some.ensures c.in_default-first.ensures.none reached in
+    let p = reach_parts c.args.instance.now c.growing.forest c.in-Some.x c.near.result c.without-near.result c.minus-reach.result c.near.ensures c.without-near.ensures c.minus-reach.ensures c.in-Some-first-2.y reached in
+    let oy = unmet c.minus-reach.result c.growing.forest.outer c.meet.result c.in-Some-first-2.y c.meet.ensures c.in_default-first.ensures.none reached in
     let wy = (left_parts q.0 q.1 c.args.instance.now q.3.instance_is c.in-Some-first-2.y p.1).0 in
     let z = branch_mate q.0 q.1 q.2 c.args.instance.now c.args.mate.now q.3 c.growing.forest h c.in-Some.x c.in-Some-first-2.y ox p.0 p.1 p.2 oy p.3 in
     let few = q.3.instance_is.few in
@@ -131,10 +126,9 @@ branch-forest-requires-in-Some-first-2-clause-z_in c =
     let ox = c.growing.invariant.opens c.in-Some.x c.in-Some.ensures.some.member in
     let w = (h.forest.outer_in c.in-Some.x ox).0 in
     let e = q.3.instance_is.one_each in
-    let row = get_or_read c.args.instance.now.rows.items (c.in-Some.x - 1) c.index.result.now (omega arith) c.index.ensures [] in
     let reached = c.in-Some-first-2.ensures.some.member in
-    let p = reach_parts c.args.instance.now c.growing.forest c.in-Some.x c.index.result.now c.meet.result c.without-near.result c.minus-reach.result row c.meet.ensures c.without-near.ensures c.minus-reach.ensures c.in-Some-first-2.y reached in
-    let oy = unmet c.minus-reach.result c.growing.forest.outer c.meet-in-Some.result c.in-Some-first-2.y c.meet-in-Some.ensures c.in_default-first.ensures.none reached in
+    let p = reach_parts c.args.instance.now c.growing.forest c.in-Some.x c.near.result c.without-near.result c.minus-reach.result c.near.ensures c.without-near.ensures c.minus-reach.ensures c.in-Some-first-2.y reached in
+    let oy = unmet c.minus-reach.result c.growing.forest.outer c.meet.result c.in-Some-first-2.y c.meet.ensures c.in_default-first.ensures.none reached in
     let wy = (left_parts q.0 q.1 c.args.instance.now q.3.instance_is c.in-Some-first-2.y p.1).0 in
     let z = branch_mate q.0 q.1 q.2 c.args.instance.now c.args.mate.now q.3 c.growing.forest h c.in-Some.x c.in-Some-first-2.y ox p.0 p.1 p.2 oy p.3 in
     let few = q.3.instance_is.few in
@@ -147,10 +141,9 @@ branch-forest-requires-in-Some-first-2-clause-z_vertex c =
     let ox = c.growing.invariant.opens c.in-Some.x c.in-Some.ensures.some.member in
     let w = (h.forest.outer_in c.in-Some.x ox).0 in
     let e = q.3.instance_is.one_each in
-    let row = get_or_read c.args.instance.now.rows.items (c.in-Some.x - 1) c.index.result.now (omega arith) c.index.ensures [] in
     let reached = c.in-Some-first-2.ensures.some.member in
-    let p = reach_parts c.args.instance.now c.growing.forest c.in-Some.x c.index.result.now c.meet.result c.without-near.result c.minus-reach.result row c.meet.ensures c.without-near.ensures c.minus-reach.ensures c.in-Some-first-2.y reached in
-    let oy = unmet c.minus-reach.result c.growing.forest.outer c.meet-in-Some.result c.in-Some-first-2.y c.meet-in-Some.ensures c.in_default-first.ensures.none reached in
+    let p = reach_parts c.args.instance.now c.growing.forest c.in-Some.x c.near.result c.without-near.result c.minus-reach.result c.near.ensures c.without-near.ensures c.minus-reach.ensures c.in-Some-first-2.y reached in
+    let oy = unmet c.minus-reach.result c.growing.forest.outer c.meet.result c.in-Some-first-2.y c.meet.ensures c.in_default-first.ensures.none reached in
     let wy = (left_parts q.0 q.1 c.args.instance.now q.3.instance_is c.in-Some-first-2.y p.1).0 in
     let z = branch_mate q.0 q.1 q.2 c.args.instance.now c.args.mate.now q.3 c.growing.forest h c.in-Some.x c.in-Some-first-2.y ox p.0 p.1 p.2 oy p.3 in
     let few = q.3.instance_is.few in
@@ -163,10 +156,9 @@ branch-forest-requires-in-Some-first-2-clause-shallow c =
     let ox = c.growing.invariant.opens c.in-Some.x c.in-Some.ensures.some.member in
     let w = (h.forest.outer_in c.in-Some.x ox).0 in
     let e = q.3.instance_is.one_each in
-    let row = get_or_read c.args.instance.now.rows.items (c.in-Some.x - 1) c.index.result.now (omega arith) c.index.ensures [] in
     let reached = c.in-Some-first-2.ensures.some.member in
-    let p = reach_parts c.args.instance.now c.growing.forest c.in-Some.x c.index.result.now c.meet.result c.without-near.result c.minus-reach.result row c.meet.ensures c.without-near.ensures c.minus-reach.ensures c.in-Some-first-2.y reached in
-    let oy = unmet c.minus-reach.result c.growing.forest.outer c.meet-in-Some.result c.in-Some-first-2.y c.meet-in-Some.ensures c.in_default-first.ensures.none reached in
+    let p = reach_parts c.args.instance.now c.growing.forest c.in-Some.x c.near.result c.without-near.result c.minus-reach.result c.near.ensures c.without-near.ensures c.minus-reach.ensures c.in-Some-first-2.y reached in
+    let oy = unmet c.minus-reach.result c.growing.forest.outer c.meet.result c.in-Some-first-2.y c.meet.ensures c.in_default-first.ensures.none reached in
     let wy = (left_parts q.0 q.1 c.args.instance.now q.3.instance_is c.in-Some-first-2.y p.1).0 in
     let z = branch_mate q.0 q.1 q.2 c.args.instance.now c.args.mate.now q.3 c.growing.forest h c.in-Some.x c.in-Some-first-2.y ox p.0 p.1 p.2 oy p.3 in
     let few = q.3.instance_is.few in
@@ -179,10 +171,9 @@ with-open-requires c =
     let ox = c.growing.invariant.opens c.in-Some.x c.in-Some.ensures.some.member in
     let w = (h.forest.outer_in c.in-Some.x ox).0 in
     let e = q.3.instance_is.one_each in
-    let row = get_or_read c.args.instance.now.rows.items (c.in-Some.x - 1) c.index.result.now (omega arith) c.index.ensures [] in
     let reached = c.in-Some-first-2.ensures.some.member in
-    let p = reach_parts c.args.instance.now c.growing.forest c.in-Some.x c.index.result.now c.meet.result c.without-near.result c.minus-reach.result row c.meet.ensures c.without-near.ensures c.minus-reach.ensures c.in-Some-first-2.y reached in
-    let oy = unmet c.minus-reach.result c.growing.forest.outer c.meet-in-Some.result c.in-Some-first-2.y c.meet-in-Some.ensures c.in_default-first.ensures.none reached in
+    let p = reach_parts c.args.instance.now c.growing.forest c.in-Some.x c.near.result c.without-near.result c.minus-reach.result c.near.ensures c.without-near.ensures c.minus-reach.ensures c.in-Some-first-2.y reached in
+    let oy = unmet c.minus-reach.result c.growing.forest.outer c.meet.result c.in-Some-first-2.y c.meet.ensures c.in_default-first.ensures.none reached in
     let wy = (left_parts q.0 q.1 c.args.instance.now q.3.instance_is c.in-Some-first-2.y p.1).0 in
     let z = branch_mate q.0 q.1 q.2 c.args.instance.now c.args.mate.now q.3 c.growing.forest h c.in-Some.x c.in-Some-first-2.y ox p.0 p.1 p.2 oy p.3 in
     let few = q.3.instance_is.few in
@@ -195,10 +186,9 @@ growing-smaller c =
     let ox = c.growing.invariant.opens c.in-Some.x c.in-Some.ensures.some.member in
     let w = (h.forest.outer_in c.in-Some.x ox).0 in
     let e = q.3.instance_is.one_each in
-    let row = get_or_read c.args.instance.now.rows.items (c.in-Some.x - 1) c.index.result.now (omega arith) c.index.ensures [] in
     let reached = c.in-Some-first-2.ensures.some.member in
-    let p = reach_parts c.args.instance.now c.growing.forest c.in-Some.x c.index.result.now c.meet.result c.without-near.result c.minus-reach.result row c.meet.ensures c.without-near.ensures c.minus-reach.ensures c.in-Some-first-2.y reached in
-    let oy = unmet c.minus-reach.result c.growing.forest.outer c.meet-in-Some.result c.in-Some-first-2.y c.meet-in-Some.ensures c.in_default-first.ensures.none reached in
+    let p = reach_parts c.args.instance.now c.growing.forest c.in-Some.x c.near.result c.without-near.result c.minus-reach.result c.near.ensures c.without-near.ensures c.minus-reach.ensures c.in-Some-first-2.y reached in
+    let oy = unmet c.minus-reach.result c.growing.forest.outer c.meet.result c.in-Some-first-2.y c.meet.ensures c.in_default-first.ensures.none reached in
     let wy = (left_parts q.0 q.1 c.args.instance.now q.3.instance_is c.in-Some-first-2.y p.1).0 in
     let z = branch_mate q.0 q.1 q.2 c.args.instance.now c.args.mate.now q.3 c.growing.forest h c.in-Some.x c.in-Some-first-2.y ox p.0 p.1 p.2 oy p.3 in
     let few = q.3.instance_is.few in
@@ -213,9 +203,8 @@ growing-preserved c = record {
       let h = c.growing.invariant.holds g r f is in
       let w = (h.forest.outer_in c.in-Some.x ox).0 in
       let e = is.instance_is.one_each in
-      let row = get_or_read c.args.instance.now.rows.items (c.in-Some.x - 1) c.index.result.now (omega arith) c.index.ensures [] in
-      let p = reach_parts c.args.instance.now c.growing.forest c.in-Some.x c.index.result.now c.meet.result c.without-near.result c.minus-reach.result row c.meet.ensures c.without-near.ensures c.minus-reach.ensures c.in-Some-first-2.y reached in
-      let oy = unmet c.minus-reach.result c.growing.forest.outer c.meet-in-Some.result c.in-Some-first-2.y c.meet-in-Some.ensures c.in_default-first.ensures.none reached in
+      let p = reach_parts c.args.instance.now c.growing.forest c.in-Some.x c.near.result c.without-near.result c.minus-reach.result c.near.ensures c.without-near.ensures c.minus-reach.ensures c.in-Some-first-2.y reached in
+      let oy = unmet c.minus-reach.result c.growing.forest.outer c.meet.result c.in-Some-first-2.y c.meet.ensures c.in_default-first.ensures.none reached in
       branch_holds g r f c.args.instance.now c.args.mate.now is c.growing.forest h c.in-Some.x c.in-Some-first-2.y ox p.0 p.1 p.2 oy p.3 c.branch-forest-in-Some-first-2.new.self c.branch-forest-in-Some-first-2.ensures;
   opens = λ v o. elim (or_cases (mem c.growing.«open» v) (numbers c.args.mate.now c.in-Some-first-2.y == v) (sym (c.with-open.ensures v) ∙ o)) [
     | inl t ↦ c.branch-forest-in-Some-first-2.ensures.outer v ∙ or_left (mem c.growing.forest.outer v) (numbers c.args.mate.now c.in-Some-first-2.y == v) (c.growing.invariant.opens v t)
