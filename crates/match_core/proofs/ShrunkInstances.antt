@@ -11,8 +11,8 @@ use Rattle.counting.specs.Tests.{some}
 use Rattle.counting.specs.Lists.{mem, item}
 use Rattle.graph_core.proofs.Adjacency.{has_ends-from}
 use Rattle.graph_core.proofs.Walks.{has_ends-cases}
-use Rattle.graph_core.specs.Graph.{Graph, HasEnds, IsGraph, first_end, has_ends, second_end, size}
-use Rattle.match_core.specs.Frames.{IsShrunk, shrunk_removed, shrunk_vertex, with_ends}
+use Rattle.graph_core.specs.Graph.{Graph, HasEnds, IsGraph, first_end, has_ends, second_end, size, with_ends}
+use Rattle.match_core.specs.Frames.{IsShrunk, shrunk_removed, shrunk_vertex}
 use Rattle.match_core.specs.Instances.{IsInstance}
 use Rattle.match_core.specs.Shrinkings.{IsShrinking}
 use Rattle.match_core.specs.declared.instance.Instance.{Instance}
