@@ -1,5 +1,5 @@
 -- Sets as rising lists of numbers, and lists of pairs in lexicographic order.
-use Rattle.std.specs.Prelude.{◌≡◌, ℕ, zero, suc, ◌+◌, ◌-◌, ◌<◌, Bool, true, false, List, [], ◌∷◌, ◌++◌, ◌==◌, ◌&&◌, ◌||◌, cond, map, flat_map, slice_index_or, nat_lt, All}
+use Rattle.std.specs.Prelude.{◌≡◌, ◌⊎◌, ℕ, zero, suc, ◌+◌, ◌-◌, ◌<◌, Bool, true, false, List, [], ◌∷◌, ◌++◌, ◌==◌, ◌&&◌, ◌||◌, cond, map, flat_map, slice_index_or, nat_lt, All}
 use Rattle.std.specs.List.Sorted.{IsStrictlyIncreasing}
 use Rattle.counting.specs.Counts.{Within, bit}
 use Rattle.counting.specs.Sets.{Set, minus, everything}
@@ -8,6 +8,11 @@ use Rattle.counting.specs.Sets.{Set, minus, everything}
 abbrev pub mem : List ℕ → Set
 mem [] v = false
 mem (x ∷ xs) v = (x == v) || mem xs v
+
+-- x is in the list, whatever its items are
+abbrev pub IsIn : {A : Type 0} → A → List A → Type 0
+IsIn x [] = ⊥
+IsIn x (y ∷ ys) = (x ≡ y) ⊎ IsIn x ys
 
 -- how often v stands in the list
 abbrev pub times : List ℕ → ℕ → ℕ

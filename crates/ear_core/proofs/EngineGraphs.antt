@@ -10,12 +10,11 @@ use Rattle.counting.specs.Sets.{Set, union, put, pair_set, complement}
 use Rattle.counting.specs.Tests.{some}
 use Rattle.ear_core.proofs.Growth.{some-met, unmet, degree_le}
 use Rattle.ear_core.specs.StageGraphs.{listed}
-use Rattle.two_ears.specs.AddedEdges.{over}
 use Rattle.two_ears.proofs.AddedEdges.{size-added, degree-added}
 use Rattle.ear_core.specs.Stages.{is_met, IsPerfectOff, IsPerfectOf}
 use Rattle.graph_core.proofs.Decide.{degree_congr}
 use Rattle.graph_core.proofs.Edits.{ends_of, ends_le_degree, degree_put}
-use Rattle.graph_core.specs.Graph.{Graph, size, first_end, second_end, degree, IsGraph}
+use Rattle.graph_core.specs.Graph.{Graph, size, first_end, second_end, degree, IsGraph, with_ends}
 use Rattle.graph_core.specs.Matchings.{IsPerfect, HasPerfect}
 
 pub ends-met : (g : Graph) (f : Set) (e : ℕ) → Within (size g) e → f e ≡ true → (is_met g f (first_end g e) ≡ true) × (is_met g f (second_end g e) ≡ true)
@@ -40,7 +39,7 @@ abbrev pub by_rank : Set → Set → Set
 by_rank f m e = f e && m (count e f)
 
 -- the degree by rank, for the first k edges
-pub listed_degree : (g : Graph) (f m : Set) (v k : ℕ) → degree (over g (listed g f k)) m v ≡ count k (λ e. by_rank f m e && (first_end g e == v)) + count k (λ e. by_rank f m e && (second_end g e == v))
+pub listed_degree : (g : Graph) (f m : Set) (v k : ℕ) → degree (with_ends g (listed g f k)) m v ≡ count k (λ e. by_rank f m e && (first_end g e == v)) + count k (λ e. by_rank f m e && (second_end g e == v))
 listed_degree g f m v zero = refl
 listed_degree g f m v (suc k) = go (f (suc k)) refl (listed_degree g f m v k)
   where
@@ -48,8 +47,8 @@ listed_degree g f m v (suc k) = go (f (suc k)) refl (listed_degree g f m v k)
     bits true y = omega arith
     bits false y = omega arith
 
-    go : (b : Bool) → f (suc k) ≡ b → degree (over g (listed g f k)) m v ≡ count k (λ e. by_rank f m e && (first_end g e == v)) + count k (λ e. by_rank f m e && (second_end g e == v)) →
-        degree (over g (cond b (listed g f k ++ ((first_end g (suc k), second_end g (suc k)) ∷ [])) (listed g f k))) m v
+    go : (b : Bool) → f (suc k) ≡ b → degree (with_ends g (listed g f k)) m v ≡ count k (λ e. by_rank f m e && (first_end g e == v)) + count k (λ e. by_rank f m e && (second_end g e == v)) →
+        degree (with_ends g (cond b (listed g f k ++ ((first_end g (suc k), second_end g (suc k)) ∷ [])) (listed g f k))) m v
         ≡ (count k (λ e. by_rank f m e && (first_end g e == v)) + bit ((b && m (count k f + bit b)) && (first_end g (suc k) == v))) + (count k (λ e. by_rank f m e && (second_end g e == v)) + bit ((b && m (count k f + bit b)) && (second_end g (suc k) == v)))
     go true q e =
         let d = degree-added g (listed g f k) (first_end g (suc k), second_end g (suc k)) m v in
@@ -61,7 +60,7 @@ listed_degree g f m v (suc k) = go (f (suc k)) refl (listed_degree g f m v k)
 
 module _ (g : Graph) (f r : Set) where
   abbrev kf : Graph
-  kf = over g (listed g f (size g))
+  kf = with_ends g (listed g f (size g))
 
   abbrev out : Set
   out = union (complement (is_met g f)) r

@@ -21,7 +21,8 @@ use Rattle.graph_core.specs.Graph.{Graph, IsGraph, degree, first_end, has_ends, 
 use Rattle.graph_core.specs.Matchings.{IsPerfect}
 use Rattle.graph_core.specs.Walks.{Joined, Walk}
 use Rattle.two_ears.proofs.TwoEars.{two_ears}
-use Rattle.two_ears.specs.VertexPairs.{AreDisjoint, IsIn, in_pairs, pairs_at, vertices_of}
+use Rattle.counting.specs.Lists.{IsIn}
+use Rattle.two_ears.specs.VertexPairs.{AreDisjoint, in_pairs, pairs_at, vertices_of}
 
 -- the values of f at 1 to n
 abbrev pub tab : ℕ → (ℕ → ℕ × ℕ) → List (ℕ × ℕ)

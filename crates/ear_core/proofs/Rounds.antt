@@ -5,13 +5,13 @@ use Rattle.std.proofs.Common.{◌≡◌, ℕ, suc, zero, ◌+◌, ◌≤◌, Boo
 use Rattle.std.proofs.lemmas.Bool.{cases_eq, cases_Bool, and_parts, and_from, both_ways, true≢false, false_from_ne_true, not-true, not-false, or_left, or_right, or_parts, or_cases}
 use Rattle.counting.proofs.Lists.{times_mem}
 use Rattle.counting.specs.Counts.{bit, Within}
-use Rattle.counting.specs.Lists.{mem, times}
+use Rattle.counting.specs.Lists.{mem, times, IsIn}
 use Rattle.counting.specs.Sets.{Set, none}
 use Rattle.graph_core.proofs.Edits.{ends_of, edge_at, ends_le_degree}
 use Rattle.graph_core.specs.Graph.{Graph, size, first_end, second_end, degree}
 use Rattle.graph_core.specs.Matchings.{IsPerfect}
 use Rattle.two_ears.specs.VertexPairs.{pairs_at, in_pairs}
-use Rattle.ear_core.specs.AlternatingEars.{mate, IsAlternating, IsClear, HoldsMates, IsMatedEar, IsAmong, ends_of_ears, AreMatedEars, is_left, AreCandidates}
+use Rattle.ear_core.specs.AlternatingEars.{mate, IsAlternating, IsClear, HoldsMates, IsMatedEar, ends_of_ears, AreMatedEars, is_left, AreCandidates}
 use Rattle.ear_core.specs.EarLists.{PlainEar}
 use Rattle.ear_core.specs.Ears.{trail, last_vertex}
 use Rattle.ear_core.specs.Stages.{is_met, IsPerfectOff}
@@ -126,7 +126,7 @@ module _ (g : Graph) (f : Set) (m n : ℕ → ℕ) where
       ]
 
   -- m leads out of f from each end of an ear
-  ends-lead : (ears : List PlainEar) → ((a : PlainEar) → IsAmong a ears → IsMatedEar g f m n a) → (w : ℕ) → 1 ≤ pairs_at (ends_of_ears g ears) w → f (m w) ≡ false
+  ends-lead : (ears : List PlainEar) → ((a : PlainEar) → IsIn a ears → IsMatedEar g f m n a) → (w : ℕ) → 1 ≤ pairs_at (ends_of_ears g ears) w → f (m w) ≡ false
   ends-lead [] h w l = absurd (omega arith)
   ends-lead (a ∷ ears) h w l = let x = h a (inl refl) in elim (cases_eq a.begin w) [
     | inl i ↦ ap (λ k. f (m k)) (sym i) ∙ x.leaves

@@ -4,14 +4,13 @@ use Rattle.std.proofs.Common.{◌≡◌, ℕ, ◌+◌, ◌≤◌, Bool, true, fa
 use Rattle.std.specs.List.{AllByRecursion}
 use Rattle.counting.proofs.RisingLists.{mem-item}
 use Rattle.counting.specs.Counts.{bit, Within}
-use Rattle.counting.specs.Lists.{mem}
+use Rattle.counting.specs.Lists.{mem, IsIn}
 use Rattle.counting.specs.Sets.{Set, union, complement}
 use Rattle.barrier_kit.proofs.Matched.{perfect_congr}
-use Rattle.graph_core.specs.Graph.{Graph, size, IsGraph}
+use Rattle.graph_core.specs.Graph.{Graph, size, IsGraph, with_ends}
 use Rattle.graph_core.specs.Matchings.{HasPerfect}
-use Rattle.two_ears.specs.AddedEdges.{over}
 use Rattle.two_ears.specs.VertexPairs.{pairs_at}
-use Rattle.ear_core.specs.AlternatingEars.{IsAmong, AreCandidates, Serves, ends_of_ear, ends_of_ears, IsChosen}
+use Rattle.ear_core.specs.AlternatingEars.{AreCandidates, Serves, ends_of_ear, ends_of_ears, IsChosen}
 use Rattle.ear_core.specs.Asking.{IsAsked, IsBefore, FindsOne, FindsWith, FindsTwo, NoneServes, NoneServesWith, NoTwoServe}
 use Rattle.ear_core.specs.EarLists.{PlainEar, PlainStep, one, two, FitsEar, IsStep, next_stage}
 use Rattle.ear_core.specs.Ears.{last_vertex, trail, IsEar}
@@ -28,7 +27,7 @@ use Rattle.ear_core.proofs.ServingPairs.{apart-pair, serving-one, serving-two, s
 pub asked-serves : (g : Graph) (f : Set) (asked : Asked) → IsAsked g f asked → (ends removed : List ℕ) → ((v : ℕ) → mem removed v ≡ (mem asked.outside v || mem ends v)) → HasPerfect asked.stage (mem removed) ↔ Serves g f (mem ends)
 asked-serves g f asked is ends removed joined =
     let listed_serves = served_listed g f (mem ends) in
-    let h = over g (listed g f (size g)) in
+    let h = with_ends g (listed g f (size g)) in
     let x = union (complement (is_met g f)) (mem ends) in
     let same : (v : ℕ) → Within g.order v → mem removed v ≡ x v = λ v w. joined v ∙ ap (λ b. b || mem ends v) (is.outside v w) in (
       λ m. let k : HasPerfect h (mem removed) = subst (λ (s : Graph). HasPerfect s (mem removed)) is.stage m in listed_serves.1 (k.0, perfect_congr h (mem removed) x k.0 same k.1),
@@ -61,7 +60,7 @@ module _ (g : Graph) (f : Set) (a : PlainEar) (ears others : List PlainEar) (beg
   one-later s found = one-found s (found.0, inr found.1, found.2, found.3)
 
   pub none-later : (Serves g f (ends_of_ear g a) → ⊥) → NoneServes g f others → NoneServes g f ears
-  none-later here later b i q = elim (subst (IsAmong b) begins i) [
+  none-later here later b i q = elim (subst (IsIn b) begins i) [
     | inl e ↦ here (subst (λ (c : PlainEar). Serves g f (ends_of_ear g c)) e q)
     | inr j ↦ later b j q
   ]
@@ -73,7 +72,7 @@ module _ (g : Graph) (f : Set) (a : PlainEar) (ears others : List PlainEar) (beg
   with-later x s found = subst (λ (xs : List PlainEar). FindsWith g f x xs s) (sym begins) (found.0, inr found.1, found.2, found.3)
 
   pub none-with-later : (x : PlainEar) → (Serves g f (union (ends_of_ear g x) (ends_of_ear g a)) → ⊥) → NoneServesWith g f x others → NoneServesWith g f x ears
-  none-with-later x here later b i q = elim (subst (IsAmong b) begins i) [
+  none-with-later x here later b i q = elim (subst (IsIn b) begins i) [
     | inl e ↦ here (subst (λ (c : PlainEar). Serves g f (union (ends_of_ear g x) (ends_of_ear g c))) e q)
     | inr j ↦ later b j q
   ]
@@ -85,7 +84,7 @@ module _ (g : Graph) (f : Set) (a : PlainEar) (ears others : List PlainEar) (beg
   ]
 
 -- two ears of a list are one, or one stands before the other
-ordered : (a b : PlainEar) (ears : List PlainEar) → IsAmong a ears → IsAmong b ears → (a ≡ b) ⊎ (IsBefore a b ears ⊎ IsBefore b a ears)
+ordered : (a b : PlainEar) (ears : List PlainEar) → IsIn a ears → IsIn b ears → (a ≡ b) ⊎ (IsBefore a b ears ⊎ IsBefore b a ears)
 ordered a b [] i j = absurd i
 ordered a b (c ∷ ears) i j = elim i [
   | inl x ↦ elim j [ inl y ↦ inl (x ∙ sym y) | inr y ↦ inr (inl (inl (x, y))) ]
@@ -95,12 +94,12 @@ ordered a b (c ∷ ears) i j = elim i [
   ]
 ]
 
-before-among : (a b : PlainEar) (ears : List PlainEar) → IsBefore a b ears → IsAmong a ears × IsAmong b ears
+before-among : (a b : PlainEar) (ears : List PlainEar) → IsBefore a b ears → IsIn a ears × IsIn b ears
 before-among a b [] i = absurd i
 before-among a b (c ∷ ears) i = elim i [ inl p ↦ (inl p.0, inr p.1) | inr j ↦ let r = before-among a b ears j in (inr r.0, inr r.1) ]
 
 -- the ends of an ear of the list are counted
-ends-among : (g : Graph) (a : PlainEar) (ears : List PlainEar) (w : ℕ) → IsAmong a ears → bit (a.begin == w) + bit (last_vertex g a.begin a.edges == w) ≤ pairs_at (ends_of_ears g ears) w
+ends-among : (g : Graph) (a : PlainEar) (ears : List PlainEar) (w : ℕ) → IsIn a ears → bit (a.begin == w) + bit (last_vertex g a.begin a.edges == w) ≤ pairs_at (ends_of_ears g ears) w
 ends-among g a [] w i = absurd i
 ends-among g a (c ∷ ears) w i = elim i [
   | inl e ↦ let x = ap (λ (b : PlainEar). bit (b.begin == w) + bit (last_vertex g b.begin b.edges == w)) e in omega arith
@@ -171,7 +170,7 @@ all-edges m es h k d less = h (get_or es k d) (mem-item es k d less)
 pub ear-fits : (g : Graph) → IsGraph g → (f : Set) (a : PlainEar) → IsEar g f a.begin a.edges → FitsEar g.order (size g) a
 ear-fits g is f a ear = (met-within g is f a.begin ear.start, all-edges (size g) a.edges (λ e i. edges-within g a.begin a.edges ear.follow e i))
 
-pub ears-fit : (g : Graph) → IsGraph g → (f : Set) (ears : List PlainEar) → ((a : PlainEar) → IsAmong a ears → IsEar g f a.begin a.edges) → AllByRecursion (FitsEar g.order (size g)) ears
+pub ears-fit : (g : Graph) → IsGraph g → (f : Set) (ears : List PlainEar) → ((a : PlainEar) → IsIn a ears → IsEar g f a.begin a.edges) → AllByRecursion (FitsEar g.order (size g)) ears
 ears-fit g is f [] each = tt
 ears-fit g is f (a ∷ ears) each = (ear-fits g is f a (each a (inl refl)), ears-fit g is f ears (λ b i. each b (inr i)))
 

@@ -2,12 +2,12 @@
 use Rattle.std.proofs.Common.{◌≡◌, ◌≢◌, ℕ, ◌+◌, ◌≤◌, Bool, true, false, ◌==◌, refl, sym, ap, ap₂, arith, ◌||◌, eq-eqb, eqb-true, inl, inr, subst, [], ◌∷◌, List}
 use Rattle.std.proofs.lemmas.Bool.{false_from_ne_true, or_left, or_right, or_cases}
 use Rattle.counting.specs.Counts.{bit}
-use Rattle.counting.specs.Lists.{mem}
+use Rattle.counting.specs.Lists.{mem, IsIn}
 use Rattle.counting.specs.Sets.{Set, union}
 use Rattle.graph_core.proofs.Edits.{ends_of}
 use Rattle.graph_core.specs.Graph.{Graph, first_end, IsGraph}
-use Rattle.two_ears.specs.VertexPairs.{IsIn, pairs_at, vertices_of}
-use Rattle.ear_core.specs.AlternatingEars.{IsAmong, ends_of_ears, AreCandidates, Serves, ends_of_ear}
+use Rattle.two_ears.specs.VertexPairs.{pairs_at, vertices_of}
+use Rattle.ear_core.specs.AlternatingEars.{ends_of_ears, AreCandidates, Serves, ends_of_ear}
 use Rattle.ear_core.specs.EarLists.{PlainEar}
 use Rattle.ear_core.specs.Ears.{other_end, trail, last_vertex, IsEar, IsEarPair}
 use Rattle.ear_core.specs.Stages.{is_met, IsStage, with_edges}
@@ -15,7 +15,7 @@ use Rattle.ear_core.proofs.Growth.{start_mem, trail_has}
 use Rattle.ear_core.proofs.RankedStages.{pairs-serve}
 use Rattle.ear_core.proofs.ServingEars.{one-serves, two-serve, off-same}
 
-among-pairs : (g : Graph) (ears : List PlainEar) (p : ℕ × ℕ) → IsIn p (ends_of_ears g ears) → (a : PlainEar) × IsAmong a ears × (p ≡ (a.begin, last_vertex g a.begin a.edges))
+among-pairs : (g : Graph) (ears : List PlainEar) (p : ℕ × ℕ) → IsIn p (ends_of_ears g ears) → (a : PlainEar) × IsIn a ears × (p ≡ (a.begin, last_vertex g a.begin a.edges))
 among-pairs g [] p i = absurd i
 among-pairs g (a ∷ ears) p i = elim i [
   | inl j ↦ (a, inl refl, j)
@@ -53,7 +53,7 @@ module _ (g : Graph) (is : IsGraph g) (f : Set) (stage : IsStage g f) where
       ])
 
   -- of candidates two serve, or one does
-  pub some-serve : (ears : List PlainEar) → AreCandidates g f ears → (a b : PlainEar) × IsAmong a ears × IsAmong b ears × Serves g f (union (ends_of_ear g a) (ends_of_ear g b))
+  pub some-serve : (ears : List PlainEar) → AreCandidates g f ears → (a b : PlainEar) × IsIn a ears × IsIn b ears × Serves g f (union (ends_of_ear g a) (ends_of_ear g b))
   some-serve ears c =
       let x = pairs-serve g is f stage (ends_of_ears g ears) (filled ears c.some) (λ q i. let r = among-pairs g ears q i in let h = c.each r.0 r.1 in
       (subst (λ (z : ℕ × ℕ). is_met g f z.0 ≡ true) (sym r.2) h.start, subst (λ (z : ℕ × ℕ). is_met g f z.1 ≡ true) (sym r.2) h.end))

@@ -4,19 +4,18 @@ use Rattle.std.proofs.lemmas.Bool.{or_cases, true≢false}
 use Rattle.counting.specs.Counts.{Within}
 use Rattle.counting.specs.Lists.{mem}
 use Rattle.counting.specs.Sets.{Set, union, complement, pair_set, none}
-use Rattle.graph_core.specs.Graph.{Graph, size, IsGraph, first_end, second_end, with_edge}
+use Rattle.graph_core.specs.Graph.{Graph, size, IsGraph, first_end, second_end, with_edge, with_ends}
 use Rattle.graph_core.specs.Matchings.{HasPerfect}
 use Rattle.ear_core.specs.Stages.{is_met, AllowedBy, with_edges}
 use Rattle.ear_core.specs.StageGraphs.{listed, Settled, asked_too}
-use Rattle.two_ears.specs.AddedEdges.{over}
 use Rattle.ear_core.proofs.EngineGraphs.{served_listed, edge_serves}
 
 -- one marked edge more, or none
-pub listed-more : (g : Graph) (f : Set) (k : ℕ) (stage : Graph) → stage ≡ over g (listed g f k) → f (suc k) ≡ true → with_edge stage (first_end g (suc k)) (second_end g (suc k)) ≡ over g (listed g f (suc k))
-listed-more g f k stage is marked = ap (λ s. with_edge s (first_end g (suc k)) (second_end g (suc k))) is ∙ ap (λ b. over g (cond b (listed g f k ++ (first_end g (suc k), second_end g (suc k)) ∷ []) (listed g f k))) (sym marked)
+pub listed-more : (g : Graph) (f : Set) (k : ℕ) (stage : Graph) → stage ≡ with_ends g (listed g f k) → f (suc k) ≡ true → with_edge stage (first_end g (suc k)) (second_end g (suc k)) ≡ with_ends g (listed g f (suc k))
+listed-more g f k stage is marked = ap (λ s. with_edge s (first_end g (suc k)) (second_end g (suc k))) is ∙ ap (λ b. with_ends g (cond b (listed g f k ++ (first_end g (suc k), second_end g (suc k)) ∷ []) (listed g f k))) (sym marked)
 
-pub listed-same : (g : Graph) (f : Set) (k : ℕ) (stage : Graph) → stage ≡ over g (listed g f k) → f (suc k) ≡ false → stage ≡ over g (listed g f (suc k))
-listed-same g f k stage is unmarked = is ∙ ap (λ b. over g (cond b (listed g f k ++ (first_end g (suc k), second_end g (suc k)) ∷ []) (listed g f k))) (sym unmarked)
+pub listed-same : (g : Graph) (f : Set) (k : ℕ) (stage : Graph) → stage ≡ with_ends g (listed g f k) → f (suc k) ≡ false → stage ≡ with_ends g (listed g f (suc k))
+listed-same g f k stage is unmarked = is ∙ ap (λ b. with_ends g (cond b (listed g f k ++ (first_end g (suc k), second_end g (suc k)) ∷ []) (listed g f k))) (sym unmarked)
 
 -- sets that agree on the vertices leave the same perfect matchings
 removed-same : (h : Graph) (r x : Set) → ((v : ℕ) → Within h.order v → r v ≡ x v) → HasPerfect h r → HasPerfect h x
@@ -24,11 +23,11 @@ removed-same h r x same m = (m.0, record { once = λ v w o. m.1.once v w (same v
 
 -- the question to the engine
 pub engine-asked : (g : Graph) → IsGraph g → (f r : Set) (e : ℕ) → Within (size g) e → first_end g e ≢ second_end g e → f e ≡ true →
-    ((v : ℕ) → Within g.order v → r v ≡ (not (is_met g f v) || ((first_end g e == v) || (second_end g e == v)))) → HasPerfect (over g (listed g f (size g))) r ↔ AllowedBy g f e
+    ((v : ℕ) → Within g.order v → r v ≡ (not (is_met g f v) || ((first_end g e == v) || (second_end g e == v)))) → HasPerfect (with_ends g (listed g f (size g))) r ↔ AllowedBy g f e
 engine-asked g is f r e within differ marked same =
     let ends = edge_serves g f e is within differ marked in
     let asked = served_listed g f (pair_set (first_end g e) (second_end g e)) in
-    let h = over g (listed g f (size g)) in
+    let h = with_ends g (listed g f (size g)) in
     let x = union (complement (is_met g f)) (pair_set (first_end g e) (second_end g e)) in
     (λ m. ends.1 (asked.1 (removed-same h r x same m)), λ m. removed-same h x r (λ v w. sym (same v w)) (asked.0 (ends.0 m)))
 
@@ -44,7 +43,7 @@ removed-is g f n a b e full met outside first removed order is_full is_outside i
     joined false y z = refl
 
 module _ (g : Graph) (is : IsGraph g) (f r : Set) (e : ℕ) (within : Within (size g) e) (differ : first_end g e ≢ second_end g e) (marked : f e ≡ true)
-    (same : (v : ℕ) → Within g.order v → r v ≡ (not (is_met g f v) || ((first_end g e == v) || (second_end g e == v)))) (stage : Graph) (listed_edges : stage ≡ over g (listed g f (size g))) where
+    (same : (v : ℕ) → Within g.order v → r v ≡ (not (is_met g f v) || ((first_end g e == v) || (second_end g e == v)))) (stage : Graph) (listed_edges : stage ≡ with_ends g (listed g f (size g))) where
   -- the answers of the engine
   pub found-allowed : HasPerfect stage r → AllowedBy g f e
   found-allowed m = (engine-asked g is f r e within differ marked same).0 (subst (λ h. HasPerfect h r) listed_edges m)

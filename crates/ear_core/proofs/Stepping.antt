@@ -9,13 +9,13 @@ use Rattle.std.specs.List.{AllByRecursion}
 use Rattle.counting.proofs.Counts.{count_complement}
 use Rattle.counting.proofs.Odd.{odd_pos}
 use Rattle.counting.specs.Counts.{count, Within}
-use Rattle.counting.specs.Lists.{mem}
+use Rattle.counting.specs.Lists.{mem, IsIn}
 use Rattle.counting.specs.Sets.{Set, none, singleton, complement}
 use Rattle.graph_core.specs.Covered.{IsCovered}
 use Rattle.graph_core.specs.Graph.{Graph, size, first_end, second_end, IsGraph, IsMultigraph}
 use Rattle.graph_core.specs.Matchings.{HasPerfect, Allowed}
 use Rattle.match_core.specs.MatchingRows.{MatchingValue, edges_of}
-use Rattle.ear_core.specs.AlternatingEars.{mate, IsPerfectRows, row_edge, KeepsMates, IsMatedEar, IsAmong, AreMatedEars, AreCandidates, IsChosen}
+use Rattle.ear_core.specs.AlternatingEars.{mate, IsPerfectRows, row_edge, KeepsMates, IsMatedEar, AreMatedEars, AreCandidates, IsChosen}
 use Rattle.ear_core.specs.EarLists.{PlainEar, PlainStep, one, two, next_stage, IsStep, AreSteps, IsSingle, FitsStep, PlainEars, FitsEars, HasEdges, IsEarList}
 use Rattle.ear_core.specs.Ears.{other_end, trail, IsEar}
 use Rattle.ear_core.specs.NearlyStages.{odds}
@@ -80,7 +80,7 @@ ear-keeps g f n v es ear by_n keeps w ww t = elim (cases_Bool (is_met g f w)) [
 ]
 
 -- a step of mated ears keeps the mates
-pub step-keeps : (g : Graph) (f : Set) (m n : ℕ → ℕ) (ears : List PlainEar) → ((a : PlainEar) → IsAmong a ears → IsMatedEar g f m n a) → (s : PlainStep) → IsChosen ears s → IsStep g f s → KeepsMates g n (is_met g f) → KeepsMates g n (is_met g (next_stage f s))
+pub step-keeps : (g : Graph) (f : Set) (m n : ℕ → ℕ) (ears : List PlainEar) → ((a : PlainEar) → IsIn a ears → IsMatedEar g f m n a) → (s : PlainStep) → IsChosen ears s → IsStep g f s → KeepsMates g n (is_met g f) → KeepsMates g n (is_met g (next_stage f s))
 step-keeps g f m n ears each (one a) chosen step keeps = ear-keeps g f n a.begin a.edges step (each a chosen).by_n keeps
 step-keeps g f m n ears each (two a b) chosen step keeps =
     let second = second_ear g f a.begin a.edges b.begin b.edges step in

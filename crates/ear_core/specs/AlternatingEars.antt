@@ -2,7 +2,7 @@
 -- other are followed in turn, until a vertex of the stage comes again.
 use Rattle.std.specs.Prelude.{◌≡◌, ◌≢◌, ◌⊎◌, ◌≤◌, ℕ, true, false, List, [], ◌∷◌, ◌++◌, ◌==◌, ◌&&◌, ◌||◌, not, cond, length}
 use Rattle.counting.specs.Counts.{Within, is_odd}
-use Rattle.counting.specs.Lists.{mem, times}
+use Rattle.counting.specs.Lists.{IsIn, mem, times}
 use Rattle.counting.specs.Sets.{Set, none, pair_set}
 use Rattle.graph_core.specs.Graph.{Graph, first_end, second_end}
 use Rattle.graph_core.specs.Matchings.{IsPerfect}
@@ -68,11 +68,6 @@ pub record IsMatedEar (g : Graph) (f : Set) (m n : ℕ → ℕ) (a : PlainEar) :
   pub leaves : f (m a.begin) ≡ false
   pub arrives : f (m (last_vertex g a.begin a.edges)) ≡ false
 
--- a is in the list
-abbrev pub IsAmong : PlainEar → List PlainEar → Type 0
-IsAmong a [] = ⊥
-IsAmong a (b ∷ ears) = (a ≡ b) ⊎ IsAmong a ears
-
 -- the pairs of ends of the ears
 abbrev pub ends_of_ears : Graph → List PlainEar → List (ℕ × ℕ)
 ends_of_ears g [] = []
@@ -81,12 +76,12 @@ ends_of_ears g (a ∷ ears) = (a.begin, last_vertex g a.begin a.edges) ∷ ends_
 -- the ears have no common vertex
 abbrev pub AreApart : Graph → List PlainEar → Type 0
 AreApart g ears =
-    (a b : PlainEar) → IsAmong a ears → IsAmong b ears → (a ≡ b) ⊎ ((w : ℕ) → mem (trail g a.begin a.edges) w ≡ true → mem (trail g b.begin b.edges) w ≡ true → ⊥)
+    (a b : PlainEar) → IsIn a ears → IsIn b ears → (a ≡ b) ⊎ ((w : ℕ) → mem (trail g a.begin a.edges) w ≡ true → mem (trail g b.begin b.edges) w ≡ true → ⊥)
 
 -- the ears that m and n make off the vertices of z: each vertex of f off z that m leads out of f is an end of one
 pub record AreMatedEars (g : Graph) (f : Set) (m n : ℕ → ℕ) (z : Set) (ears : List PlainEar) : Type 0 where
-  pub each : (a : PlainEar) → IsAmong a ears → IsMatedEar g f m n a
-  pub avoid : (a : PlainEar) → IsAmong a ears → (w : ℕ) → mem (trail g a.begin a.edges) w ≡ true → z w ≡ false
+  pub each : (a : PlainEar) → IsIn a ears → IsMatedEar g f m n a
+  pub avoid : (a : PlainEar) → IsIn a ears → (w : ℕ) → mem (trail g a.begin a.edges) w ≡ true → z w ≡ false
   pub apart : AreApart g ears
   pub once : (w : ℕ) → pairs_at (ends_of_ears g ears) w ≤ 1
   pub off : (w : ℕ) → z w ≡ true → pairs_at (ends_of_ears g ears) w ≡ 0
@@ -106,7 +101,7 @@ ends_of_ear g a = pair_set a.begin (last_vertex g a.begin a.edges)
 
 -- ears of f without a common vertex, whose ends serve all together
 pub record AreCandidates (g : Graph) (f : Set) (ears : List PlainEar) : Type 0 where
-  pub each : (a : PlainEar) → IsAmong a ears → IsEar g f a.begin a.edges
+  pub each : (a : PlainEar) → IsIn a ears → IsEar g f a.begin a.edges
   pub apart : AreApart g ears
   pub once : (w : ℕ) → pairs_at (ends_of_ears g ears) w ≤ 1
   pub some : ears ≢ []
@@ -114,5 +109,5 @@ pub record AreCandidates (g : Graph) (f : Set) (ears : List PlainEar) : Type 0 w
 
 -- the ears of a step are in the list
 abbrev pub IsChosen : List PlainEar → PlainStep → Type 0
-IsChosen ears (one a) = IsAmong a ears
-IsChosen ears (two a b) = IsAmong a ears × IsAmong b ears
+IsChosen ears (one a) = IsIn a ears
+IsChosen ears (two a b) = IsIn a ears × IsIn b ears

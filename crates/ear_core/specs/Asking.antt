@@ -1,11 +1,10 @@
 -- How the matching engine is asked whether ears serve, and what is found.
 use Rattle.std.specs.Prelude.{◌≡◌, ◌⊎◌, ℕ, List, [], ◌∷◌, not}
 use Rattle.counting.specs.Counts.{Within}
-use Rattle.counting.specs.Lists.{mem}
+use Rattle.counting.specs.Lists.{mem, IsIn}
 use Rattle.counting.specs.Sets.{Set, union}
-use Rattle.graph_core.specs.Graph.{Graph, size}
-use Rattle.two_ears.specs.AddedEdges.{over}
-use Rattle.ear_core.specs.AlternatingEars.{IsAmong, Serves, ends_of_ear}
+use Rattle.graph_core.specs.Graph.{Graph, size, with_ends}
+use Rattle.ear_core.specs.AlternatingEars.{Serves, ends_of_ear}
 use Rattle.ear_core.specs.EarLists.{PlainEar, PlainStep, one, two}
 use Rattle.ear_core.specs.StageGraphs.{listed}
 use Rattle.ear_core.specs.Stages.{is_met}
@@ -13,21 +12,21 @@ use Rattle.ear_core.specs.declared.choosing.Asked.{Asked}
 
 -- it is asked about the edges of f, beside the vertices off the stage
 pub record IsAsked (g : Graph) (f : Set) (asked : Asked) : Type 0 where
-  pub stage : asked.stage ≡ over g (listed g f (size g))
+  pub stage : asked.stage ≡ with_ends g (listed g f (size g))
   pub outside : (v : ℕ) → Within g.order v → mem asked.outside v ≡ not (is_met g f v)
 
 -- a stands before b in the list
 abbrev pub IsBefore : PlainEar → PlainEar → List PlainEar → Type 0
 IsBefore a b [] = ⊥
-IsBefore a b (c ∷ ears) = ((a ≡ c) × IsAmong b ears) ⊎ IsBefore a b ears
+IsBefore a b (c ∷ ears) = ((a ≡ c) × IsIn b ears) ⊎ IsBefore a b ears
 
 -- the step adds an ear of the list that serves
 abbrev pub FindsOne : Graph → Set → List PlainEar → PlainStep → Type 0
-FindsOne g f ears s = (a : PlainEar) × IsAmong a ears × (s ≡ one a) × Serves g f (ends_of_ear g a)
+FindsOne g f ears s = (a : PlainEar) × IsIn a ears × (s ≡ one a) × Serves g f (ends_of_ear g a)
 
 -- it adds a and an ear of the list that serve together
 abbrev pub FindsWith : Graph → Set → PlainEar → List PlainEar → PlainStep → Type 0
-FindsWith g f a ears s = (b : PlainEar) × IsAmong b ears × (s ≡ two a b) × Serves g f (union (ends_of_ear g a) (ends_of_ear g b))
+FindsWith g f a ears s = (b : PlainEar) × IsIn b ears × (s ≡ two a b) × Serves g f (union (ends_of_ear g a) (ends_of_ear g b))
 
 -- it adds two ears of the list that serve together
 abbrev pub FindsTwo : Graph → Set → List PlainEar → PlainStep → Type 0
@@ -35,11 +34,11 @@ FindsTwo g f ears s = (a : PlainEar) × (b : PlainEar) × IsBefore a b ears × (
 
 -- no ear of the list serves
 abbrev pub NoneServes : Graph → Set → List PlainEar → Type 0
-NoneServes g f ears = (a : PlainEar) → IsAmong a ears → Serves g f (ends_of_ear g a) → ⊥
+NoneServes g f ears = (a : PlainEar) → IsIn a ears → Serves g f (ends_of_ear g a) → ⊥
 
 -- no ear of the list serves together with a
 abbrev pub NoneServesWith : Graph → Set → PlainEar → List PlainEar → Type 0
-NoneServesWith g f a ears = (b : PlainEar) → IsAmong b ears → Serves g f (union (ends_of_ear g a) (ends_of_ear g b)) → ⊥
+NoneServesWith g f a ears = (b : PlainEar) → IsIn b ears → Serves g f (union (ends_of_ear g a) (ends_of_ear g b)) → ⊥
 
 -- no two ears of the list serve together
 abbrev pub NoTwoServe : Graph → Set → List PlainEar → Type 0

@@ -3,11 +3,10 @@ ghost use Rattle.std.specs.Prelude.{◌≡◌, ◌+◌, ◌<◌, ◌≤◌, ◌|
 ghost use Rattle.counting.specs.Counts.{Within};
 ghost use Rattle.counting.specs.Sets.{Set};
 ghost use Rattle.counting.specs.Lists.{mem};
-ghost use Rattle.graph_core.specs.Graph.{size};
+ghost use Rattle.graph_core.specs.Graph.{size, with_ends};
 ghost use Rattle.match_core.specs.Rows.{marks};
 ghost use Rattle.ear_core.specs.Stages.{is_met, AllowedBy, with_edges};
 ghost use Rattle.ear_core.specs.StageGraphs.{listed, Settled, asked_too};
-ghost use Rattle.two_ears.specs.AddedEdges.{over};
 
 use graph_core::MultiGraph;
 use match_core::perfect_without;
@@ -17,7 +16,7 @@ use vset_core::VSet;
 /// The graph of the marked edges, on all vertices.
 pub fn marked_graph(alloc: Global, g: &MultiGraph, mark: &[bool]) -> Result<MultiGraph, Memory>
     requires { length mark.now ≡ size g.now + 1 }
-    ensures { IfOk result (λ stage. stage ≡ over g.now (listed g.now (marks mark.now) (size g.now))) }
+    ensures { IfOk result (λ stage. stage ≡ with_ends g.now (listed g.now (marks mark.now) (size g.now))) }
 {
     let mut stage = MultiGraph::new(alloc, g.order())?;
     for k in 0..g.size() {

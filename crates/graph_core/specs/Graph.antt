@@ -38,6 +38,10 @@ pub record IsMultigraph (g : Graph) : Type 0 where
 abbrev pub with_edge : Graph → ℕ → ℕ → Graph
 with_edge g a b = record g { ends = g.ends ++ (a, b) ∷ [] }
 
+-- the vertices of g with other edges, those of the list
+abbrev pub with_ends : Graph → List (ℕ × ℕ) → Graph
+with_ends g es = record { order = g.order; ends = es }
+
 -- edge e has the ends u and v, in one order or the other
 abbrev pub HasEnds : Graph → ℕ → ℕ → ℕ → Type 0
 HasEnds g e u v = ((first_end g e ≡ u) × (second_end g e ≡ v)) ⊎ ((first_end g e ≡ v) × (second_end g e ≡ u))

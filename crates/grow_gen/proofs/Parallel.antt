@@ -9,7 +9,8 @@ use Rattle.counting.proofs.Counts.{count_le_one, only_one}
 use Rattle.counting.proofs.Totals.{total_congr, at_le_total, total-first}
 use Rattle.graph_core.specs.Graph.{Graph, size, first_end, second_end, has_ends, IsMultigraph}
 use Rattle.graph_core.proofs.Walks.{has_ends-own, has_ends-cases, has_ends-back}
-use Rattle.grow_gen.specs.Cubic.{IsCubic, HasNoParallel}
+use Rattle.graph_core.specs.Simple.{IsSimple}
+use Rattle.grow_gen.specs.Cubic.{IsCubic}
 use Rattle.grow_gen.specs.Splices.{is_at, other_end, edge_with_end, new_number, permutation, renumbered_edge, rehung_edges, splice}
 use Rattle.grow_gen.proofs.EdgeSums.{Each, by_test, item-next, each-weaker}
 use Rattle.grow_gen.proofs.Rehanging.{IsEdge, IsClear, at-cases, not_at-ends, rehung_edges-none, member-first, member-later}
@@ -37,7 +38,7 @@ total-links u v (e ∷ es) = total-first (length es) (λ i. bit (joins u v (slic
     ∙ ap (λ k. bit (joins u v e) + k) (total_congr (length es) _ _ (λ i w. ap (λ p. bit (joins u v p)) (item-next e (0, 0) es i w.0)) ∙ total-links u v es)
 
 -- without parallel edges at most one edge joins two vertices
-pub few_links : (g : Graph) → HasNoParallel g → (u v : ℕ) → link_count u v g.ends ≤ 1
+pub few_links : (g : Graph) → IsSimple g → (u v : ℕ) → link_count u v g.ends ≤ 1
 few_links g h u v = let t = total-links u v g.ends in let c = count_le_one (size g) (has_ends g u v) (λ e f we wf l pe pf. absurd (omega (arith, l, h e f we wf (same e f pe pf)))) in omega (arith, t, c)
   where
     same : (e f : ℕ) → has_ends g u v e ≡ true → has_ends g u v f ≡ true → has_ends g (first_end g e) (second_end g e) f ≡ true
@@ -50,8 +51,8 @@ few_links g h u v = let t = total-links u v g.ends in let c = count_le_one (size
         turn u v f h = has_ends-back g u v f h
 
 -- and the other way round
-pub no_parallel-from_links : (g : Graph) → ((e : ℕ) → Within (size g) e → link_count (first_end g e) (second_end g e) g.ends ≤ 1) → HasNoParallel g
-no_parallel-from_links g h e f we wf j =
+pub simple-from_links : (g : Graph) → ((e : ℕ) → Within (size g) e → link_count (first_end g e) (second_end g e) g.ends ≤ 1) → IsSimple g
+simple-from_links g h e f we wf j =
     let t = total-links (first_end g e) (second_end g e) g.ends in
     let own = has_ends-own g e in
     let a = at_le_total (size g) (λ i. bit (has_ends g (first_end g e) (second_end g e) i)) e we in
@@ -203,7 +204,7 @@ module _ (n w : ℕ) (ww : Within n w) where
 hits-permuted : (f : ℕ → ℕ) (p q r y : ℕ) (i : ℕ) → i < 6 → hits y (permuted_values i f (p ∷ q ∷ r ∷ [])) ≡ hits y (f p ∷ f q ∷ f r ∷ [])
 hits-permuted f p q r y = by_permutation (λ i. hits y (permuted_values i f (p ∷ q ∷ r ∷ [])) ≡ hits y (f p ∷ f q ∷ f r ∷ [])) (omega arith) (omega arith) (omega arith) (omega arith) (omega arith) (omega arith)
 
-module _ (g h : Graph) (w i : ℕ) (mg : IsMultigraph g) (mh : IsMultigraph h) (cg : IsCubic g) (ch : IsCubic h) (two : 2 ≤ h.order) (ww : Within g.order w) (li : i < 6) (ng : HasNoParallel g) (nh : HasNoParallel h) where
+module _ (g h : Graph) (w i : ℕ) (mg : IsMultigraph g) (mh : IsMultigraph h) (cg : IsCubic g) (ch : IsCubic h) (two : 2 ≤ h.order) (ww : Within g.order w) (li : i < 6) (ng : IsSimple g) (nh : IsSimple h) where
   abbrev ends : List ℕ
   ends = targets g h w i mg mh cg ch two ww li
 
@@ -251,9 +252,9 @@ module _ (g h : Graph) (w i : ℕ) (mg : IsMultigraph g) (mh : IsMultigraph h) (
     ]
   ]
 
-  pub splice-no_parallel : HasNoParallel (splice g w h (permutation i))
+  pub splice-simple : IsSimple (splice g w h (permutation i))
   unfolding splice
-  splice-no_parallel = no_parallel-from_links (splice g w h (permutation i)) (λ e we.
+  splice-simple = simple-from_links (splice g w h (permutation i)) (λ e we.
       let m = (splice-multigraph g h w i mg mh cg ch two ww li).ends e we in
       let u = first_end (splice g w h (permutation i)) e in
       let v = second_end (splice g w h (permutation i)) e in

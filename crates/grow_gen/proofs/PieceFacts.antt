@@ -16,7 +16,8 @@ use Rattle.graph_core.proofs.Decide.{is_perfect_true}
 use Rattle.grow_gen.specs.declared.pieces.Piece.{Piece}
 use Rattle.grow_gen.specs.declared.pieces.Piece.TheVariants.{K33, K4, Prism, Cube}
 use Rattle.grow_gen.specs.Pieces.{piece_order, piece_graph}
-use Rattle.grow_gen.specs.Cubic.{IsCubic, HasNoParallel}
+use Rattle.graph_core.specs.Simple.{IsSimple}
+use Rattle.grow_gen.specs.Cubic.{IsCubic}
 use Rattle.grow_gen.proofs.EdgeSums.{Each}
 use Rattle.grow_gen.proofs.Connecting.{Stays, connected-steady}
 
@@ -49,14 +50,14 @@ piece-cubic Prism = cubic-says (piece_graph Prism) refl
 piece-cubic Cube = cubic-says (piece_graph Cube) refl
 
 -- an edge with the ends of another is that one, as a test
-no_parallel-says : (g : Graph) → every (size g) (λ e. every (size g) (λ f. not (has_ends g (first_end g e) (second_end g e) f) || (e == f))) ≡ true → HasNoParallel g
-no_parallel-says g h e f we wf j = eqb-true e f (implied (has_ends g (first_end g e) (second_end g e) f) (e == f) (every_true (size g) _ (every_true (size g) _ h e we) f wf) j)
+simple-says : (g : Graph) → every (size g) (λ e. every (size g) (λ f. not (has_ends g (first_end g e) (second_end g e) f) || (e == f))) ≡ true → IsSimple g
+simple-says g h e f we wf j = eqb-true e f (implied (has_ends g (first_end g e) (second_end g e) f) (e == f) (every_true (size g) _ (every_true (size g) _ h e we) f wf) j)
 
-pub piece-no_parallel : (p : Piece) → HasNoParallel (piece_graph p)
-piece-no_parallel K33 = no_parallel-says (piece_graph K33) refl
-piece-no_parallel K4 = no_parallel-says (piece_graph K4) refl
-piece-no_parallel Prism = no_parallel-says (piece_graph Prism) refl
-piece-no_parallel Cube = no_parallel-says (piece_graph Cube) refl
+pub piece-simple : (p : Piece) → IsSimple (piece_graph p)
+piece-simple K33 = simple-says (piece_graph K33) refl
+piece-simple K4 = simple-says (piece_graph K4) refl
+piece-simple Prism = simple-says (piece_graph Prism) refl
+piece-simple Cube = simple-says (piece_graph Cube) refl
 
 -- vertices with what one walk along the edges adds to them
 abbrev reached : List (ℕ × ℕ) → List ℕ → List ℕ

@@ -15,21 +15,22 @@ use Rattle.graph_core.specs.Covered.{IsCovered}
 use Rattle.grow_gen.specs.declared.pieces.Piece.{Piece}
 use Rattle.grow_gen.specs.declared.pieces.Piece.TheVariants.{K33, K4, Prism, Cube}
 use Rattle.grow_gen.specs.Pieces.{piece_order, piece_ends, piece_graph, is_bipartite_piece, side, further_piece}
-use Rattle.grow_gen.specs.Cubic.{IsCubic, HasNoParallel}
+use Rattle.graph_core.specs.Simple.{IsSimple}
+use Rattle.grow_gen.specs.Cubic.{IsCubic}
 use Rattle.grow_gen.specs.Splices.{is_at, new_number, permutation, splice, renumbered_edge, rehung_edges, targets_of}
 use Rattle.grow_gen.specs.Growth.{Growth, first_growth, eligible, next_class, with_piece, MayTake}
 use Rattle.grow_gen.proofs.Rehanging.{length-rehung_edges}
-use Rattle.grow_gen.proofs.PieceFacts.{piece-multigraph, piece-cubic, piece-no_parallel, piece-covered, piece-two}
+use Rattle.grow_gen.proofs.PieceFacts.{piece-multigraph, piece-cubic, piece-simple, piece-covered, piece-two}
 use Rattle.grow_gen.proofs.Skeleton.{eligible-within}
 use Rattle.grow_gen.proofs.Splicing.{splice-multigraph, splice-cubic}
-use Rattle.grow_gen.proofs.Parallel.{splice-no_parallel}
+use Rattle.grow_gen.proofs.Parallel.{splice-simple}
 use Rattle.grow_gen.proofs.CoveredSplices.{splice-covered}
 
 -- what holds before further piece i
 pub record IsSound (i : ℕ) (s : Growth) : Type 0 where
   pub multigraph : IsMultigraph s.graph
   pub cubic : IsCubic s.graph
-  pub simple : HasNoParallel s.graph
+  pub simple : IsSimple s.graph
   pub covered : IsCovered s.graph
   pub vertices : s.graph.order ≤ 8 * (i + 1)
   pub edges : size s.graph ≤ 12 * (i + 1)
@@ -159,7 +160,7 @@ module _ (i : ℕ) (s : Growth) (sound : IsSound i s) (x : ℕ) where
   sound-next y = record {
     multigraph = splice-multigraph s.graph (piece_graph piece) picked (y % 6) sound.multigraph (piece-multigraph piece) sound.cubic (piece-cubic piece) (piece-two piece) picked-within (permutation-below y);
     cubic = splice-cubic s.graph (piece_graph piece) picked (y % 6) sound.multigraph (piece-multigraph piece) sound.cubic (piece-cubic piece) (piece-two piece) picked-within (permutation-below y);
-    simple = splice-no_parallel s.graph (piece_graph piece) picked (y % 6) sound.multigraph (piece-multigraph piece) sound.cubic (piece-cubic piece) (piece-two piece) picked-within (permutation-below y) sound.simple (piece-no_parallel piece);
+    simple = splice-simple s.graph (piece_graph piece) picked (y % 6) sound.multigraph (piece-multigraph piece) sound.cubic (piece-cubic piece) (piece-two piece) picked-within (permutation-below y) sound.simple (piece-simple piece);
     covered = splice-covered s.graph (piece_graph piece) picked (y % 6) sound.multigraph (piece-multigraph piece) sound.cubic (piece-cubic piece) sound.covered (piece-covered piece) picked-within (permutation-below y);
     vertices = let a = sound.vertices in let b = order-bound in omega arith;
     edges = let a = sound.edges in let b = few-kept in
@@ -178,7 +179,7 @@ pub sound-first : IsSound 0 first_growth
 sound-first = record {
   multigraph = piece-multigraph K33;
   cubic = piece-cubic K33;
-  simple = piece-no_parallel K33;
+  simple = piece-simple K33;
   covered = piece-covered K33;
   vertices = omega arith;
   edges = omega arith;

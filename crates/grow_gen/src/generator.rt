@@ -3,7 +3,8 @@ ghost use Rattle.std.specs.Prelude.{◌≡◌, IfOk};
 ghost use Rattle.counting.specs.Counts.{Within};
 ghost use Rattle.graph_core.specs.Covered.{IsCovered};
 ghost use Rattle.graph_core.specs.View.{IsWithinLimits};
-ghost use Rattle.grow_gen.specs.Cubic.{IsCubic, HasNoParallel};
+ghost use Rattle.graph_core.specs.Simple.{IsSimple};
+ghost use Rattle.grow_gen.specs.Cubic.{IsCubic};
 ghost use Rattle.grow_gen.specs.Growth.{grown};
 
 use crate::growing::Growing;
@@ -27,7 +28,7 @@ pub fn grow(alloc: Global, seed: u64, pieces: u32) -> Result<MultiGraph, Memory>
     ensures graph { IfOk result (λ g. g ≡ grown seed pieces) }
     ensures covered { IfOk result IsCovered }
     ensures cubic { IfOk result IsCubic }
-    ensures simple { IfOk result HasNoParallel }
+    ensures simple { IfOk result IsSimple }
     ensures within_limits { IfOk result IsWithinLimits }
 {
     let mut words = Lcg64Xsh32::new(seed, STREAM);

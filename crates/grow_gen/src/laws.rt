@@ -3,7 +3,8 @@ ghost use Rattle.std.specs.Prelude.{◌≡◌, ℕ, ◌<◌, ◌≤◌};
 ghost use Rattle.counting.specs.Counts.{Within};
 ghost use Rattle.graph_core.specs.Graph.{Graph, IsMultigraph};
 ghost use Rattle.graph_core.specs.Covered.{IsCovered};
-ghost use Rattle.grow_gen.specs.Cubic.{IsCubic, HasNoParallel};
+ghost use Rattle.graph_core.specs.Simple.{IsSimple};
+ghost use Rattle.grow_gen.specs.Cubic.{IsCubic};
 ghost use Rattle.grow_gen.specs.Splices.{splice, permutation};
 
 /// Splicing: two cubic multigraphs give a cubic multigraph, without parallel edges where they have none, and covered where
@@ -14,7 +15,7 @@ pub fn splice_law()
     ensures cubic { (g h : Graph) (w i : ℕ) → IsMultigraph g → IsMultigraph h → IsCubic g → IsCubic h → 2 ≤ h.order →
         Within g.order w → i < 6 → IsCubic (splice g w h (permutation i)) }
     ensures simple { (g h : Graph) (w i : ℕ) → IsMultigraph g → IsMultigraph h → IsCubic g → IsCubic h → 2 ≤ h.order →
-        Within g.order w → i < 6 → HasNoParallel g → HasNoParallel h → HasNoParallel (splice g w h (permutation i)) }
+        Within g.order w → i < 6 → IsSimple g → IsSimple h → IsSimple (splice g w h (permutation i)) }
     ensures covered { (g h : Graph) (w i : ℕ) → IsMultigraph g → IsMultigraph h → IsCubic g → IsCubic h → IsCovered g → IsCovered h →
         Within g.order w → i < 6 → IsCovered (splice g w h (permutation i)) }
 {}

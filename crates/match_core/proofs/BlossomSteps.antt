@@ -11,9 +11,9 @@ use Rattle.counting.specs.Counts.{Within, bit, count, is_odd}
 use Rattle.counting.specs.Sets.{Set, complement, minus, put, union}
 use Rattle.counting.specs.Lists.{mem}
 use Rattle.graph_core.proofs.Edits.{add_edge, ends_of_is}
-use Rattle.graph_core.specs.Graph.{Graph, HasEnds, IsGraph, degree, size}
+use Rattle.graph_core.specs.Graph.{Graph, HasEnds, IsGraph, degree, size, with_ends}
 use Rattle.graph_core.specs.Matchings.{IsMatching}
-use Rattle.match_core.specs.Frames.{Frame, IsNearPerfect, IsShrunk, shrunk_removed, with_ends}
+use Rattle.match_core.specs.Frames.{Frame, IsNearPerfect, IsShrunk, shrunk_removed}
 use Rattle.match_core.specs.Mates.{HasMates, paired_round, with_mate, with_pair}
 use Rattle.match_core.specs.OddCycles.{IsOddCycle, every_other, listed, picked}
 use Rattle.match_core.specs.Steps.{IsOpened, IsWidened, StepAnswer}

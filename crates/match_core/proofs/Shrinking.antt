@@ -10,9 +10,9 @@ use Rattle.counting.specs.Counts.{Within, bit, count, is_odd, total}
 use Rattle.counting.specs.Sets.{Set, complement, minus, union, put}
 use Rattle.graph_core.proofs.Edits.{degree_sum, ends_le_degree, ends_of, ends_of_is, sum_degrees}
 use Rattle.graph_core.proofs.Parity.{ends_in}
-use Rattle.graph_core.specs.Graph.{Graph, IsGraph, degree, first_end, second_end, size, HasEnds}
+use Rattle.graph_core.specs.Graph.{Graph, IsGraph, degree, first_end, second_end, size, HasEnds, with_ends}
 use Rattle.graph_core.specs.Matchings.{IsMatching, missed_count}
-use Rattle.match_core.specs.Frames.{Frame, IsCertificate, IsOddLabelling, IsNearPerfect, IsShrunk, with_ends, shrunk_vertex, shrunk_removed}
+use Rattle.match_core.specs.Frames.{Frame, IsCertificate, IsOddLabelling, IsNearPerfect, IsShrunk, shrunk_vertex, shrunk_removed}
 use Rattle.match_core.proofs.Certificates.{certificate_tight}
 
 -- the edges of k are those of m and those of e

@@ -6,8 +6,8 @@ use Rattle.std.proofs.lemmas.Bool.{and_parts, cases_Bool, cases_eq, both_ways, o
 use Rattle.counting.specs.Counts.{Within}
 use Rattle.counting.specs.Sets.{Set}
 use Rattle.counting.specs.Lists.{mem, item}
-use Rattle.graph_core.specs.Graph.{Graph, HasEnds, IsGraph, first_end, second_end, size}
-use Rattle.match_core.specs.Frames.{IsShrunk, shrunk_removed, shrunk_vertex, with_ends}
+use Rattle.graph_core.specs.Graph.{Graph, HasEnds, IsGraph, first_end, second_end, size, with_ends}
+use Rattle.match_core.specs.Frames.{IsShrunk, shrunk_removed, shrunk_vertex}
 use Rattle.match_core.specs.Instances.{IsInstance, Touches}
 use Rattle.match_core.specs.Shrinkings.{IsShrinking}
 use Rattle.match_core.specs.declared.instance.Instance.{Instance}

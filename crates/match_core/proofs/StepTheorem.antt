@@ -8,7 +8,7 @@ use Rattle.counting.proofs.Tests.{scan, some_true}
 use Rattle.counting.proofs.Odd.{half}
 use Rattle.counting.specs.Counts.{Within, count, is_odd}
 use Rattle.counting.specs.Sets.{Set, complement, minus, none, union}
-use Rattle.graph_core.specs.Graph.{Graph, IsGraph, degree, first_end, second_end, size, HasEnds}
+use Rattle.graph_core.specs.Graph.{Graph, IsGraph, degree, first_end, second_end, size, HasEnds, with_ends}
 use Rattle.graph_core.specs.Matchings.{IsMatching}
 use Rattle.match_core.proofs.OddCycles.{cycle_holds, cycle_outside, cycle_size, every_other-near_perfect}
 use Rattle.match_core.proofs.LongerPaths.{end_within, ends_by}
@@ -19,7 +19,7 @@ use Rattle.match_core.proofs.AlternatingPaths.{two_paths}
 use Rattle.match_core.proofs.Shrinking.{frame_up, shrunk_graph, complement_size, tip, down, up}
 use Rattle.match_core.specs.OddCycles.{IsOddCycle, listed, every_other, picked}
 use Rattle.match_core.specs.Forests.{IsAlternating, IsForest}
-use Rattle.match_core.specs.Frames.{Frame, IsNearPerfect, IsShrunk, with_ends, shrunk_ends, shrunk_vertex, shrunk_removed}
+use Rattle.match_core.specs.Frames.{Frame, IsNearPerfect, IsShrunk, shrunk_ends, shrunk_vertex, shrunk_removed}
 
 pub shrunk_ends_shrunk : (g : Graph) (c : Set) (z : ℕ) → IsShrunk g c z (shrunk_ends g c z)
 shrunk_ends_shrunk g c z = record {

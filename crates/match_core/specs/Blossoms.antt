@@ -4,10 +4,10 @@ use Rattle.std.specs.Prelude.{◌≡◌, ◌≢◌, ℕ, suc, ◌+◌, ◌-◌, 
 use Rattle.counting.specs.Counts.{Within, count, is_odd}
 use Rattle.counting.specs.Sets.{Set}
 use Rattle.counting.specs.Lists.{mem}
-use Rattle.graph_core.specs.Graph.{Graph, HasEnds, IsGraph, size}
+use Rattle.graph_core.specs.Graph.{Graph, HasEnds, IsGraph, size, with_ends}
 use Rattle.match_core.specs.AlternatingForests.{HoldsAlternating}
 use Rattle.match_core.specs.Forests.{IsAlternating}
-use Rattle.match_core.specs.Frames.{shrunk_ends, shrunk_removed, with_ends}
+use Rattle.match_core.specs.Frames.{shrunk_ends, shrunk_removed}
 use Rattle.match_core.specs.Instances.{IsInstance}
 use Rattle.match_core.specs.Mates.{HasMates}
 use Rattle.match_core.specs.OddCycles.{listed}

@@ -3,12 +3,8 @@
 use Rattle.std.specs.Prelude.{◌≡◌, ℕ, ◌+◌, ◌*◌, ◌≤◌, true, false, List, ◌==◌, nat_lt, ◌&&◌, ◌||◌, not, length, map, cond}
 use Rattle.counting.specs.Counts.{Within, bit, count, is_odd}
 use Rattle.counting.specs.Sets.{Set, complement, union}
-use Rattle.graph_core.specs.Graph.{Graph, HasEnds, degree, first_end, second_end, size}
+use Rattle.graph_core.specs.Graph.{Graph, HasEnds, degree, first_end, second_end, size, with_ends}
 use Rattle.graph_core.specs.Matchings.{IsMatching}
-
--- g with other ends
-abbrev pub with_ends : Graph → List (ℕ × ℕ) → Graph
-with_ends g es = record { order = g.order; ends = es }
 
 -- z where v is in c, else v
 abbrev pub shrunk_vertex : Set → ℕ → ℕ → ℕ

@@ -11,11 +11,11 @@ use Rattle.counting.specs.Tests.{some}
 use Rattle.graph_core.proofs.Components.{joined_outside, one_leader, some_leader}
 use Rattle.graph_core.proofs.Parity.{degrees}
 use Rattle.graph_core.specs.Components.{is_least, odd_component_count}
-use Rattle.graph_core.specs.Graph.{Graph, IsGraph, degree, edges_in_cut, first_end, in_cut, inside, second_end, size}
+use Rattle.graph_core.specs.Graph.{Graph, IsGraph, degree, edges_in_cut, first_end, in_cut, inside, second_end, size, with_ends}
 use Rattle.graph_core.specs.Matchings.{IsPerfect}
 use Rattle.graph_core.specs.Walks.{joined}
 use Rattle.two_ears.proofs.JoinedClasses.{adjacent_joined, joined_equivalence}
-use Rattle.two_ears.specs.AddedEdges.{KeepsEdges, over}
+use Rattle.two_ears.specs.AddedEdges.{KeepsEdges}
 
 -- of the leaders in a union w of components one leads a vertex p of w
 pub leader_sum : (x : Graph) (b w : Set) → IsGraph x → ((u v : ℕ) → Within x.order u → Within x.order v → joined x b u v ≡ true → w u ≡ w v) → (p : ℕ) → Within x.order p → b p ≡ false →
@@ -43,31 +43,31 @@ abbrev pub arms : Graph → Set → Set → ℕ → Bool
 arms g b w e = (w (first_end g e) && (not (b (first_end g e)) && b (second_end g e))) || (w (second_end g e) && (not (b (second_end g e)) && b (first_end g e)))
 
 -- the edges of m that leave the components of w, component by component
-pub weighted_cut : (g : Graph) (xs : List (ℕ × ℕ)) (b w m : Set) → IsGraph g → KeepsEdges g xs → ((u v : ℕ) → Within g.order u → Within g.order v → joined (over g xs) b u v ≡ true → w u ≡ w v) →
-    total g.order (λ u. bit (is_least (over g xs) b u && w u) * edges_in_cut g m (joined (over g xs) b u)) ≡ count (size g) (λ e. m e && arms g b w e)
+pub weighted_cut : (g : Graph) (xs : List (ℕ × ℕ)) (b w m : Set) → IsGraph g → KeepsEdges g xs → ((u v : ℕ) → Within g.order u → Within g.order v → joined (with_ends g xs) b u v ≡ true → w u ≡ w v) →
+    total g.order (λ u. bit (is_least (with_ends g xs) b u && w u) * edges_in_cut g m (joined (with_ends g xs) b u)) ≡ count (size g) (λ e. m e && arms g b w e)
 weighted_cut g xs b w m is h same =
-    total_congr g.order _ _ (λ u wu. sym (total_mul (size g) (bit (is_least (over g xs) b u && w u)) (λ e. bit (m e && in_cut g (joined (over g xs) b u) e))))
-    ∙ total_swap g.order (size g) (λ u e. bit (is_least (over g xs) b u && w u) * bit (m e && in_cut g (joined (over g xs) b u) e))
+    total_congr g.order _ _ (λ u wu. sym (total_mul (size g) (bit (is_least (with_ends g xs) b u && w u)) (λ e. bit (m e && in_cut g (joined (with_ends g xs) b u) e))))
+    ∙ total_swap g.order (size g) (λ u e. bit (is_least (with_ends g xs) b u && w u) * bit (m e && in_cut g (joined (with_ends g xs) b u) e))
     ∙ total_congr (size g) _ _ (λ e we. each e we (m e))
   where
     l : ℕ → Bool
-    l = is_least (over g xs) b
+    l = is_least (with_ends g xs) b
 
     j : ℕ → ℕ → Bool
-    j = joined (over g xs) b
+    j = joined (with_ends g xs) b
 
     out_of : (u v : ℕ) → l u ≡ true → j u v ≡ true → b v ≡ false
-    out_of u v t k = joined_outside (over g xs) b h.graph u v (not-true (b u) (and_parts (not (b u)) (not (some g.order (λ v. j u v && nat_lt v u))) t).0) k
+    out_of u v t k = joined_outside (with_ends g xs) b h.graph u v (not-true (b u) (and_parts (not (b u)) (not (some g.order (λ v. j u v && nat_lt v u))) t).0) k
 
     sides : (e : ℕ) → Within (size g) e → b (first_end g e) ≡ false → b (second_end g e) ≡ false → j (first_end g e) (second_end g e) ≡ true
-    sides e we p q = adjacent_joined (over g xs) b h.graph (first_end g e) (second_end g e) (and_from (not (b (first_end g e)) && not (b (second_end g e))) _ (rw (p, q) refl) (h.old e we))
+    sides e we p q = adjacent_joined (with_ends g xs) b h.graph (first_end g e) (second_end g e) (and_from (not (b (first_end g e)) && not (b (second_end g e))) _ (rw (p, q) refl) (h.old e we))
 
     each : (e : ℕ) → Within (size g) e → (k : Bool) → total g.order (λ u. bit (l u && w u) * bit (k && ((j u (first_end g e) && not (j u (second_end g e))) || (not (j u (first_end g e)) && j u (second_end g e))))) ≡ bit (k && arms g b w e)
     each e we false = total_none g.order _ (λ u wu. omega arith)
     each e we true = go (b (first_end g e)) (b (second_end g e)) refl refl
       where
         eq : (u v t : ℕ) → Within g.order u → Within g.order v → Within g.order t → j v t ≡ true → j u v ≡ j u t
-        eq u v t wu wv wt k = let q = joined_equivalence (over g xs) b h.graph in same_answers (j u v) (j u t) (λ a. q.on u v t wu wv wt a k) (λ a. q.on u t v wu wt wv a (q.back v t wv wt k))
+        eq u v t wu wv wt k = let q = joined_equivalence (with_ends g xs) b h.graph in same_answers (j u v) (j u t) (λ a. q.on u v t wu wv wt a k) (λ a. q.on u t v wu wt wv a (q.back v t wv wt k))
 
         term : (u : ℕ) → ℕ
         term u = bit (l u && w u) * bit ((j u (first_end g e) && not (j u (second_end g e))) || (not (j u (first_end g e)) && j u (second_end g e)))
@@ -117,7 +117,7 @@ weighted_cut g xs b w m is h same =
             bits false false = refl
         go false true p q =
             total_congr g.order _ _ (λ u wu. fore (l u) (w u) (j u (first_end g e)) (j u (second_end g e)) (λ t. false_from_ne_true (j u (second_end g e)) (λ k. both_ways (b (second_end g e)) (out_of u (second_end g e) t k) q)))
-            ∙ leader_sum (over g xs) b w h.graph same (first_end g e) (is e we).0 p
+            ∙ leader_sum (with_ends g xs) b w h.graph same (first_end g e) (is e we).0 p
             ∙ bits (w (first_end g e)) (w (second_end g e))
           where
             bits : (c d : Bool) → bit c ≡ bit ((c && true) || (d && false))
@@ -126,7 +126,7 @@ weighted_cut g xs b w m is h same =
             bits false false = refl
         go true false p q =
             total_congr g.order _ _ (λ u wu. aft (l u) (w u) (j u (first_end g e)) (j u (second_end g e)) (λ t. false_from_ne_true (j u (first_end g e)) (λ k. both_ways (b (first_end g e)) (out_of u (first_end g e) t k) p)))
-            ∙ leader_sum (over g xs) b w h.graph same (second_end g e) (is e we).1 q
+            ∙ leader_sum (with_ends g xs) b w h.graph same (second_end g e) (is e we).1 q
             ∙ bits (w (first_end g e)) (w (second_end g e))
           where
             bits : (c d : Bool) → bit d ≡ bit ((c && false) || (d && true))
@@ -136,9 +136,9 @@ weighted_cut g xs b w m is h same =
             bits false false = refl
 
 -- all components
-pub cut_sum : (g : Graph) (xs : List (ℕ × ℕ)) (b m : Set) → IsGraph g → KeepsEdges g xs → total g.order (λ u. bit (is_least (over g xs) b u) * edges_in_cut g m (joined (over g xs) b u)) ≡ edges_in_cut g m b
+pub cut_sum : (g : Graph) (xs : List (ℕ × ℕ)) (b m : Set) → IsGraph g → KeepsEdges g xs → total g.order (λ u. bit (is_least (with_ends g xs) b u) * edges_in_cut g m (joined (with_ends g xs) b u)) ≡ edges_in_cut g m b
 cut_sum g xs b m is h =
-    total_congr g.order _ _ (λ u wu. ap (λ t. bit t * edges_in_cut g m (joined (over g xs) b u)) (and_yes (is_least (over g xs) b u)))
+    total_congr g.order _ _ (λ u wu. ap (λ t. bit t * edges_in_cut g m (joined (with_ends g xs) b u)) (and_yes (is_least (with_ends g xs) b u)))
     ∙ weighted_cut g xs b (λ v. true) m is h (λ u v wu wv t. refl)
     ∙ total_congr (size g) _ _ (λ e we. ap (λ t. bit (m e && t)) (turn (b (first_end g e)) (b (second_end g e))))
   where
@@ -183,20 +183,20 @@ component_out x b u v is t k = joined_outside x b is u v (not-true (b u) (and_pa
 
 module _ (g : Graph) (xs : List (ℕ × ℕ)) (r m b : Set) (is : IsGraph g) (h : KeepsEdges g xs) (p : IsPerfect g r m) (less : (v : ℕ) → Within g.order v → r v ≡ true → b v ≡ true) where
   -- an odd component has an edge of m that leaves it
-  pub odd_needs : (u : ℕ) → Within g.order u → bit (is_least (over g xs) b u && is_odd (count g.order (joined (over g xs) b u))) ≤ bit (is_least (over g xs) b u) * edges_in_cut g m (joined (over g xs) b u)
-  odd_needs u w = go (is_least (over g xs) b u) (is_odd (count g.order (joined (over g xs) b u))) refl refl
+  pub odd_needs : (u : ℕ) → Within g.order u → bit (is_least (with_ends g xs) b u && is_odd (count g.order (joined (with_ends g xs) b u))) ≤ bit (is_least (with_ends g xs) b u) * edges_in_cut g m (joined (with_ends g xs) b u)
+  odd_needs u w = go (is_least (with_ends g xs) b u) (is_odd (count g.order (joined (with_ends g xs) b u))) refl refl
     where
-      go : (s t : Bool) → is_least (over g xs) b u ≡ s → is_odd (count g.order (joined (over g xs) b u)) ≡ t → bit (s && t) ≤ bit s * edges_in_cut g m (joined (over g xs) b u)
+      go : (s t : Bool) → is_least (with_ends g xs) b u ≡ s → is_odd (count g.order (joined (with_ends g xs) b u)) ≡ t → bit (s && t) ≤ bit s * edges_in_cut g m (joined (with_ends g xs) b u)
       go false t e f = omega arith
       go true false e f = omega arith
       go true true e f =
-          let a = odd_leaving g r m (joined (over g xs) b u) is p (λ v wv k. false_from_ne_true (r v) (λ i. both_ways (b v) (component_out (over g xs) b u v h.graph e k) (less v wv i))) in
-          let c = odd_pos (edges_in_cut g m (joined (over g xs) b u)) (sym a ∙ f) in omega arith
+          let a = odd_leaving g r m (joined (with_ends g xs) b u) is p (λ v wv k. false_from_ne_true (r v) (λ i. both_ways (b v) (component_out (with_ends g xs) b u v h.graph e k) (less v wv i))) in
+          let c = odd_pos (edges_in_cut g m (joined (with_ends g xs) b u)) (sym a ∙ f) in omega arith
 
   -- the odd components are no more than the edges of m that leave b
-  pub odd_at_most : odd_component_count (over g xs) b ≤ edges_in_cut g m b
+  pub odd_at_most : odd_component_count (with_ends g xs) b ≤ edges_in_cut g m b
   unfolding odd_component_count
   odd_at_most = le_trans (total_le g.order _ _ odd_needs) (le_of_eq (cut_sum g xs b m is h))
 
-  pub odd_need : odd_component_count (over g xs) b + count g.order r ≤ count g.order b
+  pub odd_need : odd_component_count (with_ends g xs) b + count g.order r ≤ count g.order b
   odd_need = let a = odd_at_most in let c = count_in g r m b is p less in omega arith

@@ -7,16 +7,17 @@ use Rattle.counting.specs.Sets.{Set, none, union}
 use Rattle.graph_core.proofs.Components.{joined_walk, walk_joined}
 use Rattle.graph_core.proofs.Decide.{degree_congr}
 use Rattle.graph_core.specs.Covered.{IsCovered}
-use Rattle.graph_core.specs.Graph.{Graph, IsGraph, degree, first_end, second_end, size}
+use Rattle.graph_core.specs.Graph.{Graph, IsGraph, degree, first_end, second_end, size, with_ends}
 use Rattle.graph_core.specs.Matchings.{Allowed, IsPerfect}
 use Rattle.graph_core.specs.Walks.{Joined}
 use Rattle.two_ears.proofs.AddedEdges.{degree-added, degree-with_pairs, second_end-new, second_end-old, keeps-with_pairs, first_end-new, first_end-old, with_pairs-longer, size-added, with_new}
 use Rattle.two_ears.proofs.JoinedClasses.{keeps-itself, joined_more}
 use Rattle.two_ears.proofs.TwoEars.{ends_of_one, two_ears}
-use Rattle.two_ears.specs.AddedEdges.{over, with_pairs}
-use Rattle.two_ears.specs.VertexPairs.{AreDisjoint, IsIn, pairs_at, vertices_of}
+use Rattle.two_ears.specs.AddedEdges.{with_pairs}
+use Rattle.counting.specs.Lists.{IsIn}
+use Rattle.two_ears.specs.VertexPairs.{AreDisjoint, pairs_at, vertices_of}
 
-ends-with_pairs : (g : Graph) (ps : List (ℕ × ℕ)) (e : ℕ) → Within (size g) e → (first_end (over g (with_pairs g.ends ps)) e ≡ first_end g e) × (second_end (over g (with_pairs g.ends ps)) e ≡ second_end g e)
+ends-with_pairs : (g : Graph) (ps : List (ℕ × ℕ)) (e : ℕ) → Within (size g) e → (first_end (with_ends g (with_pairs g.ends ps)) e ≡ first_end g e) × (second_end (with_ends g (with_pairs g.ends ps)) e ≡ second_end g e)
 ends-with_pairs g [] e w = (refl, refl)
 ends-with_pairs g (p ∷ ps) e w =
     let l = with_pairs-longer g.ends ps in
@@ -27,7 +28,7 @@ ends-with_pairs g (p ∷ ps) e w =
 abbrev without_new : Graph → Set → Set
 without_new g m e = m e && not (nat_lt (size g) e)
 
-degree_without : (g : Graph) (m : Set) (ps : List (ℕ × ℕ)) (v : ℕ) → degree (over g (with_pairs g.ends ps)) (without_new g m) v ≡ degree g m v
+degree_without : (g : Graph) (m : Set) (ps : List (ℕ × ℕ)) (v : ℕ) → degree (with_ends g (with_pairs g.ends ps)) (without_new g m) v ≡ degree g m v
 degree_without g m [] v = degree_congr g (without_new g m) m v (λ e w. old (m e) (nat_lt (size g) e) (le-ltb (size g) e (omega arith)))
   where
     old : (a b : Bool) → b ≡ false → (a && not b) ≡ a
@@ -43,12 +44,12 @@ degree_without g m (p ∷ ps) v =
 
 -- further edges that complete some set to a perfect matching keep a covered graph covered
 pub covered-with_pairs : (g : Graph) → IsGraph g → IsCovered g → (ps : List (ℕ × ℕ)) → ((p : ℕ × ℕ) → IsIn p ps → Within g.order p.0 × Within g.order p.1) →
-    (q : Set) → ((v : ℕ) → Within g.order v → degree g q v + pairs_at ps v ≡ 1) → IsCovered (over g (with_pairs g.ends ps))
+    (q : Set) → ((v : ℕ) → Within g.order v → degree g q v + pairs_at ps v ≡ 1) → IsCovered (with_ends g (with_pairs g.ends ps))
 unfolding Joined
 covered-with_pairs g is cov ps w q one = record {
   two = cov.two;
   connected = λ u v wu wv. let h = keeps-with_pairs g (keeps-itself g is) ps w in
-      joined_walk (over g (with_pairs g.ends ps)) none u v (joined_more g (with_pairs g.ends ps) none none is h (λ x wx t. t) u v wu wv (walk_joined g none is u v wu (cov.connected u v wu wv)));
+      joined_walk (with_ends g (with_pairs g.ends ps)) none u v (joined_more g (with_pairs g.ends ps) none none is h (λ x wx t. t) u v wu wv (walk_joined g none is u v wu (cov.connected u v wu wv)));
   allowed = λ e we d. elim (cases_lt (size g) e) [
     | inl l ↦ (with_new g q, record { once = λ v wv o. degree-with_pairs g q ps v ∙ one v wv; away = λ v wv o. absurd (true≢false (sym o)) }, or_right (q e) (nat_lt (size g) e) (lt-ltb (size g) e l))
     | inr l ↦
@@ -72,7 +73,7 @@ chosen_in g m (q ∷ ps) p i = go (m (suc (length (with_pairs g.ends ps)))) i (c
     go true j h = elim j [ inl k ↦ inl k | inr k ↦ inr (h k) ]
     go false j h = inr (h j)
 
-degree_chosen : (g : Graph) (m : Set) (ps : List (ℕ × ℕ)) (v : ℕ) → degree (over g (with_pairs g.ends ps)) m v ≡ degree g m v + pairs_at (chosen g m ps) v
+degree_chosen : (g : Graph) (m : Set) (ps : List (ℕ × ℕ)) (v : ℕ) → degree (with_ends g (with_pairs g.ends ps)) m v ≡ degree g m v + pairs_at (chosen g m ps) v
 unfolding chosen
 degree_chosen g m [] v = zero_more (degree g m v)
   where
@@ -80,8 +81,8 @@ degree_chosen g m [] v = zero_more (degree g m v)
     zero_more k = omega arith
 degree_chosen g m (p ∷ ps) v = degree-added g (with_pairs g.ends ps) p m v ∙ go (m (suc (length (with_pairs g.ends ps)))) (degree_chosen g m ps v)
   where
-    go : (b : Bool) → degree (over g (with_pairs g.ends ps)) m v ≡ degree g m v + pairs_at (chosen g m ps) v →
-        degree (over g (with_pairs g.ends ps)) m v + bit b * (bit (p.0 == v) + bit (p.1 == v)) ≡ degree g m v + pairs_at (cond b (p ∷ chosen g m ps) (chosen g m ps)) v
+    go : (b : Bool) → degree (with_ends g (with_pairs g.ends ps)) m v ≡ degree g m v + pairs_at (chosen g m ps) v →
+        degree (with_ends g (with_pairs g.ends ps)) m v + bit b * (bit (p.0 == v) + bit (p.1 == v)) ≡ degree g m v + pairs_at (cond b (p ∷ chosen g m ps) (chosen g m ps)) v
     go true e = omega arith
     go false e = omega arith
 
@@ -105,21 +106,21 @@ same_pair p q = elim (cases_eq p.0 q.0) [
 ]
 
 module _ (g : Graph) (is : IsGraph g) (cov : IsCovered g) (p0 : ℕ × ℕ) (rest : List (ℕ × ℕ)) (within : (p : ℕ × ℕ) → IsIn p (p0 ∷ rest) → Within g.order p.0 × Within g.order p.1)
-    (differ : (p : ℕ × ℕ) → IsIn p (p0 ∷ rest) → p.0 ≢ p.1) (more : IsCovered (over g (with_pairs g.ends (p0 ∷ rest)))) where
+    (differ : (p : ℕ × ℕ) → IsIn p (p0 ∷ rest) → p.0 ≢ p.1) (more : IsCovered (with_ends g (with_pairs g.ends (p0 ∷ rest)))) where
   abbrev ps : List (ℕ × ℕ)
   ps = p0 ∷ rest
 
   e0 : ℕ
   e0 = suc (length (with_pairs g.ends rest))
 
-  used : Allowed (over g (with_pairs g.ends ps)) e0
+  used : Allowed (with_ends g (with_pairs g.ends ps)) e0
   unfolding e0
   used = let l = size-added g (with_pairs g.ends rest) p0 in more.allowed (suc (length (with_pairs g.ends rest))) (omega arith) (λ i. differ p0 (inl refl) (sym (first_end-new g (with_pairs g.ends rest) p0) ∙ i ∙ second_end-new g (with_pairs g.ends rest) p0))
 
   m : Set
   m = used.0
 
-  perfect : IsPerfect (over g (with_pairs g.ends ps)) none m
+  perfect : IsPerfect (with_ends g (with_pairs g.ends ps)) none m
   unfolding m
   perfect = used.1
 
@@ -170,10 +171,10 @@ module _ (g : Graph) (is : IsGraph g) (cov : IsCovered g) (p0 : ℕ × ℕ) (res
   some_or false true h = omega arith
   some_or false false h = absurd (true≢false (sym h))
 
-  pub edge_form_here : ((p : ℕ × ℕ) × IsIn p ps × IsCovered (over g (with_pairs g.ends (p ∷ [])))) ⊎ ((p : ℕ × ℕ) × (q : ℕ × ℕ) × IsIn p ps × IsIn q ps × IsCovered (over g (with_pairs g.ends (p ∷ q ∷ []))))
+  pub edge_form_here : ((p : ℕ × ℕ) × IsIn p ps × IsCovered (with_ends g (with_pairs g.ends (p ∷ [])))) ⊎ ((p : ℕ × ℕ) × (q : ℕ × ℕ) × IsIn p ps × IsIn q ps × IsCovered (with_ends g (with_pairs g.ends (p ∷ q ∷ []))))
   edge_form_here = go pair.0 pair.1 pair.2 pair.3 pair.4.0 pair.4.1
     where
-      go : (p q : ℕ × ℕ) → IsIn p qs → IsIn q qs → (k : Set) → IsPerfect g (union (vertices_of p) (vertices_of q)) k → ((p : ℕ × ℕ) × IsIn p ps × IsCovered (over g (with_pairs g.ends (p ∷ [])))) ⊎ ((p : ℕ × ℕ) × (q : ℕ × ℕ) × IsIn p ps × IsIn q ps × IsCovered (over g (with_pairs g.ends (p ∷ q ∷ []))))
+      go : (p q : ℕ × ℕ) → IsIn p qs → IsIn q qs → (k : Set) → IsPerfect g (union (vertices_of p) (vertices_of q)) k → ((p : ℕ × ℕ) × IsIn p ps × IsCovered (with_ends g (with_pairs g.ends (p ∷ [])))) ⊎ ((p : ℕ × ℕ) × (q : ℕ × ℕ) × IsIn p ps × IsIn q ps × IsCovered (with_ends g (with_pairs g.ends (p ∷ q ∷ []))))
       go p q i j k h = elim (same_pair p q) [
         | inl e ↦ inl (p, of_qs p i, covered-with_pairs g is cov (p ∷ []) (λ r x. elim x [ inl y ↦ subst (λ z. Within g.order z.0 × Within g.order z.1) (sym y) (within p (of_qs p i)) | inr y ↦ absurd y ]) k (λ v w. single v w e))
         | inr d ↦ inr (
@@ -214,7 +215,7 @@ module _ (g : Graph) (is : IsGraph g) (cov : IsCovered g) (p0 : ℕ × ℕ) (res
           ]
 
 -- the edge form of the two-ear theorem
-pub edge_form : (g : Graph) → IsGraph g → IsCovered g → (ps : List (ℕ × ℕ)) → ps ≢ [] → ((p : ℕ × ℕ) → IsIn p ps → Within g.order p.0 × Within g.order p.1) → ((p : ℕ × ℕ) → IsIn p ps → p.0 ≢ p.1) → IsCovered (over g (with_pairs g.ends ps)) →
-    ((p : ℕ × ℕ) × IsIn p ps × IsCovered (over g (with_pairs g.ends (p ∷ [])))) ⊎ ((p : ℕ × ℕ) × (q : ℕ × ℕ) × IsIn p ps × IsIn q ps × IsCovered (over g (with_pairs g.ends (p ∷ q ∷ []))))
+pub edge_form : (g : Graph) → IsGraph g → IsCovered g → (ps : List (ℕ × ℕ)) → ps ≢ [] → ((p : ℕ × ℕ) → IsIn p ps → Within g.order p.0 × Within g.order p.1) → ((p : ℕ × ℕ) → IsIn p ps → p.0 ≢ p.1) → IsCovered (with_ends g (with_pairs g.ends ps)) →
+    ((p : ℕ × ℕ) × IsIn p ps × IsCovered (with_ends g (with_pairs g.ends (p ∷ [])))) ⊎ ((p : ℕ × ℕ) × (q : ℕ × ℕ) × IsIn p ps × IsIn q ps × IsCovered (with_ends g (with_pairs g.ends (p ∷ q ∷ []))))
 edge_form g is cov [] filled within differ more = absurd (filled refl)
 edge_form g is cov (p ∷ ps) filled within differ more = edge_form_here g is cov p ps within differ more

@@ -11,10 +11,10 @@ use Rattle.counting.specs.Tests.{some}
 use Rattle.graph_core.proofs.Components.{joined_walk, walk_joined}
 use Rattle.graph_core.proofs.Walks.{IsClosed, Walk-stays, adjacent-edge, adjacent_from, adjacent_within, has_ends-back, has_ends-cases, has_ends-own, joined_back, joined_on, joined_self}
 use Rattle.graph_core.specs.Components.{component_count, is_least}
-use Rattle.graph_core.specs.Graph.{Graph, IsGraph, first_end, has_ends, second_end, size}
+use Rattle.graph_core.specs.Graph.{Graph, IsGraph, first_end, has_ends, second_end, size, with_ends}
 use Rattle.graph_core.specs.Walks.{Joined, Walk, adjacent, joined}
 use Rattle.two_ears.proofs.Labels.{IsFiner, four_classes}
-use Rattle.two_ears.specs.AddedEdges.{KeepsEdges, over}
+use Rattle.two_ears.specs.AddedEdges.{KeepsEdges}
 use Rattle.two_ears.specs.Equivalences.{IsEquivalence, class_count}
 
 pub joined_equivalence : (g : Graph) (s : Set) → IsGraph g → IsEquivalence g.order (joined g s)
@@ -52,39 +52,39 @@ class_count-components g s = total_congr g.order _ _ (λ u w. each u w) ∙ tota
         let l = ltb-true v.0 u b.1 in absurd (omega arith)))
 
 -- what is joined step by step
-pub joined_steps : (g : Graph) (xs : List (ℕ × ℕ)) (s a : Set) → IsGraph g → IsGraph (over g xs) → ((u v : ℕ) → Within g.order u → Within g.order v → adjacent g s u v ≡ true → joined (over g xs) a u v ≡ true) →
-    (u v : ℕ) → Within g.order u → joined g s u v ≡ true → joined (over g xs) a u v ≡ true
+pub joined_steps : (g : Graph) (xs : List (ℕ × ℕ)) (s a : Set) → IsGraph g → IsGraph (with_ends g xs) → ((u v : ℕ) → Within g.order u → Within g.order v → adjacent g s u v ≡ true → joined (with_ends g xs) a u v ≡ true) →
+    (u v : ℕ) → Within g.order u → joined g s u v ≡ true → joined (with_ends g xs) a u v ≡ true
 unfolding Joined IsClosed
 joined_steps g xs s a is ix steps u v w j =
     let k = joined_walk g s u v j in
-    Walk-stays g.order (adjacent g s) (joined (over g xs) a u) (adjacent_within g s is)
-    (λ c d wc wd jc cd. walk_joined (over g xs) a ix u d w (joined_on (over g xs) a u c d (joined_walk (over g xs) a u c jc) (joined_walk (over g xs) a c d (steps c d wc wd cd))))
-    u v k.0 (walk_joined (over g xs) a ix u u w (joined_self (over g xs) a u)) k.1
+    Walk-stays g.order (adjacent g s) (joined (with_ends g xs) a u) (adjacent_within g s is)
+    (λ c d wc wd jc cd. walk_joined (with_ends g xs) a ix u d w (joined_on (with_ends g xs) a u c d (joined_walk (with_ends g xs) a u c jc) (joined_walk (with_ends g xs) a c d (steps c d wc wd cd))))
+    u v k.0 (walk_joined (with_ends g xs) a ix u u w (joined_self (with_ends g xs) a u)) k.1
 
 pub adjacent_joined : (g : Graph) (s : Set) → IsGraph g → (u v : ℕ) → adjacent g s u v ≡ true → joined g s u v ≡ true
 unfolding Joined
 adjacent_joined g s is u v h = walk_joined g s is u v (adjacent_within g s is u v h).0 (v ∷ [], (h, refl))
 
 -- g without s joins no more than g with further edges without a part of s
-pub joined_more : (g : Graph) (xs : List (ℕ × ℕ)) (s a : Set) → IsGraph g → KeepsEdges g xs → ((v : ℕ) → Within g.order v → a v ≡ true → s v ≡ true) → IsFiner g.order (joined g s) (joined (over g xs) a)
+pub joined_more : (g : Graph) (xs : List (ℕ × ℕ)) (s a : Set) → IsGraph g → KeepsEdges g xs → ((v : ℕ) → Within g.order v → a v ≡ true → s v ≡ true) → IsFiner g.order (joined g s) (joined (with_ends g xs) a)
 joined_more g xs s a is h less u v wu wv = joined_steps g xs s a is h.graph (λ c d wc wd cd.
     let p = adjacent-edge g s c d cd in
-    adjacent_joined (over g xs) a h.graph c d (and_from (not (a c) && not (a d)) (some (size (over g xs)) (has_ends (over g xs) c d)) (rw (out c wc p.0, out d wd p.1) refl) (turn c d p.2.0 p.2.1 p.2.2))) u v wu
+    adjacent_joined (with_ends g xs) a h.graph c d (and_from (not (a c) && not (a d)) (some (size (with_ends g xs)) (has_ends (with_ends g xs) c d)) (rw (out c wc p.0, out d wd p.1) refl) (turn c d p.2.0 p.2.1 p.2.2))) u v wu
   where
     out : (v : ℕ) → Within g.order v → s v ≡ false → a v ≡ false
     out v w o = false_from_ne_true (a v) (λ t. both_ways (s v) o (less v w t))
 
-    turn : (c d e : ℕ) → Within (size g) e → has_ends g c d e ≡ true → some (size (over g xs)) (has_ends (over g xs) c d) ≡ true
+    turn : (c d e : ℕ) → Within (size g) e → has_ends g c d e ≡ true → some (size (with_ends g xs)) (has_ends (with_ends g xs) c d) ≡ true
     turn c d e w b = elim (has_ends-cases g c d e b) [
       | inl k ↦ subst2 (first_end g e) (second_end g e) c d k.0 k.1 (h.old e w)
       | inr k ↦ swap c d (subst2 (first_end g e) (second_end g e) d c k.0 k.1 (h.old e w))
     ]
       where
-        subst2 : (p q c d : ℕ) → p ≡ c → q ≡ d → some (size (over g xs)) (has_ends (over g xs) p q) ≡ true → some (size (over g xs)) (has_ends (over g xs) c d) ≡ true
-        subst2 p q c d e f t = ap₂ (λ c d. some (size (over g xs)) (has_ends (over g xs) c d)) (sym e) (sym f) ∙ t
+        subst2 : (p q c d : ℕ) → p ≡ c → q ≡ d → some (size (with_ends g xs)) (has_ends (with_ends g xs) p q) ≡ true → some (size (with_ends g xs)) (has_ends (with_ends g xs) c d) ≡ true
+        subst2 p q c d e f t = ap₂ (λ c d. some (size (with_ends g xs)) (has_ends (with_ends g xs) c d)) (sym e) (sym f) ∙ t
 
-        swap : (c d : ℕ) → some (size (over g xs)) (has_ends (over g xs) d c) ≡ true → some (size (over g xs)) (has_ends (over g xs) c d) ≡ true
-        swap c d t = let r = some_true (size (over g xs)) (has_ends (over g xs) d c) t in true_some (size (over g xs)) (has_ends (over g xs) c d) r.0 r.1 (has_ends-back (over g xs) d c r.0 r.2)
+        swap : (c d : ℕ) → some (size (with_ends g xs)) (has_ends (with_ends g xs) d c) ≡ true → some (size (with_ends g xs)) (has_ends (with_ends g xs) c d) ≡ true
+        swap c d t = let r = some_true (size (with_ends g xs)) (has_ends (with_ends g xs) d c) t in true_some (size (with_ends g xs)) (has_ends (with_ends g xs) c d) r.0 r.1 (has_ends-back (with_ends g xs) d c r.0 r.2)
 
 pub keeps-itself : (g : Graph) → IsGraph g → KeepsEdges g g.ends
 keeps-itself g is = record { graph = is; old = λ e w. true_some (size g) (has_ends g (first_end g e) (second_end g e)) e w (has_ends-own g e) }

@@ -10,7 +10,7 @@ use Rattle.graph_core.proofs.Decide.{degree_congr}
 use Rattle.graph_core.proofs.Walks.{adjacent-edge, adjacent_from, has_ends-cases, has_ends-own}
 use Rattle.graph_core.specs.Components.{component_count}
 use Rattle.graph_core.specs.Covered.{IsCovered}
-use Rattle.graph_core.specs.Graph.{Graph, IsGraph, degree, first_end, second_end, size}
+use Rattle.graph_core.specs.Graph.{Graph, IsGraph, degree, first_end, second_end, size, with_ends}
 use Rattle.graph_core.specs.Matchings.{IsPerfect}
 use Rattle.graph_core.specs.Structure.{Equivalent, IsBarrier}
 use Rattle.graph_core.specs.Walks.{adjacent, joined}
@@ -19,8 +19,9 @@ use Rattle.two_ears.proofs.BarrierComponents.{all_components, meet_full, no_more
 use Rattle.two_ears.proofs.ComponentCuts.{odd_need}
 use Rattle.two_ears.proofs.JoinedClasses.{adjacent_joined, class_count-components, keeps-itself, joined_equivalence, joined_more, joined_steps}
 use Rattle.two_ears.proofs.Labels.{coarser, strictly}
-use Rattle.two_ears.specs.AddedEdges.{KeepsEdges, over, with_pairs}
-use Rattle.two_ears.specs.VertexPairs.{IsIn, vertices_of}
+use Rattle.two_ears.specs.AddedEdges.{KeepsEdges, with_pairs}
+use Rattle.counting.specs.Lists.{IsIn}
+use Rattle.two_ears.specs.VertexPairs.{vertices_of}
 
 -- a part b of s that holds u and v, leaves as many components as it has vertices, and keeps x and y together
 pub record PairBarrier (g : Graph) (s : Set) (u v : ℕ) (P : Set → Type 0) : Type 0 where
@@ -44,7 +45,7 @@ module _ (g : Graph) (is : IsGraph g) (cov : IsCovered g) (s : Set) (bar : IsBar
     hy = keeps-added g g.ends p (keeps-itself g is) fits.0.0 fits.0.1
 
     -- a perfect matching of g is one of g with the edge p
-    above : (m : Set) → IsPerfect g none m → IsPerfect (over g ys) none (λ e. m e && not (nat_lt (size g) e))
+    above : (m : Set) → IsPerfect g none m → IsPerfect (with_ends g ys) none (λ e. m e && not (nat_lt (size g) e))
     above m q = record { once = λ w ww o. same w ∙ q.once w ww o; away = λ w ww o. absurd (true≢false (sym o)) }
       where
         and_no : (a b : Bool) → b ≡ true → (a && not b) ≡ false
@@ -53,7 +54,7 @@ module _ (g : Graph) (is : IsGraph g) (cov : IsCovered g) (s : Set) (bar : IsBar
         and_yes : (a b : Bool) → b ≡ false → (a && not b) ≡ a
         and_yes a b h = grind arith
 
-        same : (w : ℕ) → degree (over g ys) (λ e. m e && not (nat_lt (size g) e)) w ≡ degree g m w
+        same : (w : ℕ) → degree (with_ends g ys) (λ e. m e && not (nat_lt (size g) e)) w ≡ degree g m w
         same w =
             let a = degree-added g g.ends p (λ e. m e && not (nat_lt (size g) e)) w in
             let b = degree_congr g (λ e. m e && not (nat_lt (size g) e)) m w (λ e we. and_yes (m e) (nat_lt (size g) e) (le-ltb (size g) e (omega arith))) in
@@ -67,7 +68,7 @@ module _ (g : Graph) (is : IsGraph g) (cov : IsCovered g) (s : Set) (bar : IsBar
     out_s w t = elim (or_cases (p.0 == w) (p.1 == w) t) [ inl x ↦ ap s (sym (eqb-true p.0 w x)) ∙ fits.1 | inr x ↦ ap s (sym (eqb-true p.1 w x)) ∙ fits.2 ]
 
     -- u and v are not served in g with the edge p
-    never : (m : Set) → IsPerfect (over g ys) (vertices_of (u, v)) m → ⊥
+    never : (m : Set) → IsPerfect (with_ends g ys) (vertices_of (u, v)) m → ⊥
     never m q = go (m (suc (size g))) refl
       where
         some_end : (a b : Bool) → (a || b) ≡ true → 1 ≤ bit a + bit b
@@ -79,11 +80,11 @@ module _ (g : Graph) (is : IsGraph g) (cov : IsCovered g) (s : Set) (bar : IsBar
         go : (t : Bool) → m (suc (size g)) ≡ t → ⊥
         go false e = alone m (record { once = λ w ww o. sym (same w) ∙ q.once w ww o; away = λ w ww o. sym (same w) ∙ q.away w ww o })
           where
-            same : (w : ℕ) → degree (over g ys) m w ≡ degree g m w
+            same : (w : ℕ) → degree (with_ends g ys) m w ≡ degree g m w
             same w = let a = degree-added g g.ends p m w in let c = ap bit e in let i = ap (λ k. k * (bit (p.0 == w) + bit (p.1 == w))) c in omega arith
         go true e = fits.3 m (record { once = once; away = away })
           where
-            same : (w : ℕ) → degree (over g ys) m w ≡ degree g m w + (bit (p.0 == w) + bit (p.1 == w))
+            same : (w : ℕ) → degree (with_ends g ys) m w ≡ degree g m w + (bit (p.0 == w) + bit (p.1 == w))
             same w = let a = degree-added g g.ends p m w in let c = ap bit e in let i = ap (λ k. k * (bit (p.0 == w) + bit (p.1 == w))) c in omega arith
 
             once : (w : ℕ) → Within g.order w → union (vertices_of (u, v)) (vertices_of p) w ≡ false → degree g m w ≡ 1
@@ -100,8 +101,8 @@ module _ (g : Graph) (is : IsGraph g) (cov : IsCovered g) (s : Set) (bar : IsBar
                   let c = same w in let i = q.once w ww f in let j = some_end (p.0 == w) (p.1 == w) x in omega arith
             ]
 
-    bar_y : (b : Set) × IsBarrier (over g ys) b × (b u ≡ true) × (b v ≡ true)
-    bar_y = let m = some_perfect g is cov in equivalent_barrier (over g ys) (λ e. m.0 e && not (nat_lt (size g) e)) u v hy.graph (above m.0 m.1) wu wv d never
+    bar_y : (b : Set) × IsBarrier (with_ends g ys) b × (b u ≡ true) × (b v ≡ true)
+    bar_y = let m = some_perfect g is cov in equivalent_barrier (with_ends g ys) (λ e. m.0 e && not (nat_lt (size g) e)) u v hy.graph (above m.0 m.1) wu wv d never
 
     -- the barrier lies in s
     in_class : (w : ℕ) → Within g.order w → bar_y.0 w ≡ true → s w ≡ true
@@ -117,7 +118,7 @@ module _ (g : Graph) (is : IsGraph g) (cov : IsCovered g) (s : Set) (bar : IsBar
         in_bar : (x : ℕ) → vertices_of (u, w) x ≡ true → bar_y.0 x ≡ true
         in_bar x i = elim (or_cases (u == x) (w == x) i) [ inl j ↦ ap bar_y.0 (sym (eqb-true u x j)) ∙ bar_y.2 | inr j ↦ ap bar_y.0 (sym (eqb-true w x j)) ∙ t ]
 
-    components_y : component_count (over g ys) bar_y.0 ≡ count g.order bar_y.0
+    components_y : component_count (with_ends g ys) bar_y.0 ≡ count g.order bar_y.0
     components_y = all_components g is cov ys hy bar_y.0 bar_y.1 u wu bar_y.2
 
     components_g : component_count g bar_y.0 ≤ count g.order bar_y.0
@@ -125,9 +126,9 @@ module _ (g : Graph) (is : IsGraph g) (cov : IsCovered g) (s : Set) (bar : IsBar
 
     full_g : component_count g bar_y.0 ≡ count g.order bar_y.0
     full_g =
-        let a = coarser g.order (joined g bar_y.0) (joined (over g ys) bar_y.0) (joined_equivalence g bar_y.0 is) (joined_equivalence (over g ys) bar_y.0 hy.graph) (joined_more g ys bar_y.0 bar_y.0 is hy (λ w ww t. t)) in
+        let a = coarser g.order (joined g bar_y.0) (joined (with_ends g ys) bar_y.0) (joined_equivalence g bar_y.0 is) (joined_equivalence (with_ends g ys) bar_y.0 hy.graph) (joined_more g ys bar_y.0 bar_y.0 is hy (λ w ww t. t)) in
         let b = class_count-components g bar_y.0 in
-        let c = class_count-components (over g ys) bar_y.0 in
+        let c = class_count-components (with_ends g ys) bar_y.0 in
         let i = components_y in let j = components_g in omega arith
 
     out_bar : (w : ℕ) → Within g.order w → s w ≡ false → bar_y.0 w ≡ false
@@ -137,10 +138,10 @@ module _ (g : Graph) (is : IsGraph g) (cov : IsCovered g) (s : Set) (bar : IsBar
     kept = elim (cases_Bool (joined g bar_y.0 p.0 p.1)) [
       | inl t ↦ t
       | inr f ↦
-          let j = adjacent_joined (over g ys) bar_y.0 hy.graph p.0 p.1 (and_from (not (bar_y.0 p.0) && not (bar_y.0 p.1)) _ (rw (out_bar p.0 fits.0.0 fits.1, out_bar p.1 fits.0.1 fits.2) refl) (new-joined g g.ends p)) in
-          let a = strictly g.order (joined g bar_y.0) (joined (over g ys) bar_y.0) (joined_equivalence g bar_y.0 is) (joined_equivalence (over g ys) bar_y.0 hy.graph) (joined_more g ys bar_y.0 bar_y.0 is hy (λ w ww t. t)) p.0 p.1 fits.0.0 fits.0.1 j f in
+          let j = adjacent_joined (with_ends g ys) bar_y.0 hy.graph p.0 p.1 (and_from (not (bar_y.0 p.0) && not (bar_y.0 p.1)) _ (rw (out_bar p.0 fits.0.0 fits.1, out_bar p.1 fits.0.1 fits.2) refl) (new-joined g g.ends p)) in
+          let a = strictly g.order (joined g bar_y.0) (joined (with_ends g ys) bar_y.0) (joined_equivalence g bar_y.0 is) (joined_equivalence (with_ends g ys) bar_y.0 hy.graph) (joined_more g ys bar_y.0 bar_y.0 is hy (λ w ww t. t)) p.0 p.1 fits.0.0 fits.0.1 j f in
           let b = class_count-components g bar_y.0 in
-          let c = class_count-components (over g ys) bar_y.0 in
+          let c = class_count-components (with_ends g ys) bar_y.0 in
           let i = components_y in let k = components_g in absurd (omega arith)
     ]
 
@@ -171,24 +172,24 @@ module _ (g : Graph) (is : IsGraph g) (cov : IsCovered g) (s : Set) (bar : IsBar
       }
 
   -- further edges within the components of g without b make no fewer components
-  pub same_components : (ps : List (ℕ × ℕ)) (b : Set) → ((p : ℕ × ℕ) → IsIn p ps → Within g.order p.0 × Within g.order p.1) → ((p : ℕ × ℕ) → IsIn p ps → joined g b p.0 p.1 ≡ true) → component_count (over g (with_pairs g.ends ps)) b ≡ component_count g b
+  pub same_components : (ps : List (ℕ × ℕ)) (b : Set) → ((p : ℕ × ℕ) → IsIn p ps → Within g.order p.0 × Within g.order p.1) → ((p : ℕ × ℕ) → IsIn p ps → joined g b p.0 p.1 ≡ true) → component_count (with_ends g (with_pairs g.ends ps)) b ≡ component_count g b
   same_components ps b w k =
       let h = keeps-with_pairs g (keeps-itself g is) ps w in
       let eg = joined_equivalence g b is in
-      let ex = joined_equivalence (over g (with_pairs g.ends ps)) b h.graph in
-      let a = coarser g.order (joined g b) (joined (over g (with_pairs g.ends ps)) b) eg ex (joined_more g (with_pairs g.ends ps) b b is h (λ w ww t. t)) in
-      let c = coarser g.order (joined (over g (with_pairs g.ends ps)) b) (joined g b) ex eg (λ c d wc wd j. joined_steps (over g (with_pairs g.ends ps)) g.ends b b h.graph is (λ x y wx wy t. step x y wx wy t) c d wc j) in
+      let ex = joined_equivalence (with_ends g (with_pairs g.ends ps)) b h.graph in
+      let a = coarser g.order (joined g b) (joined (with_ends g (with_pairs g.ends ps)) b) eg ex (joined_more g (with_pairs g.ends ps) b b is h (λ w ww t. t)) in
+      let c = coarser g.order (joined (with_ends g (with_pairs g.ends ps)) b) (joined g b) ex eg (λ c d wc wd j. joined_steps (with_ends g (with_pairs g.ends ps)) g.ends b b h.graph is (λ x y wx wy t. step x y wx wy t) c d wc j) in
       let i = class_count-components g b in
-      let j = class_count-components (over g (with_pairs g.ends ps)) b in omega arith
+      let j = class_count-components (with_ends g (with_pairs g.ends ps)) b in omega arith
     where
-      step : (x y : ℕ) → Within g.order x → Within g.order y → adjacent (over g (with_pairs g.ends ps)) b x y ≡ true → joined g b x y ≡ true
+      step : (x y : ℕ) → Within g.order x → Within g.order y → adjacent (with_ends g (with_pairs g.ends ps)) b x y ≡ true → joined g b x y ≡ true
       step x y wx wy t =
-          let q = adjacent-edge (over g (with_pairs g.ends ps)) b x y t in
+          let q = adjacent-edge (with_ends g (with_pairs g.ends ps)) b x y t in
           let e = each-with_pairs g (λ c d. b c ≡ false → b d ≡ false → (joined g b c d ≡ true) × (joined g b d c ≡ true)) ps
           (λ e we oc od. let j = adjacent_joined g b is (first_end g e) (second_end g e) (adjacent_from g b (first_end g e) (second_end g e) e oc od we (has_ends-own g e)) in
           (j, (joined_equivalence g b is).back (first_end g e) (second_end g e) (is e we).0 (is e we).1 j))
           (λ p i oc od. (k p i, (joined_equivalence g b is).back p.0 p.1 (w p i).0 (w p i).1 (k p i))) q.2.0 q.2.1 in
-          elim (has_ends-cases (over g (with_pairs g.ends ps)) x y q.2.0 q.2.2) [
+          elim (has_ends-cases (with_ends g (with_pairs g.ends ps)) x y q.2.0 q.2.2) [
             | inl z ↦ ap₂ (λ c d. joined g b c d) (sym z.0) (sym z.1) ∙ (e (ap b z.0 ∙ q.0) (ap b z.1 ∙ q.1)).0
             | inr z ↦ ap₂ (λ c d. joined g b c d) (sym z.1) (sym z.0) ∙ (e (ap b z.0 ∙ q.1) (ap b z.1 ∙ q.0)).1
           ]

@@ -8,7 +8,7 @@ use Rattle.counting.specs.Counts.{Within, bit, count, total}
 use Rattle.counting.specs.Sets.{Set, union}
 use Rattle.graph_core.specs.Components.{component_count}
 use Rattle.graph_core.specs.Covered.{IsCovered}
-use Rattle.graph_core.specs.Graph.{Graph, IsGraph, degree, first_end, second_end, size}
+use Rattle.graph_core.specs.Graph.{Graph, IsGraph, degree, first_end, second_end, size, with_ends}
 use Rattle.graph_core.specs.Matchings.{HasPerfect, IsPerfect}
 use Rattle.graph_core.specs.Structure.{Equivalent, IsBarrier}
 use Rattle.barrier_kit.proofs.ClassLaw.{perfect_or_not, equivalent_back, equivalent_on, class_barrier}
@@ -19,8 +19,9 @@ use Rattle.two_ears.proofs.BarrierComponents.{few_components, none_inside, unite
 use Rattle.two_ears.proofs.ComponentCuts.{odd_need}
 use Rattle.two_ears.proofs.JoinedClasses.{keeps-itself}
 use Rattle.two_ears.proofs.PairBarriers.{PairBarrier, pairs_barrier, same_components}
-use Rattle.two_ears.specs.AddedEdges.{KeepsEdges, over, with_pairs}
-use Rattle.two_ears.specs.VertexPairs.{AreDisjoint, IsIn, in_pairs, pairs_at, vertices_of}
+use Rattle.two_ears.specs.AddedEdges.{KeepsEdges, with_pairs}
+use Rattle.counting.specs.Lists.{IsIn}
+use Rattle.two_ears.specs.VertexPairs.{AreDisjoint, in_pairs, pairs_at, vertices_of}
 
 -- one of two for each pair of a list
 pub scan_pairs : (P Q : ℕ × ℕ → Type 0) → ((p : ℕ × ℕ) → P p ⊎ Q p) → (ps : List (ℕ × ℕ)) → ((p : ℕ × ℕ) × IsIn p ps × P p) ⊎ ((p : ℕ × ℕ) → IsIn p ps → Q p)
@@ -88,7 +89,7 @@ record Joint (g : Graph) (s : Set) (xs : List (ℕ × ℕ)) (es : List (ℕ × �
   b : Set
   less : (w : ℕ) → Within g.order w → b w ≡ true → s w ≡ true
   has : (w : ℕ) → 1 ≤ pairs_at es w → b w ≡ true
-  large : count g.order b + 1 ≤ component_count (over g xs) b + length es
+  large : count g.order b + 1 ≤ component_count (with_ends g xs) b + length es
 
 module _ (g : Graph) (is : IsGraph g) (cov : IsCovered g) (p0 : ℕ × ℕ) (rest : List (ℕ × ℕ)) (dis : AreDisjoint g.order (p0 ∷ rest)) (m : Set) (perfect : IsPerfect g (in_pairs (p0 ∷ rest)) m)
     (no_two : (p : ℕ × ℕ) → IsIn p (p0 ∷ rest) → (q : ℕ × ℕ) → IsIn q (p0 ∷ rest) → (k : Set) → IsPerfect g (union (vertices_of p) (vertices_of q)) k → ⊥) where
@@ -161,13 +162,13 @@ module _ (g : Graph) (is : IsGraph g) (cov : IsCovered g) (p0 : ℕ × ℕ) (res
   hx : KeepsEdges g xs
   hx = keeps-with_pairs g (keeps-itself g is) fs (λ p i. dis.within p (of_fs p i).0)
 
-  apart : (e : ℕ) → Within (size (over g xs)) e → first_end (over g xs) e ≢ second_end (over g xs) e → (s (first_end (over g xs) e) && s (second_end (over g xs) e)) ≡ false
+  apart : (e : ℕ) → Within (size (with_ends g xs)) e → first_end (with_ends g xs) e ≢ second_end (with_ends g xs) e → (s (first_end (with_ends g xs) e) && s (second_end (with_ends g xs) e)) ≡ false
   apart e w = each-with_pairs g (λ c d. c ≢ d → (s c && s d) ≡ false) fs
       (λ e we. none_inside g is cov g.ends (keeps-itself g is) s bar p0.0 (dis.within p0 (inl refl)).0 has0 e we)
       (λ p i n. and_left (s p.0) (s p.1) (of_fs p i).1) e w
 
   -- the barrier of one pair of s against all pairs outside
-  one : (p : ℕ × ℕ) → IsIn p (p0 ∷ es) → PairBarrier g s p.0 p.1 (λ b. component_count (over g xs) b ≡ count g.order b)
+  one : (p : ℕ × ℕ) → IsIn p (p0 ∷ es) → PairBarrier g s p.0 p.1 (λ b. component_count (with_ends g xs) b ≡ count g.order b)
   one p i =
       let r = of_es p i in
       let w = dis.within p r.0 in
@@ -209,7 +210,7 @@ module _ (g : Graph) (is : IsGraph g) (cov : IsCovered g) (p0 : ℕ × ℕ) (res
         large = let u = unite_parts g is cov s bar xs hx apart j.b t.b j.less t.less (length (q ∷ qs)) j.large t.keeps in omega arith;
       }
     where
-      has : (j : Joint g s xs (q ∷ qs)) (t : PairBarrier g s p.0 p.1 (λ b. component_count (over g xs) b ≡ count g.order b)) → (w : ℕ) → 1 ≤ (bit (p.0 == w) + bit (p.1 == w)) + pairs_at (q ∷ qs) w → union j.b t.b w ≡ true
+      has : (j : Joint g s xs (q ∷ qs)) (t : PairBarrier g s p.0 p.1 (λ b. component_count (with_ends g xs) b ≡ count g.order b)) → (w : ℕ) → 1 ≤ (bit (p.0 == w) + bit (p.1 == w)) + pairs_at (q ∷ qs) w → union j.b t.b w ≡ true
       has j t w l = elim (cases_eq (pairs_at (q ∷ qs) w) 0) [
         | inl e ↦ or_right (j.b w) (t.b w) (holds_ends t.b p t.has_u t.has_v w (omega arith))
         | inr d ↦ or_left (j.b w) (t.b w) (j.has w (omega arith))
@@ -235,10 +236,10 @@ module _ (g : Graph) (is : IsGraph g) (cov : IsCovered g) (p0 : ℕ × ℕ) (res
   some_covers qs v l = ap not (ne_eqb (pairs_at qs v) 0 (λ e. omega arith))
 
   -- m with the pairs outside s is a perfect matching of what is left by the pairs in s
-  perfect_x : IsPerfect (over g xs) (in_pairs (p0 ∷ es)) (with_new g m)
+  perfect_x : IsPerfect (with_ends g xs) (in_pairs (p0 ∷ es)) (with_new g m)
   perfect_x = record { once = once; away = away }
     where
-      once : (v : ℕ) → Within g.order v → in_pairs (p0 ∷ es) v ≡ false → degree (over g xs) (with_new g m) v ≡ 1
+      once : (v : ℕ) → Within g.order v → in_pairs (p0 ∷ es) v ≡ false → degree (with_ends g xs) (with_new g m) v ≡ 1
       once v w o =
           let a = degree-with_pairs g m fs v in
           let b = covers_none (p0 ∷ es) v o in
@@ -249,7 +250,7 @@ module _ (g : Graph) (is : IsGraph g) (cov : IsCovered g) (p0 : ℕ × ℕ) (res
             | inr z ↦ let e = perfect.away v w (some_covers ps v (omega arith)) in omega arith
           ]
 
-      away : (v : ℕ) → Within g.order v → in_pairs (p0 ∷ es) v ≡ true → degree (over g xs) (with_new g m) v ≡ 0
+      away : (v : ℕ) → Within g.order v → in_pairs (p0 ∷ es) v ≡ true → degree (with_ends g xs) (with_new g m) v ≡ 0
       away v w o =
           let a = degree-with_pairs g m fs v in
           let b = covers_some (p0 ∷ es) v o in
@@ -270,7 +271,7 @@ module _ (g : Graph) (is : IsGraph g) (cov : IsCovered g) (p0 : ℕ × ℕ) (res
       let j = joint p0 es (λ q i. i) in
       let l : 1 ≤ pairs_at (p0 ∷ es) p0.0 = let x = ap bit (eq-eqb p0.0 p0.0 refl) in omega arith in
       let a = few_components g is cov s bar xs hx j.b j.less p0.0 w0 (j.has p0.0 l) in
-      let b = odd_need (over g xs) xs (in_pairs (p0 ∷ es)) (with_new g m) j.b hx.graph (keeps-itself (over g xs) hx.graph) perfect_x (λ v w t. j.has v (covers_some (p0 ∷ es) v t)) in
+      let b = odd_need (with_ends g xs) xs (in_pairs (p0 ∷ es)) (with_new g m) j.b hx.graph (keeps-itself (with_ends g xs) hx.graph) perfect_x (λ v w t. j.has v (covers_some (p0 ∷ es) v t)) in
       let c = count_covers in
       let d = j.large in omega arith
 

@@ -2,11 +2,7 @@
 use Rattle.std.specs.Prelude.{◌≡◌, ℕ, true, List, [], ◌∷◌, ◌++◌}
 use Rattle.counting.specs.Counts.{Within}
 use Rattle.counting.specs.Tests.{some}
-use Rattle.graph_core.specs.Graph.{Graph, size, first_end, second_end, IsGraph, has_ends}
-
--- the vertices of g with other edges
-abbrev pub over : Graph → List (ℕ × ℕ) → Graph
-over g xs = record { order = g.order; ends = xs }
+use Rattle.graph_core.specs.Graph.{Graph, size, first_end, second_end, IsGraph, has_ends, with_ends}
 
 -- the list with further pairs at its end
 abbrev pub with_pairs : List (ℕ × ℕ) → List (ℕ × ℕ) → List (ℕ × ℕ)
@@ -15,5 +11,5 @@ with_pairs es (p ∷ ps) = with_pairs es ps ++ p ∷ []
 
 -- g with the edges xs in place of its own has an edge wherever g has one
 pub record KeepsEdges (g : Graph) (xs : List (ℕ × ℕ)) : Type 0 where
-  pub graph : IsGraph (over g xs)
-  pub old : (e : ℕ) → Within (size g) e → some (size (over g xs)) (has_ends (over g xs) (first_end g e) (second_end g e)) ≡ true
+  pub graph : IsGraph (with_ends g xs)
+  pub old : (e : ℕ) → Within (size g) e → some (size (with_ends g xs)) (has_ends (with_ends g xs) (first_end g e) (second_end g e)) ≡ true

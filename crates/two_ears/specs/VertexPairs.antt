@@ -1,16 +1,12 @@
 -- Lists of pairs of vertices.
-use Rattle.std.specs.Prelude.{◌≡◌, ℕ, ◌+◌, ◌≤◌, ◌⊎◌, List, [], ◌∷◌, ◌==◌, not}
+use Rattle.std.specs.Prelude.{ℕ, ◌+◌, ◌≤◌, List, [], ◌∷◌, ◌==◌, not}
 use Rattle.counting.specs.Counts.{bit, Within}
+use Rattle.counting.specs.Lists.{IsIn}
 use Rattle.counting.specs.Sets.{Set, pair_set}
 
 -- the two vertices of a pair
 abbrev pub vertices_of : ℕ × ℕ → Set
 vertices_of p = pair_set p.0 p.1
-
--- p is in the list
-abbrev pub IsIn : ℕ × ℕ → List (ℕ × ℕ) → Type 0
-IsIn p [] = ⊥
-IsIn p (q ∷ ps) = (p ≡ q) ⊎ IsIn p ps
 
 -- how often v is a vertex of a pair of the list
 abbrev pub pairs_at : List (ℕ × ℕ) → ℕ → ℕ

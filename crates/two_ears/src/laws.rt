@@ -3,11 +3,12 @@ ghost use Rattle.std.specs.Prelude.{◌≡◌, ◌≢◌, ◌⊎◌, ℕ, true, 
 ghost use Rattle.counting.specs.Counts.{Within};
 ghost use Rattle.counting.specs.Sets.{Set, pair_set, union};
 ghost use Rattle.graph_core.specs.Covered.{IsCovered};
-ghost use Rattle.graph_core.specs.Graph.{Graph, IsGraph};
+ghost use Rattle.graph_core.specs.Graph.{Graph, IsGraph, with_ends};
 ghost use Rattle.graph_core.specs.Matchings.{HasPerfect};
 ghost use Rattle.barrier_kit.specs.BarrierCuts.{IsSide};
-ghost use Rattle.two_ears.specs.AddedEdges.{over, with_pairs};
-ghost use Rattle.two_ears.specs.VertexPairs.{AreDisjoint, IsIn, in_pairs, vertices_of};
+ghost use Rattle.two_ears.specs.AddedEdges.{with_pairs};
+ghost use Rattle.counting.specs.Lists.{IsIn};
+ghost use Rattle.two_ears.specs.VertexPairs.{AreDisjoint, in_pairs, vertices_of};
 
 /// Of pairs of vertices without which together a matching covered graph has a perfect matching two are such, or one is: p and q may
 /// be one pair.
@@ -19,9 +20,9 @@ pub fn two_ears_law()
 /// Where a matching covered graph is matching covered with further edges, it is with one of them, or with two.
 pub fn further_edges_law()
     ensures { (g : Graph) → IsGraph g → IsCovered g → (ps : List (ℕ × ℕ)) → ps ≢ [] → ((p : ℕ × ℕ) → IsIn p ps → Within g.order p.0 × Within g.order p.1)
-        → ((p : ℕ × ℕ) → IsIn p ps → p.0 ≢ p.1) → IsCovered (over g (with_pairs g.ends ps))
-        → ((p : ℕ × ℕ) × IsIn p ps × IsCovered (over g (with_pairs g.ends (p ∷ []))))
-        ⊎ ((p : ℕ × ℕ) × (q : ℕ × ℕ) × IsIn p ps × IsIn q ps × IsCovered (over g (with_pairs g.ends (p ∷ q ∷ [])))) }
+        → ((p : ℕ × ℕ) → IsIn p ps → p.0 ≢ p.1) → IsCovered (with_ends g (with_pairs g.ends ps))
+        → ((p : ℕ × ℕ) × IsIn p ps × IsCovered (with_ends g (with_pairs g.ends (p ∷ []))))
+        ⊎ ((p : ℕ × ℕ) × (q : ℕ × ℕ) × IsIn p ps × IsIn q ps × IsCovered (with_ends g (with_pairs g.ends (p ∷ q ∷ [])))) }
 {}
 
 /// A bipartite matching covered graph has a perfect matching without any two vertices on opposite sides.

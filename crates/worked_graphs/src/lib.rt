@@ -6,9 +6,11 @@
 //! Stands on `graph_core`. Source of the graphs: Lovász and Plummer, "Matching Theory"; Lucchesi and Murty, "Perfect Matchings".
 #![tactic(auto)]
 
-ghost use Rattle.std.specs.Prelude.{◌≡◌, ◌≤◌, IfOk};
+ghost use Rattle.std.specs.Prelude.{◌≡◌, ℕ, ◌<◌, ◌≤◌, length, IfOk, OnOk, IsErrOf};
+ghost use Rattle.counting.specs.Counts.{Within};
+ghost use Rattle.worked_graphs.specs.EdgeFaults.{IsReached, JoinsTwo, pair_at};
 
-use graph_core::{AddFault, MultiGraph};
+use graph_core::{AddFault, MOST_EDGES, MultiGraph};
 use std::alloc::Global;
 use vset_core::MOST_VERTICES;
 
@@ -140,15 +142,26 @@ pub const TWO_K4: [(u32, u32); 11] = [
     (5, 6),
 ];
 
-/// The graph of `order` vertices with these edges, numbered in their order. The errors are those of `add_edge` at the first edge that has one,
-/// and `Memory`.
+/// The graph of `order` vertices with these edges, numbered in their order. A fault is that of the first edge that has one: `Range`
+/// where an end is no vertex, `Loop` where the two ends are one vertex, `TooMany` where there are `MOST_EDGES` edges before it; without
+/// a fault there is no error but `Memory`.
 pub fn graph_with(alloc: Global, order: u32, edges: &[(u32, u32)]) -> Result<MultiGraph, AddFault>
     requires { order ≤ MOST_VERTICES }
-    ensures { IfOk result (λ g. g ≡ record { order = order; ends = edges.now }) }
+    ensures graph { IfOk result (λ g. g ≡ record { order = order; ends = edges.now }) }
+    ensures fits { OnOk result ((k : ℕ) → k < length edges.now → JoinsTwo order (pair_at edges.now k)) }
+    ensures few { OnOk result (length edges.now ≤ MOST_EDGES) }
+    ensures range { IsErrOf result AddFault.Range → (k : ℕ) × IsReached order edges.now k
+        × ¬ (Within order (pair_at edges.now k).0 × Within order (pair_at edges.now k).1) }
+    ensures equal { IsErrOf result AddFault.Loop → (k : ℕ) × IsReached order edges.now k
+        × Within order (pair_at edges.now k).0 × ((pair_at edges.now k).0 ≡ (pair_at edges.now k).1) }
+    ensures too_many { IsErrOf result AddFault.TooMany → (k : ℕ) × IsReached order edges.now k
+        × JoinsTwo order (pair_at edges.now k) × (k ≡ MOST_EDGES) }
 {
     let mut graph = MultiGraph::new(alloc, order).map_err(|_| AddFault::Memory)?;
     for edge in edges {
+        graph.keeps_limits();
         graph.add_edge(edge.0, edge.1)?;
     }
+    graph.keeps_limits();
     Ok(graph)
 }

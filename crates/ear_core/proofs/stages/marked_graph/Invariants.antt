@@ -1,13 +1,12 @@
 use Rattle.std.proofs.Common.{◌≡◌, ◌≤◌}
-use Rattle.graph_core.specs.Graph.{size}
+use Rattle.graph_core.specs.Graph.{size, with_ends}
 use Rattle.match_core.specs.Rows.{marks}
 use Rattle.ear_core.specs.StageGraphs.{listed}
-use Rattle.two_ears.specs.AddedEdges.{over}
 use Rattle.ear_core.proofs.stages.marked_graph.Given as goal
 
 -- the marked edges so far
 abbrev pub invariant-loop-k : goal.invariant-loop-k
 invariant-loop-k l = record {
-  is : l.stage ≡ over l.g (listed l.g (marks l.mark) l.k);
+  is : l.stage ≡ with_ends l.g (listed l.g (marks l.mark) l.k);
   few : size l.stage ≤ l.k;
 }

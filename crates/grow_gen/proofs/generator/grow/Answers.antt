@@ -5,7 +5,8 @@ use Rattle.rand_pcg.specs.Pcg.{multiplier_64, pcg32}
 use Rattle.grow_gen.specs.Pieces.{further_piece}
 use Rattle.grow_gen.specs.Growing.{growth_of}
 use Rattle.grow_gen.specs.Growth.{Growth, MayTake, first_growth, growth_from, grown, with_piece}
-use Rattle.grow_gen.specs.Cubic.{IsCubic, HasNoParallel}
+use Rattle.graph_core.specs.Simple.{IsSimple}
+use Rattle.grow_gen.specs.Cubic.{IsCubic}
 use Rattle.grow_gen.proofs.SoundGrowth.{IsSound, sound-first, sound-next, may-take}
 use Rattle.grow_gen.proofs.generator.grow.Goals as goal
 
@@ -59,4 +60,4 @@ pub returns-clause-cubic : goal.returns-clause-cubic
 returns-clause-cubic c = IfOk-weaker c.to_graph.result _ IsCubic (λ g e. subst IsCubic (sym e) c.loop-i.invariant.sound.cubic) c.to_graph.ensures
 
 pub returns-clause-simple : goal.returns-clause-simple
-returns-clause-simple c = IfOk-weaker c.to_graph.result _ HasNoParallel (λ g e. subst HasNoParallel (sym e) c.loop-i.invariant.sound.simple) c.to_graph.ensures
+returns-clause-simple c = IfOk-weaker c.to_graph.result _ IsSimple (λ g e. subst IsSimple (sym e) c.loop-i.invariant.sound.simple) c.to_graph.ensures
