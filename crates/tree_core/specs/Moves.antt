@@ -88,31 +88,31 @@ abbrev pub list_if : Bool → List ℕ → List ℕ
 list_if t x = cond t x []
 
 -- n in v, below `kept`: a shore that contains u gains the rest of the outer side
-abbrev pub kept_if_in_v : ℕ → (x u v : List ℕ) → Shape → Shape
-kept_if_in_v n x u v leaf = leaf
-kept_if_in_v n x u v (cut s a b) = cut (if is_subset u s then union_list n s (outer_rest n x v) else s) (kept_if_in_v n x u v a) (kept_if_in_v n x u v b)
+abbrev pub kept_if_greatest_comes : ℕ → (x u v : List ℕ) → Shape → Shape
+kept_if_greatest_comes n x u v leaf = leaf
+kept_if_greatest_comes n x u v (cut s a b) = cut (if is_subset u s then union_list n s (outer_rest n x v) else s) (kept_if_greatest_comes n x u v a) (kept_if_greatest_comes n x u v b)
 
 -- n in v, below `merged`: a shore that contains x has u in its place
-abbrev pub merged_if_in_v : ℕ → (x u : List ℕ) → Shape → Shape
-merged_if_in_v n x u leaf = leaf
-merged_if_in_v n x u (cut s a b) = cut (if is_subset x s then union_list n (minus_list n s x) u else s) (merged_if_in_v n x u a) (merged_if_in_v n x u b)
+abbrev pub merged_if_greatest_comes : ℕ → (x u : List ℕ) → Shape → Shape
+merged_if_greatest_comes n x u leaf = leaf
+merged_if_greatest_comes n x u (cut s a b) = cut (if is_subset x s then union_list n (minus_list n s x) u else s) (merged_if_greatest_comes n x u a) (merged_if_greatest_comes n x u b)
 
 -- n outside v, below `kept`: a shore s that contains u becomes x without s, with v, and its two trees change places
-abbrev pub kept_if_in_q : ℕ → (x u v : List ℕ) → Shape → Shape
-kept_if_in_q n x u v leaf = leaf
-kept_if_in_q n x u v (cut s a b) =
+abbrev pub kept_if_greatest_stays : ℕ → (x u v : List ℕ) → Shape → Shape
+kept_if_greatest_stays n x u v leaf = leaf
+kept_if_greatest_stays n x u v (cut s a b) =
     if is_subset u s
-    then cut (union_list n (minus_list n x s) v) (kept_if_in_q n x u v b) (kept_if_in_q n x u v a)
-    else cut s (kept_if_in_q n x u v a) (kept_if_in_q n x u v b)
+    then cut (union_list n (minus_list n x s) v) (kept_if_greatest_stays n x u v b) (kept_if_greatest_stays n x u v a)
+    else cut s (kept_if_greatest_stays n x u v a) (kept_if_greatest_stays n x u v b)
 
 -- n outside v, below `merged`: what of s is outside x and v, with u if s contains x, and with v and the rest of x if s contains v
-abbrev pub merged_shore_if_in_q : ℕ → (x u v s : List ℕ) → List ℕ
-merged_shore_if_in_q n x u v s = union_list n (minus_list n (minus_list n s x) v) (union_list n (list_if (is_subset x s) u) (list_if (is_subset v s) (union_list n (inner_rest n x u) v)))
+abbrev pub merged_shore_if_greatest_stays : ℕ → (x u v s : List ℕ) → List ℕ
+merged_shore_if_greatest_stays n x u v s = union_list n (minus_list n (minus_list n s x) v) (union_list n (list_if (is_subset x s) u) (list_if (is_subset v s) (union_list n (inner_rest n x u) v)))
 
 -- each shore below `merged` so
-abbrev pub merged_if_in_q : ℕ → (x u v : List ℕ) → Shape → Shape
-merged_if_in_q n x u v leaf = leaf
-merged_if_in_q n x u v (cut s a b) = cut (merged_shore_if_in_q n x u v s) (merged_if_in_q n x u v a) (merged_if_in_q n x u v b)
+abbrev pub merged_if_greatest_stays : ℕ → (x u v : List ℕ) → Shape → Shape
+merged_if_greatest_stays n x u v leaf = leaf
+merged_if_greatest_stays n x u v (cut s a b) = cut (merged_shore_if_greatest_stays n x u v s) (merged_if_greatest_stays n x u v a) (merged_if_greatest_stays n x u v b)
 
 -- a nonempty proper subset
 abbrev pub is_proper : List ℕ → List ℕ → Bool
@@ -124,8 +124,8 @@ switch_result_at n u v leaf = None
 switch_result_at n u v (cut x a b) =
     if is_proper u x && is_proper v (complement_of n x)
     then Some (if mem v n
-    then cut (union_list n (outer_rest n x v) u) (merged_if_in_v n x u b) (kept_if_in_v n x u v a)
-    else cut (union_list n (inner_rest n x u) v) (kept_if_in_q n x u v a) (merged_if_in_q n x u v b))
+    then cut (union_list n (outer_rest n x v) u) (merged_if_greatest_comes n x u b) (kept_if_greatest_comes n x u v a)
+    else cut (union_list n (inner_rest n x u) v) (kept_if_greatest_stays n x u v a) (merged_if_greatest_stays n x u v b))
     else None
 
 -- Switch with a path to its node

@@ -14,7 +14,7 @@ use Rattle.graph_core.specs.Graph.{Graph}
 use Rattle.graph_core.specs.Partitions.{complement_of, contracted, merged}
 use Rattle.graph_core.specs.Shores.{block_count}
 use Rattle.tree_core.specs.Derivations.{IsDerivationAt, kept_at, merged_at}
-use Rattle.tree_core.specs.Moves.{IsBlockOf, PlainMove, below, inner_rest, is_proper, kept_if_in_q, kept_if_in_v, merged_if_in_q, merged_if_in_v, outer_rest, rotate_at, rotate_result_at, switch_at, switch_result_at, union_list}
+use Rattle.tree_core.specs.Moves.{IsBlockOf, PlainMove, below, inner_rest, is_proper, kept_if_greatest_stays, kept_if_greatest_comes, merged_if_greatest_stays, merged_if_greatest_comes, outer_rest, rotate_at, rotate_result_at, switch_at, switch_result_at, union_list}
 use Rattle.tree_core.specs.Shapes.{Shape, cut, cut_count, leaf}
 use Rattle.tree_core.specs.declared.path.Side.{Side}
 use Rattle.tree_core.specs.declared.path.Side.TheVariants.{Kept, Merged}
@@ -23,7 +23,7 @@ use Rattle.uncross.proofs.Corners.{Corners, corner_of, inner_mem, inner_single_o
 use Rattle.uncross.proofs.NestedShores.{Cross, Crossed, Exposed, Exposes, stays_big}
 use Rattle.uncross.proofs.Rising.{bounds}
 use Rattle.uncross.proofs.Scripts.{length_below, length_join, walk_end, walk_join, walk_kept, walk_merged, walk_rotate}
-use Rattle.uncross.proofs.Switches.{each_of, kept_in_q, kept_in_v, map_a, map_b, merged_in_q, merged_in_v, inner_rest-mem, outer_rest-mem, switch_in_q, switch_in_v}
+use Rattle.uncross.proofs.Switches.{each_of, kept_greatest_stays, kept_greatest_comes, map_a, map_b, merged_greatest_stays, merged_greatest_comes, inner_rest-mem, outer_rest-mem, switch_greatest_stays, switch_greatest_comes}
 use Rattle.uncross.specs.Exchange.{Corner}
 use Rattle.uncross.specs.Plans.{inner_of, outer_of, outer_shore, partner}
 use Rattle.uncross.specs.Isomorphisms.{carry, carry_cut}
@@ -137,30 +137,30 @@ module _ (g : Graph) (p : List (List ℕ)) (x z y : List ℕ) (c : Corners g p x
           let nv : mem o g.order ≡ true = outer_mem g p x z c g.order last ∙ outside (mem x g.order) (mem z g.order) nx (h g.order last ∙ ny) in
           let ye : union_list g.order (outer_rest g.order x o) i ≡ y = same_rising_list g.order (union_list g.order (outer_rest g.order x o) i) y (rising_list-rises g.order (union (mem (outer_rest g.order x o)) (mem i))) sy
           (λ w ww. mem-rising_list g.order (union (mem (outer_rest g.order x o)) (mem i)) w ww ∙ ap₂ ◌||◌ (outer_rest-mem g p c.stage x i o s t c.first nx si so co w ww ∙ ap (λ k. not (mem x w) && not k) (outer_mem g p x z c w ww)) (inner_mem g p x z c w ww) ∙ is_z (mem x w) (mem z w) ∙ h w ww) in
-          let der = switch_in_v g p c.stage x i o s t c.first nx si so co a b f d nv (subst (Big g p) (sym ye) y_big) in
-          let ka = kept_in_v g p c.stage x i o s t c.first nx si so co nv a f.1 (each_of g (kept_at g.order p x) a ska f.1 d.1) in
-          let kb = merged_in_v g p c.stage x i o s t c.first nx si so co nv b f.2 (each_of g (merged_at g.order p x) b sma f.2 d.2) in
+          let der = switch_greatest_comes g p c.stage x i o s t c.first nx si so co a b f d nv (subst (Big g p) (sym ye) y_big) in
+          let ka = kept_greatest_comes g p c.stage x i o s t c.first nx si so co nv a f.1 (each_of g (kept_at g.order p x) a ska f.1 d.1) in
+          let kb = merged_greatest_comes g p c.stage x i o s t c.first nx si so co nv b f.2 (each_of g (merged_at g.order p x) b sma f.2 d.2) in
           let fa = subst (λ q. AreRising g.order q × (cut_count q ≡ cut_count a)) (sym ka) (fits_carry g.order (map_a g p c.stage x i o s t c.first nx si so co) a) in
           let fb = subst (λ q. AreRising g.order q × (cut_count q ≡ cut_count b)) (sym kb) (fits_carry g.order (map_b g p c.stage x i o s t c.first nx si so co) b) in
-          let a' = merged_if_in_v g.order x i b in let b' = kept_if_in_v g.order x i o a in
+          let a' = merged_if_greatest_comes g.order x i b in let b' = kept_if_greatest_comes g.order x i o a in
           let e : switch_result_at g.order i o (cut x a b) ≡ Some (cut y a' b') =
-          ap (λ k. if k then Some (if mem o g.order then cut (union_list g.order (outer_rest g.order x o) i) a' b' else cut (union_list g.order (inner_rest g.order x i) o) (kept_if_in_q g.order x i o a) (merged_if_in_q g.order x i o b)) else None) both_proper
-          ∙ ap (λ k. Some (if k then cut (union_list g.order (outer_rest g.order x o) i) a' b' else cut (union_list g.order (inner_rest g.order x i) o) (kept_if_in_q g.order x i o a) (merged_if_in_q g.order x i o b))) nv
+          ap (λ k. if k then Some (if mem o g.order then cut (union_list g.order (outer_rest g.order x o) i) a' b' else cut (union_list g.order (inner_rest g.order x i) o) (kept_if_greatest_stays g.order x i o a) (merged_if_greatest_stays g.order x i o b)) else None) both_proper
+          ∙ ap (λ k. Some (if k then cut (union_list g.order (outer_rest g.order x o) i) a' b' else cut (union_list g.order (inner_rest g.order x i) o) (kept_if_greatest_stays g.order x i o a) (merged_if_greatest_stays g.order x i o b))) nv
           ∙ ap (λ k. Some (cut k a' b')) ye in
           (a', b', e, (cut y a' b', e, ((si, so), (s, bi), (t, bo)), subst (λ k. IsDerivationAt g p (cut k a' b')) ye der, (sy, fb.0, fa.0), omega (arith, fa.1, fb.1), refl))
       | inr h ↦
           let nv : mem o g.order ≡ false = outer_mem g p x z c g.order last ∙ within (mem x g.order) (mem z g.order) (h g.order last ∙ ap not ny) in
           let ye : union_list g.order (inner_rest g.order x i) o ≡ y = same_rising_list g.order (union_list g.order (inner_rest g.order x i) o) y (rising_list-rises g.order (union (mem (inner_rest g.order x i)) (mem o))) sy
           (λ w ww. mem-rising_list g.order (union (mem (inner_rest g.order x i)) (mem o)) w ww ∙ ap₂ ◌||◌ (inner_rest-mem g p c.stage x i o s t c.first nx si so co w ww ∙ ap (λ k. mem x w && not k) (inner_mem g p x z c w ww)) (outer_mem g p x z c w ww) ∙ not_z (mem x w) (mem z w) ∙ ap not (h w ww) ∙ twice (mem y w)) in
-          let der = switch_in_q g p c.stage x i o s t c.first nx si so co a b f d nv (subst (Big g p) (sym ye) y_big) in
-          let ka = kept_in_q g p c.stage x i o s t c.first nx si so co nv a f.1 (each_of g (kept_at g.order p x) a ska f.1 d.1) in
-          let kb = merged_in_q g p c.stage x i o s t c.first nx si so co nv b f.2 (each_of g (merged_at g.order p x) b sma f.2 d.2) in
+          let der = switch_greatest_stays g p c.stage x i o s t c.first nx si so co a b f d nv (subst (Big g p) (sym ye) y_big) in
+          let ka = kept_greatest_stays g p c.stage x i o s t c.first nx si so co nv a f.1 (each_of g (kept_at g.order p x) a ska f.1 d.1) in
+          let kb = merged_greatest_stays g p c.stage x i o s t c.first nx si so co nv b f.2 (each_of g (merged_at g.order p x) b sma f.2 d.2) in
           let fa = subst (λ q. AreRising g.order q × (cut_count q ≡ cut_count a)) (sym ka) (fits_carry g.order (map_a g p c.stage x i o s t c.first nx si so co) a) in
           let fb = subst (λ q. AreRising g.order q × (cut_count q ≡ cut_count b)) (sym kb) (fits_carry g.order (map_b g p c.stage x i o s t c.first nx si so co) b) in
-          let a' = kept_if_in_q g.order x i o a in let b' = merged_if_in_q g.order x i o b in
+          let a' = kept_if_greatest_stays g.order x i o a in let b' = merged_if_greatest_stays g.order x i o b in
           let e : switch_result_at g.order i o (cut x a b) ≡ Some (cut y a' b') =
-          ap (λ k. if k then Some (if mem o g.order then cut (union_list g.order (outer_rest g.order x o) i) (merged_if_in_v g.order x i b) (kept_if_in_v g.order x i o a) else cut (union_list g.order (inner_rest g.order x i) o) a' b') else None) both_proper
-          ∙ ap (λ k. Some (if k then cut (union_list g.order (outer_rest g.order x o) i) (merged_if_in_v g.order x i b) (kept_if_in_v g.order x i o a) else cut (union_list g.order (inner_rest g.order x i) o) a' b')) nv
+          ap (λ k. if k then Some (if mem o g.order then cut (union_list g.order (outer_rest g.order x o) i) (merged_if_greatest_comes g.order x i b) (kept_if_greatest_comes g.order x i o a) else cut (union_list g.order (inner_rest g.order x i) o) a' b') else None) both_proper
+          ∙ ap (λ k. Some (if k then cut (union_list g.order (outer_rest g.order x o) i) (merged_if_greatest_comes g.order x i b) (kept_if_greatest_comes g.order x i o a) else cut (union_list g.order (inner_rest g.order x i) o) a' b')) nv
           ∙ ap (λ k. Some (cut k a' b')) ye in
           (a', b', e, (cut y a' b', e, ((si, so), (s, bi), (t, bo)), subst (λ k. IsDerivationAt g p (cut k a' b')) ye der, (sy, fa.0, fb.0), omega (arith, fa.1, fb.1), refl))
     ]

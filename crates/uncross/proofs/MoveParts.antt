@@ -14,7 +14,7 @@ use Rattle.tree_core.proofs.Sizes.{length-leaves_at}
 use Rattle.tree_core.specs.Derivations.{IsCutAt, IsDerivationAt, kept_at, merged_at}
 use Rattle.tree_core.specs.LeafMaps.{move_maps, move_order, names_at, numbers, order_at, rotate_order, switch_names, switch_order}
 use Rattle.tree_core.specs.Leaves.{leaves, leaves_at}
-use Rattle.tree_core.specs.Moves.{BlocksAt, IsProper, PlainMove, inner_rest, is_proper, kept_if_in_q, kept_if_in_v, merged_if_in_q, merged_if_in_v, outer_rest, union_list, last_step, move_result, parent_path, result_at, rotate_at, rotate_result_at, switch_at, switch_result_at}
+use Rattle.tree_core.specs.Moves.{BlocksAt, IsProper, PlainMove, inner_rest, is_proper, kept_if_greatest_stays, kept_if_greatest_comes, merged_if_greatest_stays, merged_if_greatest_comes, outer_rest, union_list, last_step, move_result, parent_path, result_at, rotate_at, rotate_result_at, switch_at, switch_result_at}
 use Rattle.tree_core.specs.Shapes.{Shape, cut, leaf, leaf_count}
 use Rattle.tree_core.specs.declared.path.Side.{Side}
 use Rattle.tree_core.specs.declared.path.Side.TheVariants.{Kept, Merged}
@@ -67,7 +67,7 @@ switch_node : (g : Graph) (p : List (List ℕ)) (k : ℕ) (u v : List ℕ) (s t 
 switch_node g p k u v leaf t st f d dt blocks e = absurd (none-some _ e)
 switch_node g p k u v (cut x a b) t st f d dt blocks e = go (is_proper u x && is_proper v (complement_of g.order x)) refl e
   where
-    go : (c : Bool) → (is_proper u x && is_proper v (complement_of g.order x)) ≡ c → (if c then Some (if mem v g.order then cut (union_list g.order (outer_rest g.order x v) u) (merged_if_in_v g.order x u b) (kept_if_in_v g.order x u v a) else cut (union_list g.order (inner_rest g.order x u) v) (kept_if_in_q g.order x u v a) (merged_if_in_q g.order x u v b)) else None) ≡ Some t → Part g k (leaves_at g.order p (cut x a b)) (leaves_at g.order p t) (switch_order g.order u v k (cut x a b)) (switch_names g.order u v p (cut x a b))
+    go : (c : Bool) → (is_proper u x && is_proper v (complement_of g.order x)) ≡ c → (if c then Some (if mem v g.order then cut (union_list g.order (outer_rest g.order x v) u) (merged_if_greatest_comes g.order x u b) (kept_if_greatest_comes g.order x u v a) else cut (union_list g.order (inner_rest g.order x u) v) (kept_if_greatest_stays g.order x u v a) (merged_if_greatest_stays g.order x u v b)) else None) ≡ Some t → Part g k (leaves_at g.order p (cut x a b)) (leaves_at g.order p t) (switch_order g.order u v k (cut x a b)) (switch_names g.order u v p (cut x a b))
     go false h e = absurd (none-some _ e)
     go true h e = switch_part g p st x u v blocks.0.0 blocks.0.1 blocks.1.0 blocks.2.0 blocks.1.1 blocks.2.1 a b f d h k t dt (same_Some _ _ e)
 
@@ -204,6 +204,6 @@ pub switch_derives_law : (g : Graph) (p : List (List ℕ)) (s : Shape) (u v z : 
 switch_derives_law g p leaf u v z a b is list cov d blocks e cz = absurd (none-some _ e)
 switch_derives_law g p (cut x c m) u v z a b is list cov d blocks e cz = go (is_proper u x && is_proper v (complement_of g.order x)) refl e
   where
-    go : (t : Bool) → (is_proper u x && is_proper v (complement_of g.order x)) ≡ t → (if t then Some (if mem v g.order then cut (union_list g.order (outer_rest g.order x v) u) (merged_if_in_v g.order x u m) (kept_if_in_v g.order x u v c) else cut (union_list g.order (inner_rest g.order x u) v) (kept_if_in_q g.order x u v c) (merged_if_in_q g.order x u v m)) else None) ≡ Some (cut z a b) → IsDerivationAt g p (cut z a b)
+    go : (t : Bool) → (is_proper u x && is_proper v (complement_of g.order x)) ≡ t → (if t then Some (if mem v g.order then cut (union_list g.order (outer_rest g.order x v) u) (merged_if_greatest_comes g.order x u m) (kept_if_greatest_comes g.order x u v c) else cut (union_list g.order (inner_rest g.order x u) v) (kept_if_greatest_stays g.order x u v c) (merged_if_greatest_stays g.order x u v m)) else None) ≡ Some (cut z a b) → IsDerivationAt g p (cut z a b)
     go false h e = absurd (none-some _ e)
     go true h e = switch_derives g p (record { graph = is; list = list; covered = cov }) x u v blocks.0.0 blocks.0.1 blocks.1.0 blocks.2.0 blocks.1.1 blocks.2.1 c m (rising-derivation_at g p (cut x c m) d) d h z a b cz (same_Some _ _ e)

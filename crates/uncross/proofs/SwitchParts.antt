@@ -13,9 +13,9 @@ use Rattle.graph_core.specs.Partitions.{IsMerge, complement_of}
 use Rattle.graph_core.specs.Shores.{IsTightAt, IsUnion}
 use Rattle.tree_core.proofs.Sizes.{length-leaves_at}
 use Rattle.tree_core.specs.Derivations.{IsCutAt, IsDerivationAt, kept_at, merged_at}
-use Rattle.tree_core.specs.LeafMaps.{kept_image, kept_order_if_in_q, merged_image, numbers, switch_names, switch_order}
+use Rattle.tree_core.specs.LeafMaps.{kept_image, kept_order_if_greatest_stays, merged_image, numbers, switch_names, switch_order}
 use Rattle.tree_core.specs.Leaves.{leaves_at}
-use Rattle.tree_core.specs.Moves.{IsBlockOf, inner_rest, is_proper, kept_if_in_q, kept_if_in_v, merged_if_in_q, merged_if_in_v, outer_rest, union_list}
+use Rattle.tree_core.specs.Moves.{IsBlockOf, inner_rest, is_proper, kept_if_greatest_stays, kept_if_greatest_comes, merged_if_greatest_stays, merged_if_greatest_comes, outer_rest, union_list}
 use Rattle.tree_core.specs.Shapes.{Shape, cut, leaf, leaf_count}
 use Rattle.uncross.proofs.Alignments.{numbers-split}
 use Rattle.uncross.proofs.BigShores.{Big, Stage, big_merge, big_rest, cut_big, stage_merged}
@@ -24,7 +24,7 @@ use Rattle.uncross.proofs.Parts.{Part, part-join, part-turn}
 use Rattle.uncross.proofs.Rising.{bounds}
 use Rattle.uncross.proofs.SwitchImages.{kept_names, merged_names, u_alike}
 use Rattle.uncross.proofs.ExchangedParts.{merge_congr}
-use Rattle.uncross.proofs.Switches.{Each, each_of, in_inner_rest, in_outer_rest, inner_rest-mem, iso_a, iso_b, kept_in_q, kept_in_v, map_a, map_b, merged_in_q, merged_in_v, outer_rest-mem, subset_test, switch_in_q, switch_in_v}
+use Rattle.uncross.proofs.Switches.{Each, each_of, in_inner_rest, in_outer_rest, inner_rest-mem, iso_a, iso_b, kept_greatest_stays, kept_greatest_comes, map_a, map_b, merged_greatest_stays, merged_greatest_comes, outer_rest-mem, subset_test, switch_greatest_stays, switch_greatest_comes}
 use Rattle.uncross.specs.Exchange.{Corner}
 use Rattle.uncross.specs.Isomorphisms.{carry}
 
@@ -36,14 +36,14 @@ plain_order n f q (cut y a b) e h k =
     ∙ ap₂ ◌++◌ (plain_order n f q a e.2 h k) (plain_order n f q b e.3 h (k + leaf_count a)) ∙ sym (numbers-split k (leaf_count a) (leaf_count b))
 
 -- where complements are taken as the shores contain u
-turned_order : (n : ℕ) (f : ℕ → ℕ) (u : List ℕ) (q : List (List ℕ)) (t : Shape) → Each n q t → ((y : List ℕ) → mem y n ≡ false → IsUnion n q (mem y) → is_subset u y ≡ mem y (f n)) → (k : ℕ) → kept_order_if_in_q u k t ≡ carry_order n f k t
+turned_order : (n : ℕ) (f : ℕ → ℕ) (u : List ℕ) (q : List (List ℕ)) (t : Shape) → Each n q t → ((y : List ℕ) → mem y n ≡ false → IsUnion n q (mem y) → is_subset u y ≡ mem y (f n)) → (k : ℕ) → kept_order_if_greatest_stays u k t ≡ carry_order n f k t
 turned_order n f u q leaf e h k = refl
 turned_order n f u q (cut y a b) e h k =
-    ap (λ c. if c then kept_order_if_in_q u (k + leaf_count a) b ++ kept_order_if_in_q u k a else kept_order_if_in_q u k a ++ kept_order_if_in_q u (k + leaf_count a) b) (h y e.0 e.1)
+    ap (λ c. if c then kept_order_if_greatest_stays u (k + leaf_count a) b ++ kept_order_if_greatest_stays u k a else kept_order_if_greatest_stays u k a ++ kept_order_if_greatest_stays u (k + leaf_count a) b) (h y e.0 e.1)
     ∙ go (mem y (f n)) (turned_order n f u q a e.2 h k) (turned_order n f u q b e.3 h (k + leaf_count a))
   where
-    go : (c : Bool) → kept_order_if_in_q u k a ≡ carry_order n f k a → kept_order_if_in_q u (k + leaf_count a) b ≡ carry_order n f (k + leaf_count a) b →
-        (if c then kept_order_if_in_q u (k + leaf_count a) b ++ kept_order_if_in_q u k a else kept_order_if_in_q u k a ++ kept_order_if_in_q u (k + leaf_count a) b)
+    go : (c : Bool) → kept_order_if_greatest_stays u k a ≡ carry_order n f k a → kept_order_if_greatest_stays u (k + leaf_count a) b ≡ carry_order n f (k + leaf_count a) b →
+        (if c then kept_order_if_greatest_stays u (k + leaf_count a) b ++ kept_order_if_greatest_stays u k a else kept_order_if_greatest_stays u k a ++ kept_order_if_greatest_stays u (k + leaf_count a) b)
         ≡ cond c (carry_order n f (k + leaf_count a) b ++ carry_order n f k a) (carry_order n f k a ++ carry_order n f (k + leaf_count a) b)
     go true i j = ap₂ ◌++◌ j i
     go false i j = ap₂ ◌++◌ i j
@@ -85,7 +85,7 @@ module _ (g : Graph) (p : List (List ℕ)) (stage : Stage g p) (x u v : List ℕ
       off : (x v : Bool) → v ≡ true → (not x && not v) ≡ false
       off x v h = grind arith
 
-  kept_turned : mem v g.order ≡ false → (a : Shape) → Each g.order (kept_at g.order p x) a → (k : ℕ) → kept_order_if_in_q u k a ≡ carry_order g.order (map_a g p stage x u v s t bx canonical su sv corner) k a
+  kept_turned : mem v g.order ≡ false → (a : Shape) → Each g.order (kept_at g.order p x) a → (k : ℕ) → kept_order_if_greatest_stays u k a ≡ carry_order g.order (map_a g p stage x u v s t bx canonical su sv corner) k a
   kept_turned nv a e k = turned_order g.order (map_a g p stage x u v s t bx canonical su sv corner) u (kept_at g.order p x) a e (λ y low closed.
       subset_test u (mem y) s corner.left.holds (λ w m. let ww = bounds su w m in closed w s ww corner.left.within (u_alike g p stage x u v s t bx.shore su sv corner w ww m))
       ∙ sym (ap (λ c. mem y (cond c s g.order)) (on (mem x g.order) (mem v g.order) canonical nv))) k
@@ -95,7 +95,7 @@ module _ (g : Graph) (p : List (List ℕ)) (stage : Stage g p) (x u v : List ℕ
 
   -- the Switch with the greatest vertex in v
   pub switch_part_v : (k : ℕ) (a b : Shape) → AreRising g.order (cut x a b) → IsDerivationAt g p (cut x a b) → mem v g.order ≡ true → Big g p (union_list g.order (outer_rest g.order x v) u) →
-      Part g k (leaves_at g.order p (cut x a b)) (leaves_at g.order p (cut (union_list g.order (outer_rest g.order x v) u) (merged_if_in_v g.order x u b) (kept_if_in_v g.order x u v a)))
+      Part g k (leaves_at g.order p (cut x a b)) (leaves_at g.order p (cut (union_list g.order (outer_rest g.order x v) u) (merged_if_greatest_comes g.order x u b) (kept_if_greatest_comes g.order x u v a)))
       (numbers (k + leaf_count a) (leaf_count b) ++ numbers k (leaf_count a)) (switch_names g.order u v p (cut x a b))
   switch_part_v k a b f d nv bz =
       let z = union_list g.order (outer_rest g.order x v) u in
@@ -107,20 +107,20 @@ module _ (g : Graph) (p : List (List ℕ)) (stage : Stage g p) (x u v : List ℕ
       let ea = each_of g (kept_at g.order p x) a kept_stage f.1 d.1 in let eb = each_of g (merged_at g.order p x) b merged_stage f.2 d.2 in
       let na = map (λ (r : List (List ℕ)). map (λ b. last_of (kept_image g.order x u v b)) r) la in
       let nb = map (λ (r : List (List ℕ)). map (λ b. last_of (merged_image g.order x u v b)) r) lb in
-      part-turn g k la (leaves_at g.order (merged_at g.order p z) (kept_if_in_v g.order x u v a)) lb (leaves_at g.order (kept_at g.order p z) (merged_if_in_v g.order x u b)) (numbers k (leaf_count a)) (numbers (k + leaf_count a) (leaf_count b)) na nb
-      (subst (λ (o : List ℕ). Part g k la (leaves_at g.order (merged_at g.order p z) (kept_if_in_v g.order x u v a)) o na) (kept_plain nv a ea k)
-      (below_kept k a (kept_if_in_v g.order x u v a) (merged_at g.order p z) f.1 d.1 (stage_merged g p stage z bz) ms (kept_in_v g p stage x u v s t bx canonical su sv corner nv a f.1 ea)))
-      (subst (λ i. Part g i lb (leaves_at g.order (kept_at g.order p z) (merged_if_in_v g.order x u b)) (numbers (k + leaf_count a) (leaf_count b)) nb) (ap (λ i. k + i) (sym (length-leaves_at g.order (kept_at g.order p x) a)))
-      (subst (λ (o : List ℕ). Part g (k + leaf_count a) lb (leaves_at g.order (kept_at g.order p z) (merged_if_in_v g.order x u b)) o nb) (merged_plain b eb (k + leaf_count a))
-      (below_merged (k + leaf_count a) b (merged_if_in_v g.order x u b) (kept_at g.order p z) f.2 d.2 (stage_merged g p stage (complement_of g.order z) rz) mk (merged_in_v g p stage x u v s t bx canonical su sv corner nv b f.2 eb))))
+      part-turn g k la (leaves_at g.order (merged_at g.order p z) (kept_if_greatest_comes g.order x u v a)) lb (leaves_at g.order (kept_at g.order p z) (merged_if_greatest_comes g.order x u b)) (numbers k (leaf_count a)) (numbers (k + leaf_count a) (leaf_count b)) na nb
+      (subst (λ (o : List ℕ). Part g k la (leaves_at g.order (merged_at g.order p z) (kept_if_greatest_comes g.order x u v a)) o na) (kept_plain nv a ea k)
+      (below_kept k a (kept_if_greatest_comes g.order x u v a) (merged_at g.order p z) f.1 d.1 (stage_merged g p stage z bz) ms (kept_greatest_comes g p stage x u v s t bx canonical su sv corner nv a f.1 ea)))
+      (subst (λ i. Part g i lb (leaves_at g.order (kept_at g.order p z) (merged_if_greatest_comes g.order x u b)) (numbers (k + leaf_count a) (leaf_count b)) nb) (ap (λ i. k + i) (sym (length-leaves_at g.order (kept_at g.order p x) a)))
+      (subst (λ (o : List ℕ). Part g (k + leaf_count a) lb (leaves_at g.order (kept_at g.order p z) (merged_if_greatest_comes g.order x u b)) o nb) (merged_plain b eb (k + leaf_count a))
+      (below_merged (k + leaf_count a) b (merged_if_greatest_comes g.order x u b) (kept_at g.order p z) f.2 d.2 (stage_merged g p stage (complement_of g.order z) rz) mk (merged_greatest_comes g p stage x u v s t bx canonical su sv corner nv b f.2 eb))))
     where
       other : (x u v : Bool) → (u ≡ true → x ≡ true) → (v ≡ true → x ≡ false) → not ((not x && not v) || u) ≡ ((x && not u) || v)
       other x u v h k = grind arith
 
   -- and outside v
   pub switch_part_q : (k : ℕ) (a b : Shape) → AreRising g.order (cut x a b) → IsDerivationAt g p (cut x a b) → mem v g.order ≡ false → Big g p (union_list g.order (inner_rest g.order x u) v) →
-      Part g k (leaves_at g.order p (cut x a b)) (leaves_at g.order p (cut (union_list g.order (inner_rest g.order x u) v) (kept_if_in_q g.order x u v a) (merged_if_in_q g.order x u v b)))
-      (kept_order_if_in_q u k a ++ numbers (k + leaf_count a) (leaf_count b)) (switch_names g.order u v p (cut x a b))
+      Part g k (leaves_at g.order p (cut x a b)) (leaves_at g.order p (cut (union_list g.order (inner_rest g.order x u) v) (kept_if_greatest_stays g.order x u v a) (merged_if_greatest_stays g.order x u v b)))
+      (kept_order_if_greatest_stays u k a ++ numbers (k + leaf_count a) (leaf_count b)) (switch_names g.order u v p (cut x a b))
   switch_part_q k a b f d nv bz =
       let z = union_list g.order (inner_rest g.order x u) v in
       let zm : (w : ℕ) → Within g.order w → mem z w ≡ union (in_inner_rest g p stage x u v s t bx canonical su sv corner) (mem v) w = λ w ww. mem-rising_list g.order (union (mem (inner_rest g.order x u)) (mem v)) w ww ∙ ap (λ k. k || mem v w) (inner_rest-mem g p stage x u v s t bx canonical su sv corner w ww) in
@@ -131,12 +131,12 @@ module _ (g : Graph) (p : List (List ℕ)) (stage : Stage g p) (x u v : List ℕ
       let ea = each_of g (kept_at g.order p x) a kept_stage f.1 d.1 in let eb = each_of g (merged_at g.order p x) b merged_stage f.2 d.2 in
       let na = map (λ (r : List (List ℕ)). map (λ b. last_of (kept_image g.order x u v b)) r) la in
       let nb = map (λ (r : List (List ℕ)). map (λ b. last_of (merged_image g.order x u v b)) r) lb in
-      part-join g k la (leaves_at g.order (kept_at g.order p z) (kept_if_in_q g.order x u v a)) lb (leaves_at g.order (merged_at g.order p z) (merged_if_in_q g.order x u v b)) (kept_order_if_in_q u k a) (numbers (k + leaf_count a) (leaf_count b)) na nb
-      (subst (λ (o : List ℕ). Part g k la (leaves_at g.order (kept_at g.order p z) (kept_if_in_q g.order x u v a)) o na) (sym (kept_turned nv a ea k))
-      (below_kept k a (kept_if_in_q g.order x u v a) (kept_at g.order p z) f.1 d.1 (stage_merged g p stage (complement_of g.order z) rz) mk (kept_in_q g p stage x u v s t bx canonical su sv corner nv a f.1 ea)))
-      (subst (λ i. Part g i lb (leaves_at g.order (merged_at g.order p z) (merged_if_in_q g.order x u v b)) (numbers (k + leaf_count a) (leaf_count b)) nb) (ap (λ i. k + i) (sym (length-leaves_at g.order (kept_at g.order p x) a)))
-      (subst (λ (o : List ℕ). Part g (k + leaf_count a) lb (leaves_at g.order (merged_at g.order p z) (merged_if_in_q g.order x u v b)) o nb) (merged_plain b eb (k + leaf_count a))
-      (below_merged (k + leaf_count a) b (merged_if_in_q g.order x u v b) (merged_at g.order p z) f.2 d.2 (stage_merged g p stage z bz) ms (merged_in_q g p stage x u v s t bx canonical su sv corner nv b f.2 eb))))
+      part-join g k la (leaves_at g.order (kept_at g.order p z) (kept_if_greatest_stays g.order x u v a)) lb (leaves_at g.order (merged_at g.order p z) (merged_if_greatest_stays g.order x u v b)) (kept_order_if_greatest_stays u k a) (numbers (k + leaf_count a) (leaf_count b)) na nb
+      (subst (λ (o : List ℕ). Part g k la (leaves_at g.order (kept_at g.order p z) (kept_if_greatest_stays g.order x u v a)) o na) (sym (kept_turned nv a ea k))
+      (below_kept k a (kept_if_greatest_stays g.order x u v a) (kept_at g.order p z) f.1 d.1 (stage_merged g p stage (complement_of g.order z) rz) mk (kept_greatest_stays g p stage x u v s t bx canonical su sv corner nv a f.1 ea)))
+      (subst (λ i. Part g i lb (leaves_at g.order (merged_at g.order p z) (merged_if_greatest_stays g.order x u v b)) (numbers (k + leaf_count a) (leaf_count b)) nb) (ap (λ i. k + i) (sym (length-leaves_at g.order (kept_at g.order p x) a)))
+      (subst (λ (o : List ℕ). Part g (k + leaf_count a) lb (leaves_at g.order (merged_at g.order p z) (merged_if_greatest_stays g.order x u v b)) o nb) (merged_plain b eb (k + leaf_count a))
+      (below_merged (k + leaf_count a) b (merged_if_greatest_stays g.order x u v b) (merged_at g.order p z) f.2 d.2 (stage_merged g p stage z bz) ms (merged_greatest_stays g p stage x u v s t bx canonical su sv corner nv b f.2 eb))))
     where
       other : (x u v : Bool) → (u ≡ true → x ≡ true) → (v ≡ true → x ≡ false) → not ((x && not u) || v) ≡ ((not x && not v) || u)
       other x u v h k = grind arith
@@ -186,12 +186,12 @@ module _ (g : Graph) (p : List (List ℕ)) (stage : Stage g p) (x u v : List ℕ
       other x u v h k = grind arith
 
   made : Bool → Shape
-  made m = if m then cut (union_list g.order (outer_rest g.order x v) u) (merged_if_in_v g.order x u b) (kept_if_in_v g.order x u v a) else cut (union_list g.order (inner_rest g.order x u) v) (kept_if_in_q g.order x u v a) (merged_if_in_q g.order x u v b)
+  made m = if m then cut (union_list g.order (outer_rest g.order x v) u) (merged_if_greatest_comes g.order x u b) (kept_if_greatest_comes g.order x u v a) else cut (union_list g.order (inner_rest g.order x u) v) (kept_if_greatest_stays g.order x u v a) (merged_if_greatest_stays g.order x u v b)
 
   order_of : Bool → ℕ → List ℕ
-  order_of m k = if m then numbers (k + leaf_count a) (leaf_count b) ++ numbers k (leaf_count a) else kept_order_if_in_q u k a ++ numbers (k + leaf_count a) (leaf_count b)
+  order_of m k = if m then numbers (k + leaf_count a) (leaf_count b) ++ numbers k (leaf_count a) else kept_order_if_greatest_stays u k a ++ numbers (k + leaf_count a) (leaf_count b)
 
-  pub switch_part : (k : ℕ) (r : Shape) → IsDerivationAt g p r → (if mem v g.order then cut (union_list g.order (outer_rest g.order x v) u) (merged_if_in_v g.order x u b) (kept_if_in_v g.order x u v a) else cut (union_list g.order (inner_rest g.order x u) v) (kept_if_in_q g.order x u v a) (merged_if_in_q g.order x u v b)) ≡ r →
+  pub switch_part : (k : ℕ) (r : Shape) → IsDerivationAt g p r → (if mem v g.order then cut (union_list g.order (outer_rest g.order x v) u) (merged_if_greatest_comes g.order x u b) (kept_if_greatest_comes g.order x u v a) else cut (union_list g.order (inner_rest g.order x u) v) (kept_if_greatest_stays g.order x u v a) (merged_if_greatest_stays g.order x u v b)) ≡ r →
       Part g k (leaves_at g.order p (cut x a b)) (leaves_at g.order p r) (switch_order g.order u v k (cut x a b)) (switch_names g.order u v p (cut x a b))
   unfolding made order_of
   switch_part k r dr e = subst (λ r. Part g k (leaves_at g.order p (cut x a b)) (leaves_at g.order p r) (switch_order g.order u v k (cut x a b)) (switch_names g.order u v p (cut x a b))) e (go (mem v g.order) refl (subst (IsDerivationAt g p) (sym e) dr))
@@ -204,7 +204,7 @@ module _ (g : Graph) (p : List (List ℕ)) (stage : Stage g p) (x u v : List ℕ
       go false nv dm = switch_part_q g p stage x u v s t bx d.0.canonical su sv (corner_of (tight_q dm.0.tight)) k a b f d nv (cut_big g p stage (union_list g.order (inner_rest g.order x u) v) dm.0.set dm.0)
 
   -- the result is a derivation where its new shore is canonical, nontrivial and tight
-  pub switch_derives : (z : List ℕ) (c e : Shape) → IsCutAt g p z → (if mem v g.order then cut (union_list g.order (outer_rest g.order x v) u) (merged_if_in_v g.order x u b) (kept_if_in_v g.order x u v a) else cut (union_list g.order (inner_rest g.order x u) v) (kept_if_in_q g.order x u v a) (merged_if_in_q g.order x u v b)) ≡ cut z c e → IsDerivationAt g p (cut z c e)
+  pub switch_derives : (z : List ℕ) (c e : Shape) → IsCutAt g p z → (if mem v g.order then cut (union_list g.order (outer_rest g.order x v) u) (merged_if_greatest_comes g.order x u b) (kept_if_greatest_comes g.order x u v a) else cut (union_list g.order (inner_rest g.order x u) v) (kept_if_greatest_stays g.order x u v a) (merged_if_greatest_stays g.order x u v b)) ≡ cut z c e → IsDerivationAt g p (cut z c e)
   unfolding made
   switch_derives z c e cz same = subst (IsDerivationAt g p) same (go (mem v g.order) refl (subst (IsCutAt g p) (sym (ap root same)) cz))
     where
@@ -216,5 +216,5 @@ module _ (g : Graph) (p : List (List ℕ)) (stage : Stage g p) (x u v : List ℕ
       bx = cut_big g p stage x f.0 d.0
 
       go : (m : Bool) → mem v g.order ≡ m → IsCutAt g p (root (made m)) → IsDerivationAt g p (made m)
-      go true nv cm = switch_in_v g p stage x u v s t bx d.0.canonical su sv (corner_of (tight_v cm.tight)) a b f d nv (cut_big g p stage (union_list g.order (outer_rest g.order x v) u) cm.set cm)
-      go false nv cm = switch_in_q g p stage x u v s t bx d.0.canonical su sv (corner_of (tight_q cm.tight)) a b f d nv (cut_big g p stage (union_list g.order (inner_rest g.order x u) v) cm.set cm)
+      go true nv cm = switch_greatest_comes g p stage x u v s t bx d.0.canonical su sv (corner_of (tight_v cm.tight)) a b f d nv (cut_big g p stage (union_list g.order (outer_rest g.order x v) u) cm.set cm)
+      go false nv cm = switch_greatest_stays g p stage x u v s t bx d.0.canonical su sv (corner_of (tight_q cm.tight)) a b f d nv (cut_big g p stage (union_list g.order (inner_rest g.order x u) v) cm.set cm)

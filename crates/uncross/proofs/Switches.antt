@@ -12,7 +12,7 @@ use Rattle.graph_core.specs.Graph.{Graph}
 use Rattle.graph_core.specs.Partitions.{IsMerge, complement_of, merged}
 use Rattle.graph_core.specs.Shores.{IsUnion}
 use Rattle.tree_core.specs.Derivations.{IsDerivationAt, kept_at, merged_at}
-use Rattle.tree_core.specs.Moves.{inner_rest, kept_if_in_q, kept_if_in_v, list_if, merged_if_in_q, merged_if_in_v, merged_shore_if_in_q, minus_list, outer_rest, union_list}
+use Rattle.tree_core.specs.Moves.{inner_rest, kept_if_greatest_stays, kept_if_greatest_comes, list_if, merged_if_greatest_stays, merged_if_greatest_comes, merged_shore_if_greatest_stays, minus_list, outer_rest, union_list}
 use Rattle.tree_core.specs.Shapes.{Shape, cut, leaf}
 use Rattle.uncross.proofs.BigShores.{Big, Stage, big_cut, big_merge, big_rest, big_some, cut_big, stage_merged}
 use Rattle.uncross.proofs.CarriedTrees.{carried_derives}
@@ -114,12 +114,12 @@ module _ (g : Graph) (p : List (List ℕ)) (stage : Stage g p) (x u v : List ℕ
     sub_v = subset_test v (mem y) t corner.right.holds (λ w m. on_v w ((bounds sv) w m) m)
 
   -- n in v: the rule for the leaves of `kept`
-  pub kept_in_v : mem v g.order ≡ true → (a : Shape) → AreRising g.order a → Each g.order (kept_at g.order p x) a → kept_if_in_v g.order x u v a ≡ carry g.order map_a a
-  kept_in_v nv leaf f e = refl
-  kept_in_v nv (cut y a b) f e = node y f.0 e.0 e.1 (kept_in_v nv a f.1 e.2) (kept_in_v nv b f.2 e.3)
+  pub kept_greatest_comes : mem v g.order ≡ true → (a : Shape) → AreRising g.order a → Each g.order (kept_at g.order p x) a → kept_if_greatest_comes g.order x u v a ≡ carry g.order map_a a
+  kept_greatest_comes nv leaf f e = refl
+  kept_greatest_comes nv (cut y a b) f e = node y f.0 e.0 e.1 (kept_greatest_comes nv a f.1 e.2) (kept_greatest_comes nv b f.2 e.3)
     where
-      node : (y : List ℕ) → IsRisingIn g.order y → mem y g.order ≡ false → IsUnion g.order (kept_at g.order p x) (mem y) → kept_if_in_v g.order x u v a ≡ carry g.order map_a a → kept_if_in_v g.order x u v b ≡ carry g.order map_a b →
-          cut (if is_subset u y then union_list g.order y (outer_rest g.order x v) else y) (kept_if_in_v g.order x u v a) (kept_if_in_v g.order x u v b) ≡ carry_cut g.order map_a y (mem y (map_a g.order)) (carry g.order map_a a) (carry g.order map_a b)
+      node : (y : List ℕ) → IsRisingIn g.order y → mem y g.order ≡ false → IsUnion g.order (kept_at g.order p x) (mem y) → kept_if_greatest_comes g.order x u v a ≡ carry g.order map_a a → kept_if_greatest_comes g.order x u v b ≡ carry g.order map_a b →
+          cut (if is_subset u y then union_list g.order y (outer_rest g.order x v) else y) (kept_if_greatest_comes g.order x u v a) (kept_if_greatest_comes g.order x u v b) ≡ carry_cut g.order map_a y (mem y (map_a g.order)) (carry g.order map_a a) (carry g.order map_a b)
       node y sy low closed ia ib =
           three (ap (λ k. if k then union_list g.order y (outer_rest g.order x v) else y) (sub_a y low closed) ∙ shore (mem y s) refl) ia ib
           ∙ ap (λ k. carry_cut g.order map_a y k (carry g.order map_a a) (carry g.order map_a b)) (sym (cond_mem (mem y) s g.order (in_outer_rest g.order) ∙ off (mem x g.order) (mem v g.order) (mem y s) (mem y g.order) nv low))
@@ -140,12 +140,12 @@ module _ (g : Graph) (p : List (List ℕ)) (stage : Stage g p) (x u v : List ℕ
               bits x v y z h k = grind arith
 
   -- n in v: the rule for the leaves of `merged`
-  pub merged_in_v : mem v g.order ≡ true → (a : Shape) → AreRising g.order a → Each g.order (merged_at g.order p x) a → merged_if_in_v g.order x u a ≡ carry g.order map_b a
-  merged_in_v nv leaf f e = refl
-  merged_in_v nv (cut y a b) f e = node y f.0 e.0 e.1 (merged_in_v nv a f.1 e.2) (merged_in_v nv b f.2 e.3)
+  pub merged_greatest_comes : mem v g.order ≡ true → (a : Shape) → AreRising g.order a → Each g.order (merged_at g.order p x) a → merged_if_greatest_comes g.order x u a ≡ carry g.order map_b a
+  merged_greatest_comes nv leaf f e = refl
+  merged_greatest_comes nv (cut y a b) f e = node y f.0 e.0 e.1 (merged_greatest_comes nv a f.1 e.2) (merged_greatest_comes nv b f.2 e.3)
     where
-      node : (y : List ℕ) → IsRisingIn g.order y → mem y g.order ≡ false → IsUnion g.order (merged_at g.order p x) (mem y) → merged_if_in_v g.order x u a ≡ carry g.order map_b a → merged_if_in_v g.order x u b ≡ carry g.order map_b b →
-          cut (if is_subset x y then union_list g.order (minus_list g.order y x) u else y) (merged_if_in_v g.order x u a) (merged_if_in_v g.order x u b) ≡ carry_cut g.order map_b y (mem y (map_b g.order)) (carry g.order map_b a) (carry g.order map_b b)
+      node : (y : List ℕ) → IsRisingIn g.order y → mem y g.order ≡ false → IsUnion g.order (merged_at g.order p x) (mem y) → merged_if_greatest_comes g.order x u a ≡ carry g.order map_b a → merged_if_greatest_comes g.order x u b ≡ carry g.order map_b b →
+          cut (if is_subset x y then union_list g.order (minus_list g.order y x) u else y) (merged_if_greatest_comes g.order x u a) (merged_if_greatest_comes g.order x u b) ≡ carry_cut g.order map_b y (mem y (map_b g.order)) (carry g.order map_b a) (carry g.order map_b b)
       node y sy low closed ia ib =
           three (ap (λ k. if k then union_list g.order (minus_list g.order y x) u else y) (sub_b y low closed) ∙ shore (mem y s) refl) ia ib
           ∙ ap (λ k. carry_cut g.order map_b y k (carry g.order map_b a) (carry g.order map_b b)) (sym (cond_mem (mem y) t g.order (in_inner_rest g.order) ∙ off (mem x g.order) (mem u g.order) (mem y t) (mem y g.order) canonical low))
@@ -170,23 +170,23 @@ module _ (g : Graph) (p : List (List ℕ)) (stage : Stage g p) (x u v : List ℕ
               bits x u y z r h k l = grind arith
 
   -- n in Q: the rule for the leaves of `kept`
-  pub kept_in_q : mem v g.order ≡ false → (a : Shape) → AreRising g.order a → Each g.order (kept_at g.order p x) a → kept_if_in_q g.order x u v a ≡ carry g.order map_a a
-  kept_in_q nv leaf f e = refl
-  kept_in_q nv (cut y a b) f e = node y f.0 e.0 e.1 (kept_in_q nv a f.1 e.2) (kept_in_q nv b f.2 e.3)
+  pub kept_greatest_stays : mem v g.order ≡ false → (a : Shape) → AreRising g.order a → Each g.order (kept_at g.order p x) a → kept_if_greatest_stays g.order x u v a ≡ carry g.order map_a a
+  kept_greatest_stays nv leaf f e = refl
+  kept_greatest_stays nv (cut y a b) f e = node y f.0 e.0 e.1 (kept_greatest_stays nv a f.1 e.2) (kept_greatest_stays nv b f.2 e.3)
     where
-      node : (y : List ℕ) → IsRisingIn g.order y → mem y g.order ≡ false → IsUnion g.order (kept_at g.order p x) (mem y) → kept_if_in_q g.order x u v a ≡ carry g.order map_a a → kept_if_in_q g.order x u v b ≡ carry g.order map_a b →
+      node : (y : List ℕ) → IsRisingIn g.order y → mem y g.order ≡ false → IsUnion g.order (kept_at g.order p x) (mem y) → kept_if_greatest_stays g.order x u v a ≡ carry g.order map_a a → kept_if_greatest_stays g.order x u v b ≡ carry g.order map_a b →
           (if is_subset u y
-          then cut (union_list g.order (minus_list g.order x y) v) (kept_if_in_q g.order x u v b) (kept_if_in_q g.order x u v a)
-          else cut y (kept_if_in_q g.order x u v a) (kept_if_in_q g.order x u v b)) ≡ carry_cut g.order map_a y (mem y (map_a g.order)) (carry g.order map_a a) (carry g.order map_a b)
+          then cut (union_list g.order (minus_list g.order x y) v) (kept_if_greatest_stays g.order x u v b) (kept_if_greatest_stays g.order x u v a)
+          else cut y (kept_if_greatest_stays g.order x u v a) (kept_if_greatest_stays g.order x u v b)) ≡ carry_cut g.order map_a y (mem y (map_a g.order)) (carry g.order map_a a) (carry g.order map_a b)
       node y sy low closed ia ib =
-          ap (λ k. if k then cut (union_list g.order (minus_list g.order x y) v) (kept_if_in_q g.order x u v b) (kept_if_in_q g.order x u v a) else cut y (kept_if_in_q g.order x u v a) (kept_if_in_q g.order x u v b)) (sub_a y low closed)
+          ap (λ k. if k then cut (union_list g.order (minus_list g.order x y) v) (kept_if_greatest_stays g.order x u v b) (kept_if_greatest_stays g.order x u v a) else cut y (kept_if_greatest_stays g.order x u v a) (kept_if_greatest_stays g.order x u v b)) (sub_a y low closed)
           ∙ go (mem y s) refl
           ∙ ap (λ k. carry_cut g.order map_a y k (carry g.order map_a a) (carry g.order map_a b)) (sym (cond_mem (mem y) s g.order (in_outer_rest g.order) ∙ on (mem x g.order) (mem v g.order) (mem y s) (mem y g.order) canonical nv))
         where
           on : (a b c d : Bool) → a ≡ false → b ≡ false → cond (not a && not b) c d ≡ c
           on a b c d h k = grind arith
 
-          go : (k : Bool) → mem y s ≡ k → (if k then cut (union_list g.order (minus_list g.order x y) v) (kept_if_in_q g.order x u v b) (kept_if_in_q g.order x u v a) else cut y (kept_if_in_q g.order x u v a) (kept_if_in_q g.order x u v b)) ≡ carry_cut g.order map_a y k (carry g.order map_a a) (carry g.order map_a b)
+          go : (k : Bool) → mem y s ≡ k → (if k then cut (union_list g.order (minus_list g.order x y) v) (kept_if_greatest_stays g.order x u v b) (kept_if_greatest_stays g.order x u v a) else cut y (kept_if_greatest_stays g.order x u v a) (kept_if_greatest_stays g.order x u v b)) ≡ carry_cut g.order map_a y k (carry g.order map_a a) (carry g.order map_a b)
           go true h = three (same_rising_list g.order (union_list g.order (minus_list g.order x y) v) (rising_list g.order (λ w. not (mem y (map_a w)))) (rising_list-rises g.order (union (mem (minus_list g.order x y)) (mem v))) (rising_list-rises g.order (λ w. not (mem y (map_a w))))
               (λ w ww. mem-rising_list g.order (union (mem (minus_list g.order x y)) (mem v)) w ww ∙ ap (λ k. k || mem v w) (mem-rising_list g.order (minus (mem x) (mem y)) w ww)
               ∙ bits (mem x w) (mem v w) (mem y w) (mem y s) h (out_a y low closed w ww) (corner.outside w ww) ∙ ap not (sym (cond_mem (mem y) s w (in_outer_rest w))) ∙ sym (mem-rising_list g.order (λ w. not (mem y (map_a w))) w ww))) ib ia
@@ -200,14 +200,14 @@ module _ (g : Graph) (p : List (List ℕ)) (stage : Stage g p) (x u v : List ℕ
               bits x v y z h k = grind arith
 
   -- n in Q: the rule for the leaves of `merged`
-  pub merged_in_q : mem v g.order ≡ false → (a : Shape) → AreRising g.order a → Each g.order (merged_at g.order p x) a → merged_if_in_q g.order x u v a ≡ carry g.order map_b a
-  merged_in_q nv leaf f e = refl
-  merged_in_q nv (cut y a b) f e = node y f.0 e.0 e.1 (merged_in_q nv a f.1 e.2) (merged_in_q nv b f.2 e.3)
+  pub merged_greatest_stays : mem v g.order ≡ false → (a : Shape) → AreRising g.order a → Each g.order (merged_at g.order p x) a → merged_if_greatest_stays g.order x u v a ≡ carry g.order map_b a
+  merged_greatest_stays nv leaf f e = refl
+  merged_greatest_stays nv (cut y a b) f e = node y f.0 e.0 e.1 (merged_greatest_stays nv a f.1 e.2) (merged_greatest_stays nv b f.2 e.3)
     where
-      node : (y : List ℕ) → IsRisingIn g.order y → mem y g.order ≡ false → IsUnion g.order (merged_at g.order p x) (mem y) → merged_if_in_q g.order x u v a ≡ carry g.order map_b a → merged_if_in_q g.order x u v b ≡ carry g.order map_b b →
-          cut (merged_shore_if_in_q g.order x u v y) (merged_if_in_q g.order x u v a) (merged_if_in_q g.order x u v b) ≡ carry_cut g.order map_b y (mem y (map_b g.order)) (carry g.order map_b a) (carry g.order map_b b)
+      node : (y : List ℕ) → IsRisingIn g.order y → mem y g.order ≡ false → IsUnion g.order (merged_at g.order p x) (mem y) → merged_if_greatest_stays g.order x u v a ≡ carry g.order map_b a → merged_if_greatest_stays g.order x u v b ≡ carry g.order map_b b →
+          cut (merged_shore_if_greatest_stays g.order x u v y) (merged_if_greatest_stays g.order x u v a) (merged_if_greatest_stays g.order x u v b) ≡ carry_cut g.order map_b y (mem y (map_b g.order)) (carry g.order map_b a) (carry g.order map_b b)
       node y sy low closed ia ib =
-          three (same_rising_list g.order (merged_shore_if_in_q g.order x u v y) (rising_list g.order (λ w. mem y (map_b w))) (rising_list-rises g.order _) (rising_list-rises g.order (λ w. mem y (map_b w)))
+          three (same_rising_list g.order (merged_shore_if_greatest_stays g.order x u v y) (rising_list g.order (λ w. mem y (map_b w))) (rising_list-rises g.order _) (rising_list-rises g.order (λ w. mem y (map_b w)))
           (λ w ww. shore w ww ∙ bits (mem x w) (mem u w) (mem v w) (mem y w) (mem y s) (mem y t) (in_b y low closed w ww) (on_v y low closed w ww) (corner.inside w ww) (corner.outside w ww)
           ∙ sym (cond_mem (mem y) t w (in_inner_rest w)) ∙ sym (mem-rising_list g.order (λ w. mem y (map_b w)) w ww))) ia ib
           ∙ ap (λ k. carry_cut g.order map_b y k (carry g.order map_b a) (carry g.order map_b b)) (sym (cond_mem (mem y) t g.order (in_inner_rest g.order) ∙ off (mem x g.order) (mem u g.order) (mem y t) (mem y g.order) canonical low))
@@ -219,7 +219,7 @@ module _ (g : Graph) (p : List (List ℕ)) (stage : Stage g p) (x u v : List ℕ
           if_mem true l w = refl
           if_mem false l w = refl
 
-          shore : (w : ℕ) → Within g.order w → mem (merged_shore_if_in_q g.order x u v y) w ≡ (((mem y w && not (mem x w)) && not (mem v w)) || (cond (mem y s) (mem u w) false || cond (mem y t) (in_inner_rest w || mem v w) false))
+          shore : (w : ℕ) → Within g.order w → mem (merged_shore_if_greatest_stays g.order x u v y) w ≡ (((mem y w && not (mem x w)) && not (mem v w)) || (cond (mem y s) (mem u w) false || cond (mem y t) (in_inner_rest w || mem v w) false))
           shore w ww =
               mem-rising_list g.order (union (mem (minus_list g.order (minus_list g.order y x) v)) (mem (union_list g.order (list_if (is_subset x y) u) (list_if (is_subset v y) (union_list g.order (inner_rest g.order x u) v))))) w ww
               ∙ ap₂ ◌||◌ (mem-rising_list g.order (minus (mem (minus_list g.order y x)) (mem v)) w ww ∙ ap (λ k. k && not (mem v w)) (mem-rising_list g.order (minus (mem y) (mem x)) w ww))
@@ -232,9 +232,9 @@ module _ (g : Graph) (p : List (List ℕ)) (stage : Stage g p) (x u v : List ℕ
           bits x u v y z r a b c d = grind arith
 
   -- the Switch with n in v
-  pub switch_in_v : (a b : Shape) → AreRising g.order (cut x a b) → IsDerivationAt g p (cut x a b) → mem v g.order ≡ true → Big g p (union_list g.order (outer_rest g.order x v) u) →
-      IsDerivationAt g p (cut (union_list g.order (outer_rest g.order x v) u) (merged_if_in_v g.order x u b) (kept_if_in_v g.order x u v a))
-  switch_in_v a b f d nv bz =
+  pub switch_greatest_comes : (a b : Shape) → AreRising g.order (cut x a b) → IsDerivationAt g p (cut x a b) → mem v g.order ≡ true → Big g p (union_list g.order (outer_rest g.order x v) u) →
+      IsDerivationAt g p (cut (union_list g.order (outer_rest g.order x v) u) (merged_if_greatest_comes g.order x u b) (kept_if_greatest_comes g.order x u v a))
+  switch_greatest_comes a b f d nv bz =
       let z = union_list g.order (outer_rest g.order x v) u in
       let zm : (w : ℕ) → Within g.order w → mem z w ≡ union in_outer_rest (mem u) w = λ w ww. mem-rising_list g.order (union (mem (outer_rest g.order x v)) (mem u)) w ww ∙ ap (λ k. k || mem u w) (outer_rest-mem w ww) in
       let rz = big_rest g p stage z bz in
@@ -244,9 +244,9 @@ module _ (g : Graph) (p : List (List ℕ)) (stage : Stage g p) (x u v : List ℕ
       let ska = stage_merged g p stage (complement_of g.order x) rx in
       let sma = stage_merged g p stage x bx in (
         big_cut g p stage z bz (zm g.order last ∙ gone (mem x g.order) (mem u g.order) (mem v g.order) nv canonical (corner.inside g.order last)),
-        subst (IsDerivationAt g (kept_at g.order p z)) (sym (merged_in_v nv b f.2 (each_of g (merged_at g.order p x) b sma f.2 d.2)))
+        subst (IsDerivationAt g (kept_at g.order p z)) (sym (merged_greatest_comes nv b f.2 (each_of g (merged_at g.order p x) b sma f.2 d.2)))
             (carried_derives g stage.graph (λ w. cond (in_inner_rest w) s w) map_b b (merged_at g.order p x) (kept_at g.order p z) sma.list.partition mk.partition (iso_b (kept_at g.order p z) mk) f.2 d.2),
-        subst (IsDerivationAt g (merged_at g.order p z)) (sym (kept_in_v nv a f.1 (each_of g (kept_at g.order p x) a ska f.1 d.1)))
+        subst (IsDerivationAt g (merged_at g.order p z)) (sym (kept_greatest_comes nv a f.1 (each_of g (kept_at g.order p x) a ska f.1 d.1)))
             (carried_derives g stage.graph (λ w. cond (in_outer_rest w) t w) map_a a (kept_at g.order p x) (merged_at g.order p z) ska.list.partition ms.partition (iso_a (merged_at g.order p z) ms) f.1 d.1),
       )
     where
@@ -257,9 +257,9 @@ module _ (g : Graph) (p : List (List ℕ)) (stage : Stage g p) (x u v : List ℕ
       gone x u v h k l = grind arith
 
   -- the Switch with n in Q
-  pub switch_in_q : (a b : Shape) → AreRising g.order (cut x a b) → IsDerivationAt g p (cut x a b) → mem v g.order ≡ false → Big g p (union_list g.order (inner_rest g.order x u) v) →
-      IsDerivationAt g p (cut (union_list g.order (inner_rest g.order x u) v) (kept_if_in_q g.order x u v a) (merged_if_in_q g.order x u v b))
-  switch_in_q a b f d nv bz =
+  pub switch_greatest_stays : (a b : Shape) → AreRising g.order (cut x a b) → IsDerivationAt g p (cut x a b) → mem v g.order ≡ false → Big g p (union_list g.order (inner_rest g.order x u) v) →
+      IsDerivationAt g p (cut (union_list g.order (inner_rest g.order x u) v) (kept_if_greatest_stays g.order x u v a) (merged_if_greatest_stays g.order x u v b))
+  switch_greatest_stays a b f d nv bz =
       let z = union_list g.order (inner_rest g.order x u) v in
       let zm : (w : ℕ) → Within g.order w → mem z w ≡ union in_inner_rest (mem v) w = λ w ww. mem-rising_list g.order (union (mem (inner_rest g.order x u)) (mem v)) w ww ∙ ap (λ k. k || mem v w) (inner_rest-mem w ww) in
       let rz = big_rest g p stage z bz in
@@ -269,9 +269,9 @@ module _ (g : Graph) (p : List (List ℕ)) (stage : Stage g p) (x u v : List ℕ
       let ska = stage_merged g p stage (complement_of g.order x) rx in
       let sma = stage_merged g p stage x bx in (
         big_cut g p stage z bz (zm g.order last ∙ gone (mem x g.order) (mem u g.order) (mem v g.order) nv canonical),
-        subst (IsDerivationAt g (kept_at g.order p z)) (sym (kept_in_q nv a f.1 (each_of g (kept_at g.order p x) a ska f.1 d.1)))
+        subst (IsDerivationAt g (kept_at g.order p z)) (sym (kept_greatest_stays nv a f.1 (each_of g (kept_at g.order p x) a ska f.1 d.1)))
             (carried_derives g stage.graph (λ w. cond (in_outer_rest w) t w) map_a a (kept_at g.order p x) (kept_at g.order p z) ska.list.partition mk.partition (iso_a (kept_at g.order p z) mk) f.1 d.1),
-        subst (IsDerivationAt g (merged_at g.order p z)) (sym (merged_in_q nv b f.2 (each_of g (merged_at g.order p x) b sma f.2 d.2)))
+        subst (IsDerivationAt g (merged_at g.order p z)) (sym (merged_greatest_stays nv b f.2 (each_of g (merged_at g.order p x) b sma f.2 d.2)))
             (carried_derives g stage.graph (λ w. cond (in_inner_rest w) s w) map_b b (merged_at g.order p x) (merged_at g.order p z) sma.list.partition ms.partition (iso_b (merged_at g.order p z) ms) f.2 d.2),
       )
     where

@@ -1,6 +1,6 @@
 use Rattle.std.proofs.Common.{ap, ap₂, ◌∙◌, Bool, List, ℕ}
 use Rattle.tree_core.specs.Moves.{list_if, minus_list, union_list}
-use Rattle.tree_core.proofs.switching.merged_shore_in_q.Goals as goal
+use Rattle.tree_core.proofs.switching.merged_shore_greatest_stays.Goals as goal
 
 pub returns : goal.returns
 returns c =
