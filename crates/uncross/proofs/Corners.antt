@@ -14,12 +14,12 @@ use Rattle.graph_core.proofs.MergedShores.{Apart, Below, alike_in, alike_up, blo
 use Rattle.graph_core.specs.Graph.{Graph}
 use Rattle.graph_core.specs.Partitions.{AreBlocks, complement_of, contracted, merged, place}
 use Rattle.graph_core.specs.Shores.{IsTightAt, IsUnion, block_count, blocks_in}
-use Rattle.tree_core.specs.Moves.{IsBlockOf}
+use Rattle.tree_core.specs.Moves.{IsBlockOf, meet_list}
 use Rattle.uncross.proofs.BigShores.{Big, Stage, big_merge, big_rest, big_some, rest_rest, stage_merged}
 use Rattle.uncross.proofs.CarriedTrees.{some_of}
 use Rattle.uncross.proofs.NestedShores.{stays_big}
 use Rattle.uncross.specs.Exchange.{Corner}
-use Rattle.uncross.specs.Plans.{inner_of, outer_of}
+use Rattle.uncross.specs.Plans.{outer_of}
 
 pub record Corners (g : Graph) (p : List (List ℕ)) (x z : List ℕ) : Type 0 where
   pub stage : Stage g p
@@ -40,14 +40,14 @@ module _ (g : Graph) (p : List (List ℕ)) (x z : List ℕ) (c : Corners g p x z
   pp : AreBlocks g.order p
   pp = c.stage.list.partition
 
-  pub inner_mem : (w : ℕ) → Within g.order w → mem (inner_of g.order x z) w ≡ (mem x w && mem z w)
+  pub inner_mem : (w : ℕ) → Within g.order w → mem (meet_list g.order x z) w ≡ (mem x w && mem z w)
   inner_mem w ww = mem-rising_list g.order (meet (mem x) (mem z)) w ww
 
   pub outer_mem : (w : ℕ) → Within g.order w → mem (outer_of g.order x z) w ≡ not (mem x w || mem z w)
   outer_mem w ww = mem-rising_list g.order (complement (union (mem x) (mem z))) w ww
 
-  pub i_tight : IsTightAt g p (mem (inner_of g.order x z))
-  i_tight = tight_congr g c.stage.graph p pp (meet (mem x) (mem z)) (mem (inner_of g.order x z)) (λ w ww. sym (inner_mem w ww)) (meet_tight_at g c.stage.graph p pp c.stage.covered (mem x) (mem z) c.first.tight c.second.tight c.odd)
+  pub i_tight : IsTightAt g p (mem (meet_list g.order x z))
+  i_tight = tight_congr g c.stage.graph p pp (meet (mem x) (mem z)) (mem (meet_list g.order x z)) (λ w ww. sym (inner_mem w ww)) (meet_tight_at g c.stage.graph p pp c.stage.covered (mem x) (mem z) c.first.tight c.second.tight c.odd)
 
   pub o_tight : IsTightAt g p (mem (outer_of g.order x z))
   o_tight = tight_congr g c.stage.graph p pp (complement (union (mem x) (mem z))) (mem (outer_of g.order x z)) (λ w ww. sym (outer_mem w ww))
@@ -80,9 +80,9 @@ module _ (g : Graph) (p : List (List ℕ)) (x z : List ℕ) (c : Corners g p x z
       both : (a b : Bool) → (b ≡ true → a ≡ true) → (a && b) ≡ b
       both a b h = grind arith
 
-  pub inner_single_or_big : ((t : ℕ) × IsBlockOf g.order p (mem (inner_of g.order x z)) t) ⊎ Big g p (inner_of g.order x z)
-  inner_single_or_big = single_or_big (inner_of g.order x z) (complement_of g.order x) (rising_list-rises g.order (meet (mem x) (mem z))) i_tight (big_rest g p c.stage x c.first)
-      (λ v wv h. mem-complement_of g.order (inner_of g.order x z) v wv ∙ ap not (inner_mem v wv) ∙ bits (mem x v) (mem z v) (sym (mem-complement_of g.order x v wv) ∙ h))
+  pub inner_single_or_big : ((t : ℕ) × IsBlockOf g.order p (mem (meet_list g.order x z)) t) ⊎ Big g p (meet_list g.order x z)
+  inner_single_or_big = single_or_big (meet_list g.order x z) (complement_of g.order x) (rising_list-rises g.order (meet (mem x) (mem z))) i_tight (big_rest g p c.stage x c.first)
+      (λ v wv h. mem-complement_of g.order (meet_list g.order x z) v wv ∙ ap not (inner_mem v wv) ∙ bits (mem x v) (mem z v) (sym (mem-complement_of g.order x v wv) ∙ h))
     where
       bits : (a b : Bool) → not a ≡ true → not (a && b) ≡ true
       bits a b h = grind arith
@@ -95,9 +95,9 @@ module _ (g : Graph) (p : List (List ℕ)) (x z : List ℕ) (c : Corners g p x z
       bits a b h = grind arith
 
   -- the inner corner merged
-  pub merged_inner : Big g p (inner_of g.order x z) → Corners g (merged p (inner_of g.order x z)) x z × ((t : ℕ) × IsBlockOf g.order (merged p (inner_of g.order x z)) (mem (inner_of g.order x z)) t)
+  pub merged_inner : Big g p (meet_list g.order x z) → Corners g (merged p (meet_list g.order x z)) x z × ((t : ℕ) × IsBlockOf g.order (merged p (meet_list g.order x z)) (mem (meet_list g.order x z)) t)
   merged_inner bi =
-      let i = inner_of g.order x z in
+      let i = meet_list g.order x z in
       let r = merged p i in
       let st = stage_merged g p c.stage i bi in
       let mm = big_merge g p c.stage i bi in
@@ -131,8 +131,8 @@ module _ (g : Graph) (p : List (List ℕ)) (x z : List ℕ) (c : Corners g p x z
       no_and a b h = grind arith
 
   -- the outer corner merged; a block stays one
-  pub merged_outer : Big g p (outer_of g.order x z) → (s : ℕ) → IsBlockOf g.order p (mem (inner_of g.order x z)) s →
-      Corners g (merged p (outer_of g.order x z)) x z × IsBlockOf g.order (merged p (outer_of g.order x z)) (mem (inner_of g.order x z)) s × ((t : ℕ) × IsBlockOf g.order (merged p (outer_of g.order x z)) (mem (outer_of g.order x z)) t)
+  pub merged_outer : Big g p (outer_of g.order x z) → (s : ℕ) → IsBlockOf g.order p (mem (meet_list g.order x z)) s →
+      Corners g (merged p (outer_of g.order x z)) x z × IsBlockOf g.order (merged p (outer_of g.order x z)) (mem (meet_list g.order x z)) s × ((t : ℕ) × IsBlockOf g.order (merged p (outer_of g.order x z)) (mem (outer_of g.order x z)) t)
   merged_outer bo s block =
       let o = outer_of g.order x z in
       let r = merged p o in
@@ -151,7 +151,7 @@ module _ (g : Graph) (p : List (List ℕ)) (x z : List ℕ) (c : Corners g p x z
           right = ri;
         },
         record {
-          closed = union_congr g.order r mm.partition (meet (mem x) (mem z)) (mem (inner_of g.order x z)) (λ v wv. sym (inner_mem v wv)) closed;
+          closed = union_congr g.order r mm.partition (meet (mem x) (mem z)) (mem (meet_list g.order x z)) (λ v wv. sym (inner_mem v wv)) closed;
           within = block.within;
           holds = block.holds;
           one = λ v wv h. alike_up g.order p r (mem o) pp bo.tight.union mm v s wv block.within (block.one v wv h);
@@ -175,14 +175,14 @@ module _ (g : Graph) (p : List (List ℕ)) (x z : List ℕ) (c : Corners g p x z
       in_z a b h = grind arith
 
   -- with both corners single blocks the exchange law applies
-  pub corner_of : (s t : ℕ) → IsBlockOf g.order p (mem (inner_of g.order x z)) s → IsBlockOf g.order p (mem (outer_of g.order x z)) t → Corner g p (mem x) (mem (inner_of g.order x z)) (mem (outer_of g.order x z)) s t
+  pub corner_of : (s t : ℕ) → IsBlockOf g.order p (mem (meet_list g.order x z)) s → IsBlockOf g.order p (mem (outer_of g.order x z)) t → Corner g p (mem x) (mem (meet_list g.order x z)) (mem (outer_of g.order x z)) s t
   corner_of s t bi bo = record {
     shore = c.first.tight;
     left = bi;
     right = bo;
     inside = λ v wv h. in_x (mem x v) (mem z v) (sym (inner_mem v wv) ∙ h);
     outside = λ v wv h. not_x (mem x v) (mem z v) (sym (outer_mem v wv) ∙ h);
-    new = tight_congr g c.stage.graph p pp (mem z) (union (minus (complement (mem x)) (mem (outer_of g.order x z))) (mem (inner_of g.order x z)))
+    new = tight_congr g c.stage.graph p pp (mem z) (union (minus (complement (mem x)) (mem (outer_of g.order x z))) (mem (meet_list g.order x z)))
         (λ v wv. sym (ap₂ (λ a b. (not (mem x v) && not a) || b) (outer_mem v wv) (inner_mem v wv) ∙ bits (mem x v) (mem z v))) c.second.tight;
   }
     where

@@ -14,7 +14,7 @@ use Rattle.graph_core.specs.Graph.{Graph}
 use Rattle.graph_core.specs.Partitions.{complement_of, contracted, merged}
 use Rattle.graph_core.specs.Shores.{block_count}
 use Rattle.tree_core.specs.Derivations.{IsDerivationAt, kept_at, merged_at}
-use Rattle.tree_core.specs.Moves.{IsBlockOf, PlainMove, below, inner_rest, is_proper, kept_if_greatest_stays, kept_if_greatest_comes, merged_if_greatest_stays, merged_if_greatest_comes, outer_rest, rotate_at, rotate_result_at, switch_at, switch_result_at, union_list}
+use Rattle.tree_core.specs.Moves.{IsBlockOf, PlainMove, below, inner_rest, is_proper, kept_if_greatest_stays, kept_if_greatest_comes, merged_if_greatest_stays, merged_if_greatest_comes, outer_rest, rotate_at, rotate_result_at, switch_at, switch_result_at, union_list, meet_list}
 use Rattle.tree_core.specs.Shapes.{Shape, cut, cut_count, leaf}
 use Rattle.tree_core.specs.declared.path.Side.{Side}
 use Rattle.tree_core.specs.declared.path.Side.TheVariants.{Kept, Merged}
@@ -25,7 +25,7 @@ use Rattle.uncross.proofs.Rising.{bounds}
 use Rattle.uncross.proofs.Scripts.{length_below, length_join, walk_end, walk_join, walk_kept, walk_merged, walk_rotate}
 use Rattle.uncross.proofs.Switches.{each_of, kept_greatest_stays, kept_greatest_comes, map_a, map_b, merged_greatest_stays, merged_greatest_comes, inner_rest-mem, outer_rest-mem, switch_greatest_stays, switch_greatest_comes}
 use Rattle.uncross.specs.Exchange.{Corner}
-use Rattle.uncross.specs.Plans.{inner_of, outer_of, outer_shore, partner}
+use Rattle.uncross.specs.Plans.{outer_of, outer_shore, partner}
 use Rattle.uncross.specs.Isomorphisms.{carry, carry_cut}
 use Rattle.uncross.specs.Turning.{PlainTurned, followed, over_inner, over_outer, raised_kept, raised_merged, switched as switched_to, switched_below}
 use Rattle.uncross.proofs.Corners.{o_tight}
@@ -78,20 +78,20 @@ module _ (g : Graph) (p : List (List ℕ)) (x z y : List ℕ) (c : Corners g p x
       twice true = refl
       twice false = refl
 
-  module _ (a b : Shape) (f : AreRising g.order (cut x a b)) (d : IsDerivationAt g p (cut x a b)) (s t : ℕ) (bi : IsBlockOf g.order p (mem (inner_of g.order x z)) s) (bo : IsBlockOf g.order p (mem (outer_of g.order x z)) t) where
+  module _ (a b : Shape) (f : AreRising g.order (cut x a b)) (d : IsDerivationAt g p (cut x a b)) (s t : ℕ) (bi : IsBlockOf g.order p (mem (meet_list g.order x z)) s) (bo : IsBlockOf g.order p (mem (outer_of g.order x z)) t) where
     abbrev i : List ℕ
-    i = inner_of g.order x z
+    i = meet_list g.order x z
 
     abbrev o : List ℕ
     o = outer_of g.order x z
 
-    si : IsRisingIn g.order (inner_of g.order x z)
+    si : IsRisingIn g.order (meet_list g.order x z)
     si = rising_list-rises g.order (meet (mem x) (mem z))
 
     so : IsRisingIn g.order (outer_of g.order x z)
     so = rising_list-rises g.order (complement (union (mem x) (mem z)))
 
-    co : Corner g p (mem x) (mem (inner_of g.order x z)) (mem (outer_of g.order x z)) s t
+    co : Corner g p (mem x) (mem (meet_list g.order x z)) (mem (outer_of g.order x z)) s t
     co = corner_of g p x z c s t bi bo
 
     both_proper : (is_proper i x && is_proper o (complement_of g.order x)) ≡ true
@@ -131,7 +131,7 @@ module _ (g : Graph) (p : List (List ℕ)) (x z y : List ℕ) (c : Corners g p x
     sma = stage_merged g p c.stage x c.first
 
     -- the Switch
-    pub switched : (a' : Shape) × (b' : Shape) × (switch_result_at g.order (inner_of g.order x z) (outer_of g.order x z) (cut x a b) ≡ Some (cut y a' b')) × Walk g p (cut x a b) (switch_at [] (inner_of g.order x z) (outer_of g.order x z) ∷ []) (cut y a' b')
+    pub switched : (a' : Shape) × (b' : Shape) × (switch_result_at g.order (meet_list g.order x z) (outer_of g.order x z) (cut x a b) ≡ Some (cut y a' b')) × Walk g p (cut x a b) (switch_at [] (meet_list g.order x z) (outer_of g.order x z) ∷ []) (cut y a' b')
     switched = elim kind [
       | inl h ↦
           let nv : mem o g.order ≡ true = outer_mem g p x z c g.order last ∙ outside (mem x g.order) (mem z g.order) nx (h g.order last ∙ ny) in
@@ -202,12 +202,12 @@ switched_is : (n : ℕ) (u v : List ℕ) (t r : Shape) → switch_result_at n u 
 switched_is n u v t r e = ap (option_map (λ r. record { tree = r; moves = switch_at [] u v ∷ [] })) e
 
 -- the outer corner: one block, or with moves to it in `merged`; then the Switch, and back
-over_outer_to : (g : Graph) (p : List (List ℕ)) (x z y : List ℕ) (c : Corners g p x z) → IsRisingIn g.order y → mem x g.order ≡ false → mem y g.order ≡ false → Kind g.order y z → (s : ℕ) → IsBlockOf g.order p (mem (inner_of g.order x z)) s →
+over_outer_to : (g : Graph) (p : List (List ℕ)) (x z y : List ℕ) (c : Corners g p x z) → IsRisingIn g.order y → mem x g.order ≡ false → mem y g.order ≡ false → Kind g.order y z → (s : ℕ) → IsBlockOf g.order p (mem (meet_list g.order x z)) s →
     (a b made : Shape) → AreRising g.order (cut x a b) → IsDerivationAt g p (cut x a b) → (moved : Option (List PlainMove)) → OuterTurned g p x z b made moved →
-    TurnedTo g p (cut x a b) y (3 * cut_count b + 1) (over_outer g.order x (inner_of g.order x z) (outer_of g.order x z) a made moved)
+    TurnedTo g p (cut x a b) y (3 * cut_count b + 1) (over_outer g.order x (meet_list g.order x z) (outer_of g.order x z) a made moved)
 over_outer_to g p x z y c sy nx ny kind s bi a b made f d None out =
     let r = switched g p x z y c sy nx ny kind a b f d s out.1.0 bi out.1.1 in
-    let i = inner_of g.order x z in let o = outer_of g.order x z in
+    let i = meet_list g.order x z in let o = outer_of g.order x z in
     (switch_at [] i o ∷ [], r.0, r.1, ap (λ k. switched_to g.order i o (cut x a k)) out.0 ∙ switched_is g.order i o (cut x a b) (cut y r.0 r.1) r.2, r.3, omega arith)
 over_outer_to g p x z y c sy nx ny kind s bi a b made f d (Some ms) out = elim kind [ inl h ↦ first out.0 h | inr h ↦ second out.0 h ]
   where
@@ -226,10 +226,10 @@ over_outer_to g p x z y c sy nx ny kind s bi a b made f d (Some ms) out = elim k
         bits : (a b : Bool) → a ≡ true → not (a || b) ≡ false
         bits a b h = grind arith
 
-    first : Big g p (outer_of g.order x z) → ((v : ℕ) → Within g.order v → mem z v ≡ mem y v) → TurnedTo g p (cut x a b) y (3 * cut_count b + 1) (over_outer g.order x (inner_of g.order x z) (outer_of g.order x z) a made (Some ms))
+    first : Big g p (outer_of g.order x z) → ((v : ℕ) → Within g.order v → mem z v ≡ mem y v) → TurnedTo g p (cut x a b) y (3 * cut_count b + 1) (over_outer g.order x (meet_list g.order x z) (outer_of g.order x z) a made (Some ms))
     first bo h =
-        let i = inner_of g.order x z in let oc = complement_of g.order (outer_of g.order x z) in
-        let sm = switch_at [] (inner_of g.order x z) (outer_of g.order x z) ∷ [] in
+        let i = meet_list g.order x z in let oc = complement_of g.order (outer_of g.order x z) in
+        let sm = switch_at [] (meet_list g.order x z) (outer_of g.order x z) ∷ [] in
         let on : mem (outer_of g.order x z) g.order ≡ true = outer_mem g p x z c g.order lastn ∙ outside (mem x g.order) (mem z g.order) nx (h g.order lastn ∙ ny) in
         let shore : outer_shore g.order (outer_of g.order x z) ≡ oc = ap (λ k. if k then complement_of g.order (outer_of g.order x z) else outer_of g.order x z) on in
         let e1 = out.1 in let e2 = out.2 in
@@ -263,10 +263,10 @@ over_outer_to g p x z y c sy nx ny kind s bi a b made f d (Some ms) out = elim k
         outside : (a b : Bool) → a ≡ false → b ≡ false → not (a || b) ≡ true
         outside a b h k = grind arith
 
-    second : Big g p (outer_of g.order x z) → ((v : ℕ) → Within g.order v → mem z v ≡ not (mem y v)) → TurnedTo g p (cut x a b) y (3 * cut_count b + 1) (over_outer g.order x (inner_of g.order x z) (outer_of g.order x z) a made (Some ms))
+    second : Big g p (outer_of g.order x z) → ((v : ℕ) → Within g.order v → mem z v ≡ not (mem y v)) → TurnedTo g p (cut x a b) y (3 * cut_count b + 1) (over_outer g.order x (meet_list g.order x z) (outer_of g.order x z) a made (Some ms))
     second bo h =
-        let i = inner_of g.order x z in let oo = outer_of g.order x z in
-        let sm = switch_at [] (inner_of g.order x z) (outer_of g.order x z) ∷ [] in
+        let i = meet_list g.order x z in let oo = outer_of g.order x z in
+        let sm = switch_at [] (meet_list g.order x z) (outer_of g.order x z) ∷ [] in
         let no : mem oo g.order ≡ false = outer_mem g p x z c g.order lastn ∙ within (mem x g.order) (mem z g.order) (h g.order lastn ∙ ap not ny) in
         let shore : outer_shore g.order (outer_of g.order x z) ≡ oo = ap (λ k. if k then complement_of g.order (outer_of g.order x z) else outer_of g.order x z) no in
         let e1 = out.1 in let e2 = out.2 in
@@ -308,18 +308,18 @@ over_outer_to g p x z y c sy nx ny kind s bi a b made f d (Some ms) out = elim k
 
 -- the inner corner is one block, or was brought to the root of `kept`
 abbrev pub InnerTurned : Graph → List (List ℕ) → (x z : List ℕ) → Shape → Shape → Option (List PlainMove) → Type 0
-InnerTurned g p x z a c None = (c ≡ a) × ((s : ℕ) × IsBlockOf g.order p (mem (inner_of g.order x z)) s)
-InnerTurned g p x z a c (Some ms) = Big g p (inner_of g.order x z) × (k : Shape) × (l : Shape) × (c ≡ cut (inner_of g.order x z) k l) × Walk g (kept_at g.order p x) a ms (cut (inner_of g.order x z) k l) × (length ms + 2 ≤ 3 * cut_count a)
+InnerTurned g p x z a c None = (c ≡ a) × ((s : ℕ) × IsBlockOf g.order p (mem (meet_list g.order x z)) s)
+InnerTurned g p x z a c (Some ms) = Big g p (meet_list g.order x z) × (k : Shape) × (l : Shape) × (c ≡ cut (meet_list g.order x z) k l) × Walk g (kept_at g.order p x) a ms (cut (meet_list g.order x z) k l) × (length ms + 2 ≤ 3 * cut_count a)
 
 -- a corner below its side of the root
 module _ (g : Graph) (p : List (List ℕ)) (x z : List ℕ) (c : Corners g p x z) (nx : mem x g.order ≡ false) where
   greatest : Within g.order g.order
   greatest = let r = big_some g p c.stage x c.first in let w = r.1 in (omega arith, omega arith)
 
-  pub inner_below : Big g p (inner_of g.order x z) → Big g (kept_at g.order p x) (inner_of g.order x z)
+  pub inner_below : Big g p (meet_list g.order x z) → Big g (kept_at g.order p x) (meet_list g.order x z)
   inner_below bi =
       let l = c.left in
-      stays_big g p c.stage (complement_of g.order x) (inner_of g.order x z) (big_rest g p c.stage x c.first) bi (λ v wv h. inner_mem g p x z c v wv ∙ no_and (mem x v) (mem z v) (negated (mem x v) (sym (mem-complement_of g.order x v wv) ∙ h)))
+      stays_big g p c.stage (complement_of g.order x) (meet_list g.order x z) (big_rest g p c.stage x c.first) bi (λ v wv h. inner_mem g p x z c v wv ∙ no_and (mem x v) (mem z v) (negated (mem x v) (sym (mem-complement_of g.order x v wv) ∙ h)))
       (l.0, l.1, mem-complement_of g.order x l.0 l.1 ∙ ap not l.2, inner_mem g p x z c l.0 l.1 ∙ and_no (mem x l.0) (mem z l.0) l.3)
     where
       negated : (b : Bool) → not b ≡ true → b ≡ false
@@ -331,7 +331,7 @@ module _ (g : Graph) (p : List (List ℕ)) (x z : List ℕ) (c : Corners g p x z
       and_no : (a b : Bool) → b ≡ false → (a && b) ≡ false
       and_no a b h = grind arith
 
-  pub inner_canonical : mem (inner_of g.order x z) g.order ≡ false
+  pub inner_canonical : mem (meet_list g.order x z) g.order ≡ false
   inner_canonical = inner_mem g p x z c g.order greatest ∙ no_and (mem x g.order) (mem z g.order) nx
     where
       no_and : (a b : Bool) → a ≡ false → (a && b) ≡ false
@@ -361,19 +361,19 @@ module _ (g : Graph) (p : List (List ℕ)) (x z : List ℕ) (c : Corners g p x z
 -- the inner corner: one block, or with moves to it in `kept`; then over the outer one, and back
 pub over_inner_to : (g : Graph) (p : List (List ℕ)) (x z y : List ℕ) (c : Corners g p x z) → IsRisingIn g.order y → mem x g.order ≡ false → mem y g.order ≡ false → Kind g.order y z →
     (a b a' b' : Shape) → AreRising g.order (cut x a b) → IsDerivationAt g p (cut x a b) → (mi mo : Option (List PlainMove)) → InnerTurned g p x z a a' mi → OuterTurned g p x z b b' mo →
-    TurnedTo g p (cut x a b) y (3 * cut_count a + 3 * cut_count b + 1) (over_inner g.order x (inner_of g.order x z) (outer_of g.order x z) a' b' mi mo)
+    TurnedTo g p (cut x a b) y (3 * cut_count a + 3 * cut_count b + 1) (over_inner g.order x (meet_list g.order x z) (outer_of g.order x z) a' b' mi mo)
 over_inner_to g p x z y c sy nx ny kind a b a' b' f d None mo inner outer =
     let r = over_outer_to g p x z y c sy nx ny kind inner.1.0 inner.1.1 a b b' f d mo outer in let l = r.5 in
-    (r.0, r.1, r.2, ap (λ k. over_outer g.order x (inner_of g.order x z) (outer_of g.order x z) k b' mo) inner.0 ∙ r.3, r.4, omega arith)
+    (r.0, r.1, r.2, ap (λ k. over_outer g.order x (meet_list g.order x z) (outer_of g.order x z) k b' mo) inner.0 ∙ r.3, r.4, omega arith)
 over_inner_to g p x z y c sy nx ny kind a b a' b' f d (Some ms) mo inner outer = deep inner.0
   where
-    si : IsRisingIn g.order (inner_of g.order x z)
+    si : IsRisingIn g.order (meet_list g.order x z)
     si = rising_list-rises g.order (meet (mem x) (mem z))
 
     -- the partition with the inner corner merged
-    inner_same : Big g p (inner_of g.order x z) → merged (merged p (inner_of g.order x z)) x ≡ merged p x
+    inner_same : Big g p (meet_list g.order x z) → merged (merged p (meet_list g.order x z)) x ≡ merged p x
     inner_same bi =
-        let i = inner_of g.order x z in let rx = big_rest g p c.stage x c.first in
+        let i = meet_list g.order x z in let rx = big_rest g p c.stage x c.first in
         let m = merged_inner g p x z c bi in
         let rxi = big_rest g (merged p i) m.0.stage x m.0.first in
         let back = rest_rest g.order x c.first.shore in
@@ -382,28 +382,28 @@ over_inner_to g p x z y c sy nx ny kind a b a' b' f d (Some ms) mo inner outer =
         in_x : (a b : Bool) → (a && b) ≡ true → a ≡ true
         in_x a b h = grind arith
 
-    apart : Apart g.order (mem (inner_of g.order x z)) (mem (outer_of g.order x z))
+    apart : Apart g.order (mem (meet_list g.order x z)) (mem (outer_of g.order x z))
     apart v wv h = outer_mem g p x z c v wv ∙ bits (mem x v) (mem z v) (sym (inner_mem g p x z c v wv) ∙ h)
       where
         bits : (a b : Bool) → (a && b) ≡ true → not (a || b) ≡ false
         bits a b h = grind arith
 
     -- the outer corner there
-    outer_moved : (bi : Big g p (inner_of g.order x z)) → (mo : Option (List PlainMove)) → OuterTurned g p x z b b' mo → OuterTurned g (merged p (inner_of g.order x z)) x z b b' mo
+    outer_moved : (bi : Big g p (meet_list g.order x z)) → (mo : Option (List PlainMove)) → OuterTurned g p x z b b' mo → OuterTurned g (merged p (meet_list g.order x z)) x z b b' mo
     outer_moved bi None out =
         let m = merged_inner g p x z c bi in (
           out.0,
-          elim (outer_single_or_big g (merged p (inner_of g.order x z)) x z m.0) [
+          elim (outer_single_or_big g (merged p (meet_list g.order x z)) x z m.0) [
             | inl bo ↦ bo
             | inr bo ↦
-                let n = same_number g p c.stage (inner_of g.order x z) (outer_of g.order x z) bi (o_tight g p x z c).union apart in
+                let n = same_number g p c.stage (meet_list g.order x z) (outer_of g.order x z) bi (o_tight g p x z c).union apart in
                 let k = block_count-one g.order p c.stage.list.partition (mem (outer_of g.order x z)) out.1.0 out.1.1 in let q = bo.inside in
                 absurd (omega arith)
           ],
         )
     outer_moved bi (Some mo) out =
         let l = c.left in (
-          stays_big g p c.stage (inner_of g.order x z) (outer_of g.order x z) bi out.0 apart (l.0, l.1, inner_mem g p x z c l.0 l.1 ∙ no_z (mem x l.0) (mem z l.0) l.3, outer_mem g p x z c l.0 l.1 ∙ in_x (mem x l.0) (mem z l.0) l.2),
+          stays_big g p c.stage (meet_list g.order x z) (outer_of g.order x z) bi out.0 apart (l.0, l.1, inner_mem g p x z c l.0 l.1 ∙ no_z (mem x l.0) (mem z l.0) l.3, outer_mem g p x z c l.0 l.1 ∙ in_x (mem x l.0) (mem z l.0) l.2),
           out.1,
           out.2,
           out.3,
@@ -417,13 +417,13 @@ over_inner_to g p x z y c sy nx ny kind a b a' b' f d (Some ms) mo inner outer =
         in_x : (a b : Bool) → a ≡ true → not (a || b) ≡ false
         in_x a b h = grind arith
 
-    returned : (a' b' c' : Shape) → Big g p (inner_of g.order x z) → (k : Shape) × (l : Shape) × (rotate_result_at Merged (cut (inner_of g.order x z) a' (cut y b' c')) ≡ Some (cut y k l))
+    returned : (a' b' c' : Shape) → Big g p (meet_list g.order x z) → (k : Shape) × (l : Shape) × (rotate_result_at Merged (cut (meet_list g.order x z) a' (cut y b' c')) ≡ Some (cut y k l))
     returned a' b' c' bi = elim kind [
-      | inl h ↦ (cut (inner_of g.order x z) a' b', c', row_two (inner_of g.order x z) y a' b' c' (true_all_in (inner_of g.order x z) (mem y) (λ v k. let wv = (bounds si) v k in sym (h v wv) ∙ in_z (mem x v) (mem z v) (sym (inner_mem g p x z c v wv) ∙ k))))
+      | inl h ↦ (cut (meet_list g.order x z) a' b', c', row_two (meet_list g.order x z) y a' b' c' (true_all_in (meet_list g.order x z) (mem y) (λ v k. let wv = (bounds si) v k in sym (h v wv) ∙ in_z (mem x v) (mem z v) (sym (inner_mem g p x z c v wv) ∙ k))))
       | inr h ↦
-          let some = big_some g p c.stage (inner_of g.order x z) bi in
-          let off : Apart g.order (mem (inner_of g.order x z)) (mem y) = λ v wv k. not_y (mem x v) (mem z v) (mem y v) (h v wv) (sym (inner_mem g p x z c v wv) ∙ k) in
-          (b', cut (inner_of g.order x z) a' c', row_three (inner_of g.order x z) y a' b' c' (all_in_false (inner_of g.order x z) (mem y) some.0 some.2 (off some.0 some.1 some.2)) (apart_test g.order (inner_of g.order x z) y si off))
+          let some = big_some g p c.stage (meet_list g.order x z) bi in
+          let off : Apart g.order (mem (meet_list g.order x z)) (mem y) = λ v wv k. not_y (mem x v) (mem z v) (mem y v) (h v wv) (sym (inner_mem g p x z c v wv) ∙ k) in
+          (b', cut (meet_list g.order x z) a' c', row_three (meet_list g.order x z) y a' b' c' (all_in_false (meet_list g.order x z) (mem y) some.0 some.2 (off some.0 some.1 some.2)) (apart_test g.order (meet_list g.order x z) y si off))
     ]
       where
         in_z : (a b : Bool) → (a && b) ≡ true → b ≡ true
@@ -432,9 +432,9 @@ over_inner_to g p x z y c sy nx ny kind a b a' b' f d (Some ms) mo inner outer =
         not_y : (a b y : Bool) → b ≡ not y → (a && b) ≡ true → y ≡ false
         not_y a b y h k = grind arith
 
-    deep : Big g p (inner_of g.order x z) → TurnedTo g p (cut x a b) y (3 * cut_count a + 3 * cut_count b + 1) (over_inner g.order x (inner_of g.order x z) (outer_of g.order x z) a' b' (Some ms) mo)
+    deep : Big g p (meet_list g.order x z) → TurnedTo g p (cut x a b) y (3 * cut_count a + 3 * cut_count b + 1) (over_inner g.order x (meet_list g.order x z) (outer_of g.order x z) a' b' (Some ms) mo)
     deep bi =
-        let i = inner_of g.order x z in let o = outer_of g.order x z in
+        let i = meet_list g.order x z in let o = outer_of g.order x z in
         let e1 = inner.1 in let e2 = inner.2 in
         let w1 = walk_kept g p x a b ms (cut i e1 e2) d f inner.4 in
         let w2 = walk_then g p (cut x a b) (map (below Kept) ms) (cut x (cut i e1 e2) b) Kept (cut i e1 (cut x e2 b)) c.stage d f w1 refl in
@@ -469,8 +469,8 @@ over_inner_found g p x z y c sy nx ny kind a b f d ia ib =
     inner = elim (inner_single_or_big g p x z c) [
       | inl bi ↦ (a, None, (refl, bi))
       | inr bi ↦
-          let e = ia (kept_at g.order p x) (inner_of g.order x z) (stage_merged g p c.stage (complement_of g.order x) (big_rest g p c.stage x c.first)) f.1 d.1 (inner_below g p x z c nx bi) (inner_canonical g p x z c nx) in
-          (cut (inner_of g.order x z) e.1 e.2, Some e.0, (bi, e.1, e.2, refl, e.3, e.4))
+          let e = ia (kept_at g.order p x) (meet_list g.order x z) (stage_merged g p c.stage (complement_of g.order x) (big_rest g p c.stage x c.first)) f.1 d.1 (inner_below g p x z c nx bi) (inner_canonical g p x z c nx) in
+          (cut (meet_list g.order x z) e.1 e.2, Some e.0, (bi, e.1, e.2, refl, e.3, e.4))
     ]
 
     outer : (b' : Shape) × (mo : Option (List PlainMove)) × OuterTurned g p x z b b' mo

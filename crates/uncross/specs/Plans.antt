@@ -7,16 +7,12 @@ use Rattle.graph_core.specs.Graph.{Graph}
 use Rattle.graph_core.specs.Partitions.{complement_of}
 use Rattle.graph_core.specs.Shores.{block_count}
 use Rattle.tree_core.specs.Derivations.{IsCutAt}
-use Rattle.tree_core.specs.Moves.{PlainMove}
+use Rattle.tree_core.specs.Moves.{PlainMove, meet_list}
 use Rattle.tree_core.specs.Shapes.{Shape, cut, cut_count}
 use Rattle.uncross.specs.Turning.{PlainTurned, over_inner, raised_kept, raised_merged}
 use Rattle.uncross.specs.Walks.{Walk}
 
--- what x and z share: the inner corner
-abbrev pub inner_of : ℕ → (x z : List ℕ) → List ℕ
-inner_of n x z = rising_list n (meet (mem x) (mem z))
-
--- what is outside both: the outer corner
+-- what is outside x and z: the outer corner. The inner one, what they share, is meet_list
 abbrev pub outer_of : ℕ → (x z : List ℕ) → List ℕ
 outer_of n x z = rising_list n (complement (union (mem x) (mem z)))
 
@@ -46,7 +42,7 @@ IsPlan n p x y here = x ≡ y
 IsPlan n p x y in_kept = (is_subset y x ≡ true) × (is_subset x y ≡ false)
 IsPlan n p x y in_merged = (is_subset y x ≡ false) × ((is_subset x y ≡ true) ⊎ (is_apart x y ≡ true))
 IsPlan n p x y (crossing u v inner outer) =
-    (is_subset y x ≡ false) × (is_subset x y ≡ false) × (is_apart x y ≡ false) × (u ≡ inner_of n x (partner n p x y)) × (v ≡ outer_of n x (partner n p x y)) × (inner ≡ if_big p u u) × (outer ≡ if_big p v (outer_shore n v))
+    (is_subset y x ≡ false) × (is_subset x y ≡ false) × (is_apart x y ≡ false) × (u ≡ meet_list n x (partner n p x y)) × (v ≡ outer_of n x (partner n p x y)) × (inner ≡ if_big p u u) × (outer ≡ if_big p v (outer_shore n v))
 
 -- what is exposed in `kept` first, and in `merged`
 abbrev pub first_shore : List ℕ → PlainPlan → Option (List ℕ)
