@@ -7,6 +7,7 @@ ghost use Rattle.tree_core.specs.Shapes.{Fits, cut};
 ghost use Rattle.tree_core.specs.View.{shape_of};
 
 use crate::moves::Stuck;
+use crate::opened::open;
 use crate::path::{Path, Side};
 use crate::switched_shores::{
     holds_greatest, is_proper_outside, is_proper_part, minus_of, outer_rest_of, set_if, union_of,
@@ -15,7 +16,8 @@ use crate::tree::Tree;
 use std::mem;
 use vset_core::VSet;
 
-// What a Switch at a cut over 1 to n exchanges: u leaves the shore x, and v comes in its place.
+// What a Switch at a cut over 1 to n exchanges: u leaves the shore x, and v comes in its place. The greatest vertex n comes in with v, or
+// stays outside.
 #[derive(Drop)]
 struct Exchange {
     n: u32,
@@ -24,7 +26,7 @@ struct Exchange {
     v: VSet,
 }
 
-// A shore below `kept` where the greatest vertex is in v: one that contains u gains the rest of the outer side.
+// A shore below `kept` where the greatest vertex comes: one that contains u gains the rest of the outer side.
 #[tactic(auto, using(crate::proofs::SwitchSets::all_wider))]
 fn kept_shore_greatest_comes(e: &Exchange, rest: VSet, s: VSet) -> VSet
     requires rest { rest ≡ outer_rest e.now.n e.now.x e.now.v }
@@ -39,7 +41,7 @@ fn kept_shore_greatest_comes(e: &Exchange, rest: VSet, s: VSet) -> VSet
     }
 }
 
-// A shore below `merged` where the greatest vertex is in v: one that contains x has u in its place.
+// A shore below `merged` where the greatest vertex comes: one that contains x has u in its place.
 #[tactic(auto, using(crate::proofs::SwitchSets::all_wider))]
 fn merged_shore_greatest_comes(e: &Exchange, s: VSet) -> VSet
     requires part { All (Within e.now.n) e.now.u }
@@ -53,7 +55,7 @@ fn merged_shore_greatest_comes(e: &Exchange, s: VSet) -> VSet
     }
 }
 
-// A shore below `merged` where the greatest vertex is outside v.
+// A shore below `merged` where the greatest vertex stays.
 #[tactic(auto, using(crate::proofs::SwitchSets::all_wider))]
 fn merged_shore_greatest_stays(e: &Exchange, s: VSet) -> VSet
     requires first { All (Within e.now.n) e.now.u }
@@ -69,7 +71,7 @@ fn merged_shore_greatest_stays(e: &Exchange, s: VSet) -> VSet
     union_of(outer, union_of(inner, further, e.n), e.n)
 }
 
-// The tree below `kept` where the greatest vertex is in v.
+// The tree below `kept` where the greatest vertex comes.
 fn kept_greatest_comes(tree: Tree, e: &Exchange, rest: VSet) -> Tree
     requires rest { rest ≡ outer_rest e.now.n e.now.x e.now.v }
     requires within { All (Within e.now.n) rest }
@@ -96,7 +98,7 @@ fn kept_greatest_comes(tree: Tree, e: &Exchange, rest: VSet) -> Tree
     }
 }
 
-// The tree below `merged` where the greatest vertex is in v.
+// The tree below `merged` where the greatest vertex comes.
 fn merged_greatest_comes(tree: Tree, e: &Exchange) -> Tree
     requires part { All (Within e.now.n) e.now.u }
     requires fits { Fits e.now.n (shape_of tree) }
@@ -122,7 +124,7 @@ fn merged_greatest_comes(tree: Tree, e: &Exchange) -> Tree
     }
 }
 
-// The tree below `kept` where the greatest vertex is outside v: where a shore contains u the two trees change places.
+// The tree below `kept` where the greatest vertex stays: where a shore contains u the two trees change places.
 fn kept_greatest_stays(tree: Tree, e: &Exchange) -> Tree
     requires whole { All (Within e.now.n) e.now.x }
     requires second { All (Within e.now.n) e.now.v }
@@ -156,7 +158,7 @@ fn kept_greatest_stays(tree: Tree, e: &Exchange) -> Tree
     }
 }
 
-// The tree below `merged` where the greatest vertex is outside v.
+// The tree below `merged` where the greatest vertex stays.
 fn merged_greatest_stays(tree: Tree, e: &Exchange) -> Tree
     requires first { All (Within e.now.n) e.now.u }
     requires second { All (Within e.now.n) e.now.v }
@@ -184,7 +186,7 @@ fn merged_greatest_stays(tree: Tree, e: &Exchange) -> Tree
     }
 }
 
-// The cut after the exchange, where the greatest vertex is in v: the two trees change places.
+// The cut after the exchange, where the greatest vertex comes: the two trees change places.
 fn exchanged_greatest_comes(mut kept: Box<Tree>, mut merged: Box<Tree>, e: &Exchange) -> Tree
     requires greatest { mem e.now.v e.now.n ≡ true }
     requires part { All (Within e.now.n) e.now.u }
@@ -204,7 +206,7 @@ fn exchanged_greatest_comes(mut kept: Box<Tree>, mut merged: Box<Tree>, e: &Exch
     }
 }
 
-// The cut after the exchange, where the greatest vertex is outside v.
+// The cut after the exchange, where the greatest vertex stays.
 fn exchanged_greatest_stays(mut kept: Box<Tree>, mut merged: Box<Tree>, e: &Exchange) -> Tree
     requires part { All (Within e.now.n) e.now.u }
     requires other { All (Within e.now.n) e.now.v }
@@ -268,48 +270,15 @@ fn switch_along(tree: Tree, n: u32, path: &[Side], u: VSet, v: VSet) -> Result<T
         Tree::Leaf => Err(Tree::Leaf),
         Tree::Cut {
             shore,
-            mut kept,
-            mut merged,
-        } => match side {
-            Side::Kept => match switch_along(mem::replace(&mut *kept, Tree::Leaf), n, rest, u, v) {
-                Ok(child) => {
-                    *kept = child;
-                    Ok(Tree::Cut {
-                        shore,
-                        kept,
-                        merged,
-                    })
-                }
-                Err(child) => {
-                    *kept = child;
-                    Err(Tree::Cut {
-                        shore,
-                        kept,
-                        merged,
-                    })
-                }
-            },
-            Side::Merged => {
-                match switch_along(mem::replace(&mut *merged, Tree::Leaf), n, rest, u, v) {
-                    Ok(child) => {
-                        *merged = child;
-                        Ok(Tree::Cut {
-                            shore,
-                            kept,
-                            merged,
-                        })
-                    }
-                    Err(child) => {
-                        *merged = child;
-                        Err(Tree::Cut {
-                            shore,
-                            kept,
-                            merged,
-                        })
-                    }
-                }
+            kept,
+            merged,
+        } => {
+            let (child, opened) = open(*side, shore, kept, merged);
+            match switch_along(child, n, rest, u, v) {
+                Ok(made) => Ok(opened.close(made)),
+                Err(back) => Err(opened.close(back)),
             }
-        },
+        }
     }
 }
 
