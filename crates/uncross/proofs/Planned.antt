@@ -12,19 +12,20 @@ use Rattle.tree_core.specs.Derivations.{IsCutAt, IsDerivationAt, kept_at, merged
 use Rattle.tree_core.specs.Moves.{IsBlockOf, PlainMove, below, rotate_at, meet_list}
 use Rattle.tree_core.specs.Shapes.{Shape, cut}
 use Rattle.tree_core.specs.declared.path.Side.TheVariants.{Kept, Merged}
-use Rattle.uncross.proofs.BigShores.{Big, Stage, big_cut, big_rest, big_some, stage_merged}
-use Rattle.uncross.proofs.Exchange.{block_count-one}
-use Rattle.uncross.proofs.Corners.{Corners, inner_single_or_big, outer_single_or_big}
-use Rattle.uncross.proofs.CrossingShores.{InnerTurned, raised_merged_is, Kind, OuterTurned, corners_of, inner_below, inner_canonical, outer_shore_big, over_inner_to}
-use Rattle.uncross.proofs.NestedShores.{Cross, raised, stays_big}
-use Rattle.uncross.proofs.BigShores.{rest_rest}
-use Rattle.uncross.proofs.Scripts.{length_below, length_join, walk_end, walk_join, walk_kept, walk_merged, walk_rotate}
+use Rattle.move_laws.proofs.BigShores.{Big, Stage, big_cut, big_rest, big_some, stage_merged}
+use Rattle.move_laws.proofs.Exchange.{block_count-one}
+use Rattle.move_laws.proofs.Corners.{Corners, inner_single_or_big, outer_single_or_big}
+use Rattle.move_laws.proofs.CrossingShores.{InnerTurned, raised_merged_is, Kind, OuterTurned, corners_of, inner_below, inner_canonical, outer_shore_big, over_inner_to}
+use Rattle.move_laws.proofs.NestedShores.{Cross, raised, stays_big}
+use Rattle.move_laws.proofs.BigShores.{rest_rest}
+use Rattle.move_laws.proofs.Scripts.{length_below, length_join, script_end, script_join, script_kept, script_merged, script_rotate}
 use Rattle.graph_core.proofs.MergedShores.{Apart, Below}
 use Rattle.counting.proofs.RisingLists.{false_all_in, all_in_true}
-use Rattle.uncross.proofs.Rising.{bounds}
-use Rattle.uncross.specs.Plans.{CutIf, IsExposed, IsPlan, PlainPlan, crossing, first_shore, here, if_big, in_kept, in_merged, outer_of, outer_shore, partner, plan_result, second_shore}
-use Rattle.uncross.specs.Turning.{PlainTurned, over_inner}
-use Rattle.uncross.specs.Walks.{AreRising}
+use Rattle.move_laws.proofs.Rising.{bounds}
+use Rattle.move_laws.specs.Corners.{outer_of, outer_shore, partner}
+use Rattle.uncross.specs.Plans.{CutIf, IsExposed, IsPlan, PlainPlan, crossing, first_shore, here, if_big, in_kept, in_merged, plan_result, second_shore}
+use Rattle.move_laws.specs.Turning.{PlainTurned, over_inner}
+use Rattle.move_laws.specs.Scripts.{AreRising}
 
 -- a root shore and another, at a stage
 module _ (g : Graph) (p : List (List ℕ)) (st : Stage g p) (x y : List ℕ) (bx : Big g p x) (by : Big g p y) (nx : mem x g.order ≡ false) (ny : mem y g.order ≡ false) where
@@ -167,9 +168,9 @@ module _ (g : Graph) (p : List (List ℕ)) (st : Stage g p) (x y : List ℕ) (bx
     at_kept : (ta tb : Shape) (ms : List PlainMove) → IsExposed g (kept_at g.order p x) a (Some y) ta (Some ms) → tb ≡ b → Done (cut x a b) (plan_result g.order x in_kept ta tb (Some ms) None)
     at_kept ta tb ms e eb =
         let k = e.0 in let l = e.1 in
-        let w = walk_kept g p x a b ms (cut y k l) d f e.3 in
-        let q = walk_end g p (cut x a b) (map (below Kept) ms) (cut x (cut y k l) b) d f w in
-        let r = walk_rotate g p Kept (cut x (cut y k l) b) (cut y k (cut x l b)) st q.0 q.1 refl in
+        let w = script_kept g p x a b ms (cut y k l) d f e.3 in
+        let q = script_end g p (cut x a b) (map (below Kept) ms) (cut x (cut y k l) b) d f w in
+        let r = script_rotate g p Kept (cut x (cut y k l) b) (cut y k (cut x l b)) st q.0 q.1 refl in
         let n = length_join (map (below Kept) ms) (rotate_at (Kept ∷ []) ∷ []) in let m = length_below Kept ms in let z = e.4 in (
           record { tree = cut y k (cut x l b); moves = map (below Kept) ms ++ rotate_at (Kept ∷ []) ∷ [] },
           ap₂ (λ (t u : Shape). plan_result g.order x in_kept t u (Some ms) None) e.2 eb,
@@ -177,7 +178,7 @@ module _ (g : Graph) (p : List (List ℕ)) (st : Stage g p) (x y : List ℕ) (bx
             k,
             cut x l b,
             refl,
-            walk_join g p (cut x a b) (map (below Kept) ms) (rotate_at (Kept ∷ []) ∷ []) (cut x (cut y k l) b) (cut y k (cut x l b)) w r,
+            script_join g p (cut x a b) (map (below Kept) ms) (rotate_at (Kept ∷ []) ∷ []) (cut x (cut y k l) b) (cut y k (cut x l b)) w r,
             omega arith,
           ),
         )
@@ -185,10 +186,10 @@ module _ (g : Graph) (p : List (List ℕ)) (st : Stage g p) (x y : List ℕ) (bx
     at_merged : Below g.order (mem x) (mem y) ⊎ Apart g.order (mem x) (mem y) → (ta tb : Shape) (ms : List PlainMove) → IsExposed g (merged_at g.order p x) b (Some y) tb (Some ms) → ta ≡ a → Done (cut x a b) (plan_result g.order x in_merged ta tb None (Some ms))
     at_merged how ta tb ms e ea =
         let k = e.0 in let l = e.1 in
-        let w = walk_merged g p x a b ms (cut y k l) d f e.3 in
-        let q = walk_end g p (cut x a b) (map (below Merged) ms) (cut x a (cut y k l)) d f w in
+        let w = script_merged g p x a b ms (cut y k l) d f e.3 in
+        let q = script_end g p (cut x a b) (map (below Merged) ms) (cut x a (cut y k l)) d f w in
         let s = raised g p st x a b f d y ny k l how in
-        let r = walk_rotate g p Merged (cut x a (cut y k l)) (cut y s.0 s.1) st q.0 q.1 s.2 in
+        let r = script_rotate g p Merged (cut x a (cut y k l)) (cut y s.0 s.1) st q.0 q.1 s.2 in
         let n = length_join (map (below Merged) ms) (rotate_at (Merged ∷ []) ∷ []) in let m = length_below Merged ms in let z = e.4 in (
           record { tree = cut y s.0 s.1; moves = map (below Merged) ms ++ rotate_at (Merged ∷ []) ∷ [] },
           ap₂ (λ (t u : Shape). plan_result g.order x in_merged t u None (Some ms)) ea e.2 ∙ raised_merged_is x a (cut y k l) (cut y s.0 s.1) ms s.2,
@@ -196,7 +197,7 @@ module _ (g : Graph) (p : List (List ℕ)) (st : Stage g p) (x y : List ℕ) (bx
             s.0,
             s.1,
             refl,
-            walk_join g p (cut x a b) (map (below Merged) ms) (rotate_at (Merged ∷ []) ∷ []) (cut x a (cut y k l)) (cut y s.0 s.1) w r,
+            script_join g p (cut x a b) (map (below Merged) ms) (rotate_at (Merged ∷ []) ∷ []) (cut x a (cut y k l)) (cut y s.0 s.1) w r,
             omega arith,
           ),
         )

@@ -6,8 +6,9 @@ ghost use Rattle.counting.specs.Sets.{meet};
 ghost use Rattle.graph_core.specs.Partitions.{complement_of};
 ghost use Rattle.graph_core.specs.Shores.{block_count};
 ghost use Rattle.tree_core.specs.Moves.{meet_list};
+ghost use Rattle.move_laws.specs.Corners.{outer_of, outer_shore, partner};
 ghost use Rattle.uncross.specs.PlanView.{plan_of};
-ghost use Rattle.uncross.specs.Plans.{IsPlan, first_shore, if_big, outer_of, outer_shore, partner, second_shore};
+ghost use Rattle.uncross.specs.Plans.{IsPlan, first_shore, if_big, second_shore};
 
 use contraction::Partition;
 use tree_core::are_apart;
