@@ -14,7 +14,7 @@ use Rattle.tree_core.specs.Moves.{PlainMove, TurnsThrough}
 use Rattle.tree_core.specs.Shapes.{Shape, cut_count, leaf_count}
 use Rattle.move_text.specs.MoveFormat.{move_format}
 use Rattle.move_text.specs.Writing.{moves_text}
-use Rattle.uncross.specs.Pairings.{IsPairing}
+use Rattle.move_laws.specs.Pairings.{IsPairing}
 use Rattle.report_text.specs.Comparisons.{pairing_text}
 use Rattle.report_text.specs.Scripts.{script_report_text}
 use Rattle.report_text.specs.declared.comparisons.MapLine.{MapLine}

@@ -10,7 +10,7 @@ use Rattle.tree_core.specs.Derivations.{IsDerivation}
 use Rattle.tree_core.specs.LeafMaps.{PlainLeafMap}
 use Rattle.tree_core.specs.Leaves.{leaves}
 use Rattle.tree_core.specs.Shapes.{Shape}
-use Rattle.uncross.specs.Pairings.{IsPairing}
+use Rattle.move_laws.specs.Pairings.{IsPairing}
 use Rattle.report_text.specs.Growths.{grown_text}
 use Rattle.report_text.specs.Tallies.{IsTally}
 use Rattle.report_text.specs.declared.tallies.Tally.{Tally}

@@ -10,7 +10,7 @@ use Rattle.counting.specs.Lists.{is_apart, is_subset, mem}
 use Rattle.counting.specs.Sets.{minus, union}
 use Rattle.graph_core.specs.Partitions.{complement_of}
 use Rattle.tree_core.proofs.SwitchSets.{each-member, proper-within, proper_outside-within}
-use Rattle.tree_core.specs.Moves.{PlainMove, rotate_at, switch_at, inner_rest, is_proper, kept_if_in_q, kept_if_in_v, last_step, list_if, merged_if_in_q, merged_if_in_v, minus_list, move_result, outer_rest, parent_path, result_at, rotate_result_at, switch_result_at, union_list}
+use Rattle.tree_core.specs.Moves.{PlainMove, rotate_at, switch_at, inner_rest, is_proper, kept_if_greatest_stays, kept_if_greatest_comes, last_step, list_if, merged_if_greatest_stays, merged_if_greatest_comes, minus_list, move_result, outer_rest, parent_path, result_at, rotate_result_at, switch_result_at, union_list}
 use Rattle.tree_core.specs.Shapes.{Shape, leaf, cut, Fits}
 use Rattle.tree_core.specs.declared.path.Side.{Side}
 use Rattle.tree_core.specs.declared.path.Side.TheVariants.{Kept, Merged}
@@ -56,45 +56,45 @@ other-below n v x is out =
     below n v (λ w m. without-greatest n w (each-member (Within n) v (proper_outside-within n v x is) w m) (λ same. both_ways (mem v w) (subst (λ j. mem v j ≡ false) (sym same) out) m))
 
 -- the trees below a Switch
-kept_in_v-fits : (n : ℕ) (x u v : List ℕ) (t : Shape) → mem v n ≡ true → Fits n t → Fits n (kept_if_in_v n x u v t)
-kept_in_v-fits n x u v leaf greatest fits = tt
-kept_in_v-fits n x u v (cut s a b) greatest fits = (go (is_subset u s), kept_in_v-fits n x u v a greatest fits.1, kept_in_v-fits n x u v b greatest fits.2)
+kept_greatest_comes-fits : (n : ℕ) (x u v : List ℕ) (t : Shape) → mem v n ≡ true → Fits n t → Fits n (kept_if_greatest_comes n x u v t)
+kept_greatest_comes-fits n x u v leaf greatest fits = tt
+kept_greatest_comes-fits n x u v (cut s a b) greatest fits = (go (is_subset u s), kept_greatest_comes-fits n x u v a greatest fits.1, kept_greatest_comes-fits n x u v b greatest fits.2)
   where
     go : (t : Bool) → IsBelow n (if t then union_list n s (outer_rest n x v) else s)
     go true = union-below n s (outer_rest n x v) fits.0 (outer-below n x v greatest)
     go false = fits.0
 
-merged_in_v-fits : (n : ℕ) (x u : List ℕ) (t : Shape) → IsBelow n u → Fits n t → Fits n (merged_if_in_v n x u t)
-merged_in_v-fits n x u leaf part fits = tt
-merged_in_v-fits n x u (cut s a b) part fits = (go (is_subset x s), merged_in_v-fits n x u a part fits.1, merged_in_v-fits n x u b part fits.2)
+merged_greatest_comes-fits : (n : ℕ) (x u : List ℕ) (t : Shape) → IsBelow n u → Fits n t → Fits n (merged_if_greatest_comes n x u t)
+merged_greatest_comes-fits n x u leaf part fits = tt
+merged_greatest_comes-fits n x u (cut s a b) part fits = (go (is_subset x s), merged_greatest_comes-fits n x u a part fits.1, merged_greatest_comes-fits n x u b part fits.2)
   where
     go : (t : Bool) → IsBelow n (if t then union_list n (minus_list n s x) u else s)
     go true = union-below n (minus_list n s x) u (minus-below n s x fits.0) part
     go false = fits.0
 
-kept_in_q-fits : (n : ℕ) (x u v : List ℕ) (t : Shape) → IsBelow n x → IsBelow n v → Fits n t → Fits n (kept_if_in_q n x u v t)
-kept_in_q-fits n x u v leaf whole other fits = tt
-kept_in_q-fits n x u v (cut s a b) whole other fits = go (is_subset u s) (kept_in_q-fits n x u v a whole other fits.1) (kept_in_q-fits n x u v b whole other fits.2)
+kept_greatest_stays-fits : (n : ℕ) (x u v : List ℕ) (t : Shape) → IsBelow n x → IsBelow n v → Fits n t → Fits n (kept_if_greatest_stays n x u v t)
+kept_greatest_stays-fits n x u v leaf whole other fits = tt
+kept_greatest_stays-fits n x u v (cut s a b) whole other fits = go (is_subset u s) (kept_greatest_stays-fits n x u v a whole other fits.1) (kept_greatest_stays-fits n x u v b whole other fits.2)
   where
-    go : (t : Bool) → Fits n (kept_if_in_q n x u v a) → Fits n (kept_if_in_q n x u v b) → Fits n (if t then cut (union_list n (minus_list n x s) v) (kept_if_in_q n x u v b) (kept_if_in_q n x u v a) else cut s (kept_if_in_q n x u v a) (kept_if_in_q n x u v b))
+    go : (t : Bool) → Fits n (kept_if_greatest_stays n x u v a) → Fits n (kept_if_greatest_stays n x u v b) → Fits n (if t then cut (union_list n (minus_list n x s) v) (kept_if_greatest_stays n x u v b) (kept_if_greatest_stays n x u v a) else cut s (kept_if_greatest_stays n x u v a) (kept_if_greatest_stays n x u v b))
     go true first second = (union-below n (minus_list n x s) v (minus-below n x s whole) other, second, first)
     go false first second = (fits.0, first, second)
 
-merged_in_q-fits : (n : ℕ) (x u v : List ℕ) (t : Shape) → IsBelow n x → IsBelow n u → IsBelow n v → Fits n t → Fits n (merged_if_in_q n x u v t)
-merged_in_q-fits n x u v leaf whole part other fits = tt
-merged_in_q-fits n x u v (cut s a b) whole part other fits = (
+merged_greatest_stays-fits : (n : ℕ) (x u v : List ℕ) (t : Shape) → IsBelow n x → IsBelow n u → IsBelow n v → Fits n t → Fits n (merged_if_greatest_stays n x u v t)
+merged_greatest_stays-fits n x u v leaf whole part other fits = tt
+merged_greatest_stays-fits n x u v (cut s a b) whole part other fits = (
   union-below n (minus_list n (minus_list n s x) v) (union_list n (list_if (is_subset x s) u) (list_if (is_subset v s) (union_list n (inner_rest n x u) v))) (minus-below n (minus_list n s x) v (minus-below n s x fits.0))
       (union-below n (list_if (is_subset x s) u) (list_if (is_subset v s) (union_list n (inner_rest n x u) v)) (list_if-below n (is_subset x s) u part) (list_if-below n (is_subset v s) (union_list n (inner_rest n x u) v) (union-below n (inner_rest n x u) v (minus-below n x u whole) other))),
-  merged_in_q-fits n x u v a whole part other fits.1,
-  merged_in_q-fits n x u v b whole part other fits.2,
+  merged_greatest_stays-fits n x u v a whole part other fits.1,
+  merged_greatest_stays-fits n x u v b whole part other fits.2,
 )
 
 -- Switch at its node
 abbrev switched : ℕ → (u v x : List ℕ) → (a b : Shape) → Bool → Shape
 switched n u v x a b t =
     if t
-    then cut (union_list n (outer_rest n x v) u) (merged_if_in_v n x u b) (kept_if_in_v n x u v a)
-    else cut (union_list n (inner_rest n x u) v) (kept_if_in_q n x u v a) (merged_if_in_q n x u v b)
+    then cut (union_list n (outer_rest n x v) u) (merged_if_greatest_comes n x u b) (kept_if_greatest_comes n x u v a)
+    else cut (union_list n (inner_rest n x u) v) (kept_if_greatest_stays n x u v a) (merged_if_greatest_stays n x u v b)
 
 switch-fits : (n : ℕ) (u v : List ℕ) (t r : Shape) → Fits n t → switch_result_at n u v t ≡ Some r → Fits n r
 switch-fits n u v leaf r fits e = absurd (none-some _ e)
@@ -103,11 +103,11 @@ switch-fits n u v (cut x a b) r fits e = go (is_proper u x && is_proper v (compl
     which : (t : Bool) → mem v n ≡ t → is_proper u x ≡ true → is_proper v (complement_of n x) ≡ true → Fits n (switched n u v x a b t)
     which true greatest inner outer =
         let part = part-below n u x inner fits.0 in
-        (union-below n (outer_rest n x v) u (outer-below n x v greatest) part, merged_in_v-fits n x u b part fits.2, kept_in_v-fits n x u v a greatest fits.1)
+        (union-below n (outer_rest n x v) u (outer-below n x v greatest) part, merged_greatest_comes-fits n x u b part fits.2, kept_greatest_comes-fits n x u v a greatest fits.1)
     which false greatest inner outer =
         let part = part-below n u x inner fits.0 in
         let other = other-below n v x outer greatest in
-        (union-below n (inner_rest n x u) v (minus-below n x u fits.0) other, kept_in_q-fits n x u v a fits.0 other fits.1, merged_in_q-fits n x u v b fits.0 part other fits.2)
+        (union-below n (inner_rest n x u) v (minus-below n x u fits.0) other, kept_greatest_stays-fits n x u v a fits.0 other fits.1, merged_greatest_stays-fits n x u v b fits.0 part other fits.2)
 
     go : (t : Bool) → (is_proper u x && is_proper v (complement_of n x)) ≡ t → (if t then Some (switched n u v x a b (mem v n)) else None) ≡ Some r → Fits n r
     go false is e = absurd (none-some _ e)

@@ -1,11 +1,11 @@
 -- Rotate one step down a path, and the test of two sets with no common vertex.
-use Rattle.std.proofs.Common.{◌≡◌, ℕ, ◌==◌, false, not, ◌&&◌, List, [], ◌∷◌, length, Some, None, option_map, refl, sym, ap, ◌∙◌}
+use Rattle.std.proofs.Common.{◌≡◌, ℕ, ◌==◌, false, not, ◌&&◌, List, [], ◌∷◌, length, Option, None, option_map, refl, sym, ap, ◌∙◌}
 use Rattle.std.proofs.lemmas.Bool.{and_from, and_parts, both_ways}
 use Rattle.counting.proofs.RisingLists.{all_in_true, true_all_in, same_answers}
 use Rattle.counting.specs.Lists.{mem, is_apart, is_subset}
 use Rattle.counting.specs.Sets.{everything, minus}
-use Rattle.tree_core.specs.Moves.{rotate_result}
-use Rattle.tree_core.specs.Shapes.{Shape, leaf, cut}
+use Rattle.tree_core.specs.Moves.{rotate_result, with_child}
+use Rattle.tree_core.specs.Shapes.{Shape, leaf}
 use Rattle.tree_core.specs.declared.path.Side.{Side}
 use Rattle.tree_core.specs.declared.path.Side.TheVariants.{Kept, Merged}
 
@@ -21,11 +21,9 @@ rotate-leaf [] = refl
 rotate-leaf (side ∷ []) = refl
 rotate-leaf (side ∷ next ∷ path) = refl
 
--- with a path of further steps the result is that of the child
-pub rotate_kept-below : (path rest : List Side) (side : Side) (x : List ℕ) (a b c : Shape) → path ≡ side ∷ rest → side ≡ Kept → false ≡ (length rest == 0) → rotate_result rest a ≡ Some c → rotate_result path (cut x a b) ≡ Some (cut x c b)
-rotate_kept-below path [] side x a b c is kept some h = absurd (both_ways (length {A = Side} [] == 0) (sym some) refl)
-rotate_kept-below path (next ∷ rest) side x a b c is kept some h = rw (is, kept) (ap (option_map (λ d. cut x d b)) h)
-
-pub rotate_merged-below : (path rest : List Side) (side : Side) (x : List ℕ) (a b c : Shape) → path ≡ side ∷ rest → side ≡ Merged → false ≡ (length rest == 0) → rotate_result rest b ≡ Some c → rotate_result path (cut x a b) ≡ Some (cut x a c)
-rotate_merged-below path [] side x a b c is merged some h = absurd (both_ways (length {A = Side} [] == 0) (sym some) refl)
-rotate_merged-below path (next ∷ rest) side x a b c is merged some h = rw (is, merged) (ap (option_map (λ d. cut x a d)) h)
+-- with a path of further steps the result is the cut with that of the child
+pub rotate-below : (path rest : List Side) (side : Side) (x : List ℕ) (other child whole : Shape) (made : Option Shape) →
+    path ≡ side ∷ rest → false ≡ (length rest == 0) → whole ≡ with_child side x other child → rotate_result rest child ≡ made → rotate_result path whole ≡ option_map (with_child side x other) made
+rotate-below path [] side x other child whole made is some cut_is h = absurd (both_ways (length {A = Side} [] == 0) (sym some) refl)
+rotate-below path (next ∷ rest) Kept x other child whole made is some cut_is h = rw (is, cut_is) (ap (option_map (with_child Kept x other)) h)
+rotate-below path (next ∷ rest) Merged x other child whole made is some cut_is h = rw (is, cut_is) (ap (option_map (with_child Merged x other)) h)

@@ -45,21 +45,21 @@ rotate_order Merged k (cut x a (cut y b c)) =
     else numbers (k + leaf_count a) (leaf_count b) ++ numbers k (leaf_count a) ++ numbers (k + leaf_count a + leaf_count b) (leaf_count c)
 rotate_order side k t = numbers k (leaf_count t)
 
--- below `kept`, where a shore that contains u changes the places of its two trees
-abbrev pub kept_order_if_in_q : List ℕ → ℕ → Shape → List ℕ
-kept_order_if_in_q u k leaf = numbers k 1
-kept_order_if_in_q u k (cut s a b) =
+-- below `kept`, where the greatest vertex stays: a shore that contains u changes the places of its two trees
+abbrev pub kept_order_if_greatest_stays : List ℕ → ℕ → Shape → List ℕ
+kept_order_if_greatest_stays u k leaf = numbers k 1
+kept_order_if_greatest_stays u k (cut s a b) =
     if is_subset u s
-    then kept_order_if_in_q u (k + leaf_count a) b ++ kept_order_if_in_q u k a
-    else kept_order_if_in_q u k a ++ kept_order_if_in_q u (k + leaf_count a) b
+    then kept_order_if_greatest_stays u (k + leaf_count a) b ++ kept_order_if_greatest_stays u k a
+    else kept_order_if_greatest_stays u k a ++ kept_order_if_greatest_stays u (k + leaf_count a) b
 
--- Switch exchanges the two trees where n is in v, and else turns the leaves of `kept`
+-- Switch exchanges the two trees where the greatest vertex n comes in, with v, and else turns the leaves of `kept`
 abbrev pub switch_order : ℕ → (u v : List ℕ) → ℕ → Shape → List ℕ
 switch_order n u v k leaf = numbers k 1
 switch_order n u v k (cut x a b) =
     if mem v n
     then numbers (k + leaf_count a) (leaf_count b) ++ numbers k (leaf_count a)
-    else kept_order_if_in_q u k a ++ numbers (k + leaf_count a) (leaf_count b)
+    else kept_order_if_greatest_stays u k a ++ numbers (k + leaf_count a) (leaf_count b)
 
 -- the same for a move on a whole tree
 abbrev pub move_order : ℕ → PlainMove → Shape → List ℕ

@@ -1,5 +1,33 @@
 -- The two moves on trees of cuts, Rotate and Switch, as partial functions on plain trees, and scripts of moves. Uncrossing of
--- tight cuts as in Lovász (1987) and Lucchesi and Murty, "Perfect Matchings"; the moves are this workbench's own.
+-- tight cuts as in Lovász (1987) and Lucchesi and Murty, "Perfect Matchings"; the moves are this workbench's own. docs/FORMATS.md has
+-- both rules in words, and an example by hand.
+--
+-- Rotate brings the lower of two cuts above. The cuts keep their shores, and the three trees below them are hung on anew; the left
+-- branch is `kept`:
+--
+--   the lower cut in `kept`        in `merged`, x inside y        in `merged`, x and y apart
+--
+--       x            y               x              y               x              y
+--      / \          / \             / \            / \             / \            / \
+--     y   c   to   a   x           a   y    to    x   c           a   y    to    b   x
+--    / \              / \             / \        / \                 / \            / \
+--   a   b            b   c           b   c      a   b               b   c          a   c
+--
+-- Switch exchanges a part u of the shore x and a part v of the other side. The rests p (`inner_rest`) and q (`outer_rest`) stay:
+--
+--        inside x        outside x              inside         outside
+--      +-----+-----+   +-----+-----+          +-----+-----+   +-----+-----+
+--      |  p  |  u  |   |  v  |  q  |    to    |  p  |  v  |   |  u  |  q  |
+--      +-----+-----+   +-----+-----+          +-----+-----+   +-----+-----+
+--
+-- The greatest vertex n is outside x, in q or in v. If it stays outside, in q, then p with v is the new shore, and `kept` stays `kept`.
+-- If it comes in, with v, then the other side is written as the shore, u with q, and the two trees change places. Below, in `kept` the
+-- block u becomes u with q, and the block of the other side becomes v; in `merged` the block x becomes u, and v becomes p with v. A
+-- shore s there becomes what its blocks become or, if this holds n, the complement of that, and then its two trees change places:
+--
+--   n       s in the old `kept`                                        s in the old `merged`
+--   stays   where u is in s: x without s, with v, the trees changed    what of s is in q, with u if x is in s, with p and v if v is in s
+--   comes   where u is in s: s with q                                  where x is in s: u in place of x
 use Rattle.std.specs.Prelude.{◌≡◌, ℕ, Bool, true, List, [], ◌∷◌, ◌&&◌, not, cond, Option, Some, None, option_map, option_and_then, if◌then◌else◌}
 use Rattle.counting.specs.Counts.{Within}
 use Rattle.counting.specs.Sets.{Set, union, meet, minus}
@@ -24,6 +52,11 @@ result_at f [] t = f t
 result_at f (side ∷ path) leaf = None
 result_at f (Kept ∷ path) (cut x a b) = option_map (λ c. cut x c b) (result_at f path a)
 result_at f (Merged ∷ path) (cut x a b) = option_map (λ c. cut x a c) (result_at f path b)
+
+-- the cut of x with this child on the side, and the other tree on the other side
+abbrev pub with_child : Side → List ℕ → (other child : Shape) → Shape
+with_child Kept x other child = cut x child other
+with_child Merged x other child = cut x other child
 
 -- Rotate where the lower node is `kept` of x
 abbrev pub rotate_result_kept : List ℕ → Shape → Shape → Option Shape
@@ -87,32 +120,34 @@ outer_rest n x v = minus_list n (complement_of n x) v
 abbrev pub list_if : Bool → List ℕ → List ℕ
 list_if t x = cond t x []
 
--- n in v, below `kept`: a shore that contains u gains the rest of the outer side
-abbrev pub kept_if_in_v : ℕ → (x u v : List ℕ) → Shape → Shape
-kept_if_in_v n x u v leaf = leaf
-kept_if_in_v n x u v (cut s a b) = cut (if is_subset u s then union_list n s (outer_rest n x v) else s) (kept_if_in_v n x u v a) (kept_if_in_v n x u v b)
+-- below `kept`, where the greatest vertex comes: a shore that contains u gains the rest of the outer side
+abbrev pub kept_if_greatest_comes : ℕ → (x u v : List ℕ) → Shape → Shape
+kept_if_greatest_comes n x u v leaf = leaf
+kept_if_greatest_comes n x u v (cut s a b) = cut (if is_subset u s then union_list n s (outer_rest n x v) else s) (kept_if_greatest_comes n x u v a) (kept_if_greatest_comes n x u v b)
 
--- n in v, below `merged`: a shore that contains x has u in its place
-abbrev pub merged_if_in_v : ℕ → (x u : List ℕ) → Shape → Shape
-merged_if_in_v n x u leaf = leaf
-merged_if_in_v n x u (cut s a b) = cut (if is_subset x s then union_list n (minus_list n s x) u else s) (merged_if_in_v n x u a) (merged_if_in_v n x u b)
+-- below `merged`, where the greatest vertex comes: a shore that contains x has u in its place
+abbrev pub merged_if_greatest_comes : ℕ → (x u : List ℕ) → Shape → Shape
+merged_if_greatest_comes n x u leaf = leaf
+merged_if_greatest_comes n x u (cut s a b) = cut (if is_subset x s then union_list n (minus_list n s x) u else s) (merged_if_greatest_comes n x u a) (merged_if_greatest_comes n x u b)
 
--- n outside v, below `kept`: a shore s that contains u becomes x without s, with v, and its two trees change places
-abbrev pub kept_if_in_q : ℕ → (x u v : List ℕ) → Shape → Shape
-kept_if_in_q n x u v leaf = leaf
-kept_if_in_q n x u v (cut s a b) =
+-- below `kept`, where the greatest vertex stays: a shore s that contains u becomes x without s, with v, and its two trees change
+-- places
+abbrev pub kept_if_greatest_stays : ℕ → (x u v : List ℕ) → Shape → Shape
+kept_if_greatest_stays n x u v leaf = leaf
+kept_if_greatest_stays n x u v (cut s a b) =
     if is_subset u s
-    then cut (union_list n (minus_list n x s) v) (kept_if_in_q n x u v b) (kept_if_in_q n x u v a)
-    else cut s (kept_if_in_q n x u v a) (kept_if_in_q n x u v b)
+    then cut (union_list n (minus_list n x s) v) (kept_if_greatest_stays n x u v b) (kept_if_greatest_stays n x u v a)
+    else cut s (kept_if_greatest_stays n x u v a) (kept_if_greatest_stays n x u v b)
 
--- n outside v, below `merged`: what of s is outside x and v, with u if s contains x, and with v and the rest of x if s contains v
-abbrev pub merged_shore_if_in_q : ℕ → (x u v s : List ℕ) → List ℕ
-merged_shore_if_in_q n x u v s = union_list n (minus_list n (minus_list n s x) v) (union_list n (list_if (is_subset x s) u) (list_if (is_subset v s) (union_list n (inner_rest n x u) v)))
+-- below `merged`, where the greatest vertex stays: what of s is outside x and v, with u if s contains x, and with v and the rest of
+-- x if s contains v
+abbrev pub merged_shore_if_greatest_stays : ℕ → (x u v s : List ℕ) → List ℕ
+merged_shore_if_greatest_stays n x u v s = union_list n (minus_list n (minus_list n s x) v) (union_list n (list_if (is_subset x s) u) (list_if (is_subset v s) (union_list n (inner_rest n x u) v)))
 
 -- each shore below `merged` so
-abbrev pub merged_if_in_q : ℕ → (x u v : List ℕ) → Shape → Shape
-merged_if_in_q n x u v leaf = leaf
-merged_if_in_q n x u v (cut s a b) = cut (merged_shore_if_in_q n x u v s) (merged_if_in_q n x u v a) (merged_if_in_q n x u v b)
+abbrev pub merged_if_greatest_stays : ℕ → (x u v : List ℕ) → Shape → Shape
+merged_if_greatest_stays n x u v leaf = leaf
+merged_if_greatest_stays n x u v (cut s a b) = cut (merged_shore_if_greatest_stays n x u v s) (merged_if_greatest_stays n x u v a) (merged_if_greatest_stays n x u v b)
 
 -- a nonempty proper subset
 abbrev pub is_proper : List ℕ → List ℕ → Bool
@@ -124,8 +159,8 @@ switch_result_at n u v leaf = None
 switch_result_at n u v (cut x a b) =
     if is_proper u x && is_proper v (complement_of n x)
     then Some (if mem v n
-    then cut (union_list n (outer_rest n x v) u) (merged_if_in_v n x u b) (kept_if_in_v n x u v a)
-    else cut (union_list n (inner_rest n x u) v) (kept_if_in_q n x u v a) (merged_if_in_q n x u v b))
+    then cut (union_list n (outer_rest n x v) u) (merged_if_greatest_comes n x u b) (kept_if_greatest_comes n x u v a)
+    else cut (union_list n (inner_rest n x u) v) (kept_if_greatest_stays n x u v a) (merged_if_greatest_stays n x u v b))
     else None
 
 -- Switch with a path to its node

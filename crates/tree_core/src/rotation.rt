@@ -1,11 +1,12 @@
 //! Rotate: a cut is brought over its parent.
 ghost use Rattle.std.specs.Prelude.{◌≡◌, Some, None, IfOk, IfErr};
 ghost use Rattle.counting.specs.Lists.{is_apart};
-ghost use Rattle.tree_core.specs.Moves.{rotate_result, rotate_result_kept, rotate_result_merged};
+ghost use Rattle.tree_core.specs.Moves.{rotate_result, rotate_result_at, rotate_result_kept, rotate_result_merged};
 ghost use Rattle.tree_core.specs.Shapes.{cut};
 ghost use Rattle.tree_core.specs.View.{shape_of};
 
 use crate::moves::Stuck;
+use crate::opened::open;
 use crate::path::{Path, Side};
 use crate::tree::Tree;
 use std::mem;
@@ -104,6 +105,18 @@ fn rotate_merged(shore: VSet, kept: Box<Tree>, mut merged: Box<Tree>) -> Result<
     }
 }
 
+// Brings the root of the child on the side over the cut.
+fn rotate_child(side: Side, shore: VSet, kept: Box<Tree>, merged: Box<Tree>) -> Result<Tree, Tree>
+    ensures ok { IfOk result (λ tree. rotate_result_at side (cut shore (shape_of kept.value) (shape_of merged.value)) ≡ Some (shape_of tree)) }
+    ensures stuck { IfErr result (λ tree. rotate_result_at side (cut shore (shape_of kept.value) (shape_of merged.value)) ≡ None) }
+    ensures same { IfErr result (λ tree. shape_of tree ≡ cut shore (shape_of kept.value) (shape_of merged.value)) }
+{
+    match side {
+        Side::Kept => rotate_kept(shore, kept, merged),
+        Side::Merged => rotate_merged(shore, kept, merged),
+    }
+}
+
 // Rotate with the steps of a path.
 fn rotate_along(tree: Tree, path: &[Side]) -> Result<Tree, Tree>
     ensures ok { IfOk result (λ made. rotate_result path.now (shape_of tree) ≡ Some (shape_of made)) }
@@ -117,50 +130,18 @@ fn rotate_along(tree: Tree, path: &[Side]) -> Result<Tree, Tree>
         Tree::Leaf => Err(Tree::Leaf),
         Tree::Cut {
             shore,
-            mut kept,
-            mut merged,
-        } => match (side, rest.is_empty()) {
-            (Side::Kept, true) => rotate_kept(shore, kept, merged),
-            (Side::Merged, true) => rotate_merged(shore, kept, merged),
-            (Side::Kept, false) => match rotate_along(mem::replace(&mut *kept, Tree::Leaf), rest) {
-                Ok(child) => {
-                    *kept = child;
-                    Ok(Tree::Cut {
-                        shore,
-                        kept,
-                        merged,
-                    })
-                }
-                Err(child) => {
-                    *kept = child;
-                    Err(Tree::Cut {
-                        shore,
-                        kept,
-                        merged,
-                    })
-                }
-            },
-            (Side::Merged, false) => {
-                match rotate_along(mem::replace(&mut *merged, Tree::Leaf), rest) {
-                    Ok(child) => {
-                        *merged = child;
-                        Ok(Tree::Cut {
-                            shore,
-                            kept,
-                            merged,
-                        })
-                    }
-                    Err(child) => {
-                        *merged = child;
-                        Err(Tree::Cut {
-                            shore,
-                            kept,
-                            merged,
-                        })
-                    }
-                }
+            kept,
+            merged,
+        } => {
+            if rest.is_empty() {
+                return rotate_child(*side, shore, kept, merged);
             }
-        },
+            let (child, opened) = open(*side, shore, kept, merged);
+            match rotate_along(child, rest) {
+                Ok(made) => Ok(opened.close(made)),
+                Err(back) => Err(opened.close(back)),
+            }
+        }
     }
 }
 

@@ -2,11 +2,12 @@
 ghost use Rattle.std.specs.Prelude.{◌≡◌, ◌-◌, Some, None, IfOk, IfErr, All, true, if◌then◌else◌};
 ghost use Rattle.counting.specs.Counts.{Within};
 ghost use Rattle.counting.specs.Lists.{mem, is_subset};
-ghost use Rattle.tree_core.specs.Moves.{inner_rest, kept_if_in_q, kept_if_in_v, merged_if_in_q, merged_if_in_v, merged_shore_if_in_q, minus_list, outer_rest, switch_result, switch_result_at, union_list};
+ghost use Rattle.tree_core.specs.Moves.{inner_rest, kept_if_greatest_stays, kept_if_greatest_comes, merged_if_greatest_stays, merged_if_greatest_comes, merged_shore_if_greatest_stays, minus_list, outer_rest, switch_result, switch_result_at, union_list};
 ghost use Rattle.tree_core.specs.Shapes.{Fits, cut};
 ghost use Rattle.tree_core.specs.View.{shape_of};
 
 use crate::moves::Stuck;
+use crate::opened::open;
 use crate::path::{Path, Side};
 use crate::switched_shores::{
     holds_greatest, is_proper_outside, is_proper_part, minus_of, outer_rest_of, set_if, union_of,
@@ -15,7 +16,8 @@ use crate::tree::Tree;
 use std::mem;
 use vset_core::VSet;
 
-// What a Switch at a cut over 1 to n exchanges: u leaves the shore x, and v comes in its place.
+// What a Switch at a cut over 1 to n exchanges: u leaves the shore x, and v comes in its place. The greatest vertex n comes in with v, or
+// stays outside.
 #[derive(Drop)]
 struct Exchange {
     n: u32,
@@ -24,9 +26,9 @@ struct Exchange {
     v: VSet,
 }
 
-// A shore below `kept` where the greatest vertex is in v: one that contains u gains the rest of the outer side.
+// A shore below `kept` where the greatest vertex comes: one that contains u gains the rest of the outer side.
 #[tactic(auto, using(crate::proofs::SwitchSets::all_wider))]
-fn kept_shore_in_v(e: &Exchange, rest: VSet, s: VSet) -> VSet
+fn kept_shore_greatest_comes(e: &Exchange, rest: VSet, s: VSet) -> VSet
     requires rest { rest ≡ outer_rest e.now.n e.now.x e.now.v }
     requires within { All (Within e.now.n) rest }
     requires shore { All (Within (e.now.n - 1)) s }
@@ -39,9 +41,9 @@ fn kept_shore_in_v(e: &Exchange, rest: VSet, s: VSet) -> VSet
     }
 }
 
-// A shore below `merged` where the greatest vertex is in v: one that contains x has u in its place.
+// A shore below `merged` where the greatest vertex comes: one that contains x has u in its place.
 #[tactic(auto, using(crate::proofs::SwitchSets::all_wider))]
-fn merged_shore_in_v(e: &Exchange, s: VSet) -> VSet
+fn merged_shore_greatest_comes(e: &Exchange, s: VSet) -> VSet
     requires part { All (Within e.now.n) e.now.u }
     requires shore { All (Within (e.now.n - 1)) s }
     ensures { result ≡ (if is_subset e.now.x s then union_list e.now.n (minus_list e.now.n s e.now.x) e.now.u else s) }
@@ -53,14 +55,14 @@ fn merged_shore_in_v(e: &Exchange, s: VSet) -> VSet
     }
 }
 
-// A shore below `merged` where the greatest vertex is outside v.
+// A shore below `merged` where the greatest vertex stays.
 #[tactic(auto, using(crate::proofs::SwitchSets::all_wider))]
-fn merged_shore_in_q(e: &Exchange, s: VSet) -> VSet
+fn merged_shore_greatest_stays(e: &Exchange, s: VSet) -> VSet
     requires first { All (Within e.now.n) e.now.u }
     requires second { All (Within e.now.n) e.now.v }
     requires whole { All (Within e.now.n) e.now.x }
     requires shore { All (Within (e.now.n - 1)) s }
-    ensures { result ≡ merged_shore_if_in_q e.now.n e.now.x e.now.u e.now.v s }
+    ensures { result ≡ merged_shore_if_greatest_stays e.now.n e.now.x e.now.u e.now.v s }
 {
     let outer = minus_of(minus_of(s, e.x, e.n), e.v, e.n);
     let gained = union_of(minus_of(e.x, e.u, e.n), e.v, e.n);
@@ -69,12 +71,12 @@ fn merged_shore_in_q(e: &Exchange, s: VSet) -> VSet
     union_of(outer, union_of(inner, further, e.n), e.n)
 }
 
-// The tree below `kept` where the greatest vertex is in v.
-fn kept_in_v(tree: Tree, e: &Exchange, rest: VSet) -> Tree
+// The tree below `kept` where the greatest vertex comes.
+fn kept_greatest_comes(tree: Tree, e: &Exchange, rest: VSet) -> Tree
     requires rest { rest ≡ outer_rest e.now.n e.now.x e.now.v }
     requires within { All (Within e.now.n) rest }
     requires fits { Fits e.now.n (shape_of tree) }
-    ensures { shape_of result ≡ kept_if_in_v e.now.n e.now.x e.now.u e.now.v (shape_of tree) }
+    ensures { shape_of result ≡ kept_if_greatest_comes e.now.n e.now.x e.now.u e.now.v (shape_of tree) }
 {
     match tree {
         Tree::Leaf => Tree::Leaf,
@@ -84,11 +86,11 @@ fn kept_in_v(tree: Tree, e: &Exchange, rest: VSet) -> Tree
             mut merged,
         } => {
             let below = mem::replace(&mut *kept, Tree::Leaf);
-            *kept = kept_in_v(below, e, rest);
+            *kept = kept_greatest_comes(below, e, rest);
             let below = mem::replace(&mut *merged, Tree::Leaf);
-            *merged = kept_in_v(below, e, rest);
+            *merged = kept_greatest_comes(below, e, rest);
             Tree::Cut {
-                shore: kept_shore_in_v(e, rest, shore),
+                shore: kept_shore_greatest_comes(e, rest, shore),
                 kept,
                 merged,
             }
@@ -96,11 +98,11 @@ fn kept_in_v(tree: Tree, e: &Exchange, rest: VSet) -> Tree
     }
 }
 
-// The tree below `merged` where the greatest vertex is in v.
-fn merged_in_v(tree: Tree, e: &Exchange) -> Tree
+// The tree below `merged` where the greatest vertex comes.
+fn merged_greatest_comes(tree: Tree, e: &Exchange) -> Tree
     requires part { All (Within e.now.n) e.now.u }
     requires fits { Fits e.now.n (shape_of tree) }
-    ensures { shape_of result ≡ merged_if_in_v e.now.n e.now.x e.now.u (shape_of tree) }
+    ensures { shape_of result ≡ merged_if_greatest_comes e.now.n e.now.x e.now.u (shape_of tree) }
 {
     match tree {
         Tree::Leaf => Tree::Leaf,
@@ -110,11 +112,11 @@ fn merged_in_v(tree: Tree, e: &Exchange) -> Tree
             mut merged,
         } => {
             let below = mem::replace(&mut *kept, Tree::Leaf);
-            *kept = merged_in_v(below, e);
+            *kept = merged_greatest_comes(below, e);
             let below = mem::replace(&mut *merged, Tree::Leaf);
-            *merged = merged_in_v(below, e);
+            *merged = merged_greatest_comes(below, e);
             Tree::Cut {
-                shore: merged_shore_in_v(e, shore),
+                shore: merged_shore_greatest_comes(e, shore),
                 kept,
                 merged,
             }
@@ -122,11 +124,11 @@ fn merged_in_v(tree: Tree, e: &Exchange) -> Tree
     }
 }
 
-// The tree below `kept` where the greatest vertex is outside v: where a shore contains u the two trees change places.
-fn kept_in_q(tree: Tree, e: &Exchange) -> Tree
+// The tree below `kept` where the greatest vertex stays: where a shore contains u the two trees change places.
+fn kept_greatest_stays(tree: Tree, e: &Exchange) -> Tree
     requires whole { All (Within e.now.n) e.now.x }
     requires second { All (Within e.now.n) e.now.v }
-    ensures { shape_of result ≡ kept_if_in_q e.now.n e.now.x e.now.u e.now.v (shape_of tree) }
+    ensures { shape_of result ≡ kept_if_greatest_stays e.now.n e.now.x e.now.u e.now.v (shape_of tree) }
 {
     match tree {
         Tree::Leaf => Tree::Leaf,
@@ -136,9 +138,9 @@ fn kept_in_q(tree: Tree, e: &Exchange) -> Tree
             mut merged,
         } => {
             let below = mem::replace(&mut *kept, Tree::Leaf);
-            *kept = kept_in_q(below, e);
+            *kept = kept_greatest_stays(below, e);
             let below = mem::replace(&mut *merged, Tree::Leaf);
-            *merged = kept_in_q(below, e);
+            *merged = kept_greatest_stays(below, e);
             if e.u.is_subset(shore) {
                 Tree::Cut {
                     shore: union_of(minus_of(e.x, shore, e.n), e.v, e.n),
@@ -156,13 +158,13 @@ fn kept_in_q(tree: Tree, e: &Exchange) -> Tree
     }
 }
 
-// The tree below `merged` where the greatest vertex is outside v.
-fn merged_in_q(tree: Tree, e: &Exchange) -> Tree
+// The tree below `merged` where the greatest vertex stays.
+fn merged_greatest_stays(tree: Tree, e: &Exchange) -> Tree
     requires first { All (Within e.now.n) e.now.u }
     requires second { All (Within e.now.n) e.now.v }
     requires whole { All (Within e.now.n) e.now.x }
     requires fits { Fits e.now.n (shape_of tree) }
-    ensures { shape_of result ≡ merged_if_in_q e.now.n e.now.x e.now.u e.now.v (shape_of tree) }
+    ensures { shape_of result ≡ merged_if_greatest_stays e.now.n e.now.x e.now.u e.now.v (shape_of tree) }
 {
     match tree {
         Tree::Leaf => Tree::Leaf,
@@ -172,11 +174,11 @@ fn merged_in_q(tree: Tree, e: &Exchange) -> Tree
             mut merged,
         } => {
             let below = mem::replace(&mut *kept, Tree::Leaf);
-            *kept = merged_in_q(below, e);
+            *kept = merged_greatest_stays(below, e);
             let below = mem::replace(&mut *merged, Tree::Leaf);
-            *merged = merged_in_q(below, e);
+            *merged = merged_greatest_stays(below, e);
             Tree::Cut {
-                shore: merged_shore_in_q(e, shore),
+                shore: merged_shore_greatest_stays(e, shore),
                 kept,
                 merged,
             }
@@ -184,19 +186,19 @@ fn merged_in_q(tree: Tree, e: &Exchange) -> Tree
     }
 }
 
-// The cut after the exchange, where the greatest vertex is in v: the two trees change places.
-fn exchanged_in_v(mut kept: Box<Tree>, mut merged: Box<Tree>, e: &Exchange) -> Tree
+// The cut after the exchange, where the greatest vertex comes: the two trees change places.
+fn exchanged_greatest_comes(mut kept: Box<Tree>, mut merged: Box<Tree>, e: &Exchange) -> Tree
     requires greatest { mem e.now.v e.now.n ≡ true }
     requires part { All (Within e.now.n) e.now.u }
     requires first { Fits e.now.n (shape_of kept.value) }
     requires second { Fits e.now.n (shape_of merged.value) }
-    ensures { shape_of result ≡ cut (union_list e.now.n (outer_rest e.now.n e.now.x e.now.v) e.now.u) (merged_if_in_v e.now.n e.now.x e.now.u (shape_of merged.value)) (kept_if_in_v e.now.n e.now.x e.now.u e.now.v (shape_of kept.value)) }
+    ensures { shape_of result ≡ cut (union_list e.now.n (outer_rest e.now.n e.now.x e.now.v) e.now.u) (merged_if_greatest_comes e.now.n e.now.x e.now.u (shape_of merged.value)) (kept_if_greatest_comes e.now.n e.now.x e.now.u e.now.v (shape_of kept.value)) }
 {
     let rest = outer_rest_of(e.x, e.v, e.n);
     let below = mem::replace(&mut *kept, Tree::Leaf);
-    *kept = kept_in_v(below, e, rest);
+    *kept = kept_greatest_comes(below, e, rest);
     let below = mem::replace(&mut *merged, Tree::Leaf);
-    *merged = merged_in_v(below, e);
+    *merged = merged_greatest_comes(below, e);
     Tree::Cut {
         shore: union_of(rest, e.u, e.n),
         kept: merged,
@@ -204,18 +206,18 @@ fn exchanged_in_v(mut kept: Box<Tree>, mut merged: Box<Tree>, e: &Exchange) -> T
     }
 }
 
-// The cut after the exchange, where the greatest vertex is outside v.
-fn exchanged_in_q(mut kept: Box<Tree>, mut merged: Box<Tree>, e: &Exchange) -> Tree
+// The cut after the exchange, where the greatest vertex stays.
+fn exchanged_greatest_stays(mut kept: Box<Tree>, mut merged: Box<Tree>, e: &Exchange) -> Tree
     requires part { All (Within e.now.n) e.now.u }
     requires other { All (Within e.now.n) e.now.v }
     requires whole { All (Within e.now.n) e.now.x }
     requires second { Fits e.now.n (shape_of merged.value) }
-    ensures { shape_of result ≡ cut (union_list e.now.n (inner_rest e.now.n e.now.x e.now.u) e.now.v) (kept_if_in_q e.now.n e.now.x e.now.u e.now.v (shape_of kept.value)) (merged_if_in_q e.now.n e.now.x e.now.u e.now.v (shape_of merged.value)) }
+    ensures { shape_of result ≡ cut (union_list e.now.n (inner_rest e.now.n e.now.x e.now.u) e.now.v) (kept_if_greatest_stays e.now.n e.now.x e.now.u e.now.v (shape_of kept.value)) (merged_if_greatest_stays e.now.n e.now.x e.now.u e.now.v (shape_of merged.value)) }
 {
     let below = mem::replace(&mut *kept, Tree::Leaf);
-    *kept = kept_in_q(below, e);
+    *kept = kept_greatest_stays(below, e);
     let below = mem::replace(&mut *merged, Tree::Leaf);
-    *merged = merged_in_q(below, e);
+    *merged = merged_greatest_stays(below, e);
     Tree::Cut {
         shore: union_of(minus_of(e.x, e.u, e.n), e.v, e.n),
         kept,
@@ -246,9 +248,9 @@ fn switch_here(tree: Tree, n: u32, u: VSet, v: VSet) -> Result<Tree, Tree>
             }
             let e = Exchange { n, x: shore, u, v };
             if holds_greatest(v, n) {
-                Ok(exchanged_in_v(kept, merged, &e))
+                Ok(exchanged_greatest_comes(kept, merged, &e))
             } else {
-                Ok(exchanged_in_q(kept, merged, &e))
+                Ok(exchanged_greatest_stays(kept, merged, &e))
             }
         }
     }
@@ -268,48 +270,15 @@ fn switch_along(tree: Tree, n: u32, path: &[Side], u: VSet, v: VSet) -> Result<T
         Tree::Leaf => Err(Tree::Leaf),
         Tree::Cut {
             shore,
-            mut kept,
-            mut merged,
-        } => match side {
-            Side::Kept => match switch_along(mem::replace(&mut *kept, Tree::Leaf), n, rest, u, v) {
-                Ok(child) => {
-                    *kept = child;
-                    Ok(Tree::Cut {
-                        shore,
-                        kept,
-                        merged,
-                    })
-                }
-                Err(child) => {
-                    *kept = child;
-                    Err(Tree::Cut {
-                        shore,
-                        kept,
-                        merged,
-                    })
-                }
-            },
-            Side::Merged => {
-                match switch_along(mem::replace(&mut *merged, Tree::Leaf), n, rest, u, v) {
-                    Ok(child) => {
-                        *merged = child;
-                        Ok(Tree::Cut {
-                            shore,
-                            kept,
-                            merged,
-                        })
-                    }
-                    Err(child) => {
-                        *merged = child;
-                        Err(Tree::Cut {
-                            shore,
-                            kept,
-                            merged,
-                        })
-                    }
-                }
+            kept,
+            merged,
+        } => {
+            let (child, opened) = open(*side, shore, kept, merged);
+            match switch_along(child, n, rest, u, v) {
+                Ok(made) => Ok(opened.close(made)),
+                Err(back) => Err(opened.close(back)),
             }
-        },
+        }
     }
 }
 

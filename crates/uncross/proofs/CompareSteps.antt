@@ -1,5 +1,5 @@
 -- The steps of turning a derivation into another, as the code takes them: what its two calls below the root may ask, and that the whole
--- is a walk of few moves.
+-- is a script of few moves.
 use Rattle.std.proofs.Common.{◌≡◌, ℕ, ◌+◌, ◌*◌, ◌≤◌, List, ◌++◌, length, map, Some, sym, ap, ◌∙◌, arith, subst}
 use Rattle.graph_core.specs.Covered.{IsCovered}
 use Rattle.graph_core.specs.Graph.{Graph, IsGraph}
@@ -9,14 +9,14 @@ use Rattle.tree_core.specs.Derivations.{IsDerivationAt, kept_at, merged_at}
 use Rattle.tree_core.specs.Moves.{PlainMove, below}
 use Rattle.tree_core.specs.Shapes.{Shape, cut, cut_count, leaf}
 use Rattle.tree_core.specs.declared.path.Side.TheVariants.{Kept, Merged}
-use Rattle.uncross.proofs.BigShores.{cut_big}
-use Rattle.uncross.proofs.Comparison.{square}
+use Rattle.move_laws.proofs.BigShores.{cut_big}
+use Rattle.move_laws.proofs.Comparison.{square}
 use Rattle.uncross.proofs.ExposeSteps.{stage_of}
-use Rattle.uncross.proofs.NestedShores.{leaf_not}
-use Rattle.uncross.proofs.Rising.{rising-derivation_at}
-use Rattle.uncross.proofs.Scripts.{length_below, length_join, walk_end, walk_join, walk_kept, walk_merged}
+use Rattle.move_laws.proofs.NestedShores.{leaf_not}
+use Rattle.move_laws.proofs.Rising.{rising-derivation_at}
+use Rattle.move_laws.proofs.Scripts.{length_below, length_join, script_end, script_join, script_kept, script_merged}
 use Rattle.uncross.specs.Plans.{CutIf, IsExposed}
-use Rattle.uncross.specs.Walks.{AreRising, Walk}
+use Rattle.move_laws.specs.Scripts.{AreRising, IsProperScript}
 
 -- a derivation where another is a leaf is a leaf
 pub both_leaves : (g : Graph) (n : ℕ) (p : List (List ℕ)) (s t : Shape) → IsGraph g → n ≡ g.order → IsPartition n p → IsCovered (quotient g p) → t ≡ leaf → IsDerivationAt g p s → IsDerivationAt g p t → s ≡ t
@@ -50,11 +50,11 @@ module _ (g : Graph) (n : ℕ) (p : List (List ℕ)) (s t : Shape) (y : List ℕ
     unfolding left_of right_of
     at_y = ap (λ t. cut y (left_of t) (right_of t)) shapes
 
-    walk : Walk g p s ms (cut y k1 r1)
-    walk = subst (Walk g p s ms) (sym at_y) ex.3
+    script : IsProperScript g p s ms (cut y k1 r1)
+    script = subst (IsProperScript g p s ms) (sym at_y) ex.3
 
     ended : IsDerivationAt g p (cut y k1 r1) × AreRising g.order (cut y k1 r1) × (cut_count (cut y k1 r1) ≡ cut_count s)
-    ended = walk_end g p s ms (cut y k1 r1) ds (rising-derivation_at g p s ds) walk
+    ended = script_end g p s ms (cut y k1 r1) ds (rising-derivation_at g p s ds) script
 
     pub asks_kept_both : (q : List (List ℕ)) (a b : Shape) → q ≡ kept_at g.order p y → a ≡ k1 → b ≡ k2 → IsDerivationAt g q a × IsDerivationAt g q b
     asks_kept_both q a b eq ea eb = (
@@ -69,23 +69,23 @@ module _ (g : Graph) (n : ℕ) (p : List (List ℕ)) (s t : Shape) (y : List ℕ
     )
 
     module _ (q r : List (List ℕ)) (ks ns : List PlainMove) (k1' k2' r1' r2' : Shape) (eq : q ≡ kept_at g.order p y) (er : r ≡ merged_at g.order p y) (e1 : k1' ≡ k1) (e2 : k2' ≡ k2) (e3 : r1' ≡ r1) (e4 : r2' ≡ r2)
-        (wk : Walk g q k1' ks k2') (wr : Walk g r r1' ns r2') (bk : length ks ≤ 5 * (cut_count k1' * cut_count k1')) (br : length ns ≤ 5 * (cut_count r1' * cut_count r1')) where
-      at_kept : Walk g (kept_at g.order p y) k1 ks k2
-      at_kept = subst (λ q. Walk g q k1 ks k2) eq (subst (λ a. Walk g q a ks k2) e1 (subst (Walk g q k1' ks) e2 wk))
+        (wk : IsProperScript g q k1' ks k2') (wr : IsProperScript g r r1' ns r2') (bk : length ks ≤ 5 * (cut_count k1' * cut_count k1')) (br : length ns ≤ 5 * (cut_count r1' * cut_count r1')) where
+      at_kept : IsProperScript g (kept_at g.order p y) k1 ks k2
+      at_kept = subst (λ q. IsProperScript g q k1 ks k2) eq (subst (λ a. IsProperScript g q a ks k2) e1 (subst (IsProperScript g q k1' ks) e2 wk))
 
-      at_merged : Walk g (merged_at g.order p y) r1 ns r2
-      at_merged = subst (λ q. Walk g q r1 ns r2) er (subst (λ a. Walk g r a ns r2) e3 (subst (Walk g r r1' ns) e4 wr))
+      at_merged : IsProperScript g (merged_at g.order p y) r1 ns r2
+      at_merged = subst (λ q. IsProperScript g q r1 ns r2) er (subst (λ a. IsProperScript g r a ns r2) e3 (subst (IsProperScript g r r1' ns) e4 wr))
 
       whole : List PlainMove
       whole = (ms ++ map (below Kept) ks) ++ map (below Merged) ns
 
-      pub whole_walk : Walk g p s ((ms ++ map (below Kept) ks) ++ map (below Merged) ns) t
-      whole_walk =
-          let w1 = walk_kept g p y k1 r1 ks k2 ended.0 ended.1 at_kept in
-          let w2 = walk_join g p s ms (map (below Kept) ks) (cut y k1 r1) (cut y k2 r1) walk w1 in
-          let q2 = walk_end g p (cut y k1 r1) (map (below Kept) ks) (cut y k2 r1) ended.0 ended.1 w1 in
-          let w3 = walk_merged g p y k2 r1 ns r2 q2.0 q2.1 at_merged in
-          subst (Walk g p s ((ms ++ map (below Kept) ks) ++ map (below Merged) ns)) (sym w) (walk_join g p s (ms ++ map (below Kept) ks) (map (below Merged) ns) (cut y k2 r1) (cut y k2 r2) w2 w3)
+      pub whole_script : IsProperScript g p s ((ms ++ map (below Kept) ks) ++ map (below Merged) ns) t
+      whole_script =
+          let w1 = script_kept g p y k1 r1 ks k2 ended.0 ended.1 at_kept in
+          let w2 = script_join g p s ms (map (below Kept) ks) (cut y k1 r1) (cut y k2 r1) script w1 in
+          let q2 = script_end g p (cut y k1 r1) (map (below Kept) ks) (cut y k2 r1) ended.0 ended.1 w1 in
+          let w3 = script_merged g p y k2 r1 ns r2 q2.0 q2.1 at_merged in
+          subst (IsProperScript g p s ((ms ++ map (below Kept) ks) ++ map (below Merged) ns)) (sym w) (script_join g p s (ms ++ map (below Kept) ks) (map (below Merged) ns) (cut y k2 r1) (cut y k2 r2) w2 w3)
 
       pub whole_few : length ((ms ++ map (below Kept) ks) ++ map (below Merged) ns) ≤ 5 * (cut_count s * cut_count s)
       whole_few =

@@ -10,13 +10,13 @@ use Rattle.tree_core.proofs.DerivationStands.{cut-below, stands-derivation_at}
 use Rattle.tree_core.specs.Derivations.{IsCutAt, IsDerivationAt, kept_at, merged_at}
 use Rattle.tree_core.specs.Moves.{PlainMove}
 use Rattle.tree_core.specs.Shapes.{Fits, Shape, cut, leaf}
-use Rattle.uncross.proofs.BigShores.{Big, Stage, big_rest, cut_big, stage_merged}
-use Rattle.uncross.proofs.NestedShores.{leaf_not}
+use Rattle.move_laws.proofs.BigShores.{Big, Stage, big_rest, cut_big, stage_merged}
+use Rattle.move_laws.proofs.NestedShores.{leaf_not}
 use Rattle.uncross.proofs.Planned.{first_is_cut, plan_done, second_is_cut}
-use Rattle.uncross.proofs.Rising.{rising-derivation_at}
-use Rattle.uncross.proofs.Scripts.{walk_end}
+use Rattle.move_laws.proofs.Rising.{rising-derivation_at}
+use Rattle.move_laws.proofs.Scripts.{script_end}
 use Rattle.uncross.specs.Plans.{CutIf, IsExposed, IsPlan, PlainPlan, first_shore, plan_result, second_shore}
-use Rattle.uncross.specs.Turning.{PlainTurned}
+use Rattle.move_laws.specs.Turning.{PlainTurned}
 
 -- a partition of the graph whose quotient is covered
 pub stage_of : (g : Graph) (n : ℕ) (p : List (List ℕ)) → IsGraph g → n ≡ g.order → IsPartition n p → IsCovered (quotient g p) → Stage g p
@@ -36,7 +36,7 @@ exposed_derives : (g : Graph) (p : List (List ℕ)) (s t : Shape) (o : Option (L
 exposed_derives g p s t None None d e = subst (IsDerivationAt g p) (sym e) d
 exposed_derives g p s t None (Some ms) d e = absurd e
 exposed_derives g p s t (Some y) None d e = absurd e
-exposed_derives g p s t (Some y) (Some ms) d e = subst (IsDerivationAt g p) (sym e.2) (walk_end g p s ms (cut y e.0 e.1) d (rising-derivation_at g p s d) e.3).0
+exposed_derives g p s t (Some y) (Some ms) d e = subst (IsDerivationAt g p) (sym e.2) (script_end g p s ms (cut y e.0 e.1) d (rising-derivation_at g p s d) e.3).0
 
 module _ (g : Graph) (n : ℕ) (p : List (List ℕ)) (x y : List ℕ) (a b whole : Shape) (plan : PlainPlan) (o : Option (List ℕ)) (is : IsGraph g) (e : n ≡ g.order) (list : IsPartition n p) (cov : IsCovered (quotient g p))
     (w : whole ≡ cut x a b) (derives : IsDerivationAt g p whole) (so : o ≡ Some y) (shore : CutIf g p o) (planned : IsPlan n p x y plan) where

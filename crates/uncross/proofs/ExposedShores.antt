@@ -1,4 +1,4 @@
--- What exposing a shore in a derivation of a graph gives: a walk of few moves to a derivation with the shore at its root.
+-- What exposing a shore in a derivation of a graph gives: a script of few moves to a derivation with the shore at its root.
 use Rattle.std.proofs.Common.{List, None, Option, Some, length, option_map, subst, subst₂, sym, unwrap_or, ℕ, ◌*◌, ◌+◌, ◌≡◌, ◌≤◌}
 use Rattle.graph_core.specs.Graph.{Graph}
 use Rattle.graph_core.specs.Partitions.{singles}
@@ -6,18 +6,18 @@ use Rattle.tree_core.specs.MoveView.{moves_of}
 use Rattle.tree_core.specs.Shapes.{Shape, cut, cut_count}
 use Rattle.tree_core.specs.declared.moves.Move.{Move}
 use Rattle.uncross.specs.Plans.{IsExposed}
-use Rattle.uncross.specs.Walks.{Walk}
+use Rattle.move_laws.specs.Scripts.{IsProperScript}
 
 -- the tree t was reached from s by these moves, and has the shore y at its root
 pub record IsRaised (g : Graph) (p : List (List ℕ)) (s : Shape) (y : List ℕ) (t : Shape) (ms : List Move) : Type 0 where
   pub root : (a : Shape) × (b : Shape) × (t ≡ cut y a b)
-  pub walk : Walk g p s (moves_of ms) t
+  pub script : IsProperScript g p s (moves_of ms) t
   pub few : length (moves_of ms) + 2 ≤ 3 * cut_count s
 
 -- where a shore is exposed, there are moves, whatever would stand for none
 pub raised : (g : Graph) (p : List (List ℕ)) (s : Shape) (y : List ℕ) (t : Shape) (found : Option (List Move)) (other : List Move) → IsExposed g p s (Some y) t (option_map moves_of found) → IsRaised g p s y t (unwrap_or found other)
 raised g p s y t None other h = absurd h
-raised g p s y t (Some ms) other h = record { root = (h.0, h.1, h.2); walk = subst (Walk g p s (moves_of ms)) (sym h.2) h.3; few = h.4 }
+raised g p s y t (Some ms) other h = record { root = (h.0, h.1, h.2); script = subst (IsProperScript g p s (moves_of ms)) (sym h.2) h.3; few = h.4 }
 
 -- the same at single vertices, for the moves that stand for those found
 pub raised_at_singles : (g : Graph) (p : List (List ℕ)) (s : Shape) (y : List ℕ) (t : Shape) (found : Option (List Move)) (other ms : List Move) → p ≡ singles g.order → ms ≡ unwrap_or found other → IsExposed g p s (Some y) t (option_map moves_of found) → IsRaised g (singles g.order) s y t ms

@@ -7,10 +7,10 @@ use Rattle.graph_core.specs.Graph.{Graph}
 use Rattle.graph_core.specs.Partitions.{IsPartition, place}
 use Rattle.tree_core.specs.LeafMaps.{PlainLeafMap, leaf_at, map_at, name}
 use Rattle.tree_core.specs.Leaves.{partitions_of}
-use Rattle.uncross.proofs.SameLeaves.{name_within}
+use Rattle.move_laws.proofs.SameLeaves.{name_within}
 use Rattle.uncross.specs.Following.{IsFollowed, IsNamed, blocks_of}
-use Rattle.uncross.specs.Pairings.{IsPairing}
-use Rattle.uncross.specs.SameLeaf.{IsSameLeaf, image}
+use Rattle.move_laws.specs.Pairings.{IsPairing}
+use Rattle.move_laws.specs.SameLeaf.{IsSameLeaf, image}
 
 -- a place counted from 0, counted from 1 and back
 back : (k : ℕ) → k + 1 - 1 ≡ k

@@ -9,15 +9,11 @@ use Rattle.tree_core.specs.Leaves.{leaves_at}
 use Rattle.tree_core.specs.Shapes.{Shape, cut}
 use Rattle.tree_core.specs.declared.path.Side.{Side}
 use Rattle.tree_core.specs.declared.path.Side.TheVariants.{Kept, Merged}
+use Rattle.move_laws.proofs.Parts.{length-maps_from}
 use Rattle.uncross.specs.declared.block_images.Images.{Images}
 use Rattle.uncross.specs.declared.block_images.Images.TheVariants.{Own}
 use Rattle.uncross.specs.declared.leaf_maps.LeafMap.{LeafMap}
 use Rattle.uncross.specs.MapView.{image_name, kept_images, map_of, maps_of, merged_images}
-
--- as many maps as lists of names
-pub length-maps_from : (o : List ℕ) (k : ℕ) (ns : List (List ℕ)) → length (maps_from o k ns) ≡ length ns
-length-maps_from o k [] = refl
-length-maps_from o k (names ∷ ns) = ap suc (length-maps_from o (k + 1) ns)
 
 -- the maps from a joined list
 maps_from-append : (o : List ℕ) (k j : ℕ) (ns ms : List (List ℕ)) → j ≡ k + length ns → maps_from o k (ns ++ ms) ≡ maps_from o k ns ++ maps_from o j ms

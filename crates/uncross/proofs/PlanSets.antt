@@ -7,9 +7,10 @@ use Rattle.counting.specs.Counts.{Within}
 use Rattle.counting.specs.Lists.{IsRisingIn, is_subset, mem}
 use Rattle.counting.specs.Sets.{complement, meet, union}
 use Rattle.tree_core.proofs.SwitchSets.{list-of}
-use Rattle.uncross.specs.Plans.{inner_of, outer_of}
+use Rattle.tree_core.specs.Moves.{meet_list}
+use Rattle.move_laws.specs.Corners.{outer_of}
 
-pub inner-is : (n : ℕ) (x y r : List ℕ) → IsRisingIn n x → IsRisingIn 128 r → ((v : ℕ) → mem r v ≡ (mem x v && mem y v)) → r ≡ inner_of n x y
+pub inner-is : (n : ℕ) (x y r : List ℕ) → IsRisingIn n x → IsRisingIn 128 r → ((v : ℕ) → mem r v ≡ (mem x v && mem y v)) → r ≡ meet_list n x y
 inner-is n x y r rx rr tells = list-of n r (meet (mem x) (mem y)) rr tells (λ v m. (mem-within n x rx v (and_parts (mem x v) (mem y v) (sym (tells v) ∙ m)).0).1)
 
 pub outer-is : (n : ℕ) (x y full u r : List ℕ) → ((v : ℕ) → (mem full v ≡ true) ↔ Within n v) → ((v : ℕ) → mem u v ≡ (mem x v || mem y v)) → IsRisingIn 128 r → ((v : ℕ) → mem r v ≡ (mem full v && not (mem u v))) → r ≡ outer_of n x y

@@ -9,22 +9,23 @@ use Rattle.graph_core.specs.Graph.{Graph}
 use Rattle.graph_core.specs.Partitions.{complement_of, merged}
 use Rattle.graph_core.specs.Shores.{block_count}
 use Rattle.tree_core.specs.Derivations.{IsCutAt, IsDerivationAt, kept_at, merged_at}
-use Rattle.tree_core.specs.Moves.{IsBlockOf, PlainMove, below, rotate_at}
+use Rattle.tree_core.specs.Moves.{IsBlockOf, PlainMove, below, rotate_at, meet_list}
 use Rattle.tree_core.specs.Shapes.{Shape, cut}
 use Rattle.tree_core.specs.declared.path.Side.TheVariants.{Kept, Merged}
-use Rattle.uncross.proofs.BigShores.{Big, Stage, big_cut, big_rest, big_some, stage_merged}
-use Rattle.uncross.proofs.Exchange.{block_count-one}
-use Rattle.uncross.proofs.Corners.{Corners, inner_single_or_big, outer_single_or_big}
-use Rattle.uncross.proofs.CrossingShores.{InnerTurned, raised_merged_is, Kind, OuterTurned, corners_of, inner_below, inner_canonical, outer_shore_big, over_inner_to}
-use Rattle.uncross.proofs.NestedShores.{Cross, raised, stays_big}
-use Rattle.uncross.proofs.BigShores.{rest_rest}
-use Rattle.uncross.proofs.Scripts.{length_below, length_join, walk_end, walk_join, walk_kept, walk_merged, walk_rotate}
+use Rattle.move_laws.proofs.BigShores.{Big, Stage, big_cut, big_rest, big_some, stage_merged}
+use Rattle.move_laws.proofs.Exchange.{block_count-one}
+use Rattle.move_laws.proofs.Corners.{Corners, inner_single_or_big, outer_single_or_big}
+use Rattle.move_laws.proofs.CrossingShores.{InnerTurned, raised_merged_is, Kind, OuterTurned, corners_of, inner_below, inner_canonical, outer_shore_big, over_inner_to}
+use Rattle.move_laws.proofs.NestedShores.{Cross, raised, stays_big}
+use Rattle.move_laws.proofs.BigShores.{rest_rest}
+use Rattle.move_laws.proofs.Scripts.{length_below, length_join, script_end, script_join, script_kept, script_merged, script_rotate}
 use Rattle.graph_core.proofs.MergedShores.{Apart, Below}
 use Rattle.counting.proofs.RisingLists.{false_all_in, all_in_true}
-use Rattle.uncross.proofs.Rising.{bounds}
-use Rattle.uncross.specs.Plans.{CutIf, IsExposed, IsPlan, PlainPlan, crossing, first_shore, here, if_big, in_kept, in_merged, inner_of, outer_of, outer_shore, partner, plan_result, second_shore}
-use Rattle.uncross.specs.Turning.{PlainTurned, over_inner}
-use Rattle.uncross.specs.Walks.{AreRising}
+use Rattle.move_laws.proofs.Rising.{bounds}
+use Rattle.move_laws.specs.Corners.{outer_of, outer_shore, partner}
+use Rattle.uncross.specs.Plans.{CutIf, IsExposed, IsPlan, PlainPlan, crossing, first_shore, here, if_big, in_kept, in_merged, plan_result, second_shore}
+use Rattle.move_laws.specs.Turning.{PlainTurned, over_inner}
+use Rattle.move_laws.specs.Scripts.{AreRising}
 
 -- a root shore and another, at a stage
 module _ (g : Graph) (p : List (List ℕ)) (st : Stage g p) (x y : List ℕ) (bx : Big g p x) (by : Big g p y) (nx : mem x g.order ≡ false) (ny : mem y g.order ≡ false) where
@@ -83,11 +84,11 @@ module _ (g : Graph) (p : List (List ℕ)) (st : Stage g p) (x y : List ℕ) (bx
   crossing_corners : is_subset y x ≡ false → is_subset x y ≡ false → is_apart x y ≡ false → Corners g p x (partner g.order p x y) × Kind g.order y (partner g.order p x y)
   crossing_corners h k a = corners_of g p st x y bx by nx ny (cross_of g p st x y bx by nx ny h k a)
 
-  inner_case : (c : Corners g p x (partner g.order p x y)) → ((if_big p (inner_of g.order x (partner g.order p x y)) (inner_of g.order x (partner g.order p x y)) ≡ None) × ((t : ℕ) × IsBlockOf g.order p (mem (inner_of g.order x (partner g.order p x y))) t)) ⊎
-      ((if_big p (inner_of g.order x (partner g.order p x y)) (inner_of g.order x (partner g.order p x y)) ≡ Some (inner_of g.order x (partner g.order p x y))) × Big g p (inner_of g.order x (partner g.order p x y)))
-  inner_case c = elim (big_or_none p (inner_of g.order x (partner g.order p x y)) (inner_of g.order x (partner g.order p x y))) [
+  inner_case : (c : Corners g p x (partner g.order p x y)) → ((if_big p (meet_list g.order x (partner g.order p x y)) (meet_list g.order x (partner g.order p x y)) ≡ None) × ((t : ℕ) × IsBlockOf g.order p (mem (meet_list g.order x (partner g.order p x y))) t)) ⊎
+      ((if_big p (meet_list g.order x (partner g.order p x y)) (meet_list g.order x (partner g.order p x y)) ≡ Some (meet_list g.order x (partner g.order p x y))) × Big g p (meet_list g.order x (partner g.order p x y)))
+  inner_case c = elim (big_or_none p (meet_list g.order x (partner g.order p x y)) (meet_list g.order x (partner g.order p x y))) [
     | inl s ↦ inl (s.1, elim (inner_single_or_big g p x (partner g.order p x y) c) [ inl b ↦ b | inr b ↦ let i = b.inside in let j = s.0 in absurd (omega arith) ])
-    | inr s ↦ inr (s.1, elim (inner_single_or_big g p x (partner g.order p x y) c) [ inr b ↦ b | inl b ↦ let i = block_count-one g.order p st.list.partition (mem (inner_of g.order x (partner g.order p x y))) b.0 b.1 in let j = s.0 in absurd (omega arith) ])
+    | inr s ↦ inr (s.1, elim (inner_single_or_big g p x (partner g.order p x y) c) [ inr b ↦ b | inl b ↦ let i = block_count-one g.order p st.list.partition (mem (meet_list g.order x (partner g.order p x y))) b.0 b.1 in let j = s.0 in absurd (omega arith) ])
   ]
 
   outer_case : (c : Corners g p x (partner g.order p x y)) → ((if_big p (outer_of g.order x (partner g.order p x y)) (outer_shore g.order (outer_of g.order x (partner g.order p x y))) ≡ None) × ((t : ℕ) × IsBlockOf g.order p (mem (outer_of g.order x (partner g.order p x y))) t)) ⊎
@@ -112,7 +113,7 @@ module _ (g : Graph) (p : List (List ℕ)) (st : Stage g p) (x y : List ℕ) (bx
       let c = (crossing_corners is.0 is.1 is.2).0 in let z = partner g.order p x y in
       subst (CutIf g (kept_at g.order p x)) (sym (is.5 ∙ ap (λ (u : List ℕ). if_big p u u) is.3)) (elim (inner_case c) [
         | inl s ↦ subst (CutIf g (kept_at g.order p x)) (sym s.0) tt
-        | inr s ↦ subst (CutIf g (kept_at g.order p x)) (sym s.0) (big_cut g (kept_at g.order p x) kept_stage (inner_of g.order x z) (inner_below g p x z c nx s.1) (inner_canonical g p x z c nx))
+        | inr s ↦ subst (CutIf g (kept_at g.order p x)) (sym s.0) (big_cut g (kept_at g.order p x) kept_stage (meet_list g.order x z) (inner_below g p x z c nx s.1) (inner_canonical g p x z c nx))
       ])
 
   -- and in `merged`
@@ -128,19 +129,19 @@ module _ (g : Graph) (p : List (List ℕ)) (st : Stage g p) (x y : List ℕ) (bx
       ])
 
   -- the two trees with their corners exposed
-  inner_turned : (c : Corners g p x (partner g.order p x y)) (a ta : Shape) (mi : Option (List PlainMove)) → IsExposed g (kept_at g.order p x) a (if_big p (inner_of g.order x (partner g.order p x y)) (inner_of g.order x (partner g.order p x y))) ta mi → InnerTurned g p x (partner g.order p x y) a ta mi
+  inner_turned : (c : Corners g p x (partner g.order p x y)) (a ta : Shape) (mi : Option (List PlainMove)) → IsExposed g (kept_at g.order p x) a (if_big p (meet_list g.order x (partner g.order p x y)) (meet_list g.order x (partner g.order p x y))) ta mi → InnerTurned g p x (partner g.order p x y) a ta mi
   inner_turned c a ta mi e = elim (inner_case c) [
     | inl s ↦ single (subst (λ o. IsExposed g (kept_at g.order p x) a o ta mi) s.0 e) mi refl s.1
     | inr s ↦ big (subst (λ o. IsExposed g (kept_at g.order p x) a o ta mi) s.0 e) mi refl s.1
   ]
     where
-      single : IsExposed g (kept_at g.order p x) a None ta mi → (m : Option (List PlainMove)) → mi ≡ m → ((t : ℕ) × IsBlockOf g.order p (mem (inner_of g.order x (partner g.order p x y))) t) → InnerTurned g p x (partner g.order p x y) a ta mi
+      single : IsExposed g (kept_at g.order p x) a None ta mi → (m : Option (List PlainMove)) → mi ≡ m → ((t : ℕ) × IsBlockOf g.order p (mem (meet_list g.order x (partner g.order p x y))) t) → InnerTurned g p x (partner g.order p x y) a ta mi
       single e None h b = subst (InnerTurned g p x (partner g.order p x y) a ta) (sym h) (subst (IsExposed g (kept_at g.order p x) a None ta) h e, b)
       single e (Some ms) h b = absurd (subst (IsExposed g (kept_at g.order p x) a None ta) h e)
 
-      big : IsExposed g (kept_at g.order p x) a (Some (inner_of g.order x (partner g.order p x y))) ta mi → (m : Option (List PlainMove)) → mi ≡ m → Big g p (inner_of g.order x (partner g.order p x y)) → InnerTurned g p x (partner g.order p x y) a ta mi
-      big e None h b = absurd (subst (IsExposed g (kept_at g.order p x) a (Some (inner_of g.order x (partner g.order p x y))) ta) h e)
-      big e (Some ms) h b = let q = subst (IsExposed g (kept_at g.order p x) a (Some (inner_of g.order x (partner g.order p x y))) ta) h e in subst (InnerTurned g p x (partner g.order p x y) a ta) (sym h) (b, q.0, q.1, q.2, q.3, q.4)
+      big : IsExposed g (kept_at g.order p x) a (Some (meet_list g.order x (partner g.order p x y))) ta mi → (m : Option (List PlainMove)) → mi ≡ m → Big g p (meet_list g.order x (partner g.order p x y)) → InnerTurned g p x (partner g.order p x y) a ta mi
+      big e None h b = absurd (subst (IsExposed g (kept_at g.order p x) a (Some (meet_list g.order x (partner g.order p x y))) ta) h e)
+      big e (Some ms) h b = let q = subst (IsExposed g (kept_at g.order p x) a (Some (meet_list g.order x (partner g.order p x y))) ta) h e in subst (InnerTurned g p x (partner g.order p x y) a ta) (sym h) (b, q.0, q.1, q.2, q.3, q.4)
 
   outer_turned : (c : Corners g p x (partner g.order p x y)) (b tb : Shape) (mo : Option (List PlainMove)) → IsExposed g (merged_at g.order p x) b (if_big p (outer_of g.order x (partner g.order p x y)) (outer_shore g.order (outer_of g.order x (partner g.order p x y)))) tb mo → OuterTurned g p x (partner g.order p x y) b tb mo
   outer_turned c b tb mo e = elim (outer_case c) [
@@ -167,9 +168,9 @@ module _ (g : Graph) (p : List (List ℕ)) (st : Stage g p) (x y : List ℕ) (bx
     at_kept : (ta tb : Shape) (ms : List PlainMove) → IsExposed g (kept_at g.order p x) a (Some y) ta (Some ms) → tb ≡ b → Done (cut x a b) (plan_result g.order x in_kept ta tb (Some ms) None)
     at_kept ta tb ms e eb =
         let k = e.0 in let l = e.1 in
-        let w = walk_kept g p x a b ms (cut y k l) d f e.3 in
-        let q = walk_end g p (cut x a b) (map (below Kept) ms) (cut x (cut y k l) b) d f w in
-        let r = walk_rotate g p Kept (cut x (cut y k l) b) (cut y k (cut x l b)) st q.0 q.1 refl in
+        let w = script_kept g p x a b ms (cut y k l) d f e.3 in
+        let q = script_end g p (cut x a b) (map (below Kept) ms) (cut x (cut y k l) b) d f w in
+        let r = script_rotate g p Kept (cut x (cut y k l) b) (cut y k (cut x l b)) st q.0 q.1 refl in
         let n = length_join (map (below Kept) ms) (rotate_at (Kept ∷ []) ∷ []) in let m = length_below Kept ms in let z = e.4 in (
           record { tree = cut y k (cut x l b); moves = map (below Kept) ms ++ rotate_at (Kept ∷ []) ∷ [] },
           ap₂ (λ (t u : Shape). plan_result g.order x in_kept t u (Some ms) None) e.2 eb,
@@ -177,7 +178,7 @@ module _ (g : Graph) (p : List (List ℕ)) (st : Stage g p) (x y : List ℕ) (bx
             k,
             cut x l b,
             refl,
-            walk_join g p (cut x a b) (map (below Kept) ms) (rotate_at (Kept ∷ []) ∷ []) (cut x (cut y k l) b) (cut y k (cut x l b)) w r,
+            script_join g p (cut x a b) (map (below Kept) ms) (rotate_at (Kept ∷ []) ∷ []) (cut x (cut y k l) b) (cut y k (cut x l b)) w r,
             omega arith,
           ),
         )
@@ -185,10 +186,10 @@ module _ (g : Graph) (p : List (List ℕ)) (st : Stage g p) (x y : List ℕ) (bx
     at_merged : Below g.order (mem x) (mem y) ⊎ Apart g.order (mem x) (mem y) → (ta tb : Shape) (ms : List PlainMove) → IsExposed g (merged_at g.order p x) b (Some y) tb (Some ms) → ta ≡ a → Done (cut x a b) (plan_result g.order x in_merged ta tb None (Some ms))
     at_merged how ta tb ms e ea =
         let k = e.0 in let l = e.1 in
-        let w = walk_merged g p x a b ms (cut y k l) d f e.3 in
-        let q = walk_end g p (cut x a b) (map (below Merged) ms) (cut x a (cut y k l)) d f w in
+        let w = script_merged g p x a b ms (cut y k l) d f e.3 in
+        let q = script_end g p (cut x a b) (map (below Merged) ms) (cut x a (cut y k l)) d f w in
         let s = raised g p st x a b f d y ny k l how in
-        let r = walk_rotate g p Merged (cut x a (cut y k l)) (cut y s.0 s.1) st q.0 q.1 s.2 in
+        let r = script_rotate g p Merged (cut x a (cut y k l)) (cut y s.0 s.1) st q.0 q.1 s.2 in
         let n = length_join (map (below Merged) ms) (rotate_at (Merged ∷ []) ∷ []) in let m = length_below Merged ms in let z = e.4 in (
           record { tree = cut y s.0 s.1; moves = map (below Merged) ms ++ rotate_at (Merged ∷ []) ∷ [] },
           ap₂ (λ (t u : Shape). plan_result g.order x in_merged t u None (Some ms)) ea e.2 ∙ raised_merged_is x a (cut y k l) (cut y s.0 s.1) ms s.2,
@@ -196,7 +197,7 @@ module _ (g : Graph) (p : List (List ℕ)) (st : Stage g p) (x y : List ℕ) (bx
             s.0,
             s.1,
             refl,
-            walk_join g p (cut x a b) (map (below Merged) ms) (rotate_at (Merged ∷ []) ∷ []) (cut x a (cut y k l)) (cut y s.0 s.1) w r,
+            script_join g p (cut x a b) (map (below Merged) ms) (rotate_at (Merged ∷ []) ∷ []) (cut x a (cut y k l)) (cut y s.0 s.1) w r,
             omega arith,
           ),
         )

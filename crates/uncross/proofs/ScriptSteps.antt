@@ -17,15 +17,15 @@ use Rattle.tree_core.specs.Leaves.{StandsAt, leaves, partitions_of}
 use Rattle.tree_core.specs.Moves.{PlainMove, move_result}
 use Rattle.tree_core.specs.Shapes.{Fits, Shape, cut, leaf, leaf_count}
 use Rattle.uncross.proofs.FollowedMaps.{blocks-partitions, followed}
-use Rattle.uncross.proofs.MoveParts.{move_pairs}
-use Rattle.uncross.proofs.Rising.{rising-derivation_at}
-use Rattle.uncross.proofs.ScriptPairs.{own_pairs, pairing-then, script_pairs}
-use Rattle.uncross.proofs.Scripts.{walk_end}
-use Rattle.uncross.proofs.SingleVertices.{singles_stage}
+use Rattle.move_laws.proofs.MoveParts.{move_pairs}
+use Rattle.move_laws.proofs.Rising.{rising-derivation_at}
+use Rattle.move_laws.proofs.ScriptPairs.{own_pairs, pairing-then, script_pairs}
+use Rattle.move_laws.proofs.Scripts.{script_end}
+use Rattle.move_laws.proofs.SingleVertices.{singles_stage}
 use Rattle.uncross.specs.Following.{IsFollowed, blocks_of}
 use Rattle.uncross.specs.MapView.{map_of, maps_of}
-use Rattle.uncross.specs.Pairings.{IsPairing}
-use Rattle.uncross.specs.Walks.{Walk}
+use Rattle.move_laws.specs.Pairings.{IsPairing}
+use Rattle.move_laws.specs.Scripts.{IsProperScript}
 use Rattle.uncross.specs.declared.leaf_maps.LeafMap.{LeafMap}
 
 -- a derivation of a graph of at most 128 vertices has few leaves
@@ -36,19 +36,19 @@ leaves-few g (cut x a b) is few d =
     let both = count_complement (length (singles g.order)) (blocks_in (singles g.order) (mem x)) in let long = length-singles g.order in
     let small = few-leaves g (cut x a b) is d (omega arith) in omega arith
 
--- the maps of a walk between derivations of a graph pair their leaves
-pub walk_pairs : (g : Graph) (s t : Shape) (ms : List PlainMove) → IsGraph g → IsDerivation g s → Walk g (singles g.order) s ms t → IsPairing g (leaves g.order s) (leaves g.order t) (script_maps g.order s ms)
-walk_pairs g s t ms is d w = script_pairs g s t ms (singles_stage g is d.covered) (rising-derivation_at g (singles g.order) s d.derives) d.derives w
+-- the maps of a proper script between derivations of a graph pair their leaves
+pub derivation_script_pairs : (g : Graph) (s t : Shape) (ms : List PlainMove) → IsGraph g → IsDerivation g s → IsProperScript g (singles g.order) s ms t → IsPairing g (leaves g.order s) (leaves g.order t) (script_maps g.order s ms)
+derivation_script_pairs g s t ms is d w = script_pairs g s t ms (singles_stage g is d.covered) (rising-derivation_at g (singles g.order) s d.derives) d.derives w
 
 -- and where it begins with a derivation it ends with one
-pub walk_derives : (g : Graph) (s t : Shape) (ms : List PlainMove) → IsDerivation g s → Walk g (singles g.order) s ms t → IsDerivation g t
-walk_derives g s t ms d w = record { covered = d.covered; derives = (walk_end g (singles g.order) s ms t d.derives (rising-derivation_at g (singles g.order) s d.derives) w).0 }
+pub script_derives : (g : Graph) (s t : Shape) (ms : List PlainMove) → IsDerivation g s → IsProperScript g (singles g.order) s ms t → IsDerivation g t
+script_derives g s t ms d w = record { covered = d.covered; derives = (script_end g (singles g.order) s ms t d.derives (rising-derivation_at g (singles g.order) s d.derives) w).0 }
 
 -- after some moves of a script on the tree `first`: the tree `current` is a derivation, the moves left lead on from it, the maps pair
 -- the leaves of the first tree with its leaves, and followed by the maps of the moves left they are those of the script
 pub record Remains (g : Graph) (first current : Shape) (ms left : List PlainMove) (maps : List PlainLeafMap) : Type 0 where
   pub derives : IsDerivation g current
-  pub walk : (t : Shape) × Walk g (singles g.order) current left t
+  pub script : (t : Shape) × IsProperScript g (singles g.order) current left t
   pub pairs : IsPairing g (leaves g.order first) (leaves g.order current) maps
   pub value : maps_after g.order current maps left ≡ script_maps g.order first ms
 
@@ -62,17 +62,17 @@ module _ (g : Graph) (is : IsGraph g) (few : g.order ≤ 128) (n : ℕ) (same : 
   stands t d = subst (λ k. StandsAt k (singles k) t) (sym same) (stands-derivation g t d)
 
   -- before the first move
-  pub start : (first current : Shape) (ms left : List PlainMove) (maps : List PlainLeafMap) → IsDerivation g first → ((t : Shape) × Walk g (singles g.order) first ms t) → current ≡ first → left ≡ ms → maps ≡ own_maps n first → Remains g first current ms left maps
+  pub start : (first current : Shape) (ms left : List PlainMove) (maps : List PlainLeafMap) → IsDerivation g first → ((t : Shape) × IsProperScript g (singles g.order) first ms t) → current ≡ first → left ≡ ms → maps ≡ own_maps n first → Remains g first current ms left maps
   start first current ms left maps d w here all own =
       let value : own_maps g.order first ≡ maps = sym (own ∙ ap (λ (k : ℕ). own_maps k first) same) in
       subst₂ (λ (s : Shape) (ls : List PlainMove). Remains g first s ms ls maps) (sym here) (sym all) (subst (Remains g first first ms ms) value
-      (record { derives = d; walk = w; pairs = own_pairs g first (singles_stage g is d.covered) d.derives; value = refl }))
+      (record { derives = d; script = w; pairs = own_pairs g first (singles_stage g is d.covered) d.derives; value = refl }))
 
   -- at the next move
   module _ (first current : Shape) (ms left others : List PlainMove) (m : PlainMove) (maps : List PlainLeafMap) (r : Remains g first current ms left maps) (e : left ≡ m ∷ others) where
     -- the moves from here
-    road : (t : Shape) × Walk g (singles g.order) current (m ∷ others) t
-    road = subst (λ (ls : List PlainMove). (t : Shape) × Walk g (singles g.order) current ls t) e r.walk
+    road : (t : Shape) × IsProperScript g (singles g.order) current (m ∷ others) t
+    road = subst (λ (ls : List PlainMove). (t : Shape) × IsProperScript g (singles g.order) current ls t) e r.script
 
     -- the first of them has a result
     result : move_result n current m ≡ Some road.1.0
@@ -92,7 +92,7 @@ module _ (g : Graph) (is : IsGraph g) (few : g.order ≤ 128) (n : ℕ) (same : 
         let next : unwrap_or (move_result g.order current m) current ≡ road.1.0 = ap (λ o. unwrap_or o current) road.1.1 in
         record {
           derives = record { covered = r.derives.covered; derives = road.1.3 };
-          walk = (road.0, road.1.6);
+          script = (road.0, road.1.6);
           pairs = pairing-then g (leaves g.order first) (leaves g.order current) (leaves g.order road.1.0) maps (move_maps g.order current m) r.pairs next_pairs;
           value = sym (ap (λ s. maps_after g.order s (map (then_map (leaves g.order current) (move_maps g.order current m)) maps) others) next) ∙ sym (ap (maps_after g.order current maps) e) ∙ r.value;
         }

@@ -4,7 +4,7 @@ use Rattle.std.proofs.lemmas.Option.{none-some, same_Some}
 use Rattle.tree_core.specs.Moves.{PlainMove, below}
 use Rattle.tree_core.specs.Shapes.{Shape, cut}
 use Rattle.tree_core.specs.declared.path.Side.TheVariants.{Merged}
-use Rattle.uncross.specs.Turning.{PlainTurned, followed, raised, raised_merged}
+use Rattle.move_laws.specs.Turning.{PlainTurned, followed, raised, raised_merged}
 use Rattle.uncross.specs.TurnedView.{IsMade}
 
 -- what follows a raised root

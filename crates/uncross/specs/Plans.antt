@@ -1,28 +1,14 @@
 -- How a shore y is exposed in a tree with the root shore x: what is exposed first in its two trees, and what is done at the root then.
 use Rattle.std.specs.Prelude.{◌≡◌, ◌+◌, ◌*◌, ◌≤◌, ℕ, true, false, List, [], length, Option, Some, None, ◌⊎◌, if◌then◌else◌, nat_lt}
-use Rattle.counting.specs.Counts.{is_odd}
-use Rattle.counting.specs.Lists.{is_apart, is_subset, mem, rising_list}
-use Rattle.counting.specs.Sets.{complement, meet, union}
+use Rattle.counting.specs.Lists.{is_apart, is_subset, mem}
 use Rattle.graph_core.specs.Graph.{Graph}
-use Rattle.graph_core.specs.Partitions.{complement_of}
 use Rattle.graph_core.specs.Shores.{block_count}
 use Rattle.tree_core.specs.Derivations.{IsCutAt}
-use Rattle.tree_core.specs.Moves.{PlainMove}
+use Rattle.tree_core.specs.Moves.{PlainMove, meet_list}
 use Rattle.tree_core.specs.Shapes.{Shape, cut, cut_count}
-use Rattle.uncross.specs.Turning.{PlainTurned, over_inner, raised_kept, raised_merged}
-use Rattle.uncross.specs.Walks.{Walk}
-
--- what x and z share: the inner corner
-abbrev pub inner_of : ℕ → (x z : List ℕ) → List ℕ
-inner_of n x z = rising_list n (meet (mem x) (mem z))
-
--- what is outside both: the outer corner
-abbrev pub outer_of : ℕ → (x z : List ℕ) → List ℕ
-outer_of n x z = rising_list n (complement (union (mem x) (mem z)))
-
--- the canonical shore of the outer corner
-abbrev pub outer_shore : ℕ → List ℕ → List ℕ
-outer_shore n o = if mem o n then complement_of n o else o
+use Rattle.move_laws.specs.Corners.{outer_of, outer_shore, partner}
+use Rattle.move_laws.specs.Scripts.{IsProperScript}
+use Rattle.move_laws.specs.Turning.{PlainTurned, over_inner, raised_kept, raised_merged}
 
 -- y is the root shore; or it is exposed in `kept` or in `merged` first; or it crosses the root shore with the corners u and v, of which
 -- those with three blocks or more are exposed first, as the shores inner and outer
@@ -31,10 +17,6 @@ pub data PlainPlan : Type 0 where
   in_kept : PlainPlan
   in_merged : PlainPlan
   crossing : (u v : List ℕ) (inner outer : Option (List ℕ)) → PlainPlan
-
--- y or its complement, whichever shares an odd number of blocks with x
-abbrev pub partner : ℕ → List (List ℕ) → (x y : List ℕ) → List ℕ
-partner n p x y = if is_odd (block_count p (meet (mem x) (mem y))) then y else complement_of n y
 
 -- a shore, if it has three blocks or more
 abbrev pub if_big : List (List ℕ) → (u shore : List ℕ) → Option (List ℕ)
@@ -46,7 +28,7 @@ IsPlan n p x y here = x ≡ y
 IsPlan n p x y in_kept = (is_subset y x ≡ true) × (is_subset x y ≡ false)
 IsPlan n p x y in_merged = (is_subset y x ≡ false) × ((is_subset x y ≡ true) ⊎ (is_apart x y ≡ true))
 IsPlan n p x y (crossing u v inner outer) =
-    (is_subset y x ≡ false) × (is_subset x y ≡ false) × (is_apart x y ≡ false) × (u ≡ inner_of n x (partner n p x y)) × (v ≡ outer_of n x (partner n p x y)) × (inner ≡ if_big p u u) × (outer ≡ if_big p v (outer_shore n v))
+    (is_subset y x ≡ false) × (is_subset x y ≡ false) × (is_apart x y ≡ false) × (u ≡ meet_list n x (partner n p x y)) × (v ≡ outer_of n x (partner n p x y)) × (inner ≡ if_big p u u) × (outer ≡ if_big p v (outer_shore n v))
 
 -- what is exposed in `kept` first, and in `merged`
 abbrev pub first_shore : List ℕ → PlainPlan → Option (List ℕ)
@@ -75,9 +57,9 @@ abbrev pub CutIf : Graph → List (List ℕ) → Option (List ℕ) → Type 0
 CutIf g p None = Unit {0}
 CutIf g p (Some y) = IsCutAt g p y
 
--- the tree t is s where nothing is to be exposed, and else one that has the shore at its root, with a walk of few moves from s
+-- the tree t is s where nothing is to be exposed, and else one that has the shore at its root, with a script of few moves from s
 abbrev pub IsExposed : Graph → List (List ℕ) → Shape → Option (List ℕ) → Shape → Option (List PlainMove) → Type 0
 IsExposed g p s None t None = t ≡ s
 IsExposed g p s None t (Some ms) = ⊥
 IsExposed g p s (Some y) t None = ⊥
-IsExposed g p s (Some y) t (Some ms) = (k : Shape) × (l : Shape) × (t ≡ cut y k l) × Walk g p s ms (cut y k l) × (length ms + 2 ≤ 3 * cut_count s)
+IsExposed g p s (Some y) t (Some ms) = (k : Shape) × (l : Shape) × (t ≡ cut y k l) × IsProperScript g p s ms (cut y k l) × (length ms + 2 ≤ 3 * cut_count s)

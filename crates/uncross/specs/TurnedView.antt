@@ -4,7 +4,7 @@ use Rattle.tree_core.specs.Moves.{PlainMove}
 use Rattle.tree_core.specs.MoveView.{moves_of}
 use Rattle.tree_core.specs.Shapes.{Shape}
 use Rattle.tree_core.specs.View.{shape_of}
-use Rattle.uncross.specs.Turning.{PlainTurned}
+use Rattle.move_laws.specs.Turning.{PlainTurned}
 use Rattle.uncross.specs.declared.turning.Turned.{Turned}
 
 -- the tree and the moves

@@ -1,19 +1,27 @@
-//! Comparing: a derivation is turned into another.
+//! Comparing: a derivation is turned into another, and the leaves of the two are paired.
 ghost use Rattle.std.specs.Prelude.{◌≡◌, ◌*◌, ◌≤◌, IfOk, length};
 ghost use Rattle.graph_core.specs.Covered.{IsCovered};
+ghost use Rattle.graph_core.specs.Partitions.{singles};
 ghost use Rattle.graph_core.specs.Quotients.{quotient};
-ghost use Rattle.tree_core.specs.Derivations.{IsDerivationAt};
+ghost use Rattle.tree_core.specs.Derivations.{IsDerivation, IsDerivationAt};
+ghost use Rattle.tree_core.specs.LeafMaps.{script_maps};
+ghost use Rattle.tree_core.specs.Leaves.{leaves};
 ghost use Rattle.tree_core.specs.MoveView.{moves_of};
+ghost use Rattle.tree_core.specs.Moves.{TurnsThrough};
 ghost use Rattle.tree_core.specs.Shapes.{cut_count};
 ghost use Rattle.tree_core.specs.View.{shape_of};
-ghost use Rattle.uncross.specs.Walks.{Walk};
+ghost use Rattle.move_laws.specs.Pairings.{IsPairing};
+ghost use Rattle.move_laws.specs.Scripts.{IsProperScript};
+ghost use Rattle.uncross.specs.MapView.{maps_of};
 
 use crate::exposing::{Exposure, expose_at};
+use crate::leaf_maps::LeafMaps;
+use crate::move_maps::script_maps;
 use crate::turning::append_below;
 use contraction::Partition;
 use graph_core::MultiGraph;
 use std::alloc::{AllocError as Memory, Global};
-use tree_core::{Moves, Side, Tree, kept_partition, merged_partition};
+use tree_core::{Moves, Side, Tree, copy, kept_partition, merged_partition};
 
 /// The moves that turn the first derivation at p into the second, through derivations at p: the root shore of the second is exposed in
 /// the first, then the same is done in the two trees `kept`, and then in the two trees `merged`.
@@ -28,7 +36,7 @@ pub fn compare_at(
     requires covered { IsCovered (quotient g.now p.now.blocks) }
     requires first { IsDerivationAt g.now p.now.blocks (shape_of first) }
     requires second { IsDerivationAt g.now p.now.blocks (shape_of second.now) }
-    ensures walk { IfOk result (λ ms. Walk g.now p.now.blocks (shape_of first) (moves_of ms) (shape_of second.now)) }
+    ensures script { IfOk result (λ ms. IsProperScript g.now p.now.blocks (shape_of first) (moves_of ms) (shape_of second.now)) }
     ensures few { IfOk result (λ ms. length (moves_of ms) ≤ 5 * (cut_count (shape_of first) * cut_count (shape_of first))) }
 {
     g.keeps_limits();
@@ -76,4 +84,59 @@ pub fn compare_at(
             }
         }
     }
+}
+
+/// The moves that turn the first derivation of the graph into the second, in order and with paths from the root of the whole tree.
+/// Each Switch among them is proper, and each tree between is a derivation of the graph. There are at most 5 c * c moves for a tree of c
+/// cuts.
+pub fn moves_between(
+    alloc: Global,
+    g: &MultiGraph,
+    first: &Tree,
+    second: &Tree,
+) -> Result<Moves, Memory>
+    requires first { IsDerivation g.now (shape_of first.now) }
+    requires second { IsDerivation g.now (shape_of second.now) }
+    ensures through { IfOk result (λ ms. TurnsThrough g.now (shape_of first.now) (moves_of ms) (shape_of second.now)) }
+    ensures script { IfOk result (λ ms. IsProperScript g.now (singles g.now.order) (shape_of first.now) (moves_of ms) (shape_of second.now)) }
+    ensures few { IfOk result (λ ms. length (moves_of ms) ≤ 5 * (cut_count (shape_of first.now) * cut_count (shape_of first.now))) }
+{
+    g.keeps_limits();
+    let root = Partition::singles(alloc, g.order())?;
+    let tree = copy(alloc, first)?;
+    let moves = compare_at(alloc, g, &root, tree, second)?;
+    Ok(moves)
+}
+
+/// How the leaves of two derivations of a graph are paired, and the moves between them.
+#[derive(Drop)]
+pub struct Pairing {
+    /// One map for each leaf of the first tree in preorder: the place of its partner among the leaves of the second, and for each of
+    /// its blocks the name of a block of the partner.
+    pub maps: LeafMaps,
+    /// The moves that turn the first tree into the second, in order and with paths from the root of the whole tree.
+    pub moves: Moves,
+}
+
+/// Compares two derivations of a graph: pairs each leaf of the first with one of the second, each with its partner the same leaf by
+/// names of blocks (Lovász 1987), and answers moves that turn the first tree into the second. The maps are those of the moves, each
+/// tree between is a derivation of the graph, and there are at most 5 c * c moves for a first tree of c cuts. The only error is
+/// `Memory`.
+pub fn compare(
+    alloc: Global,
+    g: &MultiGraph,
+    first: &Tree,
+    second: &Tree,
+) -> Result<Pairing, Memory>
+    requires first { IsDerivation g.now (shape_of first.now) }
+    requires second { IsDerivation g.now (shape_of second.now) }
+    ensures through { IfOk result (λ r. TurnsThrough g.now (shape_of first.now) (moves_of r.moves) (shape_of second.now)) }
+    ensures few { IfOk result (λ r. length (moves_of r.moves) ≤ 5 * (cut_count (shape_of first.now) * cut_count (shape_of first.now))) }
+    ensures maps { IfOk result (λ r. maps_of r.maps ≡ script_maps g.now.order (shape_of first.now) (moves_of r.moves)) }
+    ensures paired { IfOk result (λ r. IsPairing g.now (leaves g.now.order (shape_of first.now)) (leaves g.now.order (shape_of second.now)) (maps_of r.maps)) }
+{
+    g.keeps_limits();
+    let moves = moves_between(alloc, g, first, second)?;
+    let maps = script_maps(alloc, g, first, &moves)?;
+    Ok(Pairing { maps, moves })
 }

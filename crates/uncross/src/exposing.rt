@@ -1,24 +1,31 @@
 //! Exposing: a shore is brought to the root of a derivation.
-ghost use Rattle.std.specs.Prelude.{◌≡◌, List, Some, IfOk, map, option_map};
+ghost use Rattle.std.specs.Prelude.{◌≡◌, List, Some, IfOk, map, option_map, ◌*◌, ◌≤◌, length};
 ghost use Rattle.graph_core.specs.Covered.{IsCovered};
+ghost use Rattle.graph_core.specs.Partitions.{singles};
 ghost use Rattle.graph_core.specs.Quotients.{quotient};
-ghost use Rattle.tree_core.specs.Derivations.{IsDerivationAt};
-ghost use Rattle.tree_core.specs.Moves.{PlainMove, below};
+ghost use Rattle.tree_core.specs.Derivations.{IsCutAt, IsDerivation, IsDerivationAt};
+ghost use Rattle.tree_core.specs.LeafMaps.{script_maps};
+ghost use Rattle.tree_core.specs.Leaves.{leaves};
 ghost use Rattle.tree_core.specs.MoveView.{moves_of};
-ghost use Rattle.tree_core.specs.Shapes.{Fits, cut};
+ghost use Rattle.tree_core.specs.Moves.{PlainMove, TurnsThrough, below};
+ghost use Rattle.tree_core.specs.Shapes.{Fits, Shape, cut, cut_count};
 ghost use Rattle.tree_core.specs.View.{shape_of};
+ghost use Rattle.move_laws.specs.Pairings.{IsPairing};
+ghost use Rattle.move_laws.specs.Turning.{PlainTurned, followed, raised};
+ghost use Rattle.uncross.specs.MapView.{maps_of};
 ghost use Rattle.uncross.specs.PlanView.{plan_of};
 ghost use Rattle.uncross.specs.Plans.{CutIf, IsExposed, plan_result};
-ghost use Rattle.uncross.specs.Turning.{PlainTurned, followed, raised};
 ghost use Rattle.uncross.specs.TurnedView.{turned_of};
 
+use crate::leaf_maps::LeafMaps;
+use crate::move_maps::script_maps;
 use crate::plans::{Plan, plan_at};
 use crate::turning::{Turned, raise, turn_over_inner};
 use contraction::Partition;
 use graph_core::MultiGraph;
 use std::alloc::{AllocError as Memory, Global};
 use std::mem;
-use tree_core::{Moves, Side, Tree, kept_partition, merged_partition};
+use tree_core::{Moves, Side, Tree, copy, kept_partition, merged_partition};
 use vset_core::VSet;
 
 // The root of a child that moves have made is brought over the root.
@@ -163,4 +170,38 @@ pub fn expose_at(
             })
         }
     }
+}
+
+/// A derivation with a given shore at its root, and how it was reached from another.
+#[derive(Drop)]
+pub struct Exposed {
+    /// The derivation with the shore at its root.
+    pub tree: Tree,
+    /// The moves that turn the tree as it was into this one, in order and with paths from the root.
+    pub moves: Moves,
+    /// One map for each leaf of the tree as it was, in preorder: the place of its partner among the leaves of this one, and for each
+    /// of its blocks the name of a block of the partner.
+    pub maps: LeafMaps,
+}
+
+/// Brings a canonical nontrivial tight shore to the root of a derivation of a graph by moves, through derivations, and pairs each leaf
+/// of the tree with one of the new tree by the maps of these moves. There are at most 5 c moves for a tree of c cuts. The only error
+/// is `Memory`; after it the tree is given up.
+pub fn expose(alloc: Global, g: &MultiGraph, tree: Tree, shore: VSet) -> Result<Exposed, Memory>
+    requires derives { IsDerivation g.now (shape_of tree) }
+    requires shore { IsCutAt g.now (singles g.now.order) shore }
+    ensures root { IfOk result (λ r. (a : Shape) × (b : Shape) × (shape_of r.tree ≡ cut shore a b)) }
+    ensures derives { IfOk result (λ r. IsDerivation g.now (shape_of r.tree)) }
+    ensures through { IfOk result (λ r. TurnsThrough g.now (shape_of tree) (moves_of r.moves) (shape_of r.tree)) }
+    ensures few { IfOk result (λ r. length (moves_of r.moves) ≤ 5 * cut_count (shape_of tree)) }
+    ensures maps { IfOk result (λ r. maps_of r.maps ≡ script_maps g.now.order (shape_of tree) (moves_of r.moves)) }
+    ensures paired { IfOk result (λ r. IsPairing g.now (leaves g.now.order (shape_of tree)) (leaves g.now.order (shape_of r.tree)) (maps_of r.maps)) }
+{
+    g.keeps_limits();
+    let root = Partition::singles(alloc, g.order())?;
+    let before = copy(alloc, &tree)?;
+    let Exposure { tree, moves: found } = expose_at(alloc, g, &root, tree, Some(shore))?;
+    let moves = found.unwrap_or(Moves::new(alloc));
+    let maps = script_maps(alloc, g, &before, &moves)?;
+    Ok(Exposed { tree, moves, maps })
 }

@@ -1,6 +1,6 @@
 //! The order of the leaves under a move: the old numbers of the leaves in the order of the new tree.
 ghost use Rattle.std.specs.Prelude.{◌≡◌, ◌≤◌, ◌+◌, ◌++◌, IfOk, OnOk, length};
-ghost use Rattle.tree_core.specs.LeafMaps.{kept_order_if_in_q, move_order, numbers, order_at, rotate_order, switch_order};
+ghost use Rattle.tree_core.specs.LeafMaps.{kept_order_if_greatest_stays, move_order, numbers, order_at, rotate_order, switch_order};
 ghost use Rattle.tree_core.specs.Moves.{last_step, parent_path};
 ghost use Rattle.tree_core.specs.MoveView.{move_of};
 ghost use Rattle.tree_core.specs.Shapes.{cut, leaf_count};
@@ -35,11 +35,11 @@ pub fn push_numbers(order: &mut Numbers, k: u32, count: u32) -> Result<(), Memor
     Ok(())
 }
 
-// Appends the order below `kept` where the greatest vertex is outside v: where a shore contains u the two trees change places. k leaves
-// stand before the tree.
+// Appends the order below `kept` where the greatest vertex stays: where a shore contains u the two trees change places. k leaves stand
+// before the tree.
 fn push_kept_order(order: &mut Numbers, u: VSet, k: u32, tree: &Tree) -> Result<(), Memory>
     requires { k + leaf_count (shape_of tree.now) ≤ 255 }
-    ensures order { OnOk result (order.new ≡ order.old ++ kept_order_if_in_q u k (shape_of tree.now)) }
+    ensures order { OnOk result (order.new ≡ order.old ++ kept_order_if_greatest_stays u k (shape_of tree.now)) }
     ensures count { OnOk result (length order.new ≡ length order.old + leaf_count (shape_of tree.now)) }
 {
     match tree {

@@ -1,24 +1,25 @@
-//! The maps of moves: where a move takes each leaf of a tree, and its blocks.
+//! The maps of moves and of scripts: where they take each leaf of a tree, and its blocks.
 ghost use Rattle.std.specs.Prelude.{◌≡◌, ◌≤◌, ◌<◌, ◌+◌, ◌-◌, ◌++◌, ◌∷◌, [], Some, IfOk, OnOk, All, length, map};
 ghost use Rattle.counting.specs.Counts.{Within};
 ghost use Rattle.graph_core.specs.Partitions.{complement_of, singles};
 ghost use Rattle.contraction.specs.Partition.{IsUnionAt};
-ghost use Rattle.tree_core.specs.Derivations.{kept_at};
-ghost use Rattle.tree_core.specs.LeafMaps.{maps_from, move_maps, names_at, own_maps, position, switch_names};
+ghost use Rattle.tree_core.specs.Derivations.{IsDerivation, kept_at};
+ghost use Rattle.tree_core.specs.LeafMaps.{maps_from, move_maps, names_at, own_maps, position, script_maps, switch_names};
 ghost use Rattle.tree_core.specs.Leaves.{StandsAt, leaves_at};
+ghost use Rattle.tree_core.specs.MoveView.{move_of, moves_of};
 ghost use Rattle.tree_core.specs.Moves.{move_result};
-ghost use Rattle.tree_core.specs.MoveView.{move_of};
 ghost use Rattle.tree_core.specs.Shapes.{Fits, Shape, leaf_count};
 ghost use Rattle.tree_core.specs.View.{shape_of};
+ghost use Rattle.move_laws.specs.Scripts.{IsProperScript};
 ghost use Rattle.uncross.specs.MapView.{image_name, maps_of};
 
 use crate::block_images::{Images, image_names, kept_images, merged_images};
-use crate::leaf_maps::{LeafMap, LeafMaps};
+use crate::leaf_maps::{LeafMap, LeafMaps, followed_by};
 use crate::leaf_orders::{count_leaves, move_order, push_numbers};
 use contraction::Partition;
-use graph_core::Numbers;
+use graph_core::{MultiGraph, Numbers};
 use std::alloc::{AllocError as Memory, Global};
-use tree_core::{Move, Side, Tree, complement_in};
+use tree_core::{Move, Moves, Side, Tree, apply, complement_in, copy, leaves};
 use vset_core::{MOST_VERTICES, VSet};
 
 // The place of a number in a list, counted from 1, and one past the end if it is not there.
@@ -217,4 +218,42 @@ pub fn move_maps(alloc: Global, n: u32, tree: &Tree, m: &Move) -> Result<LeafMap
             Ok(maps)
         }
     }
+}
+
+// The tree that a move makes.
+fn moved(tree: Tree, n: u32, m: &Move) -> Tree
+    requires { Fits n (shape_of tree) }
+    ensures { (t : Shape) → move_result n (shape_of tree) (move_of m.now) ≡ Some t → shape_of result ≡ t }
+{
+    match apply(tree, n, m) {
+        Ok(made) => made,
+        Err((same, _)) => same,
+    }
+}
+
+/// The maps of a script of moves that leads through derivations of the graph, each Switch proper: where each leaf of the tree goes,
+/// and its blocks.
+pub fn script_maps(
+    alloc: Global,
+    g: &MultiGraph,
+    tree: &Tree,
+    moves: &Moves,
+) -> Result<LeafMaps, Memory>
+    requires derives { IsDerivation g.now (shape_of tree.now) }
+    requires script { (t : Shape) × IsProperScript g.now (singles g.now.order) (shape_of tree.now) (moves_of moves.now) t }
+    ensures { IfOk result (λ maps. maps_of maps ≡ script_maps g.now.order (shape_of tree.now) (moves_of moves.now)) }
+{
+    g.keeps_limits();
+    let n = g.order();
+    let mut current = copy(alloc, tree)?;
+    let mut maps = own_maps(alloc, n, tree)?;
+    let mut rest = moves.as_slice();
+    'moves: while let Some((m, others)) = rest.split_first() {
+        let partitions = leaves(alloc, &current, n)?;
+        let next = move_maps(alloc, n, &current, m)?;
+        maps = followed_by(alloc, &maps, &partitions, &next)?;
+        current = moved(current, n, m);
+        rest = others;
+    }
+    Ok(maps)
 }

@@ -5,8 +5,10 @@ ghost use Rattle.counting.specs.Lists.{IsRisingIn, mem};
 ghost use Rattle.counting.specs.Sets.{meet};
 ghost use Rattle.graph_core.specs.Partitions.{complement_of};
 ghost use Rattle.graph_core.specs.Shores.{block_count};
+ghost use Rattle.tree_core.specs.Moves.{meet_list};
+ghost use Rattle.move_laws.specs.Corners.{outer_of, outer_shore, partner};
 ghost use Rattle.uncross.specs.PlanView.{plan_of};
-ghost use Rattle.uncross.specs.Plans.{IsPlan, first_shore, if_big, inner_of, outer_of, outer_shore, partner, second_shore};
+ghost use Rattle.uncross.specs.Plans.{IsPlan, first_shore, if_big, second_shore};
 
 use contraction::Partition;
 use tree_core::are_apart;
@@ -44,7 +46,7 @@ fn share_odd(p: &Partition, x: VSet, y: VSet) -> bool
 // What is in both sets.
 fn met(x: VSet, y: VSet, n: u32) -> VSet
     requires first { IsRisingIn n x }
-    ensures { result ≡ inner_of n x y }
+    ensures { result ≡ meet_list n x y }
 {
     let both = x.meet(y);
     both.rises();

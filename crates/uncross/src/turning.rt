@@ -1,12 +1,12 @@
 //! Turned trees: a tree that moves have made, with the moves.
 ghost use Rattle.std.specs.Prelude.{◌≡◌, ◌++◌, ◌∷◌, ◌-◌, ℕ, [], Some, IfOk, OnOk, map, option_map, All};
 ghost use Rattle.counting.specs.Counts.{Within};
-ghost use Rattle.tree_core.specs.Moves.{below, switch_at};
 ghost use Rattle.tree_core.specs.MoveView.{moves_of};
+ghost use Rattle.tree_core.specs.Moves.{below, switch_at};
 ghost use Rattle.tree_core.specs.Shapes.{Fits, cut};
 ghost use Rattle.tree_core.specs.View.{shape_of};
-ghost use Rattle.uncross.specs.Turning.{PlainTurned, over_inner, over_outer, raised, switched, followed, switched_below, outer_below};
-ghost use Rattle.uncross.specs.TurnedView.{turned_of, IsMade};
+ghost use Rattle.move_laws.specs.Turning.{PlainTurned, followed, outer_below, over_inner, over_outer, raised, switched, switched_below};
+ghost use Rattle.uncross.specs.TurnedView.{IsMade, turned_of};
 
 use std::alloc::{AllocError as Memory, Global};
 use std::mem;

@@ -8,7 +8,7 @@ use Rattle.graph_core.specs.Partitions.{singles}
 use Rattle.tree_core.proofs.Sizes.{leaf_count-cuts, length-leaves_at, node_count-cuts}
 use Rattle.uncross.specs.MapView.{map_of, maps_of}
 use Rattle.report_text.specs.Growths.{grown_text}
-use Rattle.uncross.specs.Pairings.{IsPairing}
+use Rattle.move_laws.specs.Pairings.{IsPairing}
 use Rattle.bench_top.specs.Growths.{IsCounted}
 use Rattle.bench_top.specs.Orders.{NamedPicks}
 use Rattle.bench_top.specs.declared.order.NamedOrder.TheVariants.{First, Last}

@@ -6,9 +6,9 @@ use Rattle.tree_core.specs.View.{shape_of}
 use Rattle.tree_core.specs.declared.moves.Move.{Move}
 use Rattle.tree_core.specs.declared.path.Side.TheVariants.{Kept, Merged}
 use Rattle.tree_core.specs.declared.tree.Tree.{Tree}
-use Rattle.uncross.proofs.CompareSteps.{asks_kept_both, asks_merged_both, both_leaves, whole_few, whole_walk}
+use Rattle.uncross.proofs.CompareSteps.{asks_kept_both, asks_merged_both, both_leaves, whole_few, whole_script}
 use Rattle.uncross.specs.Plans.{IsExposed}
-use Rattle.uncross.specs.Walks.{Walk}
+use Rattle.move_laws.specs.Scripts.{IsProperScript}
 use Rattle.uncross.proofs.comparing.+compare_at.Goals as goal
 
 pub compare_at-requires : goal.compare_at-requires
@@ -31,23 +31,23 @@ compare_at-requires-in-Cut-tree t c =
     let below = ap (λ (s : Tree). node_count (shape_of s)) c.deref-in-Cut-tree.ensures in let whole = ap (λ (s : Tree). node_count (shape_of s)) c.in-Cut.is in let size = c.decreases in
     (omega arith, (c.in_ok-merged_at-in-Cut-tree.ensures.order, (c.in_ok-merged_at-in-Cut-tree.ensures.covered, asks)))
 
-pub returns-in-Leaf-clause-walk : goal.returns-in-Leaf-clause-walk
-returns-in-Leaf-clause-walk t c =
-    subst (λ (ms : List Move). Walk c.args.g.now c.args.p.now.blocks (shape_of c.args.first) (moves_of ms) (shape_of c.args.second.now)) (sym c.new.ensures)
+pub returns-in-Leaf-clause-script : goal.returns-in-Leaf-clause-script
+returns-in-Leaf-clause-script t c =
+    subst (λ (ms : List Move). IsProperScript c.args.g.now c.args.p.now.blocks (shape_of c.args.first) (moves_of ms) (shape_of c.args.second.now)) (sym c.new.ensures)
     (both_leaves c.args.g.now c.args.p.now.order c.args.p.now.blocks (shape_of c.args.first) (shape_of c.args.second.now) c.keeps_limits.ensures.multigraph.ends c.requires.order c.keeps_partition.ensures.partition c.requires.covered (ap shape_of c.in-Leaf.is) c.requires.first c.requires.second)
 
-pub returns-in_ok-append_below-in-Cut-tree-2-clause-walk : goal.returns-in_ok-append_below-in-Cut-tree-2-clause-walk
-returns-in_ok-append_below-in-Cut-tree-2-clause-walk t c =
-    subst (λ (ms : List PlainMove). Walk c.args.g.now c.args.p.now.blocks (shape_of c.args.first) ms (shape_of c.args.second.now)) (sym (c.in_ok-append_below-in-Cut-tree-2.ensures
+pub returns-in_ok-append_below-in-Cut-tree-2-clause-script : goal.returns-in_ok-append_below-in-Cut-tree-2-clause-script
+returns-in_ok-append_below-in-Cut-tree-2-clause-script t c =
+    subst (λ (ms : List PlainMove). IsProperScript c.args.g.now c.args.p.now.blocks (shape_of c.args.first) ms (shape_of c.args.second.now)) (sym (c.in_ok-append_below-in-Cut-tree-2.ensures
     ∙ ap₂ (λ (a : List PlainMove) (b : List Move). a ++ map (below Merged) (moves_of b)) (c.in_ok-append_below-in-Cut-tree.ensures ∙ ap (λ (b : List Move). moves_of c.in-Some.exposing ++ map (below Kept) (moves_of b)) c.as_slice.ensures) c.as_slice-in-Cut-tree.ensures))
-    (whole_walk c.args.g.now c.args.p.now.order c.args.p.now.blocks (shape_of c.args.first) (shape_of c.args.second.now) c.in-Cut.shore (shape_of c.in-Cut.kept.value) (shape_of c.in-Cut.merged.value)
+    (whole_script c.args.g.now c.args.p.now.order c.args.p.now.blocks (shape_of c.args.first) (shape_of c.args.second.now) c.in-Cut.shore (shape_of c.in-Cut.kept.value) (shape_of c.in-Cut.merged.value)
     c.keeps_limits.ensures.multigraph.ends c.requires.order c.keeps_partition.ensures.partition c.requires.covered (ap shape_of c.in-Cut.is) c.requires.first c.requires.second
     (shape_of c.in_ok-tree-in-Cut.field-0.tree) c.in-Cut-tree.shore (shape_of c.in-Cut-tree.first_kept.value) (shape_of c.in-Cut-tree.first_merged.value) (moves_of c.in-Some.exposing) (ap shape_of c.in-Cut-tree.is)
     (subst (λ o. IsExposed c.args.g.now c.args.p.now.blocks (shape_of c.args.first) (Some c.in-Cut.shore) (shape_of c.in_ok-tree-in-Cut.field-0.tree) (option_map moves_of o)) c.in-Some.is c.in_ok-tree-in-Cut.ensures)
     c.in_ok-kept_at-in-Cut-tree.kept_at.blocks c.in_ok-merged_at-in-Cut-tree.merged_at.blocks (moves_of c.in_ok-below_kept-in-Cut-tree.below_kept) (moves_of c.in_ok-below_merged-in-Cut-tree.below_merged)
     (shape_of c.into_inner.result) (shape_of c.deref.result.now) (shape_of c.into_inner-in-Cut-tree.result) (shape_of c.deref-in-Cut-tree.result.now)
     c.in_ok-kept_at-in-Cut-tree.ensures.blocks c.in_ok-merged_at-in-Cut-tree.ensures.blocks (ap shape_of c.into_inner.ensures) (ap shape_of c.deref.ensures) (ap shape_of c.into_inner-in-Cut-tree.ensures) (ap shape_of c.deref-in-Cut-tree.ensures)
-    c.in_ok-below_kept-in-Cut-tree.ensures.walk c.in_ok-below_merged-in-Cut-tree.ensures.walk c.in_ok-below_kept-in-Cut-tree.ensures.few c.in_ok-below_merged-in-Cut-tree.ensures.few)
+    c.in_ok-below_kept-in-Cut-tree.ensures.script c.in_ok-below_merged-in-Cut-tree.ensures.script c.in_ok-below_kept-in-Cut-tree.ensures.few c.in_ok-below_merged-in-Cut-tree.ensures.few)
 
 pub returns-in_ok-append_below-in-Cut-tree-2-clause-few : goal.returns-in_ok-append_below-in-Cut-tree-2-clause-few
 returns-in_ok-append_below-in-Cut-tree-2-clause-few t c =
@@ -60,4 +60,4 @@ returns-in_ok-append_below-in-Cut-tree-2-clause-few t c =
     c.in_ok-kept_at-in-Cut-tree.kept_at.blocks c.in_ok-merged_at-in-Cut-tree.merged_at.blocks (moves_of c.in_ok-below_kept-in-Cut-tree.below_kept) (moves_of c.in_ok-below_merged-in-Cut-tree.below_merged)
     (shape_of c.into_inner.result) (shape_of c.deref.result.now) (shape_of c.into_inner-in-Cut-tree.result) (shape_of c.deref-in-Cut-tree.result.now)
     c.in_ok-kept_at-in-Cut-tree.ensures.blocks c.in_ok-merged_at-in-Cut-tree.ensures.blocks (ap shape_of c.into_inner.ensures) (ap shape_of c.deref.ensures) (ap shape_of c.into_inner-in-Cut-tree.ensures) (ap shape_of c.deref-in-Cut-tree.ensures)
-    c.in_ok-below_kept-in-Cut-tree.ensures.walk c.in_ok-below_merged-in-Cut-tree.ensures.walk c.in_ok-below_kept-in-Cut-tree.ensures.few c.in_ok-below_merged-in-Cut-tree.ensures.few)
+    c.in_ok-below_kept-in-Cut-tree.ensures.script c.in_ok-below_merged-in-Cut-tree.ensures.script c.in_ok-below_kept-in-Cut-tree.ensures.few c.in_ok-below_merged-in-Cut-tree.ensures.few)

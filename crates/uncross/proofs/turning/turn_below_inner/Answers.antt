@@ -4,7 +4,7 @@ use Rattle.tree_core.specs.View.{shape_of}
 use Rattle.tree_core.specs.Shapes.{Shape, cut}
 use Rattle.tree_core.specs.declared.tree.Tree.{Tree}
 use Rattle.uncross.proofs.TurningSteps.{raised_after}
-use Rattle.uncross.specs.Turning.{followed, outer_below, over_outer}
+use Rattle.move_laws.specs.Turning.{followed, outer_below, over_outer}
 use Rattle.uncross.specs.TurnedView.{turned_of}
 use Rattle.uncross.proofs.turning.turn_below_inner.Goals as goal
 

@@ -1,0 +1,11 @@
+-- A matching covered graph at its single vertices is a stage from which trees are derived.
+use Rattle.std.proofs.Common.{subst, sym}
+use Rattle.graph_core.proofs.SingleBlocks.{contracted-singles}
+use Rattle.graph_core.proofs.Singles.{singles-partition}
+use Rattle.graph_core.specs.Covered.{IsCovered}
+use Rattle.graph_core.specs.Graph.{Graph, IsGraph}
+use Rattle.graph_core.specs.Partitions.{singles}
+use Rattle.move_laws.proofs.BigShores.{Stage}
+
+pub singles_stage : (g : Graph) → IsGraph g → IsCovered g → Stage g (singles g.order)
+singles_stage g is cov = record { graph = is; list = singles-partition g.order; covered = subst IsCovered (sym (contracted-singles g is)) cov }

@@ -1,0 +1,19 @@
+-- The corners of two crossing shores x and z: what they share, which is meet_list, and what is outside both.
+use Rattle.std.specs.Prelude.{ℕ, List, if◌then◌else◌}
+use Rattle.counting.specs.Counts.{is_odd}
+use Rattle.counting.specs.Lists.{mem, rising_list}
+use Rattle.counting.specs.Sets.{complement, meet, union}
+use Rattle.graph_core.specs.Partitions.{complement_of}
+use Rattle.graph_core.specs.Shores.{block_count}
+
+-- what is outside both: the outer corner
+abbrev pub outer_of : ℕ → (x z : List ℕ) → List ℕ
+outer_of n x z = rising_list n (complement (union (mem x) (mem z)))
+
+-- the canonical shore of the outer corner
+abbrev pub outer_shore : ℕ → List ℕ → List ℕ
+outer_shore n o = if mem o n then complement_of n o else o
+
+-- y or its complement, whichever shares an odd number of blocks with x
+abbrev pub partner : ℕ → List (List ℕ) → (x y : List ℕ) → List ℕ
+partner n p x y = if is_odd (block_count p (meet (mem x) (mem y))) then y else complement_of n y

@@ -1,0 +1,17 @@
+-- Proper scripts: scripts of proper moves through derivations at a partition.
+use Rattle.std.specs.Prelude.{◌≡◌, ℕ, List, [], ◌∷◌, Some}
+use Rattle.counting.specs.Lists.{IsRisingIn}
+use Rattle.graph_core.specs.Graph.{Graph}
+use Rattle.tree_core.specs.Derivations.{IsDerivationAt}
+use Rattle.tree_core.specs.Moves.{IsProper, PlainMove, move_result}
+use Rattle.tree_core.specs.Shapes.{Shape, leaf, cut, cut_count}
+
+-- the shore of each node is a rising list within 1 to n
+abbrev pub AreRising : ℕ → Shape → Type 0
+AreRising n leaf = Unit {0}
+AreRising n (cut x a b) = IsRisingIn n x × AreRising n a × AreRising n b
+
+-- the script leads from s to t through derivations at p, and each Switch is proper
+abbrev pub IsProperScript : Graph → List (List ℕ) → Shape → List PlainMove → Shape → Type 0
+IsProperScript g p s [] t = s ≡ t
+IsProperScript g p s (m ∷ ms) t = (r : Shape) × (move_result g.order s m ≡ Some r) × IsProper g.order p s m × IsDerivationAt g p r × AreRising g.order r × (cut_count r ≡ cut_count s) × IsProperScript g p r ms t

@@ -1,5 +1,0 @@
-use Rattle.uncross.proofs.ExchangedNames.{exchanged_kept, exchanged_merged}
-use Rattle.uncross.proofs.laws.exchange.Goals as goal
-
-pub returns : goal.returns
-returns c = record { kept = exchanged_kept; merged = exchanged_merged }

@@ -1,5 +1,0 @@
-use Rattle.uncross.proofs.Uniqueness.{pairing_law, uniqueness_law}
-use Rattle.uncross.proofs.laws.uniqueness.Goals as goal
-
-pub returns : goal.returns
-returns c = record { turns = uniqueness_law; pairs = pairing_law }
