@@ -5,10 +5,10 @@ ghost use Rattle.std.proofs.Common.{rules};
 ghost use Rattle.outside.specs.DirShelf.{IsOpened};
 ghost use Rattle.outside.specs.Faults.{next_fault};
 
+use crate::retries::read_some;
 use crate::{Shelf, ShelfFault};
 use std::alloc::Global;
 use std::fs;
-use std::io::Read;
 use std::marker::Model;
 use std::rt::Files;
 
@@ -85,7 +85,7 @@ impl<R: Files> Shelf for DirShelf<'_, R> {
         let mut bytes = Vec::new(alloc);
         'reading: while bytes.len() <= limit {
             let room = PIECE.min(limit + 1 - bytes.len());
-            match file.read(&mut piece[..room]) {
+            match read_some(&mut file, &mut piece[..room]) {
                 Err(_) => {
                     self.faults = self.faults.saturating_add(1);
                     return Err(ShelfFault::Failed);

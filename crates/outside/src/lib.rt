@@ -8,7 +8,8 @@
 //!
 //! Two kinds of forms keep these contracts. `MemShelf`, `MemSink` and `CountSink` stand in memory, and their contracts
 //! give every answer and every next state, the planned faults among them: a caller is tried over them. `DirShelf` and
-//! `OutSink` are the files and the standard output of the runtime, the trusted edge: they tell nothing of content.
+//! `OutSink` are the files and the standard output of the runtime, the trusted edge: they tell nothing of content. A call
+//! of theirs that a signal interrupts is tried again.
 //!
 //! It stands on `std` alone. A write that takes a part of its piece, and a read or write that is made to fail at its
 //! n-th call, are those of POSIX's `write` and of fault injection.
@@ -20,6 +21,7 @@ mod mem_shelf;
 mod mem_sink;
 mod out_sink;
 mod planned;
+mod retries;
 mod shelf;
 mod sink;
 

@@ -3,6 +3,7 @@ ghost use Rattle.std.specs.Prelude.{◌≡◌, ◌≤◌, IfOk, OnErr, length};
 ghost use Rattle.std.specs.declared.option.Option.TheVariants.{None};
 ghost use Rattle.outside.specs.Faults.{next_fault, faults_after};
 
+use crate::retries::write_some;
 use crate::{Sink, SinkFailed};
 use std::io;
 use std::io::Write;
@@ -39,7 +40,8 @@ impl<P: Print> Sink for OutSink<'_, P> {
 
     ghost faults = { λ sink. sink };
 
-    /// Each write is flushed before it answers. An error of the runtime, at the write or at the flush, is `SinkFailed`.
+    /// Each write is flushed before it answers. An error of the runtime, at the write or at the flush, is `SinkFailed`. No clause
+    /// tells what reaches the standard output: `tests/edge` looks at the bytes that arrive, and at a write to a full device.
     fn write(&mut self, bytes: &[u8]) -> Result<usize, SinkFailed>
         ensures within { IfOk result (λ count. count ≤ length bytes.now) }
         ensures later { self.old ≤ self.new }
@@ -47,7 +49,7 @@ impl<P: Print> Sink for OutSink<'_, P> {
         ensures err { OnErr result (self.new ≡ next_fault self.old) }
     {
         let mut out = io::writer(self.runtime);
-        let Ok(count) = out.write(bytes) else {
+        let Ok(count) = write_some(&mut out, bytes) else {
             self.faults = self.faults.saturating_add(1);
             return Err(SinkFailed);
         };

@@ -1,0 +1,33 @@
+// Reads and writes that are tried again where a signal interrupts them.
+ghost use Rattle.std.specs.Prelude.{◌≤◌, IfOk, length};
+
+use std::io::{ErrorKind, Read, Result, Write};
+
+// How often a call is tried again.
+const RETRIES: u32 = 1024;
+
+/// Reads some bytes into the piece. A read that a signal interrupts has taken none and is tried again.
+pub(crate) fn read_some<F: Read>(file: &mut F, piece: &mut [u8]) -> Result<usize>
+    ensures { IfOk result (λ count. count ≤ length piece.new) }
+{
+    for _ in 0..RETRIES {
+        match file.read(piece) {
+            Err(error) if error.kind() == ErrorKind::Interrupted => {}
+            answer => return answer,
+        }
+    }
+    file.read(piece)
+}
+
+/// Writes some of the bytes. A write that a signal interrupts has written none and is tried again.
+pub(crate) fn write_some<W: Write>(out: &mut W, bytes: &[u8]) -> Result<usize>
+    ensures { IfOk result (λ count. count ≤ length bytes.now) }
+{
+    for _ in 0..RETRIES {
+        match out.write(bytes) {
+            Err(error) if error.kind() == ErrorKind::Interrupted => {}
+            answer => return answer,
+        }
+    }
+    out.write(bytes)
+}
