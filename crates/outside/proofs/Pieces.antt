@@ -1,7 +1,7 @@
 -- What is written piece by piece is written as one: a piece after a piece is the two joined.
 -- The told case is the associativity of lists, the other computes.
-use Rattle.std.proofs.Common.{◌≡◌, ℕ, ◌+◌, List, [], ◌++◌, take, drop, refl, ap, sym, ◌∙◌, append_assoc}
-use Rattle.std.proofs.lemmas.List.{append-nil}
+use Rattle.std.proofs.Common.{◌≡◌, ℕ, ◌+◌, ◌-◌, List, [], ◌++◌, length, take, drop, refl, ap, sym, subst, ◌∙◌, arith, append_assoc, length-drop}
+use Rattle.std.proofs.lemmas.List.{append-nil, take_all}
 use Rattle.std.proofs.Math.Seq.{take-add}
 use Rattle.std.specs.declared.option.Option.{Option}
 use Rattle.std.specs.declared.option.Option.TheVariants.{Some, None}
@@ -23,3 +23,17 @@ pub appended-take :
 appended-take told output done count =
     appended-appended told (take done output) (take count (drop done output))
     ∙ ap (appended told) (sym (take-add done count output))
+
+-- the first n bytes, and then the first m of the rest, are the first n + m
+pub appended_more :
+    (told mid now : Option (List ℕ)) (bytes : List ℕ) (n m : ℕ) →
+    mid ≡ appended told (take n bytes) →
+    now ≡ appended mid (take m (take (length bytes - n) (drop n bytes))) →
+    now ≡ appended told (take (n + m) bytes)
+appended_more told mid now bytes n m first second =
+    let rest : take (length bytes - n) (drop n bytes) ≡ drop n bytes =
+    take_all (length bytes - n) (drop n bytes) (omega (arith, length-drop n bytes)) in
+    let then : now ≡ appended mid (take m (drop n bytes)) = subst (λ (l : List ℕ). now ≡ appended mid (take m l)) rest second in
+    then
+    ∙ ap (λ (o : Option (List ℕ)). appended o (take m (drop n bytes))) first
+    ∙ appended-take told bytes n m

@@ -1,7 +1,9 @@
 pub mod Faults
 pub mod Shelf
 pub mod Sink
+pub mod Source
 pub mod MemShelf
 pub mod MemSink
+pub mod MemSource
 pub mod StoredFile
 pub mod DirShelf

@@ -1,0 +1,13 @@
+use Rattle.std.proofs.Common.{◌≡◌, ◌≤◌, ◌-◌, length, take}
+use Rattle.outside.specs.Sink.{appended}
+use Rattle.outside.proofs.emitting.emit.Given as goal
+
+abbrev pub invariant-writing : goal.invariant-writing
+invariant-writing g l = record {
+  within : l.done ≤ length l.bytes;
+  later : g.K.Sink.faults l.fn.sink ≤ g.K.Sink.faults l.sink;
+  written : g.K.Sink.written l.sink ≡ appended (g.K.Sink.written l.fn.sink) (take l.done l.bytes);
+}
+
+abbrev pub decreases-writing : goal.decreases-writing
+decreases-writing g l = length l.bytes - l.done
