@@ -12,3 +12,4 @@ pub mod CutLists
 pub mod CutFacts
 pub mod AllOf
 pub mod ShoreFacts
+pub mod FirstCuts

@@ -4,3 +4,4 @@ pub mod PairSearch
 pub mod PairShores
 pub mod SeparationFacts
 pub mod Flooding
+pub mod FirstSeparations

@@ -18,7 +18,7 @@ use Rattle.graph_core.specs.Matchings.{HasPerfect, has_perfect}
 use Rattle.graph_core.specs.Structure.{IsBicritical, IsCutPair, cut_pair, is_bicritical, unlike_pair}
 use Rattle.graph_core.specs.Tight.{IsTight, canonical_shore, is_nontrivial}
 use Rattle.graph_core.specs.Walks.{joined}
-use Rattle.barrier_kit.specs.CanonicalCuts.{IsCanonicalCut}
+use Rattle.barrier_kit.specs.CanonicalCuts.{IsCanonicalCut, cuts_of}
 use Rattle.barrier_kit.proofs.AllOf.{all_flat, all_passing, all_rising, all_unfound, filter_all, flat_all, map_all, pairs_rise, rising_all, unfound_all}
 use Rattle.barrier_kit.proofs.BarrierCuts.{leads_out}
 use Rattle.barrier_kit.proofs.CutFacts.{cuts-canonical, cuts-none, cuts-some}
@@ -148,16 +148,33 @@ module _ (g : Graph) (is : IsGraph g) where
         (map_all (λ s. P (rising_list g.order (union (mem s) (singleton u)))) (λ a. rising_list g.order (joined g (pair_set u v) a)) (rising_list g.order (is_least g (pair_set u v)))
         (map_all P (λ s. rising_list g.order (union (mem s) (singleton u))) (components g (pair_set u v)) at)) a wa la
 
-    rising_cut : (u v : ℕ) → IsCutPair g u v → u < v → separation_cuts g ≡ [] → ⊥
-    unfolding separation_cuts component_count
-    rising_cut u v c l e =
+    -- some component at a cut pair gives a nontrivial cut
+    wide_shore : (u v : ℕ) → IsCutPair g u v → (a : ℕ) × Within g.order a × (is_least g (pair_set u v) a ≡ true) × (is_nontrivial g.order (canonical_shore g.order (mem (rising_list g.order (pair_shore g u v a)))) ≡ true)
+    unfolding component_count
+    wide_shore u v c =
         let k = count_member g.order (is_least g (pair_set u v)) (let two = c.parts in omega arith) in
         let out = leads_out g (pair_set u v) k.0 k.2 in
         let x = pair_shore g u v k.0 in
         let m = bi u v c.first c.second c.different in
-        let wide = nontrivial-same g.order (union (joined g (pair_set u v) k.0) (singleton u)) x (pair_shore-is g u v k.0) (separation_nontrivial g is u v c.first c.second c.different m.0 m.1 k.0 k.1 out c) in
+        (k.0, k.1, k.2, listed_wide g.order x (nontrivial-same g.order (union (joined g (pair_set u v) k.0) (singleton u)) x (pair_shore-is g u v k.0) (separation_nontrivial g is u v c.first c.second c.different m.0 m.1 k.0 k.1 out c)))
+
+    rising_cut : (u v : ℕ) → IsCutPair g u v → u < v → separation_cuts g ≡ [] → ⊥
+    unfolding separation_cuts
+    rising_cut u v c l e =
+        let k = wide_shore u v c in
         let narrow = listed_pair u v k.0 (λ s. is_nontrivial g.order (canonical_shore g.order (mem s)) ≡ false) (cuts-some g.order (separation_shores g) e) c l k.1 k.2 in
-        both_ways (is_nontrivial g.order (canonical_shore g.order (mem (rising_list g.order x)))) narrow (listed_wide g.order x wide)
+        both_ways (is_nontrivial g.order (canonical_shore g.order (mem (rising_list g.order (pair_shore g u v k.0))))) narrow k.3
+
+    -- so the shores at a cut pair give a cut
+    pub pair_own_cut : (u v : ℕ) → IsCutPair g u v → cuts_of g.order (shores_at_pair g (u, v)) ≢ []
+    unfolding components
+    pair_own_cut u v c e =
+        let k = wide_shore u v c in
+        let P = λ (s : List ℕ). is_nontrivial g.order (canonical_shore g.order (mem s)) ≡ false in
+        let narrow = rising_all g.order (is_least g (pair_set u v)) (λ a. P (rising_list g.order (pair_shore g u v a)))
+        (map_all (λ s. P (rising_list g.order (union (mem s) (singleton u)))) (λ a. rising_list g.order (joined g (pair_set u v) a)) (rising_list g.order (is_least g (pair_set u v)))
+        (map_all P (λ s. rising_list g.order (union (mem s) (singleton u))) (components g (pair_set u v)) (cuts-some g.order (shores_at_pair g (u, v)) e))) k.0 k.1 k.2 in
+        both_ways (is_nontrivial g.order (canonical_shore g.order (mem (rising_list g.order (pair_shore g u v k.0))))) narrow k.3
 
     pub pair_some_cut : (u v : ℕ) → IsCutPair g u v → separation_cuts g ≢ []
     pair_some_cut u v c e = elim (cases_lt u v) [

@@ -1,15 +1,17 @@
 //! The cuts that cut pairs give.
-ghost use Rattle.std.specs.Prelude.{◌≡◌, ◌≤◌, fold, map, All, IfOk, OnOk};
+ghost use Rattle.std.specs.Prelude.{◌≡◌, ◌≤◌, fold, map, slice_get, All, IfOk, OnOk};
+ghost use Rattle.std.specs.Option.{option_map};
 ghost use Rattle.counting.specs.Counts.{Within};
 ghost use Rattle.counting.specs.Sets.{singleton, union};
 ghost use Rattle.counting.specs.Lists.{mem, rising_list, IsRisingIn};
 ghost use Rattle.graph_core.specs.Covered.{IsCovered};
-ghost use Rattle.graph_core.specs.Structure.{IsBicritical};
+ghost use Rattle.graph_core.specs.Structure.{IsBicritical, cut_pair};
 ghost use Rattle.barrier_kit.specs.CanonicalCuts.{with_cut};
+ghost use Rattle.separation_kit.specs.Pairs.{pair_of};
 ghost use Rattle.separation_kit.specs.SeparationShores.{separation_cuts};
 
 use crate::critical::{is_cut_pair, parts_without};
-use crate::pair::all_pairs;
+use crate::pair::{Pair, all_pairs};
 use barrier_kit::add_cut;
 use graph_core::{MultiGraph, SetList};
 use std::alloc::{AllocError as Memory, Global};
@@ -58,4 +60,30 @@ pub fn separation_cuts(alloc: Global, g: &MultiGraph) -> Result<SetList, Memory>
         }
     }
     Ok(cuts)
+}
+
+/// The first of the cuts that `separation_cuts` lists, from the first cut pair of `g`.
+pub fn first_separation_cut(
+    alloc: Global,
+    g: &MultiGraph,
+    pair: Option<Pair>,
+) -> Result<Option<VSet>, Memory>
+    requires bicritical { IsBicritical g.now }
+    requires four { 4 ≤ g.now.order }
+    requires pair { option_map pair_of pair ≡ cut_pair g.now }
+    ensures { IfOk result (λ cut. cut ≡ slice_get (separation_cuts g.now) 0) }
+{
+    g.keeps_limits();
+    match pair {
+        None => Ok(None),
+        Some(pair) => {
+            let parts = parts_without(alloc, g, pair.a, pair.b)?;
+            let mut cuts = SetList::new(alloc);
+            add_with_vertex(&mut cuts, g.order(), &parts, pair.a)?;
+            if cuts.is_empty() {
+                return Ok(None);
+            }
+            Ok(Some(cuts.get(0)))
+        }
+    }
 }

@@ -37,8 +37,8 @@ pub struct Candidate {
 }
 
 impl Candidate {
-    // The candidate of a shore within the vertices 1 to n.
-    fn new(n: u32, origin: Origin, shore: VSet) -> Candidate
+    /// The candidate of a shore within the vertices 1 to n.
+    pub(crate) fn new(n: u32, origin: Origin, shore: VSet) -> Candidate
         requires vertices { n ≤ MOST_VERTICES }
         requires shore { IsRisingIn n shore }
         ensures { candidate_of result ≡ candidate_at n (origin_of origin) shore }

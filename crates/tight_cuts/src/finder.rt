@@ -8,10 +8,13 @@ ghost use Rattle.counting.specs.Sets.{Set, none};
 ghost use Rattle.graph_core.specs.Covered.{IsCovered};
 ghost use Rattle.graph_core.specs.Graph.{in_cut, size};
 ghost use Rattle.graph_core.specs.Matchings.{IsPerfect, Together};
+ghost use Rattle.graph_core.specs.Structure.{IsBicritical, cut_pair};
 ghost use Rattle.graph_core.specs.Tight.{IsNontrivial, IsTight};
 ghost use Rattle.match_core.specs.MatchingRows.{IsOf, edges_of};
+ghost use Rattle.match_core.specs.Partners.{ArePartners};
 ghost use Rattle.allowed_edges.specs.PairTables.{edge_lists, holds_both};
 ghost use Rattle.barrier_kit.specs.BarrierCuts.{IsSide};
+ghost use Rattle.separation_kit.specs.Pairs.{pair_of};
 ghost use Rattle.tight_cuts.specs.Candidates.{IsTightCandidate, ShoresDiffer, candidates, cuts, first_of, first_shore, front_candidates, with_edge_cut};
 ghost use Rattle.tight_cuts.specs.EdgeSearch.{AreWeights};
 ghost use Rattle.tight_cuts.specs.View.{candidate_of};
@@ -19,12 +22,13 @@ ghost use Rattle.tight_cuts.specs.View.{candidate_of};
 use crate::bipartite::bipartite_shore_of_edge;
 use crate::candidate::{Candidate, CandidateList, Origin, add_shore, any_cuts};
 use crate::edge_search::{Weights, leaders_at, shore_of_edge};
-use crate::front::front_candidates;
+use crate::front::{first_front_candidate, front_candidates, pair_where_bicritical};
 use crate::pieces::weights_of;
 use allowed_edges::{PairTable, together};
 use graph_core::MultiGraph;
-use match_core::{Matching, perfect_without};
+use match_core::{Matching, PartnerTable, all_partners, perfect_without};
 use matching_digraph::side_of;
+use separation_kit::Pair;
 use std::alloc::{AllocError as Memory, Global};
 use vset_core::VSet;
 
@@ -221,20 +225,46 @@ pub fn first_candidate(alloc: Global, g: &MultiGraph) -> Result<Option<Candidate
     ensures some { IfOk result (λ found. (c : _) → found ≡ Some c → IsTightCandidate g.now (candidate_of c)) }
     ensures none { IfOk result (λ found. (found ≡ None) ↔ ((x : Set) → IsTight g.now x → IsNontrivial g.now.order x → ⊥)) }
 {
+    let table = all_partners(alloc, g)?;
+    let pair = pair_where_bicritical(alloc, g, &table)?;
+    first_candidate_in(alloc, g, &table, pair)
+}
+
+/// The candidate that `first_candidate` answers, from the table of partners of `g` and its first cut pair; the pair tells only where
+/// `g` is bicritical.
+pub fn first_candidate_in(
+    alloc: Global,
+    g: &MultiGraph,
+    table: &PartnerTable,
+    pair: Option<Pair>,
+) -> Result<Option<Candidate>, Memory>
+    requires covered { IsCovered g.now }
+    requires table { ArePartners g.now none table.now }
+    requires pair { IsBicritical g.now → option_map pair_of pair ≡ cut_pair g.now }
+    ensures first { IfOk result (λ found. option_map candidate_of found ≡ first_of (candidates g.now)) }
+    ensures some { IfOk result (λ found. (c : _) → found ≡ Some c → IsTightCandidate g.now (candidate_of c)) }
+    ensures none { IfOk result (λ found. (found ≡ None) ↔ ((x : Set) → IsTight g.now x → IsNontrivial g.now.order x → ⊥)) }
+{
     g.keeps_limits();
-    let found = first_found(alloc, g)?;
+    let found = first_found(alloc, g, table, pair)?;
     Ok(found)
 }
 
 // The first candidate.
-fn first_found(alloc: Global, g: &MultiGraph) -> Result<Option<Candidate>, Memory>
-    requires { IsCovered g.now }
+fn first_found(
+    alloc: Global,
+    g: &MultiGraph,
+    table: &PartnerTable,
+    pair: Option<Pair>,
+) -> Result<Option<Candidate>, Memory>
+    requires covered { IsCovered g.now }
+    requires table { ArePartners g.now none table.now }
+    requires pair { IsBicritical g.now → option_map pair_of pair ≡ cut_pair g.now }
     ensures { IfOk result (λ found. option_map candidate_of found ≡ first_of (candidates g.now)) }
 {
     g.keeps_limits();
-    let front = front_candidates(alloc, g)?;
-    if !front.is_empty() {
-        return Ok(Some(front.get(0)));
+    if let Some(first) = first_front_candidate(alloc, g, table, pair)? {
+        return Ok(Some(first));
     }
     match side_of(alloc, g)? {
         Some(side) => first_bipartite_cut(alloc, g, side),
@@ -250,7 +280,27 @@ pub fn find_any(alloc: Global, g: &MultiGraph) -> Result<Option<VSet>, Memory>
     ensures some { IfOk result (λ found. (s : _) → found ≡ Some s → IsTight g.now (mem s) × IsNontrivial g.now.order (mem s)) }
     ensures none { IfOk result (λ found. (found ≡ None) ↔ ((x : Set) → IsTight g.now x → IsNontrivial g.now.order x → ⊥)) }
 {
-    match first_candidate(alloc, g)? {
+    let table = all_partners(alloc, g)?;
+    let pair = pair_where_bicritical(alloc, g, &table)?;
+    find_any_in(alloc, g, &table, pair)
+}
+
+/// The shore that `find_any` answers, from the table of partners of `g` and its first cut pair; the pair tells only where `g` is
+/// bicritical.
+pub fn find_any_in(
+    alloc: Global,
+    g: &MultiGraph,
+    table: &PartnerTable,
+    pair: Option<Pair>,
+) -> Result<Option<VSet>, Memory>
+    requires covered { IsCovered g.now }
+    requires table { ArePartners g.now none table.now }
+    requires pair { IsBicritical g.now → option_map pair_of pair ≡ cut_pair g.now }
+    ensures first { IfOk result (λ found. found ≡ first_shore (candidates g.now)) }
+    ensures some { IfOk result (λ found. (s : _) → found ≡ Some s → IsTight g.now (mem s) × IsNontrivial g.now.order (mem s)) }
+    ensures none { IfOk result (λ found. (found ≡ None) ↔ ((x : Set) → IsTight g.now x → IsNontrivial g.now.order x → ⊥)) }
+{
+    match first_candidate_in(alloc, g, table, pair)? {
         Some(candidate) => Ok(Some(candidate.shore)),
         None => Ok(None),
     }

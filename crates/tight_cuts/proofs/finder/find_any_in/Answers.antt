@@ -1,7 +1,7 @@
 use Rattle.std.proofs.Common.{ℕ, ap, List, [], Option, subst, unwrap_or}
 use Rattle.counting.specs.Lists.{mem}
 use Rattle.graph_core.specs.Tight.{IsNontrivial, IsTight}
-use Rattle.tight_cuts.proofs.finder.find_any.Goals as goal
+use Rattle.tight_cuts.proofs.finder.find_any_in.Goals as goal
 
 pub returns-in-Some-clause-some : goal.returns-in-Some-clause-some
 returns-in-Some-clause-some c s is =
