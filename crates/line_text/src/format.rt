@@ -1,3 +1,4 @@
+//! A format as three rules: for the header, for each further line, and for the end.
 ghost use Rattle.std.specs.Prelude.{◌≡◌};
 
 use std::alloc::{AllocError, AllocFailed};

@@ -1,3 +1,4 @@
+//! Laws of formats: a text stands for one value or has one first fault, and comments change neither.
 ghost use Rattle.std.specs.Prelude.{◌≡◌, ◌<◌, ◌⊎◌, ◌^◌, ℕ, List, ◌++◌, true, Option, Some, None, Ok};
 ghost use Rattle.std.specs.Fmt.{decimal};
 ghost use Rattle.std.specs.List.{AllByRecursion};

@@ -1,3 +1,4 @@
+//! The lines of a text: where each ends, and which of them are significant.
 ghost use Rattle.std.specs.Prelude.{◌≡◌, ◌<◌, ◌≤◌, ◌↔◌, ◌∷◌, [], length, IsNone, IfSome, position};
 ghost use Rattle.std.specs.List.{before_first, after_first, position_or_len};
 ghost use Rattle.line_text.specs.Lines.{is_line_feed, lines_of};

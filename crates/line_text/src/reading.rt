@@ -1,3 +1,5 @@
+//! One reader for all formats: it takes the significant lines in order, and answers the value that the text stands for, or its first
+//! fault.
 ghost use Rattle.std.specs.Prelude.{◌≡◌, ◌<◌, ◌-◌, ◌^◌, ℕ, map, length, IfOk, IfErr, Ok, Err};
 ghost use Rattle.std.specs.Option.{option_map};
 ghost use Rattle.line_text.specs.Words.{words_of};

@@ -1,4 +1,4 @@
-// A sink that counts bytes and keeps none.
+//! A sink that counts bytes and keeps none.
 ghost use Rattle.std.specs.Prelude.{◌≡◌, ◌+◌, ◌-◌, ◌^◌, Ok, length, min};
 ghost use Rattle.std.specs.declared.option.Option.TheVariants.{None};
 

@@ -1,4 +1,4 @@
-// A shelf of the files that a runtime reaches by name.
+//! A shelf of the files that a runtime reaches by name.
 ghost use Rattle.std.specs.Prelude.{◌≡◌, ◌≤◌, ◌<◌, ◌-◌, ◌+◌, ◌^◌, ◌⊎◌, length, false, IfOk, IsErrOf};
 ghost use Rattle.std.specs.declared.option.Option.TheVariants.{None};
 ghost use Rattle.std.proofs.Common.{rules};

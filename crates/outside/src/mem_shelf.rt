@@ -1,4 +1,4 @@
-// A shelf in memory, some of whose reads fail.
+//! A shelf in memory, some of whose reads fail.
 ghost use Rattle.std.specs.Prelude.{◌≡◌, ◌≤◌, ◌<◌, ◌-◌, ◌^◌, ◌==◌, ◌++◌, ◌∷◌, [], ◌↔◌, ◌⊎◌, IfOk, OnOk, OnErr, IsErrOf, Contains, length};
 ghost use Rattle.std.specs.declared.option.Option.TheVariants.{Some};
 ghost use Rattle.std.specs.Option.{option_map};

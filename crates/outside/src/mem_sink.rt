@@ -1,4 +1,4 @@
-// A sink in memory, some of whose writes fail.
+//! A sink in memory, some of whose writes fail.
 ghost use Rattle.std.specs.Prelude.{◌≡◌, ◌≤◌, ◌++◌, ◌∷◌, [], ◌↔◌, IfOk, OnOk, OnErr, IsErr, Contains, length, take};
 ghost use Rattle.std.specs.declared.option.Option.TheVariants.{Some};
 ghost use Rattle.outside.specs.Faults.{next_call, next_fault, faults_after};

@@ -1,4 +1,4 @@
-// A sink that is the standard output of a runtime.
+//! A sink that is the standard output of a runtime.
 ghost use Rattle.std.specs.Prelude.{◌≡◌, ◌≤◌, IfOk, OnErr, length};
 ghost use Rattle.std.specs.declared.option.Option.TheVariants.{None};
 ghost use Rattle.outside.specs.Faults.{next_fault, faults_after};

@@ -1,4 +1,4 @@
-// The calls that are planned to fail, kept by their numbers.
+//! The calls that are planned to fail, kept by their numbers.
 ghost use Rattle.std.specs.Prelude.{◌↔◌, Contains, IsTrue};
 
 // The call is among those that are to fail.

@@ -1,4 +1,4 @@
-// A place that gives the bytes of a file by its name.
+//! A place that gives the bytes of a file by its name.
 ghost use Rattle.std.specs.Prelude.{◌≡◌, ◌≤◌, ◌<◌, ◌-◌, ◌^◌, ℕ, List, Bool, IsTrue, IsSome, IfOk, IsErrOf, length};
 ghost use Rattle.std.specs.declared.option.Option.{Option};
 ghost use Rattle.std.specs.declared.option.Option.TheVariants.{None, Some};

@@ -1,4 +1,4 @@
-// The worked reports of `analyse`, `convert` and `analyse6`.
+//! The worked reports of `analyse`, `convert` and `analyse6`.
 use crate::graphs::{K4, K4_REPORT, NAMED_CYCLE, cycle};
 use crate::trial::{Row, answers, first_wrong, report};
 use bench_top::Status;

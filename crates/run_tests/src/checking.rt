@@ -1,4 +1,4 @@
-// Worked trees and ear lists, given and built, and their refusals.
+//! Worked trees and ear lists, given and built, and their refusals.
 use crate::graphs::{CUBE, HEXAGON, K4, PATH, PETERSEN, PRISM, TRIANGLE_IN_K33, TWO_EDGES};
 use crate::trial::{Row, answers, first_wrong, report};
 use bench_top::Status;

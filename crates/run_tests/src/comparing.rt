@@ -1,5 +1,5 @@
-// Worked comparisons of two trees, and their refusals; and over a table of graphs each derivation with each other: the script between
-// them is replayed.
+//! Worked comparisons of two trees, and their refusals; and over a table of graphs each derivation with each other: the script between
+//! them is replayed.
 use crate::graphs::{
     HEXAGON, HEXAGON_TREE, K4, OCTAGON, OTHER_HEXAGON_TREE, TRIANGLE_IN_K33, TWO_EDGES, TWO_K4,
     cycle,

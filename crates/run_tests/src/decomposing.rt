@@ -1,4 +1,4 @@
-// Worked decompositions, in named orders and in those of pick files, and their refusals.
+//! Worked decompositions, in named orders and in those of pick files, and their refusals.
 use crate::graphs::{HEXAGON, TRIANGLE_IN_K33, TWO_K4, cycle};
 use crate::trial::{Row, first_wrong, report};
 use bench_top::Status;

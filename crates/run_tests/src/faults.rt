@@ -1,5 +1,5 @@
-// Faults of the outside, over all commands: each read and each write fails in turn, each file is missing in turn, the room is too small,
-// and nothing fails.
+//! Faults of the outside, over all commands: each read and each write fails in turn, each file is missing in turn, the room is too small,
+//! and nothing fails.
 use crate::graphs::{
     CUBE, HEXAGON, HEXAGON_TREE, K4, NAMED_CYCLE, OTHER_HEXAGON_TREE, PATH, PRISM, TWO_EDGES,
 };

@@ -1,4 +1,4 @@
-// The graphs of the tests, as files.
+//! The graphs of the tests, as files.
 use std::alloc::Global;
 use std::test::Fail;
 

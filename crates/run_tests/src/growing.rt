@@ -1,4 +1,4 @@
-// Graphs that grow from numbers, with their leaves.
+//! Graphs that grow from numbers, with their leaves.
 use crate::trial::{Row, first_wrong, report};
 use bench_top::Status;
 use std::test::Fail;

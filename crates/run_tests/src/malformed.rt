@@ -1,4 +1,4 @@
-// Files outside their format: for each format each row of its table of faults, with the line and the kind of the first fault.
+//! Files outside their format: for each format each row of its table of faults, with the line and the kind of the first fault.
 use crate::graphs::{HEXAGON, HEXAGON_TREE, K4, TWO_EDGES};
 use crate::trial::{Row, answers, first_wrong};
 use bench_top::Status;

@@ -1,4 +1,4 @@
-// Worked scripts of moves between derivations, made and replayed, and moves that fail.
+//! Worked scripts of moves between derivations, made and replayed, and moves that fail.
 use crate::graphs::{HEXAGON, HEXAGON_TREE, OTHER_HEXAGON_TREE};
 use crate::trial::{Row, answers, first_wrong, report};
 use bench_top::Status;

@@ -1,4 +1,4 @@
-// Runs of the top call over files in memory.
+//! Runs of the top call over files in memory.
 use bench_top::{Status, run};
 use outside::{MemShelf, MemSink};
 use std::alloc::Global;

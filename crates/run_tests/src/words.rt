@@ -1,4 +1,4 @@
-// Words that match no row of the table of words.
+//! Words that match no row of the table of words.
 use crate::graphs::HEXAGON;
 use crate::trial::{ran_over, shelf_of};
 use bench_top::Status;

@@ -1,0 +1,8 @@
+use Rattle.std.proofs.Common.{◌≡◌, ◌≤◌}
+use Rattle.counting.specs.Counts.{count}
+use Rattle.counting.specs.Lists.{mem}
+use Rattle.graph_core.specs.Graph.{in_cut}
+use Rattle.own_order.proofs.widest_cuts.cut_width.Given as goal
+
+abbrev pub invariant-loop-k : goal.invariant-loop-k
+invariant-loop-k l = record { width : l.width ≡ count l.k (in_cut l.g (mem l.shore)); few : l.width ≤ l.k }

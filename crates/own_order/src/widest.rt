@@ -1,0 +1,90 @@
+//! A decomposition in this order, and its judgement.
+ghost use Rattle.std.specs.Prelude.{◌≡◌, ◌<◌, ◌-◌, ◌^◌, ℕ, length, IfOk, Err};
+ghost use Rattle.graph_core.specs.Covered.{IsReason};
+ghost use Rattle.graph_core.specs.Verdicts.{reason_of};
+ghost use Rattle.graph_core.specs.declared.faults.TextFault.{TextFault};
+ghost use Rattle.graph_core.specs.declared.verdict.Reason.{Reason};
+ghost use Rattle.line_text.specs.Format.{Stands};
+ghost use Rattle.text_faults.specs.Readings.{IsFirstFault};
+ghost use Rattle.graph_text.specs.EitherVersion.{either_version};
+ghost use Rattle.graph_text.specs.SoFar.{named_graph};
+ghost use Rattle.tree_core.specs.Derivations.{IsDerivation};
+ghost use Rattle.tree_core.specs.View.{shape_of};
+ghost use Rattle.decomposer.specs.Picked.{IsPicked};
+ghost use Rattle.own_order.specs.Failures.{IsUncovered};
+ghost use Rattle.own_order.specs.WidestCuts.{PicksWidest};
+
+use crate::widest_cuts::widest_place;
+use decomposer::{Order, Refused, decompose};
+use graph_core::{MultiGraph, Reason, TextFault};
+use graph_text::{Named, read_any};
+use std::alloc::Global;
+use tight_cuts::Candidate;
+use tree_check::{Judgement, check};
+use tree_core::Tree;
+
+/// Why there is no decomposition.
+#[derive(Drop)]
+pub enum Failed {
+    /// The text is none of a graph: its first fault, or want of memory.
+    Text(TextFault),
+    /// The graph is not matching covered, for this reason.
+    NotCovered(Reason),
+    /// Want of memory.
+    Memory,
+}
+
+/// A graph with the names of its vertices, a derivation of it, and what `check` says of that.
+#[derive(Drop)]
+pub struct Decomposed {
+    pub named: Named,
+    pub tree: Tree,
+    pub judgement: Judgement,
+}
+
+// The derivation in the order of the widest cuts.
+fn widest_tree(alloc: Global, g: &MultiGraph) -> Result<Tree, Failed>
+    ensures derivation { IfOk result (λ tree. IsDerivation g.now (shape_of tree)) }
+    ensures picked { IfOk result (λ tree. IsPicked (PicksWidest g.now) g.now (shape_of tree)) }
+    ensures uncovered { (reason : Reason) → result ≡ Err (Failed.NotCovered reason)
+        → IsReason g.now (reason_of reason) }
+    ensures text { (fault : TextFault) → result ≡ Err (Failed.Text fault) → ⊥ }
+{
+    let order = Order::new(|list: &[Candidate], _cuts: usize| widest_place(g, list));
+    match decompose(alloc, g, &order) {
+        Ok(tree) => Ok(tree),
+        Err(Refused::NotCovered(reason)) => Err(Failed::NotCovered(reason)),
+        Err(Refused::Memory) => Err(Failed::Memory),
+    }
+}
+
+/// Reads the text of a graph, in either version of the graph format, decomposes the graph by the widest cuts, and has the
+/// derivation judged. `Text` comes exactly where the text stands for no graph, with its first fault, or for want of memory;
+/// `NotCovered` exactly where the graph is not matching covered.
+pub fn decompose_widest(alloc: Global, text: &[u8]) -> Result<Decomposed, Failed>
+    requires { length text.now < 2 ^ 32 - 1 }
+    ensures stands { IfOk result (λ made. Stands either_version text.now (named_graph made.named)) }
+    ensures derivation { IfOk result (λ made.
+        IsDerivation made.named.graph (shape_of made.tree)) }
+    ensures picked { IfOk result (λ made.
+        IsPicked (PicksWidest made.named.graph) made.named.graph (shape_of made.tree)) }
+    ensures accepted { IfOk result (λ made. made.judgement ≡ Judgement.Accepted) }
+    ensures text { (fault : TextFault) → result ≡ Err (Failed.Text fault)
+        → IsFirstFault either_version text.now fault }
+    ensures uncovered { (reason : Reason) → result ≡ Err (Failed.NotCovered reason)
+        → IsUncovered text.now reason }
+{
+    let named = match read_any(alloc, text) {
+        Ok(named) => named,
+        Err(fault) => return Err(Failed::Text(fault)),
+    };
+    let tree = widest_tree(alloc, &named.graph)?;
+    let Ok(judgement) = check(alloc, &named.graph, &tree) else {
+        return Err(Failed::Memory);
+    };
+    Ok(Decomposed {
+        named,
+        tree,
+        judgement,
+    })
+}

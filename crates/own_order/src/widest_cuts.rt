@@ -1,0 +1,47 @@
+//! The order: at each choice the first candidate whose cut has the most edges.
+ghost use Rattle.std.specs.Prelude.{◌≡◌, ◌<◌, ◌≤◌, length};
+ghost use Rattle.counting.specs.Counts.{Within, count};
+ghost use Rattle.counting.specs.Lists.{mem};
+ghost use Rattle.graph_core.specs.Graph.{in_cut, size};
+ghost use Rattle.own_order.specs.WidestCuts.{IsWidest};
+
+use graph_core::MultiGraph;
+use tight_cuts::Candidate;
+use vset_core::VSet;
+
+// Whether exactly one end of the edge is in the shore.
+fn is_in_cut(g: &MultiGraph, shore: VSet, edge: u32) -> bool
+    requires { Within (size g.now) edge }
+    ensures { result ≡ in_cut g.now (mem shore) edge }
+{
+    let ends = g.ends(edge);
+    shore.contains(ends.a) != shore.contains(ends.b)
+}
+
+/// The number of edges in the cut of a set of vertices.
+pub fn cut_width(g: &MultiGraph, shore: VSet) -> u32
+    ensures { result ≡ count (size g.now) (in_cut g.now (mem shore)) }
+{
+    g.keeps_limits();
+    let mut width = 0;
+    for k in 0..g.size() {
+        if is_in_cut(g, shore, k + 1) {
+            width += 1;
+        }
+    }
+    width
+}
+
+/// The place of the first candidate whose cut has the most edges.
+pub fn widest_place(g: &MultiGraph, list: &[Candidate]) -> usize
+    requires { 0 < length list.now }
+    ensures { IsWidest g.now list.now result }
+{
+    let mut best = 0;
+    for place in 1..list.len() {
+        if cut_width(g, list[best].shore) < cut_width(g, list[place].shore) {
+            best = place;
+        }
+    }
+    best
+}
