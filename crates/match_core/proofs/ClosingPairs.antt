@@ -10,7 +10,7 @@ use Rattle.counting.specs.Lists.{mem}
 use Rattle.graph_core.proofs.Edits.{degree_put, ends_of_is}
 use Rattle.graph_core.specs.Graph.{Graph, HasEnds, degree, size}
 use Rattle.graph_core.specs.Matchings.{IsMatching}
-use Rattle.match_core.specs.Blossoms.{AreClosingWays, HoldsBlossom, IsAugmented, second_start}
+use Rattle.match_core.specs.Blossoms.{AreClosingWays, ExposesOnly, HoldsBlossom, IsAugmented, second_start}
 use Rattle.match_core.specs.Forests.{IsAlternating, flipped}
 use Rattle.match_core.specs.Frames.{IsNearPerfect}
 use Rattle.match_core.specs.Mates.{HasMates, with_pair, flipped_mates, cleared_mates}
@@ -23,8 +23,8 @@ use Rattle.match_core.proofs.Alike.{cycle_alike}
 use Rattle.match_core.proofs.AlternatingPaths.{augmented, flipped_elsewhere, flipped_off}
 use Rattle.match_core.proofs.ClosingEdges.{around, cycle, edges_around, even_j, high, low, spot, stem_count, stem_free, stem_holds, stem_matching}
 use Rattle.match_core.proofs.Forests.{met}
-use Rattle.match_core.proofs.MatePairs.{flipped_pairs, joined_pairs}
-use Rattle.match_core.proofs.OddCycles.{every_other-near_perfect, same_ends}
+use Rattle.match_core.proofs.MatePairs.{flipped_exposes, flipped_pairs, joined_pairs}
+use Rattle.match_core.proofs.OddCycles.{cycle_holds, every_other-near_perfect, same_ends}
 use Rattle.match_core.proofs.Shrinking.{bit_minus, degree_split}
 
 -- the mates of a set that answers the same
@@ -263,3 +263,22 @@ module _ (g : Graph) (r f : Set) (mate : List ℕ) (w : Ways) (are : AreClosingW
 
         sm : ℕ → ℕ
         sm = flipped_mates (numbers mate) Q (j / 2)
+
+    pub blossom_exposes : (ring : Blossom) → suc n ≡ length cs → ((v : ℕ) → mem ring.members v ≡ listed (length cs - 1) (numbers cs) v) → (new : List ℕ) →
+        ((u : ℕ) → numbers new u ≡ cleared_mates (flipped_mates (numbers mate) Q (j / 2)) (length cs - 1) (numbers cs) u) → ExposesOnly mate new ring
+    blossom_exposes ring long members new mates v z = elim (cases_Bool (listed (length cs - 1) (numbers cs) v)) [
+      | inl t ↦ inl (members v ∙ t)
+      | inr t ↦ elim (flipped_exposes (numbers mate) Q (j / 2) (λ i b q. let w = qq.path.within i (let h = half_in in omega arith) in omega arith) v (sym (ap (λ b. cond b 0 (flipped_mates (numbers mate) Q (j / 2) v)) t) ∙ sym (mates v) ∙ z)) [
+        | inl q ↦ absurd (both_ways (listed (length cs - 1) (numbers cs) v) t (ap (listed (length cs - 1) (numbers cs)) (q ∙ ap Q (sym half_is) ∙ base) ∙ subst (λ (k : ℕ). listed k (numbers cs) (numbers cs 1) ≡ true) size (cycle_holds g r n (numbers cs) edge_round blossom_cycle 1 (omega arith))))
+        | inr q ↦ inr q
+      ]
+    ]
+      where
+        size : n ≡ length cs - 1
+        size = omega arith
+
+        plus_zero : (a b : ℕ) → a + b ≡ a + b + 0
+        plus_zero a b = omega arith
+
+        base : Q j ≡ numbers cs 1
+        base = ap (numbers w.row.items) (plus_zero (second_start w) j) ∙ sym (c_low 0 (omega arith))

@@ -1,6 +1,6 @@
 -- Matchings by mates: mates are mates of each other, and a path exchanged by mates is the path exchanged by edges.
 -- Two edges of a matching at one vertex are one edge, so the mate of a mate is the vertex itself.
-use Rattle.std.proofs.Common.{◌≡◌, ◌≢◌, ℕ, zero, suc, ◌+◌, ◌≤◌, Bool, true, false, cond, ◌==◌, refl, sym, ap, ◌∙◌, arith, eq-eqb, ne_eqb, inl, inr, subst}
+use Rattle.std.proofs.Common.{◌≡◌, ◌≢◌, ℕ, zero, suc, ◌+◌, ◌≤◌, Bool, true, false, cond, ◌==◌, refl, sym, ap, ◌∙◌, arith, eq-eqb, ne_eqb, inl, inr, subst, ◌⊎◌}
 use Rattle.std.proofs.lemmas.Bool.{cases_eq}
 use Rattle.counting.specs.Counts.{Within, bit}
 use Rattle.counting.specs.Sets.{Set, put}
@@ -158,3 +158,27 @@ joined_pairs g r m mate a v w has mm wa ends vw same wv ww = record {
     ]
   ];
 }
+
+-- along a flipped path the last vertex alone is newly exposed
+pub flipped_exposes : (mate v : ℕ → ℕ) (k : ℕ) → ((i : ℕ) → i ≤ k + k → v i ≢ 0) → (u : ℕ) → flipped_mates mate v k u ≡ 0 → (u ≡ v (k + k)) ⊎ (mate u ≡ 0)
+flipped_exposes mate v zero real u z = inr z
+flipped_exposes mate v (suc k) real u z = elim (cases_eq u (v (suc (suc (k + k))))) [
+  | inl q ↦ inl (q ∙ ap v (two k))
+  | inr last ↦
+      let pair = sym (with_there (with_pair (flipped_mates mate v k) (v (k + k)) (v (suc (k + k)))) (v (suc (suc (k + k)))) 0 u last) ∙ z in
+      elim (cases_eq u (v (suc (k + k)))) [
+        | inl q ↦ absurd (real (k + k) (omega arith) (sym (with_here (with_mate (flipped_mates mate v k) (v (k + k)) (v (suc (k + k)))) (v (suc (k + k))) (v (k + k)) u q) ∙ pair))
+        | inr second ↦
+            let single = sym (with_there (with_mate (flipped_mates mate v k) (v (k + k)) (v (suc (k + k)))) (v (suc (k + k))) (v (k + k)) u second) ∙ pair in
+            elim (cases_eq u (v (k + k))) [
+              | inl q ↦ absurd (real (suc (k + k)) (omega arith) (sym (with_here (flipped_mates mate v k) (v (k + k)) (v (suc (k + k))) u q) ∙ single))
+              | inr first ↦ elim (flipped_exposes mate v k (λ i l. real i (omega arith)) u (sym (with_there (flipped_mates mate v k) (v (k + k)) (v (suc (k + k))) u first) ∙ single)) [
+                | inl q ↦ absurd (first q)
+                | inr q ↦ inr q
+              ]
+            ]
+      ]
+]
+  where
+    two : (k : ℕ) → suc (suc (k + k)) ≡ suc k + suc k
+    two k = omega arith

@@ -1,13 +1,13 @@
 -- One augmentation by mates: what its parts hand to one another.
-use Rattle.std.proofs.Common.{◌≡◌, ℕ, ◌<◌, refl, ap, ◌∙◌, arith, subst₂, length, List, not, ◌&&◌, nat_lt, nat_le, lt-ltb, Some, None}
+use Rattle.std.proofs.Common.{◌≡◌, ℕ, ◌<◌, refl, ap, ◌∙◌, arith, subst₂, length, List, not, ◌&&◌, nat_lt, nat_le, lt-ltb, Some, None, Bool, true, false, ◌==◌, ◌||◌, ◌⊎◌, sym, inl, inr}
 use mathlib.Core.Path.{fun_ext}
-use Rattle.std.proofs.lemmas.Bool.{and_from, le-leb}
+use Rattle.std.proofs.lemmas.Bool.{and_from, le-leb, and_parts, or_left, or_right, true≢false}
 use Rattle.counting.proofs.Totals.{total_congr}
 use Rattle.counting.specs.Counts.{bit, count}
 use Rattle.counting.specs.Sets.{Set, complement}
 use Rattle.counting.specs.Lists.{mem}
 use Rattle.graph_core.specs.Graph.{Graph}
-use Rattle.match_core.specs.AlternatingForests.{HoldsMatching, IsGrowth}
+use Rattle.match_core.specs.AlternatingForests.{HoldsMatching, IsGrowth, MayBeExposed}
 use Rattle.match_core.specs.Blossoms.{ClosesForest, HoldsBlossom, IsCompleted, IsMateStep, MayOpen, blossom_length, removed_with, without_blossom}
 use Rattle.match_core.specs.Instances.{IsInstance}
 use Rattle.match_core.specs.OddCycles.{listed}
@@ -29,6 +29,21 @@ use Rattle.match_core.proofs.ShrunkInstances.{shrunk_instance}
 pub left_count : (g : Graph) (r : Set) (s : Instance) → IsInstance g r s → count (length s.rows.items) (mem s.left) ≡ count g.order (complement r)
 left_count g r s is = ap (λ (n : ℕ). count n (mem s.left)) is.one_each
     ∙ total_congr g.order (λ v. bit (mem s.left v)) (λ v. bit (not (r v))) (λ v w. ap bit (is.left v ∙ ap (λ b. b && not (r v)) (and_from (nat_lt 0 v) (nat_le v g.order) (lt-ltb 0 v (omega arith)) (le-leb v g.order (omega arith)))))
+
+-- a vertex that is left after a shrinking and exposed is the base, or was exposed before
+pub candidates_below : (s h : Instance) (ring : List ℕ) (base : ℕ) → IsShrinking s (mem ring) base h → (candidates more before after : List ℕ) → MayBeExposed s.left before candidates
+    → ((v : ℕ) → numbers after v ≡ 0 → (mem ring v ≡ true) ⊎ (numbers before v ≡ 0)) → ((v : ℕ) → mem more v ≡ (mem candidates v || (base == v))) → MayBeExposed h.left after more
+candidates_below s h ring base shrink candidates more before after may exposes more_is v l z =
+    let a = and_parts (mem s.left v) (not (mem ring v && not (base == v))) (sym (shrink.left v) ∙ l) in
+    more_is v ∙ elim (exposes v z) [
+      | inl m ↦ or_right (mem candidates v) (base == v) (only_base (mem ring v) (base == v) m a.1)
+      | inr q ↦ or_left (mem candidates v) (base == v) (may v a.0 q)
+    ]
+  where
+    only_base : (a b : Bool) → a ≡ true → not (a && not b) ≡ true → b ≡ true
+    only_base true true p q = refl
+    only_base true false p q = absurd (true≢false (sym q))
+    only_base false b p q = absurd (true≢false (sym p))
 
 module _ (g : Graph) (r f : Set) (s : Instance) (mate : List ℕ) (is : HoldsMatching g r f s mate) where
   pub growth_closes : (t : Growth) (o : Adjacent) → IsGrowth g r f s mate t → t.closing ≡ Some o → ClosesForest g r f mate t.forest o

@@ -1,7 +1,7 @@
 -- Forests by parents: the first one, one more branch, and the last one as a frame.
 -- The path of a new outer vertex is that of its grandparent, and on by its mate; all other paths stay.
-use Rattle.std.proofs.Common.{◌≡◌, ◌≢◌, ℕ, suc, ◌+◌, Bool, true, false, cond, ◌==◌, refl, sym, ap, ◌∙◌, arith, eq-eqb, ne_eqb, inl, inr, not, ◌&&◌, ◌||◌, nat_lt, nat_le, length, List}
-use Rattle.std.proofs.lemmas.Bool.{cases_eq, both_ways, and_parts, leb-true}
+use Rattle.std.proofs.Common.{◌≡◌, ◌≢◌, ℕ, suc, ◌+◌, Bool, true, false, cond, ◌==◌, refl, sym, ap, ◌∙◌, arith, eq-eqb, eqb-true, ne_eqb, inl, inr, not, ◌&&◌, ◌||◌, nat_lt, nat_le, length, List}
+use Rattle.std.proofs.lemmas.Bool.{cases_Bool, cases_eq, both_ways, and_from, and_parts, false_from_ne_true, leb-true}
 use Rattle.counting.specs.Counts.{Within, count}
 use Rattle.counting.specs.Sets.{Set, none, put}
 use Rattle.counting.specs.Lists.{mem}
@@ -20,9 +20,19 @@ use Rattle.match_core.proofs.Instances.{left_from, left_parts, near_edge}
 use Rattle.match_core.proofs.LongerPaths.{end_within, longer, longer_below, longer_at}
 use Rattle.match_core.proofs.MatePairs.{mate_back, with_here, with_there}
 
+-- a set of those of the vertices that are left that have no mate
+pub exposed_is_both : (left mate exposed : List ℕ) → ((v : ℕ) → mem exposed v ≡ true → (mem left v ≡ true) × (numbers mate v ≡ 0)) → ((v : ℕ) → mem left v ≡ true → numbers mate v ≡ 0 → mem exposed v ≡ true) →
+    (v : ℕ) → mem exposed v ≡ (mem left v && (numbers mate v == 0))
+exposed_is_both left mate exposed from into v = elim (cases_Bool (mem exposed v)) [
+  | inl t ↦ let f = from v t in t ∙ sym (and_from (mem left v) (numbers mate v == 0) f.0 (eq-eqb (numbers mate v) 0 f.1))
+  | inr t ↦ t ∙ sym (false_from_ne_true (mem left v && (numbers mate v == 0)) (λ q.
+      let a = and_parts (mem left v) (numbers mate v == 0) q in
+      both_ways (mem exposed v) t (into v a.0 (eqb-true (numbers mate v) 0 a.1))))
+]
+
 module _ (g : Graph) (r f : Set) (s : Instance) (mate : List ℕ) (is : HoldsMatching g r f s mate) where
   -- each exposed vertex a root
-  pub roots_hold : (t : AlternatingForest) → ((v : ℕ) → mem t.outer v ≡ ((nat_lt 0 v && nat_le v g.order) && (mem s.left v && (numbers mate v == 0)))) → ((v : ℕ) → mem t.inner v ≡ false) →
+  pub roots_hold : (t : AlternatingForest) → ((v : ℕ) → mem t.outer v ≡ (mem s.left v && (numbers mate v == 0))) → ((v : ℕ) → mem t.inner v ≡ false) →
       length t.parent.items ≡ suc g.order → length t.pairs.items ≡ suc g.order → ((v : ℕ) → numbers t.pairs.items v ≡ 0) → HoldsAlternating g r f mate t
   roots_hold t outer inner parents_long pairs_long pairs = record {
     v = λ u j. u;
@@ -41,12 +51,12 @@ module _ (g : Graph) (r f : Set) (s : Instance) (mate : List ℕ) (is : HoldsMat
         | inr q ↦ let d = is.mates.paired u w q in ne_eqb (numbers mate u) 0 q ∙ sym (ne_eqb (degree g f u) 0 (λ z. let a = (met g f d.0 u (numbers mate u) d.1 d.2 d.3).0 in absurd (omega arith)))
       ]
 
-      go : (a b x y : Bool) → (a ≡ true → x ≡ y) → (a && ((a && b) && x)) ≡ (a && (b && y))
+      go : (a b x y : Bool) → (a ≡ true → x ≡ y) → ((a && b) && x) ≡ (a && (b && y))
       go false b x y h = refl
       go true b x y h = ap (λ z. b && z) (h refl)
 
-      same : (u : ℕ) → ((nat_lt 0 u && nat_le u g.order) && (mem s.left u && (numbers mate u == 0))) ≡ first_outer g is.instance_is.graph r f is.mates.matching u
-      same u = ap (λ z. (nat_lt 0 u && nat_le u g.order) && (z && (numbers mate u == 0))) (is.instance_is.left u) ∙
+      same : (u : ℕ) → (mem s.left u && (numbers mate u == 0)) ≡ first_outer g is.instance_is.graph r f is.mates.matching u
+      same u = ap (λ z. z && (numbers mate u == 0)) (is.instance_is.left u) ∙
           go (nat_lt 0 u && nat_le u g.order) (not (r u)) (numbers mate u == 0) (degree g f u == 0) (λ t. let b = and_parts (nat_lt 0 u) (nat_le u g.order) t in let x = Rattle.std.proofs.Common.ltb-true 0 u b.0 in let y = leb-true u g.order b.1 in exposed_is u (omega arith, omega arith))
 
   module _ (t : AlternatingForest) (holds : HoldsAlternating g r f mate t) where

@@ -18,6 +18,10 @@ pub record HoldsMatching (g : Graph) (r f : Set) (s : Instance) (mate : List ℕ
   pub long : length mate ≡ suc g.order
   pub mates : HasMates g r f (numbers mate)
 
+-- the candidates hold each vertex that is left and has no mate
+abbrev pub MayBeExposed : List ℕ → List ℕ → List ℕ → Type 0
+MayBeExposed left mate candidates = (v : ℕ) → mem left v ≡ true → numbers mate v ≡ 0 → mem candidates v ≡ true
+
 -- the way up from u: its mate hangs on p, and the path of u is that of p and on by its mate
 pub record GoesUp (mate : List ℕ) (t : AlternatingForest) (v : ℕ → ℕ → ℕ) (u p : ℕ) : Type 0 where
   pub parent : numbers t.parent.items (numbers mate u) ≡ p

@@ -1,6 +1,6 @@
 -- What an edge between two outer vertices closes: a path that augments the matching, or a blossom, an odd cycle with as many
 -- edges of the matching as it may have.
-use Rattle.std.specs.Prelude.{◌≡◌, ◌≢◌, ℕ, suc, ◌+◌, ◌-◌, ◌≤◌, true, false, length, List, Option, Some, None}
+use Rattle.std.specs.Prelude.{◌≡◌, ◌≢◌, ℕ, suc, ◌+◌, ◌-◌, ◌≤◌, ◌⊎◌, true, false, length, List, Option, Some, None}
 use Rattle.counting.specs.Counts.{Within, count, is_odd}
 use Rattle.counting.specs.Sets.{Set}
 use Rattle.counting.specs.Lists.{mem}
@@ -69,6 +69,10 @@ pub record HoldsBlossom (g : Graph) (r f : Set) (mate : List ℕ) (b : Blossom) 
   pub edge : ℕ → ℕ
   pub opened : IsOpened g r f m (blossom_length b) (numbers b.ring.items) edge
   pub mates : HasMates g r m (numbers mate)
+
+-- each vertex without a mate is in the blossom, or it had none before
+abbrev pub ExposesOnly : List ℕ → List ℕ → Blossom → Type 0
+ExposesOnly before after b = (v : ℕ) → numbers after v ≡ 0 → (mem b.members v ≡ true) ⊎ (numbers before v ≡ 0)
 
 -- the mates are those of a matching with one edge more
 abbrev pub IsAugmented : Graph → Set → Set → List ℕ → Type 0

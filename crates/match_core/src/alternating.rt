@@ -3,10 +3,10 @@
 //! A vertex is outer if an alternating path of an even number of edges leads to it from an exposed vertex, and inner if it is
 //! the vertex before an outer one on such a path. An outer vertex is exposed, a root, or hangs on its mate, which is inner; an
 //! inner vertex hangs on its parent, an outer neighbour.
-ghost use Rattle.std.specs.Prelude.{◌≡◌, ℕ, ◌+◌, ◌<◌, ◌≤◌, ◌==◌, ◌&&◌, false, nat_lt, nat_le, length, suc, IfOk};
+ghost use Rattle.std.specs.Prelude.{◌≡◌, ℕ, ◌+◌, ◌<◌, ◌≤◌, ◌==◌, ◌&&◌, true, false, length, suc, IfOk};
 ghost use Rattle.counting.specs.Counts.{Within};
 ghost use Rattle.counting.specs.Lists.{mem};
-ghost use Rattle.match_core.specs.AlternatingForests.{HasBranched};
+ghost use Rattle.match_core.specs.AlternatingForests.{HasBranched, MayBeExposed};
 ghost use Rattle.match_core.specs.Rows.{numbers};
 
 use std::alloc::{AllocError as Memory, Global};
@@ -22,17 +22,18 @@ pub struct AlternatingForest {
     pub pairs: Vec<usize>,
 }
 
-/// The vertices of a set that are exposed.
-pub fn exposed_in(n: u32, left: VSet, mate: &[u32]) -> VSet
-    requires most { n ≤ MOST_VERTICES }
-    requires long { length mate.now ≡ suc n }
-    ensures { (v : ℕ) →
-        mem result v ≡ ((nat_lt 0 v && nat_le v n) && (mem left v && (numbers mate.now v == 0))) }
+/// The vertices that are left and exposed, where the candidates hold all of these.
+pub fn exposed_in(candidates: VSet, left: VSet, mate: &[u32]) -> VSet
+    requires vertices { (v : ℕ) → mem left v ≡ true → v < length mate.now }
+    requires candidates { MayBeExposed left mate.now candidates }
+    ensures { (v : ℕ) → mem result v ≡ (mem left v && (numbers mate.now v == 0)) }
 {
     let mut exposed = VSet::empty();
-    for i in 0..n {
-        if left.contains(i + 1) && mate[i as usize + 1] == 0 {
-            exposed = exposed.with(i + 1);
+    let mut rest = candidates.meet(left);
+    'looking: while let Some((v, others)) = rest.split_first() {
+        rest = others;
+        if mate[v as usize] == 0 {
+            exposed = exposed.with(v);
         }
     }
     exposed

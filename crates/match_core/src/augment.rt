@@ -7,7 +7,7 @@
 ghost use Rattle.std.specs.Prelude.{◌<◌, IfOk};
 ghost use Rattle.counting.specs.Sets.{Set};
 ghost use Rattle.graph_core.specs.Graph.{Graph};
-ghost use Rattle.match_core.specs.AlternatingForests.{HoldsMatching};
+ghost use Rattle.match_core.specs.AlternatingForests.{HoldsMatching, MayBeExposed};
 ghost use Rattle.match_core.specs.Blossoms.{IsMateStep};
 
 use crate::answer::{Answer, FinalSets, widen};
@@ -16,15 +16,22 @@ use crate::growing::{Growth, grow_forest};
 use crate::instance::{Instance, shrink};
 use crate::ways::ways_to;
 use std::alloc::{AllocError as Memory, Global};
+use vset_core::VSet;
 
 /// Makes the matching with these mates larger by one edge, or answers a frame, which shows that none is larger; the mates may
-/// then be those of another matching of the same size.
-pub fn augment_once(alloc: Global, instance: &Instance, mate: &mut [u32]) -> Result<Answer, Memory>
-    requires { (g : Graph) × (r : Set) × (f : Set) × HoldsMatching g r f instance.now mate.old }
+/// then be those of another matching of the same size. The exposed vertices are looked for among the candidates.
+pub fn augment_once(
+    alloc: Global,
+    instance: &Instance,
+    candidates: VSet,
+    mate: &mut [u32],
+) -> Result<Answer, Memory>
+    requires holds { (g : Graph) × (r : Set) × (f : Set) × HoldsMatching g r f instance.now mate.old }
+    requires candidates { MayBeExposed instance.now.left mate.old candidates }
     ensures { IfOk result (λ s. (g : Graph) (r f : Set) →
         HoldsMatching g r f instance.now mate.old → IsMateStep g r f mate.new s) }
 {
-    let Growth { forest, closing } = grow_forest(alloc, instance, mate)?;
+    let Growth { forest, closing } = grow_forest(alloc, instance, candidates, mate)?;
     match closing {
         None => Ok(Answer::Final(FinalSets {
             outer: forest.outer,
@@ -35,8 +42,9 @@ pub fn augment_once(alloc: Global, instance: &Instance, mate: &mut [u32]) -> Res
             match close(alloc, &ways, mate)? {
                 None => Ok(Answer::Grown),
                 Some(blossom) => {
-                    let smaller = shrink(alloc, instance, blossom.members, blossom.ring[1])?;
-                    let below = augment_once(alloc, &smaller, mate)?;
+                    let base = blossom.ring[1];
+                    let smaller = shrink(alloc, instance, blossom.members, base)?;
+                    let below = augment_once(alloc, &smaller, candidates.with(base), mate)?;
                     open(instance, &blossom, mate);
                     Ok(widen(below, blossom.members))
                 }

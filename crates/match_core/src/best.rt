@@ -61,7 +61,7 @@ pub fn best_from(
     let instance = instance_of(alloc, rows, removed)?;
     let mut mate = mates_of(alloc, n, ends, given)?;
     'augmenting: loop {
-        match augment_once(alloc, &instance, &mut mate)? {
+        match augment_once(alloc, &instance, instance.left, &mut mate)? {
             Answer::Grown => {}
             Answer::Final(sets) => {
                 let mark = marks_of(alloc, n, ends, &mate)?;

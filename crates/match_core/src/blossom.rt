@@ -1,12 +1,12 @@
 //! Blossoms: where the ways to two adjacent outer vertices meet, an odd cycle closes. Its first vertex, where they meet last, is
 //! the base. Each vertex of a blossom can be the one that the edges inside it miss, so the blossom may be shrunk to its base: a
 //! matching of the smaller graph leaves it at one vertex, and is completed round the cycle from there.
-ghost use Rattle.std.specs.Prelude.{◌≡◌, ◌≢◌, ℕ, ◌+◌, ◌-◌, ◌<◌, ◌≤◌, true, length, suc, IfOk};
+ghost use Rattle.std.specs.Prelude.{◌≡◌, ◌≢◌, ℕ, ◌+◌, ◌-◌, ◌<◌, ◌≤◌, true, length, suc, IfOk, Some};
 ghost use Rattle.counting.specs.Counts.{Within};
 ghost use Rattle.counting.specs.Sets.{Set};
 ghost use Rattle.counting.specs.Lists.{mem};
 ghost use Rattle.graph_core.specs.Graph.{Graph};
-ghost use Rattle.match_core.specs.Blossoms.{AreClosingWays, HoldsBlossom, IsCompleted, MayOpen, IsAugmented, IsClosed, second_start};
+ghost use Rattle.match_core.specs.Blossoms.{AreClosingWays, ExposesOnly, HoldsBlossom, IsCompleted, MayOpen, IsAugmented, IsClosed, second_start};
 ghost use Rattle.match_core.specs.Meetings.{IsLastMeeting};
 ghost use Rattle.match_core.specs.Rows.{numbers, part};
 
@@ -33,8 +33,9 @@ pub fn blossom_of(
 ) -> Result<Blossom, Memory>
     requires ways { (g : Graph) × (r : Set) × (f : Set) × AreClosingWays g r f mate.old ways.now }
     requires last { IsLastMeeting ways.now.row.items 0 (suc (ways.now.first + ways.now.first)) (second_start ways.now) (suc (ways.now.second + ways.now.second)) meeting }
-    ensures { IfOk result (λ b. (g : Graph) (r f : Set) →
+    ensures holds { IfOk result (λ b. (g : Graph) (r f : Set) →
         AreClosingWays g r f mate.old ways.now → HoldsBlossom g r f mate.new b) }
+    ensures exposed { IfOk result (ExposesOnly mate.old mate.new) }
 {
     let start = ways.first + ways.first + 1;
     let forth = ways.second + ways.second - meeting.j;
@@ -77,8 +78,9 @@ fn augment(ways: &Ways, mate: &mut [u32])
 /// exposed.
 pub fn close(alloc: Global, ways: &Ways, mate: &mut [u32]) -> Result<Option<Blossom>, Memory>
     requires { (g : Graph) × (r : Set) × (f : Set) × AreClosingWays g r f mate.old ways.now }
-    ensures { IfOk result (λ b. (g : Graph) (r f : Set) →
+    ensures closed { IfOk result (λ b. (g : Graph) (r f : Set) →
         AreClosingWays g r f mate.old ways.now → IsClosed g r f mate.new b) }
+    ensures exposed { IfOk result (λ o. (b : _) → o ≡ Some b → ExposesOnly mate.old mate.new b) }
 {
     let first = ways.first + ways.first + 1;
     let second = ways.second + ways.second + 1;

@@ -5,7 +5,7 @@ ghost use Rattle.std.specs.Prelude.{◌≡◌, ℕ, ◌+◌, ◌<◌, ◌≤◌,
 ghost use Rattle.counting.specs.Sets.{Set};
 ghost use Rattle.counting.specs.Lists.{mem};
 ghost use Rattle.graph_core.specs.Graph.{Graph};
-ghost use Rattle.match_core.specs.AlternatingForests.{HoldsMatching, IsGrowth};
+ghost use Rattle.match_core.specs.AlternatingForests.{HoldsMatching, IsGrowth, MayBeExposed};
 ghost use Rattle.match_core.specs.Rows.{numbers};
 
 use crate::alternating::{AlternatingForest, exposed_in};
@@ -27,14 +27,21 @@ pub struct Growth {
     pub closing: Option<Adjacent>,
 }
 
-/// Grows the forest of the matching with these mates.
-pub fn grow_forest(alloc: Global, instance: &Instance, mate: &[u32]) -> Result<Growth, Memory>
-    requires { (g : Graph) × (r : Set) × (f : Set) × HoldsMatching g r f instance.now mate.now }
+/// Grows the forest of the matching with these mates. Its roots are those of the candidates that are left and exposed.
+pub fn grow_forest(
+    alloc: Global,
+    instance: &Instance,
+    candidates: VSet,
+    mate: &[u32],
+) -> Result<Growth, Memory>
+    requires holds { (g : Graph) × (r : Set) × (f : Set) × HoldsMatching g r f instance.now mate.now }
+    requires candidates { MayBeExposed instance.now.left mate.now candidates }
     ensures { IfOk result (λ t. (g : Graph) (r f : Set) →
         HoldsMatching g r f instance.now mate.now → IsGrowth g r f instance.now mate.now t) }
 {
     let n = instance.rows.len() as u32;
-    let mut forest = AlternatingForest::of_roots(alloc, n, exposed_in(n, instance.left, mate))?;
+    let roots = exposed_in(candidates, instance.left, mate);
+    let mut forest = AlternatingForest::of_roots(alloc, n, roots)?;
     let mut open = forest.outer;
     'growing: while let Some(x) = open.first() {
         let near = instance.near(x).without(x);

@@ -3,72 +3,81 @@ use Rattle.std.proofs.lemmas.Grind.{get_or_default_zero}
 use Rattle.match_core.specs.Blossoms.{IsClosed, removed_with, without_blossom}
 use Rattle.match_core.specs.Rows.{numbers}
 use Rattle.match_core.proofs.BlossomSteps.{cw, wz}
-use Rattle.match_core.proofs.MateSteps.{below_holds, below_less, growth_closes, growth_final, may_open, step_completed}
+use Rattle.match_core.proofs.MateSteps.{below_holds, below_less, candidates_below, growth_closes, growth_final, may_open, step_completed}
 use Rattle.match_core.proofs.augment.+augment_once.Goals as goal
 
 pub returns-in-None : goal.returns-in-None
 returns-in-None t c = λ g r f is. growth_final g r f c.args.instance.now c.args.mate.now is c.in_ok-forest.field-0 (c.in_ok-forest.ensures g r f is) c.in-None.is
 
 pub ways_to-requires : goal.ways_to-requires
-ways_to-requires t c = let q = c.requires in (q.0, q.1, q.2, growth_closes q.0 q.1 q.2 c.args.instance.now c.args.mate.now q.3 c.in_ok-forest.field-0 c.in-Some.gap (c.in_ok-forest.ensures q.0 q.1 q.2 q.3) c.in-Some.is)
+ways_to-requires t c = let q = c.requires.holds in (q.0, q.1, q.2, growth_closes q.0 q.1 q.2 c.args.instance.now c.args.mate.now q.3 c.in_ok-forest.field-0 c.in-Some.gap (c.in_ok-forest.ensures q.0 q.1 q.2 q.3) c.in-Some.is)
 
 pub close-requires : goal.close-requires
-close-requires t c = let q = c.requires in (q.0, q.1, q.2, c.in_ok-ways-in-Some.ensures q.0 q.1 q.2 (growth_closes q.0 q.1 q.2 c.args.instance.now c.args.mate.now q.3 c.in_ok-forest.field-0 c.in-Some.gap (c.in_ok-forest.ensures q.0 q.1 q.2 q.3) c.in-Some.is))
+close-requires t c = let q = c.requires.holds in (q.0, q.1, q.2, c.in_ok-ways-in-Some.ensures q.0 q.1 q.2 (growth_closes q.0 q.1 q.2 c.args.instance.now c.args.mate.now q.3 c.in_ok-forest.field-0 c.in-Some.gap (c.in_ok-forest.ensures q.0 q.1 q.2 q.3) c.in-Some.is))
 
 pub returns-in-None-2 : goal.returns-in-None-2
 returns-in-None-2 t c = λ g r f is.
-    let done = subst (IsClosed g r f c.close.new.mate) c.in-None-2.is (c.in_ok-close-in-Some.ensures g r f (c.in_ok-ways-in-Some.ensures g r f (growth_closes g r f c.args.instance.now c.args.mate.now is c.in_ok-forest.field-0 c.in-Some.gap (c.in_ok-forest.ensures g r f is) c.in-Some.is))) in
+    let done = subst (IsClosed g r f c.close.new.mate) c.in-None-2.is (c.in_ok-close-in-Some.ensures.closed g r f (c.in_ok-ways-in-Some.ensures g r f (growth_closes g r f c.args.instance.now c.args.mate.now is c.in_ok-forest.field-0 c.in-Some.gap (c.in_ok-forest.ensures g r f is) c.in-Some.is))) in
     record { m = done.0; mates = done.1; answer = done.2 }
 
-pub index-requires : goal.index-requires
-index-requires t c =
-    let q = c.requires in
-    let held = subst (IsClosed q.0 q.1 q.2 c.close.new.mate) c.in-Some-2.is (c.in_ok-close-in-Some.ensures q.0 q.1 q.2 (c.in_ok-ways-in-Some.ensures q.0 q.1 q.2 (growth_closes q.0 q.1 q.2 c.args.instance.now c.args.mate.now q.3 c.in_ok-forest.field-0 c.in-Some.gap (c.in_ok-forest.ensures q.0 q.1 q.2 q.3) c.in-Some.is))) in
+pub index-base-requires : goal.index-base-requires
+index-base-requires t c =
+    let q = c.requires.holds in
+    let held = subst (IsClosed q.0 q.1 q.2 c.close.new.mate) c.in-Some-2.is (c.in_ok-close-in-Some.ensures.closed q.0 q.1 q.2 (c.in_ok-ways-in-Some.ensures q.0 q.1 q.2 (growth_closes q.0 q.1 q.2 c.args.instance.now c.args.mate.now q.3 c.in_ok-forest.field-0 c.in-Some.gap (c.in_ok-forest.ensures q.0 q.1 q.2 q.3) c.in-Some.is))) in
     let three = held.opened.cycle.three in
     let ok = c.in-Some-2.blossom.ring.ok.0 in omega arith
 
 pub shrink-requires-clause-base : goal.shrink-requires-clause-base
 shrink-requires-clause-base t c =
-    let q = c.requires in
-    let held = subst (IsClosed q.0 q.1 q.2 c.close.new.mate) c.in-Some-2.is (c.in_ok-close-in-Some.ensures q.0 q.1 q.2 (c.in_ok-ways-in-Some.ensures q.0 q.1 q.2 (growth_closes q.0 q.1 q.2 c.args.instance.now c.args.mate.now q.3 c.in_ok-forest.field-0 c.in-Some.gap (c.in_ok-forest.ensures q.0 q.1 q.2 q.3) c.in-Some.is))) in
+    let q = c.requires.holds in
+    let held = subst (IsClosed q.0 q.1 q.2 c.close.new.mate) c.in-Some-2.is (c.in_ok-close-in-Some.ensures.closed q.0 q.1 q.2 (c.in_ok-ways-in-Some.ensures q.0 q.1 q.2 (growth_closes q.0 q.1 q.2 c.args.instance.now c.args.mate.now q.3 c.in_ok-forest.field-0 c.in-Some.gap (c.in_ok-forest.ensures q.0 q.1 q.2 q.3) c.in-Some.is))) in
     let three = held.opened.cycle.three in
-    let base : c.index.result.now ≡ numbers c.in-Some-2.blossom.ring.items 1 = c.index.ensures ∙ get_or_default_zero c.in-Some-2.blossom.ring.items 1 c.index.result.now (omega arith) in
+    let base : c.index-base.result.now ≡ numbers c.in-Some-2.blossom.ring.items 1 = c.index-base.ensures ∙ get_or_default_zero c.in-Some-2.blossom.ring.items 1 c.index-base.result.now (omega arith) in
+    let w = wz q.0 q.3.instance_is.graph q.1 q.2 held.m (length c.in-Some-2.blossom.ring.items - 1) (numbers c.in-Some-2.blossom.ring.items) held.edge held.opened in
+    let few = q.3.instance_is.few in (omega arith, omega arith)
+
+pub with-requires : goal.with-requires
+with-requires t c =
+    let q = c.requires.holds in
+    let held = subst (IsClosed q.0 q.1 q.2 c.close.new.mate) c.in-Some-2.is (c.in_ok-close-in-Some.ensures.closed q.0 q.1 q.2 (c.in_ok-ways-in-Some.ensures q.0 q.1 q.2 (growth_closes q.0 q.1 q.2 c.args.instance.now c.args.mate.now q.3 c.in_ok-forest.field-0 c.in-Some.gap (c.in_ok-forest.ensures q.0 q.1 q.2 q.3) c.in-Some.is))) in
+    let three = held.opened.cycle.three in
+    let base : c.index-base.result.now ≡ numbers c.in-Some-2.blossom.ring.items 1 = c.index-base.ensures ∙ get_or_default_zero c.in-Some-2.blossom.ring.items 1 c.index-base.result.now (omega arith) in
     let w = wz q.0 q.3.instance_is.graph q.1 q.2 held.m (length c.in-Some-2.blossom.ring.items - 1) (numbers c.in-Some-2.blossom.ring.items) held.edge held.opened in
     let few = q.3.instance_is.few in (omega arith, omega arith)
 
 pub shrink-requires-clause-vertices : goal.shrink-requires-clause-vertices
 shrink-requires-clause-vertices t c = λ v m.
-    let q = c.requires in
-    let held = subst (IsClosed q.0 q.1 q.2 c.close.new.mate) c.in-Some-2.is (c.in_ok-close-in-Some.ensures q.0 q.1 q.2 (c.in_ok-ways-in-Some.ensures q.0 q.1 q.2 (growth_closes q.0 q.1 q.2 c.args.instance.now c.args.mate.now q.3 c.in_ok-forest.field-0 c.in-Some.gap (c.in_ok-forest.ensures q.0 q.1 q.2 q.3) c.in-Some.is))) in
+    let q = c.requires.holds in
+    let held = subst (IsClosed q.0 q.1 q.2 c.close.new.mate) c.in-Some-2.is (c.in_ok-close-in-Some.ensures.closed q.0 q.1 q.2 (c.in_ok-ways-in-Some.ensures q.0 q.1 q.2 (growth_closes q.0 q.1 q.2 c.args.instance.now c.args.mate.now q.3 c.in_ok-forest.field-0 c.in-Some.gap (c.in_ok-forest.ensures q.0 q.1 q.2 q.3) c.in-Some.is))) in
     let w = cw q.0 q.3.instance_is.graph q.1 q.2 held.m (length c.in-Some-2.blossom.ring.items - 1) (numbers c.in-Some-2.blossom.ring.items) held.edge held.opened v (sym (held.members v) ∙ m) in
     let each = q.3.instance_is.one_each in (w.0, omega arith)
 
 pub augment_once-requires : goal.augment_once-requires
 augment_once-requires t c =
-    let q = c.requires in
-    let held = subst (IsClosed q.0 q.1 q.2 c.close.new.mate) c.in-Some-2.is (c.in_ok-close-in-Some.ensures q.0 q.1 q.2 (c.in_ok-ways-in-Some.ensures q.0 q.1 q.2 (growth_closes q.0 q.1 q.2 c.args.instance.now c.args.mate.now q.3 c.in_ok-forest.field-0 c.in-Some.gap (c.in_ok-forest.ensures q.0 q.1 q.2 q.3) c.in-Some.is))) in
+    let q = c.requires.holds in
+    let held = subst (IsClosed q.0 q.1 q.2 c.close.new.mate) c.in-Some-2.is (c.in_ok-close-in-Some.ensures.closed q.0 q.1 q.2 (c.in_ok-ways-in-Some.ensures q.0 q.1 q.2 (growth_closes q.0 q.1 q.2 c.args.instance.now c.args.mate.now q.3 c.in_ok-forest.field-0 c.in-Some.gap (c.in_ok-forest.ensures q.0 q.1 q.2 q.3) c.in-Some.is))) in
     let three = held.opened.cycle.three in
-    let base : c.index.result.now ≡ numbers c.in-Some-2.blossom.ring.items 1 = c.index.ensures ∙ get_or_default_zero c.in-Some-2.blossom.ring.items 1 c.index.result.now (omega arith) in
+    let base : c.index-base.result.now ≡ numbers c.in-Some-2.blossom.ring.items 1 = c.index-base.ensures ∙ get_or_default_zero c.in-Some-2.blossom.ring.items 1 c.index-base.result.now (omega arith) in
     let falls = c.decreases in
-    let less = below_less q.0 q.1 q.2 c.args.instance.now c.args.mate.now q.3 c.close.new.mate c.close.auto.mate c.in-Some-2.blossom held c.index.result.now base c.in_ok-smaller-in-Some-2.smaller c.in_ok-smaller-in-Some-2.ensures in (
+    let less = below_less q.0 q.1 q.2 c.args.instance.now c.args.mate.now q.3 c.close.new.mate c.close.auto.mate c.in-Some-2.blossom held c.index-base.result.now base c.in_ok-smaller-in-Some-2.smaller c.in_ok-smaller-in-Some-2.ensures in (
       first_of (omega arith, search rules),
-      (without_blossom q.0 c.in-Some-2.blossom, removed_with q.1 c.in-Some-2.blossom, held.m, below_holds q.0 q.1 q.2 c.args.instance.now c.args.mate.now q.3 c.close.new.mate c.close.auto.mate c.in-Some-2.blossom held c.index.result.now base c.in_ok-smaller-in-Some-2.smaller c.in_ok-smaller-in-Some-2.ensures),
+      ((without_blossom q.0 c.in-Some-2.blossom, removed_with q.1 c.in-Some-2.blossom, held.m, below_holds q.0 q.1 q.2 c.args.instance.now c.args.mate.now q.3 c.close.new.mate c.close.auto.mate c.in-Some-2.blossom held c.index-base.result.now base c.in_ok-smaller-in-Some-2.smaller c.in_ok-smaller-in-Some-2.ensures), candidates_below c.args.instance.now c.in_ok-smaller-in-Some-2.smaller c.in-Some-2.blossom.members c.index-base.result.now c.in_ok-smaller-in-Some-2.ensures c.args.candidates c.with.result c.args.mate.now c.close.new.mate c.requires.candidates (c.in_ok-close-in-Some.ensures.exposed c.in-Some-2.blossom c.in-Some-2.is) c.with.ensures),
     )
 
 pub open-requires : goal.open-requires
 open-requires t c =
-    let q = c.requires in
-    let held = subst (IsClosed q.0 q.1 q.2 c.close.new.mate) c.in-Some-2.is (c.in_ok-close-in-Some.ensures q.0 q.1 q.2 (c.in_ok-ways-in-Some.ensures q.0 q.1 q.2 (growth_closes q.0 q.1 q.2 c.args.instance.now c.args.mate.now q.3 c.in_ok-forest.field-0 c.in-Some.gap (c.in_ok-forest.ensures q.0 q.1 q.2 q.3) c.in-Some.is))) in
+    let q = c.requires.holds in
+    let held = subst (IsClosed q.0 q.1 q.2 c.close.new.mate) c.in-Some-2.is (c.in_ok-close-in-Some.ensures.closed q.0 q.1 q.2 (c.in_ok-ways-in-Some.ensures q.0 q.1 q.2 (growth_closes q.0 q.1 q.2 c.args.instance.now c.args.mate.now q.3 c.in_ok-forest.field-0 c.in-Some.gap (c.in_ok-forest.ensures q.0 q.1 q.2 q.3) c.in-Some.is))) in
     let three = held.opened.cycle.three in
-    let base : c.index.result.now ≡ numbers c.in-Some-2.blossom.ring.items 1 = c.index.ensures ∙ get_or_default_zero c.in-Some-2.blossom.ring.items 1 c.index.result.now (omega arith) in
-    let step = c.in_ok-below-in-Some-2.ensures (without_blossom q.0 c.in-Some-2.blossom) (removed_with q.1 c.in-Some-2.blossom) held.m (below_holds q.0 q.1 q.2 c.args.instance.now c.args.mate.now q.3 c.close.new.mate c.close.auto.mate c.in-Some-2.blossom held c.index.result.now base c.in_ok-smaller-in-Some-2.smaller c.in_ok-smaller-in-Some-2.ensures) in
-    (q.0, q.1, q.2, held.m, step.m, may_open q.0 q.1 q.2 c.args.instance.now c.args.mate.now q.3 c.close.new.mate c.close.auto.mate c.in-Some-2.blossom held c.index.result.now base c.in_ok-smaller-in-Some-2.smaller c.in_ok-smaller-in-Some-2.ensures c.augment_once.new.mate c.augment_once.auto.mate c.in_ok-below-in-Some-2.below step)
+    let base : c.index-base.result.now ≡ numbers c.in-Some-2.blossom.ring.items 1 = c.index-base.ensures ∙ get_or_default_zero c.in-Some-2.blossom.ring.items 1 c.index-base.result.now (omega arith) in
+    let step = c.in_ok-below-in-Some-2.ensures (without_blossom q.0 c.in-Some-2.blossom) (removed_with q.1 c.in-Some-2.blossom) held.m (below_holds q.0 q.1 q.2 c.args.instance.now c.args.mate.now q.3 c.close.new.mate c.close.auto.mate c.in-Some-2.blossom held c.index-base.result.now base c.in_ok-smaller-in-Some-2.smaller c.in_ok-smaller-in-Some-2.ensures) in
+    (q.0, q.1, q.2, held.m, step.m, may_open q.0 q.1 q.2 c.args.instance.now c.args.mate.now q.3 c.close.new.mate c.close.auto.mate c.in-Some-2.blossom held c.index-base.result.now base c.in_ok-smaller-in-Some-2.smaller c.in_ok-smaller-in-Some-2.ensures c.augment_once.new.mate c.augment_once.auto.mate c.in_ok-below-in-Some-2.below step)
 
 pub returns : goal.returns
 returns t c = λ g r f is.
-    let held = subst (IsClosed g r f c.close.new.mate) c.in-Some-2.is (c.in_ok-close-in-Some.ensures g r f (c.in_ok-ways-in-Some.ensures g r f (growth_closes g r f c.args.instance.now c.args.mate.now is c.in_ok-forest.field-0 c.in-Some.gap (c.in_ok-forest.ensures g r f is) c.in-Some.is))) in
+    let held = subst (IsClosed g r f c.close.new.mate) c.in-Some-2.is (c.in_ok-close-in-Some.ensures.closed g r f (c.in_ok-ways-in-Some.ensures g r f (growth_closes g r f c.args.instance.now c.args.mate.now is c.in_ok-forest.field-0 c.in-Some.gap (c.in_ok-forest.ensures g r f is) c.in-Some.is))) in
     let three = held.opened.cycle.three in
-    let base : c.index.result.now ≡ numbers c.in-Some-2.blossom.ring.items 1 = c.index.ensures ∙ get_or_default_zero c.in-Some-2.blossom.ring.items 1 c.index.result.now (omega arith) in
-    let step = c.in_ok-below-in-Some-2.ensures (without_blossom g c.in-Some-2.blossom) (removed_with r c.in-Some-2.blossom) held.m (below_holds g r f c.args.instance.now c.args.mate.now is c.close.new.mate c.close.auto.mate c.in-Some-2.blossom held c.index.result.now base c.in_ok-smaller-in-Some-2.smaller c.in_ok-smaller-in-Some-2.ensures) in
-    let done = c.open.ensures g r f held.m step.m (may_open g r f c.args.instance.now c.args.mate.now is c.close.new.mate c.close.auto.mate c.in-Some-2.blossom held c.index.result.now base c.in_ok-smaller-in-Some-2.smaller c.in_ok-smaller-in-Some-2.ensures c.augment_once.new.mate c.augment_once.auto.mate c.in_ok-below-in-Some-2.below step) in
-    step_completed g r f c.args.instance.now c.args.mate.now is c.close.new.mate c.close.auto.mate c.in-Some-2.blossom held c.index.result.now base c.in_ok-smaller-in-Some-2.smaller c.in_ok-smaller-in-Some-2.ensures c.augment_once.new.mate c.augment_once.auto.mate c.in_ok-below-in-Some-2.below step c.open.new.mate c.widen.result done c.widen.ensures
+    let base : c.index-base.result.now ≡ numbers c.in-Some-2.blossom.ring.items 1 = c.index-base.ensures ∙ get_or_default_zero c.in-Some-2.blossom.ring.items 1 c.index-base.result.now (omega arith) in
+    let step = c.in_ok-below-in-Some-2.ensures (without_blossom g c.in-Some-2.blossom) (removed_with r c.in-Some-2.blossom) held.m (below_holds g r f c.args.instance.now c.args.mate.now is c.close.new.mate c.close.auto.mate c.in-Some-2.blossom held c.index-base.result.now base c.in_ok-smaller-in-Some-2.smaller c.in_ok-smaller-in-Some-2.ensures) in
+    let done = c.open.ensures g r f held.m step.m (may_open g r f c.args.instance.now c.args.mate.now is c.close.new.mate c.close.auto.mate c.in-Some-2.blossom held c.index-base.result.now base c.in_ok-smaller-in-Some-2.smaller c.in_ok-smaller-in-Some-2.ensures c.augment_once.new.mate c.augment_once.auto.mate c.in_ok-below-in-Some-2.below step) in
+    step_completed g r f c.args.instance.now c.args.mate.now is c.close.new.mate c.close.auto.mate c.in-Some-2.blossom held c.index-base.result.now base c.in_ok-smaller-in-Some-2.smaller c.in_ok-smaller-in-Some-2.ensures c.augment_once.new.mate c.augment_once.auto.mate c.in_ok-below-in-Some-2.below step c.open.new.mate c.widen.result done c.widen.ensures

@@ -17,8 +17,8 @@ augmenting-init c = record {
   mates = (marks c.args.given.now, c.in_ok-mate.ensures.mates (mem c.args.removed) c.requires.matching);
 }
 
-pub augment_once-requires : goal.augment_once-requires
-augment_once-requires c =
+pub augment_once-requires-clause-holds : goal.augment_once-requires-clause-holds
+augment_once-requires-clause-holds c =
     let g = graph_of c.args.n c.args.ends.now in
     let is = row_graph c.args.n c.args.ends.now c.requires.row.within in
     let f = c.augmenting.invariant.mates.0 in

@@ -5,7 +5,7 @@ use Rattle.counting.specs.Lists.{mem}
 use Rattle.match_core.specs.Mates.{cleared_mates, flipped_mates}
 use Rattle.match_core.specs.OddCycles.{listed}
 use Rattle.match_core.specs.Rows.{numbers, part}
-use Rattle.match_core.proofs.ClosingPairs.{blossom_cycle, blossom_holds, half_is, second_in}
+use Rattle.match_core.proofs.ClosingPairs.{blossom_cycle, blossom_exposes, blossom_holds, half_is, second_in}
 use Rattle.match_core.proofs.blossom.blossom_of.Goals as goal
 
 pub members_of-members-requires-clause-within : goal.members_of-members-requires-clause-within
@@ -48,13 +48,32 @@ clear-requires-clause-in_mates c =
     start : (a j y : ℕ) → a + 1 + j + y ≡ suc a + j + y
     start a j y = omega arith
 
-pub returns : goal.returns
-returns c = λ g r f is.
+pub returns-clause-holds : goal.returns-clause-holds
+returns-clause-holds c = λ g r f is.
     let long = c.in_ok-ring.ensures.length in
     let last = c.requires.last.j_in in
     let last_i = c.requires.last.i_in in
     blossom_holds g r f c.args.mate.now c.args.ways.now is c.args.meeting.i c.args.meeting.j (let b = c.requires.last.i_in in omega arith) (let b = c.requires.last.j_in in omega arith) c.requires.last.meet (λ s u a b d. c.requires.last.latest s u a (omega arith) (omega arith)) c.in_ok-ring.ring.items (λ y b. c.in_ok-ring.ensures.low y b ∙ ap (λ (row : List ℕ). numbers row (c.args.ways.now.first + c.args.ways.now.first + 1 + c.args.meeting.j + y)) c.deref.ensures.value ∙ ap (numbers c.args.ways.now.row.items) (start (c.args.ways.now.first + c.args.ways.now.first) c.args.meeting.j y)) (λ y b. c.in_ok-ring.ensures.high y b ∙ ap (λ (row : List ℕ). numbers row (c.args.meeting.i + 1 + (c.args.ways.now.first + c.args.ways.now.first - c.args.meeting.i - 1 - y))) c.deref.ensures.value)
     (record { ring = c.in_ok-ring.ring; members = c.members_of-members.result }) refl (omega arith)
+    (subst (λ (row : List ℕ). (v : ℕ) → mem c.members_of-members.result v ≡ listed (length row - 1) (numbers row) v) c.deref-2.ensures.value c.members_of-members.ensures)
+    c.clear.new.mate
+    (λ u. c.clear.ensures u ∙ ap₂ (λ (row : List ℕ) (m : ℕ → ℕ). cleared_mates m (length row - 1) (numbers row) u) c.deref-4.ensures.value (fun_ext (λ v. c.flip.ensures v
+    ∙ ap₂ (λ (row : List ℕ) (s : ℕ). flipped_mates (numbers c.args.mate.now) (part row s) (c.args.meeting.j / 2) v) c.deref-3.ensures.value (one_more (c.args.ways.now.first + c.args.ways.now.first)))))
+  where
+    start : (a j y : ℕ) → a + 1 + j + y ≡ suc a + j + y
+    start a j y = omega arith
+
+    one_more : (a : ℕ) → a + 1 ≡ suc a
+    one_more a = omega arith
+
+pub returns-clause-exposed : goal.returns-clause-exposed
+returns-clause-exposed c =
+    let q = c.requires.ways in
+    let long = c.in_ok-ring.ensures.length in
+    let last = c.requires.last.j_in in
+    let last_i = c.requires.last.i_in in
+    blossom_exposes q.0 q.1 q.2 c.args.mate.now c.args.ways.now q.3 c.args.meeting.i c.args.meeting.j (let b = c.requires.last.i_in in omega arith) (let b = c.requires.last.j_in in omega arith) c.requires.last.meet (λ s u a b d. c.requires.last.latest s u a (omega arith) (omega arith)) c.in_ok-ring.ring.items (λ y b. c.in_ok-ring.ensures.low y b ∙ ap (λ (row : List ℕ). numbers row (c.args.ways.now.first + c.args.ways.now.first + 1 + c.args.meeting.j + y)) c.deref.ensures.value ∙ ap (numbers c.args.ways.now.row.items) (start (c.args.ways.now.first + c.args.ways.now.first) c.args.meeting.j y)) (λ y b. c.in_ok-ring.ensures.high y b ∙ ap (λ (row : List ℕ). numbers row (c.args.meeting.i + 1 + (c.args.ways.now.first + c.args.ways.now.first - c.args.meeting.i - 1 - y))) c.deref.ensures.value)
+    (record { ring = c.in_ok-ring.ring; members = c.members_of-members.result }) (omega arith)
     (subst (λ (row : List ℕ). (v : ℕ) → mem c.members_of-members.result v ≡ listed (length row - 1) (numbers row) v) c.deref-2.ensures.value c.members_of-members.ensures)
     c.clear.new.mate
     (λ u. c.clear.ensures u ∙ ap₂ (λ (row : List ℕ) (m : ℕ → ℕ). cleared_mates m (length row - 1) (numbers row) u) c.deref-4.ensures.value (fun_ext (λ v. c.flip.ensures v

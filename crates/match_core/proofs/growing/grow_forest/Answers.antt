@@ -14,13 +14,19 @@ or_false_parts : (a b : Bool) → (a || b) ≡ false → (a ≡ false) × (b ≡
 or_false_parts true b q = absurd (Rattle.std.proofs.lemmas.Bool.true≢false q)
 or_false_parts false b q = (refl, q)
 
+pub exposed_in-roots-requires-clause-vertices : goal.exposed_in-roots-requires-clause-vertices
+exposed_in-roots-requires-clause-vertices c = λ v l.
+    let q = c.requires.holds in
+    let w = (left_parts q.0 q.1 c.args.instance.now q.3.instance_is v l).0 in
+    let long = q.3.long in omega arith
+
 pub growing-init : goal.growing-init
 growing-init c = record {
   holds = λ g r f is.
       let e = is.instance_is.one_each in
       let n : c.len-n.result ≡ g.order = cc in
       roots_hold g r f c.args.instance.now c.args.mate.now is c.in_ok-forest.forest
-      (λ v. ap (λ (x : List ℕ). mem x v) c.in_ok-forest.ensures.outer ∙ subst (λ (k : ℕ). mem c.exposed_in.result v ≡ ((Rattle.std.proofs.Common.nat_lt 0 v && Rattle.std.proofs.Common.nat_le v k) && (mem c.args.instance.now.left v && (numbers c.args.mate.now v == 0)))) n (c.exposed_in.ensures v))
+      (λ v. ap (λ (x : List ℕ). mem x v) c.in_ok-forest.ensures.outer ∙ c.exposed_in-roots.ensures v)
       c.in_ok-forest.ensures.inner (c.in_ok-forest.ensures.parents_long ∙ ap suc n) (c.in_ok-forest.ensures.pairs_long ∙ ap suc n) c.in_ok-forest.ensures.pairs;
   opens = λ x o. o;
   done = λ x o n. absurd (both_ways (mem c.in_ok-forest.forest.outer x) n o);
@@ -28,7 +34,7 @@ growing-init c = record {
 
 pub near-requires-clause-vertex : goal.near-requires-clause-vertex
 near-requires-clause-vertex c =
-    let q = c.requires in
+    let q = c.requires.holds in
     let h = c.growing.invariant.holds q.0 q.1 q.2 q.3 in
     let w = (h.forest.outer_in c.in-Some.x (c.growing.invariant.opens c.in-Some.x c.in-Some.ensures.some.member)).0 in
     let e = q.3.instance_is.one_each in omega arith
@@ -51,7 +57,7 @@ returns-in-Some-first c = λ g r f is. record {
 
 pub growing-smaller-in-None : goal.growing-smaller-in-None
 growing-smaller-in-None c =
-    let q = c.requires in
+    let q = c.requires.holds in
     let h = c.growing.invariant.holds q.0 q.1 q.2 q.3 in
     let member = c.in-Some.ensures.some.member in
     let w = (h.forest.outer_in c.in-Some.x (c.growing.invariant.opens c.in-Some.x member)).0 in
@@ -64,7 +70,7 @@ growing-preserved-in-None c = record {
   opens = λ v o. c.growing.invariant.opens v (and_parts (mem c.growing.«open» v) (not (c.in-Some.x == v)) (sym (c.without-open.ensures v) ∙ o)).0;
   done = λ v o n. elim (cases_eq c.in-Some.x v) [
     | inl same ↦
-        let q = c.requires in
+        let q = c.requires.holds in
         let h = c.growing.invariant.holds q.0 q.1 q.2 q.3 in
         let w = (h.forest.outer_in c.in-Some.x (c.growing.invariant.opens c.in-Some.x c.in-Some.ensures.some.member)).0 in
         let e = q.3.instance_is.one_each in
@@ -76,7 +82,7 @@ growing-preserved-in-None c = record {
 
 pub bounds-mate-y : goal.bounds-mate-y
 bounds-mate-y c =
-    let q = c.requires in
+    let q = c.requires.holds in
     let h = c.growing.invariant.holds q.0 q.1 q.2 q.3 in
     let ox = c.growing.invariant.opens c.in-Some.x c.in-Some.ensures.some.member in
     let w = (h.forest.outer_in c.in-Some.x ox).0 in
@@ -91,7 +97,7 @@ bounds-mate-y c =
 
 pub branch-forest-requires-in-Some-first-2-clause-x_in : goal.branch-forest-requires-in-Some-first-2-clause-x_in
 branch-forest-requires-in-Some-first-2-clause-x_in c =
-    let q = c.requires in
+    let q = c.requires.holds in
     let h = c.growing.invariant.holds q.0 q.1 q.2 q.3 in
     let ox = c.growing.invariant.opens c.in-Some.x c.in-Some.ensures.some.member in
     let w = (h.forest.outer_in c.in-Some.x ox).0 in
@@ -106,7 +112,7 @@ branch-forest-requires-in-Some-first-2-clause-x_in c =
 
 pub branch-forest-requires-in-Some-first-2-clause-y_in : goal.branch-forest-requires-in-Some-first-2-clause-y_in
 branch-forest-requires-in-Some-first-2-clause-y_in c =
-    let q = c.requires in
+    let q = c.requires.holds in
     let h = c.growing.invariant.holds q.0 q.1 q.2 q.3 in
     let ox = c.growing.invariant.opens c.in-Some.x c.in-Some.ensures.some.member in
     let w = (h.forest.outer_in c.in-Some.x ox).0 in
@@ -121,7 +127,7 @@ branch-forest-requires-in-Some-first-2-clause-y_in c =
 
 pub branch-forest-requires-in-Some-first-2-clause-z_in : goal.branch-forest-requires-in-Some-first-2-clause-z_in
 branch-forest-requires-in-Some-first-2-clause-z_in c =
-    let q = c.requires in
+    let q = c.requires.holds in
     let h = c.growing.invariant.holds q.0 q.1 q.2 q.3 in
     let ox = c.growing.invariant.opens c.in-Some.x c.in-Some.ensures.some.member in
     let w = (h.forest.outer_in c.in-Some.x ox).0 in
@@ -136,7 +142,7 @@ branch-forest-requires-in-Some-first-2-clause-z_in c =
 
 pub branch-forest-requires-in-Some-first-2-clause-z_vertex : goal.branch-forest-requires-in-Some-first-2-clause-z_vertex
 branch-forest-requires-in-Some-first-2-clause-z_vertex c =
-    let q = c.requires in
+    let q = c.requires.holds in
     let h = c.growing.invariant.holds q.0 q.1 q.2 q.3 in
     let ox = c.growing.invariant.opens c.in-Some.x c.in-Some.ensures.some.member in
     let w = (h.forest.outer_in c.in-Some.x ox).0 in
@@ -151,7 +157,7 @@ branch-forest-requires-in-Some-first-2-clause-z_vertex c =
 
 pub branch-forest-requires-in-Some-first-2-clause-shallow : goal.branch-forest-requires-in-Some-first-2-clause-shallow
 branch-forest-requires-in-Some-first-2-clause-shallow c =
-    let q = c.requires in
+    let q = c.requires.holds in
     let h = c.growing.invariant.holds q.0 q.1 q.2 q.3 in
     let ox = c.growing.invariant.opens c.in-Some.x c.in-Some.ensures.some.member in
     let w = (h.forest.outer_in c.in-Some.x ox).0 in
@@ -166,7 +172,7 @@ branch-forest-requires-in-Some-first-2-clause-shallow c =
 
 pub with-open-requires : goal.with-open-requires
 with-open-requires c =
-    let q = c.requires in
+    let q = c.requires.holds in
     let h = c.growing.invariant.holds q.0 q.1 q.2 q.3 in
     let ox = c.growing.invariant.opens c.in-Some.x c.in-Some.ensures.some.member in
     let w = (h.forest.outer_in c.in-Some.x ox).0 in
@@ -181,7 +187,7 @@ with-open-requires c =
 
 pub growing-smaller : goal.growing-smaller
 growing-smaller c =
-    let q = c.requires in
+    let q = c.requires.holds in
     let h = c.growing.invariant.holds q.0 q.1 q.2 q.3 in
     let ox = c.growing.invariant.opens c.in-Some.x c.in-Some.ensures.some.member in
     let w = (h.forest.outer_in c.in-Some.x ox).0 in
