@@ -85,3 +85,7 @@ rising_pairs n = flat_map (λ a. map (pair_with a) (rising_list n (nat_lt a))) (
 -- all pairs of 1 to n, in lexicographic order
 abbrev pub ordered_pairs : ℕ → List (ℕ × ℕ)
 ordered_pairs n = flat_map (λ a. map (pair_with a) (rising_list n everything)) (rising_list n everything)
+
+-- k is before l in lexicographic order
+abbrev pub ComesBefore : ℕ × ℕ → ℕ × ℕ → Type 0
+ComesBefore k l = (k.0 < l.0) ⊎ ((k.0 ≡ l.0) × (k.1 < l.1))

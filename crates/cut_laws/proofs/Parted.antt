@@ -2,11 +2,11 @@
 use Rattle.std.proofs.Common.{◌≡◌, ◌≢◌, ◌↔◌, ℕ, true, false, ◌==◌, eq-eqb, ne_eqb, sym}
 use Rattle.std.proofs.lemmas.Bool.{both_ways, or_from, or_left, or_right}
 use Rattle.counting.specs.Counts.{Within}
-use Rattle.counting.specs.Sets.{Set, pair_set}
+use Rattle.counting.specs.Sets.{pair_set}
 use Rattle.graph_core.specs.Graph.{Graph, IsGraph}
 use Rattle.tight_cuts.proofs.LeastShores.{parted_found, parted_says}
 use Rattle.tight_cuts.specs.Candidates.{is_parted}
-use Rattle.tight_cuts.specs.Pieces.{PartsTightly}
+use Rattle.cut_laws.specs.Words.{IsParted}
 
 -- v is neither a nor b
 differs : (a b v : ℕ) → pair_set a b v ≡ false → (v ≢ a) × (v ≢ b)
@@ -19,7 +19,7 @@ off-pair : (a b v : ℕ) → v ≢ a → v ≢ b → pair_set a b v ≡ false
 off-pair a b v first second = or_from (a == v) (b == v) (ne_eqb a v (λ e. first (sym e))) (ne_eqb b v (λ e. second (sym e)))
 
 pub parted-words : (g : Graph) (a b : ℕ) (k : ℕ × ℕ) → IsGraph g → Within g.order a → Within g.order b → Within g.order k.0 → Within g.order k.1 →
-    (is_parted g a b k ≡ true) ↔ (((k.0 ≢ a) × (k.0 ≢ b)) × ((k.1 ≢ a) × (k.1 ≢ b)) × ((z : Set) × PartsTightly g a b k z))
+    (is_parted g a b k ≡ true) ↔ IsParted g a b k
 parted-words g a b k is wa wb w0 w1 = (
   λ h. let r = parted_says g a b k h in (differs a b k.0 r.0, differs a b k.1 r.1, r.2),
   λ h. parted_found g a b k h.2.0 is wa wb w0 w1 (off-pair a b k.0 h.0.0 h.0.1) (off-pair a b k.1 h.1.0 h.1.1) h.2.1,

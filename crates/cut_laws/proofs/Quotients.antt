@@ -18,8 +18,7 @@ use Rattle.graph_core.specs.Graph.{Graph, IsBipartite, IsGraph, first_end, in_cu
 use Rattle.graph_core.specs.Partitions.{AreBlocks, place}
 use Rattle.graph_core.specs.Quotients.{quotient}
 use Rattle.graph_core.specs.Shores.{IsUnion, blocks_in}
-use Rattle.graph_core.specs.Tight.{IsNontrivial}
-use Rattle.leaf_kinds.specs.LeafKinds.{HasNoTightCut}
+use Rattle.graph_core.specs.Tight.{HasNoTightCut, IsNontrivial}
 use Rattle.tree_core.proofs.CutsBelow.{covered-leaves}
 use Rattle.tree_core.proofs.DerivationLeaves.{partitions-leaves, uncut-leaves}
 use Rattle.tree_core.specs.Derivations.{IsDerivation, IsLeafAt}

@@ -1,10 +1,14 @@
--- Bricks and braces (Lovász 1987; Lucchesi and Murty, "Perfect Matchings").
-use Rattle.std.specs.Prelude.{ℕ, List, ◌⊎◌}
+-- Bricks and braces (Lovász 1987; Lucchesi and Murty, "Perfect Matchings"), and the pairs of vertices that tight sets part.
+use Rattle.std.specs.Prelude.{◌≢◌, ℕ, List, ◌⊎◌}
+use Rattle.counting.specs.Counts.{Within}
+use Rattle.counting.specs.Lists.{ComesBefore}
+use Rattle.counting.specs.Sets.{Set}
 use Rattle.graph_core.specs.Covered.{IsCovered}
 use Rattle.graph_core.specs.Graph.{Graph}
 use Rattle.graph_core.specs.Quotients.{quotient}
 use Rattle.graph_core.specs.declared.verdict.Kind.TheVariants as kind
 use Rattle.leaf_kinds.specs.LeafKinds.{IsKind}
+use Rattle.tight_cuts.specs.Pieces.{PartsTightly}
 
 -- a brace: a bipartite matching covered graph without nontrivial tight cut
 abbrev pub IsBrace : Graph → Type 0
@@ -17,3 +21,14 @@ IsBrick g = IsCovered g × IsKind g kind.Brick
 -- the quotient at p is a brick or a brace
 abbrev pub EndsInBrickOrBrace : Graph → List (List ℕ) → Type 0
 EndsInBrickOrBrace g p = IsBrick (quotient g p) ⊎ IsBrace (quotient g p)
+
+-- both vertices of the pair differ from a and b, and some tight set has a and the first of them and neither b nor the second
+abbrev pub IsParted : Graph → (a b : ℕ) → ℕ × ℕ → Type 0
+IsParted g a b k = ((k.0 ≢ a) × (k.0 ≢ b)) × ((k.1 ≢ a) × (k.1 ≢ b)) × ((z : Set) × PartsTightly g a b k z)
+
+-- k is the first such pair of vertices in lexicographic order
+pub record IsFirstParted (g : Graph) (a b : ℕ) (k : ℕ × ℕ) : Type 0 where
+  pub first : Within g.order k.0
+  pub second : Within g.order k.1
+  pub parted : IsParted g a b k
+  pub before : (l : ℕ × ℕ) → Within g.order l.0 → Within g.order l.1 → ComesBefore l k → IsParted g a b l → ⊥

@@ -1,10 +1,11 @@
-//! What does the third part of the candidates list? The law is the contract of a function that does nothing.
-ghost use Rattle.std.specs.Prelude.{◌≡◌, ◌≢◌, ℕ, true, ◌↔◌};
+//! What does the third part of the candidates list? Each law is the contract of a function that does nothing.
+ghost use Rattle.std.specs.Prelude.{◌≡◌, ℕ, true, Some, None, ◌↔◌};
 ghost use Rattle.counting.specs.Counts.{Within};
 ghost use Rattle.counting.specs.Sets.{Set};
-ghost use Rattle.graph_core.specs.Graph.{Graph, IsGraph};
-ghost use Rattle.tight_cuts.specs.Candidates.{common_shore, is_parted, parts_tightly};
+ghost use Rattle.graph_core.specs.Graph.{Graph, IsGraph, size};
+ghost use Rattle.tight_cuts.specs.Candidates.{common_shore, first_parted, greater_end, is_parted, lesser_end, parts_tightly};
 ghost use Rattle.tight_cuts.specs.Pieces.{PartsTightly};
+ghost use Rattle.cut_laws.specs.Words.{IsFirstParted, IsParted};
 
 /// The tests of the third part. A set parts two vertices x and y beside an edge from a to b exactly where it is a tight set with a and x
 /// and with neither b nor y. The pair is parted exactly where both vertices differ from a and b and some tight set parts it so, and the
@@ -12,7 +13,16 @@ ghost use Rattle.tight_cuts.specs.Pieces.{PartsTightly};
 pub fn third_part_law()
     ensures parts { (g : Graph) (a b : ℕ) (k : ℕ × ℕ) (z : Set) → ((parts_tightly g a b k z ≡ true) ↔ PartsTightly g a b k z) }
     ensures some { (g : Graph) (a b : ℕ) (k : ℕ × ℕ) → IsGraph g → Within g.order a → Within g.order b → Within g.order k.0 → Within g.order k.1 →
-        ((is_parted g a b k ≡ true) ↔ (((k.0 ≢ a) × (k.0 ≢ b)) × ((k.1 ≢ a) × (k.1 ≢ b)) × ((z : Set) × PartsTightly g a b k z))) }
+        ((is_parted g a b k ≡ true) ↔ IsParted g a b k) }
     ensures all { (g : Graph) (a b : ℕ) (k : ℕ × ℕ) (v : ℕ) → IsGraph g → Within g.order a → Within g.order b → Within g.order k.0 → Within g.order k.1 → Within g.order v →
         ((common_shore g a b k v ≡ true) ↔ ((z : Set) → PartsTightly g a b k z → z v ≡ true)) }
+{}
+
+/// The pair that the third part takes at an edge is the first, in lexicographic order, that some tight set with the lesser end of the edge
+/// and without the greater one parts; it takes none exactly where no pair is parted.
+pub fn first_parted_law()
+    ensures first { (g : Graph) (e : ℕ) (k : ℕ × ℕ) → IsGraph g → Within (size g) e →
+        ((first_parted g e ≡ Some k) ↔ IsFirstParted g (lesser_end g e) (greater_end g e) k) }
+    ensures none { (g : Graph) (e : ℕ) → IsGraph g → Within (size g) e →
+        ((first_parted g e ≡ None) ↔ ((k : ℕ × ℕ) → Within g.order k.0 → Within g.order k.1 → ¬ (IsParted g (lesser_end g e) (greater_end g e) k))) }
 {}

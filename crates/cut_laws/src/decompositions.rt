@@ -3,7 +3,7 @@ ghost use Rattle.std.specs.Prelude.{ℕ, List, ◌↔◌, All};
 ghost use Rattle.graph_core.specs.Graph.{Graph, IsGraph};
 ghost use Rattle.graph_core.specs.Partitions.{AreBlocks};
 ghost use Rattle.graph_core.specs.Quotients.{quotient};
-ghost use Rattle.leaf_kinds.specs.LeafKinds.{HasNoTightCut};
+ghost use Rattle.graph_core.specs.Tight.{HasNoTightCut};
 ghost use Rattle.tree_core.specs.Derivations.{IsDerivation, IsLeafAt, IsTightShore};
 ghost use Rattle.tree_core.specs.Leaves.{leaves};
 ghost use Rattle.tree_core.specs.Shapes.{Shape, shores};

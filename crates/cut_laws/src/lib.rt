@@ -2,7 +2,8 @@
 //!
 //! `bricks_and_braces_law`: a derivation of a matching covered graph ends in bricks and braces. `leaf_law`: a leaf is a partition whose
 //! quotient has no nontrivial tight cut. `third_part_law`: the third part of the candidates, which is defined by tests over all sets, by
-//! "some tight set" and "in all tight sets". No other crate stands on this one.
+//! "some tight set" and "in all tight sets". `first_parted_law`: the pair that it takes at an edge, which is defined by a search, by "the
+//! first in lexicographic order". No other crate stands on this one.
 //!
 //! Stands on `tree_core`, `tight_cuts` and `leaf_kinds`. Source: Lovász, "Matching structure and the matching lattice" (1987).
 #![tactic(auto)]
@@ -10,5 +11,5 @@
 mod candidates;
 mod decompositions;
 
-pub use candidates::third_part_law;
+pub use candidates::{first_parted_law, third_part_law};
 pub use decompositions::{bricks_and_braces_law, leaf_law};

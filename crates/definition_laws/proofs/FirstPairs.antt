@@ -6,14 +6,14 @@ use Rattle.std.specs.Prelude.{find}
 use Rattle.counting.proofs.Pairs.{HasPair, rows_hold, rows_only, map_pair, append_pair}
 use Rattle.counting.proofs.RisingLists.{above_first, mem-all, rising-tail, rising_list-rises}
 use Rattle.counting.specs.Counts.{Within}
-use Rattle.counting.specs.Lists.{IsRisingIn, pair_with, rising_list, rising_pairs}
+use Rattle.counting.specs.Lists.{IsRisingIn, pair_with, rising_list, rising_pairs, ComesBefore}
 use Rattle.counting.specs.Sets.{everything, pair_set}
 use Rattle.graph_core.proofs.Decide.{has_perfect_found, has_perfect_says}
 use Rattle.graph_core.specs.Components.{component_count}
 use Rattle.graph_core.specs.Graph.{Graph}
 use Rattle.graph_core.specs.Matchings.{HasPerfect, has_perfect}
 use Rattle.graph_core.specs.Structure.{cut_pair, unlike_pair}
-use Rattle.definition_laws.specs.Words.{ComesBefore, IsFirstPair}
+use Rattle.definition_laws.specs.Words.{IsFirstPair}
 
 -- each pair is before all later ones
 abbrev Rising : List (ℕ × ℕ) → Type 0

@@ -2,7 +2,7 @@
 -- Any textbook (Lovász and Plummer, "Matching Theory").
 use Rattle.std.specs.Prelude.{◌≡◌, ◌≢◌, ◌<◌, ◌⊎◌, ◌↔◌, ℕ, true, false, List, [], length}
 use Rattle.counting.specs.Counts.{Within}
-use Rattle.counting.specs.Lists.{mem, IsRisingIn}
+use Rattle.counting.specs.Lists.{mem, ComesBefore, IsRisingIn}
 use Rattle.counting.specs.Sets.{Set}
 use Rattle.graph_core.specs.Covered.{Reason, Small, Parted, Unmatched, Unallowed}
 use Rattle.graph_core.specs.Graph.{Graph, size, first_end, second_end}
@@ -51,10 +51,6 @@ LeavesBlocks g p m = (e : ℕ) → Within (size g) e → m e ≡ true → place 
 abbrev pub MeetsEachBlockOnce : Graph → List (List ℕ) → Set → Type 0
 MeetsEachBlockOnce g p m = (i : ℕ) → Within (length p) i →
     (e : ℕ) × Within (size g) e × (m e ≡ true) × HasEndIn g p e i × ((f : ℕ) → Within (size g) f → m f ≡ true → HasEndIn g p f i → f ≡ e)
-
--- k is before l in lexicographic order
-abbrev pub ComesBefore : ℕ × ℕ → ℕ × ℕ → Type 0
-ComesBefore k l = (k.0 < l.0) ⊎ ((k.0 ≡ l.0) × (k.1 < l.1))
 
 -- k is the first pair a < b of 1 to n, in lexicographic order, of which P holds
 abbrev pub IsFirstPair : ℕ → (ℕ → ℕ → Type 0) → ℕ × ℕ → Type 0

@@ -29,6 +29,10 @@ pub record IsNontrivial (n : ℕ) (x : Set) : Type 0 where
 abbrev pub is_nontrivial : ℕ → Set → Bool
 is_nontrivial n x = nat_le 3 (count n x) && nat_le 3 (count n (complement x))
 
+-- no tight shore of g is nontrivial; a covered graph of which this holds is a brick or a brace
+abbrev pub HasNoTightCut : Graph → Type 0
+HasNoTightCut g = (x : Set) → IsTight g x → IsNontrivial g.order x → ⊥
+
 -- the shore of the cut of x that does not hold n
 abbrev pub canonical_shore : ℕ → Set → Set
 canonical_shore n x v = if x n then not (x v) else x v

@@ -1,16 +1,11 @@
 -- The kind of a covered graph: brace, brick or composite (Lovász 1987; Lucchesi and Murty, "Perfect Matchings").
 use Rattle.std.specs.Prelude.{ℕ, ◌≤◌, List, Option, Some, None}
-use Rattle.counting.specs.Sets.{Set}
 use Rattle.counting.specs.Lists.{mem}
 use Rattle.graph_core.specs.Graph.{Graph, IsBipartite}
 use Rattle.graph_core.specs.Structure.{IsBicritical, IsCutPair}
-use Rattle.graph_core.specs.Tight.{IsTight, IsNontrivial}
+use Rattle.graph_core.specs.Tight.{IsTight, IsNontrivial, HasNoTightCut}
 use Rattle.graph_core.specs.declared.verdict.Kind.{Kind}
 use Rattle.graph_core.specs.declared.verdict.Kind.TheVariants.{Brace, Brick, Composite}
-
--- g has no nontrivial tight cut
-abbrev pub HasNoTightCut : Graph → Type 0
-HasNoTightCut g = (x : Set) → IsTight g x → IsNontrivial g.order x → ⊥
 
 -- a brace is bipartite and a brick is not, and neither has a nontrivial tight cut; a composite graph is shown by the shore of one
 abbrev pub IsKind : Graph → Kind → Type 0

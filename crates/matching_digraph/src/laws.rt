@@ -5,7 +5,7 @@ ghost use Rattle.counting.specs.Sets.{Set, complement, none};
 ghost use Rattle.graph_core.specs.Covered.{IsCovered};
 ghost use Rattle.graph_core.specs.Graph.{Graph, IsGraph};
 ghost use Rattle.graph_core.specs.Matchings.{IsPerfect};
-ghost use Rattle.graph_core.specs.Tight.{IsNontrivial, IsTight};
+ghost use Rattle.graph_core.specs.Tight.{HasNoTightCut, IsTight};
 ghost use Rattle.graph_core.specs.Walks.{Walk};
 ghost use Rattle.barrier_kit.specs.BarrierCuts.{IsSide};
 ghost use Rattle.matching_digraph.specs.Digraph.{NoArcLeaves, NoneParts, Spans, arc, are_mates, reached_past, step_past};
@@ -40,6 +40,6 @@ pub fn unparted_law()
 /// in one perfect matching.
 pub fn parted_mates_law()
     ensures { (g : Graph) (x m : Set) → IsGraph g → IsCovered g → IsSide g x → IsPerfect g none m →
-        ((y : Set) → IsTight g y → ¬ (IsNontrivial g.order y))
+        HasNoTightCut g
         ↔ ((a b : ℕ) → x a ≡ true → are_mates g m a b ≡ true → NoneParts g a b) }
 {}

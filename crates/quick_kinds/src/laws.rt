@@ -3,12 +3,12 @@ ghost use Rattle.std.specs.Prelude.{◌↔◌};
 ghost use Rattle.counting.specs.Sets.{Set};
 ghost use Rattle.graph_core.specs.Covered.{IsCovered};
 ghost use Rattle.graph_core.specs.Graph.{Graph, IsGraph};
-ghost use Rattle.graph_core.specs.Tight.{IsNontrivial, IsTight};
+ghost use Rattle.graph_core.specs.Tight.{HasNoTightCut};
 ghost use Rattle.barrier_kit.specs.BarrierCuts.{IsSide};
 ghost use Rattle.quick_kinds.specs.Braces.{AreFoursMatched};
 
 /// The theorem on braces: a covered graph with the sides x and its complement has no nontrivial tight cut exactly where it
 /// has a perfect matching without any two vertices of each side (Lovász and Plummer, "Matching Theory").
 pub fn brace_law()
-    ensures { (g : Graph) (x : Set) → IsGraph g → IsCovered g → IsSide g x → ((y : Set) → IsTight g y → ¬ (IsNontrivial g.order y)) ↔ AreFoursMatched g x }
+    ensures { (g : Graph) (x : Set) → IsGraph g → IsCovered g → IsSide g x → HasNoTightCut g ↔ AreFoursMatched g x }
 {}

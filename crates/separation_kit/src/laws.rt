@@ -2,12 +2,12 @@
 ghost use Rattle.std.specs.Prelude.{◌≡◌, ◌≢◌, ◌≤◌, ◌↔◌, ℕ, true, false, None, All, []};
 ghost use Rattle.counting.specs.Counts.{Within, count, is_odd};
 ghost use Rattle.counting.specs.Lists.{mem};
-ghost use Rattle.counting.specs.Sets.{Set, pair_set, singleton, union};
+ghost use Rattle.counting.specs.Sets.{pair_set, singleton, union};
 ghost use Rattle.graph_core.specs.Covered.{IsCovered};
 ghost use Rattle.graph_core.specs.Graph.{Graph, IsBipartite, IsGraph, IsMultigraph};
 ghost use Rattle.graph_core.specs.Matchings.{HasPerfect};
 ghost use Rattle.graph_core.specs.Structure.{IsBicritical, IsCutPair, cut_pair, unlike_pair};
-ghost use Rattle.graph_core.specs.Tight.{IsNontrivial, IsTight};
+ghost use Rattle.graph_core.specs.Tight.{HasNoTightCut, IsNontrivial, IsTight};
 ghost use Rattle.graph_core.specs.Walks.{joined};
 ghost use Rattle.barrier_kit.specs.CanonicalCuts.{IsCanonicalCut};
 ghost use Rattle.separation_kit.specs.SeparationShores.{separation_cuts, separation_shores};
@@ -42,6 +42,6 @@ pub fn separation_cuts_law()
 /// bicritical and has no cut pair (Lovász 1987).
 pub fn brick_law()
     ensures four { (g : Graph) → IsMultigraph g → IsCovered g → ¬ (IsBipartite g) → 4 ≤ g.order }
-    ensures bicritical { (g : Graph) → IsMultigraph g → IsCovered g → ¬ (IsBipartite g) → ((x : Set) → IsTight g x → IsNontrivial g.order x → ⊥) → IsBicritical g }
-    ensures connected { (g : Graph) → IsMultigraph g → IsCovered g → ¬ (IsBipartite g) → ((x : Set) → IsTight g x → IsNontrivial g.order x → ⊥) → (u v : ℕ) → ¬ (IsCutPair g u v) }
+    ensures bicritical { (g : Graph) → IsMultigraph g → IsCovered g → ¬ (IsBipartite g) → HasNoTightCut g → IsBicritical g }
+    ensures connected { (g : Graph) → IsMultigraph g → IsCovered g → ¬ (IsBipartite g) → HasNoTightCut g → (u v : ℕ) → ¬ (IsCutPair g u v) }
 {}

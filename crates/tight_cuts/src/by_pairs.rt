@@ -6,7 +6,7 @@ ghost use Rattle.counting.specs.Sets.{Set};
 ghost use Rattle.graph_core.specs.Covered.{IsCovered};
 ghost use Rattle.graph_core.specs.Graph.{in_cut, size};
 ghost use Rattle.graph_core.specs.Matchings.{Together};
-ghost use Rattle.graph_core.specs.Tight.{IsNontrivial, IsTight};
+ghost use Rattle.graph_core.specs.Tight.{HasNoTightCut, IsNontrivial, IsTight};
 ghost use Rattle.allowed_edges.specs.PairTables.{edge_lists, holds_both};
 ghost use Rattle.tight_cuts.specs.Candidates.{IsTightCandidate, ShoresDiffer, candidates, cuts, front_candidates, greater_end, lesser_end, with_edge_cut};
 ghost use Rattle.tight_cuts.specs.EdgeSearch.{AreLeaders, AreWeights, IsShoreOfEdge, IsShoreOfPair, Leads, NoneBefore};
@@ -173,7 +173,7 @@ pub fn candidates_by_pairs(alloc: Global, g: &MultiGraph) -> Result<CandidateLis
     ensures tight { IfOk result (λ list. All (IsTightCandidate g.now) list) }
     ensures once { IfOk result (λ list. AllPairs ShoresDiffer list) }
     ensures cover { IfOk result (λ list. (x : Set) (e : ℕ) → Within (size g.now) e → IsTight g.now x → IsNontrivial g.now.order x → in_cut g.now x e ≡ true → list_any (cuts g.now e) list ≡ true) }
-    ensures none { IfOk result (λ list. (list ≡ []) ↔ ((x : Set) → IsTight g.now x → IsNontrivial g.now.order x → ⊥)) }
+    ensures none { IfOk result (λ list. (list ≡ []) ↔ HasNoTightCut g.now) }
 {
     g.keeps_limits();
     let mut list = front_candidates(alloc, g)?;

@@ -9,7 +9,7 @@ ghost use Rattle.graph_core.specs.Covered.{IsCovered};
 ghost use Rattle.graph_core.specs.Graph.{in_cut, size};
 ghost use Rattle.graph_core.specs.Matchings.{IsPerfect, Together};
 ghost use Rattle.graph_core.specs.Structure.{IsBicritical, cut_pair};
-ghost use Rattle.graph_core.specs.Tight.{IsNontrivial, IsTight};
+ghost use Rattle.graph_core.specs.Tight.{HasNoTightCut, IsNontrivial, IsTight};
 ghost use Rattle.match_core.specs.MatchingRows.{IsOf, edges_of};
 ghost use Rattle.match_core.specs.Partners.{ArePartners};
 ghost use Rattle.allowed_edges.specs.PairTables.{edge_lists, holds_both};
@@ -210,7 +210,7 @@ pub fn candidates(alloc: Global, g: &MultiGraph) -> Result<CandidateList, Memory
     ensures tight { IfOk result (λ list. All (IsTightCandidate g.now) list) }
     ensures once { IfOk result (λ list. AllPairs ShoresDiffer list) }
     ensures cover { IfOk result (λ list. (x : Set) (e : ℕ) → Within (size g.now) e → IsTight g.now x → IsNontrivial g.now.order x → in_cut g.now x e ≡ true → list_any (cuts g.now e) list ≡ true) }
-    ensures none { IfOk result (λ list. (list ≡ []) ↔ ((x : Set) → IsTight g.now x → IsNontrivial g.now.order x → ⊥)) }
+    ensures none { IfOk result (λ list. (list ≡ []) ↔ HasNoTightCut g.now) }
 {
     g.keeps_limits();
     let list = all_candidates(alloc, g)?;
@@ -223,7 +223,7 @@ pub fn first_candidate(alloc: Global, g: &MultiGraph) -> Result<Option<Candidate
     requires { IsCovered g.now }
     ensures first { IfOk result (λ found. option_map candidate_of found ≡ first_of (candidates g.now)) }
     ensures some { IfOk result (λ found. (c : _) → found ≡ Some c → IsTightCandidate g.now (candidate_of c)) }
-    ensures none { IfOk result (λ found. (found ≡ None) ↔ ((x : Set) → IsTight g.now x → IsNontrivial g.now.order x → ⊥)) }
+    ensures none { IfOk result (λ found. (found ≡ None) ↔ HasNoTightCut g.now) }
 {
     let table = all_partners(alloc, g)?;
     let pair = pair_where_bicritical(alloc, g, &table)?;
@@ -243,7 +243,7 @@ pub fn first_candidate_in(
     requires pair { IsBicritical g.now → option_map pair_of pair ≡ cut_pair g.now }
     ensures first { IfOk result (λ found. option_map candidate_of found ≡ first_of (candidates g.now)) }
     ensures some { IfOk result (λ found. (c : _) → found ≡ Some c → IsTightCandidate g.now (candidate_of c)) }
-    ensures none { IfOk result (λ found. (found ≡ None) ↔ ((x : Set) → IsTight g.now x → IsNontrivial g.now.order x → ⊥)) }
+    ensures none { IfOk result (λ found. (found ≡ None) ↔ HasNoTightCut g.now) }
 {
     g.keeps_limits();
     let found = first_found(alloc, g, table, pair)?;
@@ -278,7 +278,7 @@ pub fn find_any(alloc: Global, g: &MultiGraph) -> Result<Option<VSet>, Memory>
     requires { IsCovered g.now }
     ensures first { IfOk result (λ found. found ≡ first_shore (candidates g.now)) }
     ensures some { IfOk result (λ found. (s : _) → found ≡ Some s → IsTight g.now (mem s) × IsNontrivial g.now.order (mem s)) }
-    ensures none { IfOk result (λ found. (found ≡ None) ↔ ((x : Set) → IsTight g.now x → IsNontrivial g.now.order x → ⊥)) }
+    ensures none { IfOk result (λ found. (found ≡ None) ↔ HasNoTightCut g.now) }
 {
     let table = all_partners(alloc, g)?;
     let pair = pair_where_bicritical(alloc, g, &table)?;
@@ -298,7 +298,7 @@ pub fn find_any_in(
     requires pair { IsBicritical g.now → option_map pair_of pair ≡ cut_pair g.now }
     ensures first { IfOk result (λ found. found ≡ first_shore (candidates g.now)) }
     ensures some { IfOk result (λ found. (s : _) → found ≡ Some s → IsTight g.now (mem s) × IsNontrivial g.now.order (mem s)) }
-    ensures none { IfOk result (λ found. (found ≡ None) ↔ ((x : Set) → IsTight g.now x → IsNontrivial g.now.order x → ⊥)) }
+    ensures none { IfOk result (λ found. (found ≡ None) ↔ HasNoTightCut g.now) }
 {
     match first_candidate_in(alloc, g, table, pair)? {
         Some(candidate) => Ok(Some(candidate.shore)),

@@ -8,7 +8,7 @@ pub returns-clause-pair : goal.returns-clause-pair
 returns-clause-pair c g x is cov bi tx wide = shore_pair g x is cov bi tx wide
 
 pub returns-clause-none : goal.returns-clause-none
-returns-clause-none c g x is cov bi none_pair tx wide = no_shore g is cov bi none_pair x tx wide
+returns-clause-none c g is cov bi none_pair x tx wide = no_shore g is cov bi none_pair x tx wide
 
 pub returns-clause-brick : goal.returns-clause-brick
 returns-clause-brick c g is cov odd_cycle = brick_or_not g is cov odd_cycle
