@@ -2,7 +2,8 @@
 //!
 //! A tight cut decomposition ends in graphs without nontrivial tight cut: the bipartite ones are braces, the others bricks
 //! (`IsKind`). `kind` answers which of the two a covered graph is, or shows a nontrivial tight cut of it by the shore that
-//! `tight_cuts::find_any` gives. Of each graph that it calls a brick it says the three facts of `IsSolid`.
+//! `tight_cuts::find_any` gives; `kind_in` takes the table of partners and the first cut pair that are at hand. Of each graph that
+//! they call a brick they say the three facts of `IsSolid`.
 //!
 //! Stands on `tight_cuts`, whose search is complete, and on `separation_kit` for the law of bricks. Source: Lovász, "Matching
 //! structure and the matching lattice" (1987); Lucchesi and Murty, "Perfect Matchings".
@@ -11,5 +12,5 @@
 mod kinds;
 mod laws;
 
-pub use kinds::kind;
+pub use kinds::{kind, kind_in};
 pub use laws::brick_law;

@@ -57,6 +57,11 @@ pub first-candidates : (g : Graph) (list : List Candidate) (k : ℕ) → k ≤ s
 unfolding candidates
 first-candidates g list k l h c q = first-later g (front_candidates g) k (size g) l c (ap first_of (sym h) ∙ sym (first-place list) ∙ q)
 
+-- so is the first of the first two parts
+pub first-front : (g : Graph) (c : Candidate) → first_of (front_candidates g) ≡ Some c → first_of (candidates g) ≡ Some c
+unfolding candidates
+first-front g c h = first-later g (front_candidates g) 0 (size g) (omega arith) c h
+
 -- edges in the cut of a candidate add nothing
 pub edges-known : (g : Graph) (list : List Candidate) (k : ℕ) → ((e : ℕ) → Within k e → list_any (cuts g e) list ≡ true) → list ≡ after_edges g list k
 edges-known g list zero h = refl

@@ -1,9 +1,11 @@
 -- The candidates of the first two parts, as the code makes them, and the steps of the loop over the edges.
 -- Idea: a bicritical graph has no barrier cut, and one that is not has no separation shore.
-use Rattle.std.proofs.Common.{◌≡◌, ℕ, suc, ◌+◌, ◌<◌, Bool, true, false, refl, sym, ap, ◌∙◌, arith, ◌&&◌, not, List, [], ◌∷◌, ◌++◌, map, nat_le, Some}
+use Rattle.std.proofs.Common.{◌≡◌, ℕ, suc, ◌+◌, ◌<◌, Bool, true, false, refl, sym, ap, ◌∙◌, arith, ◌&&◌, not, List, [], ◌∷◌, ◌++◌, map, nat_le, Option, Some, slice_get, subst}
 use Rattle.std.specs.Prelude.{All, fold, if◌then◌else◌, is_none}
 use Rattle.std.specs.List.{list_any}
+use Rattle.std.specs.Option.{option_map}
 use Rattle.std.proofs.lemmas.Bool.{true≢false, lt-leb}
+use Rattle.std.proofs.lemmas.List.Elements.{All-head}
 use Rattle.barrier_kit.specs.BarrierShores.{barrier_cuts, barrier_shores}
 use Rattle.barrier_kit.specs.CanonicalCuts.{IsCanonicalCut, is_listed, with_cut}
 use Rattle.counting.proofs.Counts.{count_congr}
@@ -17,7 +19,7 @@ use Rattle.graph_core.specs.Tight.{canonical_shore}
 use Rattle.separation_kit.specs.SeparationShores.{separation_cuts, separation_shores}
 use Rattle.tight_cuts.proofs.CandidateLists.{fold-cuts, choose-false, choose-true}
 use Rattle.tight_cuts.proofs.EdgeLoop.{after_edges, after_suc}
-use Rattle.tight_cuts.specs.Candidates.{Barrier, Candidate, Flow, Origin, Separation, candidate_at, candidates, common_shore, cuts, first_parted, front_candidates, greater_end, lesser_end, shores_of, with_edge_cut, with_list, with_pair, with_shore}
+use Rattle.tight_cuts.specs.Candidates.{Barrier, Candidate, Flow, Origin, Separation, candidate_at, candidates, common_shore, cuts, first_of, first_parted, front_candidates, greater_end, lesser_end, shores_of, with_edge_cut, with_list, with_pair, with_shore}
 use Rattle.tight_cuts.specs.EdgeSearch.{IsShoreOfEdge}
 
 -- the cuts of shores, as candidates
@@ -51,6 +53,19 @@ front-separations g h =
 -- a list of canonical cuts rises
 pub canonical-rising : (g : Graph) (cuts : List (List ℕ)) → All (IsCanonicalCut g) cuts → All (IsRisingIn g.order) cuts
 canonical-rising g cuts a k d l = (a k d l).rising
+
+-- the first candidate is that of the first shore
+pub first-some : (n : ℕ) (o : Origin) (shores : List (List ℕ)) (s : List ℕ) (c : Candidate) → Some s ≡ slice_get shores 0 → c ≡ candidate_at n o s → Some c ≡ first_of (map (candidate_at n o) shores)
+first-some n o [] s c h q = absurd cc
+first-some n o (t ∷ shores) s c h q = let same : s ≡ t = cc in ap Some (q ∙ ap (candidate_at n o) same)
+
+pub first-rises : (n : ℕ) (shores : List (List ℕ)) → All (IsRisingIn n) shores → (s : List ℕ) → Some s ≡ slice_get shores 0 → IsRisingIn n s
+first-rises n [] all s h = absurd cc
+first-rises n (t ∷ shores) all s h = let same : t ≡ s = cc in subst (IsRisingIn n) same (All-head (IsRisingIn n) t shores all)
+
+pub first-candidate_at : (n : ℕ) (o : Origin) (shores : List (List ℕ)) (found : Option (List ℕ)) → found ≡ slice_get shores 0 → option_map (candidate_at n o) found ≡ first_of (map (candidate_at n o) shores)
+first-candidate_at n o [] found h = ap (option_map (candidate_at n o)) h
+first-candidate_at n o (s ∷ shores) found h = ap (option_map (candidate_at n o)) h
 
 -- what the first pair says
 pub unlike-some : (g : Graph) (k : ℕ × ℕ) → Some k ≡ unlike_pair g → (is_bicritical g && nat_le 4 g.order) ≡ false

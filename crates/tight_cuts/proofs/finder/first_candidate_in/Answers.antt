@@ -10,10 +10,10 @@ use Rattle.tight_cuts.proofs.finder.first_candidate_in.Goals as goal
 
 pub returns-clause-some : goal.returns-clause-some
 returns-clause-some c d is = first-one c.args.g.now (IsTightCandidate c.args.g.now) (candidates c.args.g.now)
-    (candidates_found c.args.g.now c.keeps_limits.ensures.multigraph.ends c.requires.covered (barrier_shores-tight c.args.g.now c.keeps_limits.ensures.multigraph.ends c.requires) (separation_shores-tight c.args.g.now c.keeps_limits.ensures.multigraph.ends))
+    (candidates_found c.args.g.now c.keeps_limits.ensures.multigraph.ends c.requires.covered (barrier_shores-tight c.args.g.now c.keeps_limits.ensures.multigraph.ends c.requires.covered) (separation_shores-tight c.args.g.now c.keeps_limits.ensures.multigraph.ends))
     (candidate_of d) (sym c.in_ok-found.ensures ∙ ap (option_map candidate_of) is)
 
 pub returns-clause-none : goal.returns-clause-none
 returns-clause-none c = first-empty (candidates c.args.g.now) c.in_ok-found.found _
-    (candidates_none c.args.g.now c.keeps_limits.ensures.multigraph.ends c.requires.covered (barrier_shores-tight c.args.g.now c.keeps_limits.ensures.multigraph.ends c.requires) (separation_shores-tight c.args.g.now c.keeps_limits.ensures.multigraph.ends))
+    (candidates_none c.args.g.now c.keeps_limits.ensures.multigraph.ends c.requires.covered (barrier_shores-tight c.args.g.now c.keeps_limits.ensures.multigraph.ends c.requires.covered) (separation_shores-tight c.args.g.now c.keeps_limits.ensures.multigraph.ends))
     c.in_ok-found.ensures

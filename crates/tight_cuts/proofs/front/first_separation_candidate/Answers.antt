@@ -1,0 +1,19 @@
+use Rattle.std.proofs.Common.{None, sym, ap, ◌∙◌, subst}
+use Rattle.counting.specs.Lists.{IsRisingIn}
+use Rattle.separation_kit.proofs.SeparationFacts.{separation_cuts-canonical}
+use Rattle.separation_kit.specs.SeparationShores.{separation_cuts}
+use Rattle.tight_cuts.specs.Candidates.{Separation, candidate_at}
+use Rattle.tight_cuts.specs.View.{candidate_of}
+use Rattle.tight_cuts.proofs.FrontCandidates.{canonical-rising, first-candidate_at, first-rises, first-some}
+use Rattle.tight_cuts.proofs.front.first_separation_candidate.Goals as goal
+
+pub new-requires-clause-shore : goal.new-requires-clause-shore
+new-requires-clause-shore c =
+    subst (λ n. IsRisingIn n c.in-Some.shore) (sym c.order.ensures.is)
+    (first-rises c.args.g.now.order (separation_cuts c.args.g.now) (canonical-rising c.args.g.now (separation_cuts c.args.g.now) (separation_cuts-canonical c.args.g.now c.keeps_limits.ensures.multigraph.ends c.requires.covered)) c.in-Some.shore (sym c.in-Some.is ∙ c.in_ok-shore.ensures))
+
+pub returns-in-Some : goal.returns-in-Some
+returns-in-Some c = first-some c.args.g.now.order Separation (separation_cuts c.args.g.now) c.in-Some.shore (candidate_of c.new.result) (sym c.in-Some.is ∙ c.in_ok-shore.ensures) (c.new.ensures ∙ ap (λ n. candidate_at n Separation c.in-Some.shore) c.order.ensures.is)
+
+pub returns-in-None : goal.returns-in-None
+returns-in-None c = first-candidate_at c.args.g.now.order Separation (separation_cuts c.args.g.now) None (sym c.in-None.is ∙ c.in_ok-shore.ensures)
