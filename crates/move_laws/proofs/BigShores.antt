@@ -14,7 +14,7 @@ use Rattle.graph_core.specs.Graph.{Graph, IsGraph}
 use Rattle.graph_core.specs.Partitions.{AreBlocks, IsMerge, IsPartition, complement_of, contracted, merged}
 use Rattle.graph_core.specs.Shores.{IsTightAt, IsUnion, block_count}
 use Rattle.tree_core.specs.Derivations.{IsCutAt}
-use Rattle.move_laws.proofs.CarriedTrees.{some_of}
+use Rattle.move_laws.proofs.CarriedCuts.{some_of}
 use Rattle.move_laws.proofs.Rising.{bounds}
 use Rattle.graph_core.proofs.SameBlocks.{same_blocks}
 use Rattle.move_laws.proofs.CommutingMerges.{commute, swallow}

@@ -19,7 +19,7 @@ use Rattle.tree_core.specs.Shapes.{Fits, Shape, cut, leaf}
 use Rattle.move_laws.proofs.CarriedTrees.{carried_derives}
 use Rattle.move_laws.proofs.Images.{turned}
 use Rattle.move_laws.proofs.Rising.{rising-derivation_at}
-use Rattle.move_laws.proofs.Switches.{Each, each_up, three}
+use Rattle.move_laws.proofs.Switches.{Each, each_up, same_cut}
 use Rattle.move_laws.specs.Isomorphisms.{Isomorphism, carry, carry_cut}
 use Rattle.move_laws.specs.Scripts.{AreRising}
 
@@ -71,11 +71,11 @@ module _ (g : Graph) (p q : List (List ℕ)) (h k : ℕ → ℕ) (iso : Isomorph
       go : (s : Bool) → carry g.order h (carry_cut g.order k x s (carry g.order k a) (carry g.order k b)) ≡ cut x a b
       go false =
           ap (λ s. carry_cut g.order h y s (carry g.order h (carry g.order k a)) (carry g.order h (carry g.order k b))) (y-mem g.order last ∙ canonical)
-          ∙ three (same_rising_list g.order (rising_list g.order (λ v. mem y (h v))) x (rising_list-rises g.order (λ v. mem y (h v))) rises (λ v w. mem-rising_list g.order (λ v. mem y (h v)) v w ∙ y-mem v w))
+          ∙ same_cut (same_rising_list g.order (rising_list g.order (λ v. mem y (h v))) x (rising_list-rises g.order (λ v. mem y (h v))) rises (λ v w. mem-rising_list g.order (λ v. mem y (h v)) v w ∙ y-mem v w))
           same_a same_b
       go true =
           ap (λ s. carry_cut g.order h z s (carry g.order h (carry g.order k b)) (carry g.order h (carry g.order k a))) (z-mem g.order last ∙ ap not canonical)
-          ∙ three (same_rising_list g.order (rising_list g.order (λ v. not (mem z (h v)))) x (rising_list-rises g.order (λ v. not (mem z (h v)))) rises
+          ∙ same_cut (same_rising_list g.order (rising_list g.order (λ v. not (mem z (h v)))) x (rising_list-rises g.order (λ v. not (mem z (h v)))) rises
           (λ v w. mem-rising_list g.order (λ v. not (mem z (h v))) v w ∙ ap not (z-mem v w) ∙ twice_not (mem x v)))
           same_a same_b
 

@@ -19,7 +19,8 @@ use Rattle.tree_core.specs.LeafMaps.{position}
 use Rattle.tree_core.specs.Leaves.{StandsAt}
 use Rattle.tree_core.specs.Shapes.{Fits, Shape}
 use Rattle.move_laws.proofs.CarriedBack.{carried_back, carried_twice}
-use Rattle.move_laws.proofs.CarriedTrees.{carried_derives, iso_merged}
+use Rattle.move_laws.proofs.CarriedCuts.{iso_merged}
+use Rattle.move_laws.proofs.CarriedTrees.{carried_derives}
 use Rattle.move_laws.proofs.Images.{image_at, image_nontrivial, image_tight, image_union, move_is, nontrivial_image, tight_image, turned}
 use Rattle.move_laws.proofs.Rising.{rising-derivation_at}
 use Rattle.move_laws.proofs.SameLeaves.{from_name-own, iso_same_leaf, name_place, name_within, same_leaf_iso}

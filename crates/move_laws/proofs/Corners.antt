@@ -16,7 +16,7 @@ use Rattle.graph_core.specs.Partitions.{AreBlocks, complement_of, contracted, me
 use Rattle.graph_core.specs.Shores.{IsTightAt, IsUnion, block_count, blocks_in}
 use Rattle.tree_core.specs.Moves.{IsBlockOf, meet_list}
 use Rattle.move_laws.proofs.BigShores.{Big, Stage, big_merge, big_rest, big_some, rest_rest, stage_merged}
-use Rattle.move_laws.proofs.CarriedTrees.{some_of}
+use Rattle.move_laws.proofs.CarriedCuts.{some_of}
 use Rattle.move_laws.proofs.NestedShores.{stays_big}
 use Rattle.move_laws.specs.Exchange.{Corner}
 use Rattle.move_laws.specs.Corners.{outer_of}

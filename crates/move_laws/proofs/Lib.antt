@@ -2,9 +2,12 @@ pub mod Positions
 pub mod Rising
 pub mod CommutingMerges
 pub mod Images
+pub mod CarriedCuts
 pub mod CarriedTrees
 pub mod CarriedBack
 pub mod CarryingLaws
+pub mod FourRegions
+pub mod ExchangedBlocks
 pub mod Exchange
 pub mod BigShores
 pub mod Rotations
@@ -15,6 +18,10 @@ pub mod Scripts
 pub mod NestedShores
 pub mod Comparison
 pub mod Corners
+pub mod TurningTests
+pub mod CornerSwitch
+pub mod OverOuterCorner
+pub mod OverInnerCorner
 pub mod CrossingShores
 pub mod SingleVertices
 pub mod Uniqueness

@@ -122,12 +122,12 @@ rotate_turned g p k x y a b c st f d apart = whole
         let e = length-append la lb in let i = length-leaves_at g.order (kept_at g.order p x) a in let j = length-leaves_at g.order (kept_at g.order (merged_at g.order p x) y) b in
         omega arith
 
-    two : Part g k (la ++ lb) (lb ++ la) (numbers (k + leaf_count a) (leaf_count b) ++ numbers k (leaf_count a)) (map names_of la ++ map names_of lb)
-    two = part-turn g k la la lb lb (numbers k (leaf_count a)) (numbers (k + leaf_count a) (leaf_count b)) (map names_of la) (map names_of lb) (own_part g (kept_at g.order p x) k a (kept_below g p st x a (cut y b c) f d) d.1)
+    turned_pair : Part g k (la ++ lb) (lb ++ la) (numbers (k + leaf_count a) (leaf_count b) ++ numbers k (leaf_count a)) (map names_of la ++ map names_of lb)
+    turned_pair = part-turn g k la la lb lb (numbers k (leaf_count a)) (numbers (k + leaf_count a) (leaf_count b)) (map names_of la) (map names_of lb) (own_part g (kept_at g.order p x) k a (kept_below g p st x a (cut y b c) f d) d.1)
         (at (k + leaf_count a) (k + length la) (kept_at g.order (merged_at g.order p x) y) b first (kept_below g (merged_at g.order p x) sm y b c f.2 d.2) d.2.1)
 
-    three : Part g k ((la ++ lb) ++ lc) ((lb ++ la) ++ lc) ((numbers (k + leaf_count a) (leaf_count b) ++ numbers k (leaf_count a)) ++ numbers (k + leaf_count a + leaf_count b) (leaf_count c)) ((map names_of la ++ map names_of lb) ++ map names_of lc)
-    three = part-join g k (la ++ lb) (lb ++ la) lc lc (numbers (k + leaf_count a) (leaf_count b) ++ numbers k (leaf_count a)) (numbers (k + leaf_count a + leaf_count b) (leaf_count c)) (map names_of la ++ map names_of lb) (map names_of lc) two
+    turned_three : Part g k ((la ++ lb) ++ lc) ((lb ++ la) ++ lc) ((numbers (k + leaf_count a) (leaf_count b) ++ numbers k (leaf_count a)) ++ numbers (k + leaf_count a + leaf_count b) (leaf_count c)) ((map names_of la ++ map names_of lb) ++ map names_of lc)
+    turned_three = part-join g k (la ++ lb) (lb ++ la) lc lc (numbers (k + leaf_count a) (leaf_count b) ++ numbers k (leaf_count a)) (numbers (k + leaf_count a + leaf_count b) (leaf_count c)) (map names_of la ++ map names_of lb) (map names_of lc) turned_pair
         (at (k + leaf_count a + leaf_count b) (k + length (la ++ lb)) (merged_at g.order (merged_at g.order p x) y) c second (merged_below g (merged_at g.order p x) sm y b c f.2 d.2) d.2.2)
 
     named : (map names_of la ++ map names_of lb) ++ map names_of lc ≡ map names_of (la ++ (lb ++ lc))
@@ -139,7 +139,7 @@ rotate_turned g p k x y a b c st f d apart = whole
     whole : Part g k (la ++ (lb ++ lc)) (leaves_at g.order p (cut y b (cut x a c))) ((numbers (k + leaf_count a) (leaf_count b) ++ numbers k (leaf_count a)) ++ numbers (k + leaf_count a + leaf_count b) (leaf_count c)) (map names_of (la ++ (lb ++ lc)))
     whole =
         subst₂ (λ (ps : List (List (List ℕ))) (ns : List (List ℕ)). Part g k ps (leaves_at g.order p (cut y b (cut x a c))) ((numbers (k + leaf_count a) (leaf_count b) ++ numbers k (leaf_count a)) ++ numbers (k + leaf_count a + leaf_count b) (leaf_count c)) ns) (append_join la lb lc) named
-        (subst (λ (qs : List (List (List ℕ))). Part g k ((la ++ lb) ++ lc) qs ((numbers (k + leaf_count a) (leaf_count b) ++ numbers k (leaf_count a)) ++ numbers (k + leaf_count a + leaf_count b) (leaf_count c)) ((map names_of la ++ map names_of lb) ++ map names_of lc)) turned three)
+        (subst (λ (qs : List (List (List ℕ))). Part g k ((la ++ lb) ++ lc) qs ((numbers (k + leaf_count a) (leaf_count b) ++ numbers k (leaf_count a)) ++ numbers (k + leaf_count a + leaf_count b) (leaf_count c)) ((map names_of la ++ map names_of lb) ++ map names_of lc)) turned turned_three)
 
 rotate_node : (g : Graph) (p : List (List ℕ)) (k : ℕ) (side : Side) (s t : Shape) → Stage g p → AreRising g.order s → IsDerivationAt g p s → rotate_result_at side s ≡ Some t →
     Part g k (leaves_at g.order p s) (leaves_at g.order p t) (rotate_order side k s) (map names_of (leaves_at g.order p s))

@@ -53,10 +53,10 @@ image_block g is r s h f rp sp iso i w wi ww = same_answers (mem (block s (place
 
 -- a block is a union of blocks
 block_closed : (n : ℕ) (r : List (List ℕ)) → AreBlocks n r → (i : ℕ) → Within (length r) i → IsUnion n r (mem (block r i))
-block_closed n r rp i wi u v wu wv e = same_answers (mem (block r i) u) (mem (block r i) v) (one u v wu wv e) (one v u wv wu (sym e))
+block_closed n r rp i wi u v wu wv e = same_answers (mem (block r i) u) (mem (block r i) v) (goes_over u v wu wv e) (goes_over v u wv wu (sym e))
   where
-    one : (u v : ℕ) → Within n u → Within n v → place r u ≡ place r v → mem (block r i) u ≡ true → mem (block r i) v ≡ true
-    one u v wu wv e m = ap (λ z. mem (block r z) v) (place_is n r rp u i wu wi m ∙ e) ∙ (place_in n r rp v wv).1
+    goes_over : (u v : ℕ) → Within n u → Within n v → place r u ≡ place r v → mem (block r i) u ≡ true → mem (block r i) v ≡ true
+    goes_over u v wu wv e m = ap (λ z. mem (block r z) v) (place_is n r rp u i wu wi m ∙ e) ∙ (place_in n r rp v wv).1
 
 -- a rising list with the vertices that the map back takes into the block is its image
 names_from : (g : Graph) → IsGraph g → (h f : ℕ → ℕ) (image_of : List ℕ → List ℕ) (base : List (List ℕ)) → ((b : List ℕ) → IsRisingIn g.order (image_of b)) →

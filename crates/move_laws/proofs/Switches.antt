@@ -54,8 +54,8 @@ cond_mem : (y : Set) (s w : ℕ) (b : Bool) → y (cond b s w) ≡ cond b (y s) 
 cond_mem y s w true = refl
 cond_mem y s w false = refl
 
-pub three : {x y : List ℕ} {c c' d d' : Shape} → x ≡ y → c ≡ c' → d ≡ d' → cut x c d ≡ cut y c' d'
-three e k m = rw e (rw k (rw m refl))
+pub same_cut : {x y : List ℕ} {c c' d d' : Shape} → x ≡ y → c ≡ c' → d ≡ d' → cut x c d ≡ cut y c' d'
+same_cut e k m = rw e (rw k (rw m refl))
 
 module _ (g : Graph) (p : List (List ℕ)) (stage : Stage g p) (x u v : List ℕ) (s t : ℕ) (bx : Big g p x) (canonical : mem x g.order ≡ false) (su : IsRisingIn g.order u) (sv : IsRisingIn g.order v) (corner : Corner g p (mem x) (mem u) (mem v) s t) where
   abbrev pub in_inner_rest : Set
@@ -121,7 +121,7 @@ module _ (g : Graph) (p : List (List ℕ)) (stage : Stage g p) (x u v : List ℕ
       node : (y : List ℕ) → IsRisingIn g.order y → mem y g.order ≡ false → IsUnion g.order (kept_at g.order p x) (mem y) → kept_if_greatest_comes g.order x u v a ≡ carry g.order map_a a → kept_if_greatest_comes g.order x u v b ≡ carry g.order map_a b →
           cut (if is_subset u y then union_list g.order y (outer_rest g.order x v) else y) (kept_if_greatest_comes g.order x u v a) (kept_if_greatest_comes g.order x u v b) ≡ carry_cut g.order map_a y (mem y (map_a g.order)) (carry g.order map_a a) (carry g.order map_a b)
       node y sy low closed ia ib =
-          three (ap (λ k. if k then union_list g.order y (outer_rest g.order x v) else y) (sub_a y low closed) ∙ shore (mem y s) refl) ia ib
+          same_cut (ap (λ k. if k then union_list g.order y (outer_rest g.order x v) else y) (sub_a y low closed) ∙ shore (mem y s) refl) ia ib
           ∙ ap (λ k. carry_cut g.order map_a y k (carry g.order map_a a) (carry g.order map_a b)) (sym (cond_mem (mem y) s g.order (in_outer_rest g.order) ∙ off (mem x g.order) (mem v g.order) (mem y s) (mem y g.order) nv low))
         where
           off : (a b c d : Bool) → b ≡ true → d ≡ false → cond (not a && not b) c d ≡ false
@@ -147,7 +147,7 @@ module _ (g : Graph) (p : List (List ℕ)) (stage : Stage g p) (x u v : List ℕ
       node : (y : List ℕ) → IsRisingIn g.order y → mem y g.order ≡ false → IsUnion g.order (merged_at g.order p x) (mem y) → merged_if_greatest_comes g.order x u a ≡ carry g.order map_b a → merged_if_greatest_comes g.order x u b ≡ carry g.order map_b b →
           cut (if is_subset x y then union_list g.order (minus_list g.order y x) u else y) (merged_if_greatest_comes g.order x u a) (merged_if_greatest_comes g.order x u b) ≡ carry_cut g.order map_b y (mem y (map_b g.order)) (carry g.order map_b a) (carry g.order map_b b)
       node y sy low closed ia ib =
-          three (ap (λ k. if k then union_list g.order (minus_list g.order y x) u else y) (sub_b y low closed) ∙ shore (mem y s) refl) ia ib
+          same_cut (ap (λ k. if k then union_list g.order (minus_list g.order y x) u else y) (sub_b y low closed) ∙ shore (mem y s) refl) ia ib
           ∙ ap (λ k. carry_cut g.order map_b y k (carry g.order map_b a) (carry g.order map_b b)) (sym (cond_mem (mem y) t g.order (in_inner_rest g.order) ∙ off (mem x g.order) (mem u g.order) (mem y t) (mem y g.order) canonical low))
         where
           off : (a b c d : Bool) → a ≡ false → d ≡ false → cond (a && not b) c d ≡ false
@@ -187,13 +187,13 @@ module _ (g : Graph) (p : List (List ℕ)) (stage : Stage g p) (x u v : List ℕ
           on a b c d h k = grind arith
 
           go : (k : Bool) → mem y s ≡ k → (if k then cut (union_list g.order (minus_list g.order x y) v) (kept_if_greatest_stays g.order x u v b) (kept_if_greatest_stays g.order x u v a) else cut y (kept_if_greatest_stays g.order x u v a) (kept_if_greatest_stays g.order x u v b)) ≡ carry_cut g.order map_a y k (carry g.order map_a a) (carry g.order map_a b)
-          go true h = three (same_rising_list g.order (union_list g.order (minus_list g.order x y) v) (rising_list g.order (λ w. not (mem y (map_a w)))) (rising_list-rises g.order (union (mem (minus_list g.order x y)) (mem v))) (rising_list-rises g.order (λ w. not (mem y (map_a w))))
+          go true h = same_cut (same_rising_list g.order (union_list g.order (minus_list g.order x y) v) (rising_list g.order (λ w. not (mem y (map_a w)))) (rising_list-rises g.order (union (mem (minus_list g.order x y)) (mem v))) (rising_list-rises g.order (λ w. not (mem y (map_a w))))
               (λ w ww. mem-rising_list g.order (union (mem (minus_list g.order x y)) (mem v)) w ww ∙ ap (λ k. k || mem v w) (mem-rising_list g.order (minus (mem x) (mem y)) w ww)
               ∙ bits (mem x w) (mem v w) (mem y w) (mem y s) h (out_a y low closed w ww) (corner.outside w ww) ∙ ap not (sym (cond_mem (mem y) s w (in_outer_rest w))) ∙ sym (mem-rising_list g.order (λ w. not (mem y (map_a w))) w ww))) ib ia
             where
               bits : (x v y z : Bool) → z ≡ true → (x ≡ false → y ≡ false) → (v ≡ true → x ≡ false) → ((x && not y) || v) ≡ not (cond (not x && not v) z y)
               bits x v y z h k l = grind arith
-          go false h = three (same_rising_list g.order y (rising_list g.order (λ w. mem y (map_a w))) sy (rising_list-rises g.order (λ w. mem y (map_a w)))
+          go false h = same_cut (same_rising_list g.order y (rising_list g.order (λ w. mem y (map_a w))) sy (rising_list-rises g.order (λ w. mem y (map_a w)))
               (λ w ww. bits (mem x w) (mem v w) (mem y w) (mem y s) h (out_a y low closed w ww) ∙ sym (cond_mem (mem y) s w (in_outer_rest w)) ∙ sym (mem-rising_list g.order (λ w. mem y (map_a w)) w ww))) ia ib
             where
               bits : (x v y z : Bool) → z ≡ false → (x ≡ false → y ≡ false) → y ≡ cond (not x && not v) z y
@@ -207,7 +207,7 @@ module _ (g : Graph) (p : List (List ℕ)) (stage : Stage g p) (x u v : List ℕ
       node : (y : List ℕ) → IsRisingIn g.order y → mem y g.order ≡ false → IsUnion g.order (merged_at g.order p x) (mem y) → merged_if_greatest_stays g.order x u v a ≡ carry g.order map_b a → merged_if_greatest_stays g.order x u v b ≡ carry g.order map_b b →
           cut (merged_shore_if_greatest_stays g.order x u v y) (merged_if_greatest_stays g.order x u v a) (merged_if_greatest_stays g.order x u v b) ≡ carry_cut g.order map_b y (mem y (map_b g.order)) (carry g.order map_b a) (carry g.order map_b b)
       node y sy low closed ia ib =
-          three (same_rising_list g.order (merged_shore_if_greatest_stays g.order x u v y) (rising_list g.order (λ w. mem y (map_b w))) (rising_list-rises g.order _) (rising_list-rises g.order (λ w. mem y (map_b w)))
+          same_cut (same_rising_list g.order (merged_shore_if_greatest_stays g.order x u v y) (rising_list g.order (λ w. mem y (map_b w))) (rising_list-rises g.order _) (rising_list-rises g.order (λ w. mem y (map_b w)))
           (λ w ww. shore w ww ∙ bits (mem x w) (mem u w) (mem v w) (mem y w) (mem y s) (mem y t) (in_b y low closed w ww) (on_v y low closed w ww) (corner.inside w ww) (corner.outside w ww)
           ∙ sym (cond_mem (mem y) t w (in_inner_rest w)) ∙ sym (mem-rising_list g.order (λ w. mem y (map_b w)) w ww))) ia ib
           ∙ ap (λ k. carry_cut g.order map_b y k (carry g.order map_b a) (carry g.order map_b b)) (sym (cond_mem (mem y) t g.order (in_inner_rest g.order) ∙ off (mem x g.order) (mem u g.order) (mem y t) (mem y g.order) canonical low))

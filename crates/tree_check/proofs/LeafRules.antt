@@ -6,9 +6,9 @@ use Rattle.graph_core.specs.Graph.{Graph, IsGraph}
 use Rattle.graph_core.specs.Partitions.{IsPartition}
 use Rattle.graph_core.specs.Quotients.{quotient}
 use Rattle.graph_core.specs.Shores.{IsTightAt, blocks_in}
-use Rattle.graph_core.specs.Tight.{IsNontrivial, IsTight}
+use Rattle.graph_core.specs.Tight.{IsNontrivial}
 use Rattle.tight_cuts.proofs.PartitionCandidates.{none-at}
-use Rattle.tight_cuts.specs.Candidates.{Candidate, candidates, first_shore}
+use Rattle.tight_cuts.specs.Candidates.{Candidate, first_shore}
 use Rattle.tight_cuts.specs.CandidatesAt.{candidates_at}
 use Rattle.tree_core.specs.Derivations.{IsLeafAt}
 use Rattle.tree_check.specs.Refusals.{BreaksLeaf, Why, not_blocks, even, trivial, not_tight, not_leaf, without_matching}

@@ -3,7 +3,7 @@ pub mod LeafRules
 pub mod PlacesInside
 pub mod FirstRefusals
 pub mod ThreeAnswers
-pub mod Walking
+pub mod Scanning
 pub mod MovesFit
 pub mod ReplaySteps
 pub mod ReplayAnswers

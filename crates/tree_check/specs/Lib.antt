@@ -1,4 +1,4 @@
 pub mod Refusals
 pub mod Judgements
-pub mod Walks
+pub mod Scans
 pub mod Replays

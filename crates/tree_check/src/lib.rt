@@ -22,8 +22,8 @@ mod judgement;
 pub mod laws;
 mod replaying;
 mod rules;
-mod walk;
+mod scan;
 
 pub use judgement::{Judgement, Why};
 pub use replaying::{Replayed, replay};
-pub use walk::check;
+pub use scan::check;

@@ -6,7 +6,7 @@ ghost use Rattle.tree_core.specs.View.{shape_of};
 ghost use Rattle.tree_check.specs.Replays.{IsReplay, IsMoved};
 
 use crate::judgement::Why;
-use crate::walk::{Walked, walk_covered};
+use crate::scan::{Scanned, scan_covered};
 use graph_core::MultiGraph;
 use std::alloc::{AllocError as Memory, Global};
 use tree_core::{Move, Moves, Tree, apply};
@@ -42,9 +42,9 @@ fn step(alloc: Global, g: &MultiGraph, tree: Tree, item: &Move) -> Result<Moved,
     let Ok(made) = apply(tree, g.order(), item) else {
         return Ok(Moved::Stuck);
     };
-    match walk_covered(alloc, g, &made)? {
-        Walked::Passed { .. } => Ok(Moved::Passed { tree: made }),
-        Walked::Refused { node, why } => Ok(Moved::Refused { node, why }),
+    match scan_covered(alloc, g, &made)? {
+        Scanned::Passed { .. } => Ok(Moved::Passed { tree: made }),
+        Scanned::Refused { node, why } => Ok(Moved::Refused { node, why }),
     }
 }
 

@@ -1,6 +1,6 @@
 -- Lists of leaf maps, by induction: the maps from two lists of names, one behind the other, are those from the joined list, where
 -- the second begins with the number that the first has come to. At a cut the names of the leaves are such a joined list.
-use Rattle.std.proofs.Common.{◌≡◌, ℕ, ◌+◌, List, [], ◌∷◌, ◌++◌, Result, OnOk, length, map, ap, sym, ◌∙◌, refl, suc, arith, append_assoc}
+use Rattle.std.proofs.Common.{◌≡◌, ℕ, ◌+◌, List, [], ◌∷◌, ◌++◌, Result, OnOk, length, map, ap, sym, ◌∙◌, arith, append_assoc}
 use Rattle.std.proofs.lemmas.List.{length-append, length-map, map-append}
 use Rattle.std.proofs.lemmas.Result.{on_ok_weaker}
 use Rattle.tree_core.specs.Derivations.{kept_at, merged_at}

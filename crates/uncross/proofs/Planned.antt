@@ -15,7 +15,10 @@ use Rattle.tree_core.specs.declared.path.Side.TheVariants.{Kept, Merged}
 use Rattle.move_laws.proofs.BigShores.{Big, Stage, big_cut, big_rest, big_some, stage_merged}
 use Rattle.move_laws.proofs.Exchange.{block_count-one}
 use Rattle.move_laws.proofs.Corners.{Corners, inner_single_or_big, outer_single_or_big}
-use Rattle.move_laws.proofs.CrossingShores.{InnerTurned, raised_merged_is, Kind, OuterTurned, corners_of, inner_below, inner_canonical, outer_shore_big, over_inner_to}
+use Rattle.move_laws.proofs.CornerSwitch.{Kind}
+use Rattle.move_laws.proofs.CrossingShores.{corners_of}
+use Rattle.move_laws.proofs.OverInnerCorner.{InnerTurned, inner_below, inner_canonical, outer_shore_big, over_inner_to}
+use Rattle.move_laws.proofs.OverOuterCorner.{OuterTurned, raised_merged_is}
 use Rattle.move_laws.proofs.NestedShores.{Cross, raised, stays_big}
 use Rattle.move_laws.proofs.BigShores.{rest_rest}
 use Rattle.move_laws.proofs.Scripts.{length_below, length_join, script_end, script_join, script_kept, script_merged, script_rotate}

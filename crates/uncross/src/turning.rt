@@ -10,7 +10,7 @@ ghost use Rattle.uncross.specs.TurnedView.{IsMade, turned_of};
 
 use std::alloc::{AllocError as Memory, Global};
 use std::mem;
-use tree_core::{Move, Moves, Path, Side, Tree, rotate, switch};
+use tree_core::{Move, Moves, Path, Side, Tree, open, rotate, switch};
 use vset_core::VSet;
 
 /// A tree that moves have made, and the moves, with paths from its root.
@@ -100,32 +100,19 @@ fn switch_below(
         }),
         Tree::Cut {
             shore,
-            mut kept,
-            mut merged,
+            kept,
+            merged,
         } => {
-            if x.is_subset(shore) {
-                let below = mem::replace(&mut *kept, Tree::Leaf);
-                let Turned { tree, moves: made } = switch_root(alloc, n, below, u, v)?;
-                *kept = tree;
-                let cut = Tree::Cut {
-                    shore,
-                    kept,
-                    merged,
-                };
-                let tree = raise(alloc, Side::Kept, cut, &made, &mut moves)?;
-                Ok(Turned { tree, moves })
+            let side = if x.is_subset(shore) {
+                Side::Kept
             } else {
-                let below = mem::replace(&mut *merged, Tree::Leaf);
-                let Turned { tree, moves: made } = switch_root(alloc, n, below, u, v)?;
-                *merged = tree;
-                let cut = Tree::Cut {
-                    shore,
-                    kept,
-                    merged,
-                };
-                let tree = raise(alloc, Side::Merged, cut, &made, &mut moves)?;
-                Ok(Turned { tree, moves })
-            }
+                Side::Merged
+            };
+            let (child, opened) = open(side, shore, kept, merged);
+            let Turned { tree, moves: made } = switch_root(alloc, n, child, u, v)?;
+            let cut = opened.close(tree);
+            let tree = raise(alloc, side, cut, &made, &mut moves)?;
+            Ok(Turned { tree, moves })
         }
     }
 }

@@ -4,10 +4,10 @@ use Rattle.std.proofs.lemmas.Result.{IfOk-weaker}
 use Rattle.graph_core.specs.Partitions.{IsPartition}
 use Rattle.tree_core.specs.View.{shape_of}
 use Rattle.tree_core.specs.declared.tree.Tree.{Tree}
-use Rattle.tree_check.specs.Walks.{IsWalked}
-use Rattle.tree_check.specs.declared.walk.Walked.TheVariants as walked
-use Rattle.tree_check.proofs.Walking.{below-merged, found-merged, kept-less, kept-room, refused-here, refused-kept}
-use Rattle.tree_check.proofs.walk.+walk_at.Goals as goal
+use Rattle.tree_check.specs.Scans.{IsScanned}
+use Rattle.tree_check.specs.declared.scan.Scanned.TheVariants as scanned
+use Rattle.tree_check.proofs.Scanning.{below-merged, found-merged, kept-less, kept-room, refused-here, refused-kept}
+use Rattle.tree_check.proofs.scan.+scan_at.Goals as goal
 
 pub returns-in-Some : goal.returns-in-Some
 returns-in-Some t c =
@@ -18,11 +18,11 @@ pub returns-in-Refused : goal.returns-in-Refused
 returns-in-Refused t c =
     refused-kept c.args.g.now c.args.p.now.blocks c.in-Cut.shore (shape_of c.args.tree.now) (shape_of c.in-Cut.kept.value) (shape_of c.in-Cut.merged.value) (ap shape_of c.in-Cut.is) c.args.node
     (c.in_ok-why-in-Cut.ensures.none c.in_default.is) c.in_ok-kept_at-in-Cut.kept_at.blocks c.in_ok-kept_at-in-Cut.ensures.blocks c.in-Refused.node c.in-Refused.why
-    (subst (λ (u : Tree). IsWalked c.args.g.now c.in_ok-kept_at-in-Cut.kept_at.blocks (shape_of u) (c.args.node + 1) (walked.Refused c.in-Refused.node c.in-Refused.why)) c.deref.ensures
-    (subst (IsWalked c.args.g.now c.in_ok-kept_at-in-Cut.kept_at.blocks (shape_of c.deref.result.now) (c.args.node + 1)) c.in-Refused.is c.in_ok-node-in-Cut.ensures))
+    (subst (λ (u : Tree). IsScanned c.args.g.now c.in_ok-kept_at-in-Cut.kept_at.blocks (shape_of u) (c.args.node + 1) (scanned.Refused c.in-Refused.node c.in-Refused.why)) c.deref.ensures
+    (subst (IsScanned c.args.g.now c.in_ok-kept_at-in-Cut.kept_at.blocks (shape_of c.deref.result.now) (c.args.node + 1)) c.in-Refused.is c.in_ok-node-in-Cut.ensures))
 
-pub walk_at-requires : goal.walk_at-requires
-walk_at-requires t c =
+pub scan_at-requires : goal.scan_at-requires
+scan_at-requires t c =
     let less = kept-less c.args.g.now c.args.p.now.blocks c.in-Cut.shore (c.in_ok-why-in-Cut.ensures.none c.in_default.is) c.args.node (length c.in_ok-kept_at-in-Cut.kept_at.blocks) c.requires.few c.in_ok-kept_at-in-Cut.ensures.length in
     let room = kept-room c.args.g.now c.args.p.now.blocks c.in-Cut.shore (c.in_ok-why-in-Cut.ensures.none c.in_default.is) c.args.node (length c.in_ok-kept_at-in-Cut.kept_at.blocks) c.requires.few c.in_ok-kept_at-in-Cut.ensures.length in
     let fits : Fits c.args.g.now.order (shape_of c.deref.result.now) =
@@ -30,9 +30,9 @@ walk_at-requires t c =
     let falls = c.decreases in
     (first_of (omega arith, search rules), (c.in_ok-kept_at-in-Cut.ensures.order, (c.in_ok-kept_at-in-Cut.ensures.covered, (fits, room))))
 
-pub walk_at-requires-in-Passed : goal.walk_at-requires-in-Passed
-walk_at-requires-in-Passed t c =
-    let passed = subst (IsWalked c.args.g.now c.in_ok-kept_at-in-Cut.kept_at.blocks (shape_of c.deref.result.now) (c.args.node + 1)) c.in-Passed.is c.in_ok-node-in-Cut.ensures in
+pub scan_at-requires-in-Passed : goal.scan_at-requires-in-Passed
+scan_at-requires-in-Passed t c =
+    let passed = subst (IsScanned c.args.g.now c.in_ok-kept_at-in-Cut.kept_at.blocks (shape_of c.deref.result.now) (c.args.node + 1)) c.in-Passed.is c.in_ok-node-in-Cut.ensures in
     let below = below-merged c.args.g.now c.args.p.now.blocks c.in-Cut.shore (c.in_ok-why-in-Cut.ensures.none c.in_default.is) c.args.node (length c.in_ok-kept_at-in-Cut.kept_at.blocks) c.requires.few c.in_ok-kept_at-in-Cut.ensures.length
     c.in_ok-kept_at-in-Cut.kept_at.blocks (shape_of c.deref.result.now) c.keeps_limits.ensures.multigraph.ends (subst (λ n. IsPartition n c.args.p.now.blocks) c.requires.order c.keeps_partition.ensures.partition)
     c.in_ok-kept_at-in-Cut.ensures.blocks passed.0 refl (length c.in_ok-merged_at-in-Passed.merged_at.blocks) c.in-Passed.next c.in_ok-merged_at-in-Passed.ensures.length passed.1 in
@@ -44,12 +44,12 @@ walk_at-requires-in-Passed t c =
 
 pub returns : goal.returns
 returns t c =
-    IfOk-weaker c.walk_at-in-Passed.result (IsWalked c.args.g.now c.in_ok-merged_at-in-Passed.merged_at.blocks (shape_of c.deref-in-Passed.result.now) c.in-Passed.next) (IsWalked c.args.g.now c.args.p.now.blocks (shape_of c.args.tree.now) c.args.node)
+    IfOk-weaker c.scan_at-in-Passed.result (IsScanned c.args.g.now c.in_ok-merged_at-in-Passed.merged_at.blocks (shape_of c.deref-in-Passed.result.now) c.in-Passed.next) (IsScanned c.args.g.now c.args.p.now.blocks (shape_of c.args.tree.now) c.args.node)
     (λ w found.
     found-merged c.args.g.now c.args.p.now.blocks c.in-Cut.shore (shape_of c.args.tree.now) (shape_of c.in-Cut.kept.value) (shape_of c.in-Cut.merged.value) (ap shape_of c.in-Cut.is) c.args.node
     (c.in_ok-why-in-Cut.ensures.none c.in_default.is) c.in_ok-kept_at-in-Cut.kept_at.blocks c.in_ok-kept_at-in-Cut.ensures.blocks
     c.in_ok-merged_at-in-Passed.merged_at.blocks c.in_ok-merged_at-in-Passed.ensures.blocks c.in-Passed.next
-    (subst (λ (u : Tree). IsWalked c.args.g.now c.in_ok-kept_at-in-Cut.kept_at.blocks (shape_of u) (c.args.node + 1) (walked.Passed c.in-Passed.next)) c.deref.ensures
-    (subst (IsWalked c.args.g.now c.in_ok-kept_at-in-Cut.kept_at.blocks (shape_of c.deref.result.now) (c.args.node + 1)) c.in-Passed.is c.in_ok-node-in-Cut.ensures))
-    w (subst (λ (u : Tree). IsWalked c.args.g.now c.in_ok-merged_at-in-Passed.merged_at.blocks (shape_of u) c.in-Passed.next w) c.deref-in-Passed.ensures found))
-    c.walk_at-in-Passed.ensures
+    (subst (λ (u : Tree). IsScanned c.args.g.now c.in_ok-kept_at-in-Cut.kept_at.blocks (shape_of u) (c.args.node + 1) (scanned.Passed c.in-Passed.next)) c.deref.ensures
+    (subst (IsScanned c.args.g.now c.in_ok-kept_at-in-Cut.kept_at.blocks (shape_of c.deref.result.now) (c.args.node + 1)) c.in-Passed.is c.in_ok-node-in-Cut.ensures))
+    w (subst (λ (u : Tree). IsScanned c.args.g.now c.in_ok-merged_at-in-Passed.merged_at.blocks (shape_of u) c.in-Passed.next w) c.deref-in-Passed.ensures found))
+    c.scan_at-in-Passed.ensures

@@ -1,4 +1,4 @@
--- Steps of the walk over a tree: what is found below a cut, said of the tree that the cut makes; and the numbers of its nodes, which
+-- Steps of the scan of a tree: what is found below a cut, said of the tree that the cut makes; and the numbers of its nodes, which
 -- stay below those of the blocks.
 use Rattle.std.proofs.Common.{◌≡◌, ℕ, ◌+◌, ◌≤◌, List, length, refl, sym, arith, subst, inl, inr}
 use Rattle.counting.proofs.Counts.{count_complement}
@@ -13,11 +13,11 @@ use Rattle.tree_core.proofs.Sizes.{node_count-cuts}
 use Rattle.tree_core.specs.Derivations.{IsCutAt, IsDerivationAt, kept_at, merged_at}
 use Rattle.tree_core.specs.Shapes.{Shape, cut, node_count}
 use Rattle.tree_check.specs.Judgements.{why_of}
-use Rattle.tree_check.specs.Walks.{IsWalked}
+use Rattle.tree_check.specs.Scans.{IsScanned}
 use Rattle.tree_check.specs.Refusals.{BreaksCut, IsRefusedAt}
 use Rattle.tree_check.specs.declared.judgement.Why.{Why as StoredWhy}
-use Rattle.tree_check.specs.declared.walk.Walked.{Walked}
-use Rattle.tree_check.specs.declared.walk.Walked.TheVariants as walked
+use Rattle.tree_check.specs.declared.scan.Scanned.{Scanned}
+use Rattle.tree_check.specs.declared.scan.Scanned.TheVariants as scanned
 
 -- a derivation has fewer nodes than its partition has blocks
 few-nodes : (g : Graph) (p : List (List ℕ)) (t : Shape) → IsGraph g → IsPartition g.order p → IsDerivationAt g p t → 4 ≤ length p → node_count t + 3 ≤ length p
@@ -46,18 +46,18 @@ module _ (g : Graph) (p : List (List ℕ)) (x : List ℕ) (cuts : IsCutAt g p x)
 
 -- what is found below a cut
 module _ (g : Graph) (p : List (List ℕ)) (x : List ℕ) (t k m : Shape) (is_t : t ≡ cut x k m) (node : ℕ) where
-  pub refused-here : (why : StoredWhy) → BreaksCut g p (mem x) (why_of why) → IsWalked g p t node (walked.Refused node why)
-  refused-here why breaks = subst (λ s. IsWalked g p s node (walked.Refused node why)) (sym is_t) (1, refl, inl (refl, breaks))
+  pub refused-here : (why : StoredWhy) → BreaksCut g p (mem x) (why_of why) → IsScanned g p t node (scanned.Refused node why)
+  refused-here why breaks = subst (λ s. IsScanned g p s node (scanned.Refused node why)) (sym is_t) (1, refl, inl (refl, breaks))
 
   module _ (cuts : IsCutAt g p x) (q : List (List ℕ)) (is_q : q ≡ kept_at g.order p x) where
-    pub refused-kept : (number : ℕ) (why : StoredWhy) → IsWalked g q k (node + 1) (walked.Refused number why) → IsWalked g p t node (walked.Refused number why)
-    refused-kept number why found = subst (λ s. IsWalked g p s node (walked.Refused number why)) (sym is_t)
+    pub refused-kept : (number : ℕ) (why : StoredWhy) → IsScanned g q k (node + 1) (scanned.Refused number why) → IsScanned g p t node (scanned.Refused number why)
+    refused-kept number why found = subst (λ s. IsScanned g p s node (scanned.Refused number why)) (sym is_t)
         (1 + found.0, omega (arith, found.1), inr (inl (cuts, (found.0, refl, subst (λ (r : List (List ℕ)). IsRefusedAt g r k found.0 (why_of why)) is_q found.2))))
 
-    pub found-merged : (r : List (List ℕ)) → r ≡ merged_at g.order p x → (next : ℕ) → IsWalked g q k (node + 1) (walked.Passed next) → (w : Walked) → IsWalked g r m next w → IsWalked g p t node w
-    found-merged r is_r next kept (walked.Passed after) found = subst (λ s. IsWalked g p s node (walked.Passed after)) (sym is_t)
+    pub found-merged : (r : List (List ℕ)) → r ≡ merged_at g.order p x → (next : ℕ) → IsScanned g q k (node + 1) (scanned.Passed next) → (w : Scanned) → IsScanned g r m next w → IsScanned g p t node w
+    found-merged r is_r next kept (scanned.Passed after) found = subst (λ s. IsScanned g p s node (scanned.Passed after)) (sym is_t)
         ((cuts, subst (λ (s : List (List ℕ)). IsDerivationAt g s k) is_q kept.0, subst (λ (s : List (List ℕ)). IsDerivationAt g s m) is_r found.0), omega (arith, kept.1, found.1))
-    found-merged r is_r next kept (walked.Refused number why) found = subst (λ s. IsWalked g p s node (walked.Refused number why)) (sym is_t) (
+    found-merged r is_r next kept (scanned.Refused number why) found = subst (λ s. IsScanned g p s node (scanned.Refused number why)) (sym is_t) (
       1 + node_count k + found.0,
       omega (arith, kept.1, found.1),
       inr (inr (

@@ -1,4 +1,4 @@
-//! The walk over a tree in preorder.
+//! The scan of a tree in preorder.
 ghost use Rattle.std.specs.Prelude.{◌≡◌, ◌≤◌, ◌+◌, length, IfOk};
 ghost use Rattle.graph_core.specs.Covered.{IsCovered};
 ghost use Rattle.graph_core.specs.Partitions.{singles};
@@ -6,7 +6,7 @@ ghost use Rattle.graph_core.specs.Quotients.{quotient};
 ghost use Rattle.tree_core.specs.Shapes.{Fits, leaf};
 ghost use Rattle.tree_core.specs.View.{shape_of};
 ghost use Rattle.tree_check.specs.Judgements.{IsJudgement};
-ghost use Rattle.tree_check.specs.Walks.{IsWalked};
+ghost use Rattle.tree_check.specs.Scans.{IsScanned};
 
 use crate::judgement::{Judgement, Why};
 use crate::rules::{cut_fault, first_cut_at};
@@ -35,81 +35,81 @@ fn check_covered(alloc: Global, g: &MultiGraph, tree: &Tree) -> Result<Judgement
     requires fits { Fits g.now.order (shape_of tree.now) }
     ensures { IfOk result (IsJudgement g.now (shape_of tree.now)) }
 {
-    match walk_covered(alloc, g, tree)? {
-        Walked::Passed { .. } => Ok(Judgement::Accepted),
-        Walked::Refused { node, why } => Ok(Judgement::Refused { node, why }),
+    match scan_covered(alloc, g, tree)? {
+        Scanned::Passed { .. } => Ok(Judgement::Accepted),
+        Scanned::Refused { node, why } => Ok(Judgement::Refused { node, why }),
     }
 }
 
-/// Walks over a tree of a covered graph.
-pub(crate) fn walk_covered(alloc: Global, g: &MultiGraph, tree: &Tree) -> Result<Walked, Memory>
+/// Scans a tree of a covered graph.
+pub(crate) fn scan_covered(alloc: Global, g: &MultiGraph, tree: &Tree) -> Result<Scanned, Memory>
     requires covered { IsCovered g.now }
     requires fits { Fits g.now.order (shape_of tree.now) }
-    ensures { IfOk result (IsWalked g.now (singles g.now.order) (shape_of tree.now) 1) }
+    ensures { IfOk result (IsScanned g.now (singles g.now.order) (shape_of tree.now) 1) }
 {
     let root = root_partition(alloc, g)?;
-    walk_at(alloc, g, tree, &root, 1)
+    scan_at(alloc, g, tree, &root, 1)
 }
 
-/// What a walk over a tree finds.
+/// What a scan of a tree finds.
 #[derive(Drop)]
-pub(crate) enum Walked {
+pub(crate) enum Scanned {
     /// Each node keeps its rules; `next` is the number of the node that follows the tree in preorder.
     Passed { next: u32 },
     /// The first node that breaks a rule, and the first rule that it breaks.
     Refused { node: u32, why: Why },
 }
 
-// Walks over the tree at p, whose first node has the number `node`.
-fn walk_at(
+// Scans the tree at p, whose first node has the number `node`.
+fn scan_at(
     alloc: Global,
     g: &MultiGraph,
     tree: &Tree,
     p: &Partition,
     node: u32,
-) -> Result<Walked, Memory>
+) -> Result<Scanned, Memory>
     requires order { p.now.order ≡ g.now.order }
     requires covered { IsCovered (quotient g.now p.now.blocks) }
     requires fits { Fits g.now.order (shape_of tree.now) }
     requires few { node + length p.now.blocks ≤ 129 }
-    ensures { IfOk result (IsWalked g.now p.now.blocks (shape_of tree.now) node) }
+    ensures { IfOk result (IsScanned g.now p.now.blocks (shape_of tree.now) node) }
 {
     g.keeps_limits();
     p.keeps_partition();
     match tree {
-        Tree::Leaf => walk_leaf(alloc, g, p, node),
+        Tree::Leaf => scan_leaf(alloc, g, p, node),
         Tree::Cut {
             shore,
             kept,
             merged,
         } => {
             if let Some(why) = cut_fault(alloc, g, p, *shore)? {
-                return Ok(Walked::Refused { node, why });
+                return Ok(Scanned::Refused { node, why });
             }
             let kept_at = kept_partition(alloc, g, p, *shore)?;
-            match walk_at(alloc, g, kept, &kept_at, node + 1)? {
-                Walked::Refused { node, why } => Ok(Walked::Refused { node, why }),
-                Walked::Passed { next } => {
+            match scan_at(alloc, g, kept, &kept_at, node + 1)? {
+                Scanned::Refused { node, why } => Ok(Scanned::Refused { node, why }),
+                Scanned::Passed { next } => {
                     let merged_at = merged_partition(alloc, g, p, *shore)?;
-                    walk_at(alloc, g, merged, &merged_at, next)
+                    scan_at(alloc, g, merged, &merged_at, next)
                 }
             }
         }
     }
 }
 
-// What the walk finds at a leaf.
-fn walk_leaf(alloc: Global, g: &MultiGraph, p: &Partition, node: u32) -> Result<Walked, Memory>
+// What the scan finds at a leaf.
+fn scan_leaf(alloc: Global, g: &MultiGraph, p: &Partition, node: u32) -> Result<Scanned, Memory>
     requires order { p.now.order ≡ g.now.order }
     requires covered { IsCovered (quotient g.now p.now.blocks) }
     requires few { node + length p.now.blocks ≤ 129 }
-    ensures { IfOk result (IsWalked g.now p.now.blocks leaf node) }
+    ensures { IfOk result (IsScanned g.now p.now.blocks leaf node) }
 {
     match first_cut_at(alloc, g, p)? {
-        Some(cut) => Ok(Walked::Refused {
+        Some(cut) => Ok(Scanned::Refused {
             node,
             why: Why::NotLeaf { cut },
         }),
-        None => Ok(Walked::Passed { next: node + 1 }),
+        None => Ok(Scanned::Passed { next: node + 1 }),
     }
 }
