@@ -1,0 +1,15 @@
+//! The law on lists. It is the contract of a function that does nothing.
+ghost use Rattle.std.specs.Prelude.{◌≡◌, ℕ, List};
+ghost use Rattle.list_reader.specs.Lists.{AllTold, HasOneOutput};
+
+use crate::teller::LineTeller;
+
+/// Where the teller has one output for each line, it has one for a list.
+#[tactic(auto, using(crate::proofs::OneOutput::one_output))]
+pub fn one_output_law<T: LineTeller>(teller: &T)
+    ensures { (number : ℕ) (lines : List (List ℕ)) (a b : List ℕ)
+        → HasOneOutput (T.tells teller.now)
+        → AllTold (T.tells teller.now) number lines a → AllTold (T.tells teller.now) number lines b → a ≡ b }
+{
+    let _ = teller;
+}

@@ -1,0 +1,29 @@
+//! A list of graphs, told line by line as it is read.
+//!
+//! `tell_all` reads pieces from a `Source`, cuts what it read at the line feeds, asks a `LineTeller` for each line, and writes the
+//! outputs of the lines that it has before it reads on: so no output waits while input does, and memory does not grow with
+//! the list.
+//!
+//! Main definitions, in specs/: `lines_of`, the lines of a list, each with its line feed; `LineTold` and `LineBad`, what is told
+//! of one line, where the header and a line that is too long come before the teller; `AllTold`, the outputs of lines in their
+//! order; `Gives`, what was written up to each `Ending`.
+//! Main promises: what was written is what the lines give up to the ending, whatever the pieces were in which they came; a fault
+//! of the outside comes only where its count rose; at a fault of the source each line that was read is told and written.
+//! `one_output_law`: where a line has one output, a list has.
+//!
+//! Stands on `outside` for the source and the sink and on the kinds of faults of `graph_core`. Source of the header: B. D. McKay,
+//! "Description of graph6, sparse6 and digraph6 encodings".
+#![tactic(auto)]
+
+mod cutting;
+mod ending;
+mod laws;
+mod listing;
+mod reading;
+mod teller;
+mod telling;
+
+pub use ending::Ending;
+pub use laws::one_output_law;
+pub use reading::tell_all;
+pub use teller::{LineTeller, Told};
