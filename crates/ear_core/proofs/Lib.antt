@@ -1,4 +1,4 @@
-pub mod Growth
+pub mod AddedEars
 pub mod NextStages
 pub mod EarTests
 pub mod Refusing

@@ -8,7 +8,7 @@ use Rattle.counting.specs.Counts.{Within}
 use Rattle.counting.specs.Lists.{mem}
 use Rattle.counting.specs.Sets.{Set, none}
 use Rattle.counting.specs.Tests.{every}
-use Rattle.ear_core.proofs.Growth.{met-some, some-met, degree_le, new-met}
+use Rattle.ear_core.proofs.AddedEars.{met-some, some-met, degree_le, new-met}
 use Rattle.ear_core.specs.Ears.{last_vertex, IsEar, IsEarPair}
 use Rattle.ear_core.specs.NearlyStages.{IsNearlyStage}
 use Rattle.ear_core.specs.Stages.{is_met, IsPerfectOf, IsStage, with_edges}

@@ -12,7 +12,7 @@ use Rattle.ear_core.specs.NearlyStages.{IsNearlyStage, odds}
 use Rattle.ear_core.specs.EarLists.{PlainStep, one, two, next_stage, IsStep, AreSteps}
 use Rattle.ear_core.specs.EarTests.{Why, not_path, even_length, bad_ends, inner_on_stage, edge_used, stage_not_covered, ends_early, is_path, has_odd_length, has_good_ends, has_free_inner, has_new_edges, Passes, ear_fault, inner_vertices}
 use Rattle.ear_core.specs.Refusals.{first_of, step_fault, IsLeastUnallowed, IsStepRefused, IsFirstRefusal}
-use Rattle.ear_core.proofs.Growth.{grow}
+use Rattle.ear_core.proofs.AddedEars.{grow}
 use Rattle.ear_core.proofs.NextStages.{nearly, met-within, second_ear}
 use Rattle.ear_core.proofs.EarTests.{first_passes, second_passes}
 

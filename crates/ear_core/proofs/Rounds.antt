@@ -15,7 +15,7 @@ use Rattle.ear_core.specs.AlternatingEars.{mate, IsAlternating, IsClear, HoldsMa
 use Rattle.ear_core.specs.EarLists.{PlainEar}
 use Rattle.ear_core.specs.Ears.{trail, last_vertex}
 use Rattle.ear_core.specs.Stages.{is_met, IsPerfectOff}
-use Rattle.ear_core.proofs.Growth.{edges-within, ends_of-other_end, degree_le, evens_at, some-met}
+use Rattle.ear_core.proofs.AddedEars.{edges-within, ends_of-other_end, degree_le, evens_at, some-met}
 use Rattle.ear_core.proofs.Mates.{AreMates}
 use Rattle.ear_core.proofs.Walking.{joins}
 

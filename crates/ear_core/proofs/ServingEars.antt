@@ -8,7 +8,7 @@ use Rattle.graph_core.specs.Graph.{Graph, IsGraph}
 use Rattle.ear_core.specs.Stages.{is_met, IsPerfectOf, IsPerfectOff, IsStage, with_edges}
 use Rattle.ear_core.specs.Ears.{last_vertex, IsEar, IsEarPair}
 use Rattle.ear_core.specs.NearlyStages.{odds, IsNearlyStage}
-use Rattle.ear_core.proofs.Growth.{odd_on, none_but, grow}
+use Rattle.ear_core.proofs.AddedEars.{odd_on, none_but, grow}
 use Rattle.ear_core.proofs.NextStages.{nearly, met-within, second_ear}
 
 -- a perfect matching that holds all edges that are left to ask makes a stage

@@ -17,7 +17,7 @@ pub mod WeakDuality
 pub mod View
 pub mod Trees
 pub mod TwoSides
-pub mod Growth
+pub mod FoundVertices
 pub mod Merging
 pub mod SameBlocks
 pub mod MergeOrder

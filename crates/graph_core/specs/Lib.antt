@@ -4,7 +4,7 @@ pub mod Walks
 pub mod Trees
 pub mod Rows
 pub mod Nodes
-pub mod Growth
+pub mod FoundVertices
 pub mod Sides
 pub mod Components
 pub mod BergeSets

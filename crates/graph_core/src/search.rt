@@ -4,7 +4,7 @@ ghost use Rattle.counting.specs.Counts.{Within};
 ghost use Rattle.counting.specs.Lists.{mem, item};
 ghost use Rattle.graph_core.specs.Components.{components};
 ghost use Rattle.graph_core.specs.Graph.{Graph, IsGraph};
-ghost use Rattle.graph_core.specs.Growth.{IsGrown};
+ghost use Rattle.graph_core.specs.FoundVertices.{IsGrown};
 ghost use Rattle.graph_core.specs.Nodes.{node_at, parent_at, depth_at, AreTrees};
 ghost use Rattle.graph_core.specs.Rows.{AreRows};
 

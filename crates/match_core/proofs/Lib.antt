@@ -6,7 +6,7 @@ pub mod OddCycles
 pub mod AlternatingPaths
 pub mod LongerPaths
 pub mod Forests
-pub mod Growth
+pub mod ForestSteps
 pub mod ClosingEdges
 pub mod StepTheorem
 pub mod MatePairs

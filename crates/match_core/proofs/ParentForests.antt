@@ -15,7 +15,7 @@ use Rattle.match_core.specs.declared.instance.Instance.{Instance}
 use Rattle.match_core.specs.declared.alternating.AlternatingForest.{AlternatingForest}
 use Rattle.match_core.proofs.Alike.{forest_alike}
 use Rattle.match_core.proofs.Forests.{first_outer, forest_start, final_frame, met, turned}
-use Rattle.match_core.proofs.Growth.{grown, more_e, more_inner, more_k, more_outer, more_v}
+use Rattle.match_core.proofs.ForestSteps.{grown, more_e, more_inner, more_k, more_outer, more_v}
 use Rattle.match_core.proofs.Instances.{left_from, left_parts, near_edge}
 use Rattle.match_core.proofs.LongerPaths.{end_within, longer, longer_below, longer_at}
 use Rattle.match_core.proofs.MatePairs.{mate_back, with_here, with_there}

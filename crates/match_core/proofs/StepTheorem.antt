@@ -13,7 +13,7 @@ use Rattle.graph_core.specs.Matchings.{IsMatching}
 use Rattle.match_core.proofs.OddCycles.{cycle_holds, cycle_outside, cycle_size, every_other-near_perfect}
 use Rattle.match_core.proofs.LongerPaths.{end_within, ends_by}
 use Rattle.match_core.proofs.Forests.{first_outer, forest_start, outer_edge, turned, final_frame}
-use Rattle.match_core.proofs.Growth.{mate, grown, grown_size, more_e, more_inner, more_k, more_outer, more_v}
+use Rattle.match_core.proofs.ForestSteps.{mate, grown, grown_size, more_e, more_inner, more_k, more_outer, more_v}
 use Rattle.match_core.proofs.ClosingEdges.{even_j, cycle, stem_count, stem_free, stem_holds, stem_matching}
 use Rattle.match_core.proofs.AlternatingPaths.{two_paths}
 use Rattle.match_core.proofs.Shrinking.{frame_up, shrunk_graph, complement_size, tip, down, up}

@@ -3,10 +3,10 @@ use Rattle.std.proofs.lemmas.Bool.{and_from, and_parts, not-true, not_from_false
 use Rattle.counting.specs.Counts.{count}
 use Rattle.counting.specs.Lists.{mem}
 use Rattle.counting.proofs.RisingLists.{set-narrower}
-use Rattle.graph_core.specs.Growth.{IsStage}
+use Rattle.graph_core.specs.FoundVertices.{IsStage}
 use Rattle.graph_core.specs.Nodes.{parent_at, depth_at}
 use Rattle.graph_core.specs.declared.tree.TreeNode.{TreeNode}
-use Rattle.graph_core.proofs.Growth.{grown_less, stage_start, stage_step, stage_end}
+use Rattle.graph_core.proofs.FoundVertices.{grown_less, stage_start, stage_step, stage_end}
 use Rattle.graph_core.proofs.search.search.Goals as goal
 
 pub searching-init : goal.searching-init

@@ -2,7 +2,7 @@ use Rattle.std.proofs.Common.{length}
 use Rattle.counting.specs.Counts.{count}
 use Rattle.counting.specs.Lists.{mem}
 use Rattle.graph_core.specs.Graph.{Graph, IsGraph}
-use Rattle.graph_core.specs.Growth.{IsStage}
+use Rattle.graph_core.specs.FoundVertices.{IsStage}
 use Rattle.graph_core.specs.Nodes.{parent_at, depth_at}
 use Rattle.graph_core.specs.Rows.{AreRows}
 use Rattle.graph_core.proofs.search.search.Given as goal

@@ -12,7 +12,7 @@ use Rattle.counting.proofs.RisingLists.{rising_list-congr, rising_list-rises, me
 use Rattle.counting.proofs.Tests.{some_true}
 use Rattle.graph_core.specs.Components.{components, is_least}
 use Rattle.graph_core.specs.Graph.{Graph, IsGraph}
-use Rattle.graph_core.specs.Growth.{IsGrowth, IsGrown, IsStage}
+use Rattle.graph_core.specs.FoundVertices.{IsGrowth, IsGrown, IsStage}
 use Rattle.graph_core.specs.Trees.{Hangs, IsForest}
 use Rattle.graph_core.specs.Walks.{Joined, Walk, adjacent, joined}
 use Rattle.graph_core.proofs.Components.{joined_walk, walk_joined}
