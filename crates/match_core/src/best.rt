@@ -58,10 +58,11 @@ pub fn best_from(
     requires matching { IsMatching (graph_of n ends.now) (mem removed) (marks given.now) }
     ensures { IfOk result (λ b. IsBest (graph_of n ends.now) (mem removed) b) }
 {
-    let instance = instance_of(alloc, rows, removed)?;
+    let mut instance = instance_of(alloc, rows, removed)?;
     let mut mate = mates_of(alloc, n, ends, given)?;
     'augmenting: loop {
-        match augment_once(alloc, &instance, instance.left, &mut mate)? {
+        let left = instance.left;
+        match augment_once(alloc, &mut instance, left, &mut mate)? {
             Answer::Grown => {}
             Answer::Final(sets) => {
                 let mark = marks_of(alloc, n, ends, &mate)?;
