@@ -22,6 +22,11 @@ pub record HoldsMatching (g : Graph) (r f : Set) (s : Instance) (mate : List ℕ
 abbrev pub MayBeExposed : List ℕ → List ℕ → List ℕ → Type 0
 MayBeExposed left mate candidates = (v : ℕ) → mem left v ≡ true → numbers mate v ≡ 0 → mem candidates v ≡ true
 
+-- the lengths of the rows of a forest of n vertices
+pub record IsSized (n : ℕ) (t : AlternatingForest) : Type 0 where
+  pub parents_long : length t.parent.items ≡ suc n
+  pub pairs_long : length t.pairs.items ≡ suc n
+
 -- the way up from u: its mate hangs on p, and the path of u is that of p and on by its mate
 pub record GoesUp (mate : List ℕ) (t : AlternatingForest) (v : ℕ → ℕ → ℕ) (u p : ℕ) : Type 0 where
   pub parent : numbers t.parent.items (numbers mate u) ≡ p

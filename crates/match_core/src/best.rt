@@ -9,6 +9,7 @@ ghost use Rattle.match_core.specs.Rows.{marks};
 ghost use Rattle.match_core.specs.GraphRows.{IsGraphRow};
 ghost use Rattle.match_core.specs.Optimal.{IsBest};
 
+use crate::alternating::AlternatingForest;
 use crate::answer::{Answer, FinalSets};
 use crate::augment::augment_once;
 use crate::instance::instance_of;
@@ -62,7 +63,8 @@ pub fn best_from(
     let mut mate = mates_of(alloc, n, ends, given)?;
     'augmenting: loop {
         let left = instance.left;
-        match augment_once(alloc, &mut instance, left, &mut mate)? {
+        let unused = AlternatingForest::empty(alloc, n)?;
+        match augment_once(alloc, &mut instance, unused, left, &mut mate)? {
             Answer::Grown => {}
             Answer::Final(sets) => {
                 let mark = marks_of(alloc, n, ends, &mate)?;
