@@ -6,7 +6,7 @@
 ghost use Rattle.std.specs.Prelude.{◌≡◌, ℕ, ◌+◌, ◌<◌, ◌≤◌, ◌==◌, ◌&&◌, true, false, length, suc, IfOk};
 ghost use Rattle.counting.specs.Counts.{Within};
 ghost use Rattle.counting.specs.Lists.{mem};
-ghost use Rattle.match_core.specs.AlternatingForests.{HasBranched, IsSized, MayBeExposed};
+ghost use Rattle.match_core.specs.AlternatingForests.{AreExposed, HasBranched, IsSized, MayBeExposed};
 ghost use Rattle.match_core.specs.Rows.{numbers};
 
 use std::alloc::{AllocError as Memory, Global};
@@ -26,7 +26,7 @@ pub struct AlternatingForest {
 pub fn exposed_in(candidates: VSet, left: VSet, mate: &[u32]) -> VSet
     requires vertices { (v : ℕ) → mem left v ≡ true → v < length mate.now }
     requires candidates { MayBeExposed left mate.now candidates }
-    ensures { (v : ℕ) → mem result v ≡ (mem left v && (numbers mate.now v == 0)) }
+    ensures { AreExposed left mate.now result }
 {
     let mut exposed = VSet::empty();
     let mut rest = candidates.meet(left);

@@ -11,7 +11,7 @@ ghost use Rattle.match_core.specs.AlternatingForests.{HoldsMatching, IsSized, Ma
 ghost use Rattle.match_core.specs.Blossoms.{IsMateStep};
 ghost use Rattle.match_core.specs.Shrinkings.{AreAlike};
 
-use crate::alternating::AlternatingForest;
+use crate::alternating::{AlternatingForest, exposed_in};
 use crate::answer::{Answer, FinalSets, widen};
 use crate::blossom::{close, open};
 use crate::growing::{Growth, grow_forest};
@@ -37,7 +37,8 @@ pub fn augment_once(
         HoldsMatching g r f instance.old mate.old → IsMateStep g r f mate.new s) }
     ensures restored { OnOk result (AreAlike instance.old instance.new) }
 {
-    let Growth { forest, closing } = grow_forest(instance, unused, candidates, mate);
+    let roots = exposed_in(candidates, instance.left, mate);
+    let Growth { forest, closing } = grow_forest(instance, unused, roots, mate);
     match closing {
         None => Ok(Answer::Final(FinalSets {
             outer: forest.outer,
@@ -50,7 +51,7 @@ pub fn augment_once(
                 Some(blossom) => {
                     let base = blossom.ring[1];
                     let before = instance.shrink(blossom.members, base);
-                    let below = augment_once(alloc, instance, forest, candidates.with(base), mate)?;
+                    let below = augment_once(alloc, instance, forest, roots.with(base), mate)?;
                     instance.unshrink(base, before);
                     open(instance, &blossom, mate);
                     Ok(widen(below, blossom.members))

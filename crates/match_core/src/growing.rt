@@ -5,10 +5,10 @@ ghost use Rattle.std.specs.Prelude.{◌≡◌, ℕ, ◌+◌, ◌<◌, ◌≤◌,
 ghost use Rattle.counting.specs.Sets.{Set};
 ghost use Rattle.counting.specs.Lists.{mem};
 ghost use Rattle.graph_core.specs.Graph.{Graph};
-ghost use Rattle.match_core.specs.AlternatingForests.{HoldsMatching, IsGrowth, IsSized, MayBeExposed};
+ghost use Rattle.match_core.specs.AlternatingForests.{AreExposed, HoldsMatching, IsGrowth, IsSized};
 ghost use Rattle.match_core.specs.Rows.{numbers};
 
-use crate::alternating::{AlternatingForest, exposed_in};
+use crate::alternating::AlternatingForest;
 use crate::instance::Instance;
 use vset_core::VSet;
 
@@ -26,21 +26,20 @@ pub struct Growth {
     pub closing: Option<Adjacent>,
 }
 
-/// Grows the forest of the matching with these mates. Its roots are those of the candidates that are left and exposed. It
-/// is written into the memory of a forest that means nothing.
+/// Grows the forest of the matching with these mates from its exposed vertices. It is written into the memory of a forest that
+/// means nothing.
 pub fn grow_forest(
     instance: &Instance,
     unused: AlternatingForest,
-    candidates: VSet,
+    roots: VSet,
     mate: &[u32],
 ) -> Growth
     requires holds { (g : Graph) × (r : Set) × (f : Set) × HoldsMatching g r f instance.now mate.now }
     requires sized { IsSized (length instance.now.rows.items) unused }
-    requires candidates { MayBeExposed instance.now.left mate.now candidates }
+    requires roots { AreExposed instance.now.left mate.now roots }
     ensures { (g : Graph) (r f : Set) →
         HoldsMatching g r f instance.now mate.now → IsGrowth g r f instance.now mate.now result }
 {
-    let roots = exposed_in(candidates, instance.left, mate);
     let mut forest = unused.with_roots(roots);
     let mut open = forest.outer;
     'growing: while let Some(x) = open.first() {

@@ -4,9 +4,15 @@ use Rattle.counting.specs.Lists.{mem}
 use Rattle.match_core.specs.Blossoms.{IsClosed, removed_with, without_blossom}
 use Rattle.match_core.specs.Rows.{numbers}
 use Rattle.match_core.proofs.BlossomSteps.{cw, wz}
-use Rattle.match_core.proofs.Instances.{alike_self, put_back}
-use Rattle.match_core.proofs.MateSteps.{below_holds, below_less, candidates_below, growth_closes, growth_final, may_open, may_open_alike, step_completed}
+use Rattle.match_core.proofs.Instances.{alike_self, left_parts, put_back}
+use Rattle.match_core.proofs.MateSteps.{below_holds, below_less, candidates_below, roots_exposed, growth_closes, growth_final, may_open, may_open_alike, step_completed}
 use Rattle.match_core.proofs.augment.+augment_once.Goals as goal
+
+pub exposed_in-roots-requires-clause-vertices : goal.exposed_in-roots-requires-clause-vertices
+exposed_in-roots-requires-clause-vertices t c = λ v l.
+    let q = c.requires.holds in
+    let w = (left_parts q.0 q.1 c.args.instance.now q.3.instance_is v l).0 in
+    let long = q.3.long in omega arith
 
 pub returns-in-None-clause-restored : goal.returns-in-None-clause-restored
 returns-in-None-clause-restored t c = alike_self c.args.instance.now
@@ -87,7 +93,7 @@ augment_once-requires t c =
     let long = c.shrink-before.ensures.shrunk.rows.one_each in
     let less = below_less q.0 q.1 q.2 c.args.instance.now c.args.mate.now q.3 c.close.new.mate c.close.auto.mate c.in-Some-2.blossom held c.index-base.result.now base c.shrink-before.new.self c.shrink-before.ensures.shrunk in (
       first_of (omega arith, search rules),
-      ((without_blossom q.0 c.in-Some-2.blossom, removed_with q.1 c.in-Some-2.blossom, held.m, below_holds q.0 q.1 q.2 c.args.instance.now c.args.mate.now q.3 c.close.new.mate c.close.auto.mate c.in-Some-2.blossom held c.index-base.result.now base c.shrink-before.new.self c.shrink-before.ensures.shrunk), (record { parents_long = omega arith; pairs_long = omega arith }, candidates_below c.args.instance.now c.shrink-before.new.self c.in-Some-2.blossom.members c.index-base.result.now c.shrink-before.ensures.shrunk c.args.candidates c.with.result c.args.mate.now c.close.new.mate c.requires.candidates (c.in_ok-close-in-Some.ensures.exposed c.in-Some-2.blossom c.in-Some-2.is) c.with.ensures)),
+      ((without_blossom q.0 c.in-Some-2.blossom, removed_with q.1 c.in-Some-2.blossom, held.m, below_holds q.0 q.1 q.2 c.args.instance.now c.args.mate.now q.3 c.close.new.mate c.close.auto.mate c.in-Some-2.blossom held c.index-base.result.now base c.shrink-before.new.self c.shrink-before.ensures.shrunk), (record { parents_long = omega arith; pairs_long = omega arith }, candidates_below c.args.instance.now c.shrink-before.new.self c.in-Some-2.blossom.members c.index-base.result.now c.shrink-before.ensures.shrunk c.exposed_in-roots.result c.with.result c.args.mate.now c.close.new.mate (roots_exposed c.args.instance.now.left c.args.mate.now c.exposed_in-roots.result c.exposed_in-roots.ensures) (c.in_ok-close-in-Some.ensures.exposed c.in-Some-2.blossom c.in-Some-2.is) c.with.ensures)),
     )
 
 pub open-requires : goal.open-requires

@@ -14,16 +14,10 @@ or_false_parts : (a b : Bool) → (a || b) ≡ false → (a ≡ false) × (b ≡
 or_false_parts true b q = absurd (Rattle.std.proofs.lemmas.Bool.true≢false q)
 or_false_parts false b q = (refl, q)
 
-pub exposed_in-roots-requires-clause-vertices : goal.exposed_in-roots-requires-clause-vertices
-exposed_in-roots-requires-clause-vertices c = λ v l.
-    let q = c.requires.holds in
-    let w = (left_parts q.0 q.1 c.args.instance.now q.3.instance_is v l).0 in
-    let long = q.3.long in omega arith
-
 pub with_roots-forest-requires : goal.with_roots-forest-requires
 with_roots-forest-requires c = λ v t.
     let q = c.requires.holds in
-    let l = (and_parts (mem c.args.instance.now.left v) (numbers c.args.mate.now v == 0) (sym (c.exposed_in-roots.ensures v) ∙ t)).0 in
+    let l = (and_parts (mem c.args.instance.now.left v) (numbers c.args.mate.now v == 0) (sym (c.requires.roots v) ∙ t)).0 in
     let w = (left_parts q.0 q.1 c.args.instance.now q.3.instance_is v l).0 in
     let each = q.3.instance_is.one_each in
     let long = c.requires.sized.pairs_long in omega arith
@@ -33,7 +27,7 @@ growing-init c = record {
   holds = λ g r f is.
       let each = is.instance_is.one_each in
       roots_hold g r f c.args.instance.now c.args.mate.now is c.with_roots-forest.result
-      (λ v. ap (λ (x : List ℕ). mem x v) c.with_roots-forest.ensures.outer ∙ c.exposed_in-roots.ensures v)
+      (λ v. ap (λ (x : List ℕ). mem x v) c.with_roots-forest.ensures.outer ∙ c.requires.roots v)
       c.with_roots-forest.ensures.inner (c.with_roots-forest.ensures.parents_long ∙ c.requires.sized.parents_long ∙ ap suc each) (c.with_roots-forest.ensures.pairs_long ∙ c.requires.sized.pairs_long ∙ ap suc each)
       (λ v o. c.with_roots-forest.ensures.pairs v (sym (ap (λ (x : List ℕ). mem x v) c.with_roots-forest.ensures.outer) ∙ o));
   opens = λ x o. o;
