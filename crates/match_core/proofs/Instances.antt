@@ -1,7 +1,7 @@
 -- What an instance tells of its graph, and the instance of a whole graph.
 -- A vertex that is left is near where its row holds it, or where it is a blossom with a member in the row.
 use Rattle.std.proofs.Common.{◌≡◌, ◌≢◌, ◌↔◌, ℕ, ◌≤◌, true, false, ◌==◌, refl, sym, ap, ◌∙◌, arith, eq-eqb, eqb-true, inl, inr, ◌⊎◌, not, ◌&&◌, ◌||◌, nat_lt, nat_le, lt-ltb, ltb-true, length, List, [], ◌∷◌}
-use Rattle.std.proofs.lemmas.Bool.{and_from, and_parts, both_ways, cases_Bool, false_from_ne_true, le-leb, leb-true, not-true, or_cases, true≢false}
+use Rattle.std.proofs.lemmas.Bool.{and_from, and_parts, both_ways, cases_Bool, false_from_ne_true, le-leb, leb-true, not-true, or_cases, true≢false, cases_eq}
 use Rattle.counting.proofs.Tests.{true_some}
 use Rattle.counting.specs.Counts.{Within}
 use Rattle.counting.specs.Sets.{Set, none}
@@ -11,7 +11,9 @@ use Rattle.graph_core.proofs.Walks.{adjacent-edge, has_ends-cases}
 use Rattle.graph_core.specs.Graph.{Graph, HasEnds, IsGraph, has_ends, size}
 use Rattle.graph_core.specs.Rows.{AreRows}
 use Rattle.match_core.specs.Instances.{AreNear, IsInstance, Touches}
+use Rattle.match_core.specs.Shrinkings.{AreAlike, IsPutBack, IsShrinking, IsUnshrunk}
 use Rattle.match_core.specs.declared.instance.Instance.{Instance}
+use Rattle.match_core.specs.declared.instance.Unshrunk.{Unshrunk}
 
 -- what the vertices that are left are
 pub left_parts : (g : Graph) (r : Set) (s : Instance) → IsInstance g r s → (v : ℕ) → mem s.left v ≡ true → Within g.order v × (r v ≡ false)
@@ -99,3 +101,48 @@ whole_instance g r s is few rows members alone blossoms left = record {
       | inl q ↦ eqb-true v w q
       | inr q ↦ absurd (true≢false (sym q))
     ]
+
+pub alike_self : (s : Instance) → AreAlike s s
+alike_self s = record { rows_long = refl; members_long = refl; rows = λ v w. refl; members = λ v w. refl; blossoms = refl; left = refl }
+
+-- an instance that holds the same is one of the same graph
+pub instance_alike : (g : Graph) (r : Set) (s h : Instance) → IsInstance g r s → AreAlike s h → IsInstance g r h
+instance_alike g r s h is a = record {
+  graph = is.graph;
+  few = is.few;
+  one_each = a.rows_long ∙ is.one_each;
+  members_each = a.members_long ∙ is.members_each;
+  left = λ v. ap (λ (xs : List ℕ). mem xs v) a.left ∙ is.left v;
+  blossoms_in = λ v t. is.blossoms_in v (sym (ap (λ (xs : List ℕ). mem xs v) a.blossoms) ∙ t);
+  own = λ v w rv. ap (λ (xs : List ℕ). mem xs v) (members v w) ∙ is.own v w rv;
+  single = λ v w wv rv b t. is.single v w wv rv (sym (ap (λ (xs : List ℕ). mem xs v) a.blossoms) ∙ b) (sym (ap (λ (xs : List ℕ). mem xs w) (members v wv)) ∙ t);
+  joined = λ v w wv ww rv rw n t. is.joined v w wv ww rv rw n (t.0, sym (ap (λ (xs : List ℕ). mem xs t.0) (rows v wv)) ∙ t.1, sym (ap (λ (xs : List ℕ). mem xs t.0) (members w ww)) ∙ t.2);
+  touched = λ d v w wd ends wv ww rv rw n. let t = is.touched d v w wd ends wv ww rv rw n in (t.0, ap (λ (xs : List ℕ). mem xs t.0) (rows v wv) ∙ t.1, ap (λ (xs : List ℕ). mem xs t.0) (members w ww) ∙ t.2);
+}
+  where
+    rows : (v : ℕ) → Within g.order v → item h.rows.items v ≡ item s.rows.items v
+    rows v w = a.rows v (let e = is.one_each in omega arith)
+
+    members : (v : ℕ) → Within g.order v → item h.members.items v ≡ item s.members.items v
+    members v w = a.members v (let e = is.members_each in omega arith)
+
+-- what a shrinking took is put back
+pub put_back : (s h t u : Instance) (ring : Set) (base : ℕ) (before : Unshrunk) → IsShrinking s ring base h → IsUnshrunk s base before → AreAlike h t → IsPutBack t base before u → AreAlike s u
+put_back s h t u ring base before shrink taken same put = record {
+  rows_long = put.rows_long ∙ same.rows_long ∙ shrink.rows.one_each;
+  members_long = put.members_long ∙ same.members_long ∙ shrink.members.one_each;
+  rows = λ v w. elim (cases_eq base v) [
+    | inl q ↦ ap (item u.rows.items) (sym q) ∙ put.row ∙ taken.row ∙ ap (item s.rows.items) q
+    | inr n ↦
+        let a = shrink.rows.one_each in
+        let b = same.rows_long in put.other_rows v (omega arith) n ∙ same.rows v (omega arith) ∙ shrink.rows.others v w n
+  ];
+  members = λ v w. elim (cases_eq base v) [
+    | inl q ↦ ap (item u.members.items) (sym q) ∙ put.members ∙ taken.members ∙ ap (item s.members.items) q
+    | inr n ↦
+        let a = shrink.members.one_each in
+        let b = same.members_long in put.other_members v (omega arith) n ∙ same.members v (omega arith) ∙ shrink.members.others v w n
+  ];
+  blossoms = put.blossoms ∙ taken.blossoms;
+  left = put.left ∙ taken.left;
+}

@@ -1,5 +1,5 @@
 -- One augmentation by mates: what its parts hand to one another.
-use Rattle.std.proofs.Common.{◌≡◌, ℕ, ◌<◌, refl, ap, ◌∙◌, arith, subst₂, length, List, not, ◌&&◌, nat_lt, nat_le, lt-ltb, Some, None, Bool, true, false, ◌==◌, ◌||◌, ◌⊎◌, sym, inl, inr}
+use Rattle.std.proofs.Common.{◌≡◌, ℕ, ◌<◌, refl, ap, ◌∙◌, arith, subst₂, length, List, not, ◌&&◌, nat_lt, nat_le, lt-ltb, Some, None, Bool, true, false, ◌==◌, ◌||◌, ◌⊎◌, sym, inl, inr, eq-eqb}
 use mathlib.Core.Path.{fun_ext}
 use Rattle.std.proofs.lemmas.Bool.{and_from, le-leb, and_parts, or_left, or_right, true≢false}
 use Rattle.counting.proofs.Totals.{total_congr}
@@ -7,12 +7,12 @@ use Rattle.counting.specs.Counts.{bit, count}
 use Rattle.counting.specs.Sets.{Set, complement}
 use Rattle.counting.specs.Lists.{mem}
 use Rattle.graph_core.specs.Graph.{Graph}
-use Rattle.match_core.specs.AlternatingForests.{HoldsMatching, IsGrowth, MayBeExposed}
+use Rattle.match_core.specs.AlternatingForests.{AreExposed, HoldsMatching, IsGrowth, MayBeExposed}
 use Rattle.match_core.specs.Blossoms.{ClosesForest, HoldsBlossom, IsCompleted, IsMateStep, MayOpen, blossom_length, removed_with, without_blossom}
 use Rattle.match_core.specs.Instances.{IsInstance}
 use Rattle.match_core.specs.OddCycles.{listed}
 use Rattle.match_core.specs.Rows.{numbers}
-use Rattle.match_core.specs.Shrinkings.{IsShrinking}
+use Rattle.match_core.specs.Shrinkings.{AreAlike, IsShrinking}
 use Rattle.match_core.specs.Steps.{IsWidened}
 use Rattle.match_core.specs.declared.blossom.Blossom.{Blossom}
 use Rattle.match_core.specs.declared.growing.Adjacent.{Adjacent}
@@ -21,7 +21,7 @@ use Rattle.match_core.specs.declared.instance.Instance.{Instance}
 use Rattle.match_core.specs.declared.answer.Answer.{Answer}
 use Rattle.match_core.specs.declared.answer.Answer.TheVariants.{Final}
 use Rattle.match_core.proofs.BlossomSteps.{below_mates, below_size, cr, cw, cz, graph, pulls, same_count, smaller, step_up}
-use Rattle.match_core.proofs.Instances.{near_edge}
+use Rattle.match_core.proofs.Instances.{instance_alike, near_edge}
 use Rattle.match_core.proofs.ParentForests.{done_frame}
 use Rattle.match_core.proofs.ShrunkInstances.{shrunk_instance}
 
@@ -29,6 +29,14 @@ use Rattle.match_core.proofs.ShrunkInstances.{shrunk_instance}
 pub left_count : (g : Graph) (r : Set) (s : Instance) → IsInstance g r s → count (length s.rows.items) (mem s.left) ≡ count g.order (complement r)
 left_count g r s is = ap (λ (n : ℕ). count n (mem s.left)) is.one_each
     ∙ total_congr g.order (λ v. bit (mem s.left v)) (λ v. bit (not (r v))) (λ v w. ap bit (is.left v ∙ ap (λ b. b && not (r v)) (and_from (nat_lt 0 v) (nat_le v g.order) (lt-ltb 0 v (omega arith)) (le-leb v g.order (omega arith)))))
+
+-- a blossom may be opened by an instance that holds the same
+pub may_open_alike : (g : Graph) (r f m n : Set) (s h : Instance) (mate : List ℕ) (b : Blossom) → MayOpen g r f m n s mate b → AreAlike s h → MayOpen g r f m n h mate b
+may_open_alike g r f m n s h mate b may same = record { instance_is = instance_alike g r s h may.instance_is same; long = may.long; edge = may.edge; opened = may.opened; mates = may.mates }
+
+-- the exposed vertices are all those that may be
+pub roots_exposed : (left mate roots : List ℕ) → AreExposed left mate roots → MayBeExposed left mate roots
+roots_exposed left mate roots are v l z = are v ∙ and_from (mem left v) (numbers mate v == 0) l (eq-eqb (numbers mate v) 0 z)
 
 -- a vertex that is left after a shrinking and exposed is the base, or was exposed before
 pub candidates_below : (s h : Instance) (ring : List ℕ) (base : ℕ) → IsShrinking s (mem ring) base h → (candidates more before after : List ℕ) → MayBeExposed s.left before candidates

@@ -33,16 +33,16 @@ exposed_is_both left mate exposed from into v = elim (cases_Bool (mem exposed v)
 module _ (g : Graph) (r f : Set) (s : Instance) (mate : List ℕ) (is : HoldsMatching g r f s mate) where
   -- each exposed vertex a root
   pub roots_hold : (t : AlternatingForest) → ((v : ℕ) → mem t.outer v ≡ (mem s.left v && (numbers mate v == 0))) → ((v : ℕ) → mem t.inner v ≡ false) →
-      length t.parent.items ≡ suc g.order → length t.pairs.items ≡ suc g.order → ((v : ℕ) → numbers t.pairs.items v ≡ 0) → HoldsAlternating g r f mate t
+      length t.parent.items ≡ suc g.order → length t.pairs.items ≡ suc g.order → ((v : ℕ) → mem t.outer v ≡ true → numbers t.pairs.items v ≡ 0) → HoldsAlternating g r f mate t
   roots_hold t outer inner parents_long pairs_long pairs = record {
     v = λ u j. u;
     e = λ u j. 0;
     forest = forest_alike g r f (first_outer g is.instance_is.graph r f is.mates.matching) none (λ u. 0) (λ u j. u) (λ u j. 0)
-        (mem t.outer) (mem t.inner) (numbers t.pairs.items) (λ u j. u) (λ u j. 0) (λ u. outer u ∙ same u) inner (λ u o. pairs u) (λ u o j l. refl) (λ u o j l. refl)
+        (mem t.outer) (mem t.inner) (numbers t.pairs.items) (λ u j. u) (λ u j. 0) (λ u. outer u ∙ same u) inner (λ u o. pairs u (outer u ∙ same u ∙ o)) (λ u o j l. refl) (λ u o j l. refl)
         (forest_start g is.instance_is.graph r f is.mates.matching);
     parents_long = parents_long;
     pairs_long = pairs_long;
-    up = λ u o n. absurd (n (pairs u));
+    up = λ u o n. absurd (n (pairs u o));
   }
     where
       exposed_is : (u : ℕ) → Within g.order u → (numbers mate u == 0) ≡ (degree g f u == 0)

@@ -1,5 +1,5 @@
 -- How the code keeps an alternating forest: an inner vertex names its parent, and the way goes on from there by mates.
-use Rattle.std.specs.Prelude.{◌≢◌, ◌≡◌, ℕ, suc, ◌+◌, ◌≤◌, ◌==◌, ◌||◌, true, length, List, Some, None}
+use Rattle.std.specs.Prelude.{◌≢◌, ◌≡◌, ℕ, suc, ◌+◌, ◌≤◌, ◌==◌, ◌&&◌, ◌||◌, true, length, List, Some, None}
 use Rattle.counting.specs.Sets.{Set}
 use Rattle.counting.specs.Lists.{mem}
 use Rattle.graph_core.specs.Graph.{Graph}
@@ -21,6 +21,15 @@ pub record HoldsMatching (g : Graph) (r f : Set) (s : Instance) (mate : List ℕ
 -- the candidates hold each vertex that is left and has no mate
 abbrev pub MayBeExposed : List ℕ → List ℕ → List ℕ → Type 0
 MayBeExposed left mate candidates = (v : ℕ) → mem left v ≡ true → numbers mate v ≡ 0 → mem candidates v ≡ true
+
+-- the roots are the vertices that are left and have no mate
+abbrev pub AreExposed : List ℕ → List ℕ → List ℕ → Type 0
+AreExposed left mate roots = (v : ℕ) → mem roots v ≡ (mem left v && (numbers mate v == 0))
+
+-- the lengths of the rows of a forest of n vertices
+pub record IsSized (n : ℕ) (t : AlternatingForest) : Type 0 where
+  pub parents_long : length t.parent.items ≡ suc n
+  pub pairs_long : length t.pairs.items ≡ suc n
 
 -- the way up from u: its mate hangs on p, and the path of u is that of p and on by its mate
 pub record GoesUp (mate : List ℕ) (t : AlternatingForest) (v : ℕ → ℕ → ℕ) (u p : ℕ) : Type 0 where

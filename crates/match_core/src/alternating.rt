@@ -6,7 +6,7 @@
 ghost use Rattle.std.specs.Prelude.{◌≡◌, ℕ, ◌+◌, ◌<◌, ◌≤◌, ◌==◌, ◌&&◌, true, false, length, suc, IfOk};
 ghost use Rattle.counting.specs.Counts.{Within};
 ghost use Rattle.counting.specs.Lists.{mem};
-ghost use Rattle.match_core.specs.AlternatingForests.{HasBranched, MayBeExposed};
+ghost use Rattle.match_core.specs.AlternatingForests.{AreExposed, HasBranched, IsSized, MayBeExposed};
 ghost use Rattle.match_core.specs.Rows.{numbers};
 
 use std::alloc::{AllocError as Memory, Global};
@@ -26,7 +26,7 @@ pub struct AlternatingForest {
 pub fn exposed_in(candidates: VSet, left: VSet, mate: &[u32]) -> VSet
     requires vertices { (v : ℕ) → mem left v ≡ true → v < length mate.now }
     requires candidates { MayBeExposed left mate.now candidates }
-    ensures { (v : ℕ) → mem result v ≡ (mem left v && (numbers mate.now v == 0)) }
+    ensures { AreExposed left mate.now result }
 {
     let mut exposed = VSet::empty();
     let mut rest = candidates.meet(left);
@@ -39,22 +39,50 @@ pub fn exposed_in(candidates: VSet, left: VSet, mate: &[u32]) -> VSet
     exposed
 }
 
+// Writes 0 at the places of a set.
+fn write_zeros(row: &mut [usize], places: VSet)
+    requires { (v : ℕ) → mem places v ≡ true → v < length row.old }
+    ensures { (v : ℕ) → mem places v ≡ true → numbers row.new v ≡ 0 }
+{
+    let mut rest = places;
+    'writing: while let Some((v, others)) = rest.split_first() {
+        rest = others;
+        row[v as usize] = 0;
+    }
+}
+
 impl AlternatingForest {
-    /// The forest of 1 to `n` in which the vertices of a set are the roots, and all outer vertices.
-    pub fn of_roots(alloc: Global, n: u32, roots: VSet) -> Result<AlternatingForest, Memory>
+    /// The forest of 1 to `n` without a vertex.
+    pub fn empty(alloc: Global, n: u32) -> Result<AlternatingForest, Memory>
         requires { n ≤ MOST_VERTICES }
-        ensures outer { IfOk result (λ t. t.outer ≡ roots) }
-        ensures inner { IfOk result (λ t. (v : ℕ) → mem t.inner v ≡ false) }
-        ensures parents_long { IfOk result (λ t. length t.parent.items ≡ suc n) }
-        ensures pairs_long { IfOk result (λ t. length t.pairs.items ≡ suc n) }
-        ensures pairs { IfOk result (λ t. (v : ℕ) → numbers t.pairs.items v ≡ 0) }
+        ensures { IfOk result (IsSized n) }
     {
         Ok(AlternatingForest {
-            outer: roots,
+            outer: VSet::empty(),
             inner: VSet::empty(),
             parent: vec![in alloc; 0; n as usize + 1]?,
             pairs: vec![in alloc; 0; n as usize + 1]?,
         })
+    }
+
+    /// The forest in which the vertices of a set are the roots, and all outer vertices. It keeps the memory of this one.
+    pub fn with_roots(self, roots: VSet) -> AlternatingForest
+        requires { (v : ℕ) → mem roots v ≡ true → v < length self.pairs.items }
+        ensures outer { result.outer ≡ roots }
+        ensures inner { (v : ℕ) → mem result.inner v ≡ false }
+        ensures parents_long { length result.parent.items ≡ length self.parent.items }
+        ensures pairs_long { length result.pairs.items ≡ length self.pairs.items }
+        ensures pairs { (v : ℕ) → mem roots v ≡ true → numbers result.pairs.items v ≡ 0 }
+    {
+        let AlternatingForest { parent, pairs, .. } = self;
+        let mut pairs = pairs;
+        write_zeros(&mut pairs, roots);
+        AlternatingForest {
+            outer: roots,
+            inner: VSet::empty(),
+            parent,
+            pairs,
+        }
     }
 
     /// Hangs the vertex `y`, which becomes inner, on the outer vertex `x`, and its mate `z`, which becomes outer, on `y`.

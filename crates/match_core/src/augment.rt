@@ -4,34 +4,41 @@
 //! augments the matching, or a blossom. A blossom is shrunk to its base: a matching of the smaller graph can be completed in
 //! it, and a proof that there is no larger one holds for the graph too. Where no edge leaves the forest, its inner vertices
 //! show that the matching is maximum: without them each outer vertex, a blossom or not, is in an odd component of its own.
-ghost use Rattle.std.specs.Prelude.{◌<◌, IfOk};
+ghost use Rattle.std.specs.Prelude.{◌<◌, length, IfOk, OnOk};
 ghost use Rattle.counting.specs.Sets.{Set};
 ghost use Rattle.graph_core.specs.Graph.{Graph};
-ghost use Rattle.match_core.specs.AlternatingForests.{HoldsMatching, MayBeExposed};
+ghost use Rattle.match_core.specs.AlternatingForests.{HoldsMatching, IsSized, MayBeExposed};
 ghost use Rattle.match_core.specs.Blossoms.{IsMateStep};
+ghost use Rattle.match_core.specs.Shrinkings.{AreAlike};
 
+use crate::alternating::{AlternatingForest, exposed_in};
 use crate::answer::{Answer, FinalSets, widen};
 use crate::blossom::{close, open};
 use crate::growing::{Growth, grow_forest};
-use crate::instance::{Instance, shrink};
+use crate::instance::Instance;
 use crate::ways::ways_to;
 use std::alloc::{AllocError as Memory, Global};
 use vset_core::VSet;
 
 /// Makes the matching with these mates larger by one edge, or answers a frame, which shows that none is larger; the mates may
-/// then be those of another matching of the same size. The exposed vertices are looked for among the candidates.
+/// then be those of another matching of the same size. The exposed vertices are looked for among the candidates. What is
+/// shrunk meanwhile is put back. The forests are grown in the memory of one that means nothing.
 pub fn augment_once(
     alloc: Global,
-    instance: &Instance,
+    instance: &mut Instance,
+    unused: AlternatingForest,
     candidates: VSet,
     mate: &mut [u32],
 ) -> Result<Answer, Memory>
-    requires holds { (g : Graph) × (r : Set) × (f : Set) × HoldsMatching g r f instance.now mate.old }
-    requires candidates { MayBeExposed instance.now.left mate.old candidates }
-    ensures { IfOk result (λ s. (g : Graph) (r f : Set) →
-        HoldsMatching g r f instance.now mate.old → IsMateStep g r f mate.new s) }
+    requires holds { (g : Graph) × (r : Set) × (f : Set) × HoldsMatching g r f instance.old mate.old }
+    requires sized { IsSized (length instance.old.rows.items) unused }
+    requires candidates { MayBeExposed instance.old.left mate.old candidates }
+    ensures step { IfOk result (λ s. (g : Graph) (r f : Set) →
+        HoldsMatching g r f instance.old mate.old → IsMateStep g r f mate.new s) }
+    ensures restored { OnOk result (AreAlike instance.old instance.new) }
 {
-    let Growth { forest, closing } = grow_forest(alloc, instance, candidates, mate)?;
+    let roots = exposed_in(candidates, instance.left, mate);
+    let Growth { forest, closing } = grow_forest(instance, unused, roots, mate);
     match closing {
         None => Ok(Answer::Final(FinalSets {
             outer: forest.outer,
@@ -43,8 +50,9 @@ pub fn augment_once(
                 None => Ok(Answer::Grown),
                 Some(blossom) => {
                     let base = blossom.ring[1];
-                    let smaller = shrink(alloc, instance, blossom.members, base)?;
-                    let below = augment_once(alloc, &smaller, candidates.with(base), mate)?;
+                    let before = instance.shrink(blossom.members, base);
+                    let below = augment_once(alloc, instance, forest, roots.with(base), mate)?;
+                    instance.unshrink(base, before);
                     open(instance, &blossom, mate);
                     Ok(widen(below, blossom.members))
                 }

@@ -9,6 +9,7 @@ ghost use Rattle.match_core.specs.Rows.{marks};
 ghost use Rattle.match_core.specs.GraphRows.{IsGraphRow};
 ghost use Rattle.match_core.specs.Optimal.{IsBest};
 
+use crate::alternating::AlternatingForest;
 use crate::answer::{Answer, FinalSets};
 use crate::augment::augment_once;
 use crate::instance::instance_of;
@@ -58,10 +59,12 @@ pub fn best_from(
     requires matching { IsMatching (graph_of n ends.now) (mem removed) (marks given.now) }
     ensures { IfOk result (λ b. IsBest (graph_of n ends.now) (mem removed) b) }
 {
-    let instance = instance_of(alloc, rows, removed)?;
+    let mut instance = instance_of(alloc, rows, removed)?;
     let mut mate = mates_of(alloc, n, ends, given)?;
     'augmenting: loop {
-        match augment_once(alloc, &instance, instance.left, &mut mate)? {
+        let left = instance.left;
+        let unused = AlternatingForest::empty(alloc, n)?;
+        match augment_once(alloc, &mut instance, unused, left, &mut mate)? {
             Answer::Grown => {}
             Answer::Final(sets) => {
                 let mark = marks_of(alloc, n, ends, &mate)?;

@@ -55,7 +55,7 @@ pub fn cycle_vertices(
     ensures low { IfOk result (λ cs. (y : ℕ) → y ≤ m → slice_index cs.items (1 + y) ≡ slice_index row.now (from + y)) }
     ensures high { IfOk result (λ cs. (y : ℕ) → y < x → slice_index cs.items (m + 2 + y) ≡ slice_index row.now (back_from + (x - 1 - y))) }
 {
-    let mut cs = Vec::new(alloc);
+    let mut cs = Vec::with_capacity(alloc, m + x + 2)?;
     cs.push(0)?;
     push_part(&mut cs, row, from, m + 1)?;
     push_part_back(&mut cs, row, back_from, x)?;

@@ -5,12 +5,11 @@ ghost use Rattle.std.specs.Prelude.{◌≡◌, ℕ, ◌+◌, ◌<◌, ◌≤◌,
 ghost use Rattle.counting.specs.Sets.{Set};
 ghost use Rattle.counting.specs.Lists.{mem};
 ghost use Rattle.graph_core.specs.Graph.{Graph};
-ghost use Rattle.match_core.specs.AlternatingForests.{HoldsMatching, IsGrowth, MayBeExposed};
+ghost use Rattle.match_core.specs.AlternatingForests.{AreExposed, HoldsMatching, IsGrowth, IsSized};
 ghost use Rattle.match_core.specs.Rows.{numbers};
 
-use crate::alternating::{AlternatingForest, exposed_in};
+use crate::alternating::AlternatingForest;
 use crate::instance::Instance;
-use std::alloc::{AllocError as Memory, Global};
 use vset_core::VSet;
 
 /// Two vertices that an edge joins.
@@ -27,30 +26,30 @@ pub struct Growth {
     pub closing: Option<Adjacent>,
 }
 
-/// Grows the forest of the matching with these mates. Its roots are those of the candidates that are left and exposed.
+/// Grows the forest of the matching with these mates from its exposed vertices. It is written into the memory of a forest that
+/// means nothing.
 pub fn grow_forest(
-    alloc: Global,
     instance: &Instance,
-    candidates: VSet,
+    unused: AlternatingForest,
+    roots: VSet,
     mate: &[u32],
-) -> Result<Growth, Memory>
+) -> Growth
     requires holds { (g : Graph) × (r : Set) × (f : Set) × HoldsMatching g r f instance.now mate.now }
-    requires candidates { MayBeExposed instance.now.left mate.now candidates }
-    ensures { IfOk result (λ t. (g : Graph) (r f : Set) →
-        HoldsMatching g r f instance.now mate.now → IsGrowth g r f instance.now mate.now t) }
+    requires sized { IsSized (length instance.now.rows.items) unused }
+    requires roots { AreExposed instance.now.left mate.now roots }
+    ensures { (g : Graph) (r f : Set) →
+        HoldsMatching g r f instance.now mate.now → IsGrowth g r f instance.now mate.now result }
 {
-    let n = instance.rows.len() as u32;
-    let roots = exposed_in(candidates, instance.left, mate);
-    let mut forest = AlternatingForest::of_roots(alloc, n, roots)?;
+    let mut forest = unused.with_roots(roots);
     let mut open = forest.outer;
     'growing: while let Some(x) = open.first() {
         let near = instance.near(x).without(x);
         let reach = near.minus(forest.inner);
         if let Some(y) = reach.meet(forest.outer).first() {
-            return Ok(Growth {
+            return Growth {
                 forest,
                 closing: Some(Adjacent { v: x, w: y }),
-            });
+            };
         }
         match reach.first() {
             None => open = open.without(x),
@@ -61,8 +60,8 @@ pub fn grow_forest(
             }
         }
     }
-    Ok(Growth {
+    Growth {
         forest,
         closing: None,
-    })
+    }
 }

@@ -8,7 +8,7 @@ ghost use Rattle.counting.specs.Lists.{mem, item};
 ghost use Rattle.graph_core.specs.Graph.{Graph, IsGraph};
 ghost use Rattle.graph_core.specs.Rows.{AreRows};
 ghost use Rattle.match_core.specs.Instances.{AreNear, IsInstance};
-ghost use Rattle.match_core.specs.Shrinkings.{IsGathered, IsShrinking, IsUnionOf};
+ghost use Rattle.match_core.specs.Shrinkings.{IsGathered, IsPutBack, IsShrinking, IsUnionOf, IsUnshrunk};
 
 use std::alloc::{AllocError as Memory, Global};
 use vset_core::{MOST_VERTICES, VSet};
@@ -108,30 +108,62 @@ fn write_row(rows: &mut [VSet], v: u32, row: VSet)
     rows[v as usize - 1] = row;
 }
 
-// The rows, that of the base as the union of those of the ring.
-fn gathered(alloc: Global, rows: &[VSet], ring: VSet, base: u32) -> Result<Vec<VSet>, Memory>
-    requires vertices { (v : ℕ) → mem ring v ≡ true → Within (length rows.now) v }
-    requires base { Within (length rows.now) base }
-    ensures { IfOk result (λ after. IsGathered rows.now (mem ring) base after.items) }
+// Makes the row of the base the union of those of the ring, and answers what it was.
+fn gather(rows: &mut [VSet], ring: VSet, base: u32) -> VSet
+    requires vertices { (v : ℕ) → mem ring v ≡ true → Within (length rows.old) v }
+    requires base { Within (length rows.old) base }
+    ensures gathered { IsGathered rows.old (mem ring) base rows.new }
+    ensures before { result ≡ item rows.old base }
 {
-    let mut after = rows.to_vec(alloc)?;
-    write_row(&mut after, base, union_of(rows, ring));
-    Ok(after)
+    let before = rows[base as usize - 1];
+    let all = union_of(rows, ring);
+    write_row(rows, base, all);
+    before
 }
 
-/// The instance with a ring of vertices shrunk to its base: the base has now the neighbours and the members of the ring, and
-/// the other vertices of the ring are removed. The rows are the only memory that a shrinking asks for.
-pub fn shrink(alloc: Global, instance: &Instance, ring: VSet, base: u32) -> Result<Instance, Memory>
-    requires few { length instance.now.rows.items ≤ MOST_VERTICES }
-    requires one_each { length instance.now.members.items ≡ length instance.now.rows.items }
-    requires vertices { (v : ℕ) → mem ring v ≡ true → Within (length instance.now.rows.items) v }
-    requires base { Within (length instance.now.rows.items) base }
-    ensures { IfOk result (λ h. IsShrinking instance.now (mem ring) base h) }
-{
-    Ok(Instance {
-        rows: gathered(alloc, &instance.rows, ring, base)?,
-        members: gathered(alloc, &instance.members, ring, base)?,
-        blossoms: instance.blossoms.minus(ring).with(base),
-        left: instance.left.minus(ring.without(base)),
-    })
+/// What a shrinking takes from an instance: the row and the members of the base, and the sets of blossoms and of vertices left.
+#[derive(Clone, Copy, Drop)]
+pub struct Unshrunk {
+    pub row: VSet,
+    pub members: VSet,
+    pub blossoms: VSet,
+    pub left: VSet,
+}
+
+impl Instance {
+    /// Shrinks a ring of vertices to its base: the base has then the neighbours and the members of the ring, and the other
+    /// vertices of the ring are removed. Takes no memory, and answers what `unshrink` puts back.
+    pub fn shrink(&mut self, ring: VSet, base: u32) -> Unshrunk
+        requires few { length self.old.rows.items ≤ MOST_VERTICES }
+        requires one_each { length self.old.members.items ≡ length self.old.rows.items }
+        requires vertices { (v : ℕ) → mem ring v ≡ true → Within (length self.old.rows.items) v }
+        requires base { Within (length self.old.rows.items) base }
+        ensures shrunk { IsShrinking self.old (mem ring) base self.new }
+        ensures before { IsUnshrunk self.old base result }
+    {
+        let blossoms = self.blossoms;
+        let left = self.left;
+        let row = gather(&mut self.rows, ring, base);
+        let members = gather(&mut self.members, ring, base);
+        self.blossoms = blossoms.minus(ring).with(base);
+        self.left = left.minus(ring.without(base));
+        Unshrunk {
+            row,
+            members,
+            blossoms,
+            left,
+        }
+    }
+
+    /// Puts back what a shrinking to the base took.
+    pub fn unshrink(&mut self, base: u32, before: Unshrunk)
+        requires one_each { length self.old.members.items ≡ length self.old.rows.items }
+        requires base { Within (length self.old.rows.items) base }
+        ensures { IsPutBack self.old base before self.new }
+    {
+        write_row(&mut self.rows, base, before.row);
+        write_row(&mut self.members, base, before.members);
+        self.blossoms = before.blossoms;
+        self.left = before.left;
+    }
 }

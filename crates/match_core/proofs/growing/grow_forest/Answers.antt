@@ -14,22 +14,24 @@ or_false_parts : (a b : Bool) → (a || b) ≡ false → (a ≡ false) × (b ≡
 or_false_parts true b q = absurd (Rattle.std.proofs.lemmas.Bool.true≢false q)
 or_false_parts false b q = (refl, q)
 
-pub exposed_in-roots-requires-clause-vertices : goal.exposed_in-roots-requires-clause-vertices
-exposed_in-roots-requires-clause-vertices c = λ v l.
+pub with_roots-forest-requires : goal.with_roots-forest-requires
+with_roots-forest-requires c = λ v t.
     let q = c.requires.holds in
+    let l = (and_parts (mem c.args.instance.now.left v) (numbers c.args.mate.now v == 0) (sym (c.requires.roots v) ∙ t)).0 in
     let w = (left_parts q.0 q.1 c.args.instance.now q.3.instance_is v l).0 in
-    let long = q.3.long in omega arith
+    let each = q.3.instance_is.one_each in
+    let long = c.requires.sized.pairs_long in omega arith
 
 pub growing-init : goal.growing-init
 growing-init c = record {
   holds = λ g r f is.
-      let e = is.instance_is.one_each in
-      let n : c.len-n.result ≡ g.order = cc in
-      roots_hold g r f c.args.instance.now c.args.mate.now is c.in_ok-forest.forest
-      (λ v. ap (λ (x : List ℕ). mem x v) c.in_ok-forest.ensures.outer ∙ c.exposed_in-roots.ensures v)
-      c.in_ok-forest.ensures.inner (c.in_ok-forest.ensures.parents_long ∙ ap suc n) (c.in_ok-forest.ensures.pairs_long ∙ ap suc n) c.in_ok-forest.ensures.pairs;
+      let each = is.instance_is.one_each in
+      roots_hold g r f c.args.instance.now c.args.mate.now is c.with_roots-forest.result
+      (λ v. ap (λ (x : List ℕ). mem x v) c.with_roots-forest.ensures.outer ∙ c.requires.roots v)
+      c.with_roots-forest.ensures.inner (c.with_roots-forest.ensures.parents_long ∙ c.requires.sized.parents_long ∙ ap suc each) (c.with_roots-forest.ensures.pairs_long ∙ c.requires.sized.pairs_long ∙ ap suc each)
+      (λ v o. c.with_roots-forest.ensures.pairs v (sym (ap (λ (x : List ℕ). mem x v) c.with_roots-forest.ensures.outer) ∙ o));
   opens = λ x o. o;
-  done = λ x o n. absurd (both_ways (mem c.in_ok-forest.forest.outer x) n o);
+  done = λ x o n. absurd (both_ways (mem c.with_roots-forest.result.outer x) n o);
 }
 
 pub near-requires-clause-vertex : goal.near-requires-clause-vertex
@@ -95,8 +97,8 @@ bounds-mate-y c =
     let few = q.3.instance_is.few in
     let l = q.3.long in omega arith
 
-pub branch-forest-requires-in-Some-first-2-clause-x_in : goal.branch-forest-requires-in-Some-first-2-clause-x_in
-branch-forest-requires-in-Some-first-2-clause-x_in c =
+pub branch-forest-requires-clause-x_in : goal.branch-forest-requires-clause-x_in
+branch-forest-requires-clause-x_in c =
     let q = c.requires.holds in
     let h = c.growing.invariant.holds q.0 q.1 q.2 q.3 in
     let ox = c.growing.invariant.opens c.in-Some.x c.in-Some.ensures.some.member in
@@ -110,8 +112,8 @@ branch-forest-requires-in-Some-first-2-clause-x_in c =
     let few = q.3.instance_is.few in
     let l = h.pairs_long in omega arith
 
-pub branch-forest-requires-in-Some-first-2-clause-y_in : goal.branch-forest-requires-in-Some-first-2-clause-y_in
-branch-forest-requires-in-Some-first-2-clause-y_in c =
+pub branch-forest-requires-clause-y_in : goal.branch-forest-requires-clause-y_in
+branch-forest-requires-clause-y_in c =
     let q = c.requires.holds in
     let h = c.growing.invariant.holds q.0 q.1 q.2 q.3 in
     let ox = c.growing.invariant.opens c.in-Some.x c.in-Some.ensures.some.member in
@@ -125,8 +127,8 @@ branch-forest-requires-in-Some-first-2-clause-y_in c =
     let few = q.3.instance_is.few in
     let l = h.parents_long in omega arith
 
-pub branch-forest-requires-in-Some-first-2-clause-z_in : goal.branch-forest-requires-in-Some-first-2-clause-z_in
-branch-forest-requires-in-Some-first-2-clause-z_in c =
+pub branch-forest-requires-clause-z_in : goal.branch-forest-requires-clause-z_in
+branch-forest-requires-clause-z_in c =
     let q = c.requires.holds in
     let h = c.growing.invariant.holds q.0 q.1 q.2 q.3 in
     let ox = c.growing.invariant.opens c.in-Some.x c.in-Some.ensures.some.member in
@@ -140,8 +142,8 @@ branch-forest-requires-in-Some-first-2-clause-z_in c =
     let few = q.3.instance_is.few in
     let l = h.pairs_long in let zw = z.0 in omega arith
 
-pub branch-forest-requires-in-Some-first-2-clause-z_vertex : goal.branch-forest-requires-in-Some-first-2-clause-z_vertex
-branch-forest-requires-in-Some-first-2-clause-z_vertex c =
+pub branch-forest-requires-clause-z_vertex : goal.branch-forest-requires-clause-z_vertex
+branch-forest-requires-clause-z_vertex c =
     let q = c.requires.holds in
     let h = c.growing.invariant.holds q.0 q.1 q.2 q.3 in
     let ox = c.growing.invariant.opens c.in-Some.x c.in-Some.ensures.some.member in
@@ -155,8 +157,8 @@ branch-forest-requires-in-Some-first-2-clause-z_vertex c =
     let few = q.3.instance_is.few in
     let zw = z.0 in (zw.0, omega arith)
 
-pub branch-forest-requires-in-Some-first-2-clause-shallow : goal.branch-forest-requires-in-Some-first-2-clause-shallow
-branch-forest-requires-in-Some-first-2-clause-shallow c =
+pub branch-forest-requires-clause-shallow : goal.branch-forest-requires-clause-shallow
+branch-forest-requires-clause-shallow c =
     let q = c.requires.holds in
     let h = c.growing.invariant.holds q.0 q.1 q.2 q.3 in
     let ox = c.growing.invariant.opens c.in-Some.x c.in-Some.ensures.some.member in
@@ -201,7 +203,7 @@ growing-smaller c =
     let o = oz q.0 q.1 q.2 c.args.instance.now c.args.mate.now q.3 c.growing.forest h c.in-Some.x c.in-Some-first-2.y ox p.0 p.1 p.2 oy p.3 in
     let zw = z.0 in
     let shut = false_from_ne_true (mem c.growing.«open» (numbers c.args.mate.now c.in-Some-first-2.y)) (λ t. both_ways (mem c.growing.forest.outer (numbers c.args.mate.now c.in-Some-first-2.y)) o (c.growing.invariant.opens (numbers c.args.mate.now c.in-Some-first-2.y) t)) in
-    branch_less (length c.args.instance.now.rows.items) (mem c.growing.forest.inner) (mem c.branch-forest-in-Some-first-2.new.self.inner) (mem c.growing.«open») (mem c.with-open.result) c.in-Some-first-2.y (numbers c.args.mate.now c.in-Some-first-2.y) (omega arith) (omega arith) p.3 shut c.branch-forest-in-Some-first-2.ensures.inner c.with-open.ensures
+    branch_less (length c.args.instance.now.rows.items) (mem c.growing.forest.inner) (mem c.branch-forest.new.self.inner) (mem c.growing.«open») (mem c.with-open.result) c.in-Some-first-2.y (numbers c.args.mate.now c.in-Some-first-2.y) (omega arith) (omega arith) p.3 shut c.branch-forest.ensures.inner c.with-open.ensures
 
 pub growing-preserved : goal.growing-preserved
 growing-preserved c = record {
@@ -211,15 +213,15 @@ growing-preserved c = record {
       let e = is.instance_is.one_each in
       let p = reach_parts c.args.instance.now c.growing.forest c.in-Some.x c.near.result c.without-near.result c.minus-reach.result c.near.ensures c.without-near.ensures c.minus-reach.ensures c.in-Some-first-2.y reached in
       let oy = unmet c.minus-reach.result c.growing.forest.outer c.meet.result c.in-Some-first-2.y c.meet.ensures c.in_default-first.ensures.none reached in
-      branch_holds g r f c.args.instance.now c.args.mate.now is c.growing.forest h c.in-Some.x c.in-Some-first-2.y ox p.0 p.1 p.2 oy p.3 c.branch-forest-in-Some-first-2.new.self c.branch-forest-in-Some-first-2.ensures;
+      branch_holds g r f c.args.instance.now c.args.mate.now is c.growing.forest h c.in-Some.x c.in-Some-first-2.y ox p.0 p.1 p.2 oy p.3 c.branch-forest.new.self c.branch-forest.ensures;
   opens = λ v o. elim (or_cases (mem c.growing.«open» v) (numbers c.args.mate.now c.in-Some-first-2.y == v) (sym (c.with-open.ensures v) ∙ o)) [
-    | inl t ↦ c.branch-forest-in-Some-first-2.ensures.outer v ∙ or_left (mem c.growing.forest.outer v) (numbers c.args.mate.now c.in-Some-first-2.y == v) (c.growing.invariant.opens v t)
-    | inr t ↦ c.branch-forest-in-Some-first-2.ensures.outer v ∙ or_right (mem c.growing.forest.outer v) (numbers c.args.mate.now c.in-Some-first-2.y == v) t
+    | inl t ↦ c.branch-forest.ensures.outer v ∙ or_left (mem c.growing.forest.outer v) (numbers c.args.mate.now c.in-Some-first-2.y == v) (c.growing.invariant.opens v t)
+    | inr t ↦ c.branch-forest.ensures.outer v ∙ or_right (mem c.growing.forest.outer v) (numbers c.args.mate.now c.in-Some-first-2.y == v) t
   ];
   done = λ v o n.
       let shut = or_false_parts (mem c.growing.«open» v) (numbers c.args.mate.now c.in-Some-first-2.y == v) (sym (c.with-open.ensures v) ∙ n) in
-      done_stays c.args.instance.now c.growing.forest c.branch-forest-in-Some-first-2.new.self c.in-Some-first-2.y (numbers c.args.mate.now c.in-Some-first-2.y) c.in-Some.x v c.branch-forest-in-Some-first-2.ensures
-      (c.growing.invariant.done v (elim (or_cases (mem c.growing.forest.outer v) (numbers c.args.mate.now c.in-Some-first-2.y == v) (sym (c.branch-forest-in-Some-first-2.ensures.outer v) ∙ o)) [ inl t ↦ t | inr t ↦ absurd (both_ways (numbers c.args.mate.now c.in-Some-first-2.y == v) shut.1 t) ]) shut.0);
+      done_stays c.args.instance.now c.growing.forest c.branch-forest.new.self c.in-Some-first-2.y (numbers c.args.mate.now c.in-Some-first-2.y) c.in-Some.x v c.branch-forest.ensures
+      (c.growing.invariant.done v (elim (or_cases (mem c.growing.forest.outer v) (numbers c.args.mate.now c.in-Some-first-2.y == v) (sym (c.branch-forest.ensures.outer v) ∙ o)) [ inl t ↦ t | inr t ↦ absurd (both_ways (numbers c.args.mate.now c.in-Some-first-2.y == v) shut.1 t) ]) shut.0);
 }
   where
     ox : mem c.growing.forest.outer c.in-Some.x ≡ true
