@@ -6,12 +6,12 @@ use Rattle.std.specs.Global.{Vec}
 use Rattle.std.proofs.lemmas.Bool.{cases_eq}
 use Rattle.std.proofs.lemmas.List.{get_or-map, get_or-set_same, get_or-set_other, length-map, map-set}
 use Rattle.std.proofs.lemmas.List.Elements.{All-head, All-tail}
-use Rattle.counting.specs.Lists.{mem}
+use Rattle.counting.specs.Lists.{mem, row_of}
 use Rattle.match_core.proofs.Marks.{no-marks}
 use Rattle.match_core.specs.Rows.{marks}
 use Rattle.match_core.specs.declared.matching.MatchRow.{MatchRow}
 use Rattle.match_core.proofs.MatchingEdges.{edge_of}
-use Rattle.allowed_edges.specs.EdgeTables.{IsSquare, row_of, rows_of}
+use Rattle.allowed_edges.specs.EdgeTables.{IsSquare, rows_of}
 use Rattle.allowed_edges.proofs.Marking.{edges-more}
 
 abbrev marks_in : Vec Bool → List Bool

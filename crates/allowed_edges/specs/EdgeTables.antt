@@ -1,16 +1,13 @@
 -- Square tables of marks on pairs of edges: a row for each edge, at the place of its number.
-use Rattle.std.specs.Prelude.{◌≡◌, ℕ, ◌+◌, ◌<◌, Bool, List, [], map, length, slice_index_or}
+use Rattle.std.specs.Prelude.{◌≡◌, ℕ, ◌+◌, ◌<◌, Bool, List, map, length}
 use Rattle.std.specs.Global.{Vec}
 use Rattle.counting.specs.Counts.{Within}
+use Rattle.counting.specs.Lists.{row_of}
 use Rattle.match_core.specs.Rows.{marks}
 
 -- the rows as lists
 abbrev pub rows_of : List (Vec Bool) → List (List Bool)
 rows_of rows = map (λ (row : Vec Bool). row.items) rows
-
--- the row of edge e
-abbrev pub row_of : List (List Bool) → ℕ → List Bool
-row_of table e = slice_index_or table e []
 
 -- as many marks in each row as rows
 abbrev pub IsSquare : List (List Bool) → Type 0

@@ -1,9 +1,9 @@
 //! Square tables of marks on pairs of edges.
 ghost use Rattle.std.specs.Prelude.{◌≡◌, ◌≢◌, ℕ, ◌+◌, ◌<◌, ◌≤◌, ◌&&◌, ◌||◌, false, length, IfOk, All};
-ghost use Rattle.counting.specs.Lists.{mem};
+ghost use Rattle.counting.specs.Lists.{mem, row_of};
 ghost use Rattle.match_core.specs.MatchingRows.{edges_of};
 ghost use Rattle.match_core.specs.Rows.{marks};
-ghost use Rattle.allowed_edges.specs.EdgeTables.{IsSquare, row_of};
+ghost use Rattle.allowed_edges.specs.EdgeTables.{IsSquare};
 
 use graph_core::MOST_EDGES;
 use match_core::Matching;

@@ -1,8 +1,9 @@
 -- A task that is done has one output, where its text is not free. An order picks one tree: at each node it picks one place, and there stands
 -- one candidate. The kinds of the leaves are determined, since a quotient is bipartite or not, and so are their counts.
-use Rattle.std.proofs.Common.{◌≡◌, ◌∙◌, ℕ, ◌+◌, ◌-◌, ◌<◌, ◌≤◌, List, [], ◌∷◌, length, map, true, Option, Some, None, ◌⊎◌, inl, inr, refl, sym, subst, ap, arith, slice_get, option_map}
+use Rattle.std.proofs.Common.{◌≡◌, ◌∙◌, ℕ, ◌+◌, ◌-◌, ◌<◌, ◌≤◌, List, [], ◌∷◌, length, map, true, Option, Some, None, ◌⊎◌, inl, inr, refl, sym, subst, ap, arith, suc, get_or, slice_get, option_map}
 use Rattle.std.proofs.lemmas.Bool.{cases_lt}
 use Rattle.std.proofs.lemmas.List.{ext_get_or, length-map}
+use Rattle.counting.specs.Counts.{Within}
 use Rattle.std.proofs.lemmas.Option.{none-some, same_Some, slice_get-map}
 use Rattle.outside.specs.Shelf.{Named}
 use Rattle.graph_core.specs.Graph.{Graph}
@@ -16,6 +17,7 @@ use Rattle.decomposer.specs.Choices.{gap, gap_of}
 use Rattle.decomposer.specs.Picked.{IsPickedAt, PicksShore}
 use Rattle.tree_core.specs.Derivations.{kept_at, merged_at}
 use Rattle.ear_core.specs.EarLists.{PlainEars}
+use Rattle.tree_core.specs.LeafMaps.{leaf_at}
 use Rattle.tree_core.specs.Leaves.{leaves}
 use Rattle.tree_core.specs.Moves.{PlainMove}
 use Rattle.tree_core.specs.Shapes.{Shape, leaf, cut, cut_count}
@@ -25,7 +27,7 @@ use Rattle.report_text.specs.Derivations.{derivation_text}
 use Rattle.report_text.specs.Growths.{grown_text}
 use Rattle.report_text.specs.Judgements.{judgement_text}
 use Rattle.report_text.specs.Scripts.{replayed_text}
-use Rattle.report_text.specs.Tallies.{AreLeafKinds, IsLeafKind, IsTally, kind_at, leaf_at, tally_of}
+use Rattle.report_text.specs.Tallies.{AreLeafKinds, IsLeafKind, IsTally, kind_at, tally_of}
 use Rattle.report_text.specs.declared.judgements.TreeLine.TheVariants as line
 use Rattle.report_text.specs.declared.tallies.LeafKind.{LeafKind}
 use Rattle.report_text.specs.declared.tallies.LeafKind.TheVariants.{Brick, Brace}
@@ -133,7 +135,10 @@ kinds-once : (g : Graph) (ps : List (List (List ℕ))) (a b : List LeafKind) →
 kinds-once g ps a b one two =
     let long = one.each_one in
     ext_get_or Brick a b (long ∙ sym two.each_one)
-    (λ i less. kind-once g (leaf_at ps i) (kind_at a i) (kind_at b i) (one.right i (omega arith)) (two.right i (omega arith)))
+    (λ i less.
+    let back : suc i - 1 ≡ i = omega arith in
+    let within : Within (length ps) (suc i) = (omega arith, omega arith) in
+    subst (λ j. get_or a j Brick ≡ get_or b j Brick) back (kind-once g (leaf_at ps (suc i)) (kind_at a (suc i)) (kind_at b (suc i)) (one.right (suc i) within) (two.right (suc i) within)))
 
 tally-once : (g : Graph) (ps : List (List (List ℕ))) (a b : Tally) → IsTally g ps a → IsTally g ps b → a ≡ b
 tally-once g ps a b one two = one.is ∙ ap tally_of (kinds-once g ps one.kinds two.kinds one.right two.right) ∙ sym two.is

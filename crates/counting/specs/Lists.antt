@@ -74,6 +74,10 @@ pub record IsNextAfter (xs : List ℕ) (a v : ℕ) : Type 0 where
 abbrev pub item : {A : Type 0} → List (List A) → ℕ → List A
 item xs i = slice_index_or xs (i - 1) []
 
+-- the row of v in a table that has one for 0 too
+abbrev pub row_of : {A : Type 0} → List (List A) → ℕ → List A
+row_of table v = slice_index_or table v []
+
 -- the pair of a and b
 abbrev pub pair_with : ℕ → ℕ → ℕ × ℕ
 pair_with a b = (a, b)

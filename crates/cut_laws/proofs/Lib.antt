@@ -1,3 +1,4 @@
 pub mod Quotients
 pub mod Parted
 pub mod FirstParted
+pub mod TreeNodes

@@ -9,11 +9,12 @@ use Rattle.std.proofs.lemmas.List.{get_or-set_same, get_or-set_other, get_or_app
 use Rattle.std.proofs.lemmas.List.Elements.{All-push, All-nil, All-weaker}
 use Rattle.flow_core.specs.Nets.{Net, IsArc}
 use Rattle.flow_core.specs.Residual.{arc_at}
-use Rattle.flow_core.specs.Incidence.{row_at, HasEnd, ListsArcs}
+use Rattle.counting.specs.Lists.{row_of}
+use Rattle.flow_core.specs.Incidence.{HasEnd, ListsArcs}
 
 -- the rows with i at the end of the row of v
 abbrev pub with_place : List (List ℕ) → ℕ → ℕ → List (List ℕ)
-with_place rows v i = set rows v (row_at rows v ++ i ∷ [])
+with_place rows v i = set rows v (row_of rows v ++ i ∷ [])
 
 Contains-push : (xs : List ℕ) (i j : ℕ) → Contains xs j → Contains (xs ++ i ∷ []) j
 Contains-push xs i j h =
@@ -22,36 +23,36 @@ Contains-push xs i j h =
 Contains-last : (xs : List ℕ) (i : ℕ) → Contains (xs ++ i ∷ []) i
 Contains-last xs i = (length xs, omega (arith, length-append xs (i ∷ [])), get_or-append_seam xs i [] i)
 
-row_at-same : (rows : List (List ℕ)) (v i : ℕ) → v < length rows → row_at (with_place rows v i) v ≡ row_at rows v ++ i ∷ []
-row_at-same rows v i l = get_or-set_same rows v (row_at rows v ++ i ∷ []) [] l
+row_of-same : (rows : List (List ℕ)) (v i : ℕ) → v < length rows → row_of (with_place rows v i) v ≡ row_of rows v ++ i ∷ []
+row_of-same rows v i l = get_or-set_same rows v (row_of rows v ++ i ∷ []) [] l
 
-row_at-other : (rows : List (List ℕ)) (v i w : ℕ) → w ≢ v → row_at (with_place rows v i) w ≡ row_at rows w
-row_at-other rows v i w d = get_or-set_other rows v w (row_at rows v ++ i ∷ []) [] d
+row_of-other : (rows : List (List ℕ)) (v i w : ℕ) → w ≢ v → row_of (with_place rows v i) w ≡ row_of rows w
+row_of-other rows v i w d = get_or-set_other rows v w (row_of rows v ++ i ∷ []) [] d
 
 -- the rows keep what they have
-kept : (rows : List (List ℕ)) (v i w j : ℕ) → v < length rows → Contains (row_at rows w) j → Contains (row_at (with_place rows v i) w) j
+kept : (rows : List (List ℕ)) (v i w j : ℕ) → v < length rows → Contains (row_of rows w) j → Contains (row_of (with_place rows v i) w) j
 kept rows v i w j l h = elim (cases_eq w v) [
   | inl e ↦
-      let g : Contains (row_at rows v) j = subst (λ u. Contains (row_at rows u) j) e h in
-      subst (λ u. Contains (row_at (with_place rows v i) u) j) (sym e) (subst (λ (r : List ℕ). Contains r j) (sym (row_at-same rows v i l)) (Contains-push (row_at rows v) i j g))
-  | inr d ↦ subst (λ (r : List ℕ). Contains r j) (sym (row_at-other rows v i w d)) h
+      let g : Contains (row_of rows v) j = subst (λ u. Contains (row_of rows u) j) e h in
+      subst (λ u. Contains (row_of (with_place rows v i) u) j) (sym e) (subst (λ (r : List ℕ). Contains r j) (sym (row_of-same rows v i l)) (Contains-push (row_of rows v) i j g))
+  | inr d ↦ subst (λ (r : List ℕ). Contains r j) (sym (row_of-other rows v i w d)) h
 ]
 
 -- and have the new place
-added : (rows : List (List ℕ)) (v i : ℕ) → v < length rows → Contains (row_at (with_place rows v i) v) i
-added rows v i l = subst (λ (r : List ℕ). Contains r i) (sym (row_at-same rows v i l)) (Contains-last (row_at rows v) i)
+added : (rows : List (List ℕ)) (v i : ℕ) → v < length rows → Contains (row_of (with_place rows v i) v) i
+added rows v i l = subst (λ (r : List ℕ). Contains r i) (sym (row_of-same rows v i l)) (Contains-last (row_of rows v) i)
 
 -- what holds of all places in a row, and of the new one, holds after it too
-each : (P : ℕ → Type 0) (rows : List (List ℕ)) (v i w : ℕ) → v < length rows → All P (row_at rows w) → (w ≡ v → P i) → All P (row_at (with_place rows v i) w)
+each : (P : ℕ → Type 0) (rows : List (List ℕ)) (v i w : ℕ) → v < length rows → All P (row_of rows w) → (w ≡ v → P i) → All P (row_of (with_place rows v i) w)
 each P rows v i w l h p = elim (cases_eq w v) [
   | inl e ↦
-      let g : All P (row_at rows v) = subst (λ u. All P (row_at rows u)) e h in
-      subst (λ u. All P (row_at (with_place rows v i) u)) (sym e) (subst (All P) (sym (row_at-same rows v i l)) (All-push P (row_at rows v) i g (p e)))
-  | inr d ↦ subst (All P) (sym (row_at-other rows v i w d)) h
+      let g : All P (row_of rows v) = subst (λ u. All P (row_of rows u)) e h in
+      subst (λ u. All P (row_of (with_place rows v i) u)) (sym e) (subst (All P) (sym (row_of-same rows v i l)) (All-push P (row_of rows v) i g (p e)))
+  | inr d ↦ subst (All P) (sym (row_of-other rows v i w d)) h
 ]
 
 -- no arcs, and rows that are all empty
-pub ListsArcs-none : (net : Net) (rows : List (List ℕ)) → length rows ≡ suc net.nodes → ((v : ℕ) → row_at rows v ≡ []) → ListsArcs net 0 rows
+pub ListsArcs-none : (net : Net) (rows : List (List ℕ)) → length rows ≡ suc net.nodes → ((v : ℕ) → row_of rows v ≡ []) → ListsArcs net 0 rows
 ListsArcs-none net rows l h = record {
   size = l;
   ends = λ v. subst (All (λ i. (i < 0) × HasEnd (arc_at net.arcs i) v)) (sym (h v)) (All-nil (λ i. (i < 0) × HasEnd (arc_at net.arcs i) v));
@@ -63,14 +64,14 @@ ListsArcs-none net rows l h = record {
 pub ListsArcs-more : (net : Net) (n : ℕ) → IsArc net.nodes (arc_at net.arcs n) → (rows : List (List ℕ)) → ListsArcs net n rows
     → ListsArcs net (n + 1) (with_place (with_place rows (arc_at net.arcs n).a n) (arc_at net.arcs n).b n)
 ListsArcs-more net n is rows h = record {
-  size = length-set one b (row_at one b ++ n ∷ []) ∙ longer ∙ h.size;
-  ends = λ v. each (Holds (n + 1) v) one b n v in_b (each (Holds (n + 1) v) rows a n v in_a (All-weaker (Holds n v) (Holds (n + 1) v) (λ i k. (let m = k.0 in omega arith, k.1)) (row_at rows v) (h.ends v)) (λ e. (omega arith, inl (sym e)))) (λ e. (omega arith, inr (sym e)));
+  size = length-set one b (row_of one b ++ n ∷ []) ∙ longer ∙ h.size;
+  ends = λ v. each (Holds (n + 1) v) one b n v in_b (each (Holds (n + 1) v) rows a n v in_a (All-weaker (Holds n v) (Holds (n + 1) v) (λ i k. (let m = k.0 in omega arith, k.1)) (row_of rows v) (h.ends v)) (λ e. (omega arith, inl (sym e)))) (λ e. (omega arith, inr (sym e)));
   at_a = λ i k. kept one b n (arc_at net.arcs i).a i in_b (elim (cases_eq i n) [
-    | inl e ↦ subst (λ j. Contains (row_at one (arc_at net.arcs j).a) j) (sym e) (added rows a n in_a)
+    | inl e ↦ subst (λ j. Contains (row_of one (arc_at net.arcs j).a) j) (sym e) (added rows a n in_a)
     | inr d ↦ kept rows a n (arc_at net.arcs i).a i in_a (h.at_a i (omega arith))
   ]);
   at_b = λ i k. elim (cases_eq i n) [
-    | inl e ↦ subst (λ j. Contains (row_at (with_place one b n) (arc_at net.arcs j).b) j) (sym e) (added one b n in_b)
+    | inl e ↦ subst (λ j. Contains (row_of (with_place one b n) (arc_at net.arcs j).b) j) (sym e) (added one b n in_b)
     | inr d ↦ kept one b n (arc_at net.arcs i).b i in_b (kept rows a n (arc_at net.arcs i).b i in_a (h.at_b i (omega arith)))
   ];
 }
@@ -88,7 +89,7 @@ ListsArcs-more net n is rows h = record {
     Holds m v i = (i < m) × HasEnd (arc_at net.arcs i) v
 
     longer : length one ≡ length rows
-    longer = length-set rows a (row_at rows a ++ n ∷ [])
+    longer = length-set rows a (row_of rows a ++ n ∷ [])
 
     in_a : a < length rows
     in_a = let w = is.from_a in let s = h.size in omega arith

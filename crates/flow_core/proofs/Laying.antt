@@ -11,7 +11,7 @@ use Rattle.counting.specs.Counts.{Within, total}
 use Rattle.counting.proofs.Totals.{total_congr}
 use Rattle.flow_core.specs.Nets.{Net}
 use Rattle.flow_core.specs.Residual.{arc_at}
-use Rattle.flow_core.specs.Incidence.{row_at}
+use Rattle.counting.specs.Lists.{row_of}
 use Rattle.flow_core.specs.Search.{visit_at, node_at, last_node, IsStep, IsVisit, IsTree}
 use Rattle.flow_core.specs.Layers.{IsLaid, arcs_left, work_left}
 use Rattle.flow_core.specs.declared.search.Visit.{Visit}
@@ -31,11 +31,11 @@ total-less (suc n) f g a w h e = elim (cases_eq a (suc n)) [
 ]
 
 -- an arc that is passed over is one arc less
-pub arcs_left-pass : (nodes : ℕ) (rows : List (List ℕ)) (places : List ℕ) (v : ℕ) → Within nodes v → v < length places → slice_index places v < length (row_at rows v)
+pub arcs_left-pass : (nodes : ℕ) (rows : List (List ℕ)) (places : List ℕ) (v : ℕ) → Within nodes v → v < length places → slice_index places v < length (row_of rows v)
     → arcs_left nodes rows (set places v (slice_index places v + 1)) + 1 ≡ arcs_left nodes rows places
 arcs_left-pass nodes rows places v w l p =
-    total-less nodes (λ u. length (row_at rows u) - slice_index (set places v (slice_index places v + 1)) u) (λ u. length (row_at rows u) - slice_index places u) v w
-    (λ u k d. ap (λ x. length (row_at rows u) - x) (get_or-set_other places v u (slice_index places v + 1) 0 d))
+    total-less nodes (λ u. length (row_of rows u) - slice_index (set places v (slice_index places v + 1)) u) (λ u. length (row_of rows u) - slice_index places u) v w
+    (λ u k d. ap (λ x. length (row_of rows u) - x) (get_or-set_other places v u (slice_index places v + 1) 0 d))
     (let e = get_or-set_same places v (slice_index places v + 1) 0 l in omega arith)
 
 -- the front of a list of visits
@@ -80,7 +80,7 @@ IsLaid-pass net rows amounts levels places path laid p = record {
   rising = laid.rising;
   ahead = λ j l.
       let other : node_at path j ≢ last_node path = laid.tree.distinct j (length path - 1) (omega arith) (omega arith) in
-      subst (λ k. k < length (row_at rows (node_at path j))) (sym (get_or-set_other places (last_node path) (node_at path j) p 0 other)) (laid.ahead j l);
+      subst (λ k. k < length (row_of rows (node_at path j))) (sym (get_or-set_other places (last_node path) (node_at path j) p 0 other)) (laid.ahead j l);
 }
 
 -- the path goes one step back, and the arc that it came by is passed over
@@ -94,8 +94,8 @@ IsLaid-back net rows amounts levels places path laid last l some p = record {
   ahead = λ j k.
       let m : suc j < last = omega (arith, long) in
       let other : node_at path j ≢ node_at path (last - 1) = laid.tree.distinct j (last - 1) (omega arith) (omega arith) in
-      subst (λ v. slice_index (set places (node_at path (last - 1)) p) v < length (row_at rows v)) (sym (node_at-take path last j (omega arith)))
-      (subst (λ k. k < length (row_at rows (node_at path j))) (sym (get_or-set_other places (node_at path (last - 1)) (node_at path j) p 0 other)) (laid.ahead j (omega arith)));
+      subst (λ v. slice_index (set places (node_at path (last - 1)) p) v < length (row_of rows v)) (sym (node_at-take path last j (omega arith)))
+      (subst (λ k. k < length (row_of rows (node_at path j))) (sym (get_or-set_other places (node_at path (last - 1)) (node_at path j) p 0 other)) (laid.ahead j (omega arith)));
 }
   where
     long : length (take last path) ≡ last
@@ -103,7 +103,7 @@ IsLaid-back net rows amounts levels places path laid last l some p = record {
 
 -- the path goes on to a node of the next level
 module _ (net : Net) (rows : List (List ℕ)) (amounts : List ℤ) (levels places : List ℕ) (path : List Visit) (laid : IsLaid net rows amounts levels places path)
-    (last : ℕ) (long : length path ≡ last + 1) (from : Visit) (is : visit_at path last ≡ from) (row : List ℕ) (lists : row ≡ row_at rows from.node) (place : ℕ) (at : slice_index places from.node ≡ place) (here : place < length row)
+    (last : ℕ) (long : length path ≡ last + 1) (from : Visit) (is : visit_at path last ≡ from) (row : List ℕ) (lists : row ≡ row_of rows from.node) (place : ℕ) (at : slice_index places from.node ≡ place) (here : place < length row)
     (node room : ℕ) (t : Leads net amounts from.node row place node room) (some : 0 < room) (level : slice_index levels node ≡ last + 1) where
   abbrev visit : Visit
   visit = taken node last (get_or row place 0) (min room from.room)
@@ -111,9 +111,9 @@ module _ (net : Net) (rows : List (List ℕ)) (amounts : List ℤ) (levels place
   old : (j : ℕ) → j < length path → node_at (path ++ visit ∷ []) j ≡ node_at path j
   old j m = ap (λ (u : Visit). u.node) (visit_at-push path visit j m)
 
-  on : slice_index places (node_at path last) < length (row_at rows (node_at path last))
+  on : slice_index places (node_at path last) < length (row_of rows (node_at path last))
   on =
-      subst (λ (u : Visit). slice_index places u.node < length (row_at rows u.node)) (sym is)
+      subst (λ (u : Visit). slice_index places u.node < length (row_of rows u.node)) (sym is)
       (let e = ap (λ (xs : List ℕ). length xs) lists in omega arith)
 
   pub IsLaid-push : IsLaid net rows amounts levels places (path ++ taken node last (get_or row place 0) (min room from.room) ∷ [])
@@ -136,8 +136,8 @@ module _ (net : Net) (rows : List (List ℕ)) (amounts : List ℤ) (levels place
     ];
     ahead = λ j k.
         let m : j < length path = omega (arith, length-append path (visit ∷ [])) in
-        subst (λ v. slice_index places v < length (row_at rows v)) (sym (old j m)) (elim (cases_eq j last) [
-          | inl e ↦ subst (λ i. slice_index places (node_at path i) < length (row_at rows (node_at path i))) (sym e) on
+        subst (λ v. slice_index places v < length (row_of rows v)) (sym (old j m)) (elim (cases_eq j last) [
+          | inl e ↦ subst (λ i. slice_index places (node_at path i) < length (row_of rows (node_at path i))) (sym e) on
           | inr d ↦ laid.ahead j (omega arith)
         ]);
   }
@@ -154,13 +154,13 @@ IsLaid-start net rows before amounts levels places (visit ∷ path) laid = recor
 }
 
 -- with a step back there is less left
-pub work-back : (nodes : ℕ) (rows : List (List ℕ)) (places : List ℕ) (path : List Visit) (v last : ℕ) → length path ≡ last + 1 → Within nodes v → v < length places → slice_index places v < length (row_at rows v)
+pub work-back : (nodes : ℕ) (rows : List (List ℕ)) (places : List ℕ) (path : List Visit) (v last : ℕ) → length path ≡ last + 1 → Within nodes v → v < length places → slice_index places v < length (row_of rows v)
     → work_left nodes rows (set places v (slice_index places v + 1)) (take last path) < work_left nodes rows places path
 work-back nodes rows places path v last l w m p =
     let a = arcs_left-pass nodes rows places v w m p in let t = long-take path last (omega arith) in omega arith
 
 -- and with an arc that is passed over
-pub work-pass : (nodes : ℕ) (rows : List (List ℕ)) (places : List ℕ) (path : List Visit) (v : ℕ) → Within nodes v → v < length places → slice_index places v < length (row_at rows v)
+pub work-pass : (nodes : ℕ) (rows : List (List ℕ)) (places : List ℕ) (path : List Visit) (v : ℕ) → Within nodes v → v < length places → slice_index places v < length (row_of rows v)
     → work_left nodes rows (set places v (slice_index places v + 1)) path < work_left nodes rows places path
 work-pass nodes rows places path v w m p = let a = arcs_left-pass nodes rows places v w m p in omega arith
 

@@ -13,7 +13,7 @@ use Rattle.flow_core.specs.Nets.{Arc, Net, IsArc, IsNet, IsBounded, total_capaci
 use Rattle.flow_core.specs.Residual.{arc_at, amount_at}
 use Rattle.flow_core.specs.View.{arc_of}
 use Rattle.flow_core.specs.Rows.{rows_of}
-use Rattle.flow_core.specs.Incidence.{row_at}
+use Rattle.counting.specs.Lists.{row_of}
 use Rattle.flow_core.specs.declared.arc.Arc.{Arc as StoredArc}
 
 -- the stored arc at a place is the arc at that place
@@ -33,17 +33,17 @@ pub capacity-below : (net : Net) → IsBounded net → (i : ℕ) → i < length 
 capacity-below net b i l = let c = capacity-le-total net i l in let t = b.total in omega arith
 
 -- a row that has grown at its end
-pub rows_of-push : (rows : List (Vec ℕ)) (view : List (List ℕ)) → rows_of rows ≡ view → (v : ℕ) → v < length view → (row new : Vec ℕ) → row ≡ get_or rows v row → (i : ℕ) → new.items ≡ row.items ++ i ∷ [] → rows_of (set rows v new) ≡ set view v (row_at view v ++ i ∷ [])
+pub rows_of-push : (rows : List (Vec ℕ)) (view : List (List ℕ)) → rows_of rows ≡ view → (v : ℕ) → v < length view → (row new : Vec ℕ) → row ≡ get_or rows v row → (i : ℕ) → new.items ≡ row.items ++ i ∷ [] → rows_of (set rows v new) ≡ set view v (row_of view v ++ i ∷ [])
 rows_of-push rows view is v l row new e i grown =
     let items : Vec ℕ → List ℕ = λ (r : Vec ℕ). r.items in
     let at : v < length rows = let m = length-map rows items in let n = ap length is in omega arith in
-    let read : row_at (rows_of rows) v ≡ row.items = get_or-map items rows v row [] at ∙ ap items (sym e) in
+    let read : row_of (rows_of rows) v ≡ row.items = get_or-map items rows v row [] at ∙ ap items (sym e) in
     map-set items rows v new
     ∙ ap₂ (λ (xs : List (List ℕ)) (r : List ℕ). set xs v r) is
-    (grown ∙ ap (λ (r : List ℕ). r ++ i ∷ []) (sym read ∙ ap (λ (xs : List (List ℕ)). row_at xs v) is))
+    (grown ∙ ap (λ (r : List ℕ). r ++ i ∷ []) (sym read ∙ ap (λ (xs : List (List ℕ)). row_of xs v) is))
 
 -- rows that are all empty
-pub rows_of-empty : (rows : List (Vec ℕ)) → All (λ (row : Vec ℕ). row.items ≡ []) rows → (v : ℕ) → row_at (rows_of rows) v ≡ []
+pub rows_of-empty : (rows : List (Vec ℕ)) → All (λ (row : Vec ℕ). row.items ≡ []) rows → (v : ℕ) → row_of (rows_of rows) v ≡ []
 rows_of-empty [] h v = refl
 rows_of-empty (row ∷ rows) h zero = All-head (λ (r : Vec ℕ). r.items ≡ []) row rows h
 rows_of-empty (row ∷ rows) h (suc v) = rows_of-empty rows (All-tail (λ (r : Vec ℕ). r.items ≡ []) row rows h) v

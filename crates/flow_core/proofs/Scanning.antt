@@ -8,10 +8,10 @@ use Rattle.std.proofs.lemmas.Int.{ints}
 use Rattle.std.proofs.lemmas.List.{get_or_read}
 use Rattle.counting.specs.Counts.{Within}
 use Rattle.counting.specs.Sets.{Set}
-use Rattle.counting.specs.Lists.{mem}
+use Rattle.counting.specs.Lists.{mem, row_of}
 use Rattle.flow_core.specs.Nets.{Arc, Net, IsArc, IsNet}
 use Rattle.flow_core.specs.Residual.{arc_at, amount_at, Joins, room_from, HasRoom, IsScanned}
-use Rattle.flow_core.specs.Incidence.{row_at, HasEnd, IsIncidence}
+use Rattle.flow_core.specs.Incidence.{HasEnd, IsIncidence}
 use Rattle.flow_core.specs.Search.{visit_at, node_at, first_node, last_node, IsStep, IsTree, IsSeen, IsSearch}
 use Rattle.flow_core.specs.declared.search.Visit.{Visit}
 use Rattle.flow_core.proofs.Reading.{IsNet-at}
@@ -45,7 +45,7 @@ pub record IsPlaced (net : Net) (u : ℕ) (row : List ℕ) (place : ℕ) : Type 
   pub is_arc : get_or row place 0 < length net.arcs
   pub end : HasEnd (arc_at net.arcs (get_or row place 0)) u
 
-pub IsPlaced-row : (net : Net) (rows : List (List ℕ)) (u : ℕ) (row : List ℕ) (place : ℕ) → IsIncidence net rows → row ≡ row_at rows u → place < length row → IsPlaced net u row place
+pub IsPlaced-row : (net : Net) (rows : List (List ℕ)) (u : ℕ) (row : List ℕ) (place : ℕ) → IsIncidence net rows → row ≡ row_of rows u → place < length row → IsPlaced net u row place
 IsPlaced-row net rows u row place lists e l =
     subst (λ (xs : List ℕ). IsPlaced net u xs place) (sym e)
     (let h = lists.ends u place 0 (subst (λ (xs : List ℕ). place < length xs) e l) in record { is_arc = h.0; end = h.1 })
@@ -164,7 +164,7 @@ module _ (net : Net) (amounts : List ℤ) (sink head : ℕ) (from : Visit) (row 
   }
 
 -- at the end of the row the node is scanned
-pub IsScanning-end : (net : Net) (rows : List (List ℕ)) (amounts : List ℤ) (sink head : ℕ) (from : Visit) (row : List ℕ) (place : ℕ) (visits : List Visit) (seen : List ℕ) → IsIncidence net rows → row ≡ row_at rows from.node → length row ≤ place
+pub IsScanning-end : (net : Net) (rows : List (List ℕ)) (amounts : List ℤ) (sink head : ℕ) (from : Visit) (row : List ℕ) (place : ℕ) (visits : List Visit) (seen : List ℕ) → IsIncidence net rows → row ≡ row_of rows from.node → length row ≤ place
     → IsScanning net amounts sink head from row place visits seen → IsSearch net amounts sink (head + 1) visits seen
 IsScanning-end net rows amounts sink head from row place visits seen lists is e s = record {
   tree = s.search.tree;
@@ -173,9 +173,9 @@ IsScanning-end net rows amounts sink head from row place visits seen lists is e 
   scanned = below_more (λ j. IsScanned net.arcs amounts (mem seen) (node_at visits j)) head s.search.scanned (λ w r. here w (subst (λ u. HasRoom net.arcs amounts u w) (ap (λ (u : Visit). u.node) s.at_head) r));
 }
   where
-    listed : (i u w : ℕ) → i < length net.arcs → Joins (arc_at net.arcs i) u w → Contains (row_at rows u) i
-    listed i u w l (inl x) = subst (λ v. Contains (row_at rows v) i) x.0 (lists.at_a i l)
-    listed i u w l (inr x) = subst (λ v. Contains (row_at rows v) i) x.0 (lists.at_b i l)
+    listed : (i u w : ℕ) → i < length net.arcs → Joins (arc_at net.arcs i) u w → Contains (row_of rows u) i
+    listed i u w l (inl x) = subst (λ v. Contains (row_of rows v) i) x.0 (lists.at_a i l)
+    listed i u w l (inr x) = subst (λ v. Contains (row_of rows v) i) x.0 (lists.at_b i l)
 
     here : (w : ℕ) → HasRoom net.arcs amounts from.node w → mem seen w ≡ true
     here w r =

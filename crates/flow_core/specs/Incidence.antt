@@ -1,11 +1,8 @@
 -- Which arcs have an end at which node.
-use Rattle.std.specs.Prelude.{◌≡◌, ℕ, suc, ◌<◌, ◌⊎◌, List, [], length, slice_index_or, All, Contains}
+use Rattle.std.specs.Prelude.{◌≡◌, ℕ, suc, ◌<◌, ◌⊎◌, List, length, All, Contains}
+use Rattle.counting.specs.Lists.{row_of}
 use Rattle.flow_core.specs.Nets.{Arc, Net}
 use Rattle.flow_core.specs.Residual.{arc_at}
-
--- the arcs at node v, by their places in the net
-abbrev pub row_at : List (List ℕ) → ℕ → List ℕ
-row_at rows v = slice_index_or rows v []
 
 -- v is an end of the arc
 abbrev pub HasEnd : Arc → ℕ → Type 0
@@ -14,9 +11,9 @@ HasEnd arc v = (arc.a ≡ v) ⊎ (arc.b ≡ v)
 -- a row for each node, 0 among them; the row of v has those of the first n arcs that have an end at v
 pub record ListsArcs (net : Net) (n : ℕ) (rows : List (List ℕ)) : Type 0 where
   pub size : length rows ≡ suc net.nodes
-  pub ends : (v : ℕ) → All (λ i. (i < n) × HasEnd (arc_at net.arcs i) v) (row_at rows v)
-  pub at_a : (i : ℕ) → i < n → Contains (row_at rows (arc_at net.arcs i).a) i
-  pub at_b : (i : ℕ) → i < n → Contains (row_at rows (arc_at net.arcs i).b) i
+  pub ends : (v : ℕ) → All (λ i. (i < n) × HasEnd (arc_at net.arcs i) v) (row_of rows v)
+  pub at_a : (i : ℕ) → i < n → Contains (row_of rows (arc_at net.arcs i).a) i
+  pub at_b : (i : ℕ) → i < n → Contains (row_of rows (arc_at net.arcs i).b) i
 
 -- the rows list all arcs of the net by their ends
 abbrev pub IsIncidence : Net → List (List ℕ) → Type 0

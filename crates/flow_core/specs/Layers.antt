@@ -2,7 +2,7 @@
 use Rattle.std.specs.Prelude.{◌≡◌, ℕ, suc, ◌+◌, ◌-◌, ◌*◌, ◌<◌, List, length, slice_index, ℤ}
 use Rattle.counting.specs.Counts.{total}
 use Rattle.flow_core.specs.Nets.{Net}
-use Rattle.flow_core.specs.Incidence.{row_at}
+use Rattle.counting.specs.Lists.{row_of}
 use Rattle.flow_core.specs.Search.{node_at, IsTree}
 use Rattle.flow_core.specs.declared.search.Visit.{Visit}
 
@@ -12,11 +12,11 @@ pub record IsLaid (net : Net) (rows : List (List ℕ)) (amounts : List ℤ) (lev
   pub all_levels : length levels ≡ suc net.nodes
   pub all_places : length places ≡ suc net.nodes
   pub rising : (j : ℕ) → j < length path → slice_index levels (node_at path j) ≡ j
-  pub ahead : (j : ℕ) → suc j < length path → slice_index places (node_at path j) < length (row_at rows (node_at path j))
+  pub ahead : (j : ℕ) → suc j < length path → slice_index places (node_at path j) < length (row_of rows (node_at path j))
 
 -- how many arcs are left in the rows
 abbrev pub arcs_left : ℕ → List (List ℕ) → List ℕ → ℕ
-arcs_left nodes rows places = total nodes (λ v. length (row_at rows v) - slice_index places v)
+arcs_left nodes rows places = total nodes (λ v. length (row_of rows v) - slice_index places v)
 
 -- what is left to do: it falls with each step of the path, forward or back, and with each arc that is passed over
 abbrev pub work_left : ℕ → List (List ℕ) → List ℕ → List Visit → ℕ

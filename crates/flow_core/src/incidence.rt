@@ -1,7 +1,8 @@
 //! Which arcs have an end at which node.
 ghost use Rattle.std.specs.Prelude.{◌≡◌, ℕ, ◌+◌, ◌<◌, ◌≤◌, ◌++◌, ◌∷◌, [], length, IfOk, OnOk, slice_set};
 ghost use Rattle.flow_core.specs.Nets.{IsBounded};
-ghost use Rattle.flow_core.specs.Incidence.{row_at, IsIncidence};
+ghost use Rattle.counting.specs.Lists.{row_of};
+ghost use Rattle.flow_core.specs.Incidence.{IsIncidence};
 
 use crate::net::Net;
 use std::alloc::{AllocError as Memory, Global};
@@ -42,7 +43,7 @@ impl Incidence {
     fn empty(alloc: Global, nodes: u32) -> Result<Incidence, Memory>
         requires { nodes ≤ MOST_VERTICES }
         ensures size { IfOk result (λ rows. length rows ≡ nodes + 1) }
-        ensures empty { IfOk result (λ rows. (v : ℕ) → row_at rows v ≡ []) }
+        ensures empty { IfOk result (λ rows. (v : ℕ) → row_of rows v ≡ []) }
     {
         let mut rows = Vec::new(alloc);
         for _v in 0..nodes + 1 {
@@ -54,7 +55,7 @@ impl Incidence {
     /// Lists arc `i` at node `v`.
     fn add(&mut self, v: u32, i: usize) -> Result<(), Memory>
         requires { v < length self.old }
-        ensures { OnOk result (self.new ≡ slice_set self.old v (row_at self.old v ++ i ∷ [])) }
+        ensures { OnOk result (self.new ≡ slice_set self.old v (row_of self.old v ++ i ∷ [])) }
     {
         self.rows[v as usize].push(i)?;
         Ok(())
@@ -63,7 +64,7 @@ impl Incidence {
     /// The arcs at node `v`.
     pub fn row(&self, v: u32) -> &[usize]
         requires { v < length self.now }
-        ensures { result.now ≡ row_at self.now v }
+        ensures { result.now ≡ row_of self.now v }
     {
         &self.rows[v as usize]
     }

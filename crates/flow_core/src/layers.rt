@@ -2,7 +2,8 @@
 ghost use Rattle.std.specs.Prelude.{◌≡◌, ◌≢◌, ℕ, suc, ◌≤◌, ◌<◌, ◌+◌, ◌-◌, length, IfOk, OnOk, IsTrue, List, ℤ, slice_index, slice_set, take};
 ghost use Rattle.flow_core.specs.Nets.{IsBounded};
 ghost use Rattle.flow_core.specs.Flows.{Fits, IsFlow};
-ghost use Rattle.flow_core.specs.Incidence.{row_at, IsIncidence};
+ghost use Rattle.counting.specs.Lists.{row_of};
+ghost use Rattle.flow_core.specs.Incidence.{IsIncidence};
 ghost use Rattle.flow_core.specs.Search.{first_node, last_node, node_at, IsTree, HasTree};
 ghost use Rattle.flow_core.specs.Layers.{IsLaid, work_left};
 
@@ -62,7 +63,7 @@ impl Layers {
     fn go_back(&mut self, incidence: &Incidence, last: usize)
         requires last { length self.old.path.items ≡ last + 1 }
         requires some { 0 < last }
-        requires place { slice_index self.old.places.items (node_at self.old.path.items (last - 1)) < length (row_at incidence.now (node_at self.old.path.items (last - 1))) }
+        requires place { slice_index self.old.places.items (node_at self.old.path.items (last - 1)) < length (row_of incidence.now (node_at self.old.path.items (last - 1))) }
         requires row { node_at self.old.path.items (last - 1) < length incidence.now }
         requires all { length self.old.places.items ≡ length incidence.now }
         ensures path { self.new.path.items ≡ take last self.old.path.items }

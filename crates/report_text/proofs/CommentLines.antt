@@ -22,7 +22,8 @@ use Rattle.line_text.proofs.WrittenLines.{spaced, unwords-spaced}
 use Rattle.report_text.specs.Comments.{HasFewLeaves, IsCommented}
 use Rattle.report_text.specs.Derivations.{adjacent_line, adjacent_lines, block_lines, derivation_text, kind_word, leaf_line, leaf_lines, leaf_text, name_at, tally_line}
 use Rattle.report_text.specs.Reports.{list_line, name_line, name_lines, numbers_text, with_names_text}
-use Rattle.report_text.specs.Tallies.{is_brick, kind_at, leaf_at, tally_of}
+use Rattle.tree_core.specs.LeafMaps.{leaf_at}
+use Rattle.report_text.specs.Tallies.{is_brick, kind_at, tally_of}
 use Rattle.report_text.specs.declared.tallies.LeafKind.{LeafKind}
 use Rattle.report_text.specs.declared.tallies.LeafKind.TheVariants.{Brick, Brace}
 use Rattle.report_text.specs.declared.tallies.Tally.{Tally}
@@ -155,10 +156,10 @@ leaves-commented : (g : Graph) (ps : List (List (List ℕ))) (kinds : List LeafK
 leaves-commented g ps kinds zero few some = commented-none []
 leaves-commented g ps kinds (suc k) few some =
     let leaves = few.leaves in
-    commented-both (leaf_lines g ps kinds k) (leaf_text g (suc k) (leaf_at ps k) (kind_at kinds k))
+    commented-both (leaf_lines g ps kinds k) (leaf_text g (suc k) (leaf_at ps (suc k)) (kind_at kinds (suc k)))
     (leaves-commented g ps kinds k few (omega arith))
-    (whole_leaf-commented g (suc k) (leaf_at ps k) (kind_at kinds k) (omega arith) few.edges
-    (blocks-small g.order (leaf_at ps k) few.order (All-get_or (IsPartition g.order) ps k [] (omega arith) few.partitions)))
+    (whole_leaf-commented g (suc k) (leaf_at ps (suc k)) (kind_at kinds (suc k)) (omega arith) few.edges
+    (blocks-small g.order (leaf_at ps (suc k)) few.order (All-get_or (IsPartition g.order) ps (suc k - 1) [] (omega arith) few.partitions)))
 
 -- what stands behind the text of a decomposition
 pub derivation-commented : (text : List ℕ) (g : Graph) (ps : List (List (List ℕ))) (kinds : List LeafKind) → HasFewLeaves g ps kinds → IsCommented text (derivation_text text g ps kinds)

@@ -1,5 +1,5 @@
 -- Steps of the loops that write the lines of a leaf, and of the leaves: what is written and one more line are the lines with one more.
-use Rattle.std.proofs.Common.{◌≡◌, ℕ, suc, ◌∙◌, List, [], ◌++◌, length, map, ap, sym, subst, append_assoc, slice_get, get_or, Some}
+use Rattle.std.proofs.Common.{◌≡◌, ℕ, suc, ◌-◌, ◌∙◌, List, [], ◌++◌, length, map, ap, sym, subst, append_assoc, slice_get, get_or, Some, arith}
 use Rattle.std.proofs.lemmas.Option.{get_or_from_slice_get, slice_get-map}
 use Rattle.std.specs.Prelude.{codes}
 use Rattle.std.specs.Option.{option_map}
@@ -10,8 +10,10 @@ use Rattle.contraction.specs.Contracted.{ContractedValue, contraction}
 use Rattle.contraction.specs.Partition.{PartitionValue}
 use Rattle.report_text.specs.Reports.{list_line}
 use Rattle.report_text.specs.Derivations.{adjacent_line, adjacent_lines, block_lines, leaf_lines, leaf_text, name_at}
-use Rattle.report_text.specs.Tallies.{kind_at, leaf_at}
+use Rattle.tree_core.specs.LeafMaps.{leaf_at}
+use Rattle.report_text.specs.Tallies.{kind_at}
 use Rattle.report_text.specs.declared.tallies.LeafKind.{LeafKind}
+use Rattle.report_text.specs.declared.tallies.LeafKind.TheVariants.{Brick}
 
 -- one more line behind those that are written
 one-more : (start lines line now next : List ℕ) → now ≡ start ++ lines → next ≡ now ++ line → next ≡ start ++ (lines ++ line)
@@ -40,9 +42,13 @@ adjacent-written g p q h i a b x y edges start now next is same first_is second_
     (second ∙ ap (λ (l : List ℕ). now ++ l) (ap (λ (v : ℕ). adjacent_line v y edges) xs ∙ ap (λ (v : ℕ). adjacent_line (name_at p (first_end (quotient g p) (suc i))) v edges) ys ∙ ap (λ (es : List ℕ). adjacent_line (name_at p (first_end (quotient g p) (suc i))) (name_at p (second_end (quotient g p) (suc i))) es) edges_are))
 
 -- the lines of the next leaf
-pub leaf-written : (g : Graph) (leaves : List PartitionValue) (kinds : List LeafKind) (i : ℕ) (p : PartitionValue) (start now next : List ℕ) → slice_get leaves i ≡ Some p →
-    now ≡ start ++ leaf_lines g (map (λ (p : PartitionValue). p.blocks) leaves) kinds i → next ≡ now ++ leaf_text g (suc i) p.blocks (kind_at kinds i) → next ≡ start ++ leaf_lines g (map (λ (p : PartitionValue). p.blocks) leaves) kinds (suc i)
-leaf-written g leaves kinds i p start now next is first second =
+pub leaf-written : (g : Graph) (leaves : List PartitionValue) (kinds : List LeafKind) (i : ℕ) (p : PartitionValue) (kind : LeafKind) (start now next : List ℕ) → slice_get leaves i ≡ Some p → kind ≡ get_or kinds i Brick →
+    now ≡ start ++ leaf_lines g (map (λ (p : PartitionValue). p.blocks) leaves) kinds i → next ≡ now ++ leaf_text g (suc i) p.blocks kind → next ≡ start ++ leaf_lines g (map (λ (p : PartitionValue). p.blocks) leaves) kinds (suc i)
+leaf-written g leaves kinds i p kind start now next is same first second =
     let ps : List (List (List ℕ)) = map (λ (p : PartitionValue). p.blocks) leaves in
-    one-more start (leaf_lines g ps kinds i) (leaf_text g (suc i) (leaf_at ps i) (kind_at kinds i)) now next first
-    (second ∙ ap (λ (b : List (List ℕ)). now ++ leaf_text g (suc i) b (kind_at kinds i)) (sym (get_or_from_slice_get ps i p.blocks [] (slice_get-map (λ (p : PartitionValue). p.blocks) leaves i ∙ ap (option_map (λ (p : PartitionValue). p.blocks)) is))))
+    let back : i ≡ suc i - 1 = omega arith in
+    let blocks : p.blocks ≡ leaf_at ps (suc i) =
+    sym (get_or_from_slice_get ps i p.blocks [] (slice_get-map (λ (p : PartitionValue). p.blocks) leaves i ∙ ap (option_map (λ (p : PartitionValue). p.blocks)) is)) ∙ ap (λ j. get_or ps j []) back in
+    let kind_is : kind ≡ kind_at kinds (suc i) = same ∙ ap (λ j. get_or kinds j Brick) back in
+    one-more start (leaf_lines g ps kinds i) (leaf_text g (suc i) (leaf_at ps (suc i)) (kind_at kinds (suc i))) now next first
+    (second ∙ ap (λ (b : List (List ℕ)). now ++ leaf_text g (suc i) b kind) blocks ∙ ap (λ (k : LeafKind). now ++ leaf_text g (suc i) (leaf_at ps (suc i)) k) kind_is)

@@ -8,7 +8,8 @@ use Rattle.graph_core.specs.Graph.{Graph, size, first_end, second_end}
 use Rattle.graph_core.specs.Partitions.{block}
 use Rattle.graph_core.specs.Quotients.{quotient, remembered}
 use Rattle.report_text.specs.Reports.{list_line, numbers_text}
-use Rattle.report_text.specs.Tallies.{leaf_at, kind_at, tally_of}
+use Rattle.tree_core.specs.LeafMaps.{leaf_at}
+use Rattle.report_text.specs.Tallies.{kind_at, tally_of}
 use Rattle.report_text.specs.declared.tallies.LeafKind.{LeafKind}
 use Rattle.report_text.specs.declared.tallies.LeafKind.TheVariants.{Brick, Brace}
 use Rattle.report_text.specs.declared.tallies.Tally.{Tally}
@@ -49,7 +50,7 @@ leaf_text g number p kind = (leaf_line number kind ++ block_lines p (length p)) 
 -- the lines of the first leaves, so many, in order
 abbrev pub leaf_lines : Graph → List (List (List ℕ)) → List LeafKind → ℕ → List ℕ
 leaf_lines g ps kinds zero = []
-leaf_lines g ps kinds (suc k) = leaf_lines g ps kinds k ++ leaf_text g (suc k) (leaf_at ps k) (kind_at kinds k)
+leaf_lines g ps kinds (suc k) = leaf_lines g ps kinds k ++ leaf_text g (suc k) (leaf_at ps (suc k)) (kind_at kinds (suc k))
 
 -- the line of the counts
 abbrev pub tally_line : Tally → List ℕ

@@ -1,8 +1,10 @@
 -- The kinds of the leaves of a tight cut decomposition, and how many leaves there are of each (Lovász 1987). A leaf is told by its
 -- quotient, which has one edge for each two adjacent blocks: a brace where the quotient is bipartite, and a brick where it is not.
-use Rattle.std.specs.Prelude.{◌≡◌, ℕ, ◌<◌, List, [], length, slice_index_or, count_by, Bool, true, false, not}
+use Rattle.std.specs.Prelude.{◌≡◌, ℕ, ◌-◌, List, length, slice_index_or, count_by, Bool, true, false, not}
+use Rattle.counting.specs.Counts.{Within}
 use Rattle.graph_core.specs.Graph.{Graph, IsBipartite}
 use Rattle.graph_core.specs.Quotients.{quotient}
+use Rattle.tree_core.specs.LeafMaps.{leaf_at}
 use Rattle.report_text.specs.declared.tallies.LeafKind.{LeafKind}
 use Rattle.report_text.specs.declared.tallies.LeafKind.TheVariants.{Brick, Brace}
 use Rattle.report_text.specs.declared.tallies.Tally.{Tally}
@@ -12,18 +14,14 @@ abbrev pub IsLeafKind : Graph → List (List ℕ) → LeafKind → Type 0
 IsLeafKind g p Brace = IsBipartite (quotient g p)
 IsLeafKind g p Brick = ¬ IsBipartite (quotient g p)
 
--- the partition of the leaf at a place, counted from 0
-abbrev pub leaf_at : List (List (List ℕ)) → ℕ → List (List ℕ)
-leaf_at ps k = slice_index_or ps k []
-
--- the kind at a place, counted from 0
+-- the kind of leaf i, counted from 1
 abbrev pub kind_at : List LeafKind → ℕ → LeafKind
-kind_at kinds k = slice_index_or kinds k Brick
+kind_at kinds i = slice_index_or kinds (i - 1) Brick
 
 -- the kinds of the leaves at these partitions, in order
 pub record AreLeafKinds (g : Graph) (ps : List (List (List ℕ))) (kinds : List LeafKind) : Type 0 where
   pub each_one : length kinds ≡ length ps
-  pub right : (k : ℕ) → k < length ps → IsLeafKind g (leaf_at ps k) (kind_at kinds k)
+  pub right : (i : ℕ) → Within (length ps) i → IsLeafKind g (leaf_at ps i) (kind_at kinds i)
 
 -- the kind is brick
 abbrev pub is_brick : LeafKind → Bool

@@ -1,9 +1,9 @@
 use Rattle.std.proofs.Common.{◌≡◌, ℕ, ◌&&◌, ◌||◌, length, map, take}
-use Rattle.counting.specs.Lists.{mem}
+use Rattle.counting.specs.Lists.{mem, row_of}
 use Rattle.match_core.specs.MatchingRows.{edges_of}
 use Rattle.match_core.specs.Rows.{marks}
 use Rattle.match_core.proofs.MatchingEdges.{edge_of}
-use Rattle.allowed_edges.specs.EdgeTables.{IsSquare, row_of}
+use Rattle.allowed_edges.specs.EdgeTables.{IsSquare}
 use Rattle.allowed_edges.proofs.table.mark_pairs.Given as goal
 
 abbrev pub invariant-loop-i : goal.invariant-loop-i

@@ -1,10 +1,12 @@
-use Rattle.std.proofs.Common.{◌≡◌, ◌<◌, ℕ, length, map}
-use Rattle.report_text.specs.Tallies.{IsLeafKind, kind_at, leaf_at}
+use Rattle.std.proofs.Common.{◌≡◌, ℕ, length, map}
+use Rattle.counting.specs.Counts.{Within}
+use Rattle.tree_core.specs.LeafMaps.{leaf_at}
+use Rattle.report_text.specs.Tallies.{IsLeafKind, kind_at}
 use Rattle.report_text.proofs.tallies.leaf_kinds.Given as goal
 
 -- the kinds of the first leaves are known
 abbrev pub invariant-loop-i : goal.invariant-loop-i
 invariant-loop-i l = record {
   so_many : length l.kinds.items ≡ l.i;
-  right : (k : ℕ) → k < l.i → IsLeafKind l.g (leaf_at (map (λ p. p.blocks) l.leaves) k) (kind_at l.kinds.items k);
+  right : (k : ℕ) → Within l.i k → IsLeafKind l.g (leaf_at (map (λ p. p.blocks) l.leaves) k) (kind_at l.kinds.items k);
 }
