@@ -5,3 +5,4 @@ pub mod PairShores
 pub mod SeparationFacts
 pub mod Flooding
 pub mod FirstSeparations
+pub mod Domination

@@ -14,6 +14,7 @@
 #![tactic(auto)]
 
 mod critical;
+mod dominators;
 mod flood;
 mod laws;
 mod pair;

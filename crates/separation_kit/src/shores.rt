@@ -11,6 +11,7 @@ ghost use Rattle.separation_kit.specs.Pairs.{pair_of};
 ghost use Rattle.separation_kit.specs.SeparationShores.{separation_cuts};
 
 use crate::critical::{is_cut_pair, parts_without};
+use crate::dominators::suspects;
 use crate::pair::{Pair, all_pairs};
 use barrier_kit::add_cut;
 use graph_core::{MultiGraph, SetList};
@@ -52,9 +53,10 @@ pub fn separation_cuts(alloc: Global, g: &MultiGraph) -> Result<SetList, Memory>
 {
     g.keeps_limits();
     let mut cuts = SetList::new(alloc);
+    let sets = suspects(alloc, g)?;
     let pairs = all_pairs(alloc, g.order())?;
     for pair in &pairs {
-        if is_cut_pair(g, *pair) {
+        if is_cut_pair(g, &sets, *pair) {
             let parts = parts_without(alloc, g, pair.a, pair.b)?;
             add_with_vertex(&mut cuts, g.order(), &parts, pair.a)?;
         }
