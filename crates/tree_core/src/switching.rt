@@ -71,118 +71,81 @@ fn merged_shore_greatest_stays(e: &Exchange, s: VSet) -> VSet
     union_of(outer, union_of(inner, further, e.n), e.n)
 }
 
-// The tree below `kept` where the greatest vertex comes.
-fn kept_greatest_comes(tree: Tree, e: &Exchange, rest: VSet) -> Tree
+// Carries the tree below `kept` along, where the greatest vertex comes.
+fn kept_greatest_comes(tree: &mut Tree, e: &Exchange, rest: VSet)
     requires rest { rest ≡ outer_rest e.now.n e.now.x e.now.v }
     requires within { All (Within e.now.n) rest }
-    requires fits { Fits e.now.n (shape_of tree) }
-    ensures { shape_of result ≡ kept_if_greatest_comes e.now.n e.now.x e.now.u e.now.v (shape_of tree) }
+    requires fits { Fits e.now.n (shape_of tree.old) }
+    ensures { shape_of tree.new ≡ kept_if_greatest_comes e.now.n e.now.x e.now.u e.now.v (shape_of tree.old) }
 {
-    match tree {
-        Tree::Leaf => Tree::Leaf,
-        Tree::Cut {
-            shore,
-            mut kept,
-            mut merged,
-        } => {
-            let below = mem::replace(&mut *kept, Tree::Leaf);
-            *kept = kept_greatest_comes(below, e, rest);
-            let below = mem::replace(&mut *merged, Tree::Leaf);
-            *merged = kept_greatest_comes(below, e, rest);
-            Tree::Cut {
-                shore: kept_shore_greatest_comes(e, rest, shore),
-                kept,
-                merged,
-            }
-        }
+    if let Tree::Cut {
+        shore,
+        kept,
+        merged,
+    } = tree
+    {
+        kept_greatest_comes(kept, e, rest);
+        kept_greatest_comes(merged, e, rest);
+        *shore = kept_shore_greatest_comes(e, rest, *shore);
     }
 }
 
-// The tree below `merged` where the greatest vertex comes.
-fn merged_greatest_comes(tree: Tree, e: &Exchange) -> Tree
+// Carries the tree below `merged` along, where the greatest vertex comes.
+fn merged_greatest_comes(tree: &mut Tree, e: &Exchange)
     requires part { All (Within e.now.n) e.now.u }
-    requires fits { Fits e.now.n (shape_of tree) }
-    ensures { shape_of result ≡ merged_if_greatest_comes e.now.n e.now.x e.now.u (shape_of tree) }
+    requires fits { Fits e.now.n (shape_of tree.old) }
+    ensures { shape_of tree.new ≡ merged_if_greatest_comes e.now.n e.now.x e.now.u (shape_of tree.old) }
 {
-    match tree {
-        Tree::Leaf => Tree::Leaf,
-        Tree::Cut {
-            shore,
-            mut kept,
-            mut merged,
-        } => {
-            let below = mem::replace(&mut *kept, Tree::Leaf);
-            *kept = merged_greatest_comes(below, e);
-            let below = mem::replace(&mut *merged, Tree::Leaf);
-            *merged = merged_greatest_comes(below, e);
-            Tree::Cut {
-                shore: merged_shore_greatest_comes(e, shore),
-                kept,
-                merged,
-            }
-        }
+    if let Tree::Cut {
+        shore,
+        kept,
+        merged,
+    } = tree
+    {
+        merged_greatest_comes(kept, e);
+        merged_greatest_comes(merged, e);
+        *shore = merged_shore_greatest_comes(e, *shore);
     }
 }
 
-// The tree below `kept` where the greatest vertex stays: where a shore contains u the two trees change places.
-fn kept_greatest_stays(tree: Tree, e: &Exchange) -> Tree
+// Carries the tree below `kept` along, where the greatest vertex stays: where a shore contains u the two trees change places.
+fn kept_greatest_stays(tree: &mut Tree, e: &Exchange)
     requires whole { All (Within e.now.n) e.now.x }
     requires second { All (Within e.now.n) e.now.v }
-    ensures { shape_of result ≡ kept_if_greatest_stays e.now.n e.now.x e.now.u e.now.v (shape_of tree) }
+    ensures { shape_of tree.new ≡ kept_if_greatest_stays e.now.n e.now.x e.now.u e.now.v (shape_of tree.old) }
 {
-    match tree {
-        Tree::Leaf => Tree::Leaf,
-        Tree::Cut {
-            shore,
-            mut kept,
-            mut merged,
-        } => {
-            let below = mem::replace(&mut *kept, Tree::Leaf);
-            *kept = kept_greatest_stays(below, e);
-            let below = mem::replace(&mut *merged, Tree::Leaf);
-            *merged = kept_greatest_stays(below, e);
-            if e.u.is_subset(shore) {
-                Tree::Cut {
-                    shore: union_of(minus_of(e.x, shore, e.n), e.v, e.n),
-                    kept: merged,
-                    merged: kept,
-                }
-            } else {
-                Tree::Cut {
-                    shore,
-                    kept,
-                    merged,
-                }
-            }
+    if let Tree::Cut {
+        shore,
+        kept,
+        merged,
+    } = tree
+    {
+        kept_greatest_stays(kept, e);
+        kept_greatest_stays(merged, e);
+        if e.u.is_subset(*shore) {
+            *shore = union_of(minus_of(e.x, *shore, e.n), e.v, e.n);
+            mem::swap(kept, merged);
         }
     }
 }
 
-// The tree below `merged` where the greatest vertex stays.
-fn merged_greatest_stays(tree: Tree, e: &Exchange) -> Tree
+// Carries the tree below `merged` along, where the greatest vertex stays.
+fn merged_greatest_stays(tree: &mut Tree, e: &Exchange)
     requires first { All (Within e.now.n) e.now.u }
     requires second { All (Within e.now.n) e.now.v }
     requires whole { All (Within e.now.n) e.now.x }
-    requires fits { Fits e.now.n (shape_of tree) }
-    ensures { shape_of result ≡ merged_if_greatest_stays e.now.n e.now.x e.now.u e.now.v (shape_of tree) }
+    requires fits { Fits e.now.n (shape_of tree.old) }
+    ensures { shape_of tree.new ≡ merged_if_greatest_stays e.now.n e.now.x e.now.u e.now.v (shape_of tree.old) }
 {
-    match tree {
-        Tree::Leaf => Tree::Leaf,
-        Tree::Cut {
-            shore,
-            mut kept,
-            mut merged,
-        } => {
-            let below = mem::replace(&mut *kept, Tree::Leaf);
-            *kept = merged_greatest_stays(below, e);
-            let below = mem::replace(&mut *merged, Tree::Leaf);
-            *merged = merged_greatest_stays(below, e);
-            Tree::Cut {
-                shore: merged_shore_greatest_stays(e, shore),
-                kept,
-                merged,
-            }
-        }
+    if let Tree::Cut {
+        shore,
+        kept,
+        merged,
+    } = tree
+    {
+        merged_greatest_stays(kept, e);
+        merged_greatest_stays(merged, e);
+        *shore = merged_shore_greatest_stays(e, *shore);
     }
 }
 
@@ -192,13 +155,13 @@ fn exchanged_greatest_comes(mut kept: Box<Tree>, mut merged: Box<Tree>, e: &Exch
     requires part { All (Within e.now.n) e.now.u }
     requires first { Fits e.now.n (shape_of kept.value) }
     requires second { Fits e.now.n (shape_of merged.value) }
-    ensures { shape_of result ≡ cut (union_list e.now.n (outer_rest e.now.n e.now.x e.now.v) e.now.u) (merged_if_greatest_comes e.now.n e.now.x e.now.u (shape_of merged.value)) (kept_if_greatest_comes e.now.n e.now.x e.now.u e.now.v (shape_of kept.value)) }
+    ensures { shape_of result ≡ cut (union_list e.now.n (outer_rest e.now.n e.now.x e.now.v) e.now.u)
+        (merged_if_greatest_comes e.now.n e.now.x e.now.u (shape_of merged.value))
+        (kept_if_greatest_comes e.now.n e.now.x e.now.u e.now.v (shape_of kept.value)) }
 {
     let rest = outer_rest_of(e.x, e.v, e.n);
-    let below = mem::replace(&mut *kept, Tree::Leaf);
-    *kept = kept_greatest_comes(below, e, rest);
-    let below = mem::replace(&mut *merged, Tree::Leaf);
-    *merged = merged_greatest_comes(below, e);
+    kept_greatest_comes(&mut *kept, e, rest);
+    merged_greatest_comes(&mut *merged, e);
     Tree::Cut {
         shore: union_of(rest, e.u, e.n),
         kept: merged,
@@ -212,12 +175,12 @@ fn exchanged_greatest_stays(mut kept: Box<Tree>, mut merged: Box<Tree>, e: &Exch
     requires other { All (Within e.now.n) e.now.v }
     requires whole { All (Within e.now.n) e.now.x }
     requires second { Fits e.now.n (shape_of merged.value) }
-    ensures { shape_of result ≡ cut (union_list e.now.n (inner_rest e.now.n e.now.x e.now.u) e.now.v) (kept_if_greatest_stays e.now.n e.now.x e.now.u e.now.v (shape_of kept.value)) (merged_if_greatest_stays e.now.n e.now.x e.now.u e.now.v (shape_of merged.value)) }
+    ensures { shape_of result ≡ cut (union_list e.now.n (inner_rest e.now.n e.now.x e.now.u) e.now.v)
+        (kept_if_greatest_stays e.now.n e.now.x e.now.u e.now.v (shape_of kept.value))
+        (merged_if_greatest_stays e.now.n e.now.x e.now.u e.now.v (shape_of merged.value)) }
 {
-    let below = mem::replace(&mut *kept, Tree::Leaf);
-    *kept = kept_greatest_stays(below, e);
-    let below = mem::replace(&mut *merged, Tree::Leaf);
-    *merged = merged_greatest_stays(below, e);
+    kept_greatest_stays(&mut *kept, e);
+    merged_greatest_stays(&mut *merged, e);
     Tree::Cut {
         shore: union_of(minus_of(e.x, e.u, e.n), e.v, e.n),
         kept,
