@@ -3,7 +3,7 @@ ghost use Rattle.std.specs.Prelude.{◌≡◌, ◌++◌, IfOk, OnOk, string_byte
 ghost use Rattle.graph_core.specs.Simple.{IsSimple};
 ghost use Rattle.list_lines.specs.KindLines.{IsKindLine, answer_word, kind_word, reason_word, standing_words, words_behind};
 
-use crate::standing::{Standing, standing};
+use crate::standing::{Standing, standing_of};
 use graph_core::{Kind, MultiGraph, Reason};
 use graph6_text::write_graph6;
 use std::alloc::{AllocError as Memory, Global};
@@ -14,7 +14,7 @@ pub fn kind_line(alloc: Global, g: &MultiGraph) -> Result<Vec<u8>, Memory>
     requires { IsSimple g.now }
     ensures { IfOk result (λ line. IsKindLine g.now line.items) }
 {
-    let standing = standing(alloc, g)?;
+    let standing = standing_of(alloc, g)?;
     let words = words_behind(alloc, g.order(), g.size(), &standing)?;
     let mut line = write_graph6(alloc, g)?;
     line.extend_from_slice(words.as_bytes())?;

@@ -59,7 +59,10 @@ fn decomposed_last(alloc: Global, g: &MultiGraph) -> Result<Tree, Refused>
     ensures uncovered { (r : _) → result ≡ Err (Refused.NotCovered r) → ¬ IsCovered g.now }
 {
     let order = Order::new(|list: &[Candidate], cuts: usize| last_place(list, cuts));
-    decompose(alloc, g, &order)
+    match decompose(alloc, g, &order) {
+        Ok(tree) => Ok(tree),
+        Err(refused) => Err(refused),
+    }
 }
 
 // The derivation for which the first candidates are picked whose sides differ least in size.
@@ -69,7 +72,10 @@ fn decomposed_balanced(alloc: Global, g: &MultiGraph) -> Result<Tree, Refused>
     ensures uncovered { (r : _) → result ≡ Err (Refused.NotCovered r) → ¬ IsCovered g.now }
 {
     let order = Order::new(|list: &[Candidate], cuts: usize| balanced_place(list, cuts));
-    decompose(alloc, g, &order)
+    match decompose(alloc, g, &order) {
+        Ok(tree) => Ok(tree),
+        Err(refused) => Err(refused),
+    }
 }
 
 // The lines of the leaves of a derivation.

@@ -38,7 +38,7 @@ pub enum Standing {
 
 /// How the graph stands. One maximum matching and one table of partners tell all but the kind and the numbers of leaves, and the
 /// leaves are counted only where the graph has a nontrivial tight cut.
-pub fn standing(alloc: Global, g: &MultiGraph) -> Result<Standing, Memory>
+pub fn standing_of(alloc: Global, g: &MultiGraph) -> Result<Standing, Memory>
     ensures { IfOk result (IsStanding g.now) }
 {
     let found = maximum(alloc, g)?;
@@ -72,6 +72,7 @@ fn tally_of_kind(alloc: Global, g: &MultiGraph, kind: Kind) -> Result<Tally, Mem
     requires kind { IsKind g.now kind }
     ensures { IfOk result (IsCounted g.now) }
 {
+    g.keeps_limits();
     match kind {
         Kind::Brick => Ok(Tally {
             leaves: 1,

@@ -35,14 +35,14 @@ pub fn tell(alloc: Global, query: &Query, number: u64, line: &[u8]) -> Result<To
     ensures { IfOk result (IsAnswer query.now number line.now) }
 {
     match read_graph6(alloc, line) {
-        Ok(g) => told(alloc, query, number, line, &g),
+        Ok(g) => answer(alloc, query, number, line, &g),
         Err(TextFault::At { kind, .. }) => Ok(Told::Bad { kind }),
         Err(TextFault::Memory) => Err(Memory),
     }
 }
 
 // The answer for a line in which the graph stands.
-fn told(
+fn answer(
     alloc: Global,
     query: &Query,
     number: u64,
@@ -63,8 +63,8 @@ fn told(
             Ok(Told::Output { bytes })
         }
         Query::Graph => {
-            let told = file_text(alloc, g)?;
-            Ok(told)
+            let answer = file_text(alloc, g)?;
+            Ok(answer)
         }
         Query::Select { property } => {
             let bytes = selected(alloc, g, *property, line)?;
