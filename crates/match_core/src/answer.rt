@@ -1,4 +1,8 @@
 //! What a step of the engine answers: one edge more, or a frame.
+//!
+//! A frame is what the last forest proves. Its outer vertices are those that some matching as large misses, its inner vertices
+//! the others beside them. Without the inner vertices the outer ones form components of odd order, of which a matching can
+//! serve no more than there are inner vertices: it misses a vertex in each of the others, so none is larger.
 ghost use Rattle.counting.specs.Lists.{mem};
 ghost use Rattle.match_core.specs.Steps.{IsWidened};
 

@@ -4,6 +4,9 @@
 //! augments the matching, or a blossom. A blossom is shrunk to its base: a matching of the smaller graph can be completed in
 //! it, and a proof that there is no larger one holds for the graph too. Where no edge leaves the forest, its inner vertices
 //! show that the matching is maximum: without them each outer vertex, a blossom or not, is in an odd component of its own.
+//!
+//! After a shrinking the forest is grown anew. That takes few steps: the pairs on the way to the base were exchanged, so the
+//! base is exposed and a root, and the rest of the blossom is gone.
 ghost use Rattle.std.specs.Prelude.{◌<◌, length, IfOk, OnOk};
 ghost use Rattle.counting.specs.Sets.{Set};
 ghost use Rattle.graph_core.specs.Graph.{Graph};

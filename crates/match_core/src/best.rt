@@ -1,4 +1,6 @@
-//! A maximum matching of G - removed, with the frame that shows it to be one.
+//! A maximum matching of G - removed, with the frame that shows it to be one: a matching is enlarged by one edge after the other
+//! until a step answers a frame instead. Each step leaves two exposed vertices less, so there are at most half as many as
+//! vertices.
 ghost use Rattle.std.specs.Prelude.{◌≡◌, ◌+◌, ◌==◌, ◌&&◌, not, length, IfOk};
 ghost use Rattle.counting.specs.Counts.{Within};
 ghost use Rattle.counting.specs.Lists.{mem};

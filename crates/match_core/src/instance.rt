@@ -1,6 +1,9 @@
-//! A graph without its removed vertices as the search reads it: a row of neighbours for each vertex. Shrinking a blossom takes
-//! two rows to be written: the neighbours and the members of the base. All others stay as they are, since a neighbour in a
-//! blossom is found by the blossom's members.
+//! A graph without its removed vertices as the search reads it, and the shrinking of a blossom to its base.
+//!
+//! A vertex that is left stands for its members: at first itself alone, and after a shrinking all vertices that became it. Its
+//! row keeps the neighbours that its members had before any shrinking. So two vertices are adjacent where the row of one holds
+//! a member of the other (`Touches`), and a shrinking writes no more than the row and the members of the base, each as the
+//! union over the blossom. No neighbour is told of it, and it is undone by putting back what stood there.
 ghost use Rattle.std.specs.Prelude.{◌≡◌, ◌≢◌, ℕ, ◌+◌, ◌-◌, ◌<◌, ◌≤◌, true, false, length, IfOk, ◌∷◌, [], ◌↔◌};
 ghost use Rattle.counting.specs.Counts.{Within};
 ghost use Rattle.counting.specs.Sets.{Set};

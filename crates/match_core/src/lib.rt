@@ -7,9 +7,9 @@
 //!
 //! Inside, `augment_once` makes a matching larger by one edge or answers a frame, on a row of neighbours for each vertex and a
 //! mate for each vertex, without a list of edges: it grows an alternating forest, augments along two of its paths, or shrinks
-//! a blossom, after which all vertices keep their numbers (`HoldsMatching`, `HoldsAlternating`, `HoldsBlossom`, `IsMateStep`,
-//! `Frame`). `best_from` repeats it until the matching is maximum, and marks the edges at the end. The law of Tutte and Berge
-//! stands beside it (`tutte_berge_law`).
+//! a blossom, after which all vertices keep their numbers (`IsInstance`, `HoldsMatching`, `HoldsAlternating`, `HoldsBlossom`,
+//! `IsMateStep`, `Frame`). `best_from` repeats it until the matching is maximum, and marks the edges at the end. The law of
+//! Tutte and Berge stands beside it (`tutte_berge_law`).
 //!
 //! Stands on `graph_core` and `vset_core`. Sources: Tutte 1947, Berge 1958, Gallai 1964, Edmonds 1965; Lovász and Plummer,
 //! "Matching Theory", chapters 1, 3 and 9.
