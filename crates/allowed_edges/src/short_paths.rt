@@ -11,7 +11,7 @@ use crate::questions::misses_none;
 use graph_core::MultiGraph;
 use match_core::{MatchRow, Matching};
 use std::alloc::{AllocError as Memory, Global};
-use vset_core::VSet;
+use vset_core::{MOST_VERTICES, VSet};
 
 /// A perfect matching of G - met, from a matching of it: with an edge more between two vertices that it misses, or with two
 /// edges in place of one. `None` where neither serves, which says nothing of G - met.
@@ -79,6 +79,8 @@ fn with_two(
     x: u32,
     y: u32,
 ) -> Result<Option<Matching>, Memory>
+    requires first { Within MOST_VERTICES x }
+    requires second { Within MOST_VERTICES y }
     requires of { IsOf g.now m.now }
     requires within { (v : ℕ) → mem met v ≡ true → Within g.now.order v }
     requires matching { IsMatching g.now (mem met) (mem (edges_of m.now)) }
@@ -165,11 +167,16 @@ fn enclosed(m: &Matching, near: VSet, far: VSet) -> Option<MatchRow>
     None
 }
 
-// The first edge with the ends `x` and `y`.
+// The first edge with the ends `x` and `y`. The edges are gone through only where there is one.
 fn edge_between(g: &MultiGraph, x: u32, y: u32) -> Option<u32>
+    requires first { Within MOST_VERTICES x }
+    requires second { Within MOST_VERTICES y }
     ensures { (k : ℕ) → result ≡ Some k → Within (size g.now) k }
 {
     g.keeps_limits();
+    if !neighbours(g, x).contains(y) {
+        return None;
+    }
     for k in 0..g.size() {
         let e = g.ends(k + 1);
         if (e.a == x && e.b == y) || (e.a == y && e.b == x) {
@@ -180,17 +187,11 @@ fn edge_between(g: &MultiGraph, x: u32, y: u32) -> Option<u32>
 }
 
 // The vertices that an edge joins with `x`.
-fn neighbours(g: &MultiGraph, x: u32) -> VSet {
-    g.keeps_limits();
-    let mut near = VSet::empty();
-    for k in 0..g.size() {
-        let e = g.ends(k + 1);
-        if e.a == x {
-            near = near.with(e.b);
-        }
-        if e.b == x {
-            near = near.with(e.a);
-        }
+fn neighbours(g: &MultiGraph, x: u32) -> VSet
+    requires { Within MOST_VERTICES x }
+{
+    match g.rows().get(x as usize - 1) {
+        Some(row) => *row,
+        None => VSet::empty(),
     }
-    near
 }

@@ -11,7 +11,7 @@ ghost use Rattle.bench_top.specs.Facts.{IsStructure, TellsStructure};
 
 use barrier_kit::classes_in;
 use graph_core::{Ends, MultiGraph, Verdict};
-use leaf_kinds::kind;
+use leaf_kinds::kind_in;
 use match_core::PartnerTable;
 use report_text::Structure;
 use separation_kit::{Pair, cut_pair, not_bicritical_in};
@@ -35,12 +35,12 @@ fn structure(alloc: Global, g: &MultiGraph, table: &PartnerTable) -> Result<Stru
 {
     let classes = classes_in(alloc, g, table)?;
     let unlike = ends_of(not_bicritical_in(alloc, g, table)?);
-    let cutpair = ends_of(cut_pair(alloc, g)?);
-    let kind = kind(alloc, g)?;
+    let pair = cut_pair(alloc, g)?;
+    let kind = kind_in(alloc, g, table, pair)?;
     Ok(Structure {
         classes,
         unlike,
-        cutpair,
+        cutpair: ends_of(pair),
         kind,
     })
 }
