@@ -11,8 +11,8 @@ use Rattle.list_lines.specs.LeafLines.{AreLeafLines}
 use Rattle.list_lines.specs.Selecting.{IsSelected}
 use Rattle.list_lines.specs.declared.query.Query.{Query}
 use Rattle.list_lines.specs.declared.query.Query.TheVariants.{Kinds, Leaves, Graph as GraphFile, Select}
-use Rattle.list_lines.specs.declared.tell.Told.{Told}
-use Rattle.list_lines.specs.declared.tell.Told.TheVariants.{Output, Bad}
+use Rattle.list_lines.specs.declared.telling.Told.{Told}
+use Rattle.list_lines.specs.declared.telling.Told.TheVariants.{Output, Bad}
 
 -- the graph is within the limits of a graph file
 pub record FitsFile (g : Graph) : Type 0 where

@@ -1,10 +1,11 @@
 //! The line of `kinds`.
 ghost use Rattle.std.specs.Prelude.{◌≡◌, ◌++◌, IfOk, OnOk, string_bytes};
+ghost use Rattle.std.specs.Fmt.{decimal};
 ghost use Rattle.graph_core.specs.Simple.{IsSimple};
-ghost use Rattle.list_lines.specs.KindLines.{IsKindLine, answer_word, kind_word, reason_word, standing_words, words_behind};
+ghost use Rattle.list_lines.specs.KindLines.{IsKindLine, answer_word, sort_word, why_word, with_standing, with_word, words_behind};
 
-use crate::standing::{Standing, standing_of};
-use graph_core::{Kind, MultiGraph, Reason};
+use crate::standing::{Sort, Standing, Why, standing_of};
+use graph_core::MultiGraph;
 use graph6_text::write_graph6;
 use std::alloc::{AllocError as Memory, Global};
 
@@ -15,70 +16,82 @@ pub fn kind_line(alloc: Global, g: &MultiGraph) -> Result<Vec<u8>, Memory>
     ensures { IfOk result (λ line. IsKindLine g.now line.items) }
 {
     let standing = standing_of(alloc, g)?;
-    let words = words_behind(alloc, g.order(), g.size(), &standing)?;
+    let words = words_behind(alloc, g.order(), g.size(), standing)?;
     let mut line = write_graph6(alloc, g)?;
     line.extend_from_slice(words.as_bytes())?;
     Ok(line)
 }
 
 // The words behind the graph6 text.
-fn words_behind(
-    alloc: Global,
-    order: u32,
-    edges: u32,
-    standing: &Standing,
-) -> Result<String, Memory>
-    ensures { IfOk result (λ words. string_bytes words ≡ words_behind order edges standing.now) }
+fn words_behind(alloc: Global, order: u32, edges: u32, standing: Standing) -> Result<String, Memory>
+    ensures { IfOk result (λ words. string_bytes words ≡ words_behind order edges standing) }
 {
-    let mut words = format!(in alloc; " {order} {edges} ")?;
+    let mut words = String::new(alloc);
+    push_number(&mut words, order)?;
+    push_number(&mut words, edges)?;
     push_standing(&mut words, standing)?;
     words.push('\n')?;
     Ok(words)
 }
 
 // Appends the words on the standing of a graph.
-fn push_standing(words: &mut String, standing: &Standing) -> Result<(), Memory>
-    ensures { OnOk result (string_bytes words.new ≡ string_bytes words.old ++ standing_words standing.now) }
+fn push_standing(words: &mut String, standing: Standing) -> Result<(), Memory>
+    ensures { OnOk result (string_bytes words.new ≡ with_standing (string_bytes words.old) standing) }
 {
     match standing {
-        Standing::Uncovered { reason } => {
-            let reason = reason_word(reason);
-            write!(words, "uncovered {reason}")
+        Standing::Uncovered { why } => {
+            push_word(words, "uncovered")?;
+            push_word(words, why_word(why))
         }
         Standing::Covered {
-            kind,
-            tally,
+            sort,
+            bricks,
+            braces,
             bicritical,
         } => {
-            let kind = kind_word(kind);
-            let bricks = tally.bricks;
-            let braces = tally.braces;
-            let answer = answer_word(*bicritical);
-            write!(words, "{kind} {bricks} {braces} bicritical {answer}")
+            push_word(words, sort_word(sort))?;
+            push_number(words, bricks)?;
+            push_number(words, braces)?;
+            push_word(words, "bicritical")?;
+            push_word(words, answer_word(bicritical))
         }
     }
 }
 
-// The word of a reason.
-fn reason_word(reason: &Reason) -> &'static str
-    ensures { result.now ≡ reason_word reason.now }
+// Appends a word behind a space.
+fn push_word(words: &mut String, word: &str) -> Result<(), Memory>
+    ensures { OnOk result (string_bytes words.new ≡ with_word (string_bytes words.old) word.now) }
 {
-    match reason {
-        Reason::Small => "order",
-        Reason::Parted { .. } => "parts",
-        Reason::Unmatched { .. } => "berge",
-        Reason::Unallowed { .. } => "edge",
+    write!(words, " {word}")
+}
+
+// Appends a number behind a space.
+fn push_number(words: &mut String, number: u32) -> Result<(), Memory>
+    ensures { OnOk result (string_bytes words.new ≡ with_word (string_bytes words.old) (decimal number)) }
+{
+    write!(words, " {number}")
+}
+
+// The word of a reason.
+fn why_word(why: Why) -> &'static str
+    ensures { result.now ≡ why_word why }
+{
+    match why {
+        Why::Order => "order",
+        Why::Parts => "parts",
+        Why::Berge => "berge",
+        Why::Edge => "edge",
     }
 }
 
 // The word of a kind.
-fn kind_word(kind: &Kind) -> &'static str
-    ensures { result.now ≡ kind_word kind.now }
+fn sort_word(sort: Sort) -> &'static str
+    ensures { result.now ≡ sort_word sort }
 {
-    match kind {
-        Kind::Brace => "brace",
-        Kind::Brick => "brick",
-        Kind::Composite { .. } => "composite",
+    match sort {
+        Sort::Brace => "brace",
+        Sort::Brick => "brick",
+        Sort::Composite => "composite",
     }
 }
 

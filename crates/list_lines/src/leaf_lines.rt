@@ -1,16 +1,18 @@
 //! The lines of `leaves`.
 ghost use Rattle.std.specs.Prelude.{◌≡◌, ◌<◌, ◌++◌, IfOk, OnOk, Err, All, length, map, string_bytes};
 ghost use Rattle.graph_core.specs.Covered.{IsCovered};
+ghost use Rattle.graph_core.specs.Quotients.{quotient};
+ghost use Rattle.graph_core.specs.Simple.{IsSimple};
 ghost use Rattle.tree_core.specs.Derivations.{IsDerivation};
 ghost use Rattle.tree_core.specs.Leaves.{leaves};
 ghost use Rattle.tree_core.specs.View.{shape_of};
-ghost use Rattle.decomposer.specs.Picked.{IsPicked};
+ghost use Rattle.decomposer.specs.Choices.{FnPicks, PicksInRange};
 ghost use Rattle.report_text.specs.Tallies.{IsLeafKind};
-ghost use Rattle.list_lines.specs.LeafLines.{AreLeafLines, AreLinesOf, leaf_end, leaf_line, line_front};
-ghost use Rattle.list_lines.specs.Orders.{Picks};
+ghost use Rattle.list_lines.specs.LeafLines.{AreLeafLines, AreLinesOf, leaf_end, leaf_line, line_front, quotient_line};
+ghost use Rattle.list_lines.specs.Orders.{IsPickedTree, Picks};
 
 use crate::query::LeafOrder;
-use contraction::{Partition, quotient};
+use contraction::{Contracted, Partition, quotient};
 use decomposer::{Order, Refused, balanced_place, decompose, decompose_first, last_place};
 use graph_core::{MultiGraph, Sides};
 use graph6_text::write_graph6;
@@ -41,25 +43,50 @@ pub fn leaf_lines(
 
 // The derivation that the order picks.
 fn decomposed(alloc: Global, g: &MultiGraph, order: LeafOrder) -> Result<Tree, Refused>
-    ensures derivation { IfOk result (λ tree. IsDerivation g.now (shape_of tree)) }
-    ensures picked { IfOk result (λ tree. IsPicked (Picks order) g.now (shape_of tree)) }
+    ensures tree { IfOk result (λ tree. IsPickedTree (Picks order) g.now (shape_of tree)) }
     ensures uncovered { (r : _) → result ≡ Err (Refused.NotCovered r) → ¬ IsCovered g.now }
 {
     match order {
-        LeafOrder::First => decompose_first(alloc, g),
+        LeafOrder::First => decomposed_first(alloc, g),
         LeafOrder::Last => decomposed_last(alloc, g),
         LeafOrder::Balanced => decomposed_balanced(alloc, g),
     }
 }
 
+// The derivation for which the first candidates are picked. No other candidate is looked for.
+fn decomposed_first(alloc: Global, g: &MultiGraph) -> Result<Tree, Refused>
+    ensures tree { IfOk result (λ tree. IsPickedTree (Picks LeafOrder.First) g.now (shape_of tree)) }
+    ensures uncovered { (r : _) → result ≡ Err (Refused.NotCovered r) → ¬ IsCovered g.now }
+{
+    match decompose_first(alloc, g) {
+        Ok(tree) => Ok(tree),
+        Err(refused) => Err(refused),
+    }
+}
+
+// The derivation that any order picks.
+fn decomposed_in<F: Fn(&[Candidate], usize) -> usize>(
+    alloc: Global,
+    g: &MultiGraph,
+    order: &Order<F>,
+) -> Result<Tree, Refused>
+    requires { PicksInRange F.Fn order.now.f }
+    ensures tree { IfOk result (λ tree. IsPickedTree (FnPicks F.Fn order.now.f) g.now (shape_of tree)) }
+    ensures uncovered { (r : _) → result ≡ Err (Refused.NotCovered r) → ¬ IsCovered g.now }
+{
+    match decompose(alloc, g, order) {
+        Ok(tree) => Ok(tree),
+        Err(refused) => Err(refused),
+    }
+}
+
 // The derivation for which the last candidates are picked.
 fn decomposed_last(alloc: Global, g: &MultiGraph) -> Result<Tree, Refused>
-    ensures derivation { IfOk result (λ tree. IsDerivation g.now (shape_of tree)) }
-    ensures picked { IfOk result (λ tree. IsPicked (Picks LeafOrder.Last) g.now (shape_of tree)) }
+    ensures tree { IfOk result (λ tree. IsPickedTree (Picks LeafOrder.Last) g.now (shape_of tree)) }
     ensures uncovered { (r : _) → result ≡ Err (Refused.NotCovered r) → ¬ IsCovered g.now }
 {
     let order = Order::new(|list: &[Candidate], cuts: usize| last_place(list, cuts));
-    match decompose(alloc, g, &order) {
+    match decomposed_in(alloc, g, &order) {
         Ok(tree) => Ok(tree),
         Err(refused) => Err(refused),
     }
@@ -67,12 +94,11 @@ fn decomposed_last(alloc: Global, g: &MultiGraph) -> Result<Tree, Refused>
 
 // The derivation for which the first candidates are picked whose sides differ least in size.
 fn decomposed_balanced(alloc: Global, g: &MultiGraph) -> Result<Tree, Refused>
-    ensures derivation { IfOk result (λ tree. IsDerivation g.now (shape_of tree)) }
-    ensures picked { IfOk result (λ tree. IsPicked (Picks LeafOrder.Balanced) g.now (shape_of tree)) }
+    ensures tree { IfOk result (λ tree. IsPickedTree (Picks LeafOrder.Balanced) g.now (shape_of tree)) }
     ensures uncovered { (r : _) → result ≡ Err (Refused.NotCovered r) → ¬ IsCovered g.now }
 {
     let order = Order::new(|list: &[Candidate], cuts: usize| balanced_place(list, cuts));
-    match decompose(alloc, g, &order) {
+    match decomposed_in(alloc, g, &order) {
         Ok(tree) => Ok(tree),
         Err(refused) => Err(refused),
     }
@@ -122,16 +148,45 @@ fn push_leaf(
     ensures kind { IfOk result (λ kind. IsLeafKind g.now p.now.blocks kind) }
     ensures line { IfOk result (λ kind. lines.new.items ≡ lines.old.items ++ leaf_line front.now g.now p.now.blocks kind) }
 {
+    let q = leaf_quotient(alloc, g, p)?;
+    match q.graph().two_sides(alloc)? {
+        Sides::Even { .. } => {
+            push_line(alloc, lines, q.graph(), front, LeafKind::Brace)?;
+            Ok(LeafKind::Brace)
+        }
+        Sides::Odd { .. } => {
+            push_line(alloc, lines, q.graph(), front, LeafKind::Brick)?;
+            Ok(LeafKind::Brick)
+        }
+    }
+}
+
+// The quotient at a partition, a simple graph.
+#[tactic(auto, using(crate::proofs::SimpleQuotients::simple_quotient))]
+fn leaf_quotient(alloc: Global, g: &MultiGraph, p: &Partition) -> Result<Contracted, Memory>
+    requires { p.now.order ≡ g.now.order }
+    ensures graph { IfOk result (λ q. q.graph ≡ quotient g.now p.now.blocks) }
+    ensures simple { IfOk result (λ q. IsSimple q.graph) }
+{
     let q = quotient(alloc, g, p)?;
-    let kind = match q.graph().two_sides(alloc)? {
-        Sides::Even { .. } => LeafKind::Brace,
-        Sides::Odd { .. } => LeafKind::Brick,
-    };
-    let text = write_graph6(alloc, q.graph())?;
+    Ok(q)
+}
+
+// Appends the line of a leaf of this kind with this quotient.
+fn push_line(
+    alloc: Global,
+    lines: &mut Vec<u8>,
+    q: &MultiGraph,
+    front: &str,
+    kind: LeafKind,
+) -> Result<(), Memory>
+    requires { IsSimple q.now }
+    ensures { OnOk result (lines.new.items ≡ lines.old.items ++ quotient_line front.now q.now kind) }
+{
+    let text = write_graph6(alloc, q)?;
     lines.extend_from_slice(front.as_bytes())?;
     lines.extend_from_slice(&text)?;
-    lines.extend_from_slice(leaf_end(kind).as_bytes())?;
-    Ok(kind)
+    lines.extend_from_slice(leaf_end(kind).as_bytes())
 }
 
 // The end of the line of a leaf of this kind.

@@ -16,8 +16,8 @@ mod leaf_lines;
 mod query;
 mod selecting;
 mod standing;
-mod tell;
+mod telling;
 
 pub use query::{LeafOrder, Property, Query};
-pub use standing::Standing;
-pub use tell::{Told, tell};
+pub use standing::{Sort, Standing, Why};
+pub use telling::{Told, tell};

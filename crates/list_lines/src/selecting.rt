@@ -3,9 +3,8 @@ ghost use Rattle.std.specs.Prelude.{◌≡◌, IfOk};
 ghost use Rattle.list_lines.specs.Selecting.{Decides, IsSelected, TellsKind, TellsTally};
 
 use crate::query::Property;
-use crate::standing::counted;
-use allowed_edges::covered;
-use graph_core::{Kind, MultiGraph, Verdict};
+use crate::standing::{counted, is_covered};
+use graph_core::{Kind, MultiGraph};
 use leaf_kinds::kind;
 use report_text::Tally;
 use separation_kit::{first_pairs_law, not_bicritical};
@@ -38,17 +37,6 @@ fn has_property(alloc: Global, g: &MultiGraph, property: Property) -> Result<boo
         Property::Bicritical => is_bicritical(alloc, g),
         Property::Composite => is_composite(alloc, g),
         Property::Bricks { count } => has_bricks(alloc, g, count),
-    }
-}
-
-// Whether the graph is matching covered.
-fn is_covered(alloc: Global, g: &MultiGraph) -> Result<bool, Memory>
-    ensures { IfOk result (Decides g.now Property.Covered) }
-{
-    g.keeps_limits();
-    match covered(alloc, g)? {
-        Verdict::Covered => Ok(true),
-        Verdict::NotCovered(_) => Ok(false),
     }
 }
 
