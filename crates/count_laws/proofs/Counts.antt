@@ -48,7 +48,7 @@ module _ (g : Graph) (is : IsGraph g) (s t : Shape) (ds : IsDerivation g s) (dt 
       let j = (map_at maps i).to in
       same_kind g is (leaf_at (leaves g.order s) i) (leaf_at (leaves g.order t) j) (map_at maps i).images
       (partitions-leaves g s ds (i - 1) [] (omega arith)) (partitions-leaves g t dt (j - 1) [] (omega arith)) (pairs.same i wp)
-      (kind_at ks (i - 1)) (kind_at ls (j - 1)) (firsts.right (i - 1) (omega arith)) (seconds.right (j - 1) (omega arith))
+      (kind_at ks i) (kind_at ls j) (firsts.right i wp) (seconds.right j wq)
 
   pub same_tallies : tally_of ks ≡ tally_of ls
   same_tallies =

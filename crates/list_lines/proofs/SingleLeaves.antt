@@ -12,7 +12,8 @@ use Rattle.leaf_kinds.specs.LeafKinds.{HasNoTightCut, IsKind}
 use Rattle.tree_core.proofs.DerivationShores.{nontrivial-vertices}
 use Rattle.tree_core.specs.Derivations.{IsDerivation, IsLeafAt}
 use Rattle.tree_core.specs.Shapes.{leaf}
-use Rattle.report_text.specs.Tallies.{AreLeafKinds, IsLeafKind, IsTally, kind_at, leaf_at, tally_of}
+use Rattle.tree_core.specs.LeafMaps.{leaf_at}
+use Rattle.report_text.specs.Tallies.{AreLeafKinds, IsLeafKind, IsTally, kind_at, tally_of}
 use Rattle.report_text.specs.declared.tallies.LeafKind.{LeafKind}
 use Rattle.report_text.specs.declared.tallies.LeafKind.TheVariants as of_leaf
 use Rattle.list_lines.specs.Standings.{IsCounted}
@@ -27,7 +28,7 @@ uncut_leaf g is uncut x t some =
 one_kind : (g : Graph) (p : List (List ℕ)) (kind : LeafKind) → IsLeafKind g p kind → AreLeafKinds g (p ∷ []) (kind ∷ [])
 one_kind g p kind is = record {
   each_one = refl;
-  right = λ k l. let z : 0 ≡ k = omega arith in subst (λ (j : ℕ). IsLeafKind g (leaf_at (p ∷ []) j) (kind_at (kind ∷ []) j)) z is;
+  right = λ i w. let only : 1 ≡ i = omega arith in subst (λ (j : ℕ). IsLeafKind g (leaf_at (p ∷ []) j) (kind_at (kind ∷ []) j)) only is;
 }
 
 one_leaf : (g : Graph) (kind : LeafKind) → IsMultigraph g → IsCovered g → HasNoTightCut g → IsLeafKind g (singles g.order) kind → IsCounted g (tally_of (kind ∷ []))
