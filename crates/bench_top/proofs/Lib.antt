@@ -15,9 +15,14 @@ pub mod ScriptReplays
 pub mod ReadNames
 pub mod ReadsMade
 pub mod ReadGraphs
+pub mod ReadSimpleGraphs
 pub mod Settled
 pub mod LoadedGraphs
 pub mod Completeness
+pub mod AlikeTexts
+pub mod AlikeReasons
+pub mod AlikeAnalyses
+pub mod AlikeRefusals
 pub mod OneOutput
 pub mod TextsStand
 pub mod WrittenBack

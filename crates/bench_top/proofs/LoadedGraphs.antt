@@ -2,6 +2,8 @@
 use Rattle.std.proofs.Common.{ℕ, Bool, true, false, cond, nat_lt, List, length, Option, Some, None, Result, Ok, Err}
 use Rattle.outside.specs.Shelf.{Named, file_named}
 use Rattle.line_text.specs.Reading.{reading_of}
+use Rattle.graph6_text.specs.Reading.{outcome_of}
+use Rattle.graph_core.specs.Graph.{IsMultigraph}
 use Rattle.graph_core.specs.declared.faults.FaultKind.{FaultKind}
 use Rattle.graph_text.specs.EitherVersion.{NamedGraph, either_version}
 use Rattle.tree_core.specs.Moves.{PlainMove}
@@ -11,6 +13,7 @@ use Rattle.bench_top.specs.Loading.{Loaded, All, Bad, Absent, and_then, ear_file
 use Rattle.bench_top.specs.Tasks.{Task}
 use Rattle.bench_top.specs.Tasks as task
 use Rattle.bench_top.proofs.ReadGraphs.{GoesOn, HasGraph, IsRead, read-graph}
+use Rattle.bench_top.proofs.ReadSimpleGraphs.{read-simple_graph}
 use Rattle.bench_top.proofs.Settled.{KeepsGraph}
 
 -- the fact holds of what is held, if all is held and good
@@ -50,6 +53,10 @@ read-holds {A} P place reading (Some bytes) goes = at (nat_lt most_bytes (length
 pub graph-holds : (files : List Named) (name : List ℕ) → Holds HasGraph (graph_file files name)
 graph-holds files name = read-holds HasGraph 1 (reading_of either_version) (file_named name files) read-graph
 
+-- the same of a graph6 text
+graph6-holds : (files : List Named) (name : List ℕ) → Holds IsMultigraph (graph6_file files name)
+graph6-holds files name = read-holds IsMultigraph 1 outcome_of (file_named name files) read-simple_graph
+
 abbrev TreeHasGraph : NamedGraph × Shape → Type 0
 TreeHasGraph given = IsRead given.0.graph
 
@@ -76,9 +83,10 @@ moves_given-holds files graph tree moves =
 
 -- what a command works on
 pub loaded-graph : (files : List Named) (command : Command) → Holds KeepsGraph (loaded files command)
-loaded-graph files (Analyse graph) = as-holds Anything KeepsGraph task.Analyse (graph_file files graph) (λ named any. tt) (any-holds (graph_file files graph))
+loaded-graph files (Analyse graph) =
+    as-holds HasGraph KeepsGraph task.Analyse (graph_file files graph) (λ named is. record { ends = is.ends; no_loop = is.no_loop }) (graph-holds files graph)
 loaded-graph files (Convert graph) = as-holds Anything KeepsGraph task.Convert (graph_file files graph) (λ named any. tt) (any-holds (graph_file files graph))
-loaded-graph files (Analyse6 graph) = as-holds Anything KeepsGraph task.Analyse6 (graph6_file files graph) (λ g any. tt) (any-holds (graph6_file files graph))
+loaded-graph files (Analyse6 graph) = as-holds IsMultigraph KeepsGraph task.Analyse6 (graph6_file files graph) (λ g is. is) (graph6-holds files graph)
 loaded-graph files (Decompose graph order) = as-holds Anything KeepsGraph (λ named. task.Decompose named order) (graph_file files graph) (λ named any. tt) (any-holds (graph_file files graph))
 loaded-graph files (DecomposeBy graph picks) =
     then-holds Anything KeepsGraph (graph_file files graph) (λ named. loaded_as (task.DecomposeBy named) (pick_file files picks)) (any-holds (graph_file files graph))

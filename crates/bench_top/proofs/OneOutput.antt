@@ -1,12 +1,13 @@
 -- A task that is done has one output, where its text is not free. An order picks one tree: at each node it picks one place, and there stands
--- one candidate. The kinds of the leaves are determined, since a quotient is bipartite or not, and so are their counts.
-use Rattle.std.proofs.Common.{◌≡◌, ◌∙◌, ℕ, ◌+◌, ◌-◌, ◌<◌, ◌≤◌, List, [], ◌∷◌, length, map, true, Option, Some, None, ◌⊎◌, inl, inr, refl, sym, subst, ap, arith, suc, get_or, slice_get, option_map}
+-- one candidate. The kinds of the leaves are determined, since a quotient is bipartite or not, and so are their counts. What an analysis or a
+-- refusal leaves free is one list of numbers.
+use Rattle.std.proofs.Common.{◌≡◌, ◌∙◌, ℕ, ◌+◌, ◌-◌, ◌<◌, ◌≤◌, List, [], ◌∷◌, length, map, true, false, Option, Some, None, ◌⊎◌, inl, inr, refl, sym, subst, ap, arith, slice_get, option_map, suc, get_or}
 use Rattle.std.proofs.lemmas.Bool.{cases_lt}
 use Rattle.std.proofs.lemmas.List.{ext_get_or, length-map}
 use Rattle.counting.specs.Counts.{Within}
 use Rattle.std.proofs.lemmas.Option.{none-some, same_Some, slice_get-map}
 use Rattle.outside.specs.Shelf.{Named}
-use Rattle.graph_core.specs.Graph.{Graph}
+use Rattle.graph_core.specs.Graph.{Graph, IsMultigraph}
 use Rattle.graph_core.specs.Partitions.{singles}
 use Rattle.graph_text.specs.EitherVersion.{NamedGraph}
 use Rattle.tight_cuts.specs.Candidates.{Candidate}
@@ -23,9 +24,12 @@ use Rattle.tree_core.specs.Moves.{PlainMove}
 use Rattle.tree_core.specs.Shapes.{Shape, leaf, cut, cut_count}
 use Rattle.tree_check.proofs.ReplayAnswers.{last-once}
 use Rattle.tree_text.specs.Writing.{tree_text}
+use Rattle.graph6_text.specs.Writing.{graph6_of}
+use Rattle.report_text.specs.Analyses.{analysis_text}
 use Rattle.report_text.specs.Derivations.{derivation_text}
 use Rattle.report_text.specs.Growths.{grown_text}
 use Rattle.report_text.specs.Judgements.{judgement_text}
+use Rattle.report_text.specs.Reports.{graph6_line}
 use Rattle.report_text.specs.Scripts.{replayed_text}
 use Rattle.report_text.specs.Tallies.{AreLeafKinds, IsLeafKind, IsTally, kind_at, tally_of}
 use Rattle.report_text.specs.declared.judgements.TreeLine.TheVariants as line
@@ -37,17 +41,21 @@ use Rattle.grow_gen.specs.Growth.{grown}
 use Rattle.bench_top.specs.Checks.{CheckGives, Refuses}
 use Rattle.bench_top.specs.Commands.{Command, command_of}
 use Rattle.bench_top.specs.EarChecks.{EarCheckGives}
-use Rattle.bench_top.specs.Fixed.{HasOneOutput}
+use Rattle.bench_top.specs.Fixed.{DifferAtMostIn, HasChosenText, HasOneOutput, MayBeBerge, MayShow, ShowsNothingFree}
 use Rattle.bench_top.specs.Growths.{Grown, IsCounted}
 use Rattle.bench_top.specs.Loading.{Loaded, All, Bad, Absent, loaded}
 use Rattle.bench_top.specs.Orders.{NamedPicks, PicksBalanced, ScriptPicks}
-use Rattle.bench_top.specs.Outcome.{CommandGives, DecomposeGives, LoadedGives, Outcome, ResultOf, TellsDerivation, with_given_names}
+use Rattle.bench_top.specs.Outcome.{Analysed, Analysed6, CommandGives, DecomposeGives, LoadedGives, Outcome, ResultOf, TellsDerivation, with_given_names}
 use Rattle.bench_top.specs.Replays.{ReplayGives, ReplayedTree}
 use Rattle.bench_top.specs.Tasks.{Task}
 use Rattle.bench_top.specs.Tasks as task
 use Rattle.bench_top.specs.declared.order.NamedOrder.{NamedOrder}
 use Rattle.bench_top.specs.declared.order.NamedOrder.TheVariants.{First, Last, Balanced}
+use Rattle.bench_top.specs.declared.status.Status.{Status}
 use Rattle.bench_top.specs.declared.status.Status.TheVariants.{Done, Negative, BadInput}
+use Rattle.bench_top.proofs.AlikeAnalyses.{analyses-alike}
+use Rattle.bench_top.proofs.AlikeRefusals.{refused-alike}
+use Rattle.bench_top.proofs.AlikeTexts.{alike-along, alike-none, graph6-alike, named-alike}
 use Rattle.bench_top.proofs.LoadedGraphs.{Holds, loaded-graph}
 use Rattle.bench_top.proofs.Settled.{KeepsGraph, settled}
 
@@ -206,28 +214,88 @@ grow-once seed pieces output other one two =
     ∙ ap (grown_text (graph_text g) two.first two.last) pairs
     ∙ sym two.text
 
+-- the lines of an analysis
+analysed-alike : (named : NamedGraph) → IsMultigraph named.graph → (output other : List ℕ) → Analysed named Done output → Analysed named Done other → DifferAtMostIn (MayBeBerge named.graph) output other
+analysed-alike named is output other one two =
+    alike-along (MayBeBerge named.graph) output other (with_given_names (analysis_text one.lines) named.names false) (with_given_names (analysis_text two.lines) named.names false) one.text two.text
+    (given-alike named.names (analyses-alike named.graph is one.lines two.lines one.right two.right))
+  where
+    given-alike : (names : Option (List (List ℕ))) → DifferAtMostIn (MayBeBerge named.graph) (analysis_text one.lines) (analysis_text two.lines) →
+        DifferAtMostIn (MayBeBerge named.graph) (with_given_names (analysis_text one.lines) names false) (with_given_names (analysis_text two.lines) names false)
+    given-alike None alike = alike
+    given-alike (Some names) alike = named-alike (MayBeBerge named.graph) names (analysis_text one.lines) (analysis_text two.lines) alike
+
+analysed6-alike : (g : Graph) → IsMultigraph g → (output other : List ℕ) → Analysed6 g Done output → Analysed6 g Done other → DifferAtMostIn (MayBeBerge g) output other
+analysed6-alike g is output other one two =
+    alike-along (MayBeBerge g) output other (graph6_line (analysis_text one.lines) (graph6_of g)) (graph6_line (analysis_text two.lines) (graph6_of g)) one.text two.text
+    (graph6-alike (MayBeBerge g) (graph6_of g) (analysis_text one.lines) (analysis_text two.lines) (analyses-alike g is one.lines two.lines one.right two.right))
+
 -- each task whose text is not free
-task-once : (t : Task) → HasOneOutput t → (output other : List ℕ) → ResultOf t Done output → ResultOf t Done other → output ≡ other
-task-once (task.Analyse named) fixed output other one two = absurd fixed
-task-once (task.Convert named) fixed output other one two = one.text ∙ sym two.text
-task-once (task.Analyse6 g) fixed output other one two = absurd fixed
-task-once (task.Decompose named order) fixed output other one two = decompose-once (NamedPicks order) (named-once order) named output other one two
-task-once (task.DecomposeBy named picks) fixed output other one two = decompose-once (ScriptPicks picks) (script-once picks) named output other one two
-task-once (task.Check named tree) fixed output other one two = check-once named.graph tree output other one two
-task-once (task.CheckEars named list) fixed output other one two = ears-once named.graph list output other one two
-task-once (task.Ears named) fixed output other one two = absurd fixed
-task-once (task.Replay named tree moves) fixed output other one two =
+task-once : (t : Task) → KeepsGraph t → HasOneOutput t → (output other : List ℕ) → ResultOf t Done output → ResultOf t Done other → output ≡ other
+task-once (task.Analyse named) is fixed output other one two =
+    alike-none (MayBeBerge named.graph) output other fixed (analysed-alike named is output other one two)
+task-once (task.Convert named) is fixed output other one two = one.text ∙ sym two.text
+task-once (task.Analyse6 g) is fixed output other one two = alike-none (MayBeBerge g) output other fixed (analysed6-alike g is output other one two)
+task-once (task.Decompose named order) is fixed output other one two = decompose-once (NamedPicks order) (named-once order) named output other one two
+task-once (task.DecomposeBy named picks) is fixed output other one two = decompose-once (ScriptPicks picks) (script-once picks) named output other one two
+task-once (task.Check named tree) is fixed output other one two = check-once named.graph tree output other one two
+task-once (task.CheckEars named list) is fixed output other one two = ears-once named.graph list output other one two
+task-once (task.Ears named) is fixed output other one two = absurd fixed
+task-once (task.Replay named tree moves) is fixed output other one two =
     replay-once named.graph tree moves output other (replay-tree named.graph tree moves output one) (replay-tree named.graph tree moves other two)
-task-once (task.Compare named first second) fixed output other one two = absurd fixed
-task-once (task.Script named first second) fixed output other one two = absurd fixed
-task-once (task.Grow seed pieces) fixed output other one two = grow-once seed pieces output other one two
+task-once (task.Compare named first second) is fixed output other one two = absurd fixed
+task-once (task.Script named first second) is fixed output other one two = absurd fixed
+task-once (task.Grow seed pieces) is fixed output other one two = grow-once seed pieces output other one two
+
+-- each task that is done, but for a chosen text
+done-alike : (t : Task) → KeepsGraph t → (HasChosenText t → ⊥) → (output other : List ℕ) → ResultOf t Done output → ResultOf t Done other → DifferAtMostIn (MayShow t) output other
+done-alike (task.Analyse named) is free output other one two = analysed-alike named is output other one two
+done-alike (task.Convert named) is free output other one two = inl (task-once (task.Convert named) is tt output other one two)
+done-alike (task.Analyse6 g) is free output other one two = analysed6-alike g is output other one two
+done-alike (task.Decompose named order) is free output other one two = inl (task-once (task.Decompose named order) is tt output other one two)
+done-alike (task.DecomposeBy named picks) is free output other one two = inl (task-once (task.DecomposeBy named picks) is tt output other one two)
+done-alike (task.Check named tree) is free output other one two = inl (task-once (task.Check named tree) is tt output other one two)
+done-alike (task.CheckEars named list) is free output other one two = inl (task-once (task.CheckEars named list) is tt output other one two)
+done-alike (task.Ears named) is free output other one two = absurd (free tt)
+done-alike (task.Replay named tree moves) is free output other one two = inl (task-once (task.Replay named tree moves) is tt output other one two)
+done-alike (task.Compare named first second) is free output other one two = absurd (free tt)
+done-alike (task.Script named first second) is free output other one two = absurd (free tt)
+done-alike (task.Grow seed pieces) is free output other one two = inl (task-once (task.Grow seed pieces) is tt output other one two)
+
+-- each task
+task-alike : (t : Task) → KeepsGraph t → (status : Status) → (HasChosenText t → status ≡ Negative) → (output other : List ℕ) → ResultOf t status output → ResultOf t status other → DifferAtMostIn (MayShow t) output other
+task-alike t is status free output other one two = elim (settled t is status output one) [
+  | inl done ↦
+      done-alike t is (λ chosen. let refused = free chosen in let no : Done ≡ Negative = sym done.0 ∙ refused in cc no) output other
+      (subst (λ (s : Status). ResultOf t s output) done.0 one) (subst (λ (s : Status). ResultOf t s other) done.0 two)
+  | inr refused ↦
+      refused-alike t is output other (subst (λ (s : Status). ResultOf t s output) refused.0 one) (subst (λ (s : Status). ResultOf t s other) refused.0 two)
+]
+
+-- good files give what their task gives
+gives-task : (words : List (List ℕ)) (files : List Named) (command : Command) (t : Task) (status : Status) (output : List ℕ) →
+    command_of words ≡ Some command → loaded files command ≡ All t → Outcome words files status output → ResultOf t status output
+gives-task words files command t status output row held outcome =
+    subst (λ (h : Loaded Task). LoadedGives h status output) held (subst (λ (c : Option Command). CommandGives files c status output) row outcome)
+
+keeps-task : (files : List Named) (command : Command) (t : Task) → loaded files command ≡ All t → KeepsGraph t
+keeps-task files command t held = subst (Holds KeepsGraph) held (loaded-graph files command)
 
 pub output-once : (words : List (List ℕ)) (files : List Named) (command : Command) (t : Task) (output other : List ℕ) →
     command_of words ≡ Some command → loaded files command ≡ All t → HasOneOutput t → Outcome words files Done output → Outcome words files Done other → output ≡ other
-output-once words files command t output other row held fixed one two = task-once t fixed output other (gives output one) (gives other two)
-  where
-    gives : (o : List ℕ) → Outcome words files Done o → ResultOf t Done o
-    gives o done = subst (λ (h : Loaded Task). LoadedGives h Done o) held (subst (λ (c : Option Command). CommandGives files c Done o) row done)
+output-once words files command t output other row held fixed one two =
+    task-once t (keeps-task files command t held) fixed output other (gives-task words files command t Done output row held one) (gives-task words files command t Done other row held two)
+
+pub refusal-once : (words : List (List ℕ)) (files : List Named) (command : Command) (t : Task) (output other : List ℕ) →
+    command_of words ≡ Some command → loaded files command ≡ All t → ShowsNothingFree t → Outcome words files Negative output → Outcome words files Negative other → output ≡ other
+refusal-once words files command t output other row held nothing one two =
+    alike-none (MayShow t) output other nothing
+    (refused-alike t (keeps-task files command t held) output other (gives-task words files command t Negative output row held one) (gives-task words files command t Negative other row held two))
+
+pub outputs-alike : (words : List (List ℕ)) (files : List Named) (command : Command) (t : Task) (status : Status) (output other : List ℕ) →
+    command_of words ≡ Some command → loaded files command ≡ All t → (HasChosenText t → status ≡ Negative) → Outcome words files status output → Outcome words files status other → DifferAtMostIn (MayShow t) output other
+outputs-alike words files command t status output other row held free one two =
+    task-alike t (keeps-task files command t held) status free output other (gives-task words files command t status output row held one) (gives-task words files command t status other row held two)
 
 -- a bad file is named by one line
 held-bad : (held : Loaded Task) (output other : List ℕ) → Holds KeepsGraph held → LoadedGives held BadInput output → LoadedGives held BadInput other → output ≡ other

@@ -1,14 +1,15 @@
--- The graph that a text stands for is a graph within the limits: each end of each edge is a vertex. What has been read so far keeps this
--- from line to line, and has no more names than vertices, so that the vertex of a name is one of the graph.
-use Rattle.std.proofs.Common.{◌≡◌, ℕ, zero, suc, ◌+◌, ◌-◌, ◌<◌, ◌≤◌, ◌==◌, ◌&&◌, ◌||◌, not, nat_lt, Bool, true, false, cond, if◌then◌else◌, List, [], ◌∷◌, ◌++◌, length, Option, Some, None, Result, Ok, Err, refl, sym, subst, arith, length-append}
+-- The graph that a text stands for is a multigraph within the limits: the ends of each edge are vertices, and differ. What has been read
+-- so far keeps this from line to line, and has no more names than vertices, so that the vertex of a name is one of the graph.
+use Rattle.std.proofs.Common.{◌≡◌, ◌≢◌, ◌∙◌, ℕ, zero, suc, ◌+◌, ◌-◌, ◌<◌, ◌≤◌, ◌==◌, ◌&&◌, ◌||◌, not, nat_lt, Bool, true, false, cond, if◌then◌else◌, List, [], ◌∷◌, ◌++◌, length, Option, Some, None, Result, Ok, Err, refl, sym, subst, arith, length-append}
 use Rattle.std.specs.Prelude.{codes, slice_index_or}
 use Rattle.std.specs.List.{AllByRecursion, list_any, position_or_len}
 use Rattle.std.specs.Result.{result_map_both}
 use Rattle.std.specs.Str.{bytes_eq}
-use Rattle.std.proofs.lemmas.Bool.{and_parts, ltb-false, ltb-true, or_parts, true≢false}
+use Rattle.std.proofs.lemmas.Bool.{and_parts, both_ways, eqb-false, ltb-false, ltb-true, or_parts, true≢false}
 use Rattle.std.proofs.lemmas.Bool.Decides.{nat_tests}
+use Rattle.std.proofs.lemmas.Slice.Eq.{bytes_eq-Decides}
 use Rattle.counting.specs.Counts.{Within}
-use Rattle.graph_core.specs.Graph.{Graph, IsGraph, size}
+use Rattle.graph_core.specs.Graph.{Graph, HasNoLoop, IsGraph, IsMultigraph, size}
 use Rattle.graph_core.specs.declared.faults.FaultKind.{FaultKind}
 use Rattle.graph_core.specs.declared.faults.FaultKind.TheVariants as kind
 use Rattle.line_text.specs.Format.{checked, finish, step}
@@ -22,21 +23,28 @@ use Rattle.graph_text.specs.EitherVersion.{EitherSoFar, NamedGraph, either_heade
 use Rattle.graph_text.specs.GraphLines.{GraphSoFar, edge_line, graph_end, graph_line}
 use Rattle.graph_text.specs.Names.{is_among, is_name, vertex_of}
 
--- each pair is one of vertices
+-- the two are different vertices
+abbrev JoinsTwo : ℕ → ℕ × ℕ → Type 0
+JoinsTwo n pair = Within n pair.0 × Within n pair.1 × (pair.0 ≢ pair.1)
+
+-- each pair is one of different vertices
 abbrev AreEnds : ℕ → List (ℕ × ℕ) → Type 0
-AreEnds n ends = AllByRecursion (λ pair. Within n pair.0 × Within n pair.1) ends
+AreEnds n ends = AllByRecursion (JoinsTwo n) ends
 
-ends-more : (n : ℕ) (ends : List (ℕ × ℕ)) (a b : ℕ) → AreEnds n ends → Within n a → Within n b → AreEnds n (ends ++ (a, b) ∷ [])
-ends-more n [] a b each left right = ((left, right), tt)
-ends-more n (pair ∷ ends) a b each left right = (each.0, ends-more n ends a b each.1 left right)
+ends-more : (n : ℕ) (ends : List (ℕ × ℕ)) (a b : ℕ) → AreEnds n ends → JoinsTwo n (a, b) → AreEnds n (ends ++ (a, b) ∷ [])
+ends-more n [] a b each joins = (joins, tt)
+ends-more n (pair ∷ ends) a b each joins = (each.0, ends-more n ends a b each.1 joins)
 
-ends-at : (n : ℕ) (ends : List (ℕ × ℕ)) (i : ℕ) → AreEnds n ends → i < length ends → Within n (slice_index_or ends i (0, 0)).0 × Within n (slice_index_or ends i (0, 0)).1
+ends-at : (n : ℕ) (ends : List (ℕ × ℕ)) (i : ℕ) → AreEnds n ends → i < length ends → JoinsTwo n (slice_index_or ends i (0, 0))
 ends-at n [] i each less = absurd (omega arith)
 ends-at n (pair ∷ ends) zero each less = each.0
 ends-at n (pair ∷ ends) (suc i) each less = ends-at n ends i each.1 (omega arith)
 
-ends-graph : (g : Graph) → AreEnds g.order g.ends → IsGraph g
-ends-graph g each e within = ends-at g.order g.ends (e - 1) each (omega arith)
+ends-graph : (g : Graph) → AreEnds g.order g.ends → IsMultigraph g
+ends-graph g each = record {
+  ends = λ e within. let pair = ends-at g.order g.ends (e - 1) each (omega arith) in (pair.0, pair.1);
+  no_loop = λ e within. let pair = ends-at g.order g.ends (e - 1) each (omega arith) in pair.2;
+}
 
 -- there are no more names than vertices
 abbrev NamesFit : ℕ → Option (List (List ℕ)) → Type 0
@@ -96,6 +104,21 @@ place-among (name ∷ names) word is = go (bytes_eq word name) is (place-among n
 vertex-within : (n : ℕ) (names : List (List ℕ)) (word : List ℕ) → length names ≤ n → is_among names word ≡ true → Within n (vertex_of names word)
 vertex-within n names word fits is = let less = place-among names word is in (omega arith, omega arith)
 
+-- two different names have different places
+places-differ : (names : List (List ℕ)) (x y : List ℕ) → is_among names x ≡ true → is_among names y ≡ true → bytes_eq x y ≡ false → position_or_len (bytes_eq x) names ≡ position_or_len (bytes_eq y) names → ⊥
+places-differ [] x y one two other same = true≢false (sym one)
+places-differ (name ∷ names) x y one two other same = go (bytes_eq x name) (bytes_eq y name) refl refl one two same (places-differ names x y)
+  where
+    go : (b c : Bool) → bytes_eq x name ≡ b → bytes_eq y name ≡ c → (b || is_among names x) ≡ true → (c || is_among names y) ≡ true → cond (not b) (1 + position_or_len (bytes_eq x) names) 0 ≡ cond (not c) (1 + position_or_len (bytes_eq y) names) 0 →
+        (is_among names x ≡ true → is_among names y ≡ true → bytes_eq x y ≡ false → position_or_len (bytes_eq x) names ≡ position_or_len (bytes_eq y) names → ⊥) → ⊥
+    go true true e f first second at later = both_ways (bytes_eq x y) other ((bytes_eq-Decides x y).1 ((bytes_eq-Decides x name).0 e ∙ sym ((bytes_eq-Decides y name).0 f)))
+    go true false e f first second at later = omega arith
+    go false true e f first second at later = omega arith
+    go false false e f first second at later = later first second other (omega arith)
+
+vertices-differ : (names : List (List ℕ)) (x y : List ℕ) → is_among names x ≡ true → is_among names y ≡ true → bytes_eq x y ≡ false → vertex_of names x ≢ vertex_of names y
+vertices-differ names x y one two other = λ same. places-differ names x y one two other (omega arith)
+
 -- an edge between numbered vertices
 edge-kept : (body : GraphSoFar) (words : List (List ℕ)) → KeepsEnds body → GoesOn KeepsEnds (edge_line body words)
 edge-kept body words kept =
@@ -107,7 +130,11 @@ edge-kept body words kept =
     (record body { graph = record body.graph { ends = body.graph.ends ++ (a, b) ∷ [] } })
     (λ passed.
     let parts = or_parts (is_out_of_range n a) (is_out_of_range n b) passed.1.1.0 in
-    record { each = ends-more n body.graph.ends a b kept.each (in_range n a parts.0) (in_range n b parts.1); vertices = kept.vertices; edges = kept.edges })
+    record {
+      each = ends-more n body.graph.ends a b kept.each (in_range n a parts.0, in_range n b parts.1, eqb-false a b passed.1.1.1.0);
+      vertices = kept.vertices;
+      edges = kept.edges;
+    })
 
 plain-kept : (body : GraphSoFar) (words : List (List ℕ)) → KeepsEnds body → GoesOn KeepsEnds (graph_line body words)
 plain-kept body words each = goes-unless KeepsEnds (size body.graph == body.edges) kind.Extra (edge_line body words) (edge-kept body words each)
@@ -131,7 +158,8 @@ named_edge-kept body names words kept fits =
     (λ passed.
     let both = and_parts (is_among names x) (is_among names y) (not-false (is_among names x && is_among names y) passed.1.0) in (
       record {
-        each = ends-more n body.graph.ends (vertex_of names x) (vertex_of names y) kept.each (vertex-within n names x fits both.0) (vertex-within n names y fits both.1);
+        each = ends-more n body.graph.ends (vertex_of names x) (vertex_of names y) kept.each
+            (vertex-within n names x fits both.0, vertex-within n names y fits both.1, vertices-differ names x y both.0 both.1 passed.1.1.0);
         vertices = kept.vertices;
         edges = kept.edges;
       },
@@ -181,6 +209,7 @@ step-kept (Some s) words kept = behind-kept s.so_far s.names words kept.0 kept.1
 -- the graph at the end
 pub record IsRead (g : Graph) : Type 0 where
   pub ends : IsGraph g
+  pub no_loop : HasNoLoop g
   pub vertices : g.order ≤ 128
   pub edges : size g ≤ 2048
 
@@ -188,7 +217,7 @@ abbrev pub HasGraph : NamedGraph → Type 0
 HasGraph named = IsRead named.graph
 
 is-read : (body : GraphSoFar) → KeepsEnds body → (size body.graph == body.edges) ≡ true → IsRead body.graph
-is-read body kept full = record { ends = ends-graph body.graph kept.each; vertices = kept.vertices; edges = let few = kept.edges in grind (arith, nat_tests, few) }
+is-read body kept full = let is = ends-graph body.graph kept.each in record { ends = is.ends; no_loop = is.no_loop; vertices = kept.vertices; edges = let few = kept.edges in grind (arith, nat_tests, few) }
 
 goes-where : {A : Type 0} (P : A → Type 0) (b : Bool) (value : A) → (b ≡ true → P value) → GoesOn P (cond b (Ok value) (Err kind.Missing))
 goes-where P true value is = is refl

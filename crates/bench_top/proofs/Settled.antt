@@ -2,7 +2,7 @@
 -- derivation, a refused list no ear list, and moves that fail lead through no derivations to a last tree.
 use Rattle.std.proofs.Common.{◌≡◌, ◌∙◌, ℕ, List, [], ◌∷◌, Option, Some, None, ◌⊎◌, inl, inr, refl, sym, subst}
 use Rattle.std.proofs.lemmas.Option.{none-some, same_Some}
-use Rattle.graph_core.specs.Graph.{Graph, IsGraph}
+use Rattle.graph_core.specs.Graph.{Graph, IsGraph, IsMultigraph}
 use Rattle.counting.specs.Sets.{singleton}
 use Rattle.tree_core.specs.Derivations.{IsDerivation}
 use Rattle.tree_core.specs.Moves.{PlainMove, TurnsThrough, move_result}
@@ -28,11 +28,11 @@ use Rattle.bench_top.specs.declared.status.Status.TheVariants.{Done, Negative}
 abbrev pub Settles : Type 0 → Status → Type 0
 Settles fact status = ((status ≡ Done) × fact) ⊎ ((status ≡ Negative) × (fact → ⊥))
 
--- the graph of a task is one
+-- the graph of a task is one, and where its structure is told it has no loops
 abbrev pub KeepsGraph : Task → Type 0
-KeepsGraph (task.Analyse named) = Unit {0}
+KeepsGraph (task.Analyse named) = IsMultigraph named.graph
 KeepsGraph (task.Convert named) = Unit {0}
-KeepsGraph (task.Analyse6 g) = Unit {0}
+KeepsGraph (task.Analyse6 g) = IsMultigraph g
 KeepsGraph (task.Decompose named order) = Unit {0}
 KeepsGraph (task.DecomposeBy named picks) = Unit {0}
 KeepsGraph (task.Check named tree) = IsGraph named.graph
@@ -65,7 +65,7 @@ decompose-settled picks named status output (inl made) = inl (made.told.done, ma
 decompose-settled picks named status output (inr not_covered) = inr (not_covered.negative, not_covered.uncovered)
 
 -- a tree that is refused
-refused-tree : (g : Graph) → IsGraph g → (t : Shape) (place : ℕ) (status : Status) (output : List ℕ) → Refuses g t place status output → (status ≡ Negative) × (IsDerivation g t → ⊥)
+pub refused-tree : (g : Graph) → IsGraph g → (t : Shape) (place : ℕ) (status : Status) (output : List ℕ) → Refuses g t place status output → (status ≡ Negative) × (IsDerivation g t → ⊥)
 refused-tree g is t place status output (inl refused) = (refused.negative, λ derived. refused-not_derived g is t refused.node refused.why derived refused.refused)
 refused-tree g is t place status output (inr not_covered) = (not_covered.negative, λ derived. not_covered.uncovered derived.covered)
 

@@ -2,7 +2,7 @@
 //!
 //! Many definitions of `graph_core` are degrees, counts or tests that compute, since proofs and code want them so. Each law here
 //! ties one of them to what it means: a test is true exactly where its relation holds, and a relation holds exactly where the
-//! words of a textbook do (`specs/Words.antt`). No other crate stands on this one.
+//! words of a textbook do (`specs/Words.antt`). Of the other crates only `bench_top` stands on this one, for `reason_law`.
 //!
 //! Matchings: `perfect_law` and `matching_without_law` (`IsPerfect`, `IsMatching`, `has_matching_of`), `tight_law` (`is_allowed`,
 //! `is_tight`), `three_sets_law` (`InD`, `InA`, `InC`). Components: `adjacency_law` (`adjacent`), `component_law` (`is_least`,

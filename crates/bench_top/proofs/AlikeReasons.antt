@@ -1,0 +1,44 @@
+-- Two reasons why a graph is not covered are told by one line, but for the Berge set.
+use Rattle.std.proofs.Common.{◌≡◌, ◌∙◌, ℕ, List, [], ◌++◌, inl, refl, ap, subst}
+use Rattle.std.specs.Prelude.{codes}
+use Rattle.graph_core.specs.Covered.{IsReason}
+use Rattle.graph_core.specs.Graph.{Graph}
+use Rattle.graph_core.specs.Verdicts.{reason_of}
+use Rattle.graph_core.specs.declared.verdict.Reason.{Reason}
+use Rattle.graph_core.specs.declared.verdict.Reason.TheVariants.{Small, Parted, Unmatched, Unallowed}
+use Rattle.graph_core.specs.declared.verdict.Verdict.TheVariants.{NotCovered}
+use Rattle.definition_laws.proofs.Reasons.{reason-one}
+use Rattle.definition_laws.specs.Words.{without_berge}
+use Rattle.report_text.specs.Reports.{numbers_text, verdict_text}
+use Rattle.bench_top.specs.Fixed.{DifferAtMostIn, MayBeBerge}
+use Rattle.bench_top.specs.Uncovered.{Uncovered}
+use Rattle.bench_top.specs.declared.status.Status.{Status}
+use Rattle.bench_top.proofs.AlikeTexts.{alike-along, alike-before, alike-behind, alike-lists}
+
+-- for reasons that are one but for the Berge set
+told-alike : (fact : List ℕ → Type 0) (q r : Reason) → without_berge (reason_of q) ≡ without_berge (reason_of r) →
+    ((s : List ℕ) → q ≡ Unmatched s → fact s) → ((s : List ℕ) → r ≡ Unmatched s → fact s) → DifferAtMostIn fact (verdict_text (NotCovered q)) (verdict_text (NotCovered r))
+unfolding verdict_text
+told-alike fact (Unmatched s) (Unmatched t) same first second =
+    alike-before fact (codes "\n") (codes "covered no" ++ (codes " berge" ++ numbers_text s)) (codes "covered no" ++ (codes " berge" ++ numbers_text t))
+    (alike-behind fact (codes "covered no") (codes " berge" ++ numbers_text s) (codes " berge" ++ numbers_text t)
+    (alike-behind fact (codes " berge") (numbers_text s) (numbers_text t) (alike-lists fact s t (first s refl) (second t refl))))
+told-alike fact Small Small same first second = inl refl
+told-alike fact (Parted a b) (Parted c d) same first second =
+    let equal : Parted a b ≡ Parted c d = cc same in
+    inl (ap (λ (r : Reason). verdict_text (NotCovered r)) equal)
+told-alike fact (Unallowed e) (Unallowed f) same first second =
+    let equal : Unallowed e ≡ Unallowed f = cc same in
+    inl (ap (λ (r : Reason). verdict_text (NotCovered r)) equal)
+told-alike fact q r same first second = absurd (cc same)
+
+pub reason-alike : (g : Graph) (q r : Reason) → IsReason g (reason_of q) → IsReason g (reason_of r) → DifferAtMostIn (MayBeBerge g) (verdict_text (NotCovered q)) (verdict_text (NotCovered r))
+reason-alike g q r one two =
+    told-alike (MayBeBerge g) q r (reason-one g (reason_of q) (reason_of r) one two)
+    (λ s e. subst (λ (x : Reason). IsReason g (reason_of x)) e one) (λ s e. subst (λ (x : Reason). IsReason g (reason_of x)) e two)
+
+-- the same of what is told of a graph that is not covered
+pub uncovered-alike : (g : Graph) (first second : Status) (output other : List ℕ) → Uncovered g first output → Uncovered g second other → DifferAtMostIn (MayBeBerge g) output other
+uncovered-alike g first second output other one two =
+    alike-along (MayBeBerge g) output other (verdict_text (NotCovered one.reason)) (verdict_text (NotCovered two.reason)) one.text two.text
+    (reason-alike g one.reason two.reason one.first two.first)
