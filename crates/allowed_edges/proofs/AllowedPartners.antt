@@ -1,16 +1,15 @@
 -- An edge is allowed exactly where its ends are partners; the list of the allowed edges, the least edge that is none, and whether a
 -- maximum matching is perfect.
 -- A perfect matching with the edge, less the edge, is perfect without its ends, and back. A perfect matching is as large as any.
-use Rattle.std.proofs.Common.{◌≡◌, ◌≢◌, ◌↔◌, ℕ, ◌==◌, ◌&&◌, ◌||◌, not, Bool, true, false, List, refl, sym, ap, ◌∙◌, arith, subst, ne_eqb, eq-eqb}
-use Rattle.std.proofs.lemmas.Bool.{and_parts, both_ways, cases_Bool, false_from_ne_true, or_right}
-use Rattle.counting.specs.Counts.{Within, count}
+use Rattle.std.proofs.Common.{◌≡◌, ◌↔◌, ℕ, ◌==◌, ◌&&◌, ◌||◌, not, Bool, true, false, List, refl, sym, ap, ◌∙◌, arith, subst, ne_eqb, eq-eqb}
+use Rattle.std.proofs.lemmas.Bool.{or_right}
+use Rattle.counting.specs.Counts.{Within}
 use Rattle.counting.specs.Lists.{Lists, item, mem, rising_list}
-use Rattle.counting.specs.Sets.{Set, none, pair_set, union}
-use Rattle.counting.specs.Tests.{IsLeastWithout}
+use Rattle.counting.specs.Sets.{Set, none, pair_set}
 use Rattle.counting.proofs.Lists.{rising_only}
 use Rattle.counting.proofs.RisingLists.{mem-rising_list, rising_list-rises, same_answers}
 use Rattle.graph_core.specs.Graph.{Graph, IsGraph, IsMultigraph, first_end, second_end, size}
-use Rattle.graph_core.specs.Matchings.{Allowed, HasPerfect, IsMatching, IsMaximum, has_perfect, is_allowed, missed_count}
+use Rattle.graph_core.specs.Matchings.{Allowed, HasPerfect, IsMaximum, has_perfect, is_allowed, missed_count}
 use Rattle.graph_core.proofs.Decide.{has_perfect_found, has_perfect_says, is_allowed_found, is_allowed_says}
 use Rattle.graph_core.proofs.Edits.{missed_edges}
 use Rattle.graph_core.proofs.Perfect.{none_missed-perfect, perfect_matching, perfect_misses}

@@ -7,12 +7,15 @@ use Rattle.std.proofs.lemmas.List.{get_or_append_left, map-append}
 use Rattle.std.proofs.Math.Seq.{get_or-append_seam}
 use Rattle.std.proofs.lemmas.List.Elements.{All-push}
 use Rattle.std.proofs.lemmas.List.Folds.{Any-from_list_any, list_any-append, list_any_at}
+use Rattle.std.specs.List.{list_any}
+use Rattle.counting.proofs.Members.{two_members}
 use Rattle.counting.specs.Counts.{Within}
 use Rattle.counting.specs.Lists.{IsRisingIn, mem}
 use Rattle.counting.specs.Sets.{none}
-use Rattle.graph_core.specs.Graph.{Graph, IsGraph, first_end, second_end, size}
+use Rattle.graph_core.specs.Graph.{Graph, IsGraph, first_end, in_cut, second_end, size}
 use Rattle.graph_core.specs.Matchings.{IsEnd, IsPerfect, Together}
 use Rattle.graph_core.specs.PairLists.{IsLean, IsPairList}
+use Rattle.graph_core.specs.Tight.{IsTight}
 use Rattle.graph_core.proofs.Edits.{two_ends_le_degree}
 use Rattle.match_core.specs.MatchingRows.{IsOf, KeepsMatching, MatchingValue, edges_of, is_clear}
 use Rattle.match_core.specs.declared.matching.MatchRow.{MatchRow}
@@ -165,6 +168,16 @@ apart_shared g e f v d we wf wv pe pf t =
     let a = end_at g e v pe in
     let b = end_at g f v pf in
     let o = t.1.once v wv refl in
+    absurd (omega arith)
+
+-- nor do two edges in a tight cut
+pub apart_cut : (g : Graph) (e f : ℕ) (shores : List (List ℕ)) → e ≢ f → Within (size g) e → Within (size g) f → All (λ s. IsTight g (mem s)) shores → list_any (λ s. in_cut g (mem s) e && in_cut g (mem s) f) shores ≡ true → Together g e f → ⊥
+apart_cut g e f shores d we wf tight h t =
+    let a = Any-from_list_any (λ s. in_cut g (mem s) e && in_cut g (mem s) f) shores h in
+    let cut = and_parts (in_cut g (mem a.1) e) (in_cut g (mem a.1) f) a.4 in
+    let alone : IsTight g (mem a.1) = subst (λ (s : List ℕ). IsTight g (mem s)) a.3 (tight a.0 a.1 a.2) in
+    let one = alone.cut t.0 t.1 in
+    let two = two_members (size g) (λ k. t.0 k && in_cut g (mem a.1) k) e f we wf d (and_from (t.0 e) (in_cut g (mem a.1) e) t.2 cut.0) (and_from (t.0 f) (in_cut g (mem a.1) f) t.3 cut.1) in
     absurd (omega arith)
 
 -- lying together does not depend on the order

@@ -19,11 +19,13 @@
 mod edges;
 mod pairs;
 mod questions;
+mod sharing;
 mod short_paths;
 mod table;
 mod verdict;
 
 pub use edges::{allowed, allowed_in, is_allowed_in};
-pub use pairs::{PairTable, share_end, together};
+pub use pairs::{PairTable, together, together_beside};
 pub use questions::{perfect_with_edge, perfect_with_pair};
+pub use sharing::{is_in_cut, share_end};
 pub use verdict::{covered, covered_in};

@@ -1,16 +1,18 @@
 //! The pairs of edges that lie together in a perfect matching.
-ghost use Rattle.std.specs.Prelude.{◌≡◌, ◌≢◌, ℕ, ◌+◌, ◌<◌, ◌≤◌, ◌++◌, ◌∷◌, [], ◌↔◌, true, length, IfOk, All, OnOk};
+ghost use Rattle.std.specs.Prelude.{◌≡◌, ◌≢◌, ℕ, ◌+◌, ◌<◌, ◌≤◌, ◌++◌, ◌∷◌, [], ◌↔◌, true, false, length, IfOk, All, OnOk};
 ghost use Rattle.counting.specs.Counts.{Within};
 ghost use Rattle.counting.specs.Sets.{none};
 ghost use Rattle.counting.specs.Lists.{mem};
 ghost use Rattle.graph_core.specs.Graph.{size};
 ghost use Rattle.graph_core.specs.Matchings.{IsPerfect, Together};
 ghost use Rattle.graph_core.specs.PairLists.{IsLean, IsPairList};
+ghost use Rattle.graph_core.specs.Tight.{IsTight};
 ghost use Rattle.match_core.specs.MatchingRows.{IsOf, edges_of};
 ghost use Rattle.allowed_edges.specs.Leaving.{share_end};
 ghost use Rattle.allowed_edges.specs.PairTables.{IsPerfectWith, SettlesEdges, SettlesPairs, edge_lists, holds_both};
 
 use crate::questions::{perfect_with_edge, perfect_with_pair};
+use crate::sharing::{share_cut, share_end};
 use crate::table::{EdgeTable, mark_pairs};
 use graph_core::{MOST_EDGES, MultiGraph};
 use match_core::{Matching, perfect_without};
@@ -94,11 +96,24 @@ pub fn together(alloc: Global, g: &MultiGraph) -> Result<PairTable, Memory>
     ensures lean { IfOk result (λ pairs. IsLean (edge_lists pairs)) }
     ensures both { IfOk result (λ pairs. (e f : ℕ) → Within (size g.now) e → Within (size g.now) f → (holds_both (edge_lists pairs) e f ≡ true) ↔ Together g.now e f) }
 {
+    together_beside(alloc, g, &[])
+}
+
+/// A table as `together` answers it, where the cuts of these shores are tight. Two edges in one of these cuts lie in no perfect
+/// matching together, so nothing is asked of them.
+pub fn together_beside(alloc: Global, g: &MultiGraph, shores: &[VSet]) -> Result<PairTable, Memory>
+    requires { All (λ s. IsTight g.now (mem s)) shores.now }
+    ensures size { IfOk result (λ pairs. pairs.size ≡ size g.now) }
+    ensures of { IfOk result (λ pairs. All (IsOf g.now) pairs.list) }
+    ensures list { IfOk result (λ pairs. IsPairList g.now (edge_lists pairs)) }
+    ensures lean { IfOk result (λ pairs. IsLean (edge_lists pairs)) }
+    ensures both { IfOk result (λ pairs. (e f : ℕ) → Within (size g.now) e → Within (size g.now) f → (holds_both (edge_lists pairs) e f ≡ true) ↔ Together g.now e f) }
+{
     let mut pairs = PairTable::new(alloc, g.size())?;
     match perfect_without(alloc, g, VSet::empty())? {
         None => Ok(pairs),
         Some(kept) => {
-            settle_edges(alloc, g, &kept, &mut pairs)?;
+            settle_edges(alloc, g, shores, &kept, &mut pairs)?;
             Ok(pairs)
         }
     }
@@ -108,9 +123,11 @@ pub fn together(alloc: Global, g: &MultiGraph) -> Result<PairTable, Memory>
 fn settle_edges(
     alloc: Global,
     g: &MultiGraph,
+    shores: &[VSet],
     kept: &Matching,
     pairs: &mut PairTable,
 ) -> Result<(), Memory>
+    requires shores { All (λ s. IsTight g.now (mem s)) shores.now }
     requires of { IsOf g.now kept.now }
     requires perfect { IsPerfect g.now none (mem (edges_of kept.now)) }
     requires size { pairs.old.size ≡ size g.now }
@@ -118,7 +135,7 @@ fn settle_edges(
     ensures { IfOk result (λ _. SettlesEdges g.now (size g.now + 1) pairs.new) }
 {
     for k in 0..g.size() {
-        settle_edge(alloc, g, kept, pairs, k + 1)?;
+        settle_edge(alloc, g, shores, kept, pairs, k + 1)?;
     }
     Ok(())
 }
@@ -127,10 +144,12 @@ fn settle_edges(
 fn settle_edge(
     alloc: Global,
     g: &MultiGraph,
+    shores: &[VSet],
     kept: &Matching,
     pairs: &mut PairTable,
     e: u32,
 ) -> Result<(), Memory>
+    requires shores { All (λ s. IsTight g.now (mem s)) shores.now }
     requires edge { Within (size g.now) e }
     requires of { IsOf g.now kept.now }
     requires perfect { IsPerfect g.now none (mem (edges_of kept.now)) }
@@ -140,7 +159,7 @@ fn settle_edge(
     match perfect_with_edge(alloc, g, kept, e)? {
         None => Ok(()),
         Some(base) => {
-            let last = settle_pairs(alloc, g, base, pairs, e)?;
+            let last = settle_pairs(alloc, g, shores, base, pairs, e)?;
             list_unless_held(g, pairs, last, e)
         }
     }
@@ -151,10 +170,12 @@ fn settle_edge(
 fn settle_pairs(
     alloc: Global,
     g: &MultiGraph,
+    shores: &[VSet],
     base: Matching,
     pairs: &mut PairTable,
     e: u32,
 ) -> Result<Matching, Memory>
+    requires shores { All (λ s. IsTight g.now (mem s)) shores.now }
     requires edge { Within (size g.now) e }
     requires base { IsPerfectWith g.now e base }
     requires before { SettlesEdges g.now e pairs.old }
@@ -163,7 +184,7 @@ fn settle_pairs(
 {
     let mut kept = base;
     for k in e..g.size() {
-        kept = settle_pair(alloc, g, kept, pairs, e, k + 1)?;
+        kept = settle_pair(alloc, g, shores, kept, pairs, e, k + 1)?;
     }
     Ok(kept)
 }
@@ -172,11 +193,13 @@ fn settle_pairs(
 fn settle_pair(
     alloc: Global,
     g: &MultiGraph,
+    shores: &[VSet],
     kept: Matching,
     pairs: &mut PairTable,
     e: u32,
     f: u32,
 ) -> Result<Matching, Memory>
+    requires shores { All (λ s. IsTight g.now (mem s)) shores.now }
     requires edge { Within (size g.now) e }
     requires other { Within (size g.now) f }
     requires above { e < f }
@@ -186,7 +209,7 @@ fn settle_pair(
     ensures next { IfOk result (IsPerfectWith g.now e) }
 {
     g.keeps_limits();
-    if pairs.both(e, f) || share_end(g, e, f) {
+    if is_settled(g, shores, pairs, e, f) {
         return Ok(kept);
     }
     match perfect_with_pair(alloc, g, &kept, e, f)? {
@@ -198,6 +221,27 @@ fn settle_pair(
             Ok(next)
         }
     }
+}
+
+// Whether nothing has to be asked of two edges: a listed matching contains both, or they share an end or a tight cut.
+fn is_settled(g: &MultiGraph, shores: &[VSet], pairs: &PairTable, e: u32, f: u32) -> bool
+    requires shores { All (λ s. IsTight g.now (mem s)) shores.now }
+    requires edge { Within (size g.now) e }
+    requires other { Within (size g.now) f }
+    requires above { e < f }
+    requires size { pairs.now.size ≡ size g.now }
+    ensures settled { result ≡ true → Together g.now e f → holds_both (edge_lists pairs.now) e f ≡ true }
+    ensures apart { result ≡ false → share_end g.now e f ≡ false }
+    ensures new { result ≡ false → holds_both (edge_lists pairs.now) e f ≡ false }
+{
+    g.keeps_limits();
+    if pairs.both(e, f) {
+        return true;
+    }
+    if share_end(g, e, f) {
+        return true;
+    }
+    share_cut(g, shores, e, f)
 }
 
 // The same matching once more.
@@ -226,15 +270,4 @@ fn list_unless_held(
     base.keeps_matching();
     pairs.add(base)?;
     Ok(())
-}
-
-/// Whether two edges share an end; two that do, and differ, lie in no matching together. Takes no memory.
-pub fn share_end(g: &MultiGraph, e: u32, f: u32) -> bool
-    requires first { Within (size g.now) e }
-    requires second { Within (size g.now) f }
-    ensures { result ≡ share_end g.now e f }
-{
-    let a = g.ends(e);
-    let b = g.ends(f);
-    a.a == b.a || a.a == b.b || a.b == b.a || a.b == b.b
 }

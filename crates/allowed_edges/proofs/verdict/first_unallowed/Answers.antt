@@ -1,4 +1,4 @@
-use Rattle.std.proofs.Common.{◌≡◌, ◌∙◌, ap, arith, subst, sym, inl, inr}
+use Rattle.std.proofs.Common.{◌∙◌, arith, subst, sym, inl, inr}
 use Rattle.std.proofs.lemmas.Bool.{both_ways, cases_eq}
 use Rattle.graph_core.specs.Matchings.{Allowed, is_allowed}
 use Rattle.graph_core.proofs.Decide.{is_allowed_found, is_allowed_says}

@@ -1,4 +1,4 @@
-use Rattle.std.proofs.Common.{◌≡◌, ◌==◌, ℕ, List, ap, ◌∙◌, sym, eq-eqb, eqb-true}
+use Rattle.std.proofs.Common.{◌==◌, ℕ, List, ap, ◌∙◌, sym, eq-eqb, eqb-true}
 use Rattle.counting.specs.Lists.{mem}
 use Rattle.counting.specs.Sets.{none}
 use Rattle.graph_core.specs.Matchings.{missed_count}

@@ -3,7 +3,7 @@ use Rattle.counting.specs.Lists.{mem}
 use Rattle.graph_core.specs.Matchings.{IsPerfect}
 use Rattle.match_core.specs.MatchingRows.{edges_of}
 use Rattle.allowed_edges.proofs.PairSteps.{settled_both, settled_pairs}
-use Rattle.allowed_edges.proofs.pairs.together.Goals as goal
+use Rattle.allowed_edges.proofs.pairs.together_beside.Goals as goal
 
 pub settle_edges-requires-clause-perfect : goal.settle_edges-requires-clause-perfect
 settle_edges-requires-clause-perfect c = subst (λ xs. IsPerfect c.args.g.now (mem xs) (mem (edges_of c.in-Some.kept))) c.empty.ensures (c.in_ok-perfect_without.ensures.perfect c.in-Some.kept c.in-Some.is)
