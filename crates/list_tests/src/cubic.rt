@@ -1,5 +1,5 @@
-//! The connected cubic graphs with at most twelve vertices, as geng of nauty lists them (`geng -c -d3 -D3 N`), and how many of them are
-//! matching covered, bricks and braces.
+//! The connected cubic graphs with at most twelve vertices, as `geng` of nauty lists them, and how many of them are matching covered,
+//! bricks and braces.
 
 /// The lines of the graphs with one number of vertices, with the numbers of those that are covered, bricks and braces.
 pub struct Family {

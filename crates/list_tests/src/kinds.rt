@@ -12,7 +12,7 @@ struct Row {
     answer: Result<&'static str, FaultKind>,
 }
 
-static ROWS: [Row; 21] = [
+static ROWS: [Row; 26] = [
     Row {
         query: Query::Kinds,
         line: "C~\n",
@@ -133,6 +133,39 @@ static ROWS: [Row; 21] = [
         },
         line: "Ch",
         answer: Ok(""),
+    },
+    Row {
+        query: Query::Kinds,
+        line: "GFyAHK\n",
+        answer: Ok("GFyAHK 8 12 composite 1 1 bicritical no\n"),
+    },
+    Row {
+        query: Query::Leaves {
+            order: LeafOrder::First,
+        },
+        line: "GFyAHK\n",
+        answer: Ok("7 EFz_ brace\n7 C~ brick\n"),
+    },
+    Row {
+        query: Query::Leaves {
+            order: LeafOrder::Balanced,
+        },
+        line: "GFyAHK\n",
+        answer: Ok("7 EFz_ brace\n7 C~ brick\n"),
+    },
+    Row {
+        query: Query::Select {
+            property: Property::Bricks { count: 1 },
+        },
+        line: "GFyAHK\n",
+        answer: Ok("GFyAHK\n"),
+    },
+    Row {
+        query: Query::Select {
+            property: Property::Composite,
+        },
+        line: "GFyAHK\n",
+        answer: Ok("GFyAHK\n"),
     },
 ];
 
