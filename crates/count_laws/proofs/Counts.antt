@@ -9,8 +9,8 @@ use Rattle.tree_core.specs.Derivations.{IsDerivation}
 use Rattle.tree_core.specs.LeafMaps.{PlainLeafMap, leaf_at, map_at}
 use Rattle.tree_core.specs.Leaves.{leaves}
 use Rattle.tree_core.specs.Shapes.{Shape}
-use Rattle.uncross.proofs.Uniqueness.{pairing_law}
-use Rattle.uncross.specs.Pairings.{IsPairing}
+use Rattle.move_laws.proofs.Uniqueness.{pairing_law}
+use Rattle.move_laws.specs.Pairings.{IsPairing}
 use Rattle.report_text.specs.Tallies.{AreLeafKinds, IsTally, is_brick, kind_at, tally_of}
 use Rattle.report_text.specs.declared.tallies.LeafKind.{LeafKind}
 use Rattle.report_text.specs.declared.tallies.LeafKind.TheVariants.{Brick}

@@ -3,8 +3,8 @@ use Rattle.std.proofs.Common.{List, refl, sym, ℕ, ◌≡◌, ◌∙◌}
 use Rattle.graph_core.specs.Graph.{Graph, IsBipartite, IsGraph}
 use Rattle.graph_core.specs.Partitions.{IsPartition}
 use Rattle.graph_core.specs.Quotients.{quotient}
-use Rattle.uncross.proofs.CarryingLaws.{turned-leaf}
-use Rattle.uncross.specs.SameLeaf.{IsSameLeaf, image, turned_names}
+use Rattle.move_laws.proofs.CarryingLaws.{turned-leaf}
+use Rattle.move_laws.specs.SameLeaf.{IsSameLeaf, image, turned_names}
 use Rattle.report_text.specs.Tallies.{IsLeafKind}
 use Rattle.report_text.specs.declared.tallies.LeafKind.{LeafKind}
 use Rattle.report_text.specs.declared.tallies.LeafKind.TheVariants.{Brick, Brace}
