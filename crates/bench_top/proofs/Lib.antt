@@ -1,6 +1,5 @@
 pub mod FileReads
 pub mod TextReads
-pub mod Appends
 pub mod Sizes
 pub mod Conversions
 pub mod PickedTrees

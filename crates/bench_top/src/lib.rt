@@ -16,7 +16,6 @@ mod command;
 mod comparing;
 mod decomposing;
 mod ear_checking;
-mod emit;
 mod formats;
 mod gather;
 mod growing;

@@ -8,7 +8,6 @@ ghost use Rattle.bench_top.specs.Loads.{LoadsAs, task_of, Held};
 ghost use Rattle.bench_top.specs.Reads.{HasRead, IsRead, IsReadFault, file_names, names_until};
 ghost use Rattle.bench_top.specs.Outcome.{LoadedGives, Appended, CutShort, IsReported, IsSettled, MayRefuse, GatheredMayRefuse};
 
-use crate::emit::emit;
 use crate::gather::gather;
 use crate::judge::judge;
 use crate::order::Command;
@@ -16,7 +15,7 @@ use crate::report::Report;
 use crate::status::Status;
 use crate::stop::Stop;
 use crate::tasks::Task;
-use outside::{Shelf, Sink, SinkFailed};
+use outside::{Shelf, Sink, SinkFailed, emit};
 use report_text::bad_input;
 use std::alloc::Global;
 

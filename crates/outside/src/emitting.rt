@@ -1,4 +1,4 @@
-// Writing a whole output.
+//! Writing a whole output.
 ghost use Rattle.std.specs.Prelude.{◌≡◌, ◌≤◌, ◌<◌, ℕ, length, take, OnOk, OnErr};
 ghost use Rattle.outside.specs.Faults.{Rose};
 ghost use Rattle.outside.specs.Sink.{appended};

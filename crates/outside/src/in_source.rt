@@ -1,8 +1,9 @@
-// A source that is a reader of a runtime.
+//! A source that is a reader of a runtime.
 ghost use Rattle.std.specs.Prelude.{◌≡◌, ◌≤◌, IfOk, OnOk, OnErr, length};
 ghost use Rattle.std.specs.declared.option.Option.TheVariants.{None};
 ghost use Rattle.outside.specs.Faults.{next_fault};
 
+use crate::retries::read_some;
 use crate::{Source, SourceFailed};
 use std::io::Read;
 use std::marker::Model;
@@ -47,7 +48,7 @@ impl<R: Read + Drop> Source for InSource<R> {
         ensures err { OnErr result (self.new ≡ next_fault self.old) }
     {
         if let Some(reader) = &mut self.reader
-            && let Ok(count) = reader.read(piece)
+            && let Ok(count) = read_some(reader, piece)
         {
             return Ok(count);
         }
