@@ -1,7 +1,7 @@
 -- The candidates: none twice, each tight where the shores of the first two parts are, and each edge of a nontrivial tight cut in a candidate's cut.
 use Rattle.std.proofs.Common.{◌≡◌, ℕ, Bool, true, false, refl, sym, ap, not, ◌∙◌, arith, List, [], ◌∷◌, ◌↔◌}
 use Rattle.std.proofs.lemmas.Bool.{true≢false}
-use Rattle.std.proofs.lemmas.List.Elements.{All-nil, All-head, All-tail}
+use Rattle.std.proofs.lemmas.List.Elements.{All-map, All-nil, All-head, All-tail}
 use Rattle.std.specs.List.{AllPairs, list_any}
 use Rattle.std.specs.Prelude.{All, fold}
 use Rattle.tight_cuts.specs.Candidates.{ShoresDiffer, Barrier, Separation, cuts, front_candidates}
@@ -17,7 +17,7 @@ use Rattle.graph_core.specs.Tight.{IsTight, IsNontrivial}
 use Rattle.separation_kit.specs.SeparationShores.{separation_shores}
 use Rattle.tight_cuts.proofs.EdgeLoop.{after_apart, after_found, after_covers}
 use Rattle.tight_cuts.proofs.Shores.{with_found, with_apart}
-use Rattle.tight_cuts.specs.Candidates.{Origin, Candidate, with_list, candidates, IsTightCandidate}
+use Rattle.tight_cuts.specs.Candidates.{Origin, Candidate, with_list, candidates, shores_of, IsTightCandidate}
 
 -- shores one after another
 lists_apart : (n : ℕ) (o : Origin) (shores : List (List ℕ)) (list : List Candidate) → AllPairs ShoresDiffer list → AllPairs ShoresDiffer (fold (with_list n o) list shores)
@@ -38,10 +38,16 @@ candidates_apart g = after_apart g (fold (with_list g.order Separation) (fold (w
     (lists_apart g.order Separation (separation_shores g) (fold (with_list g.order Barrier) [] (barrier_shores g)) (lists_apart g.order Barrier (barrier_shores g) [] none_apart))
 
 -- each shore is canonical, tight and nontrivial
+pub front_found : (g : Graph) → IsGraph g → All (λ s. IsTight g (mem s)) (barrier_shores g) → All (λ s. IsTight g (mem s)) (separation_shores g) → All (IsTightCandidate g) (front_candidates g)
+unfolding front_candidates
+front_found g is b s = lists_found g Separation is (separation_shores g) (fold (with_list g.order Barrier) [] (barrier_shores g)) s (lists_found g Barrier is (barrier_shores g) [] b (All-nil (IsTightCandidate g)))
+
+pub front_tight : (g : Graph) → IsGraph g → All (λ s. IsTight g (mem s)) (barrier_shores g) → All (λ s. IsTight g (mem s)) (separation_shores g) → All (λ s. IsTight g (mem s)) (shores_of (front_candidates g))
+front_tight g is b s = All-map (λ s. IsTight g (mem s)) (λ (c : Candidate). c.shore) (front_candidates g) (λ k d l. (front_found g is b s k d l).tight)
+
 pub candidates_found : (g : Graph) → IsGraph g → IsCovered g → All (λ s. IsTight g (mem s)) (barrier_shores g) → All (λ s. IsTight g (mem s)) (separation_shores g) → All (IsTightCandidate g) (candidates g)
-unfolding candidates front_candidates
-candidates_found g is cov b s = after_found g is cov (fold (with_list g.order Separation) (fold (with_list g.order Barrier) [] (barrier_shores g)) (separation_shores g)) (size g) (omega arith)
-    (lists_found g Separation is (separation_shores g) (fold (with_list g.order Barrier) [] (barrier_shores g)) s (lists_found g Barrier is (barrier_shores g) [] b (All-nil (IsTightCandidate g))))
+unfolding candidates
+candidates_found g is cov b s = after_found g is cov (front_candidates g) (size g) (omega arith) (front_found g is b s)
 
 -- each edge of each nontrivial tight cut is in the cut of a candidate
 pub candidates_cover : (g : Graph) → IsGraph g → IsCovered g → (x : Set) (e : ℕ) → Within (size g) e → IsTight g x → IsNontrivial g.order x → in_cut g x e ≡ true → list_any (cuts g e) (candidates g) ≡ true

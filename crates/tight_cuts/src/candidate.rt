@@ -8,7 +8,7 @@ ghost use Rattle.barrier_kit.specs.CanonicalCuts.{is_listed};
 ghost use Rattle.tight_cuts.specs.Candidates.{candidate_at, cuts, shores_of, with_list};
 ghost use Rattle.tight_cuts.specs.View.{candidate_of, origin_of};
 
-use crate::tightness::is_in_cut;
+use allowed_edges::is_in_cut;
 use barrier_kit::{canonical_shore, is_nontrivial};
 use graph_core::{MultiGraph, SetList};
 use std::alloc::{AllocError as Memory, Global};
@@ -172,6 +172,24 @@ pub(crate) fn candidates_of(
         list.push(Candidate::new(n, origin, *shore))?;
     }
     Ok(list)
+}
+
+/// The shores of a list.
+pub(crate) fn shores_of(alloc: Global, list: &CandidateList) -> Result<SetList, Memory>
+    ensures { IfOk result (λ shores. shores ≡ shores_of list.now) }
+{
+    shores_in(alloc, list.as_slice())
+}
+
+// The shores of these.
+fn shores_in(alloc: Global, items: &[Candidate]) -> Result<SetList, Memory>
+    ensures { IfOk result (λ shores. shores ≡ shores_of (map candidate_of items.now)) }
+{
+    let mut shores = SetList::new(alloc);
+    for candidate in items {
+        shores.push(candidate.shore)?;
+    }
+    Ok(shores)
 }
 
 /// Whether edge `e` of `g` is in the cut of a candidate.

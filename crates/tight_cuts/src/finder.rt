@@ -20,11 +20,11 @@ ghost use Rattle.tight_cuts.specs.EdgeSearch.{AreWeights};
 ghost use Rattle.tight_cuts.specs.View.{candidate_of};
 
 use crate::bipartite::bipartite_shore_of_edge;
-use crate::candidate::{Candidate, CandidateList, Origin, add_shore, any_cuts};
+use crate::candidate::{Candidate, CandidateList, Origin, add_shore, any_cuts, shores_of};
 use crate::edge_search::{Weights, leaders_at, shore_of_edge};
 use crate::front::{first_front_candidate, front_candidates, pair_where_bicritical};
 use crate::pieces::weights_of;
-use allowed_edges::{PairTable, together};
+use allowed_edges::{PairTable, together_beside};
 use graph_core::MultiGraph;
 use match_core::{Matching, PartnerTable, all_partners, perfect_without};
 use matching_digraph::side_of;
@@ -87,7 +87,8 @@ fn add_edge_cuts(alloc: Global, g: &MultiGraph, list: &mut CandidateList) -> Res
     if known == g.size() {
         return Ok(());
     }
-    let pairs = together(alloc, g)?;
+    let shores = shores_of(alloc, list)?;
+    let pairs = together_beside(alloc, g, shores.as_slice())?;
     let weights = weights_of(alloc, g, &pairs)?;
     for k in known..g.size() {
         add_edge_cut(alloc, g, &pairs, &weights, k + 1, list)?;

@@ -9,7 +9,7 @@ ghost use Rattle.graph_core.specs.Matchings.{IsPerfect, Together};
 ghost use Rattle.match_core.specs.MatchingRows.{IsOf, edges_of};
 ghost use Rattle.tight_cuts.specs.Tightness.{CrossesTwice, IsTightness, NoLaterWith};
 
-use allowed_edges::{perfect_with_edge, perfect_with_pair, share_end};
+use allowed_edges::{is_in_cut, perfect_with_edge, perfect_with_pair, share_end};
 use graph_core::MultiGraph;
 use match_core::{Matching, perfect_without};
 use std::alloc::{AllocError as Memory, Global};
@@ -67,18 +67,6 @@ fn crossing(
         }
     }
     Ok(None)
-}
-
-/// Whether edge e is in the cut of the shore.
-pub(crate) fn is_in_cut(g: &MultiGraph, shore: VSet, e: u32) -> bool
-    requires { Within (size g.now) e }
-    ensures { result ≡ in_cut g.now (mem shore) e }
-{
-    g.keeps_limits();
-    let ends = g.ends(e);
-    let first = shore.contains(ends.a);
-    let second = shore.contains(ends.b);
-    (first && !second) || (!first && second)
 }
 
 // A perfect matching with edge e of the cut and a later edge of it, from a perfect matching; none exactly where no later edge
