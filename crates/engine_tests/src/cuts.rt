@@ -209,18 +209,20 @@ static LISTED: [Listed; 9] = [
     },
 ];
 
-// Whether the list has these shores of this origin, in their order, each with the number of its vertices.
-fn has_shores(list: &CandidateList, shores: &[u32], origin: Origin) -> bool {
-    if list.len() != shores.len() {
+// Whether the list has these shores of this origin, in their order, each with the number of its vertices and with that of the others.
+fn has_shores(list: &CandidateList, row: &Listed) -> bool {
+    if list.len() != row.shores.len() {
         return false;
     }
-    for (i, shore) in shores.iter().enumerate() {
+    for (i, shore) in row.shores.iter().enumerate() {
         if i < list.len() {
             let candidate = list.get(i);
             let is_shore = candidate.shore == set_of_bits(*shore);
+            let inside = shore.count_ones();
             if !is_shore
-                || candidate.origin != origin
-                || candidate.inside != candidate.shore.len()
+                || candidate.origin != row.origin
+                || candidate.inside != inside
+                || candidate.outside != row.order.saturating_sub(inside)
             {
                 return false;
             }
@@ -238,7 +240,7 @@ fn is_listed(alloc: Global, row: &Listed) -> Result<bool, Fail> {
     let list = candidates(alloc, &graph)?;
     let any = find_any(alloc, &graph)?;
     let first = row.shores.first().map(|shore| set_of_bits(*shore));
-    Ok(has_shores(&list, row.shores, row.origin) && any == first)
+    Ok(has_shores(&list, row) && any == first)
 }
 
 #[test]

@@ -1,10 +1,10 @@
-//! Worked graphs: what their components and sides are, and what `add_edge` refuses.
+//! Worked graphs: what their components and sides are, which vertices are adjacent, whether they are simple, and what `add_edge` refuses.
 
 use crate::made::{made, set_of};
-use graph_core::{AddFault, MOST_EDGES, MultiGraph, Sides};
+use graph_core::{AddFault, Ends, MOST_EDGES, MultiGraph, Sides};
 use std::alloc::Global;
 use std::test::Fail;
-use worked_graphs::{HEXAGON, K4, STAR, TRIANGLE, TWO_EDGES};
+use worked_graphs::{DOUBLED_SQUARE, HEXAGON, K4, STAR, TRIANGLE, TWO_EDGES};
 
 // A graph, the number of its components, and the side of its least vertices; no side where it is not bipartite.
 struct Row {
@@ -14,7 +14,7 @@ struct Row {
     left: Option<&'static [u32]>,
 }
 
-static ROWS: [Row; 6] = [
+static ROWS: [Row; 8] = [
     Row {
         order: 4,
         edges: &K4,
@@ -51,13 +51,45 @@ static ROWS: [Row; 6] = [
         components: 1,
         left: Some(&[1]),
     },
+    // a triangle with a tail, beside an edge
+    Row {
+        order: 7,
+        edges: &[(1, 2), (2, 3), (3, 4), (4, 5), (5, 3), (6, 7)],
+        components: 2,
+        left: None,
+    },
+    // the cycle of five
+    Row {
+        order: 5,
+        edges: &[(1, 3), (3, 5), (5, 2), (2, 4), (4, 1)],
+        components: 1,
+        left: None,
+    },
 ];
+
+// Whether one of these edges has these ends, in one order or the other.
+fn are_joined(edges: &[(u32, u32)], a: u32, b: u32) -> bool {
+    edges.contains(&(a, b)) || edges.contains(&(b, a))
+}
+
+// Whether this is a closed walk of odd length over these edges, whose first vertex is not repeated at the end.
+fn is_odd_walk(edges: &[(u32, u32)], walk: &[u32]) -> bool {
+    if walk.len() % 2 == 0 {
+        return false;
+    }
+    for i in 1..walk.len() {
+        if !are_joined(edges, walk[i - 1], walk[i]) {
+            return false;
+        }
+    }
+    are_joined(edges, walk[walk.len() - 1], walk[0])
+}
 
 fn holds(alloc: Global, row: &Row) -> Result<bool, Fail> {
     let graph = made(alloc, row.order, row.edges)?;
     let sides = match graph.two_sides(alloc)? {
         Sides::Even { left } => row.left == Some(left.as_slice()),
-        Sides::Odd { walk } => row.left.is_none() && walk.len() % 2 == 1,
+        Sides::Odd { walk } => row.left.is_none() && is_odd_walk(row.edges, walk.as_slice()),
     };
     Ok(sides && graph.components(alloc)? == row.components)
 }
@@ -66,6 +98,46 @@ fn holds(alloc: Global, row: &Row) -> Result<bool, Fail> {
 fn counts_components_and_finds_sides(rt: HostRuntime) -> Result<(), Fail> {
     for row in &ROWS {
         assert!(rt; holds(rt.alloc(), row)?);
+    }
+    Ok(())
+}
+
+// Graphs, and whether they are simple.
+static SIMPLE: [(u32, &[(u32, u32)], bool); 7] = [
+    (4, &K4, true),
+    (4, &STAR, true),
+    (6, &HEXAGON, true),
+    (0, &[], true),
+    (4, &DOUBLED_SQUARE, false),
+    (2, &[(1, 2), (2, 1)], false),
+    (4, &[(1, 2), (3, 4), (2, 3), (4, 3)], false),
+];
+
+// Whether the graph has the ends of these edges, in their order, and two vertices are adjacent exactly where one of these joins them.
+fn has_edges(alloc: Global, order: u32, edges: &[(u32, u32)]) -> Result<bool, Fail> {
+    let graph = made(alloc, order, edges)?;
+    let mut many = 0;
+    for (a, b) in edges {
+        if many >= graph.size() || graph.ends(many + 1) != (Ends { a: *a, b: *b }) {
+            return Ok(false);
+        }
+        many += 1;
+    }
+    for a in 0..graph.order() {
+        for b in 0..graph.order() {
+            if graph.adjacent(a + 1, b + 1) != are_joined(edges, a + 1, b + 1) {
+                return Ok(false);
+            }
+        }
+    }
+    Ok(many == graph.size())
+}
+
+#[test]
+fn tells_ends_and_neighbours_and_simple_graphs(rt: HostRuntime) -> Result<(), Fail> {
+    for (order, edges, simple) in &SIMPLE {
+        assert!(rt; has_edges(rt.alloc(), *order, edges)?);
+        assert!(rt; made(rt.alloc(), *order, edges)?.simple() == *simple);
     }
     Ok(())
 }

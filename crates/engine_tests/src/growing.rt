@@ -1,4 +1,4 @@
-//! A generated graph edge by edge, the sizes of larger ones, and the reference words of the random generator.
+//! Generated graphs edge by edge, the sizes of larger ones, and the reference words of the random generator.
 
 use graph_core::Ends;
 use grow_gen::grow;
@@ -19,11 +19,52 @@ static ONE_PIECE: [Ends; 9] = [
     Ends { a: 3, b: 6 },
 ];
 
+// The edges of five pieces from the seed 7, which a second program, written from the definition of the generator, gives: the complete
+// bipartite graph, the complete graph of four vertices, the complete bipartite graph, the prism and the cube.
+static FIVE_PIECES: [Ends; 33] = [
+    Ends { a: 1, b: 11 },
+    Ends { a: 1, b: 5 },
+    Ends { a: 1, b: 6 },
+    Ends { a: 13, b: 18 },
+    Ends { a: 14, b: 5 },
+    Ends { a: 2, b: 6 },
+    Ends { a: 8, b: 10 },
+    Ends { a: 3, b: 5 },
+    Ends { a: 7, b: 6 },
+    Ends { a: 3, b: 7 },
+    Ends { a: 3, b: 8 },
+    Ends { a: 7, b: 8 },
+    Ends { a: 4, b: 10 },
+    Ends { a: 4, b: 11 },
+    Ends { a: 4, b: 19 },
+    Ends { a: 9, b: 10 },
+    Ends { a: 9, b: 11 },
+    Ends { a: 9, b: 12 },
+    Ends { a: 2, b: 13 },
+    Ends { a: 14, b: 15 },
+    Ends { a: 14, b: 16 },
+    Ends { a: 15, b: 16 },
+    Ends { a: 2, b: 15 },
+    Ends { a: 13, b: 16 },
+    Ends { a: 12, b: 17 },
+    Ends { a: 17, b: 18 },
+    Ends { a: 19, b: 20 },
+    Ends { a: 20, b: 21 },
+    Ends { a: 21, b: 22 },
+    Ends { a: 19, b: 22 },
+    Ends { a: 12, b: 20 },
+    Ends { a: 17, b: 21 },
+    Ends { a: 18, b: 22 },
+];
+
 #[test]
-fn one_piece(rt: HostRuntime) -> Result<(), AllocError> {
+fn graphs_edge_by_edge(rt: HostRuntime) -> Result<(), AllocError> {
     let g = grow(rt.alloc(), 5, 1)?;
     assert!(rt; g.order() == 6);
     assert!(rt; g.edges() == ONE_PIECE.as_slice());
+    let g = grow(rt.alloc(), 7, 5)?;
+    assert!(rt; g.order() == 22);
+    assert!(rt; g.edges() == FIVE_PIECES.as_slice());
     Ok(())
 }
 

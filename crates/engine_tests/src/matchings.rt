@@ -1,4 +1,4 @@
-//! Worked graphs: the sizes of their maximum matchings, their Gallai-Edmonds sets, and perfect matchings on request.
+//! Worked graphs: the sizes of their maximum matchings and how many vertices these miss, their Gallai-Edmonds sets, and perfect matchings on request.
 ghost use Rattle.std.specs.Prelude.{◌≡◌, true};
 ghost use Rattle.counting.specs.Lists.{mem};
 ghost use Rattle.counting.specs.Sets.{none};
@@ -30,25 +30,37 @@ const FLOWER: [(u32, u32); 10] = [
 // A square 3 4 5 6 beside an edge.
 const SQUARE: [(u32, u32); 5] = [(1, 2), (3, 4), (4, 5), (5, 6), (3, 6)];
 
-// A graph, by its order and its edges, and the size of its maximum matchings.
-static SIZES: [(u32, &[(u32, u32)], usize); 9] = [
-    (4, &STAR, 1),
-    (3, &TRIANGLE, 1),
-    (4, &PATH, 2),
-    (4, &K4, 2),
-    (4, &TWO_EDGES, 2),
-    (10, &PETERSEN, 5),
-    (8, &FLOWER, 4),
-    (0, &[], 0),
-    (3, &[], 0),
+// A graph, by its order and its edges, the size of its maximum matchings, and how many vertices each of these misses.
+static SIZES: [(u32, &[(u32, u32)], usize, u32); 9] = [
+    (4, &STAR, 1, 2),
+    (3, &TRIANGLE, 1, 1),
+    (4, &PATH, 2, 0),
+    (4, &K4, 2, 0),
+    (4, &TWO_EDGES, 2, 0),
+    (10, &PETERSEN, 5, 0),
+    (8, &FLOWER, 4, 0),
+    (0, &[], 0, 0),
+    (3, &[], 0, 3),
 ];
+
+// How many vertices of the graph are an end of no edge of the matching.
+fn count_missed(graph: &MultiGraph, matching: &Matching) -> u32 {
+    graph.keeps_limits();
+    let mut missed = VSet::full(graph.order());
+    for i in 0..matching.len() {
+        let row = matching.row(i);
+        missed = missed.minus(set_of(&[row.a, row.b]));
+    }
+    missed.len()
+}
 
 #[test]
 fn finds_maximum_matchings(rt: HostRuntime) -> Result<(), Fail> {
-    for (order, edges, size) in &SIZES {
+    for (order, edges, size, missed) in &SIZES {
         let graph = made(rt.alloc(), *order, edges)?;
         let found = maximum(rt.alloc(), &graph)?;
         assert!(rt; found.matching.len() == *size);
+        assert!(rt; count_missed(&graph, &found.matching) == *missed);
     }
     Ok(())
 }
