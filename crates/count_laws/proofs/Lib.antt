@@ -1,0 +1,3 @@
+pub mod SameKinds
+pub mod PairedCounts
+pub mod Counts

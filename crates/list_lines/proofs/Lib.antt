@@ -1,0 +1,7 @@
+pub mod QuotientSides
+pub mod SimpleQuotients
+pub mod SingleLeaves
+pub mod FewLeaves
+pub mod LeafTexts
+pub mod KindCases
+pub mod PickedTrees

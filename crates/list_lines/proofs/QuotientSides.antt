@@ -1,0 +1,95 @@
+-- The sides of a quotient: a set of blocks has each edge of the quotient in its cut exactly where it parts each two adjacent blocks.
+-- So the quotient at the single vertices is bipartite exactly where the graph is.
+use Rattle.std.proofs.Common.{Bool, List, ap, arith, false, inl, inr, length, ne_eqb, not, refl, subst, subst₂, sym, true, ℕ, ◌&&◌, ◌<◌, ◌==◌, ◌||◌, ◌∙◌, ◌≡◌}
+use Rattle.std.proofs.lemmas.Bool.{and_from, and_parts, cases_order}
+use Rattle.std.proofs.lemmas.Bool.Decides.{nat_tests}
+use Rattle.counting.proofs.Tests.{some_true, true_some}
+use Rattle.counting.specs.Counts.{Within}
+use Rattle.counting.specs.Sets.{Set}
+use Rattle.counting.specs.Tests.{some}
+use Rattle.graph_core.proofs.Quotients.{edge_of_pair, quotient_edge}
+use Rattle.graph_core.proofs.SingleBlocks.{contracted-singles}
+use Rattle.graph_core.proofs.Singles.{length-singles}
+use Rattle.graph_core.proofs.Walks.{has_ends-back, has_ends-cases, has_ends-own}
+use Rattle.graph_core.specs.Graph.{Graph, IsBipartite, IsMultigraph, first_end, has_ends, in_cut, second_end, size}
+use Rattle.graph_core.specs.Partitions.{contracted, singles}
+use Rattle.graph_core.specs.Quotients.{blocks_adjacent, quotient}
+
+-- exactly one of the two holds
+abbrev pub differ : Bool → Bool → Bool
+differ a b = (a && not b) || (not a && b)
+
+pub differ-back : (a b : Bool) → differ a b ≡ true → differ b a ≡ true
+differ-back true true h = h
+differ-back true false h = refl
+differ-back false true h = refl
+differ-back false false h = h
+
+-- x parts each two adjacent blocks, of which the first is named
+abbrev pub Parts : Graph → List (List ℕ) → Set → Type 0
+Parts g p x = (i j : ℕ) → Within (length p) i → Within (length p) j → i < j → blocks_adjacent g p i j ≡ true → differ (x i) (x j) ≡ true
+
+pub parts_from_sides : (g : Graph) (p : List (List ℕ)) (x : Set) → ((e : ℕ) → Within (size (quotient g p)) e → in_cut (quotient g p) x e ≡ true) → Parts g p x
+parts_from_sides g p x sides i j wi wj l adj =
+    let e = edge_of_pair g p i j wi wj l adj in
+    subst₂ (λ a b. differ (x a) (x b) ≡ true) e.2 e.3 (sides e.0 e.1)
+
+pub sides_from_parts : (g : Graph) (p : List (List ℕ)) (x : Set) → Parts g p x → (e : ℕ) → Within (size (quotient g p)) e → in_cut (quotient g p) x e ≡ true
+sides_from_parts g p x parts e w =
+    let r = quotient_edge g p e w in
+    parts (first_end (quotient g p) e) (second_end (quotient g p) e) r.0 r.1 r.2 r.3
+
+-- adjacency goes both ways, and no block is adjacent to itself
+pub adjacent_back : (g : Graph) (p : List (List ℕ)) (i j : ℕ) → blocks_adjacent g p i j ≡ true → blocks_adjacent g p j i ≡ true
+adjacent_back g p i j h =
+    let parts = and_parts (not (i == j)) (some (size g) (has_ends (contracted g p) i j)) h in
+    let e = some_true (size g) (has_ends (contracted g p) i j) parts.1 in
+    and_from (not (j == i)) (some (size g) (has_ends (contracted g p) j i)) (turned i j parts.0)
+    (true_some (size g) (has_ends (contracted g p) j i) e.0 e.1 (has_ends-back (contracted g p) i j e.0 e.2))
+  where
+    turned : (a b : ℕ) → not (a == b) ≡ true → not (b == a) ≡ true
+    turned a b h = grind (arith, nat_tests)
+
+-- and so of any two adjacent blocks
+pub parted : (g : Graph) (p : List (List ℕ)) (x : Set) → Parts g p x → (i j : ℕ) → Within (length p) i → Within (length p) j → blocks_adjacent g p i j ≡ true → differ (x i) (x j) ≡ true
+parted g p x parts i j wi wj h = elim (cases_order i j) [
+  | inl e ↦ absurd (own i j e (and_parts (not (i == j)) (some (size g) (has_ends (contracted g p) i j)) h).0)
+  | inr d ↦ elim d [
+    | inl l ↦ parts i j wi wj l h
+    | inr l ↦ differ-back (x j) (x i) (parts j i wj wi l (adjacent_back g p i j h))
+  ]
+]
+  where
+    own : (a b : ℕ) → a ≡ b → not (a == b) ≡ true → ⊥
+    own a b e h = grind (arith, nat_tests)
+
+-- at single vertices the quotient is bipartite exactly where the graph is
+module _ (g : Graph) (is : IsMultigraph g) where
+  single : (v : ℕ) → Within g.order v → Within (length (singles g.order)) v
+  single v w = let n = length-singles g.order in let b = w in (omega arith, omega arith)
+
+  joined : (e : ℕ) → Within (size g) e → blocks_adjacent g (singles g.order) (first_end g e) (second_end g e) ≡ true
+  joined e w =
+      and_from (not (first_end g e == second_end g e)) (some (size g) (has_ends (contracted g (singles g.order)) (first_end g e) (second_end g e)))
+      (ap not (ne_eqb (first_end g e) (second_end g e) (is.no_loop e w)))
+      (true_some (size g) (has_ends (contracted g (singles g.order)) (first_end g e) (second_end g e)) e w
+      (subst (λ (h : Graph). has_ends h (first_end g e) (second_end g e) e ≡ true) (sym (contracted-singles g is.ends)) (has_ends-own g e)))
+
+  pub bipartite_from_singles : IsBipartite (quotient g (singles g.order)) → IsBipartite g
+  bipartite_from_singles b = (
+    b.0,
+    λ e w.
+        parted g (singles g.order) b.0 (parts_from_sides g (singles g.order) b.0 b.1) (first_end g e) (second_end g e) (single (first_end g e) (is.ends e w).0) (single (second_end g e) (is.ends e w).1) (joined e w),
+  )
+
+  pub singles_from_bipartite : IsBipartite g → IsBipartite (quotient g (singles g.order))
+  singles_from_bipartite b = (
+    b.0,
+    sides_from_parts g (singles g.order) b.0 (λ i j wi wj l adj.
+        let s = some_true (size g) (has_ends (contracted g (singles g.order)) i j) (and_parts (not (i == j)) (some (size g) (has_ends (contracted g (singles g.order)) i j)) adj).1 in
+        let ends = subst (λ (h : Graph). has_ends h i j s.0 ≡ true) (contracted-singles g is.ends) s.2 in
+        elim (has_ends-cases g i j s.0 ends) [
+          | inl k ↦ subst₂ (λ a c. differ (b.0 a) (b.0 c) ≡ true) k.0 k.1 (b.1 s.0 s.1)
+          | inr k ↦ differ-back (b.0 j) (b.0 i) (subst₂ (λ a c. differ (b.0 a) (b.0 c) ≡ true) k.0 k.1 (b.1 s.0 s.1))
+        ]),
+  )

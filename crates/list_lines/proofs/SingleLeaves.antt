@@ -1,0 +1,44 @@
+-- A covered graph without a nontrivial tight cut has the leaf as its derivation: so a brick has one brick as its only leaf, and a brace
+-- one brace.
+use Rattle.std.proofs.Common.{List, [], ◌∷◌, arith, refl, subst, sym, zero, ℕ, ◌<◌, ◌≡◌}
+use Rattle.counting.specs.Sets.{Set}
+use Rattle.graph_core.proofs.Singles.{singles-partition}
+use Rattle.graph_core.proofs.SingleBlocks.{tight-singles}
+use Rattle.graph_core.specs.Covered.{IsCovered}
+use Rattle.graph_core.specs.Graph.{Graph, IsBipartite, IsMultigraph}
+use Rattle.graph_core.specs.Partitions.{singles}
+use Rattle.graph_core.specs.declared.verdict.Kind.TheVariants.{Brace, Brick}
+use Rattle.leaf_kinds.specs.LeafKinds.{HasNoTightCut, IsKind}
+use Rattle.tree_core.proofs.DerivationShores.{nontrivial-vertices}
+use Rattle.tree_core.specs.Derivations.{IsDerivation, IsLeafAt}
+use Rattle.tree_core.specs.Shapes.{leaf}
+use Rattle.report_text.specs.Tallies.{AreLeafKinds, IsLeafKind, IsTally, kind_at, leaf_at, tally_of}
+use Rattle.report_text.specs.declared.tallies.LeafKind.{LeafKind}
+use Rattle.report_text.specs.declared.tallies.LeafKind.TheVariants as of_leaf
+use Rattle.list_lines.specs.Standings.{IsCounted}
+use Rattle.list_lines.proofs.QuotientSides.{bipartite_from_singles, singles_from_bipartite}
+
+uncut_leaf : (g : Graph) → IsMultigraph g → HasNoTightCut g → IsLeafAt g (singles g.order)
+unfolding IsLeafAt
+uncut_leaf g is uncut x t some =
+    uncut x (tight-singles g x is.ends t) (nontrivial-vertices g.order (singles g.order) (singles-partition g.order).partition x t.union some)
+
+-- the kinds of one leaf
+one_kind : (g : Graph) (p : List (List ℕ)) (kind : LeafKind) → IsLeafKind g p kind → AreLeafKinds g (p ∷ []) (kind ∷ [])
+one_kind g p kind is = record {
+  each_one = refl;
+  right = λ k l. let z : 0 ≡ k = omega arith in subst (λ (j : ℕ). IsLeafKind g (leaf_at (p ∷ []) j) (kind_at (kind ∷ []) j)) z is;
+}
+
+one_leaf : (g : Graph) (kind : LeafKind) → IsMultigraph g → IsCovered g → HasNoTightCut g → IsLeafKind g (singles g.order) kind → IsCounted g (tally_of (kind ∷ []))
+one_leaf g kind is covered uncut of = record {
+  tree = leaf;
+  derivation = record { covered = covered; derives = uncut_leaf g is uncut };
+  counts = record { kinds = kind ∷ []; right = one_kind g (singles g.order) kind of; is = refl };
+}
+
+pub one_brick : (g : Graph) → IsMultigraph g → IsCovered g → IsKind g Brick → IsCounted g (record { leaves = 1; bricks = 1; braces = 0 })
+one_brick g is covered kind = one_leaf g of_leaf.Brick is covered kind.1 (λ b. kind.0 (bipartite_from_singles g is b))
+
+pub one_brace : (g : Graph) → IsMultigraph g → IsCovered g → IsKind g Brace → IsCounted g (record { leaves = 1; bricks = 0; braces = 1 })
+one_brace g is covered kind = one_leaf g of_leaf.Brace is covered kind.1 (singles_from_bipartite g is kind.0)

@@ -1,0 +1,28 @@
+use Rattle.std.proofs.Common.{List, ap, ap₂, arith, length, map, subst, sym, take, ℕ, ◌+◌, ◌++◌, ◌<◌, ◌≡◌, ◌∙◌}
+use Rattle.std.proofs.lemmas.List.{length-append, length-map}
+use Rattle.contraction.specs.Partition.{PartitionValue}
+use Rattle.report_text.specs.Tallies.{IsLeafKind, kind_at, leaf_at}
+use Rattle.report_text.specs.declared.tallies.LeafKind.{LeafKind}
+use Rattle.list_lines.specs.LeafLines.{leaf_line, leaf_lines}
+use Rattle.list_lines.proofs.LeafTexts.{blocks_at, kinds_step, lines_step}
+use Rattle.list_lines.proofs.leaf_lines.lines_of_leaves.Goals as goal
+
+pub loop-i-preserved : goal.loop-i-preserved
+loop-i-preserved c =
+    let ps : List (List (List ℕ)) = map (λ (p : PartitionValue). p.blocks) c.args.found.now in
+    let i : ℕ = c.loop-i.i in
+    let below : i < length c.args.found.now = omega (arith, c.len-i-end.ensures) in
+    let listed : i < length ps = subst (λ (n : ℕ). i < n) (sym (length-map c.args.found.now (λ (p : PartitionValue). p.blocks))) below in
+    let blocks : leaf_at ps i ≡ c.get.result.now.blocks = blocks_at c.args.found.now i c.get.result.now below c.get.ensures in
+    let more = c.in_ok-push.ensures.items in
+    record {
+      so_many = ap length more ∙ length-append c.loop-i.kinds.items _ ∙ ap (λ (n : ℕ). n + 1) c.loop-i.invariant.so_many;
+      right = λ k l. subst (λ (ks : List LeafKind). IsLeafKind c.args.g.now (leaf_at ps k) (kind_at ks k)) (sym more)
+          (kinds_step c.args.g.now ps i c.loop-i.kinds.items c.in_ok-kind.kind c.loop-i.invariant.so_many c.loop-i.invariant.right
+          (subst (λ (p : List (List ℕ)). IsLeafKind c.args.g.now p c.in_ok-kind.kind) (sym blocks) c.in_ok-kind.ensures.kind) k l);
+      lines =
+          c.in_ok-kind.ensures.line
+          ∙ ap₂ (λ (before : List ℕ) (p : List (List ℕ)). before ++ leaf_line c.args.front.now c.args.g.now p c.in_ok-kind.kind) c.loop-i.invariant.lines (sym blocks)
+          ∙ sym (lines_step c.args.front.now c.args.g.now ps i c.loop-i.kinds.items c.in_ok-kind.kind listed c.loop-i.invariant.so_many)
+          ∙ ap (λ (ks : List LeafKind). leaf_lines c.args.front.now c.args.g.now (take (i + 1) ps) ks) (sym more);
+    }

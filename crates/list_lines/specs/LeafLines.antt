@@ -1,0 +1,54 @@
+-- The lines of `leaves`: for each leaf of a decomposition the number of the line in the list, the graph6 text of the leaf as a simple
+-- graph, that is of the quotient at its partition, and `brick` or `brace`. A graph that is not covered has no line.
+use Rattle.std.specs.Prelude.{◌≡◌, ℕ, ◌++◌, ◌⊎◌, List, [], ◌∷◌, codes}
+use Rattle.std.specs.Fmt.{decimal}
+use Rattle.graph_core.specs.Covered.{IsCovered}
+use Rattle.graph_core.specs.Graph.{Graph}
+use Rattle.graph_core.specs.Quotients.{quotient}
+use Rattle.graph6_text.specs.Writing.{graph6_of}
+use Rattle.tree_core.specs.Leaves.{leaves}
+use Rattle.tree_core.specs.Shapes.{Shape}
+use Rattle.report_text.specs.Tallies.{AreLeafKinds}
+use Rattle.report_text.specs.declared.tallies.LeafKind.{LeafKind}
+use Rattle.report_text.specs.declared.tallies.LeafKind.TheVariants.{Brick, Brace}
+use Rattle.list_lines.specs.Orders.{IsPickedTree, Picks}
+use Rattle.list_lines.specs.declared.query.LeafOrder.{LeafOrder}
+
+-- the front of a line: the number of the line in the list
+abbrev pub line_front : ℕ → List ℕ
+line_front number = decimal number ++ codes " "
+
+-- the end of a line: the kind of the leaf
+abbrev pub leaf_end : LeafKind → List ℕ
+leaf_end Brick = codes " brick\n"
+leaf_end Brace = codes " brace\n"
+
+-- the line of a leaf with this quotient
+abbrev pub quotient_line : (front : List ℕ) → Graph → LeafKind → List ℕ
+quotient_line front q kind = front ++ graph6_of q ++ leaf_end kind
+
+-- the line of the leaf at a partition
+abbrev pub leaf_line : (front : List ℕ) → Graph → List (List ℕ) → LeafKind → List ℕ
+leaf_line front g p kind = quotient_line front (quotient g p) kind
+
+-- the lines of the leaves at these partitions, in order, each with the same front
+abbrev pub leaf_lines : (front : List ℕ) → Graph → List (List (List ℕ)) → List LeafKind → List ℕ
+leaf_lines front g [] kinds = []
+leaf_lines front g (p ∷ ps) [] = []
+leaf_lines front g (p ∷ ps) (kind ∷ kinds) = leaf_line front g p kind ++ leaf_lines front g ps kinds
+
+-- the bytes are the lines of the leaves at these partitions, each with its kind
+pub record AreLinesOf (front : List ℕ) (g : Graph) (ps : List (List (List ℕ))) (bytes : List ℕ) : Type 0 where
+  pub kinds : List LeafKind
+  pub right : AreLeafKinds g ps kinds
+  pub lines : bytes ≡ leaf_lines front g ps kinds
+
+-- the bytes are the lines of the leaves of the derivation that the order picks, in the order of the leaves
+pub record TellsLeaves (order : LeafOrder) (number : ℕ) (g : Graph) (bytes : List ℕ) : Type 0 where
+  pub tree : Shape
+  pub picked : IsPickedTree (Picks order) g tree
+  pub lines : AreLinesOf (line_front number) g (leaves g.order tree) bytes
+
+-- the lines of the leaves of a covered graph, and nothing for one that is not
+abbrev pub AreLeafLines : LeafOrder → ℕ → Graph → List ℕ → Type 0
+AreLeafLines order number g bytes = TellsLeaves order number g bytes ⊎ ((¬ IsCovered g) × (bytes ≡ []))

@@ -1,0 +1,6 @@
+pub mod Orders
+pub mod Standings
+pub mod KindLines
+pub mod LeafLines
+pub mod Selecting
+pub mod Telling

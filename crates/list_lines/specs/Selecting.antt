@@ -1,0 +1,47 @@
+-- The lines that `select` keeps: those whose graph has a property.
+use Rattle.std.specs.Prelude.{◌≡◌, ◌≢◌, ℕ, ◌⊎◌, List, [], Bool, true, false}
+use Rattle.graph_core.specs.Covered.{IsCovered}
+use Rattle.graph_core.specs.Graph.{Graph}
+use Rattle.graph_core.specs.Structure.{IsBicritical}
+use Rattle.std.specs.declared.option.Option.{Option}
+use Rattle.std.specs.declared.option.Option.TheVariants.{Some, None}
+use Rattle.graph_core.specs.declared.verdict.Kind.{Kind}
+use Rattle.graph_core.specs.declared.verdict.Kind.TheVariants as kind
+use Rattle.leaf_kinds.specs.LeafKinds.{HasNoTightCut, IsKind}
+use Rattle.report_text.specs.declared.tallies.Tally.{Tally}
+use Rattle.list_lines.specs.Standings.{IsCounted}
+use Rattle.list_lines.specs.declared.query.Property.{Property}
+use Rattle.list_lines.specs.declared.query.Property.TheVariants.{Covered, Brick, Brace, Bicritical, Composite, Bricks}
+
+-- the graph has the property; so many bricks: as the leaves of some derivation are counted
+abbrev pub HasProperty : Graph → Property → Type 0
+HasProperty g Covered = IsCovered g
+HasProperty g Brick = IsCovered g × IsKind g kind.Brick
+HasProperty g Brace = IsCovered g × IsKind g kind.Brace
+HasProperty g Bicritical = IsBicritical g
+HasProperty g Composite = IsCovered g × ((cut : List ℕ) × IsKind g (kind.Composite cut))
+HasProperty g (Bricks count) = (tally : Tally) × IsCounted g tally × (tally.bricks ≡ count)
+
+-- it has not; not so many bricks: it is not covered, or the leaves of some derivation are counted otherwise
+abbrev pub LacksProperty : Graph → Property → Type 0
+LacksProperty g (Bricks count) = (¬ IsCovered g) ⊎ ((tally : Tally) × IsCounted g tally × (tally.bricks ≢ count))
+LacksProperty g property = HasProperty g property → ⊥
+
+-- the answer is right
+abbrev pub Decides : Graph → Property → Bool → Type 0
+Decides g property true = HasProperty g property
+Decides g property false = LacksProperty g property
+
+-- the line itself where its graph has the property, and nothing where it has not
+abbrev pub IsSelected : Property → Graph → (line bytes : List ℕ) → Type 0
+IsSelected property g line bytes = (HasProperty g property × (bytes ≡ line)) ⊎ (LacksProperty g property × (bytes ≡ []))
+
+-- the kind of a covered graph, and none of one that is not covered
+abbrev pub TellsKind : Graph → Option Kind → Type 0
+TellsKind g (Some kind) = IsCovered g × IsKind g kind
+TellsKind g None = ¬ IsCovered g
+
+-- how the leaves of a derivation are counted, where there is one
+abbrev pub TellsTally : Graph → Option Tally → Type 0
+TellsTally g (Some tally) = IsCounted g tally
+TellsTally g None = ¬ IsCovered g

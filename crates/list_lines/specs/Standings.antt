@@ -1,0 +1,64 @@
+-- How a graph stands among the matching covered graphs (Lovász 1987; Lucchesi and Murty, "Perfect Matchings").
+use Rattle.std.specs.Prelude.{◌≡◌, ◌↔◌, ℕ, Bool, IsTrue}
+use Rattle.graph_core.specs.Covered
+use Rattle.graph_core.specs.Covered.{IsCovered, IsReason}
+use Rattle.graph_core.specs.Graph.{Graph}
+use Rattle.graph_core.specs.Structure.{IsBicritical}
+use Rattle.graph_core.specs.declared.verdict.Kind.{Kind}
+use Rattle.graph_core.specs.declared.verdict.Kind.TheVariants as kind
+use Rattle.leaf_kinds.specs.LeafKinds.{IsKind}
+use Rattle.tree_core.specs.Derivations.{IsDerivation}
+use Rattle.tree_core.specs.Leaves.{leaves}
+use Rattle.tree_core.specs.Shapes.{Shape}
+use Rattle.report_text.specs.Tallies.{IsTally}
+use Rattle.report_text.specs.declared.tallies.Tally.{Tally}
+use Rattle.std.specs.declared.option.Option.{Option}
+use Rattle.std.specs.declared.option.Option.TheVariants.{Some, None}
+use Rattle.graph_core.specs.declared.verdict.Reason.{Reason}
+use Rattle.list_lines.specs.declared.standing.Standing.{Standing}
+use Rattle.list_lines.specs.declared.standing.Standing.TheVariants.{Uncovered, Covered as IsSaid}
+use Rattle.list_lines.specs.declared.standing.Sort.{Sort}
+use Rattle.list_lines.specs.declared.standing.Sort.TheVariants as sort
+use Rattle.list_lines.specs.declared.standing.Why.{Why}
+use Rattle.list_lines.specs.declared.standing.Why.TheVariants.{Order, Parts, Berge, Edge}
+
+-- some derivation of the graph has so many leaves, and so many bricks and braces among them
+pub record IsCounted (g : Graph) (tally : Tally) : Type 0 where
+  pub tree : Shape
+  pub derivation : IsDerivation g tree
+  pub counts : IsTally g (leaves g.order tree) tally
+
+-- what is told of a kind
+abbrev pub sort_of : Kind → Sort
+sort_of kind.Brick = sort.Brick
+sort_of kind.Brace = sort.Brace
+sort_of (kind.Composite cut) = sort.Composite
+
+-- what is told of a covered graph is right
+pub record IsStructured (g : Graph) (sort : Sort) (bricks braces : ℕ) (bicritical : Bool) : Type 0 where
+  pub covered : IsCovered g
+  pub kind : Kind
+  pub right_kind : IsKind g kind
+  pub of_kind : sort ≡ sort_of kind
+  pub tally : Tally
+  pub counted : IsCounted g tally
+  pub counted_bricks : bricks ≡ tally.bricks
+  pub counted_braces : braces ≡ tally.braces
+  pub critical : IsTrue bicritical ↔ IsBicritical g
+
+-- what is told of a reason why a graph is not covered
+abbrev pub why_of : Covered.Reason → Why
+why_of Covered.Small = Order
+why_of (Covered.Parted a b) = Parts
+why_of (Covered.Unmatched berge) = Berge
+why_of (Covered.Unallowed edge) = Edge
+
+-- the graph is not covered, for a first reason of which this is told, or what is told of it as a covered graph is right
+abbrev pub IsStanding : Graph → Standing → Type 0
+IsStanding g (Uncovered why) = (reason : Covered.Reason) × IsReason g reason × (why ≡ why_of reason)
+IsStanding g (IsSaid sort bricks braces bicritical) = IsStructured g sort bricks braces bicritical
+
+-- a reason is told exactly where the graph is not covered
+abbrev pub TellsReason : Graph → Option Reason → Type 0
+TellsReason g None = IsCovered g
+TellsReason g (Some reason) = ¬ IsCovered g

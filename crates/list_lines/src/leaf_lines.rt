@@ -1,0 +1,200 @@
+//! The lines of `leaves`.
+ghost use Rattle.std.specs.Prelude.{◌≡◌, ◌<◌, ◌++◌, IfOk, OnOk, Err, All, length, map, string_bytes};
+ghost use Rattle.graph_core.specs.Covered.{IsCovered};
+ghost use Rattle.graph_core.specs.Quotients.{quotient};
+ghost use Rattle.graph_core.specs.Simple.{IsSimple};
+ghost use Rattle.tree_core.specs.Derivations.{IsDerivation};
+ghost use Rattle.tree_core.specs.Leaves.{leaves};
+ghost use Rattle.tree_core.specs.View.{shape_of};
+ghost use Rattle.decomposer.specs.Choices.{FnPicks, PicksInRange};
+ghost use Rattle.report_text.specs.Tallies.{IsLeafKind};
+ghost use Rattle.list_lines.specs.LeafLines.{AreLeafLines, AreLinesOf, leaf_end, leaf_line, line_front, quotient_line};
+ghost use Rattle.list_lines.specs.Orders.{IsPickedTree, Picks};
+
+use crate::query::LeafOrder;
+use contraction::{Contracted, Partition, quotient};
+use decomposer::{Order, Refused, balanced_place, decompose, decompose_first, last_place};
+use graph_core::{MultiGraph, Sides};
+use graph6_text::write_graph6;
+use report_text::LeafKind;
+use std::alloc::{AllocError as Memory, Global};
+use tight_cuts::Candidate;
+use tree_core::{Partitions, Tree, leaves};
+
+/// The lines of the leaves of the derivation that the order picks, for a graph that stands in the line with this number; nothing
+/// where the graph is not matching covered.
+pub fn leaf_lines(
+    alloc: Global,
+    g: &MultiGraph,
+    order: LeafOrder,
+    number: u64,
+) -> Result<Vec<u8>, Memory>
+    ensures { IfOk result (λ lines. AreLeafLines order number g.now lines.items) }
+{
+    match decomposed(alloc, g, order) {
+        Ok(tree) => {
+            let lines = lines_of_tree(alloc, g, &tree, number)?;
+            Ok(lines)
+        }
+        Err(Refused::NotCovered(_)) => Ok(Vec::new(alloc)),
+        Err(Refused::Memory) => Err(Memory),
+    }
+}
+
+// The derivation that the order picks.
+fn decomposed(alloc: Global, g: &MultiGraph, order: LeafOrder) -> Result<Tree, Refused>
+    ensures tree { IfOk result (λ tree. IsPickedTree (Picks order) g.now (shape_of tree)) }
+    ensures uncovered { (r : _) → result ≡ Err (Refused.NotCovered r) → ¬ IsCovered g.now }
+{
+    match order {
+        LeafOrder::First => decomposed_first(alloc, g),
+        LeafOrder::Last => decomposed_last(alloc, g),
+        LeafOrder::Balanced => decomposed_balanced(alloc, g),
+    }
+}
+
+// The derivation for which the first candidates are picked. No other candidate is looked for.
+fn decomposed_first(alloc: Global, g: &MultiGraph) -> Result<Tree, Refused>
+    ensures tree { IfOk result (λ tree. IsPickedTree (Picks LeafOrder.First) g.now (shape_of tree)) }
+    ensures uncovered { (r : _) → result ≡ Err (Refused.NotCovered r) → ¬ IsCovered g.now }
+{
+    match decompose_first(alloc, g) {
+        Ok(tree) => Ok(tree),
+        Err(refused) => Err(refused),
+    }
+}
+
+// The derivation that any order picks.
+fn decomposed_in<F: Fn(&[Candidate], usize) -> usize>(
+    alloc: Global,
+    g: &MultiGraph,
+    order: &Order<F>,
+) -> Result<Tree, Refused>
+    requires { PicksInRange F.Fn order.now.f }
+    ensures tree { IfOk result (λ tree. IsPickedTree (FnPicks F.Fn order.now.f) g.now (shape_of tree)) }
+    ensures uncovered { (r : _) → result ≡ Err (Refused.NotCovered r) → ¬ IsCovered g.now }
+{
+    match decompose(alloc, g, order) {
+        Ok(tree) => Ok(tree),
+        Err(refused) => Err(refused),
+    }
+}
+
+// The derivation for which the last candidates are picked.
+fn decomposed_last(alloc: Global, g: &MultiGraph) -> Result<Tree, Refused>
+    ensures tree { IfOk result (λ tree. IsPickedTree (Picks LeafOrder.Last) g.now (shape_of tree)) }
+    ensures uncovered { (r : _) → result ≡ Err (Refused.NotCovered r) → ¬ IsCovered g.now }
+{
+    let order = Order::new(|list: &[Candidate], cuts: usize| last_place(list, cuts));
+    match decomposed_in(alloc, g, &order) {
+        Ok(tree) => Ok(tree),
+        Err(refused) => Err(refused),
+    }
+}
+
+// The derivation for which the first candidates are picked whose sides differ least in size.
+fn decomposed_balanced(alloc: Global, g: &MultiGraph) -> Result<Tree, Refused>
+    ensures tree { IfOk result (λ tree. IsPickedTree (Picks LeafOrder.Balanced) g.now (shape_of tree)) }
+    ensures uncovered { (r : _) → result ≡ Err (Refused.NotCovered r) → ¬ IsCovered g.now }
+{
+    let order = Order::new(|list: &[Candidate], cuts: usize| balanced_place(list, cuts));
+    match decomposed_in(alloc, g, &order) {
+        Ok(tree) => Ok(tree),
+        Err(refused) => Err(refused),
+    }
+}
+
+// The lines of the leaves of a derivation.
+fn lines_of_tree(alloc: Global, g: &MultiGraph, tree: &Tree, number: u64) -> Result<Vec<u8>, Memory>
+    requires { IsDerivation g.now (shape_of tree.now) }
+    ensures { IfOk result (λ lines. AreLinesOf (line_front number) g.now (leaves g.now.order (shape_of tree.now)) lines.items) }
+{
+    g.keeps_limits();
+    let n = g.order();
+    let found = leaves(alloc, tree, n)?;
+    let front = format!(in alloc; "{number} ")?;
+    let lines = lines_of_leaves(alloc, g, &found, front.as_str())?;
+    Ok(lines)
+}
+
+// The lines of the leaves at these partitions, each behind the same front.
+fn lines_of_leaves(
+    alloc: Global,
+    g: &MultiGraph,
+    found: &Partitions,
+    front: &str,
+) -> Result<Vec<u8>, Memory>
+    requires { All (λ p. p.order ≡ g.now.order) found.now }
+    ensures { IfOk result (λ lines. AreLinesOf front.now g.now (map (λ p. p.blocks) found.now) lines.items) }
+{
+    let mut lines = Vec::new(alloc);
+    let mut kinds = Vec::new(alloc);
+    for i in 0..found.len() {
+        let kind = push_leaf(alloc, &mut lines, g, found.get(i), front)?;
+        kinds.push(kind)?;
+    }
+    Ok(lines)
+}
+
+// Appends the line of the leaf at a partition, and tells its kind.
+fn push_leaf(
+    alloc: Global,
+    lines: &mut Vec<u8>,
+    g: &MultiGraph,
+    p: &Partition,
+    front: &str,
+) -> Result<LeafKind, Memory>
+    requires { p.now.order ≡ g.now.order }
+    ensures kind { IfOk result (λ kind. IsLeafKind g.now p.now.blocks kind) }
+    ensures line { IfOk result (λ kind. lines.new.items ≡ lines.old.items ++ leaf_line front.now g.now p.now.blocks kind) }
+{
+    let q = leaf_quotient(alloc, g, p)?;
+    match q.graph().two_sides(alloc)? {
+        Sides::Even { .. } => {
+            push_line(alloc, lines, q.graph(), front, LeafKind::Brace)?;
+            Ok(LeafKind::Brace)
+        }
+        Sides::Odd { .. } => {
+            push_line(alloc, lines, q.graph(), front, LeafKind::Brick)?;
+            Ok(LeafKind::Brick)
+        }
+    }
+}
+
+// The quotient at a partition, a simple graph.
+#[tactic(auto, using(crate::proofs::SimpleQuotients::simple_quotient))]
+fn leaf_quotient(alloc: Global, g: &MultiGraph, p: &Partition) -> Result<Contracted, Memory>
+    requires { p.now.order ≡ g.now.order }
+    ensures graph { IfOk result (λ q. q.graph ≡ quotient g.now p.now.blocks) }
+    ensures simple { IfOk result (λ q. IsSimple q.graph) }
+{
+    let q = quotient(alloc, g, p)?;
+    Ok(q)
+}
+
+// Appends the line of a leaf of this kind with this quotient.
+fn push_line(
+    alloc: Global,
+    lines: &mut Vec<u8>,
+    q: &MultiGraph,
+    front: &str,
+    kind: LeafKind,
+) -> Result<(), Memory>
+    requires { IsSimple q.now }
+    ensures { OnOk result (lines.new.items ≡ lines.old.items ++ quotient_line front.now q.now kind) }
+{
+    let text = write_graph6(alloc, q)?;
+    lines.extend_from_slice(front.as_bytes())?;
+    lines.extend_from_slice(&text)?;
+    lines.extend_from_slice(leaf_end(kind).as_bytes())
+}
+
+// The end of the line of a leaf of this kind.
+fn leaf_end(kind: LeafKind) -> &'static str
+    ensures { result.now ≡ leaf_end kind }
+{
+    match kind {
+        LeafKind::Brick => " brick\n",
+        LeafKind::Brace => " brace\n",
+    }
+}

@@ -1,0 +1,40 @@
+//! What is asked of each line.
+
+/// An order of choice for a decomposition: at each node the first candidate is picked, the last, or the first of those whose sides
+/// differ least in size.
+#[derive(Clone, Copy, Debug, PartialEq, Eq)]
+pub enum LeafOrder {
+    First,
+    Last,
+    Balanced,
+}
+
+/// A property of a graph.
+#[derive(Clone, Copy, Debug, PartialEq, Eq)]
+pub enum Property {
+    /// The graph is matching covered.
+    Covered,
+    /// It is a brick: covered, not bipartite, and without a nontrivial tight cut.
+    Brick,
+    /// It is a brace: covered, bipartite, and without a nontrivial tight cut.
+    Brace,
+    /// It is bicritical: there is a perfect matching without any two of its vertices.
+    Bicritical,
+    /// It is covered and has a nontrivial tight cut.
+    Composite,
+    /// It is covered, and so many leaves of its tight cut decompositions are bricks.
+    Bricks { count: u32 },
+}
+
+/// What is asked of a graph.
+#[derive(Clone, Copy, Debug, PartialEq, Eq)]
+pub enum Query {
+    /// Its kind, and the numbers of its bricks and braces.
+    Kinds,
+    /// The leaves of its decomposition in this order, as graphs.
+    Leaves { order: LeafOrder },
+    /// The canonical text of its graph file.
+    Graph,
+    /// The line itself, where the graph has this property.
+    Select { property: Property },
+}

@@ -1,0 +1,116 @@
+//! Whether a graph has a property.
+ghost use Rattle.std.specs.Prelude.{◌≡◌, IfOk};
+ghost use Rattle.list_lines.specs.Selecting.{Decides, IsSelected, TellsKind, TellsTally};
+
+use crate::query::Property;
+use crate::standing::{counted, is_covered};
+use graph_core::{Kind, MultiGraph};
+use leaf_kinds::kind;
+use report_text::Tally;
+use separation_kit::{first_pairs_law, not_bicritical};
+use std::alloc::{AllocError as Memory, Global};
+
+/// The line itself where its graph has the property, and nothing where it has not.
+pub fn selected(
+    alloc: Global,
+    g: &MultiGraph,
+    property: Property,
+    line: &[u8],
+) -> Result<Vec<u8>, Memory>
+    ensures { IfOk result (λ bytes. IsSelected property g.now line.now bytes.items) }
+{
+    if has_property(alloc, g, property)? {
+        Vec::from_slice(alloc, line)
+    } else {
+        Ok(Vec::new(alloc))
+    }
+}
+
+// Whether the graph has the property.
+fn has_property(alloc: Global, g: &MultiGraph, property: Property) -> Result<bool, Memory>
+    ensures { IfOk result (Decides g.now property) }
+{
+    match property {
+        Property::Covered => is_covered(alloc, g),
+        Property::Brick => is_brick(alloc, g),
+        Property::Brace => is_brace(alloc, g),
+        Property::Bicritical => is_bicritical(alloc, g),
+        Property::Composite => is_composite(alloc, g),
+        Property::Bricks { count } => has_bricks(alloc, g, count),
+    }
+}
+
+// Whether the graph is bicritical.
+fn is_bicritical(alloc: Global, g: &MultiGraph) -> Result<bool, Memory>
+    ensures { IfOk result (Decides g.now Property.Bicritical) }
+{
+    first_pairs_law();
+    match not_bicritical(alloc, g)? {
+        Some(_) => Ok(false),
+        None => Ok(true),
+    }
+}
+
+// The kind of the graph, if it is matching covered.
+fn kind_if_covered(alloc: Global, g: &MultiGraph) -> Result<Option<Kind>, Memory>
+    ensures { IfOk result (TellsKind g.now) }
+{
+    if is_covered(alloc, g)? {
+        let kind = kind(alloc, g)?;
+        Ok(Some(kind))
+    } else {
+        Ok(None)
+    }
+}
+
+// Whether the graph is a brick.
+fn is_brick(alloc: Global, g: &MultiGraph) -> Result<bool, Memory>
+    ensures { IfOk result (Decides g.now Property.Brick) }
+{
+    match kind_if_covered(alloc, g)? {
+        Some(Kind::Brick) => Ok(true),
+        _ => Ok(false),
+    }
+}
+
+// Whether the graph is a brace.
+fn is_brace(alloc: Global, g: &MultiGraph) -> Result<bool, Memory>
+    ensures { IfOk result (Decides g.now Property.Brace) }
+{
+    match kind_if_covered(alloc, g)? {
+        Some(Kind::Brace) => Ok(true),
+        _ => Ok(false),
+    }
+}
+
+// Whether the graph is covered and has a nontrivial tight cut.
+fn is_composite(alloc: Global, g: &MultiGraph) -> Result<bool, Memory>
+    ensures { IfOk result (Decides g.now Property.Composite) }
+{
+    match kind_if_covered(alloc, g)? {
+        Some(Kind::Composite { .. }) => Ok(true),
+        _ => Ok(false),
+    }
+}
+
+// The numbers of the leaves of the graph, if it is matching covered.
+fn tally_if_covered(alloc: Global, g: &MultiGraph) -> Result<Option<Tally>, Memory>
+    ensures { IfOk result (TellsTally g.now) }
+{
+    if is_covered(alloc, g)? {
+        let tally = counted(alloc, g)?;
+        Ok(Some(tally))
+    } else {
+        Ok(None)
+    }
+}
+
+// Whether the graph is covered, and so many of its leaves are bricks.
+fn has_bricks(alloc: Global, g: &MultiGraph, count: u32) -> Result<bool, Memory>
+    ensures { IfOk result (Decides g.now (Property.Bricks count)) }
+{
+    match tally_if_covered(alloc, g)? {
+        Some(tally) => Ok(tally.bricks == count),
+        None => Ok(false),
+    }
+}

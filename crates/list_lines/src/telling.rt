@@ -1,0 +1,86 @@
+//! What is told of a line.
+ghost use Rattle.std.specs.Prelude.{◌≡◌, IfOk, Ok};
+ghost use Rattle.graph6_text.specs.Reading.{outcome_of};
+ghost use Rattle.graph_core.specs.Simple.{IsSimple};
+ghost use Rattle.list_lines.specs.Telling.{IsAnswer, IsFileAnswer};
+
+use crate::kind_lines::kind_line;
+use crate::leaf_lines::leaf_lines;
+use crate::query::Query;
+use crate::selecting::selected;
+use graph_core::{FaultKind, MultiGraph, TextFault};
+use graph_text::write_graph;
+use graph6_text::read_graph6;
+use std::alloc::{AllocError as Memory, Global};
+
+/// The answer for a line.
+#[derive(Drop)]
+pub enum Told {
+    /// These bytes are written for it.
+    Output { bytes: Vec<u8> },
+    /// The line is bad: this is the kind of its fault.
+    Bad { kind: FaultKind },
+}
+
+/// The most vertices of a graph file.
+const MOST_FILE_VERTICES: u32 = 64;
+
+/// The most edges of a graph file.
+const MOST_FILE_EDGES: u32 = 512;
+
+/// The answer for a line with this number, counted from 1: what the query asks of the graph that stands in the line, or the kind of
+/// the line's fault. The line may have a header before the graph6 text and a line end behind it, as `read_graph6` has it. A graph
+/// that is too large for a graph file is a fault of the kind `Limit` where its file is asked for.
+pub fn tell(alloc: Global, query: &Query, number: u64, line: &[u8]) -> Result<Told, Memory>
+    ensures { IfOk result (IsAnswer query.now number line.now) }
+{
+    match read_graph6(alloc, line) {
+        Ok(g) => answer(alloc, query, number, line, &g),
+        Err(TextFault::At { kind, .. }) => Ok(Told::Bad { kind }),
+        Err(TextFault::Memory) => Err(Memory),
+    }
+}
+
+// The answer for a line in which the graph stands.
+fn answer(
+    alloc: Global,
+    query: &Query,
+    number: u64,
+    line: &[u8],
+    g: &MultiGraph,
+) -> Result<Told, Memory>
+    requires stands { outcome_of line.now ≡ Ok g.now }
+    requires simple { IsSimple g.now }
+    ensures { IfOk result (IsAnswer query.now number line.now) }
+{
+    match query {
+        Query::Kinds => {
+            let bytes = kind_line(alloc, g)?;
+            Ok(Told::Output { bytes })
+        }
+        Query::Leaves { order } => {
+            let bytes = leaf_lines(alloc, g, *order, number)?;
+            Ok(Told::Output { bytes })
+        }
+        Query::Graph => {
+            let answer = file_text(alloc, g)?;
+            Ok(answer)
+        }
+        Query::Select { property } => {
+            let bytes = selected(alloc, g, *property, line)?;
+            Ok(Told::Output { bytes })
+        }
+    }
+}
+
+// The canonical text of the graph file, or that the graph is too large for one.
+fn file_text(alloc: Global, g: &MultiGraph) -> Result<Told, Memory>
+    ensures { IfOk result (IsFileAnswer g.now) }
+{
+    if g.order() > MOST_FILE_VERTICES || g.size() > MOST_FILE_EDGES {
+        let kind = FaultKind::Limit;
+        return Ok(Told::Bad { kind });
+    }
+    let bytes = write_graph(alloc, g)?;
+    Ok(Told::Output { bytes })
+}
