@@ -1,0 +1,87 @@
+-- What the words ask for: one case for each row of the table of words.
+use Rattle.std.specs.Prelude.{ℕ, List, [], ◌∷◌, drop, nat_eq, codes, if◌then◌else◌}
+use Rattle.std.specs.declared.option.Option.{Option}
+use Rattle.std.specs.declared.option.Option.TheVariants.{Some, None}
+use Rattle.std.specs.List.{starts_with}
+use Rattle.std.specs.Option.{option_map}
+use Rattle.std.specs.Str.{bytes_eq}
+use Rattle.line_text.specs.Numerals.{number_of}
+use Rattle.list_lines.specs.declared.query.LeafOrder.{LeafOrder}
+use Rattle.list_lines.specs.declared.query.LeafOrder.TheVariants.{First, Last, Balanced}
+use Rattle.list_lines.specs.declared.query.Property.{Property}
+use Rattle.list_lines.specs.declared.query.Property.TheVariants.{Covered, Brick, Brace, Bicritical, Composite, Bricks}
+use Rattle.list_lines.specs.declared.query.Query.{Query}
+use Rattle.list_lines.specs.declared.query.Query.TheVariants.{Kinds, Leaves, Graph, Select}
+
+-- what is asked of each graph of a list, and the name of the file that holds the list, if it is not the standard input
+pub record Command : Type 0 where
+  pub query : Query
+  pub file : Option (List ℕ)
+
+-- the order of choice that a word names, if it names one
+abbrev pub order_named : List ℕ → Option LeafOrder
+order_named word =
+    if bytes_eq word (codes "first") then Some First else
+    if bytes_eq word (codes "last") then Some Last else
+    if bytes_eq word (codes "balanced") then Some Balanced else None
+
+-- `bricks=` and a number
+abbrev pub bricks_property : List ℕ → Option Property
+bricks_property word =
+    if starts_with nat_eq word (codes "bricks=") then option_map Bricks (number_of (drop 7 word)) else None
+
+-- the property that a word names, if it names one
+abbrev pub property_named : List ℕ → Option Property
+property_named word =
+    if bytes_eq word (codes "covered") then Some Covered else
+    if bytes_eq word (codes "brick") then Some Brick else
+    if bytes_eq word (codes "brace") then Some Brace else
+    if bytes_eq word (codes "bicritical") then Some Bicritical else
+    if bytes_eq word (codes "composite") then Some Composite else bricks_property word
+
+-- what one word asks for; leaves are those of the first order
+abbrev pub query_named : List ℕ → Option Query
+query_named word =
+    if bytes_eq word (codes "kinds") then Some Kinds else
+    if bytes_eq word (codes "leaves") then Some (Leaves First) else
+    if bytes_eq word (codes "graph") then Some Graph else None
+
+-- the leaves in the order that a word names, if it names one
+unfoldable pub leaves_named : List ℕ → Option Query
+leaves_named word = option_map Leaves (order_named word)
+
+-- the graphs with the property that a word names, if it names one
+unfoldable pub select_named : List ℕ → Option Query
+select_named word = option_map Select (property_named word)
+
+-- what two words ask for
+abbrev pub pair_named : List ℕ → List ℕ → Option Query
+pair_named word second =
+    if bytes_eq word (codes "leaves") then leaves_named second else
+    if bytes_eq word (codes "select") then select_named second else None
+
+-- a query of the list in a file
+abbrev pub command_with : Option Query → Option (List ℕ) → Option Command
+command_with None file = None
+command_with (Some query) file = Some (record { query = query; file = file })
+
+-- what two words ask for: where they ask for no query, the second is the name of the file
+abbrev pub pair_or_file : Option Query → List ℕ → List ℕ → Option Command
+pair_or_file (Some query) word second = Some (record { query = query; file = None })
+pair_or_file None word second = command_with (query_named word) (Some second)
+
+abbrev pub pair_command : List ℕ → List ℕ → Option Command
+pair_command word second = pair_or_file (pair_named word second) word second
+
+-- the command that the words ask for; none where they match no row
+abbrev pub command_of : List (List ℕ) → Option Command
+command_of [] = None
+command_of (word ∷ []) = command_with (query_named word) None
+command_of (word ∷ second ∷ []) = pair_command word second
+command_of (word ∷ second ∷ third ∷ []) = command_with (pair_named word second) (Some third)
+command_of (word ∷ second ∷ third ∷ fourth ∷ words) = None
+
+-- the name of the file of a command, if there is one
+abbrev pub file_of : Option Command → Option (List ℕ)
+file_of None = None
+file_of (Some command) = command.file

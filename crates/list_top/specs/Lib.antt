@@ -1,0 +1,5 @@
+pub mod Commands
+pub mod Asked
+pub mod Listings
+pub mod Statuses
+pub mod Outcomes

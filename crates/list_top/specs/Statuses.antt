@@ -1,0 +1,23 @@
+-- The statuses, their codes, and the endings of lists.
+use Rattle.std.specs.Prelude.{ℕ}
+use Rattle.list_reader.specs.declared.ending.Ending.{Ending}
+use Rattle.list_reader.specs.declared.ending.Ending.TheVariants as ending
+use Rattle.list_top.specs.declared.status.Status.{Status}
+use Rattle.list_top.specs.declared.status.Status.TheVariants.{Done, Usage, ReadFault, BadInput, WriteFault, Memory}
+
+-- the code with which the program ends
+abbrev pub code_of : Status → ℕ
+code_of Done = 0
+code_of Usage = 2
+code_of ReadFault = 3
+code_of BadInput = 4
+code_of WriteFault = 5
+code_of Memory = 6
+
+-- the status of a list that ended so
+abbrev pub status_of : Ending → Status
+status_of ending.Done = Done
+status_of ending.Bad = BadInput
+status_of ending.ReadFault = ReadFault
+status_of ending.WriteFault = WriteFault
+status_of ending.Memory = Memory

@@ -1,0 +1,20 @@
+//! The top call of the program `mcg6`: `run` does what the words ask for, for each graph of a list.
+//!
+//! The words are a `Command`: what is asked of each graph (`Query` of `list_lines`), and the file that holds the list, if it is
+//! not the standard input. The list is read by `tell_all` of `list_reader`, line by line. Main definitions, in specs/:
+//! `command_of` (what the words ask for), `TellsLineOf` and `IsBadLine` (what is told of one line: a file of one graph may have
+//! one line alone), and `Outcome`, which ties the bytes of the list, the status and the output together. Main promises: the
+//! clauses of `run`.
+//!
+//! Stands on `list_lines`, `list_reader`, `line_text` for numbers, and `outside` for the source and the sink.
+#![tactic(auto)]
+
+mod command;
+mod lister;
+mod plan;
+mod running;
+mod status;
+
+pub use plan::file_name;
+pub use running::run;
+pub use status::Status;

@@ -1,0 +1,44 @@
+//! The statuses of a run.
+ghost use Rattle.std.specs.Prelude.{◌≡◌};
+ghost use Rattle.list_top.specs.Statuses.{code_of, status_of};
+
+use list_reader::Ending;
+
+/// How a run ended. The codes are those of `mcg`, which has one more, 1.
+#[derive(Clone, Copy, Debug, PartialEq, Eq)]
+pub enum Status {
+    /// Each line was told.
+    Done = 0,
+    /// The words match no command; nothing was read or written.
+    Usage = 2,
+    /// The list could not be read; the outputs of the whole lines before were written.
+    ReadFault = 3,
+    /// A line is bad; the outputs of the lines before it were written, and the last line names it.
+    BadInput = 4,
+    /// The output could not be written whole; a part of it may have been.
+    WriteFault = 5,
+    /// Memory ran out; the outputs of some first lines were written.
+    Memory = 6,
+}
+
+impl Status {
+    /// The code with which the program ends. Takes no memory.
+    pub fn code(self) -> u8
+        ensures { result ≡ code_of self }
+    {
+        self as u8
+    }
+}
+
+// The status of a list that ended so.
+pub fn status_of(ending: Ending) -> Status
+    ensures { result ≡ status_of ending }
+{
+    match ending {
+        Ending::Done => Status::Done,
+        Ending::Bad => Status::BadInput,
+        Ending::ReadFault => Status::ReadFault,
+        Ending::WriteFault => Status::WriteFault,
+        Ending::Memory => Status::Memory,
+    }
+}
