@@ -9,91 +9,102 @@ use outside::{CountSink, MemSink};
 use std::alloc::Global;
 use std::test::Fail;
 
-// Runs of each command that are done or refused: the words, the files that they name, and whether the run is done.
-static RUNS: [(&[&str], &[&str], bool); 22] = [
-    (&["analyse", "g"], &[K4], true),
-    (&["analyse", "g"], &[TWO_EDGES], true),
-    (&["convert", "g"], &[NAMED_CYCLE], true),
-    (&["analyse6", "g"], &["C~\n"], true),
-    (&["decompose", "g", "first"], &[HEXAGON], true),
-    (&["decompose", "g", "last"], &[PATH], false),
-    (&["decompose", "g", "balanced"], &[NAMED_CYCLE], true),
+// Runs of each command that are done or refused, and two whose last file is outside its format: the words, the files that they name,
+// and the status.
+static RUNS: [(&[&str], &[&str], Status); 24] = [
+    (&["analyse", "g"], &[K4], Status::Done),
+    (&["analyse", "g"], &[TWO_EDGES], Status::Done),
+    (&["convert", "g"], &[NAMED_CYCLE], Status::Done),
+    (&["analyse6", "g"], &["C~\n"], Status::Done),
+    (&["decompose", "g", "first"], &[HEXAGON], Status::Done),
+    (&["decompose", "g", "last"], &[PATH], Status::Negative),
+    (
+        &["decompose", "g", "balanced"],
+        &[NAMED_CYCLE],
+        Status::Done,
+    ),
     (
         &["decompose", "g", "script", "s"],
         &[HEXAGON, "s mcg 1\npick 2\n"],
-        true,
+        Status::Done,
     ),
-    (&["check", "g", "s"], &[HEXAGON, HEXAGON_TREE], true),
+    (&["check", "g", "s"], &[HEXAGON, HEXAGON_TREE], Status::Done),
     (
         &["check", "g", "s"],
         &[PRISM, "t mcg 6\ncut 1 2 3\nleaf\nleaf\n"],
-        false,
+        Status::Negative,
     ),
     (
         &["checkears", "g", "s"],
         &[K4, "r mcg 4 6\nstart 1\near 2 4 6 3\near 1 2\nwith 2 5\n"],
-        true,
+        Status::Done,
     ),
     (
         &["checkears", "g", "s"],
         &[K4, "r mcg 4 6\nstart 1\near 2 4 3\n"],
-        false,
+        Status::Negative,
     ),
-    (&["ears", "g"], &[CUBE], true),
-    (&["ears", "g"], &[PATH], false),
+    (&["ears", "g"], &[CUBE], Status::Done),
+    (&["ears", "g"], &[PATH], Status::Negative),
     (
         &["compare", "g", "s", "t"],
         &[HEXAGON, HEXAGON_TREE, OTHER_HEXAGON_TREE],
-        true,
+        Status::Done,
     ),
     (
         &["compare", "g", "s", "t"],
         &[HEXAGON, HEXAGON_TREE, "t mcg 6\nleaf\n"],
-        false,
+        Status::Negative,
     ),
     (
         &["script", "g", "s", "t"],
         &[HEXAGON, HEXAGON_TREE, OTHER_HEXAGON_TREE],
-        true,
+        Status::Done,
     ),
     (
         &["script", "g", "s", "t"],
         &[HEXAGON, "t mcg 6\nleaf\n", HEXAGON_TREE],
-        false,
+        Status::Negative,
     ),
     (
         &["replay", "g", "s", "t"],
         &[HEXAGON, HEXAGON_TREE, "m mcg 6\nswitch . 1 4\n"],
-        true,
+        Status::Done,
     ),
     (
         &["replay", "g", "s", "t"],
         &[HEXAGON, "t mcg 6\ncut 1 2\nleaf\nleaf\n", "m mcg 6\n"],
-        false,
+        Status::Negative,
     ),
-    (&["grow", "7", "1"], &[], true),
-    (&["grow", "7", "3"], &[], true),
+    (&["grow", "7", "1"], &[], Status::Done),
+    (&["grow", "7", "3"], &[], Status::Done),
+    (&["analyse", "g"], &["p mcg 2 1\ne 1 1\n"], Status::BadInput),
+    (
+        &["script", "g", "s", "t"],
+        &[HEXAGON, HEXAGON_TREE, "t mcg 6\ncut 6 2\n"],
+        Status::BadInput,
+    ),
 ];
 
-// The status of a run that is done or not.
-fn status_of(done: bool) -> Status {
-    if done { Status::Done } else { Status::Negative }
-}
-
 // Whether the run has its status, and the same with as many bytes over a sink that only counts.
-fn counts_alike(alloc: Global, words: &[&str], files: &[&str], done: bool) -> Result<bool, Fail> {
+fn counts_alike(
+    alloc: Global,
+    words: &[&str],
+    files: &[&str],
+    wanted: Status,
+) -> Result<bool, Fail> {
     let (status, written) = ran(alloc, words, files)?;
     let mut shelf = shelf_of(alloc, files)?;
     let mut sink = CountSink::new();
     let words = words_of(alloc, words)?;
     let counted = run(alloc, &words, &mut shelf, &mut sink);
-    Ok(status == status_of(done) && counted == status && sink.count() == written.len() as u64)
+    Ok(status == wanted && counted == status && sink.count() == written.len() as u64)
 }
 
 #[test]
 fn nothing_fails(rt: HostRuntime) -> Result<(), Fail> {
-    for (words, files, done) in &RUNS {
-        assert!(rt; counts_alike(rt.alloc(), words, files, *done)?);
+    for (words, files, status) in &RUNS {
+        assert!(rt; counts_alike(rt.alloc(), words, files, *status)?);
     }
     Ok(())
 }

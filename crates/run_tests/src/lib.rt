@@ -1,8 +1,8 @@
 //! Tests of the top call `bench_top::run`: what each command answers and writes.
 //!
 //! A row of a table has the files of a run and the report that is wanted, byte by byte; `trial` walks the rows of a command. `analysing`,
-//! `decomposing`, `checking`, `comparing`, `replaying` and `growing` have the worked reports of the commands. `words`: words that match no
-//! row, over which nothing is read. `malformed`: one table for each text format, with each row of its table of faults. `faults`: over all
+//! `decomposing`, `checking`, `comparing`, `replaying` and `growing` have the worked reports of the commands. `named`: graphs in version 2
+//! over the commands whose reports tell no names. `words`: words that match no row, over which nothing is read. `malformed`: one table for each text format, with each row of its table of faults. `faults`: over all
 //! commands each read and each write fails in turn, each file is missing in turn, and the room of the sink is too small; and over a sink
 //! that only counts nothing fails.
 //!
@@ -27,6 +27,8 @@ mod graphs;
 mod growing;
 #[cfg(test)]
 mod malformed;
+#[cfg(test)]
+mod named;
 #[cfg(test)]
 mod replaying;
 #[cfg(test)]

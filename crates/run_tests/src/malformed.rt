@@ -1,5 +1,5 @@
 //! Files outside their format: for each format each row of its table of faults, with the line and the kind of the first fault.
-use crate::graphs::{HEXAGON, HEXAGON_TREE, K4, TWO_EDGES};
+use crate::graphs::{HEXAGON, HEXAGON_TREE, K4, OTHER_HEXAGON_TREE, TWO_EDGES};
 use crate::trial::{Row, answers, first_wrong};
 use bench_top::Status;
 use std::alloc::{AllocError as Memory, Global};
@@ -321,11 +321,25 @@ fn the_first_bad_file(rt: HostRuntime) -> Result<(), Fail> {
     Ok(())
 }
 
-// A second tree outside the format.
-static SECOND_TREES: [Row; 1] = [(
-    &[HEXAGON, HEXAGON_TREE, "t mcg 6\ncut 6 2\n"],
-    "file 3 line 2 kind 9\n",
-)];
+// Two trees, of which the second is outside the format, or both are: then the first one is told.
+static SECOND_TREES: [Row; 4] = [
+    (
+        &[HEXAGON, HEXAGON_TREE, "t mcg 6\ncut 6 2\n"],
+        "file 3 line 2 kind 9\n",
+    ),
+    (
+        &[HEXAGON, OTHER_HEXAGON_TREE, "s mcg 1\npick 2\n"],
+        "file 3 line 1 kind 1\n",
+    ),
+    (
+        &[HEXAGON, "t mcg 6\nleaf\n", "t mcg 6\ncut 2 3 4\nleaf\n"],
+        "file 3 line 4 kind 7\n",
+    ),
+    (
+        &[HEXAGON, "s mcg 1\npick 2\n", "t mcg 6\ncut 6 2\n"],
+        "file 2 line 1 kind 1\n",
+    ),
+];
 
 #[test]
 fn bad_second_trees(rt: HostRuntime) -> Result<(), Fail> {
