@@ -5,11 +5,11 @@ ghost use Rattle.counting.specs.Lists.{mem};
 ghost use Rattle.counting.specs.Sets.{none};
 ghost use Rattle.graph_core.specs.Covered.{IsCovered};
 ghost use Rattle.graph_core.specs.Structure.{IsBicritical, cut_pair};
-ghost use Rattle.graph_core.specs.Tight.{IsNontrivial, IsTight};
+ghost use Rattle.graph_core.specs.Tight.{HasNoTightCut, IsNontrivial, IsTight};
 ghost use Rattle.match_core.specs.Partners.{ArePartners};
 ghost use Rattle.separation_kit.specs.Pairs.{pair_of};
 ghost use Rattle.tight_cuts.specs.Candidates.{candidates, first_shore};
-ghost use Rattle.leaf_kinds.specs.LeafKinds.{HasNoTightCut, IsKind, IsSolid, cut_of};
+ghost use Rattle.leaf_kinds.specs.LeafKinds.{IsKind, IsSolid, cut_of};
 
 use graph_core::{Kind, MultiGraph, Sides};
 use match_core::PartnerTable;

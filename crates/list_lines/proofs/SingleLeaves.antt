@@ -8,7 +8,8 @@ use Rattle.graph_core.specs.Covered.{IsCovered}
 use Rattle.graph_core.specs.Graph.{Graph, IsBipartite, IsMultigraph}
 use Rattle.graph_core.specs.Partitions.{singles}
 use Rattle.graph_core.specs.declared.verdict.Kind.TheVariants.{Brace, Brick}
-use Rattle.leaf_kinds.specs.LeafKinds.{HasNoTightCut, IsKind}
+use Rattle.graph_core.specs.Tight.{HasNoTightCut}
+use Rattle.leaf_kinds.specs.LeafKinds.{IsKind}
 use Rattle.tree_core.proofs.DerivationShores.{nontrivial-vertices}
 use Rattle.tree_core.specs.Derivations.{IsDerivation, IsLeafAt}
 use Rattle.tree_core.specs.Shapes.{leaf}
