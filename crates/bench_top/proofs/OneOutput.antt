@@ -49,8 +49,8 @@ use Rattle.bench_top.specs.Outcome.{Analysed, Analysed6, CommandGives, Decompose
 use Rattle.bench_top.specs.Replays.{ReplayGives, ReplayedTree}
 use Rattle.bench_top.specs.Tasks.{Task}
 use Rattle.bench_top.specs.Tasks as task
-use Rattle.bench_top.specs.declared.order.NamedOrder.{NamedOrder}
-use Rattle.bench_top.specs.declared.order.NamedOrder.TheVariants.{First, Last, Balanced}
+use Rattle.bench_top.specs.declared.command.NamedOrder.{NamedOrder}
+use Rattle.bench_top.specs.declared.command.NamedOrder.TheVariants.{First, Last, Balanced}
 use Rattle.bench_top.specs.declared.status.Status.{Status}
 use Rattle.bench_top.specs.declared.status.Status.TheVariants.{Done, Negative, BadInput}
 use Rattle.bench_top.proofs.AlikeAnalyses.{analyses-alike}

@@ -32,8 +32,8 @@ use Rattle.bench_top.specs.RoundTrips.{AsksDone}
 use Rattle.bench_top.specs.Success.{Succeeds}
 use Rattle.bench_top.specs.Tasks.{Task}
 use Rattle.bench_top.specs.Tasks as task
-use Rattle.bench_top.specs.declared.order.NamedOrder.{NamedOrder}
-use Rattle.bench_top.specs.declared.order.NamedOrder.TheVariants.{First}
+use Rattle.bench_top.specs.declared.command.NamedOrder.{NamedOrder}
+use Rattle.bench_top.specs.declared.command.NamedOrder.TheVariants.{First}
 use Rattle.bench_top.specs.declared.status.Status.{Status}
 use Rattle.bench_top.specs.declared.status.Status.TheVariants.{Done, Negative}
 use Rattle.bench_top.proofs.FileReads.{file_read-value}

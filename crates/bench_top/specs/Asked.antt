@@ -1,6 +1,6 @@
 -- How the code's command is seen.
 use Rattle.bench_top.specs.Commands.{Command, Analyse, Convert, Analyse6, Decompose, DecomposeBy, Check, CheckEars, Ears, Replay, Compare, Script, Grow}
-use Rattle.bench_top.specs.declared.order.Command.TheVariants as code
+use Rattle.bench_top.specs.declared.command.Command.TheVariants as code
 
 -- the command with the names' bytes
 abbrev pub asked : code.the_data → Command

@@ -5,8 +5,8 @@ use Rattle.std.specs.declared.option.Option.TheVariants.{Some, None}
 use Rattle.std.specs.Option.{option_map}
 use Rattle.std.specs.Str.{bytes_eq}
 use Rattle.line_text.specs.Numerals.{is_number, value_of}
-use Rattle.bench_top.specs.declared.order.NamedOrder.{NamedOrder}
-use Rattle.bench_top.specs.declared.order.NamedOrder.TheVariants.{First, Last, Balanced}
+use Rattle.bench_top.specs.declared.command.NamedOrder.{NamedOrder}
+use Rattle.bench_top.specs.declared.command.NamedOrder.TheVariants.{First, Last, Balanced}
 
 -- a command with the names of its files and its numbers
 pub data Command : Type 0 where

@@ -15,7 +15,7 @@ use Rattle.report_text.specs.Growths.{grown_text}
 use Rattle.report_text.specs.Tallies.{IsTally}
 use Rattle.report_text.specs.declared.tallies.Tally.{Tally}
 use Rattle.bench_top.specs.Orders.{NamedPicks}
-use Rattle.bench_top.specs.declared.order.NamedOrder.TheVariants.{First, Last}
+use Rattle.bench_top.specs.declared.command.NamedOrder.TheVariants.{First, Last}
 use Rattle.bench_top.specs.declared.status.Status.{Status}
 use Rattle.bench_top.specs.declared.status.Status.TheVariants.{Done}
 

@@ -5,8 +5,8 @@ use Rattle.tight_cuts.specs.Candidates.{Candidate}
 use Rattle.tight_cuts.specs.View.{candidate_of}
 use Rattle.tight_cuts.specs.declared.candidate.Candidate.{Candidate as StoredCandidate}
 use Rattle.decomposer.specs.Choices.{IsBalanced}
-use Rattle.bench_top.specs.declared.order.NamedOrder.{NamedOrder}
-use Rattle.bench_top.specs.declared.order.NamedOrder.TheVariants.{First, Last, Balanced}
+use Rattle.bench_top.specs.declared.command.NamedOrder.{NamedOrder}
+use Rattle.bench_top.specs.declared.command.NamedOrder.TheVariants.{First, Last, Balanced}
 
 -- the first place with the least difference between inside and outside, in the list as it is stored
 pub record PicksBalanced (list : List Candidate) (place : ℕ) : Type 0 where

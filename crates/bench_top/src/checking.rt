@@ -111,7 +111,7 @@ fn accepted_report(alloc: Global, g: &MultiGraph, tree: &Tree) -> Result<Report,
 }
 
 /// The report on a tree: how many leaves it has, or where and why it is refused, or that the graph is not covered.
-pub fn checked(alloc: Global, g: &MultiGraph, tree: &Tree) -> Result<Report, Memory>
+pub fn check_report(alloc: Global, g: &MultiGraph, tree: &Tree) -> Result<Report, Memory>
     requires { Fits g.now.order (shape_of tree.now) }
     ensures { IfOk result (λ report. CheckGives g.now (shape_of tree.now) report.status report.bytes.items) }
 {

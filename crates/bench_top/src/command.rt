@@ -1,121 +1,86 @@
-//! The commands.
-ghost use Rattle.std.specs.Prelude.{◌≡◌, map, string_bytes};
-ghost use Rattle.std.specs.Option.{option_map};
-ghost use Rattle.bench_top.specs.Commands.{command_of, graph_command, grow_command, order_named, pair_command, triple_command};
-ghost use Rattle.bench_top.specs.Asked.{asked};
+//! The commands, with the names of their files and their numbers.
+ghost use Rattle.std.specs.Prelude.{◌≤◌};
+ghost use Rattle.bench_top.specs.Commands.{most_pieces};
 
-use crate::order::{Command, Growth, NamedOrder};
-use grow_gen::MOST_PIECES;
-use line_text::number;
-
-// The order that the word names, if it names one.
-fn order_named(word: &str) -> Option<NamedOrder>
-    ensures { result ≡ order_named word.now }
-{
-    match word {
-        "first" => Some(NamedOrder::First),
-        "last" => Some(NamedOrder::Last),
-        "balanced" => Some(NamedOrder::Balanced),
-        _ => None,
-    }
+/// A named order of choice: at each node the first candidate is picked, the last, or the first of those whose sides differ least in
+/// size.
+#[derive(Clone, Copy, Debug, PartialEq, Eq)]
+pub enum NamedOrder {
+    First,
+    Last,
+    Balanced,
 }
 
-// The command to grow a graph from the numbers that the two words write, if they write such numbers.
-fn grow_command<'a>(seed: &str, pieces: &str) -> Option<Command<'a>>
-    ensures { option_map asked result ≡ grow_command seed.now pieces.now }
-{
-    let seed = number(seed.as_bytes())?;
-    let pieces = number(pieces.as_bytes())?;
-    if (1..=MOST_PIECES).contains(&pieces) {
-        Some(Command::Grow {
-            growth: Growth { seed, pieces },
-        })
-    } else {
-        None
-    }
+/// What a graph grows from.
+#[derive(Clone, Copy)]
+pub struct Growth {
+    /// The number from which the random words come.
+    pub seed: u32,
+    /// How many pieces the graph has.
+    pub pieces: u32,
+    ghost some: { 1 ≤ pieces },
+    ghost few: { pieces ≤ most_pieces },
 }
 
-// The command that a word and the name of a file ask for.
-fn graph_command<'a>(word: &str, graph: &'a str) -> Option<Command<'a>>
-    ensures { option_map asked result ≡ graph_command word.now graph.now }
-{
-    match word {
-        "analyse" => Some(Command::Analyse { graph }),
-        "convert" => Some(Command::Convert { graph }),
-        "analyse6" => Some(Command::Analyse6 { graph }),
-        "ears" => Some(Command::Ears { graph }),
-        _ => None,
-    }
-}
-
-// The command that a word, the name of a file, and a second name or the word of an order ask for; or a word and two numbers.
-fn pair_command<'a>(word: &str, graph: &'a str, second: &'a str) -> Option<Command<'a>>
-    ensures { option_map asked result ≡ pair_command word.now graph.now second.now }
-{
-    match word {
-        "check" => Some(Command::Check {
-            graph,
-            tree: second,
-        }),
-        "checkears" => Some(Command::CheckEars {
-            graph,
-            ears: second,
-        }),
-        "grow" => grow_command(graph, second),
-        "decompose" => match order_named(second) {
-            Some(order) => Some(Command::Decompose { graph, order }),
-            None => None,
-        },
-        _ => None,
-    }
-}
-
-// The command that a word and the names of three files, or of one, the word `script` and a further one ask for.
-fn triple_command<'a>(
-    word: &str,
-    graph: &'a str,
-    second: &'a str,
-    third: &'a str,
-) -> Option<Command<'a>>
-    ensures { option_map asked result ≡ triple_command word.now graph.now second.now third.now }
-{
-    match word {
-        "replay" => Some(Command::Replay {
-            graph,
-            tree: second,
-            moves: third,
-        }),
-        "compare" => Some(Command::Compare {
-            graph,
-            first: second,
-            second: third,
-        }),
-        "script" => Some(Command::Script {
-            graph,
-            first: second,
-            second: third,
-        }),
-        "decompose" if second == "script" => Some(Command::DecomposeBy {
-            graph,
-            picks: third,
-        }),
-        _ => None,
-    }
-}
-
-/// The command that the words ask for. Takes no memory.
-pub fn plan(words: &[String]) -> Option<Command<'_>>
-    ensures { option_map asked result ≡ command_of (map string_bytes words.now) }
-{
-    match words {
-        [word, first] => graph_command(word.as_str(), first.as_str()),
-        [word, first, second] => pair_command(word.as_str(), first.as_str(), second.as_str()),
-        [word, first, second, third] => triple_command(
-            word.as_str(),
-            first.as_str(),
-            second.as_str(),
-            third.as_str(),
-        ),
-        _ => None,
-    }
+/// A command with the names of its files.
+#[derive(Clone, Copy, Drop)]
+pub enum Command<'a> {
+    /// The structure of the graph of a file.
+    Analyse {
+        graph: &'a str,
+    },
+    /// The canonical text of the graph of a file, with names.
+    Convert {
+        graph: &'a str,
+    },
+    /// The structure of the graph of a graph6 file.
+    Analyse6 {
+        graph: &'a str,
+    },
+    /// A decomposition of the graph of a file, in a named order.
+    Decompose {
+        graph: &'a str,
+        order: NamedOrder,
+    },
+    /// A decomposition of the graph of a file, in the order of a pick file.
+    DecomposeBy {
+        graph: &'a str,
+        picks: &'a str,
+    },
+    /// Whether the tree of a file is a derivation of the graph of a file.
+    Check {
+        graph: &'a str,
+        tree: &'a str,
+    },
+    /// Whether the list of a file is an ear list of the graph of a file.
+    CheckEars {
+        graph: &'a str,
+        ears: &'a str,
+    },
+    /// An ear list of the graph of a file.
+    Ears {
+        graph: &'a str,
+    },
+    /// What the moves of a file make of the tree of a file, a derivation of the graph of a file.
+    Replay {
+        graph: &'a str,
+        tree: &'a str,
+        moves: &'a str,
+    },
+    /// How the leaves of the trees of two files, derivations of the graph of a file, are paired.
+    Compare {
+        graph: &'a str,
+        first: &'a str,
+        second: &'a str,
+    },
+    /// The moves that turn the tree of a file into that of another, both derivations of the graph of a file.
+    Script {
+        graph: &'a str,
+        first: &'a str,
+        second: &'a str,
+    },
+    /// A graph that grows.
+    Grow {
+        growth: Growth,
+    },
 }

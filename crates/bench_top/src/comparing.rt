@@ -13,7 +13,7 @@ use crate::status::Status;
 use contraction::Partition;
 use graph_core::{MultiGraph, Numbers};
 use move_text::write_moves;
-use report_text::{MapLine, MapLines, block_names, pairing, script_report};
+use report_text::{MapLine, MapLines, block_names, pairing};
 use std::alloc::{AllocError as Memory, Global};
 use tree_core::{Partitions, Tree, leaves, nodes};
 use uncross::{LeafMap, LeafMaps, compare, moves_between};
@@ -37,7 +37,7 @@ pub fn refusal_of_pair(
 }
 
 // The same numbers.
-fn copied(alloc: Global, numbers: &Numbers) -> Result<Numbers, Memory>
+fn copy_of(alloc: Global, numbers: &Numbers) -> Result<Numbers, Memory>
     ensures { IfOk result (λ copy. copy ≡ numbers.now) }
 {
     let mut copy = Numbers::new(alloc);
@@ -57,7 +57,7 @@ fn line_of(alloc: Global, number: u32, p: &Partition, map: &LeafMap) -> Result<M
         leaf: number,
         partner: map.to,
         names: block_names(alloc, p)?,
-        images: copied(alloc, &map.images)?,
+        images: copy_of(alloc, &map.images)?,
     })
 }
 
@@ -98,7 +98,7 @@ fn pairing_report(
 
 /// The report on two trees: the moves that turn the first into the second and how their leaves are paired, or which tree is refused
 /// and why, or that the graph is not covered.
-pub fn compared(
+pub fn compare_report(
     alloc: Global,
     g: &MultiGraph,
     first: &Tree,
@@ -115,7 +115,7 @@ pub fn compared(
 }
 
 // The text of a script between two derivations, and then the numbers of leaves and of moves.
-fn script_between(
+fn moves_report(
     alloc: Global,
     g: &MultiGraph,
     first: &Tree,
@@ -132,13 +132,13 @@ fn script_between(
     let leaves = nodes(first) / 2 + 1;
     Ok(Report {
         status: Status::Done,
-        bytes: script_report(alloc, &text, leaves as u32, moves.len() as u32)?,
+        bytes: report_text::script_report(alloc, &text, leaves as u32, moves.len() as u32)?,
     })
 }
 
 /// The report on two trees: the text of moves that turn the first into the second, or which tree is refused and why, or that the graph is
 /// not covered.
-pub fn scripted(
+pub fn script_report(
     alloc: Global,
     g: &MultiGraph,
     first: &Tree,
@@ -150,6 +150,6 @@ pub fn scripted(
 {
     match refusal_of_pair(alloc, g, first, second)? {
         Some(report) => Ok(report),
-        None => script_between(alloc, g, first, second),
+        None => moves_report(alloc, g, first, second),
     }
 }

@@ -8,8 +8,8 @@ ghost use Rattle.decomposer.specs.Picked.{IsPicked};
 ghost use Rattle.bench_top.specs.Orders.{NamedPicks, ScriptPicks, scripted_place};
 ghost use Rattle.bench_top.specs.Outcome.{DecomposeGives, TellsDerivation};
 
+use crate::command::NamedOrder;
 use crate::naming::with_given_names;
-use crate::order::NamedOrder;
 use crate::report::Report;
 use crate::status::Status;
 use crate::uncovered::uncovered_report;
@@ -40,7 +40,7 @@ fn derivation_report(alloc: Global, named: &Named, tree: &Tree) -> Result<Report
 }
 
 // The report of a decomposition in any order.
-fn decomposed_in<F: Fn(&[Candidate], usize) -> usize>(
+fn order_report<F: Fn(&[Candidate], usize) -> usize>(
     alloc: Global,
     named: &Named,
     order: &Order<F>,
@@ -56,7 +56,7 @@ fn decomposed_in<F: Fn(&[Candidate], usize) -> usize>(
 }
 
 // The report of a decomposition in which the first candidate is picked. No other candidate is looked for.
-fn decomposed_first(alloc: Global, named: &Named) -> Result<Report, Memory>
+fn first_report(alloc: Global, named: &Named) -> Result<Report, Memory>
     ensures { IfOk result (λ report. DecomposeGives (NamedPicks NamedOrder.First) (named_graph named.now) report.status report.bytes.items) }
 {
     match decompose_first(alloc, &named.graph) {
@@ -67,31 +67,31 @@ fn decomposed_first(alloc: Global, named: &Named) -> Result<Report, Memory>
 }
 
 // The same with the last candidate.
-fn decomposed_last(alloc: Global, named: &Named) -> Result<Report, Memory>
+fn last_report(alloc: Global, named: &Named) -> Result<Report, Memory>
     ensures { IfOk result (λ report. DecomposeGives (NamedPicks NamedOrder.Last) (named_graph named.now) report.status report.bytes.items) }
 {
     let order = Order::new(|list: &[Candidate], cuts: usize| last_place(list, cuts));
-    let report = decomposed_in(alloc, named, &order)?;
+    let report = order_report(alloc, named, &order)?;
     Ok(report)
 }
 
 // The same with the first candidate whose sides differ least in size.
-fn decomposed_balanced(alloc: Global, named: &Named) -> Result<Report, Memory>
+fn balanced_report(alloc: Global, named: &Named) -> Result<Report, Memory>
     ensures { IfOk result (λ report. DecomposeGives (NamedPicks NamedOrder.Balanced) (named_graph named.now) report.status report.bytes.items) }
 {
     let order = Order::new(|list: &[Candidate], cuts: usize| balanced_place(list, cuts));
-    let report = decomposed_in(alloc, named, &order)?;
+    let report = order_report(alloc, named, &order)?;
     Ok(report)
 }
 
 /// The report of a decomposition in a named order.
-pub fn decomposed(alloc: Global, named: &Named, order: NamedOrder) -> Result<Report, Memory>
+pub fn decompose_report(alloc: Global, named: &Named, order: NamedOrder) -> Result<Report, Memory>
     ensures { IfOk result (λ report. DecomposeGives (NamedPicks order) (named_graph named.now) report.status report.bytes.items) }
 {
     match order {
-        NamedOrder::First => decomposed_first(alloc, named),
-        NamedOrder::Last => decomposed_last(alloc, named),
-        NamedOrder::Balanced => decomposed_balanced(alloc, named),
+        NamedOrder::First => first_report(alloc, named),
+        NamedOrder::Last => last_report(alloc, named),
+        NamedOrder::Balanced => balanced_report(alloc, named),
     }
 }
 
@@ -105,11 +105,11 @@ fn scripted_place(picks: &[u32], list: &[Candidate], cuts: usize) -> usize
 }
 
 /// The report of a decomposition in the order of a list of picks.
-pub fn decomposed_by(alloc: Global, named: &Named, picks: &Numbers) -> Result<Report, Memory>
+pub fn decompose_by_report(alloc: Global, named: &Named, picks: &Numbers) -> Result<Report, Memory>
     ensures { IfOk result (λ report. DecomposeGives (ScriptPicks picks.now) (named_graph named.now) report.status report.bytes.items) }
 {
     let picks = picks.as_slice();
     let order = Order::new(|list: &[Candidate], cuts: usize| scripted_place(picks, list, cuts));
-    let report = decomposed_in(alloc, named, &order)?;
+    let report = order_report(alloc, named, &order)?;
     Ok(report)
 }

@@ -14,7 +14,7 @@ use allowed_edges::covered;
 use ear_core::{EarJudgement, EarList, EarWhy, Step, build_ears, check_ears};
 use ear_text::write_ears;
 use graph_core::{MultiGraph, Reason, Verdict};
-use report_text::{EarLine, ear_judgement, ears_report};
+use report_text::{EarLine, ear_judgement};
 use std::alloc::{AllocError as Memory, Global};
 
 // The number of a reason.
@@ -124,7 +124,7 @@ fn refused_report(
 }
 
 // The report on a list of ears of a covered graph.
-fn judged(alloc: Global, g: &MultiGraph, list: &EarList) -> Result<Report, Memory>
+fn judged_report(alloc: Global, g: &MultiGraph, list: &EarList) -> Result<Report, Memory>
     requires covered { IsCovered g.now }
     requires fits { FitsEars g.now.order (size g.now) (ears_of list.now) }
     ensures { IfOk result (λ report. EarCheckGives g.now (ears_of list.now) report.status report.bytes.items) }
@@ -136,18 +136,18 @@ fn judged(alloc: Global, g: &MultiGraph, list: &EarList) -> Result<Report, Memor
 }
 
 /// The report on a list of ears: how many steps it has, or where and why it is refused, or that the graph is not covered.
-pub fn ears_checked(alloc: Global, g: &MultiGraph, list: &EarList) -> Result<Report, Memory>
+pub fn checkears_report(alloc: Global, g: &MultiGraph, list: &EarList) -> Result<Report, Memory>
     requires { FitsEars g.now.order (size g.now) (ears_of list.now) }
     ensures { IfOk result (λ report. EarCheckGives g.now (ears_of list.now) report.status report.bytes.items) }
 {
     match covered(alloc, g)? {
-        Verdict::Covered => judged(alloc, g, list),
+        Verdict::Covered => judged_report(alloc, g, list),
         Verdict::NotCovered(reason) => uncovered_report(alloc, g, reason),
     }
 }
 
 // The text of an ear list of a covered graph, and then the numbers of its steps.
-fn built(alloc: Global, g: &MultiGraph) -> Result<Report, Memory>
+fn built_report(alloc: Global, g: &MultiGraph) -> Result<Report, Memory>
     requires { IsCovered g.now }
     ensures { IfOk result (λ report. BuiltEars g.now report.status report.bytes.items) }
 {
@@ -160,7 +160,7 @@ fn built(alloc: Global, g: &MultiGraph) -> Result<Report, Memory>
         single,
         double,
     } = counts_of(list.steps.as_slice());
-    let bytes = ears_report(alloc, &text, steps, single, double)?;
+    let bytes = report_text::ears_report(alloc, &text, steps, single, double)?;
     Ok(Report {
         status: Status::Done,
         bytes,
@@ -168,11 +168,11 @@ fn built(alloc: Global, g: &MultiGraph) -> Result<Report, Memory>
 }
 
 /// The report of an ear list that is built: its text and the numbers of its steps, or that the graph is not covered.
-pub fn ears_built(alloc: Global, g: &MultiGraph) -> Result<Report, Memory>
+pub fn ears_report(alloc: Global, g: &MultiGraph) -> Result<Report, Memory>
     ensures { IfOk result (λ report. EarsGives g.now report.status report.bytes.items) }
 {
     match covered(alloc, g)? {
-        Verdict::Covered => built(alloc, g),
+        Verdict::Covered => built_report(alloc, g),
         Verdict::NotCovered(reason) => uncovered_report(alloc, g, reason),
     }
 }

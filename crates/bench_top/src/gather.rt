@@ -8,8 +8,8 @@ ghost use Rattle.bench_top.specs.Loads.{LoadsAs, given_tree, given_trees, given_
 ghost use Rattle.bench_top.specs.Reads.{FailsAs, IsReadFault, ReadsAs, StopsAt, file_names};
 ghost use Rattle.bench_top.specs.Outcome.{MayRefuse, GatheredMayRefuse};
 
+use crate::command::Command;
 use crate::formats::{EarFile, FileFormat, Graph6File, GraphFile, MoveFile, PickFile, TreeFile};
-use crate::order::Command;
 use crate::stop::Stop;
 use crate::tasks::{GivenEars, GivenMoves, GivenTree, GivenTrees, Task};
 use graph_core::TextFault;

@@ -7,7 +7,7 @@ ghost use Rattle.bench_top.specs.Orders.{NamedPicks};
 ghost use Rattle.bench_top.specs.Growths.{Grown, IsCounted};
 
 use crate::checking::tally_of_tree;
-use crate::order::{Growth, NamedOrder};
+use crate::command::{Growth, NamedOrder};
 use crate::report::Report;
 use crate::status::Status;
 use decomposer::{Order, Refused, decompose, decompose_first, last_place};
@@ -67,7 +67,7 @@ fn counted_last(alloc: Global, g: &MultiGraph) -> Result<(Tree, Tally), Memory>
 
 /// The report on the graph that grows from a seed: its text, the leaves of its derivations by the first and by the last candidates, and
 /// how many leaves their comparison pairs.
-pub fn grown_report(alloc: Global, growth: Growth) -> Result<Report, Memory>
+pub fn grow_report(alloc: Global, growth: Growth) -> Result<Report, Memory>
     ensures { IfOk result (λ report. Grown growth.seed growth.pieces report.status report.bytes.items) }
 {
     let g = grow(alloc, growth.seed as u64, growth.pieces)?;

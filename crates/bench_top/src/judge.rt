@@ -10,11 +10,11 @@ ghost use Rattle.bench_top.specs.Loads.{graph_in, task_of};
 ghost use Rattle.bench_top.specs.Facts.{HasMaximum, IsAnalysis};
 ghost use Rattle.bench_top.specs.Outcome.{Analysed, Converted, Analysed6, ResultOf, IsReported, TaskMayRefuse};
 
-use crate::checking::checked;
-use crate::comparing::{compared, scripted};
-use crate::decomposing::{decomposed, decomposed_by};
-use crate::ear_checking::{ears_built, ears_checked};
-use crate::growing::grown_report;
+use crate::checking::check_report;
+use crate::comparing::{compare_report, script_report};
+use crate::decomposing::{decompose_by_report, decompose_report};
+use crate::ear_checking::{checkears_report, ears_report};
+use crate::growing::grow_report;
 use crate::naming::{given_or_plain, with_given_names};
 use crate::replaying::replay_report;
 use crate::report::Report;
@@ -84,7 +84,7 @@ fn analysis_lines(alloc: Global, g: &MultiGraph) -> Result<AnalysisLines, Memory
 }
 
 // The report of `analyse`.
-fn analysed(alloc: Global, named: &Named) -> Result<Report, Memory>
+fn analyse_report(alloc: Global, named: &Named) -> Result<Report, Memory>
     ensures { IfOk result (λ report. Analysed (named_graph named.now) report.status report.bytes.items) }
 {
     let lines = analysis_lines(alloc, &named.graph)?;
@@ -97,7 +97,7 @@ fn analysed(alloc: Global, named: &Named) -> Result<Report, Memory>
 }
 
 // The report of `convert`.
-fn converted(alloc: Global, named: Named) -> Result<Report, Memory>
+fn convert_report(alloc: Global, named: Named) -> Result<Report, Memory>
     ensures { IfOk result (λ report. Converted (named_graph named) report.status report.bytes.items) }
 {
     let Named { graph, names } = named;
@@ -109,7 +109,7 @@ fn converted(alloc: Global, named: Named) -> Result<Report, Memory>
 }
 
 // The report of `analyse6`.
-fn analysed6(alloc: Global, simple: SimpleGraph) -> Result<Report, Memory>
+fn analyse6_report(alloc: Global, simple: SimpleGraph) -> Result<Report, Memory>
     ensures { IfOk result (λ report. Analysed6 (graph_in simple) report.status report.bytes.items) }
 {
     let SimpleGraph { graph } = simple;
@@ -129,20 +129,30 @@ pub fn judge(alloc: Global, task: Task) -> Result<Report, Memory>
     ensures refuses { IfOk result (λ report. report.status ≡ Status.Negative → TaskMayRefuse (task_of task)) }
 {
     match task {
-        Task::Analyse { named } => analysed(alloc, &named),
-        Task::Convert { named } => converted(alloc, named),
-        Task::Analyse6 { simple } => analysed6(alloc, simple),
-        Task::Decompose { named, order } => decomposed(alloc, &named, order),
-        Task::DecomposeBy { named, picks } => decomposed_by(alloc, &named, &picks),
-        Task::Check { given } => checked(alloc, &given.named.graph, &given.tree),
-        Task::CheckEars { given } => ears_checked(alloc, &given.named.graph, &given.list),
-        Task::Ears { named } => ears_built(alloc, &named.graph),
+        Task::Analyse { named } => analyse_report(alloc, &named),
+        Task::Convert { named } => convert_report(alloc, named),
+        Task::Analyse6 { simple } => analyse6_report(alloc, simple),
+        Task::Decompose { named, order } => decompose_report(alloc, &named, order),
+        Task::DecomposeBy { named, picks } => decompose_by_report(alloc, &named, &picks),
+        Task::Check { given } => check_report(alloc, &given.named.graph, &given.tree),
+        Task::CheckEars { given } => checkears_report(alloc, &given.named.graph, &given.list),
+        Task::Ears { named } => ears_report(alloc, &named.graph),
         Task::Replay { given } => {
             let GivenMoves { named, tree, moves } = given;
             replay_report(alloc, &named.graph, tree, &moves)
         }
-        Task::Compare { given } => compared(alloc, &given.named.graph, &given.first, &given.second),
-        Task::Script { given } => scripted(alloc, &given.named.graph, &given.first, &given.second),
-        Task::Grow { growth } => grown_report(alloc, growth),
+        Task::Compare { given } => compare_report(
+            alloc,
+            &given.named.graph,
+            &given.first,
+            &given.second,
+        ),
+        Task::Script { given } => script_report(
+            alloc,
+            &given.named.graph,
+            &given.first,
+            &given.second,
+        ),
+        Task::Grow { growth } => grow_report(alloc, growth),
     }
 }

@@ -1,4 +1,4 @@
-//! The top call of the program: `run` does what the words ask for.
+//! The workbench: the commands of the program, behind its one call, `run`, which does what the words ask for.
 //!
 //! The words are a `Command`, a row of the table of words; what its files hold makes it a `Task`; a task has a status and a
 //! report, which is written. Main definitions, in specs/: `command_of` (what the words ask for), `loaded` (what the files of a
@@ -23,7 +23,6 @@ mod in_memory;
 mod judge;
 pub mod laws;
 mod naming;
-mod order;
 mod performing;
 mod replaying;
 mod report;
@@ -33,6 +32,7 @@ mod stop;
 mod structures;
 mod tasks;
 mod uncovered;
+mod words;
 pub mod written_back;
 
 pub use in_memory::run_in_memory;

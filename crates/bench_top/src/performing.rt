@@ -8,9 +8,9 @@ ghost use Rattle.bench_top.specs.Loads.{LoadsAs, task_of, Held};
 ghost use Rattle.bench_top.specs.Reads.{HasRead, IsRead, IsReadFault, file_names, names_until};
 ghost use Rattle.bench_top.specs.Outcome.{LoadedGives, Appended, CutShort, IsReported, IsSettled, MayRefuse, GatheredMayRefuse};
 
+use crate::command::Command;
 use crate::gather::gather;
 use crate::judge::judge;
-use crate::order::Command;
 use crate::report::Report;
 use crate::status::Status;
 use crate::stop::Stop;

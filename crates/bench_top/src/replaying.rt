@@ -68,7 +68,7 @@ fn refused_move_report(alloc: Global, at: u32, node: u32, why: Why) -> Result<Re
 }
 
 // The report on moves on a derivation.
-fn replayed_on(alloc: Global, g: &MultiGraph, tree: Tree, moves: &Moves) -> Result<Report, Memory>
+fn moves_report(alloc: Global, g: &MultiGraph, tree: Tree, moves: &Moves) -> Result<Report, Memory>
     requires derivation { IsDerivation g.now (shape_of tree) }
     requires few { length moves.now ≤ most_moves }
     ensures { IfOk result (λ report. MovesGive g.now (shape_of tree) (moves_of moves.now) report.status report.bytes.items) }
@@ -95,6 +95,6 @@ pub fn replay_report(
 {
     match refusal_of_tree(alloc, g, &tree, 1)? {
         Some(report) => Ok(report),
-        None => replayed_on(alloc, g, tree, moves),
+        None => moves_report(alloc, g, tree, moves),
     }
 }

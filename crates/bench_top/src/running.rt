@@ -10,9 +10,9 @@ ghost use Rattle.bench_top.specs.Reads.{HasRead, file_names, names_in, names_unt
 ghost use Rattle.bench_top.specs.Success.{Succeeds};
 ghost use Rattle.bench_top.specs.Calm.{IsCalm};
 
-use crate::command::plan;
 use crate::performing::perform;
 use crate::status::Status;
+use crate::words::command_of;
 use outside::{Shelf, Sink};
 use std::alloc::Global;
 
@@ -88,7 +88,7 @@ pub fn run<S: Shelf, K: Sink>(
         (K.faults sink.old) (K.faults sink.new)
         → (result ≡ Status.Done) ⊎ (result ≡ Status.Memory) }
 {
-    match plan(words) {
+    match command_of(words) {
         Some(command) => perform(alloc, command, shelf, sink),
         None => Status::Usage,
     }

@@ -3,7 +3,7 @@ use Rattle.std.proofs.lemmas.List.{length-map}
 use Rattle.tight_cuts.specs.View.{candidate_of}
 use Rattle.tree_core.specs.View.{shape_of}
 use Rattle.bench_top.specs.Orders.{NamedPicks}
-use Rattle.bench_top.specs.declared.order.NamedOrder.TheVariants.{Last}
+use Rattle.bench_top.specs.declared.command.NamedOrder.TheVariants.{Last}
 use Rattle.bench_top.proofs.PickedTrees.{counted-wider}
 use Rattle.bench_top.proofs.growing.counted_last.Goals as goal
 

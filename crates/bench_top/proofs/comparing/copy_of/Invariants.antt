@@ -1,5 +1,5 @@
 use Rattle.std.proofs.Common.{◌≡◌, ◌++◌, length}
-use Rattle.bench_top.proofs.comparing.copied.Given as goal
+use Rattle.bench_top.proofs.comparing.copy_of.Given as goal
 
 -- what is copied and what is left are all
 abbrev pub invariant-copying : goal.invariant-copying

@@ -8,7 +8,7 @@ use Rattle.move_text.specs.Writing.{HasSets}
 use Rattle.bench_top.proofs.DerivationTexts.{few-nodes}
 use Rattle.bench_top.proofs.ScriptMoves.{few-moves, script-paths, script-sets}
 use Rattle.bench_top.proofs.ScriptTexts.{scripted}
-use Rattle.bench_top.proofs.comparing.script_between.Goals as goal
+use Rattle.bench_top.proofs.comparing.moves_report.Goals as goal
 
 pub write_moves-requires-clause-few : goal.write_moves-requires-clause-few
 write_moves-requires-clause-few c =

@@ -4,7 +4,7 @@ use Rattle.tight_cuts.specs.View.{candidate_of}
 use Rattle.graph_text.specs.SoFar.{named_graph}
 use Rattle.bench_top.specs.Orders.{ScriptPicks, scripted_place}
 use Rattle.bench_top.proofs.PickedTrees.{gives-wider}
-use Rattle.bench_top.proofs.decomposing.decomposed_by.Goals as goal
+use Rattle.bench_top.proofs.decomposing.decompose_by_report.Goals as goal
 
 pub returns : goal.returns
 returns c = gives-wider (ScriptPicks c.args.picks.now) (named_graph c.args.named.now) c.in_ok-report.report.status c.in_ok-report.report.bytes.items c.in_ok-report.ensures

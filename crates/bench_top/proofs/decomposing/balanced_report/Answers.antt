@@ -1,9 +1,9 @@
 use Rattle.std.proofs.Common.{rules}
 use Rattle.graph_text.specs.SoFar.{named_graph}
 use Rattle.bench_top.specs.Orders.{NamedPicks}
-use Rattle.bench_top.specs.declared.order.NamedOrder.TheVariants.{Balanced}
+use Rattle.bench_top.specs.declared.command.NamedOrder.TheVariants.{Balanced}
 use Rattle.bench_top.proofs.PickedTrees.{gives-wider}
-use Rattle.bench_top.proofs.decomposing.decomposed_balanced.Goals as goal
+use Rattle.bench_top.proofs.decomposing.balanced_report.Goals as goal
 
 pub returns : goal.returns
 returns c = gives-wider (NamedPicks Balanced) (named_graph c.args.named.now) c.in_ok-report.report.status c.in_ok-report.report.bytes.items c.in_ok-report.ensures

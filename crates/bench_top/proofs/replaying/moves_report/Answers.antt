@@ -3,7 +3,7 @@ use Rattle.tree_core.specs.MoveView.{moves_of}
 use Rattle.tree_core.specs.View.{shape_of}
 use Rattle.tree_check.specs.Replays.{IsReplay}
 use Rattle.tree_check.proofs.ReplaySteps.{reached-derivation}
-use Rattle.bench_top.proofs.replaying.replayed_on.Goals as goal
+use Rattle.bench_top.proofs.replaying.moves_report.Goals as goal
 
 pub last_tree_report-requires-clause-derivation : goal.last_tree_report-requires-clause-derivation
 last_tree_report-requires-clause-derivation c =

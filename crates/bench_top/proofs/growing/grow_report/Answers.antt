@@ -11,10 +11,10 @@ use Rattle.report_text.specs.Growths.{grown_text}
 use Rattle.move_laws.specs.Pairings.{IsPairing}
 use Rattle.bench_top.specs.Growths.{IsCounted}
 use Rattle.bench_top.specs.Orders.{NamedPicks}
-use Rattle.bench_top.specs.declared.order.NamedOrder.TheVariants.{First, Last}
+use Rattle.bench_top.specs.declared.command.NamedOrder.TheVariants.{First, Last}
 use Rattle.bench_top.proofs.DerivationTexts.{few-nodes}
 use Rattle.bench_top.proofs.GrownSizes.{few-edges, few-vertices}
-use Rattle.bench_top.proofs.growing.grown_report.Goals as goal
+use Rattle.bench_top.proofs.growing.grow_report.Goals as goal
 
 pub write_graph-requires-clause-vertices : goal.write_graph-requires-clause-vertices
 write_graph-requires-clause-vertices c =

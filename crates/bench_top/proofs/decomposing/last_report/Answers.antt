@@ -3,9 +3,9 @@ use Rattle.std.proofs.lemmas.List.{length-map}
 use Rattle.tight_cuts.specs.View.{candidate_of}
 use Rattle.graph_text.specs.SoFar.{named_graph}
 use Rattle.bench_top.specs.Orders.{NamedPicks}
-use Rattle.bench_top.specs.declared.order.NamedOrder.TheVariants.{Last}
+use Rattle.bench_top.specs.declared.command.NamedOrder.TheVariants.{Last}
 use Rattle.bench_top.proofs.PickedTrees.{gives-wider}
-use Rattle.bench_top.proofs.decomposing.decomposed_last.Goals as goal
+use Rattle.bench_top.proofs.decomposing.last_report.Goals as goal
 
 pub returns : goal.returns
 returns c = gives-wider (NamedPicks Last) (named_graph c.args.named.now) c.in_ok-report.report.status c.in_ok-report.report.bytes.items c.in_ok-report.ensures

@@ -4,7 +4,7 @@ use Rattle.ear_core.proofs.Stepping.{list-fits, list-filled}
 use Rattle.ear_core.specs.EarLists.{FitsEars}
 use Rattle.ear_core.specs.View.{ears_of, step_of}
 use Rattle.bench_top.proofs.EarSteps.{few-steps}
-use Rattle.bench_top.proofs.ear_checking.built.Goals as goal
+use Rattle.bench_top.proofs.ear_checking.built_report.Goals as goal
 
 pub counts_of-steps-requires : goal.counts_of-steps-requires
 counts_of-steps-requires c =
