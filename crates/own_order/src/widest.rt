@@ -10,9 +10,10 @@ ghost use Rattle.graph_text.specs.EitherVersion.{either_version};
 ghost use Rattle.graph_text.specs.SoFar.{named_graph};
 ghost use Rattle.tree_core.specs.Derivations.{IsDerivation};
 ghost use Rattle.tree_core.specs.View.{shape_of};
+ghost use Rattle.decomposer.specs.Choices.{FnPicks, PicksInRange};
 ghost use Rattle.decomposer.specs.Picked.{IsPicked};
 ghost use Rattle.own_order.specs.Failures.{IsUncovered};
-ghost use Rattle.own_order.specs.WidestCuts.{PicksWidest};
+ghost use Rattle.own_order.specs.WidestCuts.{PicksTree, PicksWidest};
 
 use crate::widest_cuts::widest_place;
 use decomposer::{Order, Refused, decompose};
@@ -42,6 +43,27 @@ pub struct Decomposed {
     pub judgement: Judgement,
 }
 
+// The derivation in any order.
+fn tree_in<F: Fn(&[Candidate], usize) -> usize>(
+    alloc: Global,
+    g: &MultiGraph,
+    order: &Order<F>,
+) -> Result<Tree, Failed>
+    requires { PicksInRange F.Fn order.now.f }
+    ensures derivation { IfOk result (λ tree. IsDerivation g.now (shape_of tree)) }
+    ensures picked { IfOk result (λ tree.
+        PicksTree (FnPicks F.Fn order.now.f) g.now (shape_of tree)) }
+    ensures uncovered { (reason : Reason) → result ≡ Err (Failed.NotCovered reason)
+        → IsReason g.now (reason_of reason) }
+    ensures text { (fault : TextFault) → result ≡ Err (Failed.Text fault) → ⊥ }
+{
+    match decompose(alloc, g, order) {
+        Ok(tree) => Ok(tree),
+        Err(Refused::NotCovered(reason)) => Err(Failed::NotCovered(reason)),
+        Err(Refused::Memory) => Err(Failed::Memory),
+    }
+}
+
 // The derivation in the order of the widest cuts.
 fn widest_tree(alloc: Global, g: &MultiGraph) -> Result<Tree, Failed>
     ensures derivation { IfOk result (λ tree. IsDerivation g.now (shape_of tree)) }
@@ -51,11 +73,8 @@ fn widest_tree(alloc: Global, g: &MultiGraph) -> Result<Tree, Failed>
     ensures text { (fault : TextFault) → result ≡ Err (Failed.Text fault) → ⊥ }
 {
     let order = Order::new(|list: &[Candidate], _cuts: usize| widest_place(g, list));
-    match decompose(alloc, g, &order) {
-        Ok(tree) => Ok(tree),
-        Err(Refused::NotCovered(reason)) => Err(Failed::NotCovered(reason)),
-        Err(Refused::Memory) => Err(Failed::Memory),
-    }
+    let tree = tree_in(alloc, g, &order)?;
+    Ok(tree)
 }
 
 /// Reads the text of a graph, in either version of the graph format, decomposes the graph by the widest cuts, and has the
@@ -78,6 +97,7 @@ pub fn decompose_widest(alloc: Global, text: &[u8]) -> Result<Decomposed, Failed
         Ok(named) => named,
         Err(fault) => return Err(Failed::Text(fault)),
     };
+    named.graph.keeps_limits();
     let tree = widest_tree(alloc, &named.graph)?;
     let Ok(judgement) = check(alloc, &named.graph, &tree) else {
         return Err(Failed::Memory);

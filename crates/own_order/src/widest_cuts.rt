@@ -1,22 +1,14 @@
 //! The order: at each choice the first candidate whose cut has the most edges.
 ghost use Rattle.std.specs.Prelude.{◌≡◌, ◌<◌, ◌≤◌, length};
-ghost use Rattle.counting.specs.Counts.{Within, count};
+ghost use Rattle.counting.specs.Counts.{count};
 ghost use Rattle.counting.specs.Lists.{mem};
 ghost use Rattle.graph_core.specs.Graph.{in_cut, size};
 ghost use Rattle.own_order.specs.WidestCuts.{IsWidest};
 
+use allowed_edges::is_in_cut;
 use graph_core::MultiGraph;
 use tight_cuts::Candidate;
 use vset_core::VSet;
-
-// Whether exactly one end of the edge is in the shore.
-fn is_in_cut(g: &MultiGraph, shore: VSet, edge: u32) -> bool
-    requires { Within (size g.now) edge }
-    ensures { result ≡ in_cut g.now (mem shore) edge }
-{
-    let ends = g.ends(edge);
-    shore.contains(ends.a) != shore.contains(ends.b)
-}
 
 /// The number of edges in the cut of a set of vertices.
 pub fn cut_width(g: &MultiGraph, shore: VSet) -> u32

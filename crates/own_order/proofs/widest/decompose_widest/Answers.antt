@@ -1,0 +1,12 @@
+use Rattle.tree_core.specs.View.{shape_of}
+use Rattle.tree_core.proofs.DerivationStands.{fits-derivation}
+use Rattle.tree_check.proofs.ThreeAnswers.{accepted-exactly}
+use Rattle.own_order.proofs.widest.decompose_widest.Goals as goal
+
+pub check-requires : goal.check-requires
+check-requires c = fits-derivation c.in-Ok.named.graph (shape_of c.in_ok-tree.tree) c.in_ok-tree.ensures.derivation
+
+pub returns-clause-accepted : goal.returns-clause-accepted
+returns-clause-accepted c =
+    (accepted-exactly c.in-Ok.named.graph (shape_of c.in_ok-tree.tree) c.in-Ok-check.judgement c.keeps_limits.ensures.multigraph c.in-Ok-check.ensures).1
+    c.in_ok-tree.ensures.derivation
