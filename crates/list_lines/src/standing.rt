@@ -17,11 +17,12 @@ use crate::query::Property;
 use allowed_edges::{covered, covered_in};
 use decomposer::{Refused, decompose_first};
 use graph_core::{Kind, MultiGraph, Reason, Verdict};
-use leaf_kinds::kind;
+use leaf_kinds::kind_in;
 use match_core::{PartnerTable, maximum, partners};
 use report_text::{Tally, count_leaves};
 use separation_kit::{first_pairs_law, not_bicritical_in};
 use std::alloc::{AllocError as Memory, Global};
+use tight_cuts::pair_where_bicritical;
 use tree_core::{Tree, leaves};
 use vset_core::VSet;
 
@@ -99,7 +100,8 @@ fn covered_standing(alloc: Global, g: &MultiGraph, table: &PartnerTable) -> Resu
     ensures { IfOk result (IsStanding g.now) }
 {
     let bicritical = is_bicritical_in(alloc, g, table)?;
-    let kind = kind(alloc, g)?;
+    let pair = pair_where_bicritical(alloc, g, table)?;
+    let kind = kind_in(alloc, g, table, pair)?;
     let sort = sort_of(&kind);
     let tally = tally_of_kind(alloc, g, kind)?;
     Ok(Standing::Covered {

@@ -28,6 +28,7 @@ use allowed_edges::{PairTable, together_beside};
 use graph_core::MultiGraph;
 use match_core::{Matching, PartnerTable, all_partners, perfect_without};
 use matching_digraph::side_of;
+use quick_kinds::quick_brace;
 use separation_kit::Pair;
 use std::alloc::{AllocError as Memory, Global};
 use vset_core::VSet;
@@ -268,9 +269,28 @@ fn first_found(
         return Ok(Some(first));
     }
     match side_of(alloc, g)? {
-        Some(side) => first_bipartite_cut(alloc, g, side),
+        Some(side) => first_of_bipartite(alloc, g, side),
         None => Ok(None),
     }
+}
+
+// The first candidate of a bipartite graph, where the first two parts give none. The edges are asked only where the quick test finds
+// that the graph is no brace.
+fn first_of_bipartite(
+    alloc: Global,
+    g: &MultiGraph,
+    side: VSet,
+) -> Result<Option<Candidate>, Memory>
+    requires covered { IsCovered g.now }
+    requires side { IsSide g.now (mem side) }
+    requires front { front_candidates g.now ≡ [] }
+    ensures { IfOk result (λ found. option_map candidate_of found ≡ first_of (candidates g.now)) }
+{
+    g.keeps_limits();
+    if g.order() >= 4 && quick_brace(alloc, g)? {
+        return Ok(None);
+    }
+    first_bipartite_cut(alloc, g, side)
 }
 
 /// The shore of the first candidate, which is a canonical nontrivial tight shore, and `None` exactly where the covered graph has no

@@ -120,8 +120,9 @@ pub(crate) fn first_front_candidate(
     first_separation_candidate(alloc, g, pair)
 }
 
-/// The first cut pair of a bicritical graph; elsewhere no pair is looked for.
-pub(crate) fn pair_where_bicritical(
+/// The first cut pair of a bicritical graph, from its table of partners; elsewhere no pair is looked for. It is what `find_any_in` and
+/// `first_candidate_in` ask for.
+pub fn pair_where_bicritical(
     alloc: Global,
     g: &MultiGraph,
     table: &PartnerTable,

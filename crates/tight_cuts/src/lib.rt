@@ -36,4 +36,5 @@ pub use at_partition::{candidates_at, first_candidate_at};
 pub use by_pairs::candidates_by_pairs;
 pub use candidate::{Candidate, CandidateList, Origin};
 pub use finder::{candidates, find_any, find_any_in, first_candidate, first_candidate_in};
+pub use front::pair_where_bicritical;
 pub use tightness::{Tightness, is_tight};

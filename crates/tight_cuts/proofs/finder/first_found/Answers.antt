@@ -9,8 +9,8 @@ use Rattle.tight_cuts.proofs.finder.first_found.Goals as goal
 pub returns-in-Some : goal.returns-in-Some
 returns-in-Some c = sym (first-front c.args.g.now (candidate_of c.in-Some.first) (sym c.in_ok-first.ensures ∙ ap (option_map candidate_of) c.in-Some.is))
 
-pub first_bipartite_cut-requires-clause-front : goal.first_bipartite_cut-requires-clause-front
-first_bipartite_cut-requires-clause-front c = first-nil (front_candidates c.args.g.now) (sym (ap (option_map candidate_of) c.in_default.is) ∙ c.in_ok-first.ensures)
+pub first_of_bipartite-requires-clause-front : goal.first_of_bipartite-requires-clause-front
+first_of_bipartite-requires-clause-front c = first-nil (front_candidates c.args.g.now) (sym (ap (option_map candidate_of) c.in_default.is) ∙ c.in_ok-first.ensures)
 
 pub returns-in-None : goal.returns-in-None
 returns-in-None c =
