@@ -94,7 +94,9 @@ pub fn together(alloc: Global, g: &MultiGraph) -> Result<PairTable, Memory>
     ensures of { IfOk result (λ pairs. All (IsOf g.now) pairs.list) }
     ensures list { IfOk result (λ pairs. IsPairList g.now (edge_lists pairs)) }
     ensures lean { IfOk result (λ pairs. IsLean (edge_lists pairs)) }
-    ensures both { IfOk result (λ pairs. (e f : ℕ) → Within (size g.now) e → Within (size g.now) f → (holds_both (edge_lists pairs) e f ≡ true) ↔ Together g.now e f) }
+    ensures both { IfOk result
+        (λ pairs. (e f : ℕ) → Within (size g.now) e → Within (size g.now) f →
+        (holds_both (edge_lists pairs) e f ≡ true) ↔ Together g.now e f) }
 {
     together_beside(alloc, g, &[])
 }
@@ -107,7 +109,9 @@ pub fn together_beside(alloc: Global, g: &MultiGraph, shores: &[VSet]) -> Result
     ensures of { IfOk result (λ pairs. All (IsOf g.now) pairs.list) }
     ensures list { IfOk result (λ pairs. IsPairList g.now (edge_lists pairs)) }
     ensures lean { IfOk result (λ pairs. IsLean (edge_lists pairs)) }
-    ensures both { IfOk result (λ pairs. (e f : ℕ) → Within (size g.now) e → Within (size g.now) f → (holds_both (edge_lists pairs) e f ≡ true) ↔ Together g.now e f) }
+    ensures both { IfOk result
+        (λ pairs. (e f : ℕ) → Within (size g.now) e → Within (size g.now) f →
+        (holds_both (edge_lists pairs) e f ≡ true) ↔ Together g.now e f) }
 {
     let mut pairs = PairTable::new(alloc, g.size())?;
     match perfect_without(alloc, g, VSet::empty())? {
@@ -230,7 +234,8 @@ fn is_settled(g: &MultiGraph, shores: &[VSet], pairs: &PairTable, e: u32, f: u32
     requires other { Within (size g.now) f }
     requires above { e < f }
     requires size { pairs.now.size ≡ size g.now }
-    ensures settled { result ≡ true → Together g.now e f → holds_both (edge_lists pairs.now) e f ≡ true }
+    ensures settled { result ≡ true → Together g.now e f →
+        holds_both (edge_lists pairs.now) e f ≡ true }
     ensures apart { result ≡ false → share_end g.now e f ≡ false }
     ensures new { result ≡ false → holds_both (edge_lists pairs.now) e f ≡ false }
 {

@@ -25,7 +25,8 @@ pub fn perfect_with_edge(
     requires of { IsOf g.now kept.now }
     requires perfect { IsPerfect g.now none (mem (edges_of kept.now)) }
     ensures of { IfOk result (λ o. (m : _) → o ≡ Some m → IsOf g.now m) }
-    ensures perfect { IfOk result (λ o. (m : _) → o ≡ Some m → IsPerfect g.now none (mem (edges_of m))) }
+    ensures perfect { IfOk result
+        (λ o. (m : _) → o ≡ Some m → IsPerfect g.now none (mem (edges_of m))) }
     ensures holds { IfOk result (λ o. (m : _) → o ≡ Some m → mem (edges_of m) e ≡ true) }
     ensures none { IfOk result (λ o. (o ≡ None) ↔ (Allowed g.now e → ⊥)) }
 {
@@ -53,8 +54,10 @@ pub fn perfect_with_pair(
     requires perfect { IsPerfect g.now none (mem (edges_of kept.now)) }
     requires held { mem (edges_of kept.now) e ≡ true }
     ensures of { IfOk result (λ o. (m : _) → o ≡ Some m → IsOf g.now m) }
-    ensures perfect { IfOk result (λ o. (m : _) → o ≡ Some m → IsPerfect g.now none (mem (edges_of m))) }
-    ensures holds { IfOk result (λ o. (m : _) → o ≡ Some m → (mem (edges_of m) e ≡ true) × (mem (edges_of m) f ≡ true)) }
+    ensures perfect { IfOk result
+        (λ o. (m : _) → o ≡ Some m → IsPerfect g.now none (mem (edges_of m))) }
+    ensures holds { IfOk result
+        (λ o. (m : _) → o ≡ Some m → (mem (edges_of m) e ≡ true) × (mem (edges_of m) f ≡ true)) }
     ensures none { IfOk result (λ o. (o ≡ None) ↔ (Together g.now e f → ⊥)) }
 {
     g.keeps_limits();
@@ -80,7 +83,8 @@ fn perfect_off(
     requires within { (v : ℕ) → mem met v ≡ true → Within g.now.order v }
     requires few { LeavesFew g.now (mem met) (mem (edges_of kept.now)) }
     ensures of { IfOk result (λ o. (m : _) → o ≡ Some m → IsOf g.now m) }
-    ensures perfect { IfOk result (λ o. (m : _) → o ≡ Some m → IsPerfect g.now (mem met) (mem (edges_of m))) }
+    ensures perfect { IfOk result
+        (λ o. (m : _) → o ≡ Some m → IsPerfect g.now (mem met) (mem (edges_of m))) }
     ensures none { IfOk result (λ o. (o ≡ None) ↔ (HasPerfect g.now (mem met) → ⊥)) }
 {
     let rest = kept.cleared(alloc, met)?;
@@ -109,7 +113,8 @@ pub fn misses_none(g: &MultiGraph, m: &Matching, met: VSet) -> bool
 /// The set with the ends of an edge.
 fn with_ends(g: &MultiGraph, set: VSet, e: u32) -> VSet
     requires { Within (size g.now) e }
-    ensures { (v : ℕ) → mem result v ≡ ((mem set v || (first_end g.now e == v)) || (second_end g.now e == v)) }
+    ensures { (v : ℕ) → mem result v ≡
+        ((mem set v || (first_end g.now e == v)) || (second_end g.now e == v)) }
 {
     g.keeps_limits();
     let ends = g.ends(e);

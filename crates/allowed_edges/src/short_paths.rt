@@ -25,7 +25,8 @@ pub fn completed(
     requires within { (v : ℕ) → mem met v ≡ true → Within g.now.order v }
     requires matching { IsMatching g.now (mem met) (mem (edges_of m.now)) }
     ensures of { IfOk result (λ o. (n : _) → o ≡ Some n → IsOf g.now n) }
-    ensures perfect { IfOk result (λ o. (n : _) → o ≡ Some n → IsPerfect g.now (mem met) (mem (edges_of n))) }
+    ensures perfect { IfOk result
+        (λ o. (n : _) → o ≡ Some n → IsPerfect g.now (mem met) (mem (edges_of n))) }
 {
     g.keeps_limits();
     let missed = VSet::full(g.order()).minus(met).minus(met_vertices(m));
@@ -56,7 +57,8 @@ fn with_one(
     requires matching { IsMatching g.now (mem met) (mem (edges_of m.now)) }
     requires edge { Within (size g.now) k }
     ensures of { IfOk result (λ o. (n : _) → o ≡ Some n → IsOf g.now n) }
-    ensures perfect { IfOk result (λ o. (n : _) → o ≡ Some n → IsPerfect g.now (mem met) (mem (edges_of n))) }
+    ensures perfect { IfOk result
+        (λ o. (n : _) → o ≡ Some n → IsPerfect g.now (mem met) (mem (edges_of n))) }
 {
     match with_edge(alloc, g, met, m, k)? {
         Some(found) => {
@@ -85,7 +87,8 @@ fn with_two(
     requires within { (v : ℕ) → mem met v ≡ true → Within g.now.order v }
     requires matching { IsMatching g.now (mem met) (mem (edges_of m.now)) }
     ensures of { IfOk result (λ o. (n : _) → o ≡ Some n → IsOf g.now n) }
-    ensures perfect { IfOk result (λ o. (n : _) → o ≡ Some n → IsPerfect g.now (mem met) (mem (edges_of n))) }
+    ensures perfect { IfOk result
+        (λ o. (n : _) → o ≡ Some n → IsPerfect g.now (mem met) (mem (edges_of n))) }
 {
     g.keeps_limits();
     m.keeps_matching();
@@ -120,7 +123,8 @@ fn with_edge(
     requires matching { IsMatching g.now (mem met) (mem (edges_of m.now)) }
     requires edge { Within (size g.now) k }
     ensures of { IfOk result (λ o. (n : _) → o ≡ Some n → IsOf g.now n) }
-    ensures matching { IfOk result (λ o. (n : _) → o ≡ Some n → IsMatching g.now (mem met) (mem (edges_of n))) }
+    ensures matching { IfOk result
+        (λ o. (n : _) → o ≡ Some n → IsMatching g.now (mem met) (mem (edges_of n))) }
 {
     g.keeps_limits();
     m.keeps_matching();

@@ -55,7 +55,8 @@ impl EdgeTable {
         requires places { All (λ row. row.edge < length (row_of self.old e)) m.now.rows }
         ensures length { length self.new ≡ length self.old }
         ensures row_length { length (row_of self.new e) ≡ length (row_of self.old e) }
-        ensures marked { (f : ℕ) → marks (row_of self.new e) f ≡ (marks (row_of self.old e) f || mem (edges_of m.now) f) }
+        ensures marked { (f : ℕ) →
+            marks (row_of self.new e) f ≡ (marks (row_of self.old e) f || mem (edges_of m.now) f) }
         ensures others { (d : ℕ) → d ≢ e → row_of self.new d ≡ row_of self.old d }
     {
         mark_edges(&mut self.rows[e as usize], m);
@@ -68,7 +69,9 @@ pub fn mark_pairs(table: &mut EdgeTable, m: &Matching)
     requires places { All (λ row. row.edge < length table.old) m.now.rows }
     ensures length { length table.new ≡ length table.old }
     ensures square { IsSquare table.new }
-    ensures marked { (e f : ℕ) → marks (row_of table.new e) f ≡ (marks (row_of table.old e) f || (mem (edges_of m.now) e && mem (edges_of m.now) f)) }
+    ensures marked { (e f : ℕ) →
+        marks (row_of table.new e) f ≡
+        (marks (row_of table.old e) f || (mem (edges_of m.now) e && mem (edges_of m.now) f)) }
 {
     for i in 0..m.len() {
         table.mark_row(m.row(i).edge, m);
@@ -79,7 +82,8 @@ pub fn mark_pairs(table: &mut EdgeTable, m: &Matching)
 fn mark_edges(mark: &mut Vec<bool>, m: &Matching)
     requires { All (λ row. row.edge < length mark.old.items) m.now.rows }
     ensures length { length mark.new.items ≡ length mark.old.items }
-    ensures each { (i : ℕ) → marks mark.new.items i ≡ (marks mark.old.items i || mem (edges_of m.now) i) }
+    ensures each { (i : ℕ) →
+        marks mark.new.items i ≡ (marks mark.old.items i || mem (edges_of m.now) i) }
 {
     for i in 0..m.len() {
         let edge = m.row(i).edge as usize;

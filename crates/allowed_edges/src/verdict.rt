@@ -40,7 +40,8 @@ pub fn covered_in(
     requires of { IsOf g.now found.now.matching }
     requires maximum { IsMaximum g.now none (mem (edges_of found.now.matching)) }
     requires berge { IsRisingIn g.now.order found.now.berge }
-    requires attains { Attains g.now none (mem found.now.berge) (mem (edges_of found.now.matching)) }
+    requires attains { Attains g.now none (mem found.now.berge)
+        (mem (edges_of found.now.matching)) }
     requires table { ArePartners g.now none table.now }
     ensures { IfOk result (IsVerdict g.now) }
 {
@@ -56,7 +57,8 @@ pub fn covered_in(
 // The least vertex that no walk joins to 1, if there is one.
 fn first_apart(alloc: Global, g: &MultiGraph) -> Result<Option<u32>, Memory>
     requires { 1 ≤ g.now.order }
-    ensures some { IfOk result (λ found. IfSome found (IsLeastWithout g.now.order (Joined g.now none 1))) }
+    ensures some { IfOk result
+        (λ found. IfSome found (IsLeastWithout g.now.order (Joined g.now none 1))) }
     ensures none { IfOk result (λ found. IfNone found (IsConnected g.now)) }
 {
     let parts = g.components_without(alloc, VSet::empty())?;
@@ -71,7 +73,8 @@ fn matched(g: &MultiGraph, found: &Found, table: &PartnerTable) -> Verdict
     requires of { IsOf g.now found.now.matching }
     requires maximum { IsMaximum g.now none (mem (edges_of found.now.matching)) }
     requires berge { IsRisingIn g.now.order found.now.berge }
-    requires attains { Attains g.now none (mem found.now.berge) (mem (edges_of found.now.matching)) }
+    requires attains { Attains g.now none (mem found.now.berge)
+        (mem (edges_of found.now.matching)) }
     requires table { ArePartners g.now none table.now }
     ensures { IsVerdict g.now result }
 {

@@ -82,7 +82,8 @@ fn add_class_cuts(
     cuts: &mut SetList,
 ) -> Result<(), Memory>
     requires { IsCovered g.now }
-    ensures { OnOk result (cuts.new ≡ fold (with_cut g.now.order) cuts.old (components g.now (mem class))) }
+    ensures { OnOk result
+        (cuts.new ≡ fold (with_cut g.now.order) cuts.old (components g.now (mem class))) }
 {
     g.keeps_limits();
     let parts = g.components_without(alloc, class)?;

@@ -52,7 +52,8 @@ fn refused_report(
     why: Why,
 ) -> Result<Report, Memory>
     requires { IsRefused g.now (shape_of tree.now) node (why_of why) }
-    ensures { IfOk result (λ report. RefusedTree g.now (shape_of tree.now) place report.status report.bytes.items) }
+    ensures { IfOk result
+        (λ report. RefusedTree g.now (shape_of tree.now) place report.status report.bytes.items) }
 {
     let line = TreeLine::Refused {
         tree: place,
@@ -101,7 +102,8 @@ pub fn tally_of_tree(alloc: Global, g: &MultiGraph, tree: &Tree) -> Result<Tally
 // The line of a derivation.
 fn accepted_report(alloc: Global, g: &MultiGraph, tree: &Tree) -> Result<Report, Memory>
     requires { IsDerivation g.now (shape_of tree.now) }
-    ensures { IfOk result (λ report. AcceptedTree g.now (shape_of tree.now) report.status report.bytes.items) }
+    ensures { IfOk result
+        (λ report. AcceptedTree g.now (shape_of tree.now) report.status report.bytes.items) }
 {
     let tally = tally_of_tree(alloc, g, tree)?;
     Ok(Report {
@@ -113,7 +115,8 @@ fn accepted_report(alloc: Global, g: &MultiGraph, tree: &Tree) -> Result<Report,
 /// The report on a tree: how many leaves it has, or where and why it is refused, or that the graph is not covered.
 pub fn check_report(alloc: Global, g: &MultiGraph, tree: &Tree) -> Result<Report, Memory>
     requires { Fits g.now.order (shape_of tree.now) }
-    ensures { IfOk result (λ report. CheckGives g.now (shape_of tree.now) report.status report.bytes.items) }
+    ensures { IfOk result
+        (λ report. CheckGives g.now (shape_of tree.now) report.status report.bytes.items) }
 {
     match refusal_of_tree(alloc, g, tree, 1)? {
         Some(report) => Ok(report),

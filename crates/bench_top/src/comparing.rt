@@ -65,7 +65,8 @@ fn line_of(alloc: Global, number: u32, p: &Partition, map: &LeafMap) -> Result<M
 fn lines_of(alloc: Global, found: &Partitions, maps: &LeafMaps) -> Result<MapLines, Memory>
     requires one_each { length maps.now ≡ length found.now }
     requires few { length found.now < 2 ^ 32 }
-    ensures { IfOk result (λ lines. lines ≡ lines_of 0 (map (λ p. p.blocks) found.now) (maps_of maps.now)) }
+    ensures { IfOk result
+        (λ lines. lines ≡ lines_of 0 (map (λ p. p.blocks) found.now) (maps_of maps.now)) }
 {
     let mut lines = MapLines::new(alloc);
     for i in 0..found.len() {
@@ -83,7 +84,9 @@ fn pairing_report(
 ) -> Result<Report, Memory>
     requires first { IsDerivation g.now (shape_of first.now) }
     requires second { IsDerivation g.now (shape_of second.now) }
-    ensures { IfOk result (λ report. Compared g.now (shape_of first.now) (shape_of second.now) report.status report.bytes.items) }
+    ensures { IfOk result
+        (λ report. Compared g.now (shape_of first.now) (shape_of second.now) report.status
+        report.bytes.items) }
 {
     g.keeps_limits();
     let n = g.order();
@@ -106,7 +109,9 @@ pub fn compare_report(
 ) -> Result<Report, Memory>
     requires first { Fits g.now.order (shape_of first.now) }
     requires second { Fits g.now.order (shape_of second.now) }
-    ensures { IfOk result (λ report. CompareGives g.now (shape_of first.now) (shape_of second.now) report.status report.bytes.items) }
+    ensures { IfOk result
+        (λ report. CompareGives g.now (shape_of first.now) (shape_of second.now) report.status
+        report.bytes.items) }
 {
     match refusal_of_pair(alloc, g, first, second)? {
         Some(report) => Ok(report),
@@ -123,7 +128,9 @@ fn moves_report(
 ) -> Result<Report, Memory>
     requires first { IsDerivation g.now (shape_of first.now) }
     requires second { IsDerivation g.now (shape_of second.now) }
-    ensures { IfOk result (λ report. Scripted g.now (shape_of first.now) (shape_of second.now) report.status report.bytes.items) }
+    ensures { IfOk result
+        (λ report. Scripted g.now (shape_of first.now) (shape_of second.now) report.status
+        report.bytes.items) }
 {
     g.keeps_limits();
     let moves = moves_between(alloc, g, first, second)?;
@@ -146,7 +153,9 @@ pub fn script_report(
 ) -> Result<Report, Memory>
     requires first { Fits g.now.order (shape_of first.now) }
     requires second { Fits g.now.order (shape_of second.now) }
-    ensures { IfOk result (λ report. ScriptGives g.now (shape_of first.now) (shape_of second.now) report.status report.bytes.items) }
+    ensures { IfOk result
+        (λ report. ScriptGives g.now (shape_of first.now) (shape_of second.now) report.status
+        report.bytes.items) }
 {
     match refusal_of_pair(alloc, g, first, second)? {
         Some(report) => Ok(report),

@@ -25,7 +25,9 @@ use tree_text::write_tree;
 // The text of a derivation, and then its leaves and the names as comments.
 fn derivation_report(alloc: Global, named: &Named, tree: &Tree) -> Result<Report, Memory>
     requires { IsDerivation named.now.graph (shape_of tree.now) }
-    ensures { IfOk result (λ report. TellsDerivation (named_graph named.now) (shape_of tree.now) report.status report.bytes.items) }
+    ensures { IfOk result
+        (λ report. TellsDerivation (named_graph named.now) (shape_of tree.now) report.status
+        report.bytes.items) }
 {
     let g = &named.graph;
     g.keeps_limits();
@@ -46,7 +48,9 @@ fn order_report<F: Fn(&[Candidate], usize) -> usize>(
     order: &Order<F>,
 ) -> Result<Report, Memory>
     requires { PicksInRange F.Fn order.now.f }
-    ensures { IfOk result (λ report. DecomposeGives (FnPicks F.Fn order.now.f) (named_graph named.now) report.status report.bytes.items) }
+    ensures { IfOk result
+        (λ report. DecomposeGives (FnPicks F.Fn order.now.f) (named_graph named.now) report.status
+        report.bytes.items) }
 {
     match decompose(alloc, &named.graph, order) {
         Ok(tree) => derivation_report(alloc, named, &tree),
@@ -57,7 +61,9 @@ fn order_report<F: Fn(&[Candidate], usize) -> usize>(
 
 // The report of a decomposition in which the first candidate is picked. No other candidate is looked for.
 fn first_report(alloc: Global, named: &Named) -> Result<Report, Memory>
-    ensures { IfOk result (λ report. DecomposeGives (NamedPicks NamedOrder.First) (named_graph named.now) report.status report.bytes.items) }
+    ensures { IfOk result
+        (λ report. DecomposeGives (NamedPicks NamedOrder.First) (named_graph named.now)
+        report.status report.bytes.items) }
 {
     match decompose_first(alloc, &named.graph) {
         Ok(tree) => derivation_report(alloc, named, &tree),
@@ -68,7 +74,9 @@ fn first_report(alloc: Global, named: &Named) -> Result<Report, Memory>
 
 // The same with the last candidate.
 fn last_report(alloc: Global, named: &Named) -> Result<Report, Memory>
-    ensures { IfOk result (λ report. DecomposeGives (NamedPicks NamedOrder.Last) (named_graph named.now) report.status report.bytes.items) }
+    ensures { IfOk result
+        (λ report. DecomposeGives (NamedPicks NamedOrder.Last) (named_graph named.now) report.status
+        report.bytes.items) }
 {
     let order = Order::new(|list: &[Candidate], cuts: usize| last_place(list, cuts));
     let report = order_report(alloc, named, &order)?;
@@ -77,7 +85,9 @@ fn last_report(alloc: Global, named: &Named) -> Result<Report, Memory>
 
 // The same with the first candidate whose sides differ least in size.
 fn balanced_report(alloc: Global, named: &Named) -> Result<Report, Memory>
-    ensures { IfOk result (λ report. DecomposeGives (NamedPicks NamedOrder.Balanced) (named_graph named.now) report.status report.bytes.items) }
+    ensures { IfOk result
+        (λ report. DecomposeGives (NamedPicks NamedOrder.Balanced) (named_graph named.now)
+        report.status report.bytes.items) }
 {
     let order = Order::new(|list: &[Candidate], cuts: usize| balanced_place(list, cuts));
     let report = order_report(alloc, named, &order)?;
@@ -86,7 +96,9 @@ fn balanced_report(alloc: Global, named: &Named) -> Result<Report, Memory>
 
 /// The report of a decomposition in a named order.
 pub fn decompose_report(alloc: Global, named: &Named, order: NamedOrder) -> Result<Report, Memory>
-    ensures { IfOk result (λ report. DecomposeGives (NamedPicks order) (named_graph named.now) report.status report.bytes.items) }
+    ensures { IfOk result
+        (λ report. DecomposeGives (NamedPicks order) (named_graph named.now) report.status
+        report.bytes.items) }
 {
     match order {
         NamedOrder::First => first_report(alloc, named),
@@ -106,7 +118,9 @@ fn scripted_place(picks: &[u32], list: &[Candidate], cuts: usize) -> usize
 
 /// The report of a decomposition in the order of a list of picks.
 pub fn decompose_by_report(alloc: Global, named: &Named, picks: &Numbers) -> Result<Report, Memory>
-    ensures { IfOk result (λ report. DecomposeGives (ScriptPicks picks.now) (named_graph named.now) report.status report.bytes.items) }
+    ensures { IfOk result
+        (λ report. DecomposeGives (ScriptPicks picks.now) (named_graph named.now) report.status
+        report.bytes.items) }
 {
     let picks = picks.as_slice();
     let order = Order::new(|list: &[Candidate], cuts: usize| scripted_place(picks, list, cuts));

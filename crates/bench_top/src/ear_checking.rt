@@ -81,7 +81,8 @@ fn counts_of(steps: &[Step]) -> StepCounts
 fn accepted_report(alloc: Global, g: &MultiGraph, list: &EarList) -> Result<Report, Memory>
     requires covered { IsCovered g.now }
     requires is { IsEarList g.now (ears_of list.now) }
-    ensures { IfOk result (λ report. AcceptedEars g.now (ears_of list.now) report.status report.bytes.items) }
+    ensures { IfOk result
+        (λ report. AcceptedEars g.now (ears_of list.now) report.status report.bytes.items) }
 {
     g.keeps_limits();
     let StepCounts {
@@ -110,7 +111,8 @@ fn refused_report(
 ) -> Result<Report, Memory>
     requires covered { IsCovered g.now }
     requires refused { IsRefused g.now (ears_of list.now) step (why_of why) }
-    ensures { IfOk result (λ report. RefusedEars g.now (ears_of list.now) report.status report.bytes.items) }
+    ensures { IfOk result
+        (λ report. RefusedEars g.now (ears_of list.now) report.status report.bytes.items) }
 {
     let line = EarLine::Refused {
         step,
@@ -127,7 +129,8 @@ fn refused_report(
 fn judged_report(alloc: Global, g: &MultiGraph, list: &EarList) -> Result<Report, Memory>
     requires covered { IsCovered g.now }
     requires fits { FitsEars g.now.order (size g.now) (ears_of list.now) }
-    ensures { IfOk result (λ report. EarCheckGives g.now (ears_of list.now) report.status report.bytes.items) }
+    ensures { IfOk result
+        (λ report. EarCheckGives g.now (ears_of list.now) report.status report.bytes.items) }
 {
     match check_ears(alloc, g, list)? {
         EarJudgement::Accepted => accepted_report(alloc, g, list),
@@ -138,7 +141,8 @@ fn judged_report(alloc: Global, g: &MultiGraph, list: &EarList) -> Result<Report
 /// The report on a list of ears: how many steps it has, or where and why it is refused, or that the graph is not covered.
 pub fn checkears_report(alloc: Global, g: &MultiGraph, list: &EarList) -> Result<Report, Memory>
     requires { FitsEars g.now.order (size g.now) (ears_of list.now) }
-    ensures { IfOk result (λ report. EarCheckGives g.now (ears_of list.now) report.status report.bytes.items) }
+    ensures { IfOk result
+        (λ report. EarCheckGives g.now (ears_of list.now) report.status report.bytes.items) }
 {
     match covered(alloc, g)? {
         Verdict::Covered => judged_report(alloc, g, list),

@@ -119,7 +119,8 @@ fn load_trees<S: Shelf>(
     ensures files { S.files shelf.new ≡ S.files shelf.old }
     ensures steady { S.steady shelf.new ≡ S.steady shelf.old }
     ensures later { S.faults shelf.old ≤ S.faults shelf.new }
-    ensures reads { ReadsAs S.reads (graph.now ∷ first.now ∷ second.now ∷ []) result shelf.old shelf.new }
+    ensures reads { ReadsAs S.reads (graph.now ∷ first.now ∷ second.now ∷ []) result shelf.old
+        shelf.new }
     ensures failed { IsReadFault result → Rose (S.faults shelf.old) (S.faults shelf.new) }
     ensures loads { (files : List Named) → S.files shelf.old ≡ Some files
         → LoadsAs given_trees result (trees_given files graph.now first.now second.now) }
@@ -149,7 +150,8 @@ fn load_moves<S: Shelf>(
     ensures files { S.files shelf.new ≡ S.files shelf.old }
     ensures steady { S.steady shelf.new ≡ S.steady shelf.old }
     ensures later { S.faults shelf.old ≤ S.faults shelf.new }
-    ensures reads { ReadsAs S.reads (graph.now ∷ tree.now ∷ moves.now ∷ []) result shelf.old shelf.new }
+    ensures reads { ReadsAs S.reads (graph.now ∷ tree.now ∷ moves.now ∷ []) result shelf.old
+        shelf.new }
     ensures failed { IsReadFault result → Rose (S.faults shelf.old) (S.faults shelf.new) }
     ensures loads { (files : List Named) → S.files shelf.old ≡ Some files
         → LoadsAs given_moves result (moves_given files graph.now tree.now moves.now) }

@@ -28,7 +28,8 @@ fn counted_in<F: Fn(&[Candidate], usize) -> usize>(
 ) -> Result<(Tree, Tally), Memory>
     requires order { PicksInRange F.Fn order.now.f }
     requires covered { IsCovered g.now }
-    ensures { IfOk result (λ found. IsCounted (FnPicks F.Fn order.now.f) g.now (shape_of found.0) found.1) }
+    ensures { IfOk result
+        (λ found. IsCounted (FnPicks F.Fn order.now.f) g.now (shape_of found.0) found.1) }
 {
     match decompose(alloc, g, order) {
         Ok(tree) => {
@@ -43,7 +44,8 @@ fn counted_in<F: Fn(&[Candidate], usize) -> usize>(
 // The derivation for which the first candidate is picked, with its leaves counted. No other candidate is looked for.
 fn counted_first(alloc: Global, g: &MultiGraph) -> Result<(Tree, Tally), Memory>
     requires { IsCovered g.now }
-    ensures { IfOk result (λ found. IsCounted (NamedPicks NamedOrder.First) g.now (shape_of found.0) found.1) }
+    ensures { IfOk result
+        (λ found. IsCounted (NamedPicks NamedOrder.First) g.now (shape_of found.0) found.1) }
 {
     match decompose_first(alloc, g) {
         Ok(tree) => {
@@ -58,7 +60,8 @@ fn counted_first(alloc: Global, g: &MultiGraph) -> Result<(Tree, Tally), Memory>
 // The same with the last candidate.
 fn counted_last(alloc: Global, g: &MultiGraph) -> Result<(Tree, Tally), Memory>
     requires { IsCovered g.now }
-    ensures { IfOk result (λ found. IsCounted (NamedPicks NamedOrder.Last) g.now (shape_of found.0) found.1) }
+    ensures { IfOk result
+        (λ found. IsCounted (NamedPicks NamedOrder.Last) g.now (shape_of found.0) found.1) }
 {
     let order = Order::new(|list: &[Candidate], cuts: usize| last_place(list, cuts));
     let found = counted_in(alloc, g, &order)?;
@@ -68,7 +71,8 @@ fn counted_last(alloc: Global, g: &MultiGraph) -> Result<(Tree, Tally), Memory>
 /// The report on the graph that grows from a seed: its text, the leaves of its derivations by the first and by the last candidates, and
 /// how many leaves their comparison pairs.
 pub fn grow_report(alloc: Global, growth: Growth) -> Result<Report, Memory>
-    ensures { IfOk result (λ report. Grown growth.seed growth.pieces report.status report.bytes.items) }
+    ensures { IfOk result
+        (λ report. Grown growth.seed growth.pieces report.status report.bytes.items) }
 {
     let g = grow(alloc, growth.seed as u64, growth.pieces)?;
     let text = write_graph(alloc, &g)?;

@@ -27,29 +27,37 @@ pub fn run_in_memory(
     requires { shelf.old.failing ≡ [] }
     ensures usage { result ≡ Status.Usage ↔ (command_of (map string_bytes words.now) ≡ None) }
     ensures unread { result ≡ Status.Usage → shelf.new ≡ shelf.old }
-    ensures nothing { (result ≡ Status.Usage) ⊎ ((result ≡ Status.ReadFault) ⊎ (result ≡ Status.Memory))
+    ensures nothing { (result ≡ Status.Usage) ⊎
+        ((result ≡ Status.ReadFault) ⊎ (result ≡ Status.Memory))
         → sink.new ≡ sink.old }
-    ensures negative { result ≡ Status.Negative → MayRefuse (command_of (map string_bytes words.now)) }
+    ensures negative { result ≡ Status.Negative →
+        MayRefuse (command_of (map string_bytes words.now)) }
     ensures writes { ¬ (result ≡ Status.WriteFault) }
     ensures files { shelf.new.files ≡ shelf.old.files }
     // The names that are read are the first few in the words, and where memory lasts those up to the first file that is
     // not held or is bad.
-    ensures asks { ReadsFirst IsRead (names_in (command_of (map string_bytes words.now))) shelf.old shelf.new }
-    ensures asks_until { (command : Command) → command_of (map string_bytes words.now) ≡ Some command
+    ensures asks { ReadsFirst IsRead (names_in (command_of (map string_bytes words.now))) shelf.old
+        shelf.new }
+    ensures asks_until { (command : Command) →
+        command_of (map string_bytes words.now) ≡ Some command
         → (result ≡ Status.Memory)
         ⊎ ReadsInTurn IsRead (names_until (loaded shelf.old.files command) (file_names command))
         shelf.old shelf.new }
     // The status has an output for which the words and the files stand with it.
     ensures outcome { IsReported result
         → (output : List ℕ) × Outcome (map string_bytes words.now) shelf.old.files result output }
-    ensures absent { (command : Command) (file : ℕ) → command_of (map string_bytes words.now) ≡ Some command
+    ensures absent { (command : Command) (file : ℕ) →
+        command_of (map string_bytes words.now) ≡ Some command
         → loaded shelf.old.files command ≡ Absent file → (result ≡ Status.ReadFault) ⊎ (result ≡ Status.Memory) }
-    ensures bad { (command : Command) (file line kind : ℕ) → command_of (map string_bytes words.now) ≡ Some command
+    ensures bad { (command : Command) (file line kind : ℕ) →
+        command_of (map string_bytes words.now) ≡ Some command
         → loaded shelf.old.files command ≡ Bad file line kind
         → (result ≡ Status.BadInput) ⊎ (result ≡ Status.Memory) }
-    ensures good { (command : Command) (task : Task) → command_of (map string_bytes words.now) ≡ Some command
+    ensures good { (command : Command) (task : Task) →
+        command_of (map string_bytes words.now) ≡ Some command
         → loaded shelf.old.files command ≡ All task → IsSettled result ⊎ (result ≡ Status.Memory) }
-    ensures succeeds { (command : Command) (task : Task) → command_of (map string_bytes words.now) ≡ Some command
+    ensures succeeds { (command : Command) (task : Task) →
+        command_of (map string_bytes words.now) ≡ Some command
         → loaded shelf.old.files command ≡ All task → Succeeds task
         → (result ≡ Status.Done) ⊎ (result ≡ Status.Memory) }
 {

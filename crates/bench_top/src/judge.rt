@@ -85,7 +85,8 @@ fn analysis_lines(alloc: Global, g: &MultiGraph) -> Result<AnalysisLines, Memory
 
 // The report of `analyse`.
 fn analyse_report(alloc: Global, named: &Named) -> Result<Report, Memory>
-    ensures { IfOk result (λ report. Analysed (named_graph named.now) report.status report.bytes.items) }
+    ensures { IfOk result
+        (λ report. Analysed (named_graph named.now) report.status report.bytes.items) }
 {
     let lines = analysis_lines(alloc, &named.graph)?;
     let text = analysis(alloc, &lines)?;
@@ -98,7 +99,8 @@ fn analyse_report(alloc: Global, named: &Named) -> Result<Report, Memory>
 
 // The report of `convert`.
 fn convert_report(alloc: Global, named: Named) -> Result<Report, Memory>
-    ensures { IfOk result (λ report. Converted (named_graph named) report.status report.bytes.items) }
+    ensures { IfOk result
+        (λ report. Converted (named_graph named) report.status report.bytes.items) }
 {
     let Named { graph, names } = named;
     let names = given_or_plain(alloc, &graph, names)?;
@@ -124,9 +126,11 @@ fn analyse6_report(alloc: Global, simple: SimpleGraph) -> Result<Report, Memory>
 
 /// The status and the whole report of a task, made in memory. Neither a shelf nor a sink is asked.
 pub fn judge(alloc: Global, task: Task) -> Result<Report, Memory>
-    ensures result { IfOk result (λ report. ResultOf (task_of task) report.status report.bytes.items) }
+    ensures result { IfOk result
+        (λ report. ResultOf (task_of task) report.status report.bytes.items) }
     ensures reported { IfOk result (λ report. IsReported report.status) }
-    ensures refuses { IfOk result (λ report. report.status ≡ Status.Negative → TaskMayRefuse (task_of task)) }
+    ensures refuses { IfOk result
+        (λ report. report.status ≡ Status.Negative → TaskMayRefuse (task_of task)) }
 {
     match task {
         Task::Analyse { named } => analyse_report(alloc, &named),

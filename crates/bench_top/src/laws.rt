@@ -16,7 +16,8 @@ pub fn completeness_law()
         (status : Status) (output : List ℕ)
         → command_of words ≡ Some command → loaded files command ≡ All task
         → Outcome words files status output → (status ≡ Done) ↔ Succeeds task }
-    ensures negative { (words : List (List ℕ)) (files : List Named) (command : Command) (task : Task)
+    ensures negative { (words : List (List ℕ)) (files : List Named) (command : Command)
+        (task : Task)
         (status : Status) (output : List ℕ)
         → command_of words ≡ Some command → loaded files command ≡ All task
         → Outcome words files status output → (status ≡ Negative) ↔ (Succeeds task → ⊥) }
@@ -37,7 +38,8 @@ pub fn one_output_law()
         (output other : List ℕ)
         → command_of words ≡ Some command → loaded files command ≡ All task → HasOneOutput task
         → Outcome words files Done output → Outcome words files Done other → output ≡ other }
-    ensures negative { (words : List (List ℕ)) (files : List Named) (command : Command) (task : Task)
+    ensures negative { (words : List (List ℕ)) (files : List Named) (command : Command)
+        (task : Task)
         (output other : List ℕ)
         → command_of words ≡ Some command → loaded files command ≡ All task → ShowsNothingFree task
         → Outcome words files Negative output → Outcome words files Negative other → output ≡ other }

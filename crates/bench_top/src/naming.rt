@@ -16,8 +16,10 @@ pub fn with_given_names(
     names: &Option<Names>,
     comments: bool,
 ) -> Result<Vec<u8>, Memory>
-    ensures text { IfOk result (λ bytes. bytes.items ≡ with_given_names report.items names.now comments) }
-    ensures comments { comments ≡ true → IfOk result (λ bytes. IsCommented report.items bytes.items) }
+    ensures text { IfOk result
+        (λ bytes. bytes.items ≡ with_given_names report.items names.now comments) }
+    ensures comments { comments ≡ true →
+        IfOk result (λ bytes. IsCommented report.items bytes.items) }
 {
     match names {
         Some(names) => with_names(alloc, &report, names, comments),

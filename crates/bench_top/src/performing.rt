@@ -21,13 +21,17 @@ use std::alloc::Global;
 
 // The report on what was gathered, or the status where there is none.
 fn report_on(alloc: Global, gathered: Result<Task, Stop>) -> Result<Report, Status>
-    ensures gives { IfOk result (λ report. (held : Held) → LoadsAs task_of gathered held → LoadedGives held report.status report.bytes.items) }
+    ensures gives { IfOk result
+        (λ report. (held : Held) → LoadsAs task_of gathered held →
+        LoadedGives held report.status report.bytes.items) }
     ensures reported { IfOk result (λ report. IsReported report.status) }
-    ensures refuses { IfOk result (λ report. report.status ≡ Status.Negative → GatheredMayRefuse gathered) }
+    ensures refuses { IfOk result
+        (λ report. report.status ≡ Status.Negative → GatheredMayRefuse gathered) }
     ensures read { IfOk result (λ report. IsRead gathered) }
     ensures whole { IfOk result (λ report. IsSettled report.status → IsOk gathered) }
     ensures read_fault { IsErrOf result Status.ReadFault ↔ IsReadFault gathered }
-    ensures stops { IfErr result (λ status. (status ≡ Status.ReadFault) ⊎ (status ≡ Status.Memory)) }
+    ensures stops { IfErr result
+        (λ status. (status ≡ Status.ReadFault) ⊎ (status ≡ Status.Memory)) }
 {
     match gathered {
         Ok(task) => judge(alloc, task).map_err(|_| Status::Memory),
@@ -61,8 +65,10 @@ pub fn perform<S: Shelf, K: Sink>(
         → HasRead (S.steady shelf.old) result
         → let names = names_until (loaded files (asked command.entry)) (file_names (asked command.entry))
         in ReadsInTurn S.reads names shelf.old shelf.new }
-    ensures read_fault { result ≡ Status.ReadFault → Rose (S.faults shelf.old) (S.faults shelf.new) }
-    ensures write_fault { result ≡ Status.WriteFault → Rose (K.faults sink.old) (K.faults sink.new) }
+    ensures read_fault { result ≡ Status.ReadFault →
+        Rose (S.faults shelf.old) (S.faults shelf.new) }
+    ensures write_fault { result ≡ Status.WriteFault →
+        Rose (K.faults sink.old) (K.faults sink.new) }
     ensures nothing { (result ≡ Status.ReadFault) ⊎ (result ≡ Status.Memory) → sink.new ≡ sink.old }
     ensures outcome { (files : List Named) → S.files shelf.old ≡ Some files → IsReported result
         → Appended (LoadedGives (loaded files (asked command.entry))) result

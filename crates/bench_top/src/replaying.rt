@@ -32,7 +32,9 @@ fn last_tree_report(
     requires derivation { IsDerivation g.now (shape_of tree.now) }
     requires few { moves ≤ most_moves }
     ensures done { IfOk result (λ report. report.status ≡ Status.Done) }
-    ensures text { IfOk result (λ report. report.bytes.items ≡ replayed_text (tree_text g.now.order (shape_of tree.now)) moves) }
+    ensures text { IfOk result
+        (λ report. report.bytes.items ≡
+        replayed_text (tree_text g.now.order (shape_of tree.now)) moves) }
 {
     g.keeps_limits();
     let n = g.order();
@@ -57,7 +59,9 @@ fn stuck_report(alloc: Global, at: u32) -> Result<Report, Memory>
 // The line of a move whose result is no derivation.
 fn refused_move_report(alloc: Global, at: u32, node: u32, why: Why) -> Result<Report, Memory>
     ensures negative { IfOk result (λ report. report.status ≡ Status.Negative) }
-    ensures text { IfOk result (λ report. report.bytes.items ≡ refused_move_text at node (why_number (why_of why)) (shown_of (why_of why))) }
+    ensures text { IfOk result
+        (λ report. report.bytes.items ≡
+        refused_move_text at node (why_number (why_of why)) (shown_of (why_of why))) }
 {
     let number = number_of(&why);
     let shown = shown_by(why);
@@ -71,7 +75,9 @@ fn refused_move_report(alloc: Global, at: u32, node: u32, why: Why) -> Result<Re
 fn moves_report(alloc: Global, g: &MultiGraph, tree: Tree, moves: &Moves) -> Result<Report, Memory>
     requires derivation { IsDerivation g.now (shape_of tree) }
     requires few { length moves.now ≤ most_moves }
-    ensures { IfOk result (λ report. MovesGive g.now (shape_of tree) (moves_of moves.now) report.status report.bytes.items) }
+    ensures { IfOk result
+        (λ report. MovesGive g.now (shape_of tree) (moves_of moves.now) report.status
+        report.bytes.items) }
 {
     let answer = replay(alloc, g, tree, moves)?;
     match answer {
@@ -91,7 +97,9 @@ pub fn replay_report(
 ) -> Result<Report, Memory>
     requires fits { Fits g.now.order (shape_of tree) }
     requires few { length moves.now ≤ most_moves }
-    ensures { IfOk result (λ report. ReplayGives g.now (shape_of tree) (moves_of moves.now) report.status report.bytes.items) }
+    ensures { IfOk result
+        (λ report. ReplayGives g.now (shape_of tree) (moves_of moves.now) report.status
+        report.bytes.items) }
 {
     match refusal_of_tree(alloc, g, &tree, 1)? {
         Some(report) => Ok(report),

@@ -30,12 +30,16 @@ pub fn run<S: Shelf, K: Sink>(
     ensures usage { result ≡ Status.Usage ↔ (command_of (map string_bytes words.now) ≡ None) }
     ensures unread { result ≡ Status.Usage → shelf.new ≡ shelf.old }
     // Some commands never refuse.
-    ensures negative { result ≡ Status.Negative → MayRefuse (command_of (map string_bytes words.now)) }
+    ensures negative { result ≡ Status.Negative →
+        MayRefuse (command_of (map string_bytes words.now)) }
     // A fault of the outside comes only where its count rose in this call.
-    ensures read_fault { result ≡ Status.ReadFault → Rose (S.faults shelf.old) (S.faults shelf.new) }
-    ensures write_fault { result ≡ Status.WriteFault → Rose (K.faults sink.old) (K.faults sink.new) }
+    ensures read_fault { result ≡ Status.ReadFault →
+        Rose (S.faults shelf.old) (S.faults shelf.new) }
+    ensures write_fault { result ≡ Status.WriteFault →
+        Rose (K.faults sink.old) (K.faults sink.new) }
     // Nothing is written before the whole report is made.
-    ensures nothing { (result ≡ Status.Usage) ⊎ ((result ≡ Status.ReadFault) ⊎ (result ≡ Status.Memory))
+    ensures nothing { (result ≡ Status.Usage) ⊎
+        ((result ≡ Status.ReadFault) ⊎ (result ≡ Status.Memory))
         → sink.new ≡ sink.old }
 
     // The reads are those of the first few names of files in the words, in their order: of all of them where good files were
@@ -67,21 +71,25 @@ pub fn run<S: Shelf, K: Sink>(
         → (file : ℕ) × (loaded files command ≡ Absent file) }
 
     // What the files hold decides the status, where the outside does not fail and memory lasts.
-    ensures absent { (files : List Named) (command : Command) (file : ℕ) → S.files shelf.old ≡ Some files
+    ensures absent { (files : List Named) (command : Command) (file : ℕ) →
+        S.files shelf.old ≡ Some files
         → command_of (map string_bytes words.now) ≡ Some command → loaded files command ≡ Absent file
         → (result ≡ Status.ReadFault) ⊎ (result ≡ Status.Memory) }
-    ensures bad { (files : List Named) (command : Command) (file line kind : ℕ) → S.files shelf.old ≡ Some files
+    ensures bad { (files : List Named) (command : Command) (file line kind : ℕ) →
+        S.files shelf.old ≡ Some files
         → command_of (map string_bytes words.now) ≡ Some command → loaded files command ≡ Bad file line kind
         → IsCalm (S.steady shelf.old) (S.faults shelf.old) (S.faults shelf.new)
         (K.faults sink.old) (K.faults sink.new)
         → (result ≡ Status.BadInput) ⊎ (result ≡ Status.Memory) }
-    ensures good { (files : List Named) (command : Command) (task : Task) → S.files shelf.old ≡ Some files
+    ensures good { (files : List Named) (command : Command) (task : Task) →
+        S.files shelf.old ≡ Some files
         → command_of (map string_bytes words.now) ≡ Some command → loaded files command ≡ All task
         → IsCalm (S.steady shelf.old) (S.faults shelf.old) (S.faults shelf.new)
         (K.faults sink.old) (K.faults sink.new)
         → IsSettled result ⊎ (result ≡ Status.Memory) }
     // It is done where the task succeeds.
-    ensures succeeds { (files : List Named) (command : Command) (task : Task) → S.files shelf.old ≡ Some files
+    ensures succeeds { (files : List Named) (command : Command) (task : Task) →
+        S.files shelf.old ≡ Some files
         → command_of (map string_bytes words.now) ≡ Some command → loaded files command ≡ All task
         → Succeeds task
         → IsCalm (S.steady shelf.old) (S.faults shelf.old) (S.faults shelf.new)

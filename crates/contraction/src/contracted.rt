@@ -64,14 +64,16 @@ impl Contracted {
     pub fn remembered(&self, e: u32) -> &[u32]
         requires { Within (size self.now.graph) e }
         ensures value { result.now ≡ item self.now.edges e }
-        ensures edges { (g : Graph) (p : List (List ℕ)) → self.now ≡ contraction g p → result.now ≡ remembered g p e }
+        ensures edges { (g : Graph) (p : List (List ℕ)) → self.now ≡ contraction g p →
+            result.now ≡ remembered g p e }
     {
         edges_at(&self.remembered, e as usize - 1)
     }
 
     /// The union of the blocks at the places in `s`. Takes no memory.
     pub fn lift_set(&self, s: VSet) -> VSet
-        ensures { (g : Graph) (p : List (List ℕ)) → self.now ≡ contraction g p → result ≡ union_of_blocks g p (mem s) }
+        ensures { (g : Graph) (p : List (List ℕ)) → self.now ≡ contraction g p →
+            result ≡ union_of_blocks g p (mem s) }
     {
         self.keeps_contraction();
         let union = union_at(&self.blocks, s);
@@ -113,7 +115,8 @@ fn edges_at(kept: &IndexMap<(u32, u32), Vec<u32>>, i: usize) -> &[u32]
 // The union of the blocks at the places in the set.
 fn union_at(blocks: &[VSet], s: VSet) -> VSet
     requires { length blocks.now ≤ MOST_VERTICES }
-    ensures { (v : ℕ) → mem result v ≡ some (length blocks.now) (λ i. mem s i && mem (block blocks.now i) v) }
+    ensures { (v : ℕ) → mem result v ≡
+        some (length blocks.now) (λ i. mem s i && mem (block blocks.now i) v) }
 {
     let mut union = VSet::empty();
     for (i, block) in blocks.iter().enumerate() {
@@ -149,7 +152,9 @@ pub fn quotient(alloc: Global, g: &MultiGraph, p: &Partition) -> Result<Contract
 // The ends of the edges as places of blocks.
 fn ends_at(alloc: Global, edges: &[Ends], p: &Partition) -> Result<Vec<Ends>, Memory>
     requires { IsGraph (graph_of p.now.order edges.now) }
-    ensures { IfOk result (λ ends. graph_of (length p.now.blocks) ends.items ≡ contracted (graph_of p.now.order edges.now) p.now.blocks) }
+    ensures { IfOk result
+        (λ ends. graph_of (length p.now.blocks) ends.items ≡
+        contracted (graph_of p.now.order edges.now) p.now.blocks) }
 {
     p.keeps_partition();
     let mut ends = Vec::new(alloc);
@@ -167,7 +172,8 @@ fn note_edge(rows: &mut [VSet], edge: Ends)
     requires few { length rows.old ≤ MOST_VERTICES }
     requires first { Within (length rows.old) edge.a }
     requires second { Within (length rows.old) edge.b }
-    ensures { (i j : ℕ) → Within (length rows.old) i → mem (item rows.new i) j ≡ (mem (item rows.old i) j || (nat_lt i j && are_ends i j edge)) }
+    ensures { (i j : ℕ) → Within (length rows.old) i →
+        mem (item rows.new i) j ≡ (mem (item rows.old i) j || (nat_lt i j && are_ends i j edge)) }
 {
     if edge.a < edge.b {
         let i = edge.a as usize - 1;
@@ -183,7 +189,8 @@ fn note_edges(rows: &mut [VSet], ends: &[Ends])
     requires few { length rows.old ≤ MOST_VERTICES }
     requires graph { IsGraph (graph_of (length rows.old) ends.now) }
     requires empty { All (λ row. row ≡ []) rows.old }
-    ensures { (i j : ℕ) → Within (length rows.old) i → mem (item rows.new i) j ≡ (nat_lt i j && list_any (are_ends i j) ends.now) }
+    ensures { (i j : ℕ) → Within (length rows.old) i →
+        mem (item rows.new i) j ≡ (nat_lt i j && list_any (are_ends i j) ends.now) }
 {
     for edge in ends {
         note_edge(rows, *edge);
@@ -195,7 +202,9 @@ fn later_neighbours(alloc: Global, n: u32, ends: &[Ends]) -> Result<Vec<VSet>, M
     requires few { n ≤ MOST_VERTICES }
     requires graph { IsGraph (graph_of n ends.now) }
     ensures each { IfOk result (λ rows. length rows.items ≡ n) }
-    ensures later { IfOk result (λ rows. (i j : ℕ) → Within n i → mem (item rows.items i) j ≡ (nat_lt i j && list_any (are_ends i j) ends.now)) }
+    ensures later { IfOk result
+        (λ rows. (i j : ℕ) → Within n i →
+        mem (item rows.items i) j ≡ (nat_lt i j && list_any (are_ends i j) ends.now)) }
 {
     let mut rows = vec![in alloc; VSet::empty(); n as usize]?;
     note_edges(&mut rows, ends);
@@ -204,7 +213,8 @@ fn later_neighbours(alloc: Global, n: u32, ends: &[Ends]) -> Result<Vec<VSet>, M
 
 // Appends the pairs of a with the members of its row.
 fn push_row(pairs: &mut Vec<Ends>, a: u32, row: VSet) -> Result<(), Memory>
-    ensures { OnOk result (map pair_of pairs.new.items ≡ map pair_of pairs.old.items ++ map (pair_with a) row) }
+    ensures { OnOk result
+        (map pair_of pairs.new.items ≡ map pair_of pairs.old.items ++ map (pair_with a) row) }
 {
     for b in row.iter() {
         pairs.push(Ends { a, b })?;
@@ -215,8 +225,12 @@ fn push_row(pairs: &mut Vec<Ends>, a: u32, row: VSet) -> Result<(), Memory>
 // The pairs of each number with the members of its row, in lexicographic order.
 fn row_pairs(alloc: Global, rows: &[VSet]) -> Result<Vec<Ends>, Memory>
     requires { length rows.now ≤ MOST_VERTICES }
-    ensures pairs { IfOk result (λ pairs. map pair_of pairs.items ≡ flat_map (λ a. map (pair_with a) (item rows.now a)) (rising_list (length rows.now) everything)) }
-    ensures rising { OnOk result ((i : ℕ) → Within (length rows.now) i → IsRisingIn MOST_VERTICES (item rows.now i)) }
+    ensures pairs { IfOk result
+        (λ pairs. map pair_of pairs.items ≡
+        flat_map (λ a. map (pair_with a) (item rows.now a))
+        (rising_list (length rows.now) everything)) }
+    ensures rising { OnOk result
+        ((i : ℕ) → Within (length rows.now) i → IsRisingIn MOST_VERTICES (item rows.now i)) }
 {
     let mut pairs = Vec::new(alloc);
     for (i, row) in rows.iter().enumerate() {
@@ -251,7 +265,9 @@ fn graph_with(alloc: Global, n: u32, pairs: &[Ends]) -> Result<MultiGraph, Memor
 // The edges with the ends a and b, in rising order.
 fn edges_with(alloc: Global, ends: &[Ends], a: u32, b: u32) -> Result<Vec<u32>, Memory>
     requires { length ends.now ≤ MOST_EDGES }
-    ensures { IfOk result (λ edges. edges.items ≡ rising_list (length ends.now) (has_ends (graph_of 0 ends.now) a b)) }
+    ensures { IfOk result
+        (λ edges. edges.items ≡ rising_list (length ends.now)
+        (has_ends (graph_of 0 ends.now) a b)) }
 {
     let mut edges = Vec::new(alloc);
     for (k, edge) in ends.iter().enumerate() {
@@ -271,7 +287,10 @@ fn remember(
     requires few { length ends.now ≤ MOST_EDGES }
     requires once { EachOnce (map pair_of pairs.now) }
     ensures keys { IfOk result (λ kept. keys kept ≡ map pair_of pairs.now) }
-    ensures edges { IfOk result (λ kept. map (λ entry. entry.1.items) kept.entries ≡ map (λ pair. rising_list (length ends.now) (has_ends (graph_of 0 ends.now) pair.0 pair.1)) (map pair_of pairs.now)) }
+    ensures edges { IfOk result
+        (λ kept. map (λ entry. entry.1.items) kept.entries ≡
+        map (λ pair. rising_list (length ends.now)
+        (has_ends (graph_of 0 ends.now) pair.0 pair.1)) (map pair_of pairs.now)) }
 {
     let mut kept = IndexMap::new(alloc);
     for pair in pairs {

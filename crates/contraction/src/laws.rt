@@ -12,27 +12,33 @@ ghost use Rattle.graph_core.specs.Tight.{IsTight};
 
 /// The quotient is matching covered exactly where the contracted graph is, which has the edges of the graph itself.
 pub fn covered_quotient_law()
-    ensures { (g : Graph) (p : List (List ℕ)) → IsGraph g → AreBlocks g.order p → (IsCovered (quotient g p) ↔ IsCovered (contracted g p)) }
+    ensures { (g : Graph) (p : List (List ℕ)) → IsGraph g → AreBlocks g.order p →
+        (IsCovered (quotient g p) ↔ IsCovered (contracted g p)) }
 {}
 
 /// A union of blocks is tight at the partition exactly where the set of its blocks is tight in the quotient.
 pub fn tight_quotient_law()
-    ensures { (g : Graph) (p : List (List ℕ)) (x : Set) → IsGraph g → AreBlocks g.order p → IsUnion g.order p x → (IsTight (quotient g p) (blocks_in p x) ↔ IsTightAt g p x) }
+    ensures { (g : Graph) (p : List (List ℕ)) (x : Set) → IsGraph g → AreBlocks g.order p →
+        IsUnion g.order p x → (IsTight (quotient g p) (blocks_in p x) ↔ IsTightAt g p x) }
 {}
 
 /// The lift of a perfect matching of the quotient, by the least remembered edge of each of its edges, is a perfect matching at
 /// the partition, with as many edges in the cut of each set of blocks.
 pub fn lift_law()
-    ensures perfect { (g : Graph) (p : List (List ℕ)) (m : Set) → IsGraph g → AreBlocks g.order p → IsPerfect (quotient g p) none m → IsPerfectAt g p (mem (lifted g p m)) }
-    ensures cut { (g : Graph) (p : List (List ℕ)) (m y : Set) → IsGraph g → AreBlocks g.order p → IsPerfect (quotient g p) none m →
+    ensures perfect { (g : Graph) (p : List (List ℕ)) (m : Set) → IsGraph g → AreBlocks g.order p →
+        IsPerfect (quotient g p) none m → IsPerfectAt g p (mem (lifted g p m)) }
+    ensures cut { (g : Graph) (p : List (List ℕ)) (m y : Set) → IsGraph g → AreBlocks g.order p →
+        IsPerfect (quotient g p) none m →
         edges_in_cut (contracted g p) (mem (lifted g p m)) y ≡ edges_in_cut (quotient g p) m y }
 {}
 
 /// The projection of a perfect matching at the partition, to the edges of the quotient between the two blocks of each of its
 /// edges, is a perfect matching of the quotient, with as many edges in the cut of each set of blocks.
 pub fn projection_law()
-    ensures perfect { (g : Graph) (p : List (List ℕ)) (m : Set) → IsGraph g → AreBlocks g.order p → IsPerfectAt g p m → IsPerfect (quotient g p) none (projected g p m) }
-    ensures cut { (g : Graph) (p : List (List ℕ)) (m y : Set) → IsGraph g → AreBlocks g.order p → IsPerfectAt g p m →
+    ensures perfect { (g : Graph) (p : List (List ℕ)) (m : Set) → IsGraph g → AreBlocks g.order p →
+        IsPerfectAt g p m → IsPerfect (quotient g p) none (projected g p m) }
+    ensures cut { (g : Graph) (p : List (List ℕ)) (m y : Set) → IsGraph g → AreBlocks g.order p →
+        IsPerfectAt g p m →
         edges_in_cut (quotient g p) (projected g p m) y ≡ edges_in_cut (contracted g p) m y }
 {}
 
@@ -40,12 +46,19 @@ pub fn projection_law()
 /// at it. Merging either shore of the cut gives a partition whose quotient is matching covered; a shore that is tight at it was
 /// tight before, and a shore that was tight and is a union of its blocks is tight at it.
 pub fn merged_quotients_law()
-    ensures blocks { (g : Graph) (p : List (List ℕ)) (x : List ℕ) → IsGraph g → AreBlocks g.order p → IsRisingIn g.order x → IsTightAt g p (mem x) →
+    ensures blocks { (g : Graph) (p : List (List ℕ)) (x : List ℕ) → IsGraph g →
+        AreBlocks g.order p → IsRisingIn g.order x → IsTightAt g p (mem x) →
         AreBlocks g.order (merged p x) × AreBlocks g.order (merged p (complement_of g.order x)) }
-    ensures covered { (g : Graph) (p : List (List ℕ)) (x : List ℕ) → IsGraph g → AreBlocks g.order p → IsRisingIn g.order x → IsTightAt g p (mem x) → IsCovered (quotient g p) →
+    ensures covered { (g : Graph) (p : List (List ℕ)) (x : List ℕ) → IsGraph g →
+        AreBlocks g.order p → IsRisingIn g.order x → IsTightAt g p (mem x) →
+        IsCovered (quotient g p) →
         IsCovered (quotient g (merged p x)) × IsCovered (quotient g (merged p (complement_of g.order x))) }
-    ensures before { (g : Graph) (p : List (List ℕ)) (x : List ℕ) (y : Set) → IsGraph g → AreBlocks g.order p → IsRisingIn g.order x → IsTightAt g p (mem x) → IsCovered (quotient g p) →
+    ensures before { (g : Graph) (p : List (List ℕ)) (x : List ℕ) (y : Set) → IsGraph g →
+        AreBlocks g.order p → IsRisingIn g.order x → IsTightAt g p (mem x) →
+        IsCovered (quotient g p) →
         (IsTightAt g (merged p x) y → IsTightAt g p y) × (IsTightAt g (merged p (complement_of g.order x)) y → IsTightAt g p y) }
-    ensures after { (g : Graph) (p : List (List ℕ)) (x : List ℕ) (y : Set) → IsGraph g → AreBlocks g.order p → IsRisingIn g.order x → IsTightAt g p (mem x) → IsCovered (quotient g p) → IsTightAt g p y →
+    ensures after { (g : Graph) (p : List (List ℕ)) (x : List ℕ) (y : Set) → IsGraph g →
+        AreBlocks g.order p → IsRisingIn g.order x → IsTightAt g p (mem x) →
+        IsCovered (quotient g p) → IsTightAt g p y →
         (IsUnion g.order (merged p x) y → IsTightAt g (merged p x) y) × (IsUnion g.order (merged p (complement_of g.order x)) y → IsTightAt g (merged p (complement_of g.order x)) y) }
 {}

@@ -22,8 +22,11 @@ use std::alloc::{AllocError as Memory, Global};
 /// `m` is perfect, the lifted edges are a perfect matching at the partition: each block has an end of exactly one of them.
 pub fn lift(alloc: Global, q: &Contracted, m: &Matching) -> Result<Numbers, Memory>
     requires { IsOf q.now.graph m.now }
-    ensures edges { (g : Graph) (p : List (List ℕ)) → q.now ≡ contraction g p → IfOk result (λ edges. edges ≡ lifted g p (mem (edges_of m.now))) }
-    ensures perfect { (g : Graph) (p : List (List ℕ)) → IsGraph g → q.now ≡ contraction g p → IsPerfect (quotient g p) none (mem (edges_of m.now)) → IfOk result (λ edges. IsPerfectAt g p (mem edges)) }
+    ensures edges { (g : Graph) (p : List (List ℕ)) → q.now ≡ contraction g p →
+        IfOk result (λ edges. edges ≡ lifted g p (mem (edges_of m.now))) }
+    ensures perfect { (g : Graph) (p : List (List ℕ)) → IsGraph g → q.now ≡ contraction g p →
+        IsPerfect (quotient g p) none (mem (edges_of m.now)) →
+        IfOk result (λ edges. IsPerfectAt g p (mem edges)) }
 {
     q.keeps_contraction();
     let size = q.base_size();
@@ -37,7 +40,9 @@ fn mark_least(mark: &mut Vec<bool>, q: &Contracted, m: &Matching)
     requires long { length mark.old.items ≡ q.now.size + 1 }
     requires edges { All (λ row. Within (size q.now.graph) row.edge) m.now.rows }
     ensures length { length mark.new.items ≡ length mark.old.items }
-    ensures each { (e : ℕ) → marks mark.new.items e ≡ (marks mark.old.items e || list_any (λ row. least_at q.now row.edge == e) m.now.rows) }
+    ensures each { (e : ℕ) →
+        marks mark.new.items e ≡ (marks mark.old.items e ||
+        list_any (λ row. least_at q.now row.edge == e) m.now.rows) }
 {
     for i in 0..m.len() {
         let row = m.row(i);

@@ -194,7 +194,8 @@ fn name_of(block: VSet) -> u32
 
 // The blocks that are not in the set.
 fn blocks_outside(alloc: Global, blocks: &[VSet], set: VSet) -> Result<Vec<VSet>, Memory>
-    ensures { IfOk result (λ kept. kept.items ≡ filter (λ block. not (is_subset block set)) blocks.now) }
+    ensures { IfOk result
+        (λ kept. kept.items ≡ filter (λ block. not (is_subset block set)) blocks.now) }
 {
     blocks
         .iter()

@@ -13,5 +13,6 @@ pub fn counts_law()
 
 /// A graph that lacks a property has it not: of a number of bricks too, which is then that of each derivation.
 pub fn selection_law()
-    ensures { (g : Graph) (property : Property) → IsGraph g → LacksProperty g property → ¬ HasProperty g property }
+    ensures { (g : Graph) (property : Property) → IsGraph g → LacksProperty g property →
+        ¬ HasProperty g property }
 {}

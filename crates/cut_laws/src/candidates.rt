@@ -11,10 +11,13 @@ ghost use Rattle.cut_laws.specs.Words.{IsFirstParted, IsParted};
 /// and with neither b nor y. The pair is parted exactly where both vertices differ from a and b and some tight set parts it so, and the
 /// shore that is listed for it holds a vertex exactly where all these tight sets do.
 pub fn third_part_law()
-    ensures parts { (g : Graph) (a b : ℕ) (k : ℕ × ℕ) (z : Set) → ((parts_tightly g a b k z ≡ true) ↔ PartsTightly g a b k z) }
-    ensures some { (g : Graph) (a b : ℕ) (k : ℕ × ℕ) → IsGraph g → Within g.order a → Within g.order b → Within g.order k.0 → Within g.order k.1 →
+    ensures parts { (g : Graph) (a b : ℕ) (k : ℕ × ℕ) (z : Set) →
+        ((parts_tightly g a b k z ≡ true) ↔ PartsTightly g a b k z) }
+    ensures some { (g : Graph) (a b : ℕ) (k : ℕ × ℕ) → IsGraph g → Within g.order a →
+        Within g.order b → Within g.order k.0 → Within g.order k.1 →
         ((is_parted g a b k ≡ true) ↔ IsParted g a b k) }
-    ensures all { (g : Graph) (a b : ℕ) (k : ℕ × ℕ) (v : ℕ) → IsGraph g → Within g.order a → Within g.order b → Within g.order k.0 → Within g.order k.1 → Within g.order v →
+    ensures all { (g : Graph) (a b : ℕ) (k : ℕ × ℕ) (v : ℕ) → IsGraph g → Within g.order a →
+        Within g.order b → Within g.order k.0 → Within g.order k.1 → Within g.order v →
         ((common_shore g a b k v ≡ true) ↔ ((z : Set) → PartsTightly g a b k z → z v ≡ true)) }
 {}
 

@@ -11,13 +11,16 @@ ghost use Rattle.cut_laws.specs.Words.{EndsInBrickOrBrace};
 
 /// A partition is a leaf exactly where its quotient has no nontrivial tight cut.
 pub fn leaf_law()
-    ensures { (g : Graph) (p : List (List ℕ)) → IsGraph g → AreBlocks g.order p → (IsLeafAt g p ↔ HasNoTightCut (quotient g p)) }
+    ensures { (g : Graph) (p : List (List ℕ)) → IsGraph g → AreBlocks g.order p →
+        (IsLeafAt g p ↔ HasNoTightCut (quotient g p)) }
 {}
 
 /// A tight cut decomposition ends in bricks and braces (Lovász 1987): each shore of a derivation is a nontrivial tight shore of the graph
 /// itself, and the quotient at each leaf is a brace or a brick, that is a matching covered graph without nontrivial tight cut, bipartite
 /// or not.
 pub fn bricks_and_braces_law()
-    ensures cuts { (g : Graph) (t : Shape) → IsGraph g → IsDerivation g t → All (IsTightShore g) (shores t) }
-    ensures ends { (g : Graph) (t : Shape) → IsGraph g → IsDerivation g t → All (EndsInBrickOrBrace g) (leaves g.order t) }
+    ensures cuts { (g : Graph) (t : Shape) → IsGraph g → IsDerivation g t →
+        All (IsTightShore g) (shores t) }
+    ensures ends { (g : Graph) (t : Shape) → IsGraph g → IsDerivation g t →
+        All (EndsInBrickOrBrace g) (leaves g.order t) }
 {}

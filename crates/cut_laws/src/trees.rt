@@ -12,7 +12,8 @@ ghost use Rattle.cut_laws.specs.Preorder.{ListsPaths};
 pub fn tree_nodes_law()
     ensures nodes { (n : ℕ) (t : Shape) → (paths : List (List Side)) × (length paths ≡ node_count t)
         × ListsPaths paths (λ path. (q : List (List ℕ)) × (s : Shape) × LeadsTo n path (singles n) t q s) }
-    ensures leaves { (n : ℕ) (t : Shape) → (paths : List (List Side)) × (length paths ≡ leaf_count t)
+    ensures leaves { (n : ℕ) (t : Shape) →
+        (paths : List (List Side)) × (length paths ≡ leaf_count t)
         × ListsPaths paths (λ path. (q : List (List ℕ)) × LeadsTo n path (singles n) t q leaf)
         × AllZip (λ path q. LeadsTo n path (singles n) t q leaf) paths (leaves n t) }
     ensures cuts { (n : ℕ) (t : Shape) → (paths : List (List Side)) × (length paths ≡ cut_count t)

@@ -38,7 +38,8 @@ pub fn decompose<F: Fn(&[Candidate], usize) -> usize>(
 ) -> Result<Tree, Refused>
     requires { PicksInRange F.Fn order.now.f }
     ensures derivation { IfOk result (λ tree. IsDerivation g.now (shape_of tree)) }
-    ensures picked { IfOk result (λ tree. IsPicked (FnPicks F.Fn order.now.f) g.now (shape_of tree)) }
+    ensures picked { IfOk result
+        (λ tree. IsPicked (FnPicks F.Fn order.now.f) g.now (shape_of tree)) }
     ensures reason { (r : _) → result ≡ Err (Refused.NotCovered r) → IsReason g.now (reason_of r) }
     ensures uncovered { (r : _) → result ≡ Err (Refused.NotCovered r) → ¬ IsCovered g.now }
 {
@@ -114,9 +115,11 @@ fn decompose_at<P: Picker>(
     requires covered { IsCovered (quotient g.now p.now.blocks) }
     requires few { before + length p.now.blocks ≤ 256 }
     ensures derives { IfOk result (λ made. IsDerivationAt g.now p.now.blocks (shape_of made.0)) }
-    ensures picked { IfOk result (λ made. IsPickedAt (P.picks picker.now) g.now p.now.blocks before (shape_of made.0)) }
+    ensures picked { IfOk result
+        (λ made. IsPickedAt (P.picks picker.now) g.now p.now.blocks before (shape_of made.0)) }
     ensures after { IfOk result (λ made. made.1 ≡ before + cut_count (shape_of made.0)) }
-    ensures few { IfOk result (λ made. 4 ≤ length p.now.blocks → cut_count (shape_of made.0) + 3 ≤ length p.now.blocks) }
+    ensures few { IfOk result
+        (λ made. 4 ≤ length p.now.blocks → cut_count (shape_of made.0) + 3 ≤ length p.now.blocks) }
 {
     match picker.pick_shore(alloc, g, p, before)? {
         None => Ok((Tree::Leaf, before)),

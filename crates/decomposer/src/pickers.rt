@@ -35,7 +35,9 @@ pub(crate) trait Picker {
         requires covered { IsCovered (quotient g.now p.now.blocks) }
         ensures none { IfOk result (λ o. o ≡ None → candidates_at g.now p.now.blocks ≡ []) }
         ensures leaf { IfOk result (λ o. o ≡ None → IsLeafAt g.now p.now.blocks) }
-        ensures picks { IfOk result (λ o. (s : List ℕ) → o ≡ Some s → PicksShore (picks self.now) (candidates_at g.now p.now.blocks) before s) }
+        ensures picks { IfOk result
+            (λ o. (s : List ℕ) → o ≡ Some s →
+            PicksShore (picks self.now) (candidates_at g.now p.now.blocks) before s) }
         ensures cut { IfOk result (λ o. (s : List ℕ) → o ≡ Some s → IsCutAt g.now p.now.blocks s) };
 }
 

@@ -23,19 +23,29 @@ pub fn adjacency_law()
 /// its component, and the numbers of components count these. The lists are as many, each is a component, each vertex outside S is in
 /// exactly one, and they stand by their least vertices; o(S) is the number of those of odd length.
 pub fn component_law()
-    ensures same { (g : Graph) (s : Set) (u v w : ℕ) → Joined g s u u × (Joined g s u v → Joined g s v u) × (Joined g s u v → Joined g s v w → Joined g s u w) }
+    ensures same { (g : Graph) (s : Set) (u v w : ℕ) →
+        Joined g s u u × (Joined g s u v → Joined g s v u) ×
+        (Joined g s u v → Joined g s v w → Joined g s u w) }
     ensures least { (g : Graph) (s : Set) (u : ℕ) → IsGraph g → Within g.order u →
         ((is_least g s u ≡ true) ↔ ((s u ≡ false) × ((v : ℕ) → Within g.order v → Joined g s u v → u ≤ v))) }
     ensures one { (g : Graph) (s : Set) (v : ℕ) → IsGraph g → Within g.order v → s v ≡ false →
         (u : ℕ) × Within g.order u × (is_least g s u ≡ true) × Joined g s u v × ((w : ℕ) → Within g.order w → is_least g s w ≡ true → Joined g s w v → w ≡ u) }
-    ensures apart { (g : Graph) (s : Set) (u v : ℕ) → IsGraph g → Within g.order u → Within g.order v →
+    ensures apart { (g : Graph) (s : Set) (u v : ℕ) → IsGraph g → Within g.order u →
+        Within g.order v →
         is_least g s u ≡ true → is_least g s v ≡ true → Joined g s u v → u ≡ v }
     ensures count { (g : Graph) (s : Set) → component_count g s ≡ count g.order (is_least g s) }
-    ensures odd { (g : Graph) (s : Set) → odd_component_count g s ≡ count g.order (λ u. is_least g s u && is_odd (count g.order (joined g s u))) }
-    ensures lists { (g : Graph) (s : Set) → IsGraph g → (length (components g s) ≡ component_count g s) × All (IsComponent g s) (components g s) }
-    ensures cover { (g : Graph) (s : Set) (v : ℕ) → IsGraph g → Within g.order v → s v ≡ false → Any (λ (c : List ℕ). mem c v ≡ true) (components g s) }
-    ensures once { (g : Graph) (s : Set) (i j v : ℕ) → IsGraph g → Within (length (components g s)) i → Within (length (components g s)) j →
+    ensures odd { (g : Graph) (s : Set) →
+        odd_component_count g s ≡
+        count g.order (λ u. is_least g s u && is_odd (count g.order (joined g s u))) }
+    ensures lists { (g : Graph) (s : Set) → IsGraph g →
+        (length (components g s) ≡ component_count g s) × All (IsComponent g s) (components g s) }
+    ensures cover { (g : Graph) (s : Set) (v : ℕ) → IsGraph g → Within g.order v → s v ≡ false →
+        Any (λ (c : List ℕ). mem c v ≡ true) (components g s) }
+    ensures once { (g : Graph) (s : Set) (i j v : ℕ) → IsGraph g →
+        Within (length (components g s)) i → Within (length (components g s)) j →
         mem (item (components g s) i) v ≡ true → mem (item (components g s) j) v ≡ true → i ≡ j }
-    ensures odd_lists { (g : Graph) (s : Set) → odd_component_count g s ≡ count_by (λ (c : List ℕ). is_odd (length c)) (components g s) }
-    ensures order { (g : Graph) (s : Set) → IsGraph g → IsStrictlyIncreasing (map (λ (c : List ℕ). slice_index c 0) (components g s)) }
+    ensures odd_lists { (g : Graph) (s : Set) →
+        odd_component_count g s ≡ count_by (λ (c : List ℕ). is_odd (length c)) (components g s) }
+    ensures order { (g : Graph) (s : Set) → IsGraph g →
+        IsStrictlyIncreasing (map (λ (c : List ℕ). slice_index c 0) (components g s)) }
 {}

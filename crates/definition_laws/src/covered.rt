@@ -17,7 +17,8 @@ ghost use Rattle.definition_laws.specs.Words.{IsFirstPair, IsListOfClass, withou
 /// Berge set, of which there may be many.
 pub fn reason_law()
     ensures uncovered { (g : Graph) (r : Reason) → IsMultigraph g → IsReason g r → IsCovered g → ⊥ }
-    ensures one { (g : Graph) (q r : Reason) → IsReason g q → IsReason g r → without_berge q ≡ without_berge r }
+    ensures one { (g : Graph) (q r : Reason) → IsReason g q → IsReason g r →
+        without_berge q ≡ without_berge r }
     ensures some { (g : Graph) → IsGraph g → (IsCovered g) ⊎ ((r : Reason) × IsReason g r) }
 {}
 
@@ -27,16 +28,21 @@ pub fn reason_law()
 pub fn canonical_partition_law()
     ensures test { (g : Graph) (a b : ℕ) → ((is_equivalent g a b ≡ true) ↔ Equivalent g a b) }
     ensures lists { (g : Graph) → All (IsListOfClass g) (classes g) }
-    ensures cover { (g : Graph) (a : ℕ) → IsGraph g → IsCovered g → Within g.order a → Any (λ (c : List ℕ). mem c a ≡ true) (classes g) }
-    ensures once { (g : Graph) (i j a : ℕ) → IsGraph g → IsCovered g → Within (length (classes g)) i → Within (length (classes g)) j →
+    ensures cover { (g : Graph) (a : ℕ) → IsGraph g → IsCovered g → Within g.order a →
+        Any (λ (c : List ℕ). mem c a ≡ true) (classes g) }
+    ensures once { (g : Graph) (i j a : ℕ) → IsGraph g → IsCovered g →
+        Within (length (classes g)) i → Within (length (classes g)) j →
         mem (item (classes g) i) a ≡ true → mem (item (classes g) j) a ≡ true → i ≡ j }
-    ensures order { (g : Graph) → IsStrictlyIncreasing (map (λ (c : List ℕ). slice_index c 0) (classes g)) }
+    ensures order { (g : Graph) →
+        IsStrictlyIncreasing (map (λ (c : List ℕ). slice_index c 0) (classes g)) }
 {}
 
 /// The pairs that `unlike_pair` and `cut_pair` answer are the first in lexicographic order: the first a < b without which there
 /// is no perfect matching, and the first without which at least two components are left. That they answer one exactly where
 /// there is one is `first_pairs_law` of `separation_kit`.
 pub fn first_pair_law()
-    ensures unlike { (g : Graph) (k : ℕ × ℕ) → unlike_pair g ≡ Some k → IsFirstPair g.order (λ a b. HasPerfect g (pair_set a b) → ⊥) k }
-    ensures separates { (g : Graph) (k : ℕ × ℕ) → cut_pair g ≡ Some k → IsFirstPair g.order (λ a b. 2 ≤ component_count g (pair_set a b)) k }
+    ensures unlike { (g : Graph) (k : ℕ × ℕ) → unlike_pair g ≡ Some k →
+        IsFirstPair g.order (λ a b. HasPerfect g (pair_set a b) → ⊥) k }
+    ensures separates { (g : Graph) (k : ℕ × ℕ) → cut_pair g ≡ Some k →
+        IsFirstPair g.order (λ a b. 2 ≤ component_count g (pair_set a b)) k }
 {}

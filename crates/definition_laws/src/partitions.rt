@@ -14,7 +14,8 @@ ghost use Rattle.definition_laws.specs.Words.{LeavesBlocks, MeetsEachBlockOnce};
 /// Each vertex is in exactly one block of a partition, that at its place, and the relation "in the same block" fixes the
 /// partition: two partitions with the same relation are equal lists.
 pub fn blocks_law()
-    ensures one { (n : ℕ) (p : List (List ℕ)) (v : ℕ) → AreBlocks n p → Within n v → Within (length p) (place p v) × (mem (block p (place p v)) v ≡ true) ×
+    ensures one { (n : ℕ) (p : List (List ℕ)) (v : ℕ) → AreBlocks n p → Within n v →
+        Within (length p) (place p v) × (mem (block p (place p v)) v ≡ true) ×
         ((i : ℕ) → Within (length p) i → mem (block p i) v ≡ true → i ≡ place p v) }
     ensures same { (n : ℕ) (p q : List (List ℕ)) → IsPartition n p → IsPartition n q →
         ((u v : ℕ) → Within n u → Within n v → ((place p u ≡ place p v) ↔ (place q u ≡ place q v))) → p ≡ q }
@@ -29,7 +30,8 @@ pub fn perfect_at_law()
 /// A tight shore at a partition, in words: a union of blocks, with an odd number of them inside and outside, of which the cut in
 /// the graph itself has exactly one edge of each perfect matching at the partition.
 pub fn tight_at_law()
-    ensures { (g : Graph) (p : List (List ℕ)) (x : Set) → IsGraph g → AreBlocks g.order p → (IsTightAt g p x ↔
+    ensures { (g : Graph) (p : List (List ℕ)) (x : Set) → IsGraph g → AreBlocks g.order p →
+        (IsTightAt g p x ↔
         (IsUnion g.order p x × (is_odd (block_count p x) ≡ true) × (is_odd (block_count p (complement x)) ≡ true) ×
         ((m : Set) → IsPerfectAt g p m → edges_in_cut g m x ≡ 1))) }
 {}

@@ -33,7 +33,8 @@ pub fn build_ears(alloc: Global, g: &MultiGraph) -> Result<EarList, Memory>
     ensures start { IfOk result (λ list. list.start ≡ 1) }
     ensures fits { IfOk result (λ list. FitsEars g.now.order (size g.now) (ears_of list)) }
     ensures filled { IfOk result (λ list. AllByRecursion HasEdges (ears_of list).steps) }
-    ensures single { IfOk result (λ list. IsBipartite g.now → AllByRecursion IsSingle (ears_of list).steps) }
+    ensures single { IfOk result
+        (λ list. IsBipartite g.now → AllByRecursion IsSingle (ears_of list).steps) }
 {
     g.keeps_limits();
     let kept = matching_with_first(alloc, g)?;
@@ -54,9 +55,12 @@ fn steps_from(
     requires long { length mark.old.items ≡ size g.now + 1 }
     requires stage { IsStage g.now (marks mark.old.items) }
     requires kept { IsPerfectRows g.now kept.now }
-    requires mates { KeepsMates g.now (row_edge kept.now.rows) (is_met g.now (marks mark.old.items)) }
-    ensures steps { IfOk result (λ steps. AreSteps g.now (marks mark.old.items) (map step_of steps)) }
-    ensures single { IfOk result (λ steps. IsBipartite g.now → AllByRecursion IsSingle (map step_of steps)) }
+    requires mates { KeepsMates g.now (row_edge kept.now.rows)
+        (is_met g.now (marks mark.old.items)) }
+    ensures steps { IfOk result
+        (λ steps. AreSteps g.now (marks mark.old.items) (map step_of steps)) }
+    ensures single { IfOk result
+        (λ steps. IsBipartite g.now → AllByRecursion IsSingle (map step_of steps)) }
 {
     g.keeps_limits();
     let mut steps = Steps::new(alloc);
@@ -120,11 +124,15 @@ fn next_step(
     requires mates { KeepsMates g.now (row_edge kept.now.rows) (is_met g.now (marks mark.now)) }
     requires edge { Within (size g.now) edge }
     requires off { marks mark.now edge ≡ false }
-    requires leads { (is_met g.now (marks mark.now) (first_end g.now edge) || is_met g.now (marks mark.now) (second_end g.now edge)) ≡ true }
+    requires leads { (is_met g.now (marks mark.now) (first_end g.now edge) ||
+        is_met g.now (marks mark.now) (second_end g.now edge)) ≡ true }
     ensures fits { IfOk result (λ step. FitsStep g.now.order (size g.now) (step_of step)) }
     ensures step { IfOk result (λ step. IsStep g.now (marks mark.now) (step_of step)) }
-    ensures stage { IfOk result (λ step. IsStage g.now (next_stage (marks mark.now) (step_of step))) }
-    ensures mates { IfOk result (λ step. KeepsMates g.now (row_edge kept.now.rows) (is_met g.now (next_stage (marks mark.now) (step_of step)))) }
+    ensures stage { IfOk result
+        (λ step. IsStage g.now (next_stage (marks mark.now) (step_of step))) }
+    ensures mates { IfOk result
+        (λ step. KeepsMates g.now (row_edge kept.now.rows)
+        (is_met g.now (next_stage (marks mark.now) (step_of step)))) }
     ensures single { IfOk result (λ step. IsBipartite g.now → IsSingle (step_of step)) }
 {
     g.keeps_limits();

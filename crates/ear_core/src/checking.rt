@@ -20,8 +20,11 @@ use std::alloc::{AllocError as Memory, Global};
 /// of `g`. `Memory` is want of memory alone. The ear lists of a matching covered graph are those of Lovász and Plummer.
 pub fn check_ears(alloc: Global, g: &MultiGraph, list: &EarList) -> Result<EarJudgement, Memory>
     requires { FitsEars g.now.order (size g.now) (ears_of list.now) }
-    ensures accepted { IfOk result (λ judgement. (refusal_of judgement ≡ None) ↔ IsEarList g.now (ears_of list.now)) }
-    ensures refused { IfOk result (λ judgement. (step : ℕ) (why : Why) → (refusal_of judgement ≡ Some (step, why)) ↔ IsRefused g.now (ears_of list.now) step why) }
+    ensures accepted { IfOk result
+        (λ judgement. (refusal_of judgement ≡ None) ↔ IsEarList g.now (ears_of list.now)) }
+    ensures refused { IfOk result
+        (λ judgement. (step : ℕ) (why : Why) → (refusal_of judgement ≡ Some (step, why)) ↔
+        IsRefused g.now (ears_of list.now) step why) }
 {
     g.keeps_limits();
     let mut mark = vec![in alloc; false; g.size() as usize + 1]?;
@@ -39,7 +42,9 @@ fn check_steps(
     requires long { length mark.old.items ≡ size g.now + 1 }
     requires stage { IsStage g.now (marks mark.old.items) }
     requires fits { AllByRecursion (FitsStep g.now.order (size g.now)) (map step_of steps.now) }
-    ensures { IfOk result (λ judgement. IsJudged g.now (marks mark.old.items) 0 (map step_of steps.now) (refusal_of judgement)) }
+    ensures { IfOk result
+        (λ judgement. IsJudged g.now (marks mark.old.items) 0 (map step_of steps.now)
+        (refusal_of judgement)) }
 {
     g.keeps_limits();
     let mut number = 0;

@@ -41,8 +41,10 @@ fn asked_about(alloc: Global, g: &MultiGraph, mark: &[bool], met: VSet) -> Resul
 
 // Whether the stage has a perfect matching without the vertices of a set.
 fn serves(alloc: Global, asked: &Asked, ends: VSet) -> Result<bool, Memory>
-    ensures yes { (g : Graph) (f : Set) → IsAsked g f asked.now → IfOk result (λ b. b ≡ true → Serves g f (mem ends)) }
-    ensures no { (g : Graph) (f : Set) → IsAsked g f asked.now → IfOk result (λ b. b ≡ false → Serves g f (mem ends) → ⊥) }
+    ensures yes { (g : Graph) (f : Set) → IsAsked g f asked.now →
+        IfOk result (λ b. b ≡ true → Serves g f (mem ends)) }
+    ensures no { (g : Graph) (f : Set) → IsAsked g f asked.now →
+        IfOk result (λ b. b ≡ false → Serves g f (mem ends) → ⊥) }
 {
     let Some(_) = perfect_without(alloc, &asked.stage, asked.outside.union(ends))? else {
         return Ok(false);
@@ -89,8 +91,11 @@ fn single_step(
     ears: &[Ear],
 ) -> Result<Option<Step>, Memory>
     requires { AllByRecursion (FitsEar g.now.order (size g.now)) (map ear_of ears.now) }
-    ensures some { (f : Set) → IsAsked g.now f asked.now → IfOk result (λ o. IfSome o (λ step. FindsOne g.now f (map ear_of ears.now) (step_of step))) }
-    ensures none { (f : Set) → IsAsked g.now f asked.now → IfOk result (λ o. IfNone o (NoneServes g.now f (map ear_of ears.now))) }
+    ensures some { (f : Set) → IsAsked g.now f asked.now →
+        IfOk result (λ o. IfSome o
+        (λ step. FindsOne g.now f (map ear_of ears.now) (step_of step))) }
+    ensures none { (f : Set) → IsAsked g.now f asked.now →
+        IfOk result (λ o. IfNone o (NoneServes g.now f (map ear_of ears.now))) }
 {
     let Some((ear, others)) = ears.split_first() else {
         return Ok(None);
@@ -115,8 +120,12 @@ fn step_with(
 ) -> Result<Option<Step>, Memory>
     requires first { FitsEar g.now.order (size g.now) (ear_of first.now) }
     requires others { AllByRecursion (FitsEar g.now.order (size g.now)) (map ear_of ears.now) }
-    ensures some { (f : Set) → IsAsked g.now f asked.now → IfOk result (λ o. IfSome o (λ step. FindsWith g.now f (ear_of first.now) (map ear_of ears.now) (step_of step))) }
-    ensures none { (f : Set) → IsAsked g.now f asked.now → IfOk result (λ o. IfNone o (NoneServesWith g.now f (ear_of first.now) (map ear_of ears.now))) }
+    ensures some { (f : Set) → IsAsked g.now f asked.now →
+        IfOk result (λ o. IfSome o
+        (λ step. FindsWith g.now f (ear_of first.now) (map ear_of ears.now) (step_of step))) }
+    ensures none { (f : Set) → IsAsked g.now f asked.now →
+        IfOk result (λ o. IfNone o
+        (NoneServesWith g.now f (ear_of first.now) (map ear_of ears.now))) }
 {
     let Some((ear, others)) = ears.split_first() else {
         return Ok(None);
@@ -141,8 +150,11 @@ fn double_step(
     ears: &[Ear],
 ) -> Result<Option<Step>, Memory>
     requires { AllByRecursion (FitsEar g.now.order (size g.now)) (map ear_of ears.now) }
-    ensures some { (f : Set) → IsAsked g.now f asked.now → IfOk result (λ o. IfSome o (λ step. FindsTwo g.now f (map ear_of ears.now) (step_of step))) }
-    ensures none { (f : Set) → IsAsked g.now f asked.now → IfOk result (λ o. IfNone o (NoTwoServe g.now f (map ear_of ears.now))) }
+    ensures some { (f : Set) → IsAsked g.now f asked.now →
+        IfOk result (λ o. IfSome o
+        (λ step. FindsTwo g.now f (map ear_of ears.now) (step_of step))) }
+    ensures none { (f : Set) → IsAsked g.now f asked.now →
+        IfOk result (λ o. IfNone o (NoTwoServe g.now f (map ear_of ears.now))) }
 {
     let Some((first, others)) = ears.split_first() else {
         return Ok(None);
@@ -168,7 +180,8 @@ pub fn choose(
     requires candidates { AreCandidates g.now (marks mark.now) (map ear_of ears.now) }
     ensures chosen { IfOk result (λ step. IsChosen (map ear_of ears.now) (step_of step)) }
     ensures step { IfOk result (λ step. IsStep g.now (marks mark.now) (step_of step)) }
-    ensures stage { IfOk result (λ step. IsStage g.now (next_stage (marks mark.now) (step_of step))) }
+    ensures stage { IfOk result
+        (λ step. IsStage g.now (next_stage (marks mark.now) (step_of step))) }
     ensures single { IfOk result (λ step. IsBipartite g.now → IsSingle (step_of step)) }
 {
     g.keeps_limits();

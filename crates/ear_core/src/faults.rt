@@ -89,9 +89,13 @@ pub fn tested(
     requires begin { Within g.now.order ear.now.from }
     requires edges { All (Within (size g.now)) ear.now.edges }
     requires met { (v : ℕ) → mem met v ≡ is_met g.now (marks mark.now) v }
-    ensures fault { IfErr result (λ why. ear_fault g.now (marks mark.now) inner used.now ear.now.from ear.now.edges ≡ Some (why_of why)) }
-    ensures passes { IfOk result (λ p. ear_fault g.now (marks mark.now) inner used.now ear.now.from ear.now.edges ≡ None) }
-    ensures inner { IfOk result (λ p. (w : ℕ) → mem p.inner w ≡ mem (inner_vertices g.now ear.now.from ear.now.edges) w) }
+    ensures fault { IfErr result
+        (λ why. ear_fault g.now (marks mark.now) inner used.now ear.now.from ear.now.edges ≡
+        Some (why_of why)) }
+    ensures passes { IfOk result
+        (λ p. ear_fault g.now (marks mark.now) inner used.now ear.now.from ear.now.edges ≡ None) }
+    ensures inner { IfOk result
+        (λ p. (w : ℕ) → mem p.inner w ≡ mem (inner_vertices g.now ear.now.from ear.now.edges) w) }
 {
     g.keeps_limits();
     let Some(path) = path_of(g, ear) else {

@@ -13,14 +13,17 @@ ghost use Rattle.ear_core.specs.EarTests.{Passes, Why, inner_vertices};
 /// The five tests of an ear say that it is an ear of the stage; those of the second ear of a step, that the two are ears without a
 /// common inner vertex and without a common edge.
 pub fn ear_tests_law()
-    ensures first { (g : Graph) (f : Set) (v : ℕ) (es : List ℕ) → Passes g f [] [] v es ↔ IsEar g f v es }
-    ensures second { (g : Graph) (f : Set) (v : ℕ) (es : List ℕ) (w : ℕ) (ds : List ℕ) → IsEar g f v es → Passes g f (inner_vertices g v es) es w ds ↔ IsEarPair g f v es w ds }
+    ensures first { (g : Graph) (f : Set) (v : ℕ) (es : List ℕ) → Passes g f [] [] v es ↔
+        IsEar g f v es }
+    ensures second { (g : Graph) (f : Set) (v : ℕ) (es : List ℕ) (w : ℕ) (ds : List ℕ) →
+        IsEar g f v es → Passes g f (inner_vertices g v es) es w ds ↔ IsEarPair g f v es w ds }
 {}
 
 /// No test of a step fails exactly where it is a step of the stage; then the new stage is matching covered where each of its edges
 /// lies in a perfect matching of it. So behind the five tests a new stage can fail by an edge in no perfect matching alone.
 pub fn new_stage_law()
-    ensures tests { (g : Graph) (f : Set) (s : PlainStep) → (step_fault g f s ≡ None) ↔ IsStep g f s }
+    ensures tests { (g : Graph) (f : Set) (s : PlainStep) → (step_fault g f s ≡ None) ↔
+        IsStep g f s }
     ensures stage { (g : Graph) → IsGraph g → (f : Set) (s : PlainStep) → IsStage g f → IsStep g f s
         → ((e : ℕ) → Within (size g) e → next_stage f s e ≡ true → AllowedBy g (next_stage f s) e) → IsStage g (next_stage f s) }
 {}
@@ -36,7 +39,8 @@ pub fn first_refusal_law()
 /// A stage that holds every edge and meets every vertex is matching covered exactly where the graph is. So a graph without isolated
 /// vertices that has an ear list is matching covered (Lovász and Plummer).
 pub fn whole_stage_law()
-    ensures stage { (g : Graph) (f : Set) → IsMultigraph g → ((e : ℕ) → Within (size g) e → f e ≡ true)
+    ensures stage { (g : Graph) (f : Set) → IsMultigraph g →
+        ((e : ℕ) → Within (size g) e → f e ≡ true)
         → ((v : ℕ) → Within g.order v → is_met g f v ≡ true) → (IsStage g f ↔ IsCovered g) }
     ensures list { (g : Graph) (list : PlainEars) → IsMultigraph g → IsEarList g list
         → ((v : ℕ) → Within g.order v → is_met g everything v ≡ true) → IsCovered g }

@@ -20,7 +20,9 @@ pub struct Path {
 // The end of edge `e` other than `v`, if `v` is an end of it.
 fn other_end(g: &MultiGraph, e: u32, v: u32) -> Option<u32>
     requires { Within (size g.now) e }
-    ensures some { IfSome result (λ w. ((first_end g.now e == v || second_end g.now e == v) ≡ true) × (w ≡ other_end g.now e v) × Within g.now.order w) }
+    ensures some { IfSome result
+        (λ w. ((first_end g.now e == v || second_end g.now e == v) ≡ true) ×
+        (w ≡ other_end g.now e v) × Within g.now.order w) }
     ensures none { IfNone result ((first_end g.now e == v || second_end g.now e == v) ≡ false) }
 {
     let ends = g.ends(e);
@@ -41,7 +43,8 @@ pub fn path_of(g: &MultiGraph, ear: &Ear) -> Option<Path>
     ensures path { IfSome result (λ p. is_path g.now ear.now.from ear.now.edges ≡ true) }
     ensures last { IfSome result (λ p. p.last ≡ last_vertex g.now ear.now.from ear.now.edges) }
     ensures within { IfSome result (λ p. Within g.now.order p.last) }
-    ensures inner { IfSome result (λ p. (w : ℕ) → mem p.inner w ≡ mem (inner_vertices g.now ear.now.from ear.now.edges) w) }
+    ensures inner { IfSome result
+        (λ p. (w : ℕ) → mem p.inner w ≡ mem (inner_vertices g.now ear.now.from ear.now.edges) w) }
 {
     g.keeps_limits();
     let mut inner = VSet::empty();

@@ -16,7 +16,8 @@ use vset_core::VSet;
 /// The graph of the marked edges, on all vertices.
 pub fn marked_graph(alloc: Global, g: &MultiGraph, mark: &[bool]) -> Result<MultiGraph, Memory>
     requires { length mark.now ≡ size g.now + 1 }
-    ensures { IfOk result (λ stage. stage ≡ with_ends g.now (listed g.now (marks mark.now) (size g.now))) }
+    ensures { IfOk result
+        (λ stage. stage ≡ with_ends g.now (listed g.now (marks mark.now) (size g.now))) }
 {
     let mut stage = MultiGraph::new(alloc, g.order())?;
     for k in 0..g.size() {
@@ -65,7 +66,8 @@ fn settle(
     requires edge { Within (size g.now) e }
     requires marked { marks mark.now e ≡ true }
     requires met { (v : ℕ) → mem met v ≡ is_met g.now (marks mark.now) v }
-    ensures { (asked : Set) → Settled g.now (marks mark.now) asked known → IfOk result (Settled g.now (marks mark.now) (asked_too asked e)) }
+    ensures { (asked : Set) → Settled g.now (marks mark.now) asked known →
+        IfOk result (Settled g.now (marks mark.now) (asked_too asked e)) }
 {
     if let Some(d) = known {
         if d <= e {
@@ -92,7 +94,8 @@ pub fn least_refused(
     requires edges { All (Within (size g.now)) edges.now }
     requires marked { All (λ e. marks mark.now e ≡ true) edges.now }
     requires met { (v : ℕ) → mem met v ≡ is_met g.now (marks mark.now) v }
-    ensures { (asked : Set) → Settled g.now (marks mark.now) asked known → IfOk result (Settled g.now (marks mark.now) (with_edges asked edges.now)) }
+    ensures { (asked : Set) → Settled g.now (marks mark.now) asked known →
+        IfOk result (Settled g.now (marks mark.now) (with_edges asked edges.now)) }
 {
     let Some((e, others)) = edges.split_first() else {
         return Ok(known);

@@ -23,7 +23,8 @@ use vset_core::VSet;
 fn fault_of(g: &MultiGraph, mark: &[bool], step: &Step) -> Option<EarWhy>
     requires long { length mark.now ≡ size g.now + 1 }
     requires fits { FitsStep g.now.order (size g.now) (step_of step.now) }
-    ensures some { IfSome result (λ why. step_fault g.now (marks mark.now) (step_of step.now) ≡ Some (why_of why)) }
+    ensures some { IfSome result
+        (λ why. step_fault g.now (marks mark.now) (step_of step.now) ≡ Some (why_of why)) }
     ensures none { IfNone result (step_fault g.now (marks mark.now) (step_of step.now) ≡ None) }
 {
     let met = met_by(g, mark);
@@ -63,7 +64,8 @@ pub fn mark_step(mark: &mut Vec<bool>, size: u32, step: &Step)
     requires first { All (Within size) step.now.first.edges }
     requires second { IfSome step.now.second (λ ear. All (Within size) ear.edges) }
     ensures length { length mark.new.items ≡ length mark.old.items }
-    ensures each { (i : ℕ) → marks mark.new.items i ≡ next_stage (marks mark.old.items) (step_of step.now) i }
+    ensures each { (i : ℕ) →
+        marks mark.new.items i ≡ next_stage (marks mark.old.items) (step_of step.now) i }
 {
     mark_edges(mark, step.first.edges.as_slice());
     if let Some(second) = &step.second {
@@ -82,7 +84,8 @@ fn refused_edge(
     requires first { All (Within (size g.now)) step.now.first.edges }
     requires second { IfSome step.now.second (λ ear. All (Within (size g.now)) ear.edges) }
     requires marked_first { All (λ e. marks mark.now e ≡ true) step.now.first.edges }
-    requires marked_second { IfSome step.now.second (λ ear. All (λ e. marks mark.now e ≡ true) ear.edges) }
+    requires marked_second { IfSome step.now.second
+        (λ ear. All (λ e. marks mark.now e ≡ true) ear.edges) }
     ensures { IfOk result (Settled g.now (marks mark.now) (next_stage none (step_of step.now))) }
 {
     let met = met_by(g, mark);
@@ -105,10 +108,16 @@ pub fn take_step(
     requires fits { FitsStep g.now.order (size g.now) (step_of step.now) }
     requires stage { IsStage g.now (marks mark.old.items) }
     ensures length { length mark.new.items ≡ length mark.old.items }
-    ensures refused { IfOk result (λ o. IfSome o (λ why. IsStepRefused g.now (marks mark.old.items) (step_of step.now) (why_of why))) }
-    ensures passes { IfOk result (λ o. IfNone o (step_fault g.now (marks mark.old.items) (step_of step.now) ≡ None)) }
-    ensures stage { IfOk result (λ o. IfNone o (IsStage g.now (next_stage (marks mark.old.items) (step_of step.now)))) }
-    ensures next { IfOk result (λ o. IfNone o ((i : ℕ) → marks mark.new.items i ≡ next_stage (marks mark.old.items) (step_of step.now) i)) }
+    ensures refused { IfOk result
+        (λ o. IfSome o (λ why. IsStepRefused g.now (marks mark.old.items) (step_of step.now)
+        (why_of why))) }
+    ensures passes { IfOk result
+        (λ o. IfNone o (step_fault g.now (marks mark.old.items) (step_of step.now) ≡ None)) }
+    ensures stage { IfOk result
+        (λ o. IfNone o (IsStage g.now (next_stage (marks mark.old.items) (step_of step.now)))) }
+    ensures next { IfOk result
+        (λ o. IfNone o ((i : ℕ) →
+        marks mark.new.items i ≡ next_stage (marks mark.old.items) (step_of step.now) i)) }
 {
     g.keeps_limits();
     if let Some(why) = fault_of(g, mark, step) {

@@ -82,8 +82,11 @@ fn trace(
     requires leading { IsPerfectRows g.now m.now }
     requires kept { IsPerfectRows g.now n.now }
     requires mates { KeepsMates g.now (row_edge n.now.rows) (mem met) }
-    requires clear { IsClear g.now (mem met) (row_edge m.now.rows) (row_edge n.now.rows) (mem used) v }
-    ensures { IfOk result (λ after. IsTraced g.now (mem met) (row_edge m.now.rows) (row_edge n.now.rows) (mem used) v edges.old edges.new (mem after)) }
+    requires clear { IsClear g.now (mem met) (row_edge m.now.rows) (row_edge n.now.rows) (mem used)
+        v }
+    ensures { IfOk result
+        (λ after. IsTraced g.now (mem met) (row_edge m.now.rows) (row_edge n.now.rows) (mem used) v
+        edges.old edges.new (mem after)) }
 {
     g.keeps_limits();
     let out = mate_of(g, m, v);
@@ -101,8 +104,12 @@ fn trace(
 fn left_vertex(g: &MultiGraph, mark: &[bool], met: VSet, m: &Matching, used: VSet) -> Option<u32>
     requires long { length mark.now ≡ size g.now + 1 }
     requires leading { IsPerfectRows g.now m.now }
-    ensures some { IfSome result (λ v. Within g.now.order v × (is_left (mem met) (marks mark.now) (row_edge m.now.rows) (mem used) v ≡ true)) }
-    ensures none { IfNone result ((v : ℕ) → Within g.now.order v → is_left (mem met) (marks mark.now) (row_edge m.now.rows) (mem used) v ≡ false) }
+    ensures some { IfSome result
+        (λ v. Within g.now.order v ×
+        (is_left (mem met) (marks mark.now) (row_edge m.now.rows) (mem used) v ≡ true)) }
+    ensures none { IfNone result
+        ((v : ℕ) → Within g.now.order v →
+        is_left (mem met) (marks mark.now) (row_edge m.now.rows) (mem used) v ≡ false) }
 {
     g.keeps_limits();
     for k in 0..g.order() {
@@ -132,8 +139,13 @@ pub fn collect(
     requires leading { IsPerfectRows g.now m.now }
     requires kept { IsPerfectRows g.now n.now }
     requires mates { KeepsMates g.now (row_edge n.now.rows) (mem met) }
-    requires holds { HoldsMates g.now (mem met) (row_edge m.now.rows) (row_edge n.now.rows) (mem used) }
-    ensures { IfOk result (λ _. (more : List PlainEar) × (map ear_of ears.new.items ≡ map ear_of ears.old.items ++ more) × AreMatedEars g.now (marks mark.now) (row_edge m.now.rows) (row_edge n.now.rows) (mem used) more) }
+    requires holds { HoldsMates g.now (mem met) (row_edge m.now.rows) (row_edge n.now.rows)
+        (mem used) }
+    ensures { IfOk result
+        (λ _. (more : List PlainEar) ×
+        (map ear_of ears.new.items ≡ map ear_of ears.old.items ++ more) ×
+        AreMatedEars g.now (marks mark.now) (row_edge m.now.rows) (row_edge n.now.rows)
+        (mem used) more) }
 {
     g.keeps_limits();
     let Some(v) = left_vertex(g, mark, met, m, used) else {

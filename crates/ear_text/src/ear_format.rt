@@ -104,7 +104,9 @@ fn read_ear(
     last: Option<Ear>,
     words: &[&[u8]],
 ) -> Result<EarsRead, Refusal<FaultKind>>
-    ensures { Gives ears_so_far result (ear_line format.now.order format.now.size start (map step_of steps) (option_map ear_of last) (texts_of words.now)) }
+    ensures { Gives ears_so_far result
+        (ear_line format.now.order format.now.size start (map step_of steps)
+        (option_map ear_of last) (texts_of words.now)) }
 {
     let is_first = is_ear(words);
     if !is_first && !(last.is_some() && is_with(words)) {
@@ -188,8 +190,11 @@ pub fn read_ears(alloc: Global, bytes: &[u8], n: u32, m: u32) -> Result<EarList,
     ensures filled { IfOk result (λ list. AllByRecursion HasEdges (ears_of list).steps) }
     ensures value { IfOk result (λ list. Stands (ear_format n m) bytes.now (ears_of list)) }
     ensures fault { IfErr result (IsFirstFault (ear_format n m) bytes.now) }
-    ensures stands { (list : PlainEars) → Stands (ear_format n m) bytes.now list → ReadsText ears_of result (Ok list) }
-    ensures breaks { (line : ℕ) (kind : FaultKind) → FirstFault (ear_format n m) bytes.now line kind → ReadsText ears_of result (Err (line, kind)) }
+    ensures stands { (list : PlainEars) → Stands (ear_format n m) bytes.now list →
+        ReadsText ears_of result (Ok list) }
+    ensures breaks { (line : ℕ) (kind : FaultKind) →
+        FirstFault (ear_format n m) bytes.now line kind →
+        ReadsText ears_of result (Err (line, kind)) }
 {
     let format = EarFormat {
         alloc,

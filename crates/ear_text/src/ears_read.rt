@@ -22,7 +22,8 @@ pub enum EarsRead {
 
 /// The steps, the last of which has one ear where an ear stands apart.
 pub fn close_last(steps: Steps, last: Option<Ear>) -> Result<Steps, Memory>
-    ensures { IfOk result (λ all. map step_of all ≡ closed (map step_of steps) (option_map ear_of last)) }
+    ensures { IfOk result
+        (λ all. map step_of all ≡ closed (map step_of steps) (option_map ear_of last)) }
 {
     let mut all = steps;
     if let Some(first) = last {
@@ -36,7 +37,9 @@ pub fn close_last(steps: Steps, last: Option<Ear>) -> Result<Steps, Memory>
 
 /// The steps, the last of which is the ear that stands apart with the other one.
 pub fn pair_last(steps: Steps, last: Option<Ear>, other: Ear) -> Result<Steps, Memory>
-    ensures { IfOk result (λ all. map step_of all ≡ paired (map step_of steps) (option_map ear_of last) (ear_of other)) }
+    ensures { IfOk result
+        (λ all. map step_of all ≡
+        paired (map step_of steps) (option_map ear_of last) (ear_of other)) }
 {
     let mut all = steps;
     if let Some(first) = last {

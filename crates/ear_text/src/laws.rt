@@ -8,12 +8,16 @@ ghost use Rattle.ear_text.specs.Writing.{ears_text, IsWritable};
 
 /// What is written of an ear list stands for this list, for no other, and has no fault.
 pub fn written_ears_stand()
-    ensures stands { (n m : ℕ) (list : PlainEars) → IsWritable n m list → Stands (ear_format n m) (ears_text n m list) list }
-    ensures alone { (n m : ℕ) (list : PlainEars) → IsWritable n m list → StandsAlone (ear_format n m) (ears_text n m list) }
+    ensures stands { (n m : ℕ) (list : PlainEars) → IsWritable n m list →
+        Stands (ear_format n m) (ears_text n m list) list }
+    ensures alone { (n m : ℕ) (list : PlainEars) → IsWritable n m list →
+        StandsAlone (ear_format n m) (ears_text n m list) }
 {}
 
 /// The numbers of a list for which a text stands are in range, and no ear of it is empty.
 pub fn read_ears_fit()
-    ensures fits { (n m : ℕ) (text : List ℕ) (list : PlainEars) → Stands (ear_format n m) text list → FitsEars n m list }
-    ensures filled { (n m : ℕ) (text : List ℕ) (list : PlainEars) → Stands (ear_format n m) text list → AllByRecursion HasEdges list.steps }
+    ensures fits { (n m : ℕ) (text : List ℕ) (list : PlainEars) →
+        Stands (ear_format n m) text list → FitsEars n m list }
+    ensures filled { (n m : ℕ) (text : List ℕ) (list : PlainEars) →
+        Stands (ear_format n m) text list → AllByRecursion HasEdges list.steps }
 {}

@@ -13,7 +13,9 @@ use std::alloc::{AllocError as Memory, Global};
 
 // The line of an ear.
 fn push_ear(text: &mut String, keyword: &str, ear: &Ear) -> Result<(), Memory>
-    ensures { OnOk result (string_bytes text.new ≡ string_bytes text.old ++ written (ear_words keyword.now (ear_of ear.now) ∷ [])) }
+    ensures { OnOk result
+        (string_bytes text.new ≡ string_bytes text.old ++
+        written (ear_words keyword.now (ear_of ear.now) ∷ [])) }
 {
     let from = ear.from;
     write!(text, "{keyword} {from}")?;
@@ -29,7 +31,9 @@ fn push_ear(text: &mut String, keyword: &str, ear: &Ear) -> Result<(), Memory>
 // The lines of a step.
 #[tactic(auto, using(crate::proofs::TextSoFar::pair_lines))]
 fn push_step(text: &mut String, step: &Step) -> Result<(), Memory>
-    ensures { OnOk result (string_bytes text.new ≡ string_bytes text.old ++ written (step_words (step_of step.now ∷ []))) }
+    ensures { OnOk result
+        (string_bytes text.new ≡ string_bytes text.old ++
+        written (step_words (step_of step.now ∷ []))) }
 {
     push_ear(text, "ear", &step.first)?;
     if let Some(second) = &step.second {
@@ -40,7 +44,9 @@ fn push_step(text: &mut String, step: &Step) -> Result<(), Memory>
 
 // The lines of the steps.
 fn push_steps(text: &mut String, steps: &[Step]) -> Result<(), Memory>
-    ensures { OnOk result (string_bytes text.new ≡ string_bytes text.old ++ written (step_words (map step_of steps.now))) }
+    ensures { OnOk result
+        (string_bytes text.new ≡ string_bytes text.old ++
+        written (step_words (map step_of steps.now))) }
 {
     let mut rest = steps;
     'steps: while let Some((step, others)) = rest.split_first() {

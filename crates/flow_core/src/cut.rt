@@ -41,9 +41,14 @@ pub fn min_cut(
     requires source { Within net.now.nodes source }
     requires sink { Within net.now.nodes sink }
     requires differ { source ≢ sink }
-    ensures exactly { IfOk result (λ answer. IsCut answer ↔ HasCutWithin net.now source sink above) }
-    ensures cut { IfOk result (λ answer. IfCut answer (λ set value. IsLeastCut net.now source sink set value × (value ≤ above))) }
-    ensures exceeds { IfOk result (λ answer. IfExceeds answer (λ flow. IsFlow net.now source sink flow.on flow.value × (above < flow.value))) }
+    ensures exactly { IfOk result
+        (λ answer. IsCut answer ↔ HasCutWithin net.now source sink above) }
+    ensures cut { IfOk result
+        (λ answer. IfCut answer (λ set value. IsLeastCut net.now source sink set value ×
+        (value ≤ above))) }
+    ensures exceeds { IfOk result
+        (λ answer. IfExceeds answer
+        (λ flow. IsFlow net.now source sink flow.on flow.value × (above < flow.value))) }
 {
     let incidence = Incidence::new(alloc, net)?;
     let mut flow = Flow::zero(alloc, net)?;

@@ -21,7 +21,8 @@ pub struct Flow {
 impl Flow {
     /// Nothing on each arc.
     pub(crate) fn zero(alloc: Global, net: &Net) -> Result<Flow, Memory>
-        ensures flow { IfOk result (λ flow. (source sink : ℕ) → IsFlow net.now source sink flow.on flow.value) }
+        ensures flow { IfOk result
+            (λ flow. (source sink : ℕ) → IsFlow net.now source sink flow.on flow.value) }
         ensures value { IfOk result (λ flow. flow.value ≡ 0) }
     {
         Ok(Flow {
@@ -35,8 +36,10 @@ impl Flow {
         requires bounded { IsBounded net.now }
         requires tree { IsTree net.now self.old.on visits.now }
         requires differ { first_node visits.now ≢ last_node visits.now }
-        requires flow { IsFlow net.now (first_node visits.now) (last_node visits.now) self.old.on self.old.value }
-        ensures flow { IsFlow net.now (first_node visits.now) (last_node visits.now) self.new.on self.new.value }
+        requires flow { IsFlow net.now (first_node visits.now) (last_node visits.now) self.old.on
+            self.old.value }
+        ensures flow { IsFlow net.now (first_node visits.now) (last_node visits.now) self.new.on
+            self.new.value }
         ensures more { self.old.value < self.new.value }
     {
         let last = visits.len() - 1;

@@ -10,8 +10,10 @@ ghost use Rattle.flow_core.specs.Residual.{IsReachedSet};
 /// where the sink is not reached from the source over arcs with room, the nodes that are reached are the least minimum cut,
 /// whose value is that of the flow.
 pub fn flow_law()
-    ensures bound { (net : Net) (source sink : ℕ) (amounts : List ℤ) (value : ℕ) → IsNet net → Within net.nodes source → IsFlow net source sink amounts value
+    ensures bound { (net : Net) (source sink : ℕ) (amounts : List ℤ) (value : ℕ) → IsNet net →
+        Within net.nodes source → IsFlow net source sink amounts value
         → (x : Set) → Separates source sink x → value ≤ value_of net x }
-    ensures least { (net : Net) (source sink : ℕ) (amounts : List ℤ) (value : ℕ) → IsNet net → Within net.nodes source → IsFlow net source sink amounts value
+    ensures least { (net : Net) (source sink : ℕ) (amounts : List ℤ) (value : ℕ) → IsNet net →
+        Within net.nodes source → IsFlow net source sink amounts value
         → (set : List ℕ) → IsReachedSet net amounts source sink set → IsLeastCut net source sink set value }
 {}

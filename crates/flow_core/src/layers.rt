@@ -47,8 +47,12 @@ impl Layers {
     pub fn new(alloc: Global, net: &Net, visits: &[Visit]) -> Result<Layers, Memory>
         requires bounded { IsBounded net.now }
         requires tree { HasTree net.now visits.now }
-        ensures laid { IfOk result (λ layers. (rows : List (List ℕ)) (amounts : List ℤ) → IsLaid net.now rows amounts layers.levels.items layers.places.items layers.path.items) }
-        ensures first { IfOk result (λ layers. first_node layers.path.items ≡ first_node visits.now) }
+        ensures laid { IfOk result
+            (λ layers. (rows : List (List ℕ)) (amounts : List ℤ) →
+            IsLaid net.now rows amounts layers.levels.items layers.places.items
+            layers.path.items) }
+        ensures first { IfOk result
+            (λ layers. first_node layers.path.items ≡ first_node visits.now) }
     {
         let mut path = Vec::new(alloc);
         path.push(visits[0])?;
@@ -63,12 +67,15 @@ impl Layers {
     fn go_back(&mut self, incidence: &Incidence, last: usize)
         requires last { length self.old.path.items ≡ last + 1 }
         requires some { 0 < last }
-        requires place { slice_index self.old.places.items (node_at self.old.path.items (last - 1)) < length (row_of incidence.now (node_at self.old.path.items (last - 1))) }
+        requires place { slice_index self.old.places.items
+            (node_at self.old.path.items (last - 1)) <
+            length (row_of incidence.now (node_at self.old.path.items (last - 1))) }
         requires row { node_at self.old.path.items (last - 1) < length incidence.now }
         requires all { length self.old.places.items ≡ length incidence.now }
         ensures path { self.new.path.items ≡ take last self.old.path.items }
         ensures levels { self.new.levels.items ≡ self.old.levels.items }
-        ensures places { let v = node_at self.old.path.items (last - 1) in self.new.places.items ≡ slice_set self.old.places.items v (slice_index self.old.places.items v + 1) }
+        ensures places { let v = node_at self.old.path.items (last - 1) in self.new.places.items ≡
+            slice_set self.old.places.items v (slice_index self.old.places.items v + 1) }
     {
         self.path.truncate(last);
         let from = self.path[last - 1].node;
@@ -89,9 +96,13 @@ impl Layers {
         requires bounded { IsBounded net.now }
         requires fits { Fits net.now.arcs amounts.now }
         requires incidence { IsIncidence net.now incidence.now }
-        requires laid { IsLaid net.now incidence.now amounts.now self.old.levels.items self.old.places.items self.old.path.items }
-        ensures laid { OnOk result (IsLaid net.now incidence.now amounts.now self.new.levels.items self.new.places.items self.new.path.items) }
-        ensures first { OnOk result (first_node self.new.path.items ≡ first_node self.old.path.items) }
+        requires laid { IsLaid net.now incidence.now amounts.now self.old.levels.items
+            self.old.places.items self.old.path.items }
+        ensures laid { OnOk result
+            (IsLaid net.now incidence.now amounts.now self.new.levels.items self.new.places.items
+            self.new.path.items) }
+        ensures first { OnOk result
+            (first_node self.new.path.items ≡ first_node self.old.path.items) }
         ensures less { IfOk result (λ more. IsTrue more
             → work_left net.now.nodes incidence.now self.new.places.items self.new.path.items
             < work_left net.now.nodes incidence.now self.old.places.items self.old.path.items) }
@@ -138,10 +149,13 @@ impl Layers {
     ) -> Result<(), Memory>
         requires bounded { IsBounded net.now }
         requires incidence { IsIncidence net.now incidence.now }
-        requires laid { IsLaid net.now incidence.now flow.old.on self.old.levels.items self.old.places.items self.old.path.items }
-        requires flow { IsFlow net.now (first_node self.old.path.items) sink flow.old.on flow.old.value }
+        requires laid { IsLaid net.now incidence.now flow.old.on self.old.levels.items
+            self.old.places.items self.old.path.items }
+        requires flow { IsFlow net.now (first_node self.old.path.items) sink flow.old.on
+            flow.old.value }
         requires differ { first_node self.old.path.items ≢ sink }
-        ensures flow { OnOk result (IsFlow net.now (first_node self.old.path.items) sink flow.new.on flow.new.value) }
+        ensures flow { OnOk result
+            (IsFlow net.now (first_node self.old.path.items) sink flow.new.on flow.new.value) }
         ensures more { OnOk result (flow.old.value ≤ flow.new.value) }
     {
         'filling: while flow.value <= above {
@@ -171,8 +185,10 @@ pub fn grow(
     requires incidence { IsIncidence net.now incidence.now }
     requires tree { IsTree net.now flow.old.on visits.now }
     requires differ { first_node visits.now ≢ last_node visits.now }
-    requires flow { IsFlow net.now (first_node visits.now) (last_node visits.now) flow.old.on flow.old.value }
-    ensures flow { OnOk result (IsFlow net.now (first_node visits.now) (last_node visits.now) flow.new.on flow.new.value) }
+    requires flow { IsFlow net.now (first_node visits.now) (last_node visits.now) flow.old.on
+        flow.old.value }
+    ensures flow { OnOk result
+        (IsFlow net.now (first_node visits.now) (last_node visits.now) flow.new.on flow.new.value) }
     ensures more { OnOk result (flow.old.value < flow.new.value) }
 {
     let sink = visits[visits.len() - 1].node;

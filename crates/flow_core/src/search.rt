@@ -43,7 +43,8 @@ impl Reached {
     fn from_source(alloc: Global, net: &Net, source: u32) -> Result<Reached, Memory>
         requires bounded { IsBounded net.now }
         requires source { Within net.now.nodes source }
-        ensures tree { IfOk result (λ reached. (amounts : List ℤ) → IsTree net.now amounts reached.visits.items) }
+        ensures tree { IfOk result
+            (λ reached. (amounts : List ℤ) → IsTree net.now amounts reached.visits.items) }
         ensures seen { IfOk result (λ reached. IsSeen net.now reached.visits.items reached.seen) }
         ensures source { IfOk result (λ reached. first_node reached.visits.items ≡ source) }
         ensures only { IfOk result (λ reached. (v : ℕ) → mem reached.seen v ≡ (source == v)) }
@@ -65,7 +66,8 @@ impl Reached {
     fn push(&mut self, visit: Visit) -> Result<(), Memory>
         requires { Within MOST_VERTICES visit.node }
         ensures visits { OnOk result (self.new.visits.items ≡ self.old.visits.items ++ visit ∷ []) }
-        ensures seen { OnOk result ((v : ℕ) → mem self.new.seen v ≡ (mem self.old.seen v || visit.node == v)) }
+        ensures seen { OnOk result
+            ((v : ℕ) → mem self.new.seen v ≡ (mem self.old.seen v || visit.node == v)) }
     {
         self.visits.push(visit)?;
         self.seen = self.seen.with(visit.node);
@@ -86,9 +88,11 @@ fn scan(
     requires bounded { IsBounded net.now }
     requires fits { Fits net.now.arcs amounts.now }
     requires incidence { IsIncidence net.now incidence.now }
-    requires search { IsSearch net.now amounts.now sink head reached.old.visits.items reached.old.seen }
+    requires search { IsSearch net.now amounts.now sink head reached.old.visits.items
+        reached.old.seen }
     requires head { head < length reached.old.visits.items }
-    ensures first { OnOk result (first_node reached.new.visits.items ≡ first_node reached.old.visits.items) }
+    ensures first { OnOk result
+        (first_node reached.new.visits.items ≡ first_node reached.old.visits.items) }
     ensures tree { OnOk result (IsTree net.now amounts.now reached.new.visits.items) }
     ensures found { IfOk result (λ found. MatchBool found
         (last_node reached.new.visits.items ≡ sink)

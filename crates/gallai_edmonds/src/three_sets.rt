@@ -34,7 +34,8 @@ pub fn sets(alloc: Global, g: &MultiGraph) -> Result<ThreeSets, Memory>
 pub fn sets_in(g: &MultiGraph, frame: &FrameSets) -> ThreeSets
     requires outer_in { IsRisingIn g.now.order frame.now.outer }
     requires inner_in { IsRisingIn g.now.order frame.now.inner }
-    requires missed { (v : ℕ) → Within g.now.order v → (mem frame.now.outer v ≡ true) ↔ InD g.now v }
+    requires missed { (v : ℕ) → Within g.now.order v → (mem frame.now.outer v ≡ true) ↔
+        InD g.now v }
     requires next { (v : ℕ) → Within g.now.order v → (mem frame.now.inner v ≡ true) ↔ InA g.now v }
     ensures d { Lists g.now.order result.d (InD g.now) }
     ensures a { Lists g.now.order result.a (InA g.now) }

@@ -20,7 +20,8 @@ pub fn to_pairs(alloc: Global, n: u32) -> Result<Vec<Ends>, Memory>
 /// Appends the pairs whose second vertex is `b`.
 fn push_column(pairs: &mut Vec<Ends>, b: u32) -> Result<(), Memory>
     requires { 1 ≤ b }
-    ensures { OnOk result (map pair_of pairs.new.items ≡ map pair_of pairs.old.items ++ column (b - 1) b) }
+    ensures { OnOk result
+        (map pair_of pairs.new.items ≡ map pair_of pairs.old.items ++ column (b - 1) b) }
 {
     for a in 1..b {
         pairs.push(Ends { a, b })?;

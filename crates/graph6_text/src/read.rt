@@ -48,7 +48,8 @@ fn to_graph(alloc: Global, body: &[u8]) -> Result<MultiGraph, TextFault>
 /// No bit from place `from` on is set.
 fn check_filling(bits: &[bool], from: usize) -> Result<(), TextFault>
     requires { from ≤ length bits.now }
-    ensures { Checks result ((list_any (λ bit. bit) (drop from bits.now), (1, FaultKind.Padding)) ∷ []) }
+    ensures { Checks result
+        ((list_any (λ bit. bit) (drop from bits.now), (1, FaultKind.Padding)) ∷ []) }
 {
     if is_any_set(&bits[from..]) {
         return Err(fault(FaultKind::Padding));
@@ -66,9 +67,12 @@ fn is_any_set(bits: &[bool]) -> bool
 /// The graph of `n` vertices whose edges are the pairs with a set bit.
 fn with_edges(alloc: Global, n: u32, pairs: &[Ends], bits: &[bool]) -> Result<MultiGraph, TextFault>
     requires { n ≤ 128 }
-    ensures graph { IfOk result (λ g. g ≡ record { order = n; ends = chosen (map pair_of pairs.now) bits.now }) }
-    ensures within { OnOk result (first_fault (limit_row (chosen (map pair_of pairs.now) bits.now)) ≡ None) }
-    ensures limit { IfErr result (IsFirstFault (limit_row (chosen (map pair_of pairs.now) bits.now))) }
+    ensures graph { IfOk result
+        (λ g. g ≡ record { order = n; ends = chosen (map pair_of pairs.now) bits.now }) }
+    ensures within { OnOk result
+        (first_fault (limit_row (chosen (map pair_of pairs.now) bits.now)) ≡ None) }
+    ensures limit { IfErr result
+        (IsFirstFault (limit_row (chosen (map pair_of pairs.now) bits.now))) }
 {
     let mut graph = MultiGraph::new(alloc, n)?;
     for (pair, bit) in pairs.iter().zip(bits) {

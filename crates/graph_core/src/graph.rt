@@ -149,9 +149,12 @@ impl MultiGraph {
     pub fn add_edge(&mut self, a: u32, b: u32) -> Result<u32, AddFault>
         ensures ok { IfOk result (λ e. (self.new ≡ with_edge self.old a b) × (e ≡ size self.new)) }
         ensures err { OnErr result (self.new ≡ self.old) }
-        ensures range { IsErrOf result AddFault.Range ↔ ¬ (Within self.old.order a × Within self.old.order b) }
+        ensures range { IsErrOf result AddFault.Range ↔
+            ¬ (Within self.old.order a × Within self.old.order b) }
         ensures equal { IsErrOf result AddFault.Loop ↔ (Within self.old.order a × (a ≡ b)) }
-        ensures too_many { IsErrOf result AddFault.TooMany ↔ (Within self.old.order a × Within self.old.order b × (a ≢ b) × (size self.old ≡ MOST_EDGES)) }
+        ensures too_many { IsErrOf result AddFault.TooMany ↔
+            (Within self.old.order a × Within self.old.order b × (a ≢ b) ×
+            (size self.old ≡ MOST_EDGES)) }
     {
         if a == 0 || a > self.order || b == 0 || b > self.order {
             return Err(AddFault::Range);

@@ -28,12 +28,14 @@ pub fn parity_law()
 
 /// The test `joined` says that a walk leads from one vertex to the other.
 pub fn walk_law()
-    ensures { (g : Graph) (s : Set) (u v : ℕ) → IsGraph g → Within g.order u → ((joined g s u v ≡ true) ↔ Joined g s u v) }
+    ensures { (g : Graph) (s : Set) (u v : ℕ) → IsGraph g → Within g.order u →
+        ((joined g s u v ≡ true) ↔ Joined g s u v) }
 {}
 
 /// A graph has at most one left side: the least vertex of each component fixes the side of each vertex.
 pub fn left_side_law()
-    ensures { (g : Graph) (xs ys : List ℕ) → IsGraph g → IsLeftSide g xs → IsLeftSide g ys → xs ≡ ys }
+    ensures { (g : Graph) (xs ys : List ℕ) → IsGraph g → IsLeftSide g xs → IsLeftSide g ys →
+        xs ≡ ys }
 {}
 
 /// The test `has_perfect` says that there is a perfect matching.
@@ -50,34 +52,42 @@ pub fn weak_duality_law()
 /// Uncrossing: where X and Y are tight shores at a partition whose quotient is covered, and an odd number of blocks is in
 /// both, then the intersection and the union are tight, and no edge joins the two differences.
 pub fn uncrossing_law()
-    ensures tight { (g : Graph) (p : List (List ℕ)) (x y : Set) → IsGraph g → AreBlocks g.order p → IsCovered (contracted g p) →
+    ensures tight { (g : Graph) (p : List (List ℕ)) (x y : Set) → IsGraph g → AreBlocks g.order p →
+        IsCovered (contracted g p) →
         IsTightAt g p x → IsTightAt g p y → is_odd (block_count p (meet x y)) ≡ true →
         IsTightAt g p (meet x y) × IsTightAt g p (union x y) }
-    ensures edges { (g : Graph) (p : List (List ℕ)) (x y : Set) → IsGraph g → AreBlocks g.order p → IsCovered (contracted g p) →
+    ensures edges { (g : Graph) (p : List (List ℕ)) (x y : Set) → IsGraph g → AreBlocks g.order p →
+        IsCovered (contracted g p) →
         IsTightAt g p x → IsTightAt g p y → is_odd (block_count p (meet x y)) ≡ true →
         (e : ℕ) → Within (size g) e → connects g (minus x y) (minus y x) e ≡ false }
 {}
 
 /// The complement of a tight shore is a tight shore.
 pub fn complement_law()
-    ensures { (g : Graph) (p : List (List ℕ)) (x : Set) → IsGraph g → AreBlocks g.order p → IsTightAt g p x → IsTightAt g p (complement x) }
+    ensures { (g : Graph) (p : List (List ℕ)) (x : Set) → IsGraph g → AreBlocks g.order p →
+        IsTightAt g p x → IsTightAt g p (complement x) }
 {}
 
 /// A tight shore as a list is not empty, and the list of the other vertices is the other shore, which is tight as well: so what
 /// is said of merging a tight shore is said of merging the other one too.
 pub fn other_shore_law()
-    ensures nonempty { (g : Graph) (p : List (List ℕ)) (x : List ℕ) → IsGraph g → AreBlocks g.order p → IsTightAt g p (mem x) → 0 < length x }
+    ensures nonempty { (g : Graph) (p : List (List ℕ)) (x : List ℕ) → IsGraph g →
+        AreBlocks g.order p → IsTightAt g p (mem x) → 0 < length x }
     ensures rising { (n : ℕ) (x : List ℕ) → IsRisingIn n (complement_of n x) }
-    ensures members { (n : ℕ) (x : List ℕ) (v : ℕ) → Within n v → mem (complement_of n x) v ≡ complement (mem x) v }
-    ensures tight { (g : Graph) (p : List (List ℕ)) (x : List ℕ) → IsGraph g → AreBlocks g.order p → IsTightAt g p (mem x) →
+    ensures members { (n : ℕ) (x : List ℕ) (v : ℕ) → Within n v →
+        mem (complement_of n x) v ≡ complement (mem x) v }
+    ensures tight { (g : Graph) (p : List (List ℕ)) (x : List ℕ) → IsGraph g → AreBlocks g.order p →
+        IsTightAt g p (mem x) →
         IsTightAt g p (mem (complement_of g.order x)) }
 {}
 
 /// Merging a nonempty union of blocks gives a partition, in which the union is one block and all other blocks are as before.
 pub fn merge_law()
-    ensures partition { (n : ℕ) (p : List (List ℕ)) (x : List ℕ) → IsPartition n p → IsRisingIn n x → 0 < length x → IsUnion n p (mem x) →
+    ensures partition { (n : ℕ) (p : List (List ℕ)) (x : List ℕ) → IsPartition n p →
+        IsRisingIn n x → 0 < length x → IsUnion n p (mem x) →
         IsPartition n (merged p x) }
-    ensures merge { (n : ℕ) (p : List (List ℕ)) (x : List ℕ) → IsPartition n p → IsRisingIn n x → 0 < length x → IsUnion n p (mem x) →
+    ensures merge { (n : ℕ) (p : List (List ℕ)) (x : List ℕ) → IsPartition n p → IsRisingIn n x →
+        0 < length x → IsUnion n p (mem x) →
         IsMerge n p (mem x) (merged p x) }
 {}
 
@@ -86,28 +96,35 @@ pub fn merge_law()
 pub fn singles_law()
     ensures partition { (n : ℕ) → IsPartition n (singles n) }
     ensures same { (g : Graph) → IsGraph g → contracted g (singles g.order) ≡ g }
-    ensures perfect { (g : Graph) (m : Set) → IsGraph g → (IsPerfectAt g (singles g.order) m ↔ IsPerfect g none m) }
-    ensures tight { (g : Graph) (x : Set) → IsGraph g → (IsTightAt g (singles g.order) x ↔ IsTight g x) }
+    ensures perfect { (g : Graph) (m : Set) → IsGraph g →
+        (IsPerfectAt g (singles g.order) m ↔ IsPerfect g none m) }
+    ensures tight { (g : Graph) (x : Set) → IsGraph g →
+        (IsTightAt g (singles g.order) x ↔ IsTight g x) }
 {}
 
 /// The edges that leave a union of blocks are the same in the graph and in the contracted graph.
 pub fn cut_at_law()
-    ensures { (g : Graph) (p : List (List ℕ)) (x m : Set) → IsGraph g → AreBlocks g.order p → IsUnion g.order p x →
+    ensures { (g : Graph) (p : List (List ℕ)) (x m : Set) → IsGraph g → AreBlocks g.order p →
+        IsUnion g.order p x →
         edges_in_cut (contracted g p) m (blocks_in p x) ≡ edges_in_cut g m x }
 {}
 
 /// Contraction: where a tight shore X of a partition with a covered quotient is merged, the quotient stays covered, a shore
 /// that is tight then was tight before, and a shore that was tight and is a union of the new blocks is tight then.
 pub fn contraction_law()
-    ensures covered { (g : Graph) (p : List (List ℕ)) (x : List ℕ) → IsGraph g → AreBlocks g.order p → IsRisingIn g.order x →
+    ensures covered { (g : Graph) (p : List (List ℕ)) (x : List ℕ) → IsGraph g →
+        AreBlocks g.order p → IsRisingIn g.order x →
         IsTightAt g p (mem x) → IsCovered (contracted g p) → IsCovered (contracted g (merged p x)) }
-    ensures before { (g : Graph) (p : List (List ℕ)) (x : List ℕ) (y : Set) → IsGraph g → AreBlocks g.order p → IsRisingIn g.order x →
+    ensures before { (g : Graph) (p : List (List ℕ)) (x : List ℕ) (y : Set) → IsGraph g →
+        AreBlocks g.order p → IsRisingIn g.order x →
         IsTightAt g p (mem x) → IsCovered (contracted g p) → IsTightAt g (merged p x) y → IsTightAt g p y }
-    ensures after { (g : Graph) (p : List (List ℕ)) (x : List ℕ) (y : Set) → IsGraph g → AreBlocks g.order p → IsRisingIn g.order x →
+    ensures after { (g : Graph) (p : List (List ℕ)) (x : List ℕ) (y : Set) → IsGraph g →
+        AreBlocks g.order p → IsRisingIn g.order x →
         IsTightAt g p (mem x) → IsCovered (contracted g p) → IsTightAt g p y → IsUnion g.order (merged p x) y → IsTightAt g (merged p x) y }
 {}
 
 /// A set of blocks is tight in the quotient exactly where it is in the contracted graph.
 pub fn quotient_law()
-    ensures { (g : Graph) (p : List (List ℕ)) (y : Set) → IsGraph g → AreBlocks g.order p → (IsTight (quotient g p) y ↔ IsTight (contracted g p) y) }
+    ensures { (g : Graph) (p : List (List ℕ)) (y : Set) → IsGraph g → AreBlocks g.order p →
+        (IsTight (quotient g p) y ↔ IsTight (contracted g p) y) }
 {}

@@ -20,7 +20,8 @@ fn hang(nodes: &mut [TreeNode], v: u32, parent: u32)
     requires shallow { depth_at nodes.old parent + 1 < 2 ^ 32 }
     ensures parent { parent_at nodes.new v ≡ parent }
     ensures depth { depth_at nodes.new v ≡ depth_at nodes.old parent + 1 }
-    ensures others { (u : ℕ) → Within (length nodes.old) u → v ≢ u → node_at nodes.new u ≡ node_at nodes.old u }
+    ensures others { (u : ℕ) → Within (length nodes.old) u → v ≢ u →
+        node_at nodes.new u ≡ node_at nodes.old u }
 {
     let depth = nodes[parent as usize - 1].depth + 1;
     nodes[v as usize - 1] = TreeNode { parent, depth };
@@ -30,7 +31,8 @@ fn hang(nodes: &mut [TreeNode], v: u32, parent: u32)
 fn plant(nodes: &mut [TreeNode], v: u32)
     requires { Within (length nodes.old) v }
     ensures depth { depth_at nodes.new v ≡ 0 }
-    ensures others { (u : ℕ) → Within (length nodes.old) u → v ≢ u → node_at nodes.new u ≡ node_at nodes.old u }
+    ensures others { (u : ℕ) → Within (length nodes.old) u → v ≢ u →
+        node_at nodes.new u ≡ node_at nodes.old u }
 {
     nodes[v as usize - 1] = TreeNode {
         parent: v,
@@ -77,8 +79,11 @@ fn search(
     requires few { length rows.now ≤ MOST_VERTICES }
     requires graph { (g : Graph) × IsGraph g × AreRows g rows.now }
     requires nodes { length nodes.old ≡ length rows.now }
-    ensures parts { IfOk result (λ parts. (g : Graph) → IsGraph g → AreRows g rows.now → parts ≡ components g (mem removed)) }
-    ensures trees { OnOk result ((g : Graph) → IsGraph g → AreRows g rows.now → AreTrees g (mem removed) nodes.new) }
+    ensures parts { IfOk result
+        (λ parts. (g : Graph) → IsGraph g → AreRows g rows.now →
+        parts ≡ components g (mem removed)) }
+    ensures trees { OnOk result
+        ((g : Graph) → IsGraph g → AreRows g rows.now → AreTrees g (mem removed) nodes.new) }
 {
     let mut parts = SetList::new(alloc);
     let mut left = VSet::full(rows.len() as u32).minus(removed);

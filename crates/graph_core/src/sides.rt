@@ -64,7 +64,8 @@ pub(crate) fn sides_by_depth(
     requires few { length nodes.now ≤ MOST_VERTICES }
     requires graph { IsGraph (graph_of (length nodes.now) edges.now) }
     requires trees { AreTrees (graph_of (length nodes.now) edges.now) none nodes.now }
-    ensures even { IfOk result (λ sides. IsEven sides ↔ IsBipartite (graph_of (length nodes.now) edges.now)) }
+    ensures even { IfOk result
+        (λ sides. IsEven sides ↔ IsBipartite (graph_of (length nodes.now) edges.now)) }
     ensures sides { IfOk result (AreSides (graph_of (length nodes.now) edges.now)) }
 {
     match level_edge(edges, nodes) {

@@ -23,7 +23,8 @@ impl MultiGraph {
     /// Whether an edge before edge `e` joins the same two vertices.
     fn repeats(&self, e: u32) -> bool
         requires { Within (size self.now) e }
-        ensures { result ≡ some (e - 1) (has_ends self.now (first_end self.now e) (second_end self.now e)) }
+        ensures { result ≡
+            some (e - 1) (has_ends self.now (first_end self.now e) (second_end self.now e)) }
     {
         for f in 1..e {
             if self.joins_same(e, f) {

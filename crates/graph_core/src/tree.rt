@@ -30,7 +30,8 @@ impl TreeNode {
 pub(crate) fn climb(nodes: &[TreeNode], from: u32, walk: &mut Numbers) -> Result<(), Memory>
     requires rooted { IsRooted nodes.now }
     requires within { Within (length nodes.now) from }
-    ensures { OnOk result (walk.new ≡ walk.old ++ way_up (parent_at nodes.now) (depth_at nodes.now from) from) }
+    ensures { OnOk result
+        (walk.new ≡ walk.old ++ way_up (parent_at nodes.now) (depth_at nodes.now from) from) }
 {
     let mut v = from;
     'climbing: while nodes[v as usize - 1].depth > 0 {
@@ -44,7 +45,8 @@ pub(crate) fn climb(nodes: &[TreeNode], from: u32, walk: &mut Numbers) -> Result
 pub(crate) fn descend(nodes: &[TreeNode], to: u32, walk: &mut Numbers) -> Result<(), Memory>
     requires rooted { IsRooted nodes.now }
     requires within { Within (length nodes.now) to }
-    ensures { OnOk result (walk.new ≡ walk.old ++ way_down (parent_at nodes.now) (depth_at nodes.now to) to) }
+    ensures { OnOk result
+        (walk.new ≡ walk.old ++ way_down (parent_at nodes.now) (depth_at nodes.now to) to) }
 {
     let node = nodes[to as usize - 1];
     if node.depth > 0 {

@@ -96,7 +96,8 @@ fn read_named_edge(
     names: Names,
     words: &[&[u8]],
 ) -> Result<EitherBody, Refusal<FaultKind>>
-    ensures { Gives either_so_far result (named_edge_line (so_far body) names (texts_of words.now)) }
+    ensures { Gives either_so_far result
+        (named_edge_line (so_far body) names (texts_of words.now)) }
 {
     if !has_form(words, 3, &["e"]) {
         return Err(Refusal::Fault(FaultKind::Word));
@@ -204,8 +205,10 @@ pub fn read_any(alloc: Global, bytes: &[u8]) -> Result<Named, TextFault>
     requires { length bytes.now < 2 ^ 32 - 1 }
     ensures value { IfOk result (λ named. Stands either_version bytes.now (named_graph named)) }
     ensures fault { IfErr result (IsFirstFault either_version bytes.now) }
-    ensures stands { (g : NamedGraph) → Stands either_version bytes.now g → ReadsText named_graph result (Ok g) }
-    ensures breaks { (line : ℕ) (kind : FaultKind) → FirstFault either_version bytes.now line kind → ReadsText named_graph result (Err (line, kind)) }
+    ensures stands { (g : NamedGraph) → Stands either_version bytes.now g →
+        ReadsText named_graph result (Ok g) }
+    ensures breaks { (line : ℕ) (kind : FaultKind) → FirstFault either_version bytes.now line kind →
+        ReadsText named_graph result (Err (line, kind)) }
 {
     read_text(alloc, &EitherVersion { alloc }, bytes)
 }

@@ -38,6 +38,7 @@ pub fn versions_law()
         → Stands version_one text g ↔ Stands either_version text (record { graph = g; names = None }) }
     ensures faults { (text : List ℕ) (line : ℕ) (kind : FaultKind) → is_version_two text ≡ false
         → FirstFault version_one text line kind ↔ FirstFault either_version text line kind }
-    ensures refused { (text : List ℕ) (line : SignificantLine) (lines : List SignificantLine) → significant_lines_of text ≡ line ∷ lines
+    ensures refused { (text : List ℕ) (line : SignificantLine) (lines : List SignificantLine) →
+        significant_lines_of text ≡ line ∷ lines
         → is_named_header line.words ≡ true → FirstFault version_one text line.number Header }
 {}

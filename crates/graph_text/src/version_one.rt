@@ -85,8 +85,10 @@ pub fn read_graph(alloc: Global, bytes: &[u8]) -> Result<MultiGraph, TextFault>
     requires { length bytes.now < 2 ^ 32 - 1 }
     ensures value { IfOk result (λ g. Stands version_one bytes.now g) }
     ensures fault { IfErr result (IsFirstFault version_one bytes.now) }
-    ensures stands { (g : Graph) → Stands version_one bytes.now g → ReadsText (λ (h : Graph). h) result (Ok g) }
-    ensures breaks { (line : ℕ) (kind : FaultKind) → FirstFault version_one bytes.now line kind → ReadsText (λ (h : Graph). h) result (Err (line, kind)) }
+    ensures stands { (g : Graph) → Stands version_one bytes.now g →
+        ReadsText (λ (h : Graph). h) result (Ok g) }
+    ensures breaks { (line : ℕ) (kind : FaultKind) → FirstFault version_one bytes.now line kind →
+        ReadsText (λ (h : Graph). h) result (Err (line, kind)) }
 {
     read_text(alloc, &VersionOne { alloc }, bytes)
 }

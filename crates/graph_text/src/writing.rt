@@ -15,7 +15,9 @@ use std::alloc::{AllocError as Memory, Global};
 
 // The line of an edge.
 fn push_edge(text: &mut String, ends: Ends) -> Result<(), Memory>
-    ensures { OnOk result (string_bytes text.new ≡ string_bytes text.old ++ written (edge_words (pair_of ends) ∷ [])) }
+    ensures { OnOk result
+        (string_bytes text.new ≡ string_bytes text.old ++
+        written (edge_words (pair_of ends) ∷ [])) }
 {
     let Ends { a, b } = ends;
     write!(text, "e {a} {b}\n")
@@ -44,7 +46,8 @@ pub fn write_graph(alloc: Global, g: &MultiGraph) -> Result<Vec<u8>, Memory>
 
 // The line of a name.
 fn push_name(text: &mut String, name: &str) -> Result<(), Memory>
-    ensures { OnOk result (string_bytes text.new ≡ string_bytes text.old ++ written (name_words name.now ∷ [])) }
+    ensures { OnOk result
+        (string_bytes text.new ≡ string_bytes text.old ++ written (name_words name.now ∷ [])) }
 {
     write!(text, "v {name}\n")
 }
@@ -53,7 +56,9 @@ fn push_name(text: &mut String, name: &str) -> Result<(), Memory>
 fn push_named_edge(text: &mut String, names: &Names, ends: Ends) -> Result<(), Memory>
     requires first { Within (length names.now) ends.a }
     requires second { Within (length names.now) ends.b }
-    ensures { OnOk result (string_bytes text.new ≡ string_bytes text.old ++ written (named_edge_words names.now (pair_of ends) ∷ [])) }
+    ensures { OnOk result
+        (string_bytes text.new ≡ string_bytes text.old ++
+        written (named_edge_words names.now (pair_of ends) ∷ [])) }
 {
     let a = names.get(ends.a as usize - 1);
     let b = names.get(ends.b as usize - 1);
@@ -67,7 +72,9 @@ fn push_named_edge(text: &mut String, names: &Names, ends: Ends) -> Result<(), M
 pub fn write_named(alloc: Global, g: &MultiGraph, names: &Names) -> Result<Vec<u8>, Memory>
     requires { length names.now ≡ g.now.order }
     ensures text { IfOk result (λ text. text.items ≡ named_text g.now names.now) }
-    ensures stands { IfOk result (λ text. Stands either_version text.items (record { graph = g.now; names = Some names.now })) }
+    ensures stands { IfOk result
+        (λ text. Stands either_version text.items
+        (record { graph = g.now; names = Some names.now })) }
     ensures alone { IfOk result (λ text. StandsAlone either_version text.items) }
 {
     g.keeps_limits();

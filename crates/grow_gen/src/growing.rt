@@ -58,7 +58,8 @@ impl Growing {
     /// The vertex that a draw picks for the piece.
     fn pick(&self, piece: Piece, x: u32) -> u32
         requires { MayTake (growth_of self.now) piece }
-        ensures value { let from = eligible (growth_of self.now) piece in result ≡ slice_index from (x % length from) }
+        ensures value { let from = eligible (growth_of self.now) piece in result ≡
+            slice_index from (x % length from) }
         ensures within { Within self.now.order result }
     {
         let from = self.eligible(piece);

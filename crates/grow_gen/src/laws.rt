@@ -10,12 +10,16 @@ ghost use Rattle.grow_gen.specs.Splices.{splice, permutation};
 /// Splicing: two cubic multigraphs give a cubic multigraph, without parallel edges where they have none, and covered where
 /// they are.
 pub fn splice_law()
-    ensures multigraph { (g h : Graph) (w i : ℕ) → IsMultigraph g → IsMultigraph h → IsCubic g → IsCubic h → 2 ≤ h.order →
+    ensures multigraph { (g h : Graph) (w i : ℕ) → IsMultigraph g → IsMultigraph h → IsCubic g →
+        IsCubic h → 2 ≤ h.order →
         Within g.order w → i < 6 → IsMultigraph (splice g w h (permutation i)) }
-    ensures cubic { (g h : Graph) (w i : ℕ) → IsMultigraph g → IsMultigraph h → IsCubic g → IsCubic h → 2 ≤ h.order →
+    ensures cubic { (g h : Graph) (w i : ℕ) → IsMultigraph g → IsMultigraph h → IsCubic g →
+        IsCubic h → 2 ≤ h.order →
         Within g.order w → i < 6 → IsCubic (splice g w h (permutation i)) }
-    ensures simple { (g h : Graph) (w i : ℕ) → IsMultigraph g → IsMultigraph h → IsCubic g → IsCubic h → 2 ≤ h.order →
+    ensures simple { (g h : Graph) (w i : ℕ) → IsMultigraph g → IsMultigraph h → IsCubic g →
+        IsCubic h → 2 ≤ h.order →
         Within g.order w → i < 6 → IsSimple g → IsSimple h → IsSimple (splice g w h (permutation i)) }
-    ensures covered { (g h : Graph) (w i : ℕ) → IsMultigraph g → IsMultigraph h → IsCubic g → IsCubic h → IsCovered g → IsCovered h →
+    ensures covered { (g h : Graph) (w i : ℕ) → IsMultigraph g → IsMultigraph h → IsCubic g →
+        IsCubic h → IsCovered g → IsCovered h →
         Within g.order w → i < 6 → IsCovered (splice g w h (permutation i)) }
 {}

@@ -67,7 +67,8 @@ fn with_end(edge: Ends, w: u32, t: u32) -> Ends
 
 /// Gives the edges at `w` the targets as their ends in its place, one after the other.
 pub fn rehang(edges: &mut Vec<Ends>, w: u32, targets: &[u32])
-    ensures { map pair_of edges.new.items ≡ rehung_edges w targets.now (map pair_of edges.old.items) }
+    ensures { map pair_of edges.new.items ≡
+        rehung_edges w targets.now (map pair_of edges.old.items) }
 {
     let mut next = 0;
     for edge in edges.iter_mut() {
@@ -81,7 +82,9 @@ pub fn rehang(edges: &mut Vec<Ends>, w: u32, targets: &[u32])
 /// Appends the edges of the piece that are not at its vertex 1, under their new numbers.
 pub fn append_kept(edges: &mut Vec<Ends>, piece: Piece, n: u32, w: u32) -> Result<(), Memory>
     requires { n + piece_order piece ≤ MOST_VERTICES + 2 }
-    ensures { OnOk result (map pair_of edges.new.items ≡ map pair_of edges.old.items ++ map (renumbered_edge n w) (filter (λ e. not (is_at 1 e)) (piece_ends piece))) }
+    ensures { OnOk result
+        (map pair_of edges.new.items ≡ map pair_of edges.old.items ++
+        map (renumbered_edge n w) (filter (λ e. not (is_at 1 e)) (piece_ends piece))) }
 {
     for &(a, b) in piece.ends() {
         if a != 1 && b != 1 {

@@ -54,7 +54,8 @@ pub fn kind_in(
 fn kind_by_cut(alloc: Global, g: &MultiGraph, cut: Option<VSet>) -> Result<Kind, Memory>
     requires covered { IsCovered g.now }
     requires first { cut ≡ first_shore (candidates g.now) }
-    requires some { (s : _) → cut ≡ Some s → IsTight g.now (mem s) × IsNontrivial g.now.order (mem s) }
+    requires some { (s : _) → cut ≡ Some s →
+        IsTight g.now (mem s) × IsNontrivial g.now.order (mem s) }
     requires none { (cut ≡ None) ↔ HasNoTightCut g.now }
     ensures kind { IfOk result (IsKind g.now) }
     ensures cut { IfOk result (λ kind. cut_of kind ≡ first_shore (candidates g.now)) }

@@ -12,7 +12,8 @@ use crate::format::LineFormat;
 
 /// Each text stands for exactly one value of a format or has exactly one first fault, and not both.
 pub fn exactly_one<F: LineFormat>()
-    ensures { (format : F) (text : List ℕ) → StandsAlone (F.rules format) text ⊎ BreaksAlone (F.rules format) text }
+    ensures { (format : F) (text : List ℕ) →
+        StandsAlone (F.rules format) text ⊎ BreaksAlone (F.rules format) text }
 {}
 
 /// Reading line by line finds the value that a text stands for, or its first fault.
@@ -23,7 +24,8 @@ pub fn reading_tells<F: LineFormat>()
 /// A text that is written line by line stands for the value that the format has at the end of these lines, whatever
 /// comments follow.
 pub fn written_text_stands<F: LineFormat>()
-    ensures { (format : F) (lines comments : List (List (List ℕ))) (reached : Option F.State) (value : F.Meaning)
+    ensures { (format : F) (lines comments : List (List (List ℕ))) (reached : Option F.State)
+        (value : F.Meaning)
         → AllByRecursion IsSignificant lines → AllByRecursion IsComment comments
         → Begins (F.rules format) None lines reached → finish (F.rules format) reached ≡ Ok value
         → Stands (F.rules format) (written lines ++ written comments) value }

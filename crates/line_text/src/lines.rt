@@ -26,7 +26,8 @@ pub fn split_line(text: &[u8]) -> Option<(&[u8], &[u8])>
     ensures none { IsNone result ↔ (text.now ≡ []) }
     ensures line { IfSome result (λ found. found.0.now ≡ before_first is_line_feed text.now) }
     ensures rest { IfSome result (λ found. found.1.now ≡ after_first is_line_feed text.now) }
-    ensures lines { IfSome result (λ found. lines_of text.now ≡ found.0.now ∷ lines_of found.1.now) }
+    ensures lines { IfSome result
+        (λ found. lines_of text.now ≡ found.0.now ∷ lines_of found.1.now) }
     ensures shorter { IfSome result (λ found. length found.1.now < length text.now) }
 {
     if text.is_empty() {

@@ -49,7 +49,8 @@ pub fn number(word: &[u8]) -> Option<u32>
 
 /// The numbers that words write, in their order, or `None` exactly where one of the words is no number.
 pub fn numbers(alloc: Global, words: &[&[u8]]) -> Result<Option<Vec<u32>>, Memory>
-    ensures { IfOk result (λ found. option_map (λ values. values.items) found ≡ numbers_of (texts_of words.now)) }
+    ensures { IfOk result
+        (λ found. option_map (λ values. values.items) found ≡ numbers_of (texts_of words.now)) }
 {
     let mut values = Vec::with_capacity(alloc, words.len())?;
     for word in words {

@@ -43,7 +43,8 @@ pub fn word<'a>(words: &[&'a [u8]], place: usize) -> &'a [u8]
 
 // Whether the words and the keywords are the same, as far as the shorter list goes.
 fn are_same(words: &[&[u8]], keywords: &[&str]) -> bool
-    ensures { result ≡ list_all (λ pair. bytes_eq pair.0.now pair.1.now) (zip words.now keywords.now) }
+    ensures { result ≡ list_all (λ pair. bytes_eq pair.0.now pair.1.now)
+        (zip words.now keywords.now) }
 {
     words
         .iter()

@@ -36,7 +36,8 @@ fn words_behind(alloc: Global, order: u32, edges: u32, standing: Standing) -> Re
 
 // Appends the words on the standing of a graph.
 fn push_standing(words: &mut String, standing: Standing) -> Result<(), Memory>
-    ensures { OnOk result (string_bytes words.new ≡ with_standing (string_bytes words.old) standing) }
+    ensures { OnOk result
+        (string_bytes words.new ≡ with_standing (string_bytes words.old) standing) }
 {
     match standing {
         Standing::Uncovered { why } => {
@@ -67,7 +68,8 @@ fn push_word(words: &mut String, word: &str) -> Result<(), Memory>
 
 // Appends a number behind a space.
 fn push_number(words: &mut String, number: u32) -> Result<(), Memory>
-    ensures { OnOk result (string_bytes words.new ≡ with_word (string_bytes words.old) (decimal number)) }
+    ensures { OnOk result
+        (string_bytes words.new ≡ with_word (string_bytes words.old) (decimal number)) }
 {
     write!(words, " {number}")
 }

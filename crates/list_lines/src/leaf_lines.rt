@@ -55,7 +55,8 @@ fn decomposed(alloc: Global, g: &MultiGraph, order: LeafOrder) -> Result<Tree, R
 
 // The derivation for which the first candidates are picked. No other candidate is looked for.
 fn decomposed_first(alloc: Global, g: &MultiGraph) -> Result<Tree, Refused>
-    ensures tree { IfOk result (λ tree. IsPickedTree (Picks LeafOrder.First) g.now (shape_of tree)) }
+    ensures tree { IfOk result
+        (λ tree. IsPickedTree (Picks LeafOrder.First) g.now (shape_of tree)) }
     ensures uncovered { (r : _) → result ≡ Err (Refused.NotCovered r) → ¬ IsCovered g.now }
 {
     match decompose_first(alloc, g) {
@@ -71,7 +72,8 @@ fn decomposed_in<F: Fn(&[Candidate], usize) -> usize>(
     order: &Order<F>,
 ) -> Result<Tree, Refused>
     requires { PicksInRange F.Fn order.now.f }
-    ensures tree { IfOk result (λ tree. IsPickedTree (FnPicks F.Fn order.now.f) g.now (shape_of tree)) }
+    ensures tree { IfOk result
+        (λ tree. IsPickedTree (FnPicks F.Fn order.now.f) g.now (shape_of tree)) }
     ensures uncovered { (r : _) → result ≡ Err (Refused.NotCovered r) → ¬ IsCovered g.now }
 {
     match decompose(alloc, g, order) {
@@ -94,7 +96,8 @@ fn decomposed_last(alloc: Global, g: &MultiGraph) -> Result<Tree, Refused>
 
 // The derivation for which the first candidates are picked whose sides differ least in size.
 fn decomposed_balanced(alloc: Global, g: &MultiGraph) -> Result<Tree, Refused>
-    ensures tree { IfOk result (λ tree. IsPickedTree (Picks LeafOrder.Balanced) g.now (shape_of tree)) }
+    ensures tree { IfOk result
+        (λ tree. IsPickedTree (Picks LeafOrder.Balanced) g.now (shape_of tree)) }
     ensures uncovered { (r : _) → result ≡ Err (Refused.NotCovered r) → ¬ IsCovered g.now }
 {
     let order = Order::new(|list: &[Candidate], cuts: usize| balanced_place(list, cuts));
@@ -107,7 +110,9 @@ fn decomposed_balanced(alloc: Global, g: &MultiGraph) -> Result<Tree, Refused>
 // The lines of the leaves of a derivation.
 fn lines_of_tree(alloc: Global, g: &MultiGraph, tree: &Tree, number: u64) -> Result<Vec<u8>, Memory>
     requires { IsDerivation g.now (shape_of tree.now) }
-    ensures { IfOk result (λ lines. AreLinesOf (line_front number) g.now (leaves g.now.order (shape_of tree.now)) lines.items) }
+    ensures { IfOk result
+        (λ lines. AreLinesOf (line_front number) g.now (leaves g.now.order (shape_of tree.now))
+        lines.items) }
 {
     g.keeps_limits();
     let n = g.order();
@@ -125,7 +130,8 @@ fn lines_of_leaves(
     front: &str,
 ) -> Result<Vec<u8>, Memory>
     requires { All (λ p. p.order ≡ g.now.order) found.now }
-    ensures { IfOk result (λ lines. AreLinesOf front.now g.now (map (λ p. p.blocks) found.now) lines.items) }
+    ensures { IfOk result
+        (λ lines. AreLinesOf front.now g.now (map (λ p. p.blocks) found.now) lines.items) }
 {
     let mut lines = Vec::new(alloc);
     let mut kinds = Vec::new(alloc);
@@ -146,7 +152,8 @@ fn push_leaf(
 ) -> Result<LeafKind, Memory>
     requires { p.now.order ≡ g.now.order }
     ensures kind { IfOk result (λ kind. IsLeafKind g.now p.now.blocks kind) }
-    ensures line { IfOk result (λ kind. lines.new.items ≡ lines.old.items ++ leaf_line front.now g.now p.now.blocks kind) }
+    ensures line { IfOk result
+        (λ kind. lines.new.items ≡ lines.old.items ++ leaf_line front.now g.now p.now.blocks kind) }
 {
     let q = leaf_quotient(alloc, g, p)?;
     match q.graph().two_sides(alloc)? {
@@ -181,7 +188,8 @@ fn push_line(
     kind: LeafKind,
 ) -> Result<(), Memory>
     requires { IsSimple q.now }
-    ensures { OnOk result (lines.new.items ≡ lines.old.items ++ quotient_line front.now q.now kind) }
+    ensures { OnOk result
+        (lines.new.items ≡ lines.old.items ++ quotient_line front.now q.now kind) }
 {
     let text = write_graph6(alloc, q)?;
     lines.extend_from_slice(front.as_bytes())?;

@@ -29,7 +29,8 @@ fn take_piece<T: LineTeller, K: Sink>(
         (StopsWith (T.tells teller.now) (T.bad teller.now) listing.old.lines
         (listing.old.held.items ++ piece.now) ending) (K.written sink.old) (K.written sink.new)) }
     ensures others { IfErr result (λ ending. (ending ≢ Ending.Done) × (ending ≢ Ending.ReadFault)) }
-    ensures write_fault { IsErrOf result Ending.WriteFault → Rose (K.faults sink.old) (K.faults sink.new) }
+    ensures write_fault { IsErrOf result Ending.WriteFault →
+        Rose (K.faults sink.old) (K.faults sink.new) }
     ensures later { K.faults sink.old ≤ K.faults sink.new }
 {
     let mut output = Vec::new(alloc);
@@ -58,7 +59,8 @@ fn take_end<T: LineTeller, K: Sink>(
         (Gives (T.tells teller.now) (T.bad teller.now) (listing.now.lines + 1)
         (lines_of listing.now.held.items) result) (K.written sink.old) (K.written sink.new) }
     ensures others { result ≢ Ending.ReadFault }
-    ensures write_fault { result ≡ Ending.WriteFault → Rose (K.faults sink.old) (K.faults sink.new) }
+    ensures write_fault { result ≡ Ending.WriteFault →
+        Rose (K.faults sink.old) (K.faults sink.new) }
 {
     let mut output = Vec::new(alloc);
     match add_end(alloc, teller, listing.lines, &listing.held, &mut output) {
@@ -88,8 +90,10 @@ fn tell_through<T: LineTeller, S: Source, K: Sink>(
     ensures torn { result ≡ Ending.ReadFault
         → Appended (ReadsTold (T.tells teller.now) (S.left source.old) (S.left source.new))
         (K.written sink.old) (K.written sink.new) }
-    ensures read_fault { result ≡ Ending.ReadFault → Rose (S.faults source.old) (S.faults source.new) }
-    ensures write_fault { result ≡ Ending.WriteFault → Rose (K.faults sink.old) (K.faults sink.new) }
+    ensures read_fault { result ≡ Ending.ReadFault →
+        Rose (S.faults source.old) (S.faults source.new) }
+    ensures write_fault { result ≡ Ending.WriteFault →
+        Rose (K.faults sink.old) (K.faults sink.new) }
 {
     let mut listing = Listing {
         lines: 0,
@@ -134,8 +138,10 @@ pub fn tell_all<T: LineTeller, S: Source, K: Sink>(
         → Appended (ReadsTold (T.tells teller.now) (S.left source.old) (S.left source.new))
         (K.written sink.old) (K.written sink.new) }
     // A fault of the outside comes only where its count rose in this call.
-    ensures read_fault { result ≡ Ending.ReadFault → Rose (S.faults source.old) (S.faults source.new) }
-    ensures write_fault { result ≡ Ending.WriteFault → Rose (K.faults sink.old) (K.faults sink.new) }
+    ensures read_fault { result ≡ Ending.ReadFault →
+        Rose (S.faults source.old) (S.faults source.new) }
+    ensures write_fault { result ≡ Ending.WriteFault →
+        Rose (K.faults sink.old) (K.faults sink.new) }
 {
     match vec![in alloc; 0u8; PIECE] {
         Ok(mut piece) => tell_through(alloc, teller, source, sink, &mut piece),

@@ -25,5 +25,6 @@ pub trait LineTeller {
 
     /// The output of a line, or the kind of its first fault.
     fn tell(&self, alloc: Global, number: u64, line: &[u8]) -> Result<Told, Memory>
-        ensures { IfOk result (IsToldAs (tells self.now number line.now) (bad self.now number line.now)) };
+        ensures { IfOk result
+            (IsToldAs (tells self.now number line.now) (bad self.now number line.now)) };
 }

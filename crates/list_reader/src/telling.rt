@@ -45,7 +45,8 @@ pub fn push_fault(
     kind: FaultKind,
     output: &mut Vec<u8>,
 ) -> Result<(), Memory>
-    ensures { OnOk result (output.new.items ≡ output.old.items ++ fault_line number (kind_number kind)) }
+    ensures { OnOk result
+        (output.new.items ≡ output.old.items ++ fault_line number (kind_number kind)) }
 {
     let kind = kind.number();
     let text = format!(in alloc; "line {number} kind {kind}\n")?;
@@ -61,8 +62,10 @@ pub fn tell_line<T: LineTeller>(
     line: &[u8],
     output: &mut Vec<u8>,
 ) -> Result<(), Stop>
-    ensures told { OnOk result (Added (LineTold (T.tells teller.now) number line.now) output.old.items output.new.items) }
-    ensures bad { IsErrOf result Stop.Bad → Added (NamesBad (T.bad teller.now) number line.now) output.old.items output.new.items }
+    ensures told { OnOk result
+        (Added (LineTold (T.tells teller.now) number line.now) output.old.items output.new.items) }
+    ensures bad { IsErrOf result Stop.Bad →
+        Added (NamesBad (T.bad teller.now) number line.now) output.old.items output.new.items }
 {
     if is_header(number, line) {
         return Ok(());
@@ -101,9 +104,13 @@ pub fn tell_lines<'a, T: LineTeller>(
     text: &'a [u8],
     output: &mut Vec<u8>,
 ) -> Result<(u64, &'a [u8]), Stop>
-    ensures told { IfOk result (λ found. Added (ToldThrough (T.tells teller.now) lines text.now found.1.now found.0) output.old.items output.new.items) }
+    ensures told { IfOk result
+        (λ found. Added (ToldThrough (T.tells teller.now) lines text.now found.1.now found.0)
+        output.old.items output.new.items) }
     ensures left { IfOk result (λ found. HasNoFeed found.1.now) }
-    ensures bad { IsErrOf result Stop.Bad → Added (StopsWith (T.tells teller.now) (T.bad teller.now) lines text.now Ending.Bad) output.old.items output.new.items }
+    ensures bad { IsErrOf result Stop.Bad →
+        Added (StopsWith (T.tells teller.now) (T.bad teller.now) lines text.now Ending.Bad)
+        output.old.items output.new.items }
 {
     let mut number = lines;
     let mut rest = text;

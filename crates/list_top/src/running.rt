@@ -29,8 +29,10 @@ pub fn run<S: Source, K: Sink>(
     ensures unread { result ≡ Status.Usage → source.new ≡ source.old }
     ensures nothing { result ≡ Status.Usage → sink.new ≡ sink.old }
     // A fault of the outside comes only where its count rose in this call.
-    ensures read_fault { result ≡ Status.ReadFault → Rose (S.faults source.old) (S.faults source.new) }
-    ensures write_fault { result ≡ Status.WriteFault → Rose (K.faults sink.old) (K.faults sink.new) }
+    ensures read_fault { result ≡ Status.ReadFault →
+        Rose (S.faults source.old) (S.faults source.new) }
+    ensures write_fault { result ≡ Status.WriteFault →
+        Rose (K.faults sink.old) (K.faults sink.new) }
 
     // What was written is what the words ask of the lines of the list, in whatever pieces it was read.
     ensures outcome { (command : Command) (bytes : List ℕ)
@@ -61,9 +63,12 @@ pub fn run<S: Source, K: Sink>(
 // Reads the list, and writes what is asked of each of its graphs.
 fn list<S: Source, K: Sink>(alloc: Global, lister: Lister, source: &mut S, sink: &mut K) -> Status
     ensures usage { result ≢ Status.Usage }
-    ensures read_fault { result ≡ Status.ReadFault → Rose (S.faults source.old) (S.faults source.new) }
-    ensures write_fault { result ≡ Status.WriteFault → Rose (K.faults sink.old) (K.faults sink.new) }
-    ensures tells { TellsSome lister.query result (S.left source.old) (K.written sink.old) (K.written sink.new) }
+    ensures read_fault { result ≡ Status.ReadFault →
+        Rose (S.faults source.old) (S.faults source.new) }
+    ensures write_fault { result ≡ Status.WriteFault →
+        Rose (K.faults sink.old) (K.faults sink.new) }
+    ensures tells { TellsSome lister.query result (S.left source.old) (K.written sink.old)
+        (K.written sink.new) }
     ensures torn { result ≡ Status.ReadFault
         → Appended (ReadsTold (TellsLineOf lister.query) (S.left source.old) (S.left source.new))
         (K.written sink.old) (K.written sink.new) }

@@ -33,7 +33,8 @@ pub fn augment_once(
     candidates: VSet,
     mate: &mut [u32],
 ) -> Result<Answer, Memory>
-    requires holds { (g : Graph) × (r : Set) × (f : Set) × HoldsMatching g r f instance.old mate.old }
+    requires holds { (g : Graph) × (r : Set) × (f : Set) ×
+        HoldsMatching g r f instance.old mate.old }
     requires sized { IsSized (length instance.old.rows.items) unused }
     requires candidates { MayBeExposed instance.old.left mate.old candidates }
     ensures step { IfOk result (λ s. (g : Graph) (r f : Set) →

@@ -80,7 +80,8 @@ pub fn best_from(
 fn first_marks(alloc: Global, n: u32, ends: &[Ends], removed: VSet) -> Result<Vec<bool>, Memory>
     requires { IsGraphRow n ends.now }
     ensures long { IfOk result (λ mark. length mark.items ≡ length ends.now + 1) }
-    ensures matching { IfOk result (λ mark. IsMatching (graph_of n ends.now) (mem removed) (marks mark.items)) }
+    ensures matching { IfOk result
+        (λ mark. IsMatching (graph_of n ends.now) (mem removed) (marks mark.items)) }
 {
     let mut mark = falses(alloc, ends.len() + 1)?;
     let mut met = removed;

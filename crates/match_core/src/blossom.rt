@@ -32,7 +32,8 @@ pub fn blossom_of(
     mate: &mut [u32],
 ) -> Result<Blossom, Memory>
     requires ways { (g : Graph) × (r : Set) × (f : Set) × AreClosingWays g r f mate.old ways.now }
-    requires last { IsLastMeeting ways.now.row.items 0 (suc (ways.now.first + ways.now.first)) (second_start ways.now) (suc (ways.now.second + ways.now.second)) meeting }
+    requires last { IsLastMeeting ways.now.row.items 0 (suc (ways.now.first + ways.now.first))
+        (second_start ways.now) (suc (ways.now.second + ways.now.second)) meeting }
     ensures holds { IfOk result (λ b. (g : Graph) (r f : Set) →
         AreClosingWays g r f mate.old ways.now → HoldsBlossom g r f mate.new b) }
     ensures exposed { IfOk result (ExposesOnly mate.old mate.new) }

@@ -27,7 +27,8 @@ pub fn last_meeting(
 ) -> Option<Meeting>
     requires p_within { p + p_count ≤ length row.now }
     requires q_within { q + q_count ≤ length row.now }
-    ensures none { result ≡ None → (i j : ℕ) → i < p_count → j < q_count → slice_index row.now (p + i) ≢ slice_index row.now (q + j) }
+    ensures none { result ≡ None → (i j : ℕ) → i < p_count → j < q_count →
+        slice_index row.now (p + i) ≢ slice_index row.now (q + j) }
     ensures some { (m : Meeting) → result ≡ Some m → IsLastMeeting row.now p p_count q q_count m }
 {
     let mut i = p_count;
@@ -52,8 +53,11 @@ pub fn cycle_vertices(
     requires within { from + m < length row.now }
     requires back_within { back_from + x ≤ length row.now }
     ensures length { IfOk result (λ cs. length cs.items ≡ m + x + 2) }
-    ensures low { IfOk result (λ cs. (y : ℕ) → y ≤ m → slice_index cs.items (1 + y) ≡ slice_index row.now (from + y)) }
-    ensures high { IfOk result (λ cs. (y : ℕ) → y < x → slice_index cs.items (m + 2 + y) ≡ slice_index row.now (back_from + (x - 1 - y))) }
+    ensures low { IfOk result
+        (λ cs. (y : ℕ) → y ≤ m → slice_index cs.items (1 + y) ≡ slice_index row.now (from + y)) }
+    ensures high { IfOk result
+        (λ cs. (y : ℕ) → y < x → slice_index cs.items (m + 2 + y) ≡
+        slice_index row.now (back_from + (x - 1 - y))) }
 {
     let mut cs = Vec::with_capacity(alloc, m + x + 2)?;
     cs.push(0)?;

@@ -39,7 +39,8 @@ pub fn maximum(alloc: Global, g: &MultiGraph) -> Result<Found, Memory>
     ensures of { IfOk result (λ f. IsOf g.now f.matching) }
     ensures maximum { IfOk result (λ f. IsMaximum g.now none (mem (edges_of f.matching))) }
     ensures berge { IfOk result (λ f. IsRisingIn g.now.order f.berge) }
-    ensures attains { IfOk result (λ f. Attains g.now none (mem f.berge) (mem (edges_of f.matching))) }
+    ensures attains { IfOk result
+        (λ f. Attains g.now none (mem f.berge) (mem (edges_of f.matching))) }
 {
     Ok(frame(alloc, g)?.found)
 }
@@ -51,12 +52,18 @@ pub fn frame(alloc: Global, g: &MultiGraph) -> Result<FrameSets, Memory>
     ensures of { IfOk result (λ f. IsOf g.now f.found.matching) }
     ensures maximum { IfOk result (λ f. IsMaximum g.now none (mem (edges_of f.found.matching))) }
     ensures berge { IfOk result (λ f. f.found.berge ≡ f.inner) }
-    ensures attains { IfOk result (λ f. Attains g.now none (mem f.inner) (mem (edges_of f.found.matching))) }
+    ensures attains { IfOk result
+        (λ f. Attains g.now none (mem f.inner) (mem (edges_of f.found.matching))) }
     ensures outer_in { IfOk result (λ f. IsRisingIn g.now.order f.outer) }
     ensures inner_in { IfOk result (λ f. IsRisingIn g.now.order f.inner) }
-    ensures odd { IfOk result (λ f. (v : ℕ) → Within g.now.order v → (mem f.outer v ≡ true) ↔ ((mem f.inner v ≡ false) × (is_odd (count g.now.order (joined g.now (mem f.inner) v)) ≡ true))) }
-    ensures missed { IfOk result (λ f. (v : ℕ) → Within g.now.order v → (mem f.outer v ≡ true) ↔ InD g.now v) }
-    ensures next { IfOk result (λ f. (v : ℕ) → Within g.now.order v → (mem f.inner v ≡ true) ↔ InA g.now v) }
+    ensures odd { IfOk result
+        (λ f. (v : ℕ) → Within g.now.order v → (mem f.outer v ≡ true) ↔
+        ((mem f.inner v ≡ false) ×
+        (is_odd (count g.now.order (joined g.now (mem f.inner) v)) ≡ true))) }
+    ensures missed { IfOk result
+        (λ f. (v : ℕ) → Within g.now.order v → (mem f.outer v ≡ true) ↔ InD g.now v) }
+    ensures next { IfOk result
+        (λ f. (v : ℕ) → Within g.now.order v → (mem f.inner v ≡ true) ↔ InA g.now v) }
 {
     let n = g.order();
     let ends = g.edges();

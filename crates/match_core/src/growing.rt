@@ -34,7 +34,8 @@ pub fn grow_forest(
     roots: VSet,
     mate: &[u32],
 ) -> Growth
-    requires holds { (g : Graph) × (r : Set) × (f : Set) × HoldsMatching g r f instance.now mate.now }
+    requires holds { (g : Graph) × (r : Set) × (f : Set) ×
+        HoldsMatching g r f instance.now mate.now }
     requires sized { IsSized (length instance.now.rows.items) unused }
     requires roots { AreExposed instance.now.left mate.now roots }
     ensures { (g : Graph) (r f : Set) →

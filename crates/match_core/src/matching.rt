@@ -72,8 +72,11 @@ impl Matching {
         ensures order { IfOk result (λ m. m.order ≡ self.now.order) }
         ensures rows { IfOk result (λ m. m.rows ≡ filter (is_clear (mem removed)) self.now.rows) }
         ensures of { IfOk result (λ m. (g : Graph) → IsOf g self.now → IsOf g m) }
-        ensures matching { IfOk result (λ m. (g : Graph) → IsOf g self.now → IsMatching g (mem removed) (mem (edges_of m))) }
-        ensures edges { IfOk result (λ m. (g : Graph) → IsOf g self.now → (i : ℕ) → mem (edges_of m) i ≡ left_over g (mem removed) (mem (edges_of self.now)) i) }
+        ensures matching { IfOk result
+            (λ m. (g : Graph) → IsOf g self.now → IsMatching g (mem removed) (mem (edges_of m))) }
+        ensures edges { IfOk result
+            (λ m. (g : Graph) → IsOf g self.now → (i : ℕ) →
+            mem (edges_of m) i ≡ left_over g (mem removed) (mem (edges_of self.now)) i) }
     {
         self.keeps_matching();
         Ok(Matching {
@@ -89,7 +92,8 @@ impl Matching {
         requires first { degree g.now (mem (edges_of self.now)) (first_end g.now e) ≡ 0 }
         requires second { degree g.now (mem (edges_of self.now)) (second_end g.now e) ≡ 0 }
         ensures of { IfOk result (λ m. IsOf g.now m) }
-        ensures edges { IfOk result (λ m. (i : ℕ) → mem (edges_of m) i ≡ (mem (edges_of self.now) i || (e == i))) }
+        ensures edges { IfOk result
+            (λ m. (i : ℕ) → mem (edges_of m) i ≡ (mem (edges_of self.now) i || (e == i))) }
     {
         let ends = g.edges();
         self.keeps_matching();
@@ -103,7 +107,8 @@ impl Matching {
         requires few { size ≤ MOST_EDGES }
         requires within { All (λ row. Within size row.edge) self.now.rows }
         ensures long { IfOk result (λ mark. length mark.items ≡ size + 1) }
-        ensures each { IfOk result (λ mark. (i : ℕ) → marks mark.items i ≡ mem (edges_of self.now) i) }
+        ensures each { IfOk result
+            (λ mark. (i : ℕ) → marks mark.items i ≡ mem (edges_of self.now) i) }
     {
         let mut mark = falses(alloc, size + 1)?;
         mark_rows(&mut mark, &self.rows);
@@ -115,7 +120,9 @@ impl Matching {
 fn mark_rows(mark: &mut Vec<bool>, rows: &[MatchRow])
     requires { All (λ row. row.edge < length mark.old.items) rows.now }
     ensures length { length mark.new.items ≡ length mark.old.items }
-    ensures each { (i : ℕ) → marks mark.new.items i ≡ (marks mark.old.items i || mem (map (λ row. row.edge) rows.now) i) }
+    ensures each { (i : ℕ) →
+        marks mark.new.items i ≡ (marks mark.old.items i ||
+        mem (map (λ row. row.edge) rows.now) i) }
 {
     for row in rows {
         mark_place(mark, row.edge as usize);
@@ -154,7 +161,9 @@ pub fn matching_of(alloc: Global, n: u32, ends: &[Ends], mark: &[bool]) -> Resul
 fn marked_rows(alloc: Global, n: u32, ends: &[Ends], mark: &[bool]) -> Result<Vec<MatchRow>, Memory>
     requires row { IsGraphRow n ends.now }
     requires mark_long { length mark.now ≡ length ends.now + 1 }
-    ensures { IfOk result (λ rows. rows.items ≡ map (row_at (graph_of n ends.now)) (rising_list (length ends.now) (marks mark.now))) }
+    ensures { IfOk result
+        (λ rows. rows.items ≡ map (row_at (graph_of n ends.now))
+        (rising_list (length ends.now) (marks mark.now))) }
 {
     let mut rows = Vec::new(alloc);
     for (k, e) in ends.iter().enumerate() {

@@ -87,7 +87,8 @@ fn partners_of(
     requires of { IsOf g.now m.now }
     requires vertex { Within g.now.order u }
     ensures within { IfOk result (λ row. (v : ℕ) → mem row v ≡ true → Within g.now.order v) }
-    ensures row { IfOk result (λ row. (v : ℕ) → Within g.now.order v → mem row v ≡ are_partners g.now (mem removed) u v) }
+    ensures row { IfOk result
+        (λ row. (v : ℕ) → Within g.now.order v → mem row v ≡ are_partners g.now (mem removed) u v) }
 {
     g.keeps_limits();
     if removed.contains(u) {

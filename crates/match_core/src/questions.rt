@@ -26,7 +26,8 @@ pub fn perfect_without(
     removed: VSet,
 ) -> Result<Option<Matching>, Memory>
     ensures of { IfOk result (λ o. (m : _) → o ≡ Some m → IsOf g.now m) }
-    ensures perfect { IfOk result (λ o. (m : _) → o ≡ Some m → IsPerfect g.now (mem removed) (mem (edges_of m))) }
+    ensures perfect { IfOk result
+        (λ o. (m : _) → o ≡ Some m → IsPerfect g.now (mem removed) (mem (edges_of m))) }
     ensures none { IfOk result (λ o. (o ≡ None) ↔ (HasPerfect g.now (mem removed) → ⊥)) }
 {
     let n = g.order();
@@ -45,8 +46,10 @@ pub fn perfect_with(
 ) -> Result<Option<Matching>, Memory>
     requires { All (Within (size g.now)) edges.now }
     ensures of { IfOk result (λ o. (m : _) → o ≡ Some m → IsOf g.now m) }
-    ensures perfect { IfOk result (λ o. (m : _) → o ≡ Some m → IsPerfect g.now none (mem (edges_of m))) }
-    ensures holds { IfOk result (λ o. (m : _) → o ≡ Some m → HoldsAll edges.now (mem (edges_of m))) }
+    ensures perfect { IfOk result
+        (λ o. (m : _) → o ≡ Some m → IsPerfect g.now none (mem (edges_of m))) }
+    ensures holds { IfOk result
+        (λ o. (m : _) → o ≡ Some m → HoldsAll edges.now (mem (edges_of m))) }
     ensures none { IfOk result (λ o. (o ≡ None) ↔ (HasPerfectWith g.now edges.now → ⊥)) }
 {
     let n = g.order();
@@ -68,10 +71,15 @@ fn marks_with(
     requires row { IsGraphRow n ends.now }
     requires neighbours { AreRows (graph_of n ends.now) rows.now }
     requires edges { All (Within (length ends.now)) edges.now }
-    ensures long { IfOk result (λ o. (mark : _) → o ≡ Some mark → length mark.items ≡ length ends.now + 1) }
-    ensures perfect { IfOk result (λ o. (mark : _) → o ≡ Some mark → IsPerfect (graph_of n ends.now) none (marks mark.items)) }
-    ensures holds { IfOk result (λ o. (mark : _) → o ≡ Some mark → HoldsAll edges.now (marks mark.items)) }
-    ensures none { IfOk result (λ o. (o ≡ None) ↔ (HasPerfectWith (graph_of n ends.now) edges.now → ⊥)) }
+    ensures long { IfOk result
+        (λ o. (mark : _) → o ≡ Some mark → length mark.items ≡ length ends.now + 1) }
+    ensures perfect { IfOk result
+        (λ o. (mark : _) → o ≡ Some mark →
+        IsPerfect (graph_of n ends.now) none (marks mark.items)) }
+    ensures holds { IfOk result
+        (λ o. (mark : _) → o ≡ Some mark → HoldsAll edges.now (marks mark.items)) }
+    ensures none { IfOk result
+        (λ o. (o ≡ None) ↔ (HasPerfectWith (graph_of n ends.now) edges.now → ⊥)) }
 {
     match ends_met(alloc, n, ends, edges)? {
         None => Ok(None),
@@ -89,8 +97,10 @@ fn marks_with(
 fn ends_met(alloc: Global, n: u32, ends: &[Ends], edges: &[u32]) -> Result<Option<VSet>, Memory>
     requires row { IsGraphRow n ends.now }
     requires edges { All (Within (length ends.now)) edges.now }
-    ensures once { IfOk result (λ o. (met : _) → o ≡ Some met → MeetOnce (graph_of n ends.now) (mem edges.now) (mem met)) }
-    ensures none { IfOk result (λ o. o ≡ None → HasPerfectWith (graph_of n ends.now) edges.now → ⊥) }
+    ensures once { IfOk result
+        (λ o. (met : _) → o ≡ Some met → MeetOnce (graph_of n ends.now) (mem edges.now) (mem met)) }
+    ensures none { IfOk result
+        (λ o. o ≡ None → HasPerfectWith (graph_of n ends.now) edges.now → ⊥) }
 {
     let mut mark = falses(alloc, ends.len() + 1)?;
     let mut met = VSet::empty();
@@ -117,9 +127,13 @@ fn perfect_marks(
 ) -> Result<Option<Vec<bool>>, Memory>
     requires row { IsGraphRow n ends.now }
     requires neighbours { AreRows (graph_of n ends.now) rows.now }
-    ensures long { IfOk result (λ o. (mark : _) → o ≡ Some mark → length mark.items ≡ length ends.now + 1) }
-    ensures perfect { IfOk result (λ o. (mark : _) → o ≡ Some mark → IsPerfect (graph_of n ends.now) (mem removed) (marks mark.items)) }
-    ensures none { IfOk result (λ o. (o ≡ None) ↔ (HasPerfect (graph_of n ends.now) (mem removed) → ⊥)) }
+    ensures long { IfOk result
+        (λ o. (mark : _) → o ≡ Some mark → length mark.items ≡ length ends.now + 1) }
+    ensures perfect { IfOk result
+        (λ o. (mark : _) → o ≡ Some mark →
+        IsPerfect (graph_of n ends.now) (mem removed) (marks mark.items)) }
+    ensures none { IfOk result
+        (λ o. (o ≡ None) ↔ (HasPerfect (graph_of n ends.now) (mem removed) → ⊥)) }
 {
     let Best { mark, sets } = find_best(alloc, n, ends, rows, removed)?;
     if sets.outer.len() == 0 {

@@ -38,8 +38,11 @@ pub fn repair(
     requires matching { IsMatching g.now (mem removed) (mem (edges_of m.now)) }
     requires two { missed_count g.now (mem removed) (mem (edges_of m.now)) ≡ 2 }
     ensures of { IfOk result (λ o. (n : _) → o ≡ Some n → IsOf g.now n) }
-    ensures perfect { IfOk result (λ o. (n : _) → o ≡ Some n → IsPerfect g.now (mem removed) (mem (edges_of n))) }
-    ensures path { IfOk result (λ o. (n : _) → o ≡ Some n → DiffersByPath g.now (mem removed) (mem (edges_of m.now)) (mem (edges_of n))) }
+    ensures perfect { IfOk result
+        (λ o. (n : _) → o ≡ Some n → IsPerfect g.now (mem removed) (mem (edges_of n))) }
+    ensures path { IfOk result
+        (λ o. (n : _) → o ≡ Some n →
+        DiffersByPath g.now (mem removed) (mem (edges_of m.now)) (mem (edges_of n))) }
     ensures none { IfOk result (λ o. (o ≡ None) ↔ (HasPerfect g.now (mem removed) → ⊥)) }
 {
     let n = g.order();
@@ -66,10 +69,17 @@ fn repaired_marks(
     requires long { length mark.items ≡ length ends.now + 1 }
     requires matching { IsMatching (graph_of n ends.now) (mem removed) (marks mark.items) }
     requires two { missed_count (graph_of n ends.now) (mem removed) (marks mark.items) ≡ 2 }
-    ensures long { IfOk result (λ o. (new : _) → o ≡ Some new → length new.items ≡ length ends.now + 1) }
-    ensures perfect { IfOk result (λ o. (new : _) → o ≡ Some new → IsPerfect (graph_of n ends.now) (mem removed) (marks new.items)) }
-    ensures path { IfOk result (λ o. (new : _) → o ≡ Some new → DiffersByPath (graph_of n ends.now) (mem removed) (marks mark.items) (marks new.items)) }
-    ensures none { IfOk result (λ o. (o ≡ None) ↔ (HasPerfect (graph_of n ends.now) (mem removed) → ⊥)) }
+    ensures long { IfOk result
+        (λ o. (new : _) → o ≡ Some new → length new.items ≡ length ends.now + 1) }
+    ensures perfect { IfOk result
+        (λ o. (new : _) → o ≡ Some new →
+        IsPerfect (graph_of n ends.now) (mem removed) (marks new.items)) }
+    ensures path { IfOk result
+        (λ o. (new : _) → o ≡ Some new →
+        DiffersByPath (graph_of n ends.now) (mem removed) (marks mark.items)
+        (marks new.items)) }
+    ensures none { IfOk result
+        (λ o. (o ≡ None) ↔ (HasPerfect (graph_of n ends.now) (mem removed) → ⊥)) }
 {
     let Best { mark: found, sets } = best_from(alloc, n, ends, rows, removed, &mark)?;
     if sets.outer.len() == 0 {
@@ -83,7 +93,8 @@ fn repaired_marks(
 // marked, the second no more.
 fn exchange(mark: &mut [bool], edges: &[u32], from: usize, pairs: usize)
     requires long { from + (pairs + pairs) ≤ length edges.now }
-    requires in_mark { (k : ℕ) → k < pairs + pairs → slice_index edges.now (from + k) < length mark.old }
+    requires in_mark { (k : ℕ) → k < pairs + pairs →
+        slice_index edges.now (from + k) < length mark.old }
     ensures { (e : ℕ) → marks mark.new e ≡ flipped (marks mark.old) (part edges.now from) pairs e }
 {
     for i in 0..pairs {
@@ -97,7 +108,10 @@ fn flipped_along(mark: Vec<bool>, edges: &[u32]) -> Vec<bool>
     requires some { 1 ≤ length edges.now }
     requires in_mark { (k : ℕ) → k < length edges.now → numbers edges.now k < length mark.items }
     ensures length { length result.items ≡ length mark.items }
-    ensures each { (e : ℕ) → marks result.items e ≡ put (flipped (marks mark.items) (part edges.now 0) ((length edges.now - 1) / 2)) (numbers edges.now (length edges.now - 1)) true e }
+    ensures each { (e : ℕ) →
+        marks result.items e ≡ put
+        (flipped (marks mark.items) (part edges.now 0) ((length edges.now - 1) / 2))
+        (numbers edges.now (length edges.now - 1)) true e }
 {
     let mut flipped = mark;
     let pairs = (edges.len() - 1) / 2;
@@ -121,7 +135,9 @@ fn repair_path(
     requires matching { IsMatching (graph_of n ends.now) (mem removed) (marks mark.now) }
     requires perfect { IsPerfect (graph_of n ends.now) (mem removed) (marks found.now) }
     requires two { missed_count (graph_of n ends.now) (mem removed) (marks mark.now) ≡ 2 }
-    ensures { IfOk result (λ es. (x : ℕ) × Misses (graph_of n ends.now) (mem removed) (marks mark.now) x × IsRepairRow (graph_of n ends.now) (mem removed) (marks mark.now) x es.items) }
+    ensures { IfOk result
+        (λ es. (x : ℕ) × Misses (graph_of n ends.now) (mem removed) (marks mark.now) x ×
+        IsRepairRow (graph_of n ends.now) (mem removed) (marks mark.now) x es.items) }
 {
     let at = matched_edges(alloc, n, ends, mark)?;
     let other = matched_edges(alloc, n, ends, found)?;
@@ -152,7 +168,8 @@ fn matched_edges(alloc: Global, n: u32, ends: &[Ends], mark: &[bool]) -> Result<
     requires row { IsGraphRow n ends.now }
     requires long { length mark.now ≡ length ends.now + 1 }
     ensures length { IfOk result (λ at. length at.items ≡ n + 1) }
-    ensures named { IfOk result (λ at. NamesEdges ends.now (marks mark.now) at.items (length ends.now)) }
+    ensures named { IfOk result
+        (λ at. NamesEdges ends.now (marks mark.now) at.items (length ends.now)) }
 {
     let mut at = vec![in alloc; 0; n as usize + 1]?;
     for (k, e) in ends.iter().enumerate() {
@@ -168,7 +185,8 @@ fn matched_edges(alloc: Global, n: u32, ends: &[Ends], mark: &[bool]) -> Result<
 fn free(n: u32, removed: VSet, at: &[u32]) -> VSet
     requires most { n ≤ MOST_VERTICES }
     requires long { length at.now ≡ n + 1 }
-    ensures { (v : ℕ) → mem result v ≡ ((nat_lt 0 v && nat_le v n) && (not (mem removed v) && (numbers at.now v == 0))) }
+    ensures { (v : ℕ) → mem result v ≡
+        ((nat_lt 0 v && nat_le v n) && (not (mem removed v) && (numbers at.now v == 0))) }
 {
     let mut outer = VSet::empty();
     for i in 0..n {
@@ -184,8 +202,11 @@ fn mate_at(ends: &[Ends], at: &[u32], v: u32) -> Option<Mate>
     requires within { v < length at.now }
     requires real { numbers at.now v ≢ 0 → Within (length ends.now) (numbers at.now v) }
     ensures none { result ≡ None → numbers at.now v ≡ 0 }
-    ensures edge { (mate : _) → result ≡ Some mate → (mate.edge ≡ numbers at.now v) × (mate.edge ≢ 0) }
-    ensures vertex { (mate : _) → result ≡ Some mate → mate.vertex ≡ cond (end_a ends.now (mate.edge - 1) == v) (end_b ends.now (mate.edge - 1)) (end_a ends.now (mate.edge - 1)) }
+    ensures edge { (mate : _) → result ≡ Some mate →
+        (mate.edge ≡ numbers at.now v) × (mate.edge ≢ 0) }
+    ensures vertex { (mate : _) → result ≡ Some mate →
+        mate.vertex ≡ cond (end_a ends.now (mate.edge - 1) == v) (end_b ends.now (mate.edge - 1))
+        (end_a ends.now (mate.edge - 1)) }
 {
     let edge = at[v as usize];
     if edge == 0 {

@@ -10,8 +10,12 @@ use std::alloc::{AllocError as Memory, Global};
 pub fn push_part(row: &mut Vec<u32>, of: &[u32], from: usize, count: usize) -> Result<(), Memory>
     requires within { from + count ≤ length of.now }
     ensures length { IfOk result (λ _. length row.new.items ≡ length row.old.items + count) }
-    ensures old { IfOk result (λ _. (j : ℕ) → j < length row.old.items → slice_index row.new.items j ≡ slice_index row.old.items j) }
-    ensures new { IfOk result (λ _. (j : ℕ) → j < count → slice_index row.new.items (length row.old.items + j) ≡ slice_index of.now (from + j)) }
+    ensures old { IfOk result
+        (λ _. (j : ℕ) → j < length row.old.items →
+        slice_index row.new.items j ≡ slice_index row.old.items j) }
+    ensures new { IfOk result
+        (λ _. (j : ℕ) → j < count →
+        slice_index row.new.items (length row.old.items + j) ≡ slice_index of.now (from + j)) }
 {
     for i in 0..count {
         row.push(of[from + i])?;
@@ -28,8 +32,13 @@ pub fn push_part_back(
 ) -> Result<(), Memory>
     requires within { from + count ≤ length of.now }
     ensures length { IfOk result (λ _. length row.new.items ≡ length row.old.items + count) }
-    ensures old { IfOk result (λ _. (j : ℕ) → j < length row.old.items → slice_index row.new.items j ≡ slice_index row.old.items j) }
-    ensures new { IfOk result (λ _. (j : ℕ) → j < count → slice_index row.new.items (length row.old.items + j) ≡ slice_index of.now (from + (count - 1 - j))) }
+    ensures old { IfOk result
+        (λ _. (j : ℕ) → j < length row.old.items →
+        slice_index row.new.items j ≡ slice_index row.old.items j) }
+    ensures new { IfOk result
+        (λ _. (j : ℕ) → j < count →
+        slice_index row.new.items (length row.old.items + j) ≡
+        slice_index of.now (from + (count - 1 - j))) }
 {
     for i in 0..count {
         row.push(of[from + (count - 1 - i)])?;

@@ -27,8 +27,11 @@ pub fn write_way(row: &mut [u32], start: usize, forest: &AlternatingForest, mate
     requires forest { (g : Graph) × (r : Set) × (f : Set) ×
         HoldsAlternating g r f mate.now forest.now × (length mate.now ≡ suc g.order) }
     requires outer { mem forest.now.outer x ≡ true }
-    requires room { start + (numbers forest.now.pairs.items x + numbers forest.now.pairs.items x) < length row.old }
-    ensures path { (g : Graph) (r f : Set) (h : HoldsAlternating g r f mate.now forest.now) (j : ℕ) → j ≤ numbers forest.now.pairs.items x + numbers forest.now.pairs.items x → numbers row.new (start + j) ≡ h.v x j }
+    requires room { start + (numbers forest.now.pairs.items x + numbers forest.now.pairs.items x) <
+        length row.old }
+    ensures path { (g : Graph) (r f : Set) (h : HoldsAlternating g r f mate.now forest.now)
+        (j : ℕ) → j ≤ numbers forest.now.pairs.items x + numbers forest.now.pairs.items x →
+        numbers row.new (start + j) ≡ h.v x j }
     ensures kept { (j : ℕ) → j < start → numbers row.new j ≡ numbers row.old j }
 {
     let pairs = forest.pairs[x as usize];
@@ -60,10 +63,15 @@ fn write_ways(
 )
     requires closes { (g : Graph) × (r : Set) × (f : Set) ×
         ClosesForest g r f mate.now forest.now gap }
-    requires start_is { start ≡ suc (numbers forest.now.pairs.items gap.v + numbers forest.now.pairs.items gap.v) }
-    requires room { start + (numbers forest.now.pairs.items gap.w + numbers forest.now.pairs.items gap.w) < length row.old }
-    ensures first { (g : Graph) (r f : Set) (h : HoldsAlternating g r f mate.now forest.now) (j : ℕ) → j < start → numbers row.new (0 + j) ≡ h.v gap.v j }
-    ensures second { (g : Graph) (r f : Set) (h : HoldsAlternating g r f mate.now forest.now) (j : ℕ) → j ≤ numbers forest.now.pairs.items gap.w + numbers forest.now.pairs.items gap.w → numbers row.new (start + j) ≡ h.v gap.w j }
+    requires start_is { start ≡
+        suc (numbers forest.now.pairs.items gap.v + numbers forest.now.pairs.items gap.v) }
+    requires room { start + (numbers forest.now.pairs.items gap.w + numbers forest.now.pairs.items
+        gap.w) < length row.old }
+    ensures first { (g : Graph) (r f : Set) (h : HoldsAlternating g r f mate.now forest.now)
+        (j : ℕ) → j < start → numbers row.new (0 + j) ≡ h.v gap.v j }
+    ensures second { (g : Graph) (r f : Set) (h : HoldsAlternating g r f mate.now forest.now)
+        (j : ℕ) → j ≤ numbers forest.now.pairs.items gap.w + numbers forest.now.pairs.items gap.w →
+        numbers row.new (start + j) ≡ h.v gap.w j }
 {
     write_way(row, 0, forest, mate, gap.v);
     write_way(row, start, forest, mate, gap.w);

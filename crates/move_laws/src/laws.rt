@@ -24,10 +24,12 @@ ghost use Rattle.move_laws.specs.SameLeaf.{IsSameLeaf, from_name, image_shore, m
 /// merged are the same leaf, and so are the two others, by the names of the images that the maps of moves give. Neither shore need be
 /// nontrivial, nor be without the greatest vertex.
 pub fn exchange()
-    ensures kept { (g : Graph) (p : List (List ℕ)) (x u v : List ℕ) (s t : ℕ) → IsGraph g → IsPartition g.order p → IsCovered (contracted g p) →
+    ensures kept { (g : Graph) (p : List (List ℕ)) (x u v : List ℕ) (s t : ℕ) → IsGraph g →
+        IsPartition g.order p → IsCovered (contracted g p) →
         IsRisingIn g.order x → IsRisingIn g.order u → IsRisingIn g.order v → Corner g p (mem x) (mem u) (mem v) s t →
         IsSameLeaf g (kept_at g.order p x) (merged p (union_list g.order (outer_rest g.order x v) u)) (map (λ b. last_of (kept_image g.order x u v b)) (kept_at g.order p x)) }
-    ensures merged { (g : Graph) (p : List (List ℕ)) (x u v : List ℕ) (s t : ℕ) → IsGraph g → IsPartition g.order p → IsCovered (contracted g p) →
+    ensures merged { (g : Graph) (p : List (List ℕ)) (x u v : List ℕ) (s t : ℕ) → IsGraph g →
+        IsPartition g.order p → IsCovered (contracted g p) →
         IsRisingIn g.order x → IsRisingIn g.order u → IsRisingIn g.order v → Corner g p (mem x) (mem u) (mem v) s t →
         IsSameLeaf g (merged_at g.order p x) (merged p (union_list g.order (inner_rest g.order x u) v)) (map (λ b. last_of (merged_image g.order x u v b)) (merged_at g.order p x)) }
 {}
@@ -37,50 +39,69 @@ pub fn exchange()
 /// and the carried tree is a derivation at the other: each shore is replaced by the canonical one of its image and the image's
 /// complement, and the two trees change places where the complement is taken. Carried back, such a tree is what it was.
 pub fn carrying()
-    ensures tight { (g : Graph) (p q : List (List ℕ)) (names : List ℕ) (x : Set) → IsGraph g → IsPartition g.order p → IsPartition g.order q → IsSameLeaf g p q names →
+    ensures tight { (g : Graph) (p q : List (List ℕ)) (names : List ℕ) (x : Set) → IsGraph g →
+        IsPartition g.order p → IsPartition g.order q → IsSameLeaf g p q names →
         IsUnion g.order p x → (IsTightAt g p x ↔ IsTightAt g q (pre (from_name p q names) x)) }
-    ensures nontrivial { (g : Graph) (p q : List (List ℕ)) (names : List ℕ) (x : Set) → IsGraph g → IsPartition g.order p → IsPartition g.order q → IsSameLeaf g p q names →
+    ensures nontrivial { (g : Graph) (p q : List (List ℕ)) (names : List ℕ) (x : Set) → IsGraph g →
+        IsPartition g.order p → IsPartition g.order q → IsSameLeaf g p q names →
         IsUnion g.order p x → (IsNontrivial (length p) (blocks_in p x) ↔ IsNontrivial (length q) (blocks_in q (pre (from_name p q names) x))) }
-    ensures derivation { (g : Graph) (p q : List (List ℕ)) (names : List ℕ) (t : Shape) → IsGraph g → IsPartition g.order p → IsPartition g.order q → IsSameLeaf g p q names →
+    ensures derivation { (g : Graph) (p q : List (List ℕ)) (names : List ℕ) (t : Shape) →
+        IsGraph g → IsPartition g.order p → IsPartition g.order q → IsSameLeaf g p q names →
         (IsDerivationAt g p t ↔ (Fits g.order t × StandsAt g.order p t × IsDerivationAt g q (carry g.order (from_name p q names) t))) }
-    ensures again { (g : Graph) (p q : List (List ℕ)) (names : List ℕ) (t : Shape) → IsGraph g → IsPartition g.order p → IsPartition g.order q → IsSameLeaf g p q names →
+    ensures again { (g : Graph) (p q : List (List ℕ)) (names : List ℕ) (t : Shape) → IsGraph g →
+        IsPartition g.order p → IsPartition g.order q → IsSameLeaf g p q names →
         Fits g.order t → StandsAt g.order p t → carry g.order (to_name p names) (carry g.order (from_name p q names) t) ≡ t }
 {}
 
 /// Names: let two partitions be the same leaf by a list of names. Then the second and the first are the same leaf by the names turned
 /// round, and after a union of blocks is merged in the one and its image in the other, the two are the same leaf again.
 pub fn same_leaves()
-    ensures turned { (g : Graph) (p q : List (List ℕ)) (names : List ℕ) → IsGraph g → IsPartition g.order p → IsPartition g.order q → IsSameLeaf g p q names →
+    ensures turned { (g : Graph) (p q : List (List ℕ)) (names : List ℕ) → IsGraph g →
+        IsPartition g.order p → IsPartition g.order q → IsSameLeaf g p q names →
         IsSameLeaf g q p (turned_names p q names) }
-    ensures merged { (g : Graph) (p q : List (List ℕ)) (names x : List ℕ) → IsGraph g → IsPartition g.order p → IsPartition g.order q → IsSameLeaf g p q names →
+    ensures merged { (g : Graph) (p q : List (List ℕ)) (names x : List ℕ) → IsGraph g →
+        IsPartition g.order p → IsPartition g.order q → IsSameLeaf g p q names →
         IsRisingIn g.order x → 0 < length x → IsUnion g.order p (mem x) →
         (let y = image_shore g.order p q names x in IsSameLeaf g (merged p x) (merged q y) (merged_names p (merged p x) (merged q y) names)) }
 {}
 
 /// Rotate takes a derivation to a derivation, wherever it has a result.
 pub fn rotate_derives()
-    ensures { (g : Graph) (path : List Side) (s t : Shape) → IsGraph g → IsDerivation g s → rotate_result path s ≡ Some t → IsDerivation g t }
+    ensures { (g : Graph) (path : List Side) (s t : Shape) → IsGraph g → IsDerivation g s →
+        rotate_result path s ≡ Some t → IsDerivation g t }
 {}
 
 /// A proper Switch at the root takes a derivation at p to a derivation at p, if its new shore is a nontrivial tight shore there.
 pub fn switch_derives()
-    ensures { (g : Graph) (p : List (List ℕ)) (s : Shape) (u v z : List ℕ) (a b : Shape) → IsGraph g → IsPartition g.order p → IsCovered (contracted g p) → IsDerivationAt g p s → BlocksAt g.order p [] u v s → switch_result_at g.order u v s ≡ Some (cut z a b) → IsCutAt g p z → IsDerivationAt g p (cut z a b) }
+    ensures { (g : Graph) (p : List (List ℕ)) (s : Shape) (u v z : List ℕ) (a b : Shape) →
+        IsGraph g → IsPartition g.order p → IsCovered (contracted g p) → IsDerivationAt g p s →
+        BlocksAt g.order p [] u v s → switch_result_at g.order u v s ≡ Some (cut z a b) →
+        IsCutAt g p z → IsDerivationAt g p (cut z a b) }
 {}
 
 /// The maps of a proper move from a derivation to a derivation pair their leaves.
 pub fn moves_pair()
-    ensures { (g : Graph) (s t : Shape) (m : PlainMove) → IsGraph g → IsDerivation g s → IsProper g.order (singles g.order) s m → move_result g.order s m ≡ Some t → IsDerivation g t → IsPairing g (leaves g.order s) (leaves g.order t) (move_maps g.order s m) }
+    ensures { (g : Graph) (s t : Shape) (m : PlainMove) → IsGraph g → IsDerivation g s →
+        IsProper g.order (singles g.order) s m → move_result g.order s m ≡ Some t →
+        IsDerivation g t → IsPairing g (leaves g.order s) (leaves g.order t)
+        (move_maps g.order s m) }
 {}
 
 /// Each canonical nontrivial tight shore of a graph can be brought to the root of each derivation with c cuts through derivations, by
 /// at most 3 c - 2 moves.
 pub fn exposing()
-    ensures { (g : Graph) (s : Shape) (y : List ℕ) → IsGraph g → IsDerivation g s → IsCutAt g (singles g.order) y → (ms : List PlainMove) × (a : Shape) × (b : Shape) × TurnsThrough g s ms (cut y a b) × (length ms + 2 ≤ 3 * cut_count s) }
+    ensures { (g : Graph) (s : Shape) (y : List ℕ) → IsGraph g → IsDerivation g s →
+        IsCutAt g (singles g.order) y →
+        (ms : List PlainMove) × (a : Shape) × (b : Shape) × TurnsThrough g s ms (cut y a b) ×
+        (length ms + 2 ≤ 3 * cut_count s) }
 {}
 
 /// Uniqueness (Lovász 1987): each derivation with c cuts can be turned into each other of the graph through derivations, by at most
 /// 5 c * c moves, and the leaves of the two are paired.
 pub fn uniqueness()
-    ensures turns { (g : Graph) (s t : Shape) → IsGraph g → IsDerivation g s → IsDerivation g t → (ms : List PlainMove) × TurnsThrough g s ms t × (length ms ≤ 5 * (cut_count s * cut_count s)) }
-    ensures pairs { (g : Graph) (s t : Shape) → IsGraph g → IsDerivation g s → IsDerivation g t → (maps : List PlainLeafMap) × IsPairing g (leaves g.order s) (leaves g.order t) maps }
+    ensures turns { (g : Graph) (s t : Shape) → IsGraph g → IsDerivation g s → IsDerivation g t →
+        (ms : List PlainMove) × TurnsThrough g s ms t ×
+        (length ms ≤ 5 * (cut_count s * cut_count s)) }
+    ensures pairs { (g : Graph) (s t : Shape) → IsGraph g → IsDerivation g s → IsDerivation g t →
+        (maps : List PlainLeafMap) × IsPairing g (leaves g.order s) (leaves g.order t) maps }
 {}

@@ -7,12 +7,15 @@ ghost use Rattle.move_text.specs.Writing.{moves_text, IsWritable};
 
 /// What is written of moves stands for these moves, for no others, and has no fault.
 pub fn written_moves_stand()
-    ensures stands { (n : ℕ) (moves : List PlainMove) → IsWritable n moves → Stands (move_format n) (moves_text n moves) moves }
-    ensures alone { (n : ℕ) (moves : List PlainMove) → IsWritable n moves → StandsAlone (move_format n) (moves_text n moves) }
+    ensures stands { (n : ℕ) (moves : List PlainMove) → IsWritable n moves →
+        Stands (move_format n) (moves_text n moves) moves }
+    ensures alone { (n : ℕ) (moves : List PlainMove) → IsWritable n moves →
+        StandsAlone (move_format n) (moves_text n moves) }
 {}
 
 /// What a text stands for can be written: there are at most 20,000 moves, each path has at most 127 steps, and the sets are nonempty
 /// rising lists of vertices.
 pub fn read_moves_fit()
-    ensures { (n : ℕ) (text : List ℕ) (moves : List PlainMove) → n < 10 ^ 9 → Stands (move_format n) text moves → IsWritable n moves }
+    ensures { (n : ℕ) (text : List ℕ) (moves : List PlainMove) → n < 10 ^ 9 →
+        Stands (move_format n) text moves → IsWritable n moves }
 {}

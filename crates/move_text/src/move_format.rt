@@ -54,7 +54,8 @@ fn read_switch(
     v: &[u8],
 ) -> Result<Moves, Refusal<FaultKind>>
     requires { format.now.order ≤ MOST_VERTICES }
-    ensures { Gives moves_of result (switch_line format.now.order (moves_of moves) path.now u.now v.now) }
+    ensures { Gives moves_of result
+        (switch_line format.now.order (moves_of moves) path.now u.now v.now) }
 {
     let first = read_vertices(format.alloc, u)?;
     let second = read_vertices(format.alloc, v)?;
@@ -84,7 +85,8 @@ fn read_move(
     words: &[&[u8]],
 ) -> Result<Moves, Refusal<FaultKind>>
     requires { format.now.order ≤ MOST_VERTICES }
-    ensures { Gives moves_of result (move_line format.now.order (moves_of moves) (texts_of words.now)) }
+    ensures { Gives moves_of result
+        (move_line format.now.order (moves_of moves) (texts_of words.now)) }
 {
     if moves.len() >= MOST_MOVES {
         return Err(Refusal::Fault(FaultKind::Limit));
@@ -145,8 +147,11 @@ pub fn read_moves(alloc: Global, bytes: &[u8], n: u32) -> Result<Moves, TextFaul
     ensures writable { IfOk result (λ moves. IsWritable n (moves_of moves)) }
     ensures value { IfOk result (λ moves. Stands (move_format n) bytes.now (moves_of moves)) }
     ensures fault { IfErr result (IsFirstFault (move_format n) bytes.now) }
-    ensures stands { (moves : List PlainMove) → Stands (move_format n) bytes.now moves → ReadsText moves_of result (Ok moves) }
-    ensures breaks { (line : ℕ) (kind : FaultKind) → FirstFault (move_format n) bytes.now line kind → ReadsText moves_of result (Err (line, kind)) }
+    ensures stands { (moves : List PlainMove) → Stands (move_format n) bytes.now moves →
+        ReadsText moves_of result (Ok moves) }
+    ensures breaks { (line : ℕ) (kind : FaultKind) →
+        FirstFault (move_format n) bytes.now line kind →
+        ReadsText moves_of result (Err (line, kind)) }
 {
     read_text(alloc, &MoveFormat { alloc, order: n }, bytes)
 }

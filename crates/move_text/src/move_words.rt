@@ -78,7 +78,8 @@ fn side_of(letter: u8) -> Side
 
 /// The numbers that a word writes with commas between them; `None` exactly where a part between commas is no number.
 pub fn read_vertices(alloc: Global, word: &[u8]) -> Result<Option<Vec<u32>>, Memory>
-    ensures { IfOk result (λ found. option_map (λ vertices. vertices.items) found ≡ numbers_of (parts_of word.now)) }
+    ensures { IfOk result
+        (λ found. option_map (λ vertices. vertices.items) found ≡ numbers_of (parts_of word.now)) }
 {
     let parts = split_parts(alloc, word)?;
     numbers(alloc, &parts)

@@ -13,7 +13,8 @@ use vset_core::VSet;
 
 // The letters of steps.
 fn push_steps(text: &mut String, steps: &[Side]) -> Result<(), Memory>
-    ensures { OnOk result (string_bytes text.new ≡ string_bytes text.old ++ map letter_of steps.now) }
+    ensures { OnOk result
+        (string_bytes text.new ≡ string_bytes text.old ++ map letter_of steps.now) }
 {
     let mut rest = steps;
     'steps: while let Some((side, others)) = rest.split_first() {
@@ -62,7 +63,9 @@ fn push_set(text: &mut String, set: VSet) -> Result<(), Memory>
 /// Appends the line that a text of moves has for a move: `rotate PATH`, or `switch PATH U V` where the sets are those of the move,
 /// whatever they are.
 pub fn push_move(text: &mut String, item: &Move) -> Result<(), Memory>
-    ensures text { OnOk result (string_bytes text.new ≡ string_bytes text.old ++ written (move_words (move_of item.now) ∷ [])) }
+    ensures text { OnOk result
+        (string_bytes text.new ≡ string_bytes text.old ++
+        written (move_words (move_of item.now) ∷ [])) }
     ensures rising { SetsRise (move_of item.now) }
 {
     match item {

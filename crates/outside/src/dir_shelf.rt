@@ -73,7 +73,8 @@ impl<R: Files> Shelf for DirShelf<'_, R> {
 
         // The count of faults goes up exactly where the call fails.
         ensures later { self.old.faults ≤ self.new.faults }
-        ensures rises { IsErrOf result ShelfFault.Failed → self.new.faults ≡ next_fault self.old.faults }
+        ensures rises { IsErrOf result ShelfFault.Failed →
+            self.new.faults ≡ next_fault self.old.faults }
         ensures stays { IsErrOf result ShelfFault.Failed ⊎ (self.new.faults ≡ self.old.faults) }
     {
         self.taken = 0;

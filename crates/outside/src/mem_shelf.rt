@@ -78,7 +78,8 @@ impl MemShelf {
 
     /// Plans the read call of that number to fail. Calls are counted from 1. After `Memory` nothing changed.
     pub fn fail_read(&mut self, call: u32) -> Result<(), Memory>
-        ensures ok { OnOk result (self.new ≡ record self.old { failing = self.old.failing ++ call ∷ [] }) }
+        ensures ok { OnOk result
+            (self.new ≡ record self.old { failing = self.old.failing ++ call ∷ [] }) }
         ensures err { OnErr result (self.new ≡ self.old) }
     {
         self.failing.push(call)?;
@@ -88,7 +89,8 @@ impl MemShelf {
 
 // The bytes of the first file of that name.
 fn find_file<'a>(files: &'a [StoredFile], name: &str) -> Option<&'a Vec<u8>>
-    ensures { option_map (λ bytes. bytes.now.items) result ≡ file_named name.now (named_files files.now) }
+    ensures { option_map (λ bytes. bytes.now.items) result ≡
+        file_named name.now (named_files files.now) }
 {
     let mut rest = files;
     'looking: while let Some((file, others)) = rest.split_first() {
@@ -131,7 +133,8 @@ impl Shelf for MemShelf {
 
         // The count of faults goes up exactly where the call fails.
         ensures later { self.old.faults ≤ self.new.faults }
-        ensures rises { IsErrOf result ShelfFault.Failed → self.new.faults ≡ next_fault self.old.faults }
+        ensures rises { IsErrOf result ShelfFault.Failed →
+            self.new.faults ≡ next_fault self.old.faults }
         ensures stays { IsErrOf result ShelfFault.Failed ⊎ (self.new.faults ≡ self.old.faults) }
     {
         self.calls = self.calls.saturating_add(1);

@@ -68,7 +68,8 @@ impl MemSink {
 
     /// Plans the write call of that number to fail. Calls are counted from 1. After `Memory` nothing changed.
     pub fn fail_write(&mut self, call: u32) -> Result<(), Memory>
-        ensures ok { OnOk result (self.new ≡ record self.old { failing = self.old.failing ++ call ∷ [] }) }
+        ensures ok { OnOk result
+            (self.new ≡ record self.old { failing = self.old.failing ++ call ∷ [] }) }
         ensures err { OnErr result (self.new ≡ self.old) }
     {
         self.failing.push(call)?;

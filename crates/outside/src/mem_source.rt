@@ -64,7 +64,8 @@ impl MemSource {
 
     /// Plans the most bytes for one more call, of which it gives at least one. After `Memory` nothing changed.
     pub fn plan_size(&mut self, size: usize) -> Result<(), Memory>
-        ensures ok { OnOk result (self.new ≡ record self.old { sizes = self.old.sizes ++ size ∷ [] }) }
+        ensures ok { OnOk result
+            (self.new ≡ record self.old { sizes = self.old.sizes ++ size ∷ [] }) }
         ensures err { OnErr result (self.new ≡ self.old) }
     {
         self.sizes.push(size)?;
@@ -73,7 +74,8 @@ impl MemSource {
 
     /// Plans the read call of that number to fail. Calls are counted from 1. After `Memory` nothing changed.
     pub fn fail_read(&mut self, call: u32) -> Result<(), Memory>
-        ensures ok { OnOk result (self.new ≡ record self.old { failing = self.old.failing ++ call ∷ [] }) }
+        ensures ok { OnOk result
+            (self.new ≡ record self.old { failing = self.old.failing ++ call ∷ [] }) }
         ensures err { OnErr result (self.new ≡ self.old) }
     {
         self.failing.push(call)?;

@@ -45,7 +45,8 @@ impl<P: Print> Sink for OutSink<'_, P> {
     fn write(&mut self, bytes: &[u8]) -> Result<usize, SinkFailed>
         ensures within { IfOk result (λ count. count ≤ length bytes.now) }
         ensures later { self.old ≤ self.new }
-        ensures ok { IfOk result (λ count. self.new ≡ faults_after self.old count (length bytes.now)) }
+        ensures ok { IfOk result
+            (λ count. self.new ≡ faults_after self.old count (length bytes.now)) }
         ensures err { OnErr result (self.new ≡ next_fault self.old) }
     {
         let mut out = io::writer(self.runtime);

@@ -68,9 +68,11 @@ pub trait Shelf {
 
         ensures within { IfOk result (λ bytes. length bytes.items ≤ limit) }
         ensures taken { IfOk result (λ bytes. length bytes.items ≡ taken self.new) }
-        ensures told { IfOk result (λ bytes. TellsFile (files self.old) name.now (Some bytes.items)) }
+        ensures told { IfOk result
+            (λ bytes. TellsFile (files self.old) name.now (Some bytes.items)) }
 
-        ensures failed { IsErrOf result ShelfFault.Failed → Rose (faults self.old) (faults self.new) }
+        ensures failed { IsErrOf result ShelfFault.Failed →
+            Rose (faults self.old) (faults self.new) }
         ensures missing { IsErrOf result ShelfFault.Failed → IsTrue (steady self.old) →
             TellsFile (files self.old) name.now None }
         ensures too_long { IsErrOf result ShelfFault.TooLong →

@@ -38,7 +38,8 @@ pub trait Source {
         ensures within { IfOk result (λ count. count ≤ length piece.old) }
         ensures taken { IfOk result (λ count.
             left self.old ≡ prepended (take count piece.new) (left self.new)) }
-        ensures end { IfOk result (λ count. count ≡ 0 → 0 < length piece.old → IsEnd (left self.new)) }
+        ensures end { IfOk result
+            (λ count. count ≡ 0 → 0 < length piece.old → IsEnd (left self.new)) }
         ensures untaken { OnErr result (left self.new ≡ left self.old) }
 
         ensures later { faults self.old ≤ faults self.new }

@@ -23,7 +23,8 @@ fn perfect_among(
     sets: &[VSet],
 ) -> Result<SetList, Memory>
     requires { IsSmall graph.now }
-    ensures { IfOk result (λ found. found ≡ filter (λ m. is_perfect graph.now (mem removed) (mem m)) sets.now) }
+    ensures { IfOk result
+        (λ found. found ≡ filter (λ m. is_perfect graph.now (mem removed) (mem m)) sets.now) }
 {
     let mut found = SetList::new(alloc);
     for edges in sets {
@@ -42,7 +43,8 @@ pub fn perfect_matchings(
 ) -> Result<SetList, Memory>
     requires { IsSmall graph.now }
     ensures list { IfOk result (λ found. found ≡ perfect_matchings_of graph.now (mem removed)) }
-    ensures perfect { IfOk result (All (λ m. IsRisingIn (size graph.now) m × IsPerfect graph.now (mem removed) (mem m))) }
+    ensures perfect { IfOk result
+        (All (λ m. IsRisingIn (size graph.now) m × IsPerfect graph.now (mem removed) (mem m))) }
     ensures all { IfOk result (λ found. (m : Set) → IsPerfect graph.now (mem removed) m →
         Contains found (rising_list (size graph.now) m)) }
 {
@@ -83,7 +85,8 @@ fn greatest_among(graph: &MultiGraph, removed: VSet, sets: &[VSet]) -> u32
     requires small { IsSmall graph.now }
     requires edges { All (IsRisingIn (size graph.now)) sets.now }
     ensures reached { has_matching_of graph.now (mem removed) result ≡ true }
-    ensures greatest { All (λ m. is_matching graph.now (mem removed) (mem m) ≡ true → length m ≤ result) sets.now }
+    ensures greatest { All (λ m. is_matching graph.now (mem removed) (mem m) ≡ true →
+        length m ≤ result) sets.now }
 {
     let mut most: u32 = 0;
     for edges in sets {

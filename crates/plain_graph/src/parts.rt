@@ -23,7 +23,8 @@ fn is_step(graph: &MultiGraph, removed: VSet, u: u32, v: u32) -> bool
 /// Whether a step leads to `v` from one of the vertices that were reached.
 fn is_next(graph: &MultiGraph, removed: VSet, reached: VSet, v: u32) -> bool
     requires { Within graph.now.order v }
-    ensures { result ≡ some graph.now.order (λ u. mem reached u && adjacent graph.now (mem removed) u v) }
+    ensures { result ≡ some graph.now.order
+        (λ u. mem reached u && adjacent graph.now (mem removed) u v) }
 {
     for i in 0..graph.order() {
         if reached.contains(i + 1) && is_step(graph, removed, i + 1, v) {
@@ -52,7 +53,8 @@ fn one_step_more(graph: &MultiGraph, removed: VSet, reached: VSet) -> VSet
 /// The vertices that walks of the graph without `removed` lead to from `u`.
 fn joined_to(graph: &MultiGraph, removed: VSet, u: u32) -> VSet
     requires { Within graph.now.order u }
-    ensures joined { (v : ℕ) → Within graph.now.order v → mem result v ≡ joined graph.now (mem removed) u v }
+    ensures joined { (v : ℕ) → Within graph.now.order v →
+        mem result v ≡ joined graph.now (mem removed) u v }
     ensures vertices { (v : ℕ) → mem result v ≡ true → Within graph.now.order v }
 {
     graph.keeps_limits();

@@ -20,9 +20,11 @@ use vset_core::VSet;
 pub fn quick_brick(alloc: Global, g: &MultiGraph) -> Result<Option<VSet>, Memory>
     requires covered { IsCovered g.now }
     requires odd { ¬ (IsBipartite g.now) }
-    ensures none { IfOk result (λ found. (found ≡ None) ↔ (IsBicritical g.now × ((u v : ℕ) → ¬ (IsCutPair g.now u v)))) }
+    ensures none { IfOk result
+        (λ found. (found ≡ None) ↔ (IsBicritical g.now × ((u v : ℕ) → ¬ (IsCutPair g.now u v)))) }
     ensures brick { IfOk result (λ found. (found ≡ None) ↔ HasNoTightCut g.now) }
-    ensures first { IfOk result (λ found. found ≡ slice_get (barrier_cuts g.now ++ separation_cuts g.now) 0) }
+    ensures first { IfOk result
+        (λ found. found ≡ slice_get (barrier_cuts g.now ++ separation_cuts g.now) 0) }
     ensures cut { IfOk result (λ found. IfSome found (IsCanonicalCut g.now)) }
 {
     g.keeps_limits();

@@ -66,13 +66,15 @@ fn push_bipartite(text: &mut String, holds: bool) -> Result<(), Memory>
 }
 
 fn push_matching(text: &mut String, matching: u32) -> Result<(), Memory>
-    ensures { OnOk result (string_bytes text.new ≡ string_bytes text.old ++ matching_line matching) }
+    ensures { OnOk result
+        (string_bytes text.new ≡ string_bytes text.old ++ matching_line matching) }
 {
     write!(text, "matching {matching}\n")
 }
 
 fn push_deficiency(text: &mut String, deficiency: u32) -> Result<(), Memory>
-    ensures { OnOk result (string_bytes text.new ≡ string_bytes text.old ++ deficiency_line deficiency) }
+    ensures { OnOk result
+        (string_bytes text.new ≡ string_bytes text.old ++ deficiency_line deficiency) }
 {
     write!(text, "deficiency {deficiency}\n")
 }
@@ -98,7 +100,8 @@ fn text_to_verdict(alloc: Global, lines: &AnalysisLines) -> Result<String, Memor
 
 // The text, and then the lines on the structure where there is one.
 fn with_structure(text: String, structure: &Option<Structure>) -> Result<String, Memory>
-    ensures { IfOk result (λ all. string_bytes all ≡ with_structure (string_bytes text) structure.now) }
+    ensures { IfOk result
+        (λ all. string_bytes all ≡ with_structure (string_bytes text) structure.now) }
 {
     match structure {
         Some(structure) => {

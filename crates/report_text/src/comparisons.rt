@@ -101,20 +101,23 @@ pub fn block_names(alloc: Global, p: &Partition) -> Result<Numbers, Memory>
 }
 
 fn push_same(text: &mut String, leaves: usize, moves: usize) -> Result<(), Memory>
-    ensures { OnOk result (string_bytes text.new ≡ string_bytes text.old ++ same_line leaves moves) }
+    ensures { OnOk result
+        (string_bytes text.new ≡ string_bytes text.old ++ same_line leaves moves) }
 {
     write!(text, "same leaves {leaves} moves {moves}\n")
 }
 
 fn push_move_line(text: &mut String, item: &Move) -> Result<(), Memory>
-    ensures { OnOk result (string_bytes text.new ≡ string_bytes text.old ++ move_line (move_of item.now)) }
+    ensures { OnOk result
+        (string_bytes text.new ≡ string_bytes text.old ++ move_line (move_of item.now)) }
 {
     write!(text, "move ")?;
     push_move(text, item)
 }
 
 fn push_moves(text: &mut String, moves: &[Move]) -> Result<(), Memory>
-    ensures { OnOk result (string_bytes text.new ≡ string_bytes text.old ++ move_lines (moves_of moves.now)) }
+    ensures { OnOk result
+        (string_bytes text.new ≡ string_bytes text.old ++ move_lines (moves_of moves.now)) }
 {
     let mut rest = moves;
     'writing: while let Some((item, others)) = rest.split_first() {
@@ -125,7 +128,8 @@ fn push_moves(text: &mut String, moves: &[Move]) -> Result<(), Memory>
 }
 
 fn push_partner(text: &mut String, leaf: u32, partner: u32) -> Result<(), Memory>
-    ensures { OnOk result (string_bytes text.new ≡ string_bytes text.old ++ partner_line leaf partner) }
+    ensures { OnOk result
+        (string_bytes text.new ≡ string_bytes text.old ++ partner_line leaf partner) }
 {
     write!(text, "leaf {leaf} with {partner}\n")
 }
@@ -137,7 +141,8 @@ fn push_image(text: &mut String, name: u32, image: u32) -> Result<(), Memory>
 }
 
 fn push_images(text: &mut String, names: &[u32], images: &[u32]) -> Result<(), Memory>
-    ensures { OnOk result (string_bytes text.new ≡ string_bytes text.old ++ image_lines names.now images.now) }
+    ensures { OnOk result
+        (string_bytes text.new ≡ string_bytes text.old ++ image_lines names.now images.now) }
 {
     let mut blocks = names;
     let mut targets = images;

@@ -34,7 +34,9 @@ fn push_leaf_line(text: &mut String, number: usize, kind: LeafKind) -> Result<()
 }
 
 fn push_blocks(text: &mut String, p: &Partition) -> Result<(), Memory>
-    ensures { OnOk result (string_bytes text.new ≡ string_bytes text.old ++ block_lines p.now.blocks (length p.now.blocks)) }
+    ensures { OnOk result
+        (string_bytes text.new ≡ string_bytes text.old ++
+        block_lines p.now.blocks (length p.now.blocks)) }
 {
     for i in 0..p.len() {
         push_set_line(text, "c block", p.block(i))?;
@@ -59,7 +61,8 @@ fn name_at(p: &Partition, place: u32) -> u32
 }
 
 fn push_adjacent(text: &mut String, a: u32, b: u32, edges: &[u32]) -> Result<(), Memory>
-    ensures { OnOk result (string_bytes text.new ≡ string_bytes text.old ++ adjacent_line a b edges.now) }
+    ensures { OnOk result
+        (string_bytes text.new ≡ string_bytes text.old ++ adjacent_line a b edges.now) }
 {
     write!(text, "c edge {a} {b} by")?;
     push_numbers(text, edges)?;
@@ -74,7 +77,9 @@ fn push_all_adjacent(
     p: &Partition,
 ) -> Result<(), Memory>
     requires { p.now.order ≡ g.now.order }
-    ensures { OnOk result (string_bytes text.new ≡ string_bytes text.old ++ adjacent_lines g.now p.now.blocks (size (quotient g.now p.now.blocks))) }
+    ensures { OnOk result
+        (string_bytes text.new ≡ string_bytes text.old ++
+        adjacent_lines g.now p.now.blocks (size (quotient g.now p.now.blocks))) }
 {
     let q = quotient(alloc, g, p)?;
     let graph = q.graph();
@@ -102,7 +107,9 @@ fn push_leaf(
     kind: LeafKind,
 ) -> Result<(), Memory>
     requires { p.now.order ≡ g.now.order }
-    ensures { OnOk result (string_bytes text.new ≡ string_bytes text.old ++ leaf_text g.now number p.now.blocks kind) }
+    ensures { OnOk result
+        (string_bytes text.new ≡ string_bytes text.old ++
+        leaf_text g.now number p.now.blocks kind) }
 {
     push_leaf_line(text, number, kind)?;
     push_blocks(text, p)?;
@@ -119,7 +126,9 @@ fn push_leaves(
 ) -> Result<(), Memory>
     requires order { All (λ p. p.order ≡ g.now.order) leaves.now }
     requires kinds { length kinds.now ≡ length leaves.now }
-    ensures { OnOk result (string_bytes text.new ≡ string_bytes text.old ++ leaf_lines g.now (map (λ p. p.blocks) leaves.now) kinds.now (length leaves.now)) }
+    ensures { OnOk result
+        (string_bytes text.new ≡ string_bytes text.old ++
+        leaf_lines g.now (map (λ p. p.blocks) leaves.now) kinds.now (length leaves.now)) }
 {
     for i in 0..leaves.len() {
         push_leaf(alloc, text, g, i + 1, leaves.get(i), kinds[i])?;
@@ -148,7 +157,10 @@ fn leaf_comments(
     requires order { All (λ p. p.order ≡ g.now.order) leaves.now }
     requires kinds { length kinds.now ≡ length leaves.now }
     requires few { length leaves.now < 2 ^ 32 }
-    ensures { IfOk result (λ comments. string_bytes comments ≡ leaf_lines g.now (map (λ p. p.blocks) leaves.now) kinds.now (length leaves.now) ++ tally_line (tally_of kinds.now)) }
+    ensures { IfOk result
+        (λ comments. string_bytes comments ≡
+        leaf_lines g.now (map (λ p. p.blocks) leaves.now) kinds.now (length leaves.now) ++
+        tally_line (tally_of kinds.now)) }
 {
     let mut comments = String::new(alloc);
     push_leaves(alloc, &mut comments, g, leaves, kinds)?;
@@ -168,7 +180,11 @@ pub fn derivation(
 ) -> Result<Vec<u8>, Memory>
     requires order { All (λ p. p.order ≡ g.now.order) leaves.now }
     requires few { length leaves.now < 2 ^ 32 }
-    ensures { IfOk result (λ report. (kinds : List LeafKind) × AreLeafKinds g.now (map (λ p. p.blocks) leaves.now) kinds × (report.items ≡ derivation_text text.now g.now (map (λ p. p.blocks) leaves.now) kinds)) }
+    ensures { IfOk result
+        (λ report. (kinds : List LeafKind) ×
+        AreLeafKinds g.now (map (λ p. p.blocks) leaves.now) kinds ×
+        (report.items ≡ derivation_text text.now g.now (map (λ p. p.blocks) leaves.now)
+        kinds)) }
 {
     let kinds = leaf_kinds(alloc, g, leaves)?;
     let comments = leaf_comments(alloc, g, leaves, &kinds)?;

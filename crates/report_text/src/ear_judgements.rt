@@ -32,13 +32,15 @@ fn push_edge(text: &mut String, edge: Option<u32>) -> Result<(), Memory>
 
 #[tactic(auto, unfolding(crate::specs::Judgements::step_refusal_text))]
 fn push_refusal(text: &mut String, step: u32, why: u32) -> Result<(), Memory>
-    ensures { OnOk result (string_bytes text.new ≡ string_bytes text.old ++ step_refusal_text step why) }
+    ensures { OnOk result
+        (string_bytes text.new ≡ string_bytes text.old ++ step_refusal_text step why) }
 {
     write!(text, "refused step {step} why {why}")
 }
 
 fn push_refused(text: &mut String, step: u32, why: u32, edge: Option<u32>) -> Result<(), Memory>
-    ensures { OnOk result (string_bytes text.new ≡ string_bytes text.old ++ refused_step_line step why edge) }
+    ensures { OnOk result
+        (string_bytes text.new ≡ string_bytes text.old ++ refused_step_line step why edge) }
 {
     push_refusal(text, step, why)?;
     push_edge(text, edge)?;
@@ -47,7 +49,8 @@ fn push_refused(text: &mut String, step: u32, why: u32, edge: Option<u32>) -> Re
 
 #[tactic(auto, unfolding(crate::specs::Judgements::ear_judgement_text))]
 fn push_ear_judgement(text: &mut String, line: EarLine) -> Result<(), Memory>
-    ensures { OnOk result (string_bytes text.new ≡ string_bytes text.old ++ ear_judgement_text line) }
+    ensures { OnOk result
+        (string_bytes text.new ≡ string_bytes text.old ++ ear_judgement_text line) }
 {
     match line {
         EarLine::Accepted {

@@ -5,7 +5,8 @@ ghost use Rattle.report_text.specs.EarReports.{ears_report_text, steps_line};
 use std::alloc::{AllocError as Memory, Global};
 
 fn push_steps(text: &mut String, steps: u32, single: u32, double: u32) -> Result<(), Memory>
-    ensures { OnOk result (string_bytes text.new ≡ string_bytes text.old ++ steps_line steps single double) }
+    ensures { OnOk result
+        (string_bytes text.new ≡ string_bytes text.old ++ steps_line steps single double) }
 {
     write!(text, "c steps {steps} single {single} double {double}\n")
 }

@@ -6,7 +6,8 @@ use crate::tallies::Tally;
 use std::alloc::{AllocError as Memory, Global};
 
 fn push_order(text: &mut String, order: &str, tally: Tally) -> Result<(), Memory>
-    ensures { OnOk result (string_bytes text.new ≡ string_bytes text.old ++ order_line order.now tally) }
+    ensures { OnOk result
+        (string_bytes text.new ≡ string_bytes text.old ++ order_line order.now tally) }
 {
     let Tally {
         leaves,

@@ -52,7 +52,8 @@ fn push_shown(text: &mut String, shown: &Shown) -> Result<(), Memory>
 
 #[tactic(auto, unfolding(crate::specs::Judgements::numbered))]
 fn push_numbered(text: &mut String, words: &str, number: u32) -> Result<(), Memory>
-    ensures { OnOk result (string_bytes text.new ≡ string_bytes text.old ++ numbered words.now number) }
+    ensures { OnOk result
+        (string_bytes text.new ≡ string_bytes text.old ++ numbered words.now number) }
 {
     write!(text, "{words}{number}")
 }
@@ -66,7 +67,9 @@ pub fn push_refused(
     why: u32,
     shown: &Shown,
 ) -> Result<(), Memory>
-    ensures { OnOk result (string_bytes text.new ≡ string_bytes text.old ++ refused_line words.now number node why shown.now) }
+    ensures { OnOk result
+        (string_bytes text.new ≡ string_bytes text.old ++
+        refused_line words.now number node why shown.now) }
 {
     push_numbered(text, words, number)?;
     push_numbered(text, " refused node ", node)?;
@@ -78,7 +81,8 @@ pub fn push_refused(
 
 #[tactic(auto, unfolding(crate::specs::Judgements::judgement_text))]
 fn push_judgement(text: &mut String, line: &TreeLine) -> Result<(), Memory>
-    ensures { OnOk result (string_bytes text.new ≡ string_bytes text.old ++ judgement_text line.now) }
+    ensures { OnOk result
+        (string_bytes text.new ≡ string_bytes text.old ++ judgement_text line.now) }
 {
     match line {
         TreeLine::Accepted { tally } => {

@@ -31,7 +31,8 @@ pub fn with_names(
     names: &Names,
     comments: bool,
 ) -> Result<Vec<u8>, Memory>
-    ensures text { IfOk result (λ text. text.items ≡ with_names_text report.now names.now comments) }
+    ensures text { IfOk result
+        (λ text. text.items ≡ with_names_text report.now names.now comments) }
     ensures comments { comments ≡ true → IfOk result (λ text. IsCommented report.now text.items) }
 {
     names.are_names();

@@ -8,7 +8,8 @@ use vset_core::VSet;
 
 /// Appends each number with one space before it.
 pub fn push_numbers(text: &mut String, numbers: &[u32]) -> Result<(), Memory>
-    ensures { OnOk result (string_bytes text.new ≡ string_bytes text.old ++ numbers_text numbers.now) }
+    ensures { OnOk result
+        (string_bytes text.new ≡ string_bytes text.old ++ numbers_text numbers.now) }
 {
     let mut rest = numbers;
     'writing: while let Some((number, others)) = rest.split_first() {
@@ -32,7 +33,8 @@ pub fn push_set(text: &mut String, set: VSet) -> Result<(), Memory>
 
 /// Appends a line of the word and the set.
 pub fn push_set_line(text: &mut String, word: &str, set: VSet) -> Result<(), Memory>
-    ensures { OnOk result (string_bytes text.new ≡ string_bytes text.old ++ list_line word.now set) }
+    ensures { OnOk result
+        (string_bytes text.new ≡ string_bytes text.old ++ list_line word.now set) }
 {
     write!(text, "{word}")?;
     push_set(text, set)?;
@@ -41,7 +43,8 @@ pub fn push_set_line(text: &mut String, word: &str, set: VSet) -> Result<(), Mem
 
 /// Appends a line of the word and the numbers.
 pub fn push_numbers_line(text: &mut String, word: &str, numbers: &Numbers) -> Result<(), Memory>
-    ensures { OnOk result (string_bytes text.new ≡ string_bytes text.old ++ list_line word.now numbers.now) }
+    ensures { OnOk result
+        (string_bytes text.new ≡ string_bytes text.old ++ list_line word.now numbers.now) }
 {
     write!(text, "{word}")?;
     push_numbers(text, numbers.as_slice())?;

@@ -6,7 +6,8 @@ use crate::judgements::{Shown, push_refused};
 use std::alloc::{AllocError as Memory, Global};
 
 fn push_script(text: &mut String, leaves: u32, moves: u32) -> Result<(), Memory>
-    ensures { OnOk result (string_bytes text.new ≡ string_bytes text.old ++ script_line leaves moves) }
+    ensures { OnOk result
+        (string_bytes text.new ≡ string_bytes text.old ++ script_line leaves moves) }
 {
     write!(text, "c leaves {leaves} moves {moves}\n")
 }

@@ -22,7 +22,8 @@ pub struct Structure {
 }
 
 fn push_class_lines(text: &mut String, classes: &[VSet]) -> Result<(), Memory>
-    ensures { OnOk result (string_bytes text.new ≡ string_bytes text.old ++ class_lines classes.now) }
+    ensures { OnOk result
+        (string_bytes text.new ≡ string_bytes text.old ++ class_lines classes.now) }
 {
     let mut rest = classes;
     'writing: while let Some((class, others)) = rest.split_first() {
@@ -33,7 +34,8 @@ fn push_class_lines(text: &mut String, classes: &[VSet]) -> Result<(), Memory>
 }
 
 fn push_classes(text: &mut String, classes: &SetList) -> Result<(), Memory>
-    ensures { OnOk result (string_bytes text.new ≡ string_bytes text.old ++ classes_lines classes.now) }
+    ensures { OnOk result
+        (string_bytes text.new ≡ string_bytes text.old ++ classes_lines classes.now) }
 {
     let count = classes.len();
     write!(text, "classes {count}\n")?;
@@ -41,14 +43,16 @@ fn push_classes(text: &mut String, classes: &SetList) -> Result<(), Memory>
 }
 
 fn push_pair_line(text: &mut String, words: &str, pair: Ends) -> Result<(), Memory>
-    ensures { OnOk result (string_bytes text.new ≡ string_bytes text.old ++ pair_line words.now pair) }
+    ensures { OnOk result
+        (string_bytes text.new ≡ string_bytes text.old ++ pair_line words.now pair) }
 {
     let Ends { a, b } = pair;
     write!(text, "{words} {a} {b}\n")
 }
 
 fn push_bicritical(text: &mut String, unlike: Option<Ends>) -> Result<(), Memory>
-    ensures { OnOk result (string_bytes text.new ≡ string_bytes text.old ++ bicritical_line unlike) }
+    ensures { OnOk result
+        (string_bytes text.new ≡ string_bytes text.old ++ bicritical_line unlike) }
 {
     match unlike {
         None => write!(text, "bicritical yes\n"),
@@ -78,7 +82,8 @@ fn push_kind(text: &mut String, kind: Kind) -> Result<(), Memory>
 /// Appends the lines on the structure.
 #[tactic(auto, unfolding(crate::specs::Structures::structure_text))]
 pub fn push_structure(text: &mut String, structure: &Structure) -> Result<(), Memory>
-    ensures { OnOk result (string_bytes text.new ≡ string_bytes text.old ++ structure_text structure.now) }
+    ensures { OnOk result
+        (string_bytes text.new ≡ string_bytes text.old ++ structure_text structure.now) }
 {
     push_classes(text, &structure.classes)?;
     push_bicritical(text, structure.unlike)?;

@@ -46,7 +46,8 @@ pub fn leaf_kinds(
     leaves: &Partitions,
 ) -> Result<Vec<LeafKind>, Memory>
     requires { All (λ p. p.order ≡ g.now.order) leaves.now }
-    ensures { IfOk result (λ kinds. AreLeafKinds g.now (map (λ p. p.blocks) leaves.now) kinds.items) }
+    ensures { IfOk result
+        (λ kinds. AreLeafKinds g.now (map (λ p. p.blocks) leaves.now) kinds.items) }
 {
     let mut kinds = Vec::new(alloc);
     for i in 0..leaves.len() {

@@ -7,7 +7,8 @@ use graph_core::{Reason, Verdict};
 use std::alloc::{AllocError as Memory, Global};
 
 fn push_reason(text: &mut String, reason: &Reason) -> Result<(), Memory>
-    ensures { OnOk result (string_bytes text.new ≡ string_bytes text.old ++ reason_text reason.now) }
+    ensures { OnOk result
+        (string_bytes text.new ≡ string_bytes text.old ++ reason_text reason.now) }
 {
     match reason {
         Reason::Small => write!(text, " order"),
@@ -23,7 +24,8 @@ fn push_reason(text: &mut String, reason: &Reason) -> Result<(), Memory>
 /// Appends the line of the verdict.
 #[tactic(auto, unfolding(crate::specs::Reports::verdict_text))]
 pub fn push_verdict(text: &mut String, verdict: &Verdict) -> Result<(), Memory>
-    ensures { OnOk result (string_bytes text.new ≡ string_bytes text.old ++ verdict_text verdict.now) }
+    ensures { OnOk result
+        (string_bytes text.new ≡ string_bytes text.old ++ verdict_text verdict.now) }
 {
     match verdict {
         Verdict::Covered => write!(text, "covered yes\n"),

@@ -22,9 +22,15 @@ pub fn first_pairs_law()
 /// Two vertices u and v without which a graph has a perfect matching: each component without them is even and has, with u, a
 /// tight cut, which is nontrivial where there are two components or more (Edmonds, Lovász and Pulleyblank 1982).
 pub fn separation_law()
-    ensures even { (g : Graph) (u v a : ℕ) → IsGraph g → Within g.order u → Within g.order v → u ≢ v → HasPerfect g (pair_set u v) → Within g.order a → pair_set u v a ≡ false → is_odd (count g.order (joined g (pair_set u v) a)) ≡ false }
-    ensures tight { (g : Graph) (u v a : ℕ) → IsGraph g → Within g.order u → Within g.order v → u ≢ v → HasPerfect g (pair_set u v) → Within g.order a → pair_set u v a ≡ false → IsTight g (union (joined g (pair_set u v) a) (singleton u)) }
-    ensures nontrivial { (g : Graph) (u v a : ℕ) → IsGraph g → IsCutPair g u v → HasPerfect g (pair_set u v) → Within g.order a → pair_set u v a ≡ false → IsNontrivial g.order (union (joined g (pair_set u v) a) (singleton u)) }
+    ensures even { (g : Graph) (u v a : ℕ) → IsGraph g → Within g.order u → Within g.order v →
+        u ≢ v → HasPerfect g (pair_set u v) → Within g.order a → pair_set u v a ≡ false →
+        is_odd (count g.order (joined g (pair_set u v) a)) ≡ false }
+    ensures tight { (g : Graph) (u v a : ℕ) → IsGraph g → Within g.order u → Within g.order v →
+        u ≢ v → HasPerfect g (pair_set u v) → Within g.order a → pair_set u v a ≡ false →
+        IsTight g (union (joined g (pair_set u v) a) (singleton u)) }
+    ensures nontrivial { (g : Graph) (u v a : ℕ) → IsGraph g → IsCutPair g u v →
+        HasPerfect g (pair_set u v) → Within g.order a → pair_set u v a ≡ false →
+        IsNontrivial g.order (union (joined g (pair_set u v) a) (singleton u)) }
 {}
 
 /// The cuts that `separation_cuts` lists are canonical shores of nontrivial tight cuts. In a bicritical graph with at least
@@ -32,9 +38,13 @@ pub fn separation_law()
 /// there is none.
 pub fn separation_cuts_law()
     ensures tight { (g : Graph) → IsGraph g → All (λ s. IsTight g (mem s)) (separation_shores g) }
-    ensures canonical { (g : Graph) → IsGraph g → IsCovered g → All (IsCanonicalCut g) (separation_cuts g) }
-    ensures even { (g : Graph) (u v a : ℕ) → IsGraph g → IsBicritical g → IsCutPair g u v → Within g.order a → pair_set u v a ≡ false → is_odd (count g.order (joined g (pair_set u v) a)) ≡ false }
-    ensures some { (g : Graph) (u v : ℕ) → IsGraph g → IsBicritical g → 4 ≤ g.order → IsCutPair g u v → separation_cuts g ≢ [] }
+    ensures canonical { (g : Graph) → IsGraph g → IsCovered g →
+        All (IsCanonicalCut g) (separation_cuts g) }
+    ensures even { (g : Graph) (u v a : ℕ) → IsGraph g → IsBicritical g → IsCutPair g u v →
+        Within g.order a → pair_set u v a ≡ false →
+        is_odd (count g.order (joined g (pair_set u v) a)) ≡ false }
+    ensures some { (g : Graph) (u v : ℕ) → IsGraph g → IsBicritical g → 4 ≤ g.order →
+        IsCutPair g u v → separation_cuts g ≢ [] }
     ensures none { (g : Graph) → IsGraph g → cut_pair g ≡ None → separation_cuts g ≡ [] }
 {}
 
@@ -42,6 +52,8 @@ pub fn separation_cuts_law()
 /// bicritical and has no cut pair (Lovász 1987).
 pub fn brick_law()
     ensures four { (g : Graph) → IsMultigraph g → IsCovered g → ¬ (IsBipartite g) → 4 ≤ g.order }
-    ensures bicritical { (g : Graph) → IsMultigraph g → IsCovered g → ¬ (IsBipartite g) → HasNoTightCut g → IsBicritical g }
-    ensures connected { (g : Graph) → IsMultigraph g → IsCovered g → ¬ (IsBipartite g) → HasNoTightCut g → (u v : ℕ) → ¬ (IsCutPair g u v) }
+    ensures bicritical { (g : Graph) → IsMultigraph g → IsCovered g → ¬ (IsBipartite g) →
+        HasNoTightCut g → IsBicritical g }
+    ensures connected { (g : Graph) → IsMultigraph g → IsCovered g → ¬ (IsBipartite g) →
+        HasNoTightCut g → (u v : ℕ) → ¬ (IsCutPair g u v) }
 {}

@@ -18,7 +18,9 @@ pub struct Pair {
 fn push_pairs(pairs: &mut Vec<Pair>, n: u32, a: u32) -> Result<(), Memory>
     requires few { n ≤ MOST_VERTICES }
     requires first { Within n a }
-    ensures { OnOk result (map pair_of pairs.new.items ≡ map pair_of pairs.old.items ++ map (pair_with a) (rising_list n (nat_lt a))) }
+    ensures { OnOk result
+        (map pair_of pairs.new.items ≡ map pair_of pairs.old.items ++
+        map (pair_with a) (rising_list n (nat_lt a))) }
 {
     for k in a..n {
         pairs.push(Pair { a, b: k + 1 })?;

@@ -35,7 +35,9 @@ fn add_with_vertex(cuts: &mut SetList, n: u32, parts: &SetList, a: u32) -> Resul
     requires few { n ≤ MOST_VERTICES }
     requires vertex { Within n a }
     requires parts { All (IsRisingIn n) parts.now }
-    ensures { OnOk result (cuts.new ≡ fold (with_cut n) cuts.old (map (λ s. rising_list n (union (mem s) (singleton a))) parts.now)) }
+    ensures { OnOk result
+        (cuts.new ≡ fold (with_cut n) cuts.old
+        (map (λ s. rising_list n (union (mem s) (singleton a))) parts.now)) }
 {
     for part in parts.as_slice() {
         add_cut(cuts, n, with_vertex(n, *part, a))?;

@@ -18,8 +18,11 @@ pub fn read_text<F: LineFormat<Kind = FaultKind>>(
     requires { length text.now < 2 ^ 32 - 1 }
     ensures value { IfOk result (λ value. Stands (F.rules format.now) text.now (F.meaning value)) }
     ensures fault { IfErr result (IsFirstFault (F.rules format.now) text.now) }
-    ensures stands { (value : F.Meaning) → Stands (F.rules format.now) text.now value → ReadsText F.meaning result (Ok value) }
-    ensures breaks { (line : ℕ) (kind : FaultKind) → FirstFault (F.rules format.now) text.now line kind → ReadsText F.meaning result (Err (line, kind)) }
+    ensures stands { (value : F.Meaning) → Stands (F.rules format.now) text.now value →
+        ReadsText F.meaning result (Ok value) }
+    ensures breaks { (line : ℕ) (kind : FaultKind) →
+        FirstFault (F.rules format.now) text.now line kind →
+        ReadsText F.meaning result (Err (line, kind)) }
 {
     match read(alloc, format, text) {
         Ok(value) => Ok(value),

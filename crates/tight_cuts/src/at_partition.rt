@@ -27,7 +27,9 @@ pub fn candidates_at(alloc: Global, g: &MultiGraph, p: &Partition) -> Result<Can
     requires covered { IsCovered (quotient g.now p.now.blocks) }
     ensures list { IfOk result (λ list. list ≡ candidates_at g.now p.now.blocks) }
     ensures tight { IfOk result (λ list. All (IsCandidateAt g.now p.now.blocks) list) }
-    ensures none { IfOk result (λ list. (list ≡ []) ↔ ((x : Set) → IsTightAt g.now p.now.blocks x → IsNontrivial (length p.now.blocks) (blocks_in p.now.blocks x) → ⊥)) }
+    ensures none { IfOk result
+        (λ list. (list ≡ []) ↔ ((x : Set) → IsTightAt g.now p.now.blocks x →
+        IsNontrivial (length p.now.blocks) (blocks_in p.now.blocks x) → ⊥)) }
 {
     g.keeps_limits();
     p.keeps_partition();
@@ -43,7 +45,8 @@ pub fn candidates_at(alloc: Global, g: &MultiGraph, p: &Partition) -> Result<Can
 fn first_at(alloc: Global, g: &MultiGraph, p: &Partition) -> Result<Option<Candidate>, Memory>
     requires order { p.now.order ≡ g.now.order }
     requires covered { IsCovered (quotient g.now p.now.blocks) }
-    ensures { IfOk result (λ found. option_map candidate_of found ≡ first_of (candidates_at g.now p.now.blocks)) }
+    ensures { IfOk result
+        (λ found. option_map candidate_of found ≡ first_of (candidates_at g.now p.now.blocks)) }
 {
     g.keeps_limits();
     p.keeps_partition();
@@ -66,8 +69,10 @@ pub fn first_candidate_at(
 ) -> Result<Option<Candidate>, Memory>
     requires order { p.now.order ≡ g.now.order }
     requires covered { IsCovered (quotient g.now p.now.blocks) }
-    ensures first { IfOk result (λ found. option_map candidate_of found ≡ first_of (candidates_at g.now p.now.blocks)) }
-    ensures some { IfOk result (λ found. (c : _) → found ≡ Some c → IsCandidateAt g.now p.now.blocks (candidate_of c)) }
+    ensures first { IfOk result
+        (λ found. option_map candidate_of found ≡ first_of (candidates_at g.now p.now.blocks)) }
+    ensures some { IfOk result
+        (λ found. (c : _) → found ≡ Some c → IsCandidateAt g.now p.now.blocks (candidate_of c)) }
     ensures none { IfOk result (λ found. (found ≡ None) ↔
         ((x : Set) → IsTightAt g.now p.now.blocks x → IsNontrivial (length p.now.blocks) (blocks_in p.now.blocks x) → ⊥)) }
 {
@@ -79,7 +84,8 @@ pub fn first_candidate_at(
 
 // The candidates of the quotient, led back to the graph.
 fn lifted(alloc: Global, q: &Contracted, found: &CandidateList) -> Result<CandidateList, Memory>
-    ensures { (g : Graph) (p : List (List ℕ)) → q.now ≡ contraction g p → IfOk result (λ list. list ≡ map (lifted_candidate g p) found.now) }
+    ensures { (g : Graph) (p : List (List ℕ)) → q.now ≡ contraction g p →
+        IfOk result (λ list. list ≡ map (lifted_candidate g p) found.now) }
 {
     let mut list = CandidateList::new(alloc);
     for candidate in found.as_slice() {
@@ -90,7 +96,8 @@ fn lifted(alloc: Global, q: &Contracted, found: &CandidateList) -> Result<Candid
 
 // One candidate of the quotient, led back to the graph.
 fn lifted_one(q: &Contracted, candidate: Candidate) -> Candidate
-    ensures { (g : Graph) (p : List (List ℕ)) → q.now ≡ contraction g p → candidate_of result ≡ lifted_candidate g p (candidate_of candidate) }
+    ensures { (g : Graph) (p : List (List ℕ)) → q.now ≡ contraction g p →
+        candidate_of result ≡ lifted_candidate g p (candidate_of candidate) }
 {
     Candidate {
         shore: q.lift_set(candidate.shore),

@@ -146,7 +146,8 @@ fn add_edge_cut(
     requires covered { IsCovered g.now }
     requires edge { Within (size g.now) e }
     requires size { pairs.now.size ≡ size g.now }
-    requires both { (e f : ℕ) → Within (size g.now) e → Within (size g.now) f → (holds_both (edge_lists pairs.now) e f ≡ true) ↔ Together g.now e f }
+    requires both { (e f : ℕ) → Within (size g.now) e → Within (size g.now) f →
+        (holds_both (edge_lists pairs.now) e f ≡ true) ↔ Together g.now e f }
     requires weights { AreWeights g.now weights.now.row.items weights.now.matchings }
     ensures { OnOk result (list.new ≡ with_edge_cut g.now list.old e) }
 {
@@ -172,7 +173,10 @@ pub fn candidates_by_pairs(alloc: Global, g: &MultiGraph) -> Result<CandidateLis
     ensures list { IfOk result (λ list. list ≡ candidates g.now) }
     ensures tight { IfOk result (λ list. All (IsTightCandidate g.now) list) }
     ensures once { IfOk result (λ list. AllPairs ShoresDiffer list) }
-    ensures cover { IfOk result (λ list. (x : Set) (e : ℕ) → Within (size g.now) e → IsTight g.now x → IsNontrivial g.now.order x → in_cut g.now x e ≡ true → list_any (cuts g.now e) list ≡ true) }
+    ensures cover { IfOk result
+        (λ list. (x : Set) (e : ℕ) → Within (size g.now) e → IsTight g.now x →
+        IsNontrivial g.now.order x → in_cut g.now x e ≡ true →
+        list_any (cuts g.now e) list ≡ true) }
     ensures none { IfOk result (λ list. (list ≡ []) ↔ HasNoTightCut g.now) }
 {
     g.keeps_limits();

@@ -149,7 +149,8 @@ fn has_shore(list: &CandidateList, shore: VSet) -> bool
 
 // Whether one of these has this shore.
 fn holds(items: &[Candidate], shore: VSet) -> bool
-    ensures { result ≡ list_any (λ c. is_subset shore c.shore && is_subset c.shore shore) items.now }
+    ensures { result ≡ list_any (λ c. is_subset shore c.shore && is_subset c.shore shore)
+        items.now }
 {
     items
         .iter()

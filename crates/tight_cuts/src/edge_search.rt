@@ -56,7 +56,9 @@ fn leaders_of(alloc: Global, h: &MultiGraph, a: u32, b: u32) -> Result<Vec<u32>,
     requires first { Within h.now.order a }
     requires second { Within h.now.order b }
     ensures long { IfOk result (λ row. length row.items ≡ h.now.order + 1) }
-    ensures each { IfOk result (λ row. (v : ℕ) → Within h.now.order v → at_place row.items v ≡ leader (components h.now (pair_set a b)) v) }
+    ensures each { IfOk result
+        (λ row. (v : ℕ) → Within h.now.order v →
+        at_place row.items v ≡ leader (components h.now (pair_set a b)) v) }
 {
     h.keeps_limits();
     let pieces = h.components_without(alloc, VSet::empty().with(a).with(b))?;
@@ -77,7 +79,8 @@ pub(crate) fn leaders_at(
 ) -> Result<Vec<u32>, Memory>
     requires edge { Within (size g.now) e }
     requires size { pairs.now.size ≡ size g.now }
-    requires both { (e f : ℕ) → Within (size g.now) e → Within (size g.now) f → (holds_both (edge_lists pairs.now) e f ≡ true) ↔ Together g.now e f }
+    requires both { (e f : ℕ) → Within (size g.now) e → Within (size g.now) f →
+        (holds_both (edge_lists pairs.now) e f ≡ true) ↔ Together g.now e f }
     ensures { IfOk result (λ row. AreLeaders g.now e row.items) }
 {
     g.keeps_limits();
@@ -118,7 +121,8 @@ fn add_arc(net: &mut Net, first: u32, second: u32, capacity: u64) -> Result<(), 
     requires first { Within net.old.nodes first }
     requires second { Within net.old.nodes second }
     requires below { total_capacity net.old + capacity < 2 ^ 63 }
-    ensures { OnOk result (net.new ≡ record net.old { arcs = net.old.arcs ++ arc_between first second capacity }) }
+    ensures { OnOk result
+        (net.new ≡ record net.old { arcs = net.old.arcs ++ arc_between first second capacity }) }
 {
     if first != second {
         net.add(first, second, capacity)?;
@@ -137,8 +141,10 @@ fn network(
     requires weights { length weights.now ≡ size g.now + 1 }
     requires leaders { length leaders.now ≡ g.now.order + 1 }
     requires small { total (size g.now) (at_place weights.now) < 2 ^ 63 }
-    requires within { (v : ℕ) → Within g.now.order v → Within g.now.order (row_group groups.a groups.b groups.x groups.y leaders.now v) }
-    ensures { IfOk result (λ net. net ≡ group_net g.now weights.now leaders.now groups.a groups.b groups.x groups.y) }
+    requires within { (v : ℕ) → Within g.now.order v →
+        Within g.now.order (row_group groups.a groups.b groups.x groups.y leaders.now v) }
+    ensures { IfOk result
+        (λ net. net ≡ group_net g.now weights.now leaders.now groups.a groups.b groups.x groups.y) }
 {
     g.keeps_limits();
     let mut net = Net::new(alloc, g.order())?;
@@ -156,8 +162,10 @@ fn network(
 fn vertices_of(set: VSet, leaders: &[u32], n: u32, groups: Grouping) -> VSet
     requires few { n ≤ MOST_VERTICES }
     requires leaders { length leaders.now ≡ n + 1 }
-    requires within { (v : ℕ) → Within n v → Within n (row_group groups.a groups.b groups.x groups.y leaders.now v) }
-    ensures { (v : ℕ) → Within n v → mem result v ≡ mem set (row_group groups.a groups.b groups.x groups.y leaders.now v) }
+    requires within { (v : ℕ) → Within n v →
+        Within n (row_group groups.a groups.b groups.x groups.y leaders.now v) }
+    ensures { (v : ℕ) → Within n v →
+        mem result v ≡ mem set (row_group groups.a groups.b groups.x groups.y leaders.now v) }
 {
     let mut vertices = VSet::empty();
     for k in 0..n {
@@ -180,11 +188,14 @@ fn cut_of_groups(
     requires weights { length weights.now.row.items ≡ size g.now + 1 }
     requires leaders { length leaders.now ≡ g.now.order + 1 }
     requires small { total (size g.now) (at_place weights.now.row.items) < 2 ^ 63 }
-    requires within { (v : ℕ) → Within g.now.order v → Within g.now.order (row_group groups.a groups.b groups.x groups.y leaders.now v) }
+    requires within { (v : ℕ) → Within g.now.order v →
+        Within g.now.order (row_group groups.a groups.b groups.x groups.y leaders.now v) }
     requires source { Within g.now.order groups.a }
     requires sink { Within g.now.order groups.b }
     requires differ { groups.a ≢ groups.b }
-    ensures { IfOk result (IsCutOfGroups g.now weights.now.row.items leaders.now weights.now.matchings groups.a groups.b groups.x groups.y) }
+    ensures { IfOk result
+        (IsCutOfGroups g.now weights.now.row.items leaders.now weights.now.matchings groups.a
+        groups.b groups.x groups.y) }
 {
     g.keeps_limits();
     let net = network(alloc, g, &weights.row, leaders, groups)?;
@@ -212,7 +223,8 @@ pub(crate) fn common_shore(
     requires second { groups.b ≡ greater_end g.now e }
     requires x { Leads g.now e leaders.now groups.x }
     requires y { IsBeyond g.now e leaders.now groups.x groups.y }
-    ensures { IfOk result (IsCommonShore g.now (lesser_end g.now e) (greater_end g.now e) (groups.x, groups.y)) }
+    ensures { IfOk result
+        (IsCommonShore g.now (lesser_end g.now e) (greater_end g.now e) (groups.x, groups.y)) }
 {
     g.keeps_limits();
     cut_of_groups(alloc, g, weights, leaders, groups)

@@ -45,7 +45,8 @@ fn add_edge_cut(
     requires covered { IsCovered g.now }
     requires edge { Within (size g.now) e }
     requires size { pairs.now.size ≡ size g.now }
-    requires both { (e f : ℕ) → Within (size g.now) e → Within (size g.now) f → (holds_both (edge_lists pairs.now) e f ≡ true) ↔ Together g.now e f }
+    requires both { (e f : ℕ) → Within (size g.now) e → Within (size g.now) f →
+        (holds_both (edge_lists pairs.now) e f ≡ true) ↔ Together g.now e f }
     requires weights { AreWeights g.now weights.now.row.items weights.now.matchings }
     ensures { OnOk result (list.new ≡ with_edge_cut g.now list.old e) }
 {
@@ -211,7 +212,10 @@ pub fn candidates(alloc: Global, g: &MultiGraph) -> Result<CandidateList, Memory
     ensures list { IfOk result (λ list. list ≡ candidates g.now) }
     ensures tight { IfOk result (λ list. All (IsTightCandidate g.now) list) }
     ensures once { IfOk result (λ list. AllPairs ShoresDiffer list) }
-    ensures cover { IfOk result (λ list. (x : Set) (e : ℕ) → Within (size g.now) e → IsTight g.now x → IsNontrivial g.now.order x → in_cut g.now x e ≡ true → list_any (cuts g.now e) list ≡ true) }
+    ensures cover { IfOk result
+        (λ list. (x : Set) (e : ℕ) → Within (size g.now) e → IsTight g.now x →
+        IsNontrivial g.now.order x → in_cut g.now x e ≡ true →
+        list_any (cuts g.now e) list ≡ true) }
     ensures none { IfOk result (λ list. (list ≡ []) ↔ HasNoTightCut g.now) }
 {
     g.keeps_limits();
@@ -223,8 +227,10 @@ pub fn candidates(alloc: Global, g: &MultiGraph) -> Result<CandidateList, Memory
 /// asked only where the graph has no cut of a barrier or a separation.
 pub fn first_candidate(alloc: Global, g: &MultiGraph) -> Result<Option<Candidate>, Memory>
     requires { IsCovered g.now }
-    ensures first { IfOk result (λ found. option_map candidate_of found ≡ first_of (candidates g.now)) }
-    ensures some { IfOk result (λ found. (c : _) → found ≡ Some c → IsTightCandidate g.now (candidate_of c)) }
+    ensures first { IfOk result
+        (λ found. option_map candidate_of found ≡ first_of (candidates g.now)) }
+    ensures some { IfOk result
+        (λ found. (c : _) → found ≡ Some c → IsTightCandidate g.now (candidate_of c)) }
     ensures none { IfOk result (λ found. (found ≡ None) ↔ HasNoTightCut g.now) }
 {
     let table = all_partners(alloc, g)?;
@@ -243,8 +249,10 @@ pub fn first_candidate_in(
     requires covered { IsCovered g.now }
     requires table { ArePartners g.now none table.now }
     requires pair { IsBicritical g.now → option_map pair_of pair ≡ cut_pair g.now }
-    ensures first { IfOk result (λ found. option_map candidate_of found ≡ first_of (candidates g.now)) }
-    ensures some { IfOk result (λ found. (c : _) → found ≡ Some c → IsTightCandidate g.now (candidate_of c)) }
+    ensures first { IfOk result
+        (λ found. option_map candidate_of found ≡ first_of (candidates g.now)) }
+    ensures some { IfOk result
+        (λ found. (c : _) → found ≡ Some c → IsTightCandidate g.now (candidate_of c)) }
     ensures none { IfOk result (λ found. (found ≡ None) ↔ HasNoTightCut g.now) }
 {
     g.keeps_limits();
@@ -298,7 +306,9 @@ fn first_of_bipartite(
 pub fn find_any(alloc: Global, g: &MultiGraph) -> Result<Option<VSet>, Memory>
     requires { IsCovered g.now }
     ensures first { IfOk result (λ found. found ≡ first_shore (candidates g.now)) }
-    ensures some { IfOk result (λ found. (s : _) → found ≡ Some s → IsTight g.now (mem s) × IsNontrivial g.now.order (mem s)) }
+    ensures some { IfOk result
+        (λ found. (s : _) → found ≡ Some s →
+        IsTight g.now (mem s) × IsNontrivial g.now.order (mem s)) }
     ensures none { IfOk result (λ found. (found ≡ None) ↔ HasNoTightCut g.now) }
 {
     let table = all_partners(alloc, g)?;
@@ -318,7 +328,9 @@ pub fn find_any_in(
     requires table { ArePartners g.now none table.now }
     requires pair { IsBicritical g.now → option_map pair_of pair ≡ cut_pair g.now }
     ensures first { IfOk result (λ found. found ≡ first_shore (candidates g.now)) }
-    ensures some { IfOk result (λ found. (s : _) → found ≡ Some s → IsTight g.now (mem s) × IsNontrivial g.now.order (mem s)) }
+    ensures some { IfOk result
+        (λ found. (s : _) → found ≡ Some s →
+        IsTight g.now (mem s) × IsNontrivial g.now.order (mem s)) }
     ensures none { IfOk result (λ found. (found ≡ None) ↔ HasNoTightCut g.now) }
 {
     match first_candidate_in(alloc, g, table, pair)? {

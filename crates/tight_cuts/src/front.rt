@@ -26,7 +26,8 @@ fn barrier_candidates(
 ) -> Result<CandidateList, Memory>
     requires covered { IsCovered g.now }
     requires table { ArePartners g.now none table.now }
-    ensures { IfOk result (λ list. list ≡ map (candidate_at g.now.order Barrier) (barrier_cuts g.now)) }
+    ensures { IfOk result
+        (λ list. list ≡ map (candidate_at g.now.order Barrier) (barrier_cuts g.now)) }
 {
     g.keeps_limits();
     let shores = barrier_cuts_in(alloc, g, table)?;
@@ -38,7 +39,8 @@ fn separation_candidates(alloc: Global, g: &MultiGraph) -> Result<CandidateList,
     requires covered { IsCovered g.now }
     requires bicritical { IsBicritical g.now }
     requires four { 4 ≤ g.now.order }
-    ensures { IfOk result (λ list. list ≡ map (candidate_at g.now.order Separation) (separation_cuts g.now)) }
+    ensures { IfOk result
+        (λ list. list ≡ map (candidate_at g.now.order Separation) (separation_cuts g.now)) }
 {
     g.keeps_limits();
     let shores = separation_cuts(alloc, g)?;
@@ -70,7 +72,9 @@ fn first_barrier_candidate(
 ) -> Result<Option<Candidate>, Memory>
     requires covered { IsCovered g.now }
     requires table { ArePartners g.now none table.now }
-    ensures { IfOk result (λ found. option_map candidate_of found ≡ first_of (map (candidate_at g.now.order Barrier) (barrier_cuts g.now))) }
+    ensures { IfOk result
+        (λ found. option_map candidate_of found ≡
+        first_of (map (candidate_at g.now.order Barrier) (barrier_cuts g.now))) }
 {
     g.keeps_limits();
     match first_barrier_cut_in(alloc, g, table)? {
@@ -89,7 +93,9 @@ fn first_separation_candidate(
     requires bicritical { IsBicritical g.now }
     requires four { 4 ≤ g.now.order }
     requires pair { option_map pair_of pair ≡ cut_pair g.now }
-    ensures { IfOk result (λ found. option_map candidate_of found ≡ first_of (map (candidate_at g.now.order Separation) (separation_cuts g.now))) }
+    ensures { IfOk result
+        (λ found. option_map candidate_of found ≡
+        first_of (map (candidate_at g.now.order Separation) (separation_cuts g.now))) }
 {
     g.keeps_limits();
     match first_separation_cut(alloc, g, pair)? {
@@ -108,7 +114,8 @@ pub(crate) fn first_front_candidate(
     requires covered { IsCovered g.now }
     requires table { ArePartners g.now none table.now }
     requires pair { IsBicritical g.now → option_map pair_of pair ≡ cut_pair g.now }
-    ensures { IfOk result (λ found. option_map candidate_of found ≡ first_of (front_candidates g.now)) }
+    ensures { IfOk result
+        (λ found. option_map candidate_of found ≡ first_of (front_candidates g.now)) }
 {
     g.keeps_limits();
     if let Some(_) = not_bicritical_in(alloc, g, table)? {

@@ -23,7 +23,8 @@ fn count_edges(row: &mut Vec<u64>, m: &Matching)
     requires within { All (λ r. r.edge < length row.old.items) m.now.rows }
     requires room { (e : ℕ) → at_place row.old.items e < 2 ^ 64 - 1 }
     ensures long { length row.new.items ≡ length row.old.items }
-    ensures each { (e : ℕ) → at_place row.new.items e ≡ at_place row.old.items e + bit (mem (edges_of m.now) e) }
+    ensures each { (e : ℕ) →
+        at_place row.new.items e ≡ at_place row.old.items e + bit (mem (edges_of m.now) e) }
 {
     m.keeps_matching();
     for i in 0..m.len() {
@@ -65,7 +66,8 @@ pub(crate) fn graph_beside(
 ) -> Result<MultiGraph, Memory>
     requires edge { Within (size g.now) e }
     requires size { pairs.now.size ≡ size g.now }
-    requires both { (e f : ℕ) → Within (size g.now) e → Within (size g.now) f → (holds_both (edge_lists pairs.now) e f ≡ true) ↔ Together g.now e f }
+    requires both { (e f : ℕ) → Within (size g.now) e → Within (size g.now) f →
+        (holds_both (edge_lists pairs.now) e f ≡ true) ↔ Together g.now e f }
     ensures { IfOk result (IsBeside g.now e) }
 {
     g.keeps_limits();

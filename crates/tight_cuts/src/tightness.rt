@@ -56,7 +56,9 @@ fn crossing(
     requires of { IsOf g.now kept.now }
     requires perfect { IsPerfect g.now none (mem (edges_of kept.now)) }
     ensures some { IfOk result (λ o. (m : _) → o ≡ Some m → CrossesTwice g.now (mem shore) m) }
-    ensures none { IfOk result (λ o. o ≡ None → (e : ℕ) → Within (size g.now) e → in_cut g.now (mem shore) e ≡ true → NoLaterWith g.now (mem shore) e) }
+    ensures none { IfOk result
+        (λ o. o ≡ None → (e : ℕ) → Within (size g.now) e → in_cut g.now (mem shore) e ≡ true →
+        NoLaterWith g.now (mem shore) e) }
 {
     for k in 0..g.size() {
         let e = k + 1;
@@ -133,8 +135,10 @@ fn perfect_with_both(
     requires perfect { IsPerfect g.now none (mem (edges_of held.now)) }
     requires holds { mem (edges_of held.now) e ≡ true }
     ensures of { IfOk result (λ o. (m : _) → o ≡ Some m → IsOf g.now m) }
-    ensures perfect { IfOk result (λ o. (m : _) → o ≡ Some m → IsPerfect g.now none (mem (edges_of m))) }
-    ensures holds { IfOk result (λ o. (m : _) → o ≡ Some m → (mem (edges_of m) e ≡ true) × (mem (edges_of m) f ≡ true)) }
+    ensures perfect { IfOk result
+        (λ o. (m : _) → o ≡ Some m → IsPerfect g.now none (mem (edges_of m))) }
+    ensures holds { IfOk result
+        (λ o. (m : _) → o ≡ Some m → (mem (edges_of m) e ≡ true) × (mem (edges_of m) f ≡ true)) }
     ensures none { IfOk result (λ o. (o ≡ None) ↔ (Together g.now e f → ⊥)) }
 {
     g.keeps_limits();

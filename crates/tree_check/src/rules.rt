@@ -29,7 +29,8 @@ pub(crate) fn cut_fault(
     requires order { p.now.order ≡ g.now.order }
     requires covered { IsCovered (quotient g.now p.now.blocks) }
     requires fits { All (Within (g.now.order - 1)) shore }
-    ensures some { IfOk result (λ o. (why : _) → o ≡ Some why → BreaksCut g.now p.now.blocks (mem shore) (why_of why)) }
+    ensures some { IfOk result
+        (λ o. (why : _) → o ≡ Some why → BreaksCut g.now p.now.blocks (mem shore) (why_of why)) }
     ensures none { IfOk result (λ o. o ≡ None → IsCutAt g.now p.now.blocks shore) }
 {
     shore.rises();
@@ -62,7 +63,8 @@ fn crossing_at(
     requires covered { IsCovered (quotient g.now p.now.blocks) }
     requires union { IsUnion g.now.order p.now.blocks (mem shore) }
     requires odd { is_odd (block_count p.now.blocks (mem shore)) ≡ true }
-    ensures some { IfOk result (λ o. (m : _) → o ≡ Some m → CrossesAt g.now p.now.blocks (mem shore) m) }
+    ensures some { IfOk result
+        (λ o. (m : _) → o ≡ Some m → CrossesAt g.now p.now.blocks (mem shore) m) }
     ensures none { IfOk result (λ o. o ≡ None → IsTightAt g.now p.now.blocks (mem shore)) }
 {
     g.keeps_limits();

@@ -44,7 +44,9 @@ pub fn kept_partition(
     ensures order { IfOk result (λ q. q.order ≡ g.now.order) }
     ensures blocks { IfOk result (λ q. q.blocks ≡ kept_at g.now.order p.now.blocks shore) }
     ensures covered { IfOk result (λ q. IsCovered (quotient g.now q.blocks)) }
-    ensures length { IfOk result (λ q. length q.blocks + count (length p.now.blocks) (complement (blocks_in p.now.blocks (mem shore))) ≡ length p.now.blocks + 1) }
+    ensures length { IfOk result
+        (λ q. length q.blocks + count (length p.now.blocks)
+        (complement (blocks_in p.now.blocks (mem shore))) ≡ length p.now.blocks + 1) }
 {
     g.keeps_limits();
     p.keeps_partition();
@@ -67,7 +69,9 @@ pub fn merged_partition(
     ensures order { IfOk result (λ q. q.order ≡ g.now.order) }
     ensures blocks { IfOk result (λ q. q.blocks ≡ merged_at g.now.order p.now.blocks shore) }
     ensures covered { IfOk result (λ q. IsCovered (quotient g.now q.blocks)) }
-    ensures length { IfOk result (λ q. length q.blocks + count (length p.now.blocks) (blocks_in p.now.blocks (mem shore)) ≡ length p.now.blocks + 1) }
+    ensures length { IfOk result
+        (λ q. length q.blocks + count (length p.now.blocks) (blocks_in p.now.blocks (mem shore)) ≡
+        length p.now.blocks + 1) }
 {
     g.keeps_limits();
     p.keeps_partition();

@@ -30,7 +30,9 @@ pub fn leaves(alloc: Global, tree: &Tree, n: u32) -> Result<Partitions, Memory>
 fn gather(alloc: Global, tree: &Tree, p: Partition, found: &mut Partitions) -> Result<(), Memory>
     requires fits { Fits p.order (shape_of tree.now) }
     requires stands { StandsAt p.order p.blocks (shape_of tree.now) }
-    ensures { OnOk result (found.new ≡ found.old ++ partitions_of p.order (leaves_at p.order p.blocks (shape_of tree.now))) }
+    ensures { OnOk result
+        (found.new ≡ found.old ++
+        partitions_of p.order (leaves_at p.order p.blocks (shape_of tree.now))) }
 {
     match tree {
         Tree::Leaf => found.push(p),

@@ -58,7 +58,8 @@ pub struct Stuck;
 /// and hands back the same tree. Takes no memory.
 pub fn apply(tree: Tree, n: u32, m: &Move) -> Result<Tree, (Tree, Stuck)>
     requires { Fits n (shape_of tree) }
-    ensures ok { IfOk result (λ made. move_result n (shape_of tree) (move_of m.now) ≡ Some (shape_of made)) }
+    ensures ok { IfOk result
+        (λ made. move_result n (shape_of tree) (move_of m.now) ≡ Some (shape_of made)) }
     ensures stuck { IfErr result (λ e. move_result n (shape_of tree) (move_of m.now) ≡ None) }
     ensures same { IfErr result (λ e. shape_of e.0 ≡ shape_of tree) }
 {

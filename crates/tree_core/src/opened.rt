@@ -25,8 +25,10 @@ pub struct Opened {
 /// Takes the child on the side out of a cut. Takes no memory.
 pub fn open(side: Side, shore: VSet, mut kept: Box<Tree>, mut merged: Box<Tree>) -> (Tree, Opened)
     ensures side { result.1.side ≡ side }
-    ensures whole { cut shore (shape_of kept.value) (shape_of merged.value) ≡ with_child side result.1.shore (shape_of result.1.other.value) (shape_of result.0) }
-    ensures fits { (n : ℕ) → Fits n (cut shore (shape_of kept.value) (shape_of merged.value)) → Fits n (shape_of result.0) }
+    ensures whole { cut shore (shape_of kept.value) (shape_of merged.value) ≡
+        with_child side result.1.shore (shape_of result.1.other.value) (shape_of result.0) }
+    ensures fits { (n : ℕ) → Fits n (cut shore (shape_of kept.value) (shape_of merged.value)) →
+        Fits n (shape_of result.0) }
 {
     match side {
         Side::Kept => {
@@ -55,7 +57,8 @@ pub fn open(side: Side, shore: VSet, mut kept: Box<Tree>, mut merged: Box<Tree>)
 impl Opened {
     /// The cut with this child in the place. Takes no memory.
     pub fn close(self, child: Tree) -> Tree
-        ensures { shape_of result ≡ with_child self.side self.shore (shape_of self.other.value) (shape_of child) }
+        ensures { shape_of result ≡
+            with_child self.side self.shore (shape_of self.other.value) (shape_of child) }
     {
         let Opened {
             side,

@@ -21,9 +21,13 @@ pub fn are_apart(x: VSet, y: VSet) -> bool
 
 // Brings the root of `kept` over the cut.
 fn rotate_kept(shore: VSet, mut kept: Box<Tree>, merged: Box<Tree>) -> Result<Tree, Tree>
-    ensures ok { IfOk result (λ tree. rotate_result_kept shore (shape_of kept.value) (shape_of merged.value) ≡ Some (shape_of tree)) }
-    ensures stuck { IfErr result (λ tree. rotate_result_kept shore (shape_of kept.value) (shape_of merged.value) ≡ None) }
-    ensures same { IfErr result (λ tree. shape_of tree ≡ cut shore (shape_of kept.value) (shape_of merged.value)) }
+    ensures ok { IfOk result
+        (λ tree. rotate_result_kept shore (shape_of kept.value) (shape_of merged.value) ≡
+        Some (shape_of tree)) }
+    ensures stuck { IfErr result
+        (λ tree. rotate_result_kept shore (shape_of kept.value) (shape_of merged.value) ≡ None) }
+    ensures same { IfErr result
+        (λ tree. shape_of tree ≡ cut shore (shape_of kept.value) (shape_of merged.value)) }
 {
     match mem::replace(&mut *kept, Tree::Leaf) {
         Tree::Leaf => Err(Tree::Cut {
@@ -52,9 +56,13 @@ fn rotate_kept(shore: VSet, mut kept: Box<Tree>, merged: Box<Tree>) -> Result<Tr
 
 // Brings the root of `merged` over the cut.
 fn rotate_merged(shore: VSet, kept: Box<Tree>, mut merged: Box<Tree>) -> Result<Tree, Tree>
-    ensures ok { IfOk result (λ tree. rotate_result_merged shore (shape_of kept.value) (shape_of merged.value) ≡ Some (shape_of tree)) }
-    ensures stuck { IfErr result (λ tree. rotate_result_merged shore (shape_of kept.value) (shape_of merged.value) ≡ None) }
-    ensures same { IfErr result (λ tree. shape_of tree ≡ cut shore (shape_of kept.value) (shape_of merged.value)) }
+    ensures ok { IfOk result
+        (λ tree. rotate_result_merged shore (shape_of kept.value) (shape_of merged.value) ≡
+        Some (shape_of tree)) }
+    ensures stuck { IfErr result
+        (λ tree. rotate_result_merged shore (shape_of kept.value) (shape_of merged.value) ≡ None) }
+    ensures same { IfErr result
+        (λ tree. shape_of tree ≡ cut shore (shape_of kept.value) (shape_of merged.value)) }
 {
     match mem::replace(&mut *merged, Tree::Leaf) {
         Tree::Leaf => Err(Tree::Cut {
@@ -107,9 +115,14 @@ fn rotate_merged(shore: VSet, kept: Box<Tree>, mut merged: Box<Tree>) -> Result<
 
 // Brings the root of the child on the side over the cut.
 fn rotate_child(side: Side, shore: VSet, kept: Box<Tree>, merged: Box<Tree>) -> Result<Tree, Tree>
-    ensures ok { IfOk result (λ tree. rotate_result_at side (cut shore (shape_of kept.value) (shape_of merged.value)) ≡ Some (shape_of tree)) }
-    ensures stuck { IfErr result (λ tree. rotate_result_at side (cut shore (shape_of kept.value) (shape_of merged.value)) ≡ None) }
-    ensures same { IfErr result (λ tree. shape_of tree ≡ cut shore (shape_of kept.value) (shape_of merged.value)) }
+    ensures ok { IfOk result
+        (λ tree. rotate_result_at side (cut shore (shape_of kept.value) (shape_of merged.value)) ≡
+        Some (shape_of tree)) }
+    ensures stuck { IfErr result
+        (λ tree. rotate_result_at side (cut shore (shape_of kept.value) (shape_of merged.value)) ≡
+        None) }
+    ensures same { IfErr result
+        (λ tree. shape_of tree ≡ cut shore (shape_of kept.value) (shape_of merged.value)) }
 {
     match side {
         Side::Kept => rotate_kept(shore, kept, merged),
@@ -119,7 +132,8 @@ fn rotate_child(side: Side, shore: VSet, kept: Box<Tree>, merged: Box<Tree>) -> 
 
 // Rotate with the steps of a path.
 fn rotate_along(tree: Tree, path: &[Side]) -> Result<Tree, Tree>
-    ensures ok { IfOk result (λ made. rotate_result path.now (shape_of tree) ≡ Some (shape_of made)) }
+    ensures ok { IfOk result
+        (λ made. rotate_result path.now (shape_of tree) ≡ Some (shape_of made)) }
     ensures stuck { IfErr result (λ back. rotate_result path.now (shape_of tree) ≡ None) }
     ensures same { IfErr result (λ back. shape_of back ≡ shape_of tree) }
 {
@@ -149,7 +163,8 @@ fn rotate_along(tree: Tree, path: &[Side]) -> Result<Tree, Tree>
 /// leads to no cut, or the cut stands in `merged` of a shore that it meets and does not contain. Then the same tree is handed back.
 /// Takes no memory.
 pub fn rotate(tree: Tree, path: &Path) -> Result<Tree, (Tree, Stuck)>
-    ensures ok { IfOk result (λ made. rotate_result path.now (shape_of tree) ≡ Some (shape_of made)) }
+    ensures ok { IfOk result
+        (λ made. rotate_result path.now (shape_of tree) ≡ Some (shape_of made)) }
     ensures stuck { IfErr result (λ e. rotate_result path.now (shape_of tree) ≡ None) }
     ensures same { IfErr result (λ e. shape_of e.0 ≡ shape_of tree) }
 {

@@ -59,7 +59,8 @@ pub fn holds_greatest(v: VSet, n: u32) -> bool
 
 // The vertices of 1 to n outside the shore that a set can hold.
 fn outside_within(x: VSet, n: u32) -> VSet
-    ensures members { (w : ℕ) → mem result w ≡ (mem (rising_list (min n 128) everything) w && not (mem x w)) }
+    ensures members { (w : ℕ) →
+        mem result w ≡ (mem (rising_list (min n 128) everything) w && not (mem x w)) }
     ensures rising { IsRisingIn 128 result }
 {
     let outside = VSet::full(n.min(MOST_VERTICES)).minus(x);

@@ -32,7 +32,8 @@ fn kept_shore_greatest_comes(e: &Exchange, rest: VSet, s: VSet) -> VSet
     requires rest { rest ≡ outer_rest e.now.n e.now.x e.now.v }
     requires within { All (Within e.now.n) rest }
     requires shore { All (Within (e.now.n - 1)) s }
-    ensures { result ≡ (if is_subset e.now.u s then union_list e.now.n s (outer_rest e.now.n e.now.x e.now.v) else s) }
+    ensures { result ≡ (if is_subset e.now.u s then union_list e.now.n s
+        (outer_rest e.now.n e.now.x e.now.v) else s) }
 {
     if e.u.is_subset(s) {
         union_of(s, rest, e.n)
@@ -46,7 +47,8 @@ fn kept_shore_greatest_comes(e: &Exchange, rest: VSet, s: VSet) -> VSet
 fn merged_shore_greatest_comes(e: &Exchange, s: VSet) -> VSet
     requires part { All (Within e.now.n) e.now.u }
     requires shore { All (Within (e.now.n - 1)) s }
-    ensures { result ≡ (if is_subset e.now.x s then union_list e.now.n (minus_list e.now.n s e.now.x) e.now.u else s) }
+    ensures { result ≡ (if is_subset e.now.x s then union_list e.now.n
+        (minus_list e.now.n s e.now.x) e.now.u else s) }
 {
     if e.x.is_subset(s) {
         union_of(minus_of(s, e.x, e.n), e.u, e.n)
@@ -76,7 +78,8 @@ fn kept_greatest_comes(tree: &mut Tree, e: &Exchange, rest: VSet)
     requires rest { rest ≡ outer_rest e.now.n e.now.x e.now.v }
     requires within { All (Within e.now.n) rest }
     requires fits { Fits e.now.n (shape_of tree.old) }
-    ensures { shape_of tree.new ≡ kept_if_greatest_comes e.now.n e.now.x e.now.u e.now.v (shape_of tree.old) }
+    ensures { shape_of tree.new ≡
+        kept_if_greatest_comes e.now.n e.now.x e.now.u e.now.v (shape_of tree.old) }
 {
     if let Tree::Cut {
         shore,
@@ -94,7 +97,8 @@ fn kept_greatest_comes(tree: &mut Tree, e: &Exchange, rest: VSet)
 fn merged_greatest_comes(tree: &mut Tree, e: &Exchange)
     requires part { All (Within e.now.n) e.now.u }
     requires fits { Fits e.now.n (shape_of tree.old) }
-    ensures { shape_of tree.new ≡ merged_if_greatest_comes e.now.n e.now.x e.now.u (shape_of tree.old) }
+    ensures { shape_of tree.new ≡
+        merged_if_greatest_comes e.now.n e.now.x e.now.u (shape_of tree.old) }
 {
     if let Tree::Cut {
         shore,
@@ -112,7 +116,8 @@ fn merged_greatest_comes(tree: &mut Tree, e: &Exchange)
 fn kept_greatest_stays(tree: &mut Tree, e: &Exchange)
     requires whole { All (Within e.now.n) e.now.x }
     requires second { All (Within e.now.n) e.now.v }
-    ensures { shape_of tree.new ≡ kept_if_greatest_stays e.now.n e.now.x e.now.u e.now.v (shape_of tree.old) }
+    ensures { shape_of tree.new ≡
+        kept_if_greatest_stays e.now.n e.now.x e.now.u e.now.v (shape_of tree.old) }
 {
     if let Tree::Cut {
         shore,
@@ -135,7 +140,8 @@ fn merged_greatest_stays(tree: &mut Tree, e: &Exchange)
     requires second { All (Within e.now.n) e.now.v }
     requires whole { All (Within e.now.n) e.now.x }
     requires fits { Fits e.now.n (shape_of tree.old) }
-    ensures { shape_of tree.new ≡ merged_if_greatest_stays e.now.n e.now.x e.now.u e.now.v (shape_of tree.old) }
+    ensures { shape_of tree.new ≡
+        merged_if_greatest_stays e.now.n e.now.x e.now.u e.now.v (shape_of tree.old) }
 {
     if let Tree::Cut {
         shore,
@@ -155,7 +161,8 @@ fn exchanged_greatest_comes(mut kept: Box<Tree>, mut merged: Box<Tree>, e: &Exch
     requires part { All (Within e.now.n) e.now.u }
     requires first { Fits e.now.n (shape_of kept.value) }
     requires second { Fits e.now.n (shape_of merged.value) }
-    ensures { shape_of result ≡ cut (union_list e.now.n (outer_rest e.now.n e.now.x e.now.v) e.now.u)
+    ensures { shape_of result ≡
+        cut (union_list e.now.n (outer_rest e.now.n e.now.x e.now.v) e.now.u)
         (merged_if_greatest_comes e.now.n e.now.x e.now.u (shape_of merged.value))
         (kept_if_greatest_comes e.now.n e.now.x e.now.u e.now.v (shape_of kept.value)) }
 {
@@ -175,7 +182,8 @@ fn exchanged_greatest_stays(mut kept: Box<Tree>, mut merged: Box<Tree>, e: &Exch
     requires other { All (Within e.now.n) e.now.v }
     requires whole { All (Within e.now.n) e.now.x }
     requires second { Fits e.now.n (shape_of merged.value) }
-    ensures { shape_of result ≡ cut (union_list e.now.n (inner_rest e.now.n e.now.x e.now.u) e.now.v)
+    ensures { shape_of result ≡
+        cut (union_list e.now.n (inner_rest e.now.n e.now.x e.now.u) e.now.v)
         (kept_if_greatest_stays e.now.n e.now.x e.now.u e.now.v (shape_of kept.value))
         (merged_if_greatest_stays e.now.n e.now.x e.now.u e.now.v (shape_of merged.value)) }
 {
@@ -191,7 +199,8 @@ fn exchanged_greatest_stays(mut kept: Box<Tree>, mut merged: Box<Tree>, e: &Exch
 // Switch at the root.
 fn switch_here(tree: Tree, n: u32, u: VSet, v: VSet) -> Result<Tree, Tree>
     requires { Fits n (shape_of tree) }
-    ensures ok { IfOk result (λ made. switch_result_at n u v (shape_of tree) ≡ Some (shape_of made)) }
+    ensures ok { IfOk result
+        (λ made. switch_result_at n u v (shape_of tree) ≡ Some (shape_of made)) }
     ensures stuck { IfErr result (λ back. switch_result_at n u v (shape_of tree) ≡ None) }
     ensures same { IfErr result (λ back. shape_of back ≡ shape_of tree) }
 {
@@ -222,7 +231,8 @@ fn switch_here(tree: Tree, n: u32, u: VSet, v: VSet) -> Result<Tree, Tree>
 // Switch with the steps of a path.
 fn switch_along(tree: Tree, n: u32, path: &[Side], u: VSet, v: VSet) -> Result<Tree, Tree>
     requires { Fits n (shape_of tree) }
-    ensures ok { IfOk result (λ made. switch_result n path.now u v (shape_of tree) ≡ Some (shape_of made)) }
+    ensures ok { IfOk result
+        (λ made. switch_result n path.now u v (shape_of tree) ≡ Some (shape_of made)) }
     ensures stuck { IfErr result (λ back. switch_result n path.now u v (shape_of tree) ≡ None) }
     ensures same { IfErr result (λ back. shape_of back ≡ shape_of tree) }
 {
@@ -250,7 +260,8 @@ fn switch_along(tree: Tree, n: u32, path: &[Side], u: VSet, v: VSet) -> Result<T
 /// back. Takes no memory.
 pub fn switch(tree: Tree, n: u32, path: &Path, u: VSet, v: VSet) -> Result<Tree, (Tree, Stuck)>
     requires { Fits n (shape_of tree) }
-    ensures ok { IfOk result (λ made. switch_result n path.now u v (shape_of tree) ≡ Some (shape_of made)) }
+    ensures ok { IfOk result
+        (λ made. switch_result n path.now u v (shape_of tree) ≡ Some (shape_of made)) }
     ensures stuck { IfErr result (λ e. switch_result n path.now u v (shape_of tree) ≡ None) }
     ensures same { IfErr result (λ e. shape_of e.0 ≡ shape_of tree) }
 {

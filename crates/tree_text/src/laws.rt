@@ -10,8 +10,10 @@ ghost use Rattle.tree_text.specs.Writing.{tree_text, IsWritable};
 
 /// What is written of a tree stands for this tree, for no other, and has no fault.
 pub fn written_tree_stands()
-    ensures stands { (n : ℕ) (t : Shape) → IsWritable n t → Stands (tree_format n) (tree_text n t) t }
-    ensures alone { (n : ℕ) (t : Shape) → IsWritable n t → StandsAlone (tree_format n) (tree_text n t) }
+    ensures stands { (n : ℕ) (t : Shape) → IsWritable n t →
+        Stands (tree_format n) (tree_text n t) t }
+    ensures alone { (n : ℕ) (t : Shape) → IsWritable n t →
+        StandsAlone (tree_format n) (tree_text n t) }
 {}
 
 /// A tail of comments behind the text of a tree changes nothing.
@@ -23,5 +25,6 @@ pub fn comments_change_nothing()
 
 /// What a text stands for can be written: the tree fits n, its shores are nonempty and rise, and it has at most 127 nodes.
 pub fn read_tree_fits()
-    ensures { (n : ℕ) (text : List ℕ) (t : Shape) → n < 10 ^ 9 → Stands (tree_format n) text t → IsWritable n t }
+    ensures { (n : ℕ) (text : List ℕ) (t : Shape) → n < 10 ^ 9 → Stands (tree_format n) text t →
+        IsWritable n t }
 {}

@@ -111,8 +111,10 @@ pub fn read_picks(alloc: Global, bytes: &[u8]) -> Result<Numbers, TextFault>
     requires { length bytes.now < 2 ^ 32 - 1 }
     ensures value { IfOk result (λ picks. Stands pick_format bytes.now picks) }
     ensures fault { IfErr result (IsFirstFault pick_format bytes.now) }
-    ensures stands { (picks : List ℕ) → Stands pick_format bytes.now picks → ReadsText (λ (xs : List ℕ). xs) result (Ok picks) }
-    ensures breaks { (line : ℕ) (kind : FaultKind) → FirstFault pick_format bytes.now line kind → ReadsText (λ (xs : List ℕ). xs) result (Err (line, kind)) }
+    ensures stands { (picks : List ℕ) → Stands pick_format bytes.now picks →
+        ReadsText (λ (xs : List ℕ). xs) result (Ok picks) }
+    ensures breaks { (line : ℕ) (kind : FaultKind) → FirstFault pick_format bytes.now line kind →
+        ReadsText (λ (xs : List ℕ). xs) result (Err (line, kind)) }
 {
     read_text(alloc, &PickFormat { alloc }, bytes)
 }

@@ -34,7 +34,8 @@ pub enum Progress {
 
 /// The tree put where the next node stands.
 pub fn put(alloc: Global, above: Above, tree: Tree) -> Result<Progress, Memory>
-    ensures { IfOk result (λ progress. progress_of progress ≡ put (place_of above) (shape_of tree)) }
+    ensures { IfOk result
+        (λ progress. progress_of progress ≡ put (place_of above) (shape_of tree)) }
 {
     match above {
         Above::Root => Ok(Progress::Whole(tree)),

@@ -151,8 +151,11 @@ pub fn read_tree(alloc: Global, bytes: &[u8], n: u32) -> Result<Tree, TextFault>
     ensures writable { IfOk result (λ tree. IsWritable n (shape_of tree)) }
     ensures value { IfOk result (λ tree. Stands (tree_format n) bytes.now (shape_of tree)) }
     ensures fault { IfErr result (IsFirstFault (tree_format n) bytes.now) }
-    ensures stands { (t : Shape) → Stands (tree_format n) bytes.now t → ReadsText shape_of result (Ok t) }
-    ensures breaks { (line : ℕ) (kind : FaultKind) → FirstFault (tree_format n) bytes.now line kind → ReadsText shape_of result (Err (line, kind)) }
+    ensures stands { (t : Shape) → Stands (tree_format n) bytes.now t →
+        ReadsText shape_of result (Ok t) }
+    ensures breaks { (line : ℕ) (kind : FaultKind) →
+        FirstFault (tree_format n) bytes.now line kind →
+        ReadsText shape_of result (Err (line, kind)) }
 {
     read_text(alloc, &TreeFormat { alloc, order: n }, bytes)
 }

@@ -13,7 +13,8 @@ use vset_core::VSet;
 
 // The line of a cut.
 fn push_cut(text: &mut String, shore: VSet) -> Result<(), Memory>
-    ensures { OnOk result (string_bytes text.new ≡ string_bytes text.old ++ written (cut_words shore ∷ [])) }
+    ensures { OnOk result
+        (string_bytes text.new ≡ string_bytes text.old ++ written (cut_words shore ∷ [])) }
 {
     write!(text, "cut")?;
     let mut rest = shore;
@@ -28,7 +29,9 @@ fn push_cut(text: &mut String, shore: VSet) -> Result<(), Memory>
 // The lines of the nodes of a tree, in preorder.
 #[tactic(auto, using(crate::proofs::TextSoFar::cut_lines))]
 fn push_nodes(text: &mut String, tree: &Tree) -> Result<(), Memory>
-    ensures text { OnOk result (string_bytes text.new ≡ string_bytes text.old ++ written (node_words (shape_of tree.now))) }
+    ensures text { OnOk result
+        (string_bytes text.new ≡ string_bytes text.old ++
+        written (node_words (shape_of tree.now))) }
     ensures rising { OnOk result (ShoresRise (shape_of tree.now)) }
 {
     match tree {

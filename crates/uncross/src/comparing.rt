@@ -36,8 +36,12 @@ pub fn compare_at(
     requires covered { IsCovered (quotient g.now p.now.blocks) }
     requires first { IsDerivationAt g.now p.now.blocks (shape_of first) }
     requires second { IsDerivationAt g.now p.now.blocks (shape_of second.now) }
-    ensures script { IfOk result (λ ms. IsProperScript g.now p.now.blocks (shape_of first) (moves_of ms) (shape_of second.now)) }
-    ensures few { IfOk result (λ ms. length (moves_of ms) ≤ 5 * (cut_count (shape_of first) * cut_count (shape_of first))) }
+    ensures script { IfOk result
+        (λ ms. IsProperScript g.now p.now.blocks (shape_of first) (moves_of ms)
+        (shape_of second.now)) }
+    ensures few { IfOk result
+        (λ ms. length (moves_of ms) ≤
+        5 * (cut_count (shape_of first) * cut_count (shape_of first))) }
 {
     g.keeps_limits();
     p.keeps_partition();
@@ -97,9 +101,14 @@ pub fn moves_between(
 ) -> Result<Moves, Memory>
     requires first { IsDerivation g.now (shape_of first.now) }
     requires second { IsDerivation g.now (shape_of second.now) }
-    ensures through { IfOk result (λ ms. TurnsThrough g.now (shape_of first.now) (moves_of ms) (shape_of second.now)) }
-    ensures script { IfOk result (λ ms. IsProperScript g.now (singles g.now.order) (shape_of first.now) (moves_of ms) (shape_of second.now)) }
-    ensures few { IfOk result (λ ms. length (moves_of ms) ≤ 5 * (cut_count (shape_of first.now) * cut_count (shape_of first.now))) }
+    ensures through { IfOk result
+        (λ ms. TurnsThrough g.now (shape_of first.now) (moves_of ms) (shape_of second.now)) }
+    ensures script { IfOk result
+        (λ ms. IsProperScript g.now (singles g.now.order) (shape_of first.now) (moves_of ms)
+        (shape_of second.now)) }
+    ensures few { IfOk result
+        (λ ms. length (moves_of ms) ≤
+        5 * (cut_count (shape_of first.now) * cut_count (shape_of first.now))) }
 {
     g.keeps_limits();
     let root = Partition::singles(alloc, g.order())?;
@@ -130,10 +139,16 @@ pub fn compare(
 ) -> Result<Pairing, Memory>
     requires first { IsDerivation g.now (shape_of first.now) }
     requires second { IsDerivation g.now (shape_of second.now) }
-    ensures through { IfOk result (λ r. TurnsThrough g.now (shape_of first.now) (moves_of r.moves) (shape_of second.now)) }
-    ensures few { IfOk result (λ r. length (moves_of r.moves) ≤ 5 * (cut_count (shape_of first.now) * cut_count (shape_of first.now))) }
-    ensures maps { IfOk result (λ r. maps_of r.maps ≡ script_maps g.now.order (shape_of first.now) (moves_of r.moves)) }
-    ensures paired { IfOk result (λ r. IsPairing g.now (leaves g.now.order (shape_of first.now)) (leaves g.now.order (shape_of second.now)) (maps_of r.maps)) }
+    ensures through { IfOk result
+        (λ r. TurnsThrough g.now (shape_of first.now) (moves_of r.moves) (shape_of second.now)) }
+    ensures few { IfOk result
+        (λ r. length (moves_of r.moves) ≤
+        5 * (cut_count (shape_of first.now) * cut_count (shape_of first.now))) }
+    ensures maps { IfOk result
+        (λ r. maps_of r.maps ≡ script_maps g.now.order (shape_of first.now) (moves_of r.moves)) }
+    ensures paired { IfOk result
+        (λ r. IsPairing g.now (leaves g.now.order (shape_of first.now))
+        (leaves g.now.order (shape_of second.now)) (maps_of r.maps)) }
 {
     g.keeps_limits();
     let moves = moves_between(alloc, g, first, second)?;

@@ -35,7 +35,10 @@ fn raise_child(
     tree: Tree,
     made: &Option<Moves>,
 ) -> Result<Turned, Memory>
-    ensures { IfOk result (λ r. (ms : List PlainMove) (s : PlainTurned) → option_map moves_of made.now ≡ Some ms → followed (map (below side) ms) (raised side (shape_of tree)) ≡ Some s → turned_of r ≡ s) }
+    ensures { IfOk result
+        (λ r. (ms : List PlainMove) (s : PlainTurned) → option_map moves_of made.now ≡ Some ms →
+        followed (map (below side) ms) (raised side (shape_of tree)) ≡ Some s →
+        turned_of r ≡ s) }
 {
     let mut moves = Moves::new(alloc);
     match made {
@@ -59,7 +62,11 @@ fn carry_out(
     outer: &Option<Moves>,
 ) -> Result<Turned, Memory>
     requires { Fits n (cut x (shape_of kept.value) (shape_of merged.value)) }
-    ensures { IfOk result (λ r. (s : PlainTurned) → plan_result n x (plan_of plan.now) (shape_of kept.value) (shape_of merged.value) (option_map moves_of inner.now) (option_map moves_of outer.now) ≡ Some s → turned_of r ≡ s) }
+    ensures { IfOk result
+        (λ r. (s : PlainTurned) →
+        plan_result n x (plan_of plan.now) (shape_of kept.value) (shape_of merged.value)
+        (option_map moves_of inner.now) (option_map moves_of outer.now) ≡ Some s →
+        turned_of r ≡ s) }
 {
     match plan {
         Plan::Here => Ok(Turned {
@@ -116,7 +123,9 @@ pub fn expose_at(
     requires covered { IsCovered (quotient g.now p.now.blocks) }
     requires derives { IsDerivationAt g.now p.now.blocks (shape_of tree) }
     requires shore { CutIf g.now p.now.blocks shore }
-    ensures { IfOk result (λ r. IsExposed g.now p.now.blocks (shape_of tree) shore (shape_of r.tree) (option_map moves_of r.moves)) }
+    ensures { IfOk result
+        (λ r. IsExposed g.now p.now.blocks (shape_of tree) shore (shape_of r.tree)
+        (option_map moves_of r.moves)) }
 {
     let Some(y) = shore else {
         return Ok(Exposure { tree, moves: None });
@@ -190,12 +199,17 @@ pub struct Exposed {
 pub fn expose(alloc: Global, g: &MultiGraph, tree: Tree, shore: VSet) -> Result<Exposed, Memory>
     requires derives { IsDerivation g.now (shape_of tree) }
     requires shore { IsCutAt g.now (singles g.now.order) shore }
-    ensures root { IfOk result (λ r. (a : Shape) × (b : Shape) × (shape_of r.tree ≡ cut shore a b)) }
+    ensures root { IfOk result
+        (λ r. (a : Shape) × (b : Shape) × (shape_of r.tree ≡ cut shore a b)) }
     ensures derives { IfOk result (λ r. IsDerivation g.now (shape_of r.tree)) }
-    ensures through { IfOk result (λ r. TurnsThrough g.now (shape_of tree) (moves_of r.moves) (shape_of r.tree)) }
+    ensures through { IfOk result
+        (λ r. TurnsThrough g.now (shape_of tree) (moves_of r.moves) (shape_of r.tree)) }
     ensures few { IfOk result (λ r. length (moves_of r.moves) ≤ 5 * cut_count (shape_of tree)) }
-    ensures maps { IfOk result (λ r. maps_of r.maps ≡ script_maps g.now.order (shape_of tree) (moves_of r.moves)) }
-    ensures paired { IfOk result (λ r. IsPairing g.now (leaves g.now.order (shape_of tree)) (leaves g.now.order (shape_of r.tree)) (maps_of r.maps)) }
+    ensures maps { IfOk result
+        (λ r. maps_of r.maps ≡ script_maps g.now.order (shape_of tree) (moves_of r.moves)) }
+    ensures paired { IfOk result
+        (λ r. IsPairing g.now (leaves g.now.order (shape_of tree))
+        (leaves g.now.order (shape_of r.tree)) (maps_of r.maps)) }
 {
     g.keeps_limits();
     let root = Partition::singles(alloc, g.order())?;

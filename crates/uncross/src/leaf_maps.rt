@@ -107,7 +107,8 @@ fn names_after(
     given: &[u32],
 ) -> Result<Numbers, Memory>
     requires { All (IsNamed q.now.blocks given.now) names.now }
-    ensures { IfOk result (λ images. images ≡ map (λ b. name given.now (place q.now.blocks b)) names.now) }
+    ensures { IfOk result
+        (λ images. images ≡ map (λ b. name given.now (place q.now.blocks b)) names.now) }
 {
     let mut images = Numbers::new(alloc);
     let mut rest = names;
@@ -127,7 +128,8 @@ fn map_after(
 ) -> Result<LeafMap, Memory>
     requires one_each { length seconds.now ≡ length leaves.now }
     requires followed { IsFollowed (blocks_of leaves.now) (maps_of seconds.now) (map_of first.now) }
-    ensures { IfOk result (λ m. map_of m ≡ then_map (blocks_of leaves.now) (maps_of seconds.now) (map_of first.now)) }
+    ensures { IfOk result
+        (λ m. map_of m ≡ then_map (blocks_of leaves.now) (maps_of seconds.now) (map_of first.now)) }
 {
     let i = first.to as usize - 1;
     let second = seconds.get(i);
@@ -151,8 +153,11 @@ pub(crate) fn followed_by(
     seconds: &LeafMaps,
 ) -> Result<LeafMaps, Memory>
     requires one_each { length seconds.now ≡ length leaves.now }
-    requires followed { All (IsFollowed (blocks_of leaves.now) (maps_of seconds.now)) (maps_of firsts.now) }
-    ensures { IfOk result (λ maps. maps_of maps ≡ map (then_map (blocks_of leaves.now) (maps_of seconds.now)) (maps_of firsts.now)) }
+    requires followed { All (IsFollowed (blocks_of leaves.now) (maps_of seconds.now))
+        (maps_of firsts.now) }
+    ensures { IfOk result
+        (λ maps. maps_of maps ≡ map (then_map (blocks_of leaves.now) (maps_of seconds.now))
+        (maps_of firsts.now)) }
 {
     let mut maps = LeafMaps::new(alloc);
     let mut rest = firsts.as_slice();

@@ -39,8 +39,10 @@ pub fn push_numbers(order: &mut Numbers, k: u32, count: u32) -> Result<(), Memor
 // before the tree.
 fn push_kept_order(order: &mut Numbers, u: VSet, k: u32, tree: &Tree) -> Result<(), Memory>
     requires { k + leaf_count (shape_of tree.now) ≤ 255 }
-    ensures order { OnOk result (order.new ≡ order.old ++ kept_order_if_greatest_stays u k (shape_of tree.now)) }
-    ensures count { OnOk result (length order.new ≡ length order.old + leaf_count (shape_of tree.now)) }
+    ensures order { OnOk result
+        (order.new ≡ order.old ++ kept_order_if_greatest_stays u k (shape_of tree.now)) }
+    ensures count { OnOk result
+        (length order.new ≡ length order.old + leaf_count (shape_of tree.now)) }
 {
     match tree {
         Tree::Leaf => push_numbers(order, k, 1),
@@ -72,8 +74,10 @@ fn push_switch_order(
 ) -> Result<(), Memory>
     requires order { n ≤ MOST_VERTICES }
     requires few { k + leaf_count (shape_of tree.now) ≤ 255 }
-    ensures order { OnOk result (order.new ≡ order.old ++ switch_order n u v k (shape_of tree.now)) }
-    ensures count { OnOk result (length order.new ≡ length order.old + leaf_count (shape_of tree.now)) }
+    ensures order { OnOk result
+        (order.new ≡ order.old ++ switch_order n u v k (shape_of tree.now)) }
+    ensures count { OnOk result
+        (length order.new ≡ length order.old + leaf_count (shape_of tree.now)) }
 {
     match tree {
         Tree::Leaf => push_numbers(order, k, 1),
@@ -95,7 +99,8 @@ fn push_switch_order(
 fn push_rotate_order(order: &mut Numbers, side: Side, k: u32, tree: &Tree) -> Result<(), Memory>
     requires { k + leaf_count (shape_of tree.now) ≤ 255 }
     ensures order { OnOk result (order.new ≡ order.old ++ rotate_order side k (shape_of tree.now)) }
-    ensures count { OnOk result (length order.new ≡ length order.old + leaf_count (shape_of tree.now)) }
+    ensures count { OnOk result
+        (length order.new ≡ length order.old + leaf_count (shape_of tree.now)) }
 {
     match side {
         Side::Kept => push_numbers(order, k, count_leaves(tree)),
@@ -119,8 +124,12 @@ fn push_merged_order(
     merged: &Tree,
 ) -> Result<(), Memory>
     requires { k + leaf_count (shape_of kept.now) + leaf_count (shape_of merged.now) ≤ 255 }
-    ensures order { OnOk result (order.new ≡ order.old ++ rotate_order Merged k (cut shore (shape_of kept.now) (shape_of merged.now))) }
-    ensures count { OnOk result (length order.new ≡ length order.old + leaf_count (shape_of kept.now) + leaf_count (shape_of merged.now)) }
+    ensures order { OnOk result
+        (order.new ≡ order.old ++
+        rotate_order Merged k (cut shore (shape_of kept.now) (shape_of merged.now))) }
+    ensures count { OnOk result
+        (length order.new ≡ length order.old + leaf_count (shape_of kept.now) + leaf_count
+        (shape_of merged.now)) }
 {
     let first = count_leaves(kept);
     match merged {
@@ -154,8 +163,10 @@ fn push_switch_along(
 ) -> Result<(), Memory>
     requires order { n ≤ MOST_VERTICES }
     requires few { k + leaf_count (shape_of tree.now) ≤ 255 }
-    ensures order { OnOk result (order.new ≡ order.old ++ order_at (switch_order n u v) path.now k (shape_of tree.now)) }
-    ensures count { OnOk result (length order.new ≡ length order.old + leaf_count (shape_of tree.now)) }
+    ensures order { OnOk result
+        (order.new ≡ order.old ++ order_at (switch_order n u v) path.now k (shape_of tree.now)) }
+    ensures count { OnOk result
+        (length order.new ≡ length order.old + leaf_count (shape_of tree.now)) }
 {
     let Some((side, rest)) = path.split_first() else {
         return push_switch_order(order, n, u, v, k, tree);
@@ -187,8 +198,12 @@ fn push_rotate_along(
     tree: &Tree,
 ) -> Result<(), Memory>
     requires { k + leaf_count (shape_of tree.now) ≤ 255 }
-    ensures order { OnOk result (order.new ≡ order.old ++ order_at (rotate_order (last_step side rest.now)) (parent_path side rest.now) k (shape_of tree.now)) }
-    ensures count { OnOk result (length order.new ≡ length order.old + leaf_count (shape_of tree.now)) }
+    ensures order { OnOk result
+        (order.new ≡ order.old ++
+        order_at (rotate_order (last_step side rest.now)) (parent_path side rest.now) k
+        (shape_of tree.now)) }
+    ensures count { OnOk result
+        (length order.new ≡ length order.old + leaf_count (shape_of tree.now)) }
 {
     let Some((next, others)) = rest.split_first() else {
         return push_rotate_order(order, side, k, tree);
@@ -215,7 +230,8 @@ fn push_rotate_along(
 pub fn move_order(alloc: Global, n: u32, tree: &Tree, m: &Move) -> Result<Numbers, Memory>
     requires order { n ≤ MOST_VERTICES }
     requires few { leaf_count (shape_of tree.now) ≤ 255 }
-    ensures order { IfOk result (λ order. order ≡ move_order n (move_of m.now) (shape_of tree.now)) }
+    ensures order { IfOk result
+        (λ order. order ≡ move_order n (move_of m.now) (shape_of tree.now)) }
     ensures count { IfOk result (λ order. length order ≡ leaf_count (shape_of tree.now)) }
 {
     let mut order = Numbers::new(alloc);

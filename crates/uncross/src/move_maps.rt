@@ -38,7 +38,9 @@ fn position_of(order: &[u32], i: u32) -> u32
 fn push_leaf(order: &[u32], names: Numbers, maps: &mut LeafMaps) -> Result<(), Memory>
     requires few { length maps.old < 255 }
     requires short { length order.now ≤ 255 }
-    ensures maps { OnOk result (maps_of maps.new ≡ maps_of maps.old ++ maps_from order.now (length maps.old) (names ∷ [])) }
+    ensures maps { OnOk result
+        (maps_of maps.new ≡ maps_of maps.old ++
+        maps_from order.now (length maps.old) (names ∷ [])) }
     ensures count { OnOk result (length maps.new ≡ length maps.old + 1) }
 {
     let to = position_of(order, maps.len() as u32 + 1);
@@ -70,8 +72,13 @@ fn push_leaves(
     requires short { length order.now ≤ 255 }
     requires fits { Fits p.order (shape_of tree.now) }
     requires stands { StandsAt p.order p.blocks (shape_of tree.now) }
-    ensures maps { OnOk result (maps_of maps.new ≡ maps_of maps.old ++ maps_from order.now (length maps.old) (map (λ q. map (image_name p.order images.now) q) (leaves_at p.order p.blocks (shape_of tree.now)))) }
-    ensures count { OnOk result (length maps.new ≡ length maps.old + leaf_count (shape_of tree.now)) }
+    ensures maps { OnOk result
+        (maps_of maps.new ≡ maps_of maps.old ++
+        maps_from order.now (length maps.old)
+        (map (λ q. map (image_name p.order images.now) q)
+        (leaves_at p.order p.blocks (shape_of tree.now)))) }
+    ensures count { OnOk result
+        (length maps.new ≡ length maps.old + leaf_count (shape_of tree.now)) }
 {
     match tree {
         Tree::Leaf => push_leaf(order, image_names(alloc, images, &p)?, maps),
@@ -102,8 +109,12 @@ fn push_switched_leaves(
     requires short { length order.now ≤ 255 }
     requires fits { Fits p.order (shape_of tree.now) }
     requires stands { StandsAt p.order p.blocks (shape_of tree.now) }
-    ensures maps { OnOk result (maps_of maps.new ≡ maps_of maps.old ++ maps_from order.now (length maps.old) (switch_names p.order u v p.blocks (shape_of tree.now))) }
-    ensures count { OnOk result (length maps.new ≡ length maps.old + leaf_count (shape_of tree.now)) }
+    ensures maps { OnOk result
+        (maps_of maps.new ≡ maps_of maps.old ++
+        maps_from order.now (length maps.old)
+        (switch_names p.order u v p.blocks (shape_of tree.now))) }
+    ensures count { OnOk result
+        (length maps.new ≡ length maps.old + leaf_count (shape_of tree.now)) }
 {
     p.keeps_partition();
     match tree {
@@ -139,8 +150,12 @@ fn push_leaves_along(
     requires short { length order.now ≤ 255 }
     requires fits { Fits p.order (shape_of tree.now) }
     requires stands { StandsAt p.order p.blocks (shape_of tree.now) }
-    ensures maps { OnOk result (maps_of maps.new ≡ maps_of maps.old ++ maps_from order.now (length maps.old) (names_at p.order u v path.now p.blocks (shape_of tree.now))) }
-    ensures count { OnOk result (length maps.new ≡ length maps.old + leaf_count (shape_of tree.now)) }
+    ensures maps { OnOk result
+        (maps_of maps.new ≡ maps_of maps.old ++
+        maps_from order.now (length maps.old)
+        (names_at p.order u v path.now p.blocks (shape_of tree.now))) }
+    ensures count { OnOk result
+        (length maps.new ≡ length maps.old + leaf_count (shape_of tree.now)) }
 {
     let Some((side, rest)) = path.split_first() else {
         return push_switched_leaves(alloc, tree, p, u, v, order, maps);
@@ -223,7 +238,8 @@ pub fn move_maps(alloc: Global, n: u32, tree: &Tree, m: &Move) -> Result<LeafMap
 // The tree that a move makes.
 fn moved(tree: Tree, n: u32, m: &Move) -> Tree
     requires { Fits n (shape_of tree) }
-    ensures { (t : Shape) → move_result n (shape_of tree) (move_of m.now) ≡ Some t → shape_of result ≡ t }
+    ensures { (t : Shape) → move_result n (shape_of tree) (move_of m.now) ≡ Some t →
+        shape_of result ≡ t }
 {
     match apply(tree, n, m) {
         Ok(made) => made,
@@ -240,8 +256,10 @@ pub fn script_maps(
     moves: &Moves,
 ) -> Result<LeafMaps, Memory>
     requires derives { IsDerivation g.now (shape_of tree.now) }
-    requires script { (t : Shape) × IsProperScript g.now (singles g.now.order) (shape_of tree.now) (moves_of moves.now) t }
-    ensures { IfOk result (λ maps. maps_of maps ≡ script_maps g.now.order (shape_of tree.now) (moves_of moves.now)) }
+    requires script { (t : Shape) ×
+        IsProperScript g.now (singles g.now.order) (shape_of tree.now) (moves_of moves.now) t }
+    ensures { IfOk result
+        (λ maps. maps_of maps ≡ script_maps g.now.order (shape_of tree.now) (moves_of moves.now)) }
 {
     g.keeps_limits();
     let n = g.order();

@@ -29,7 +29,8 @@ pub fn append_below(
     moves: &[Move],
     into: &mut Moves,
 ) -> Result<(), Memory>
-    ensures { OnOk result (moves_of into.new ≡ moves_of into.old ++ map (below side) (moves_of moves.now)) }
+    ensures { OnOk result
+        (moves_of into.new ≡ moves_of into.old ++ map (below side) (moves_of moves.now)) }
 {
     let mut rest = moves;
     'moves: while let Some((m, others)) = rest.split_first() {
@@ -47,7 +48,9 @@ pub fn raise(
     made: &Moves,
     into: &mut Moves,
 ) -> Result<Tree, Memory>
-    ensures made { (s : PlainTurned) → followed (map (below side) (moves_of made.now)) (raised side (shape_of tree)) ≡ Some s → IfOk result (λ r. IsMade (shape_of r) (moves_of into.new) (moves_of into.old) s) }
+    ensures made { (s : PlainTurned) →
+        followed (map (below side) (moves_of made.now)) (raised side (shape_of tree)) ≡ Some s →
+        IfOk result (λ r. IsMade (shape_of r) (moves_of into.new) (moves_of into.old) s) }
     ensures fits { (n : ℕ) → Fits n (shape_of tree) → IfOk result (λ r. Fits n (shape_of r)) }
 {
     let mut path = Path::new(alloc);
@@ -65,7 +68,8 @@ pub fn raise(
 // Exchanges u and v at the root.
 fn switch_root(alloc: Global, n: u32, tree: Tree, u: VSet, v: VSet) -> Result<Turned, Memory>
     requires { Fits n (shape_of tree) }
-    ensures { IfOk result (λ r. (s : PlainTurned) → switched n u v (shape_of tree) ≡ Some s → turned_of r ≡ s) }
+    ensures { IfOk result
+        (λ r. (s : PlainTurned) → switched n u v (shape_of tree) ≡ Some s → turned_of r ≡ s) }
 {
     let path = Path::new(alloc);
     let mut moves = Moves::new(alloc);
@@ -90,7 +94,10 @@ fn switch_below(
     moves: Moves,
 ) -> Result<Turned, Memory>
     requires { Fits n (shape_of tree) }
-    ensures { IfOk result (λ r. (s : PlainTurned) → followed (moves_of moves) (switched_below n x u v (shape_of tree)) ≡ Some s → turned_of r ≡ s) }
+    ensures { IfOk result
+        (λ r. (s : PlainTurned) →
+        followed (moves_of moves) (switched_below n x u v (shape_of tree)) ≡ Some s →
+        turned_of r ≡ s) }
 {
     let mut moves = moves;
     match tree {
@@ -129,7 +136,10 @@ fn turn_over_outer(
     outer: &Option<Moves>,
 ) -> Result<Turned, Memory>
     requires { Fits n (cut x (shape_of kept.value) (shape_of merged.value)) }
-    ensures { IfOk result (λ r. (s : PlainTurned) → over_outer n x u v (shape_of kept.value) (shape_of merged.value) (option_map moves_of outer.now) ≡ Some s → turned_of r ≡ s) }
+    ensures { IfOk result
+        (λ r. (s : PlainTurned) →
+        over_outer n x u v (shape_of kept.value) (shape_of merged.value)
+        (option_map moves_of outer.now) ≡ Some s → turned_of r ≡ s) }
 {
     let tree = Tree::Cut {
         shore: x,
@@ -161,7 +171,11 @@ fn turn_below_inner(
 ) -> Result<Turned, Memory>
     requires shore { All (Within (n - 1)) x }
     requires fits { Fits n (shape_of tree) }
-    ensures { IfOk result (λ r. (s : PlainTurned) → followed (moves_of moves) (outer_below n x u v (option_map moves_of outer.now) (shape_of tree)) ≡ Some s → turned_of r ≡ s) }
+    ensures { IfOk result
+        (λ r. (s : PlainTurned) →
+        followed (moves_of moves)
+        (outer_below n x u v (option_map moves_of outer.now) (shape_of tree)) ≡ Some s →
+        turned_of r ≡ s) }
 {
     let mut moves = moves;
     match tree {
@@ -213,7 +227,11 @@ pub fn turn_over_inner(
     outer: &Option<Moves>,
 ) -> Result<Turned, Memory>
     requires { Fits n (cut x (shape_of kept.value) (shape_of merged.value)) }
-    ensures { IfOk result (λ r. (s : PlainTurned) → over_inner n x u v (shape_of kept.value) (shape_of merged.value) (option_map moves_of inner.now) (option_map moves_of outer.now) ≡ Some s → turned_of r ≡ s) }
+    ensures { IfOk result
+        (λ r. (s : PlainTurned) →
+        over_inner n x u v (shape_of kept.value) (shape_of merged.value)
+        (option_map moves_of inner.now) (option_map moves_of outer.now) ≡ Some s →
+        turned_of r ≡ s) }
 {
     match inner {
         None => turn_over_outer(alloc, n, x, kept, merged, u, v, outer),

@@ -9,7 +9,8 @@ ghost use Rattle.weight_kit.specs.Weights.{IsCover, IsHeaviest, cover_value, wei
 /// matching, and so each heaviest one, weighs as much as some cover of whole numbers (Edmonds 1965; whole numbers: Cunningham and
 /// Marsh 1978).
 pub fn weight_law()
-    ensures below { (g : Graph) (w y : ℕ → ℕ) (us : List Set) (m : Set) → IsGraph g → IsCover g w y us →
+    ensures below { (g : Graph) (w y : ℕ → ℕ) (us : List Set) (m : Set) → IsGraph g →
+        IsCover g w y us →
         IsMatching g none m → weight_of g w m ≤ cover_value g y us }
     ensures equal { (g : Graph) (w : ℕ → ℕ) → IsGraph g →
         (m : Set) × (y : ℕ → ℕ) × (us : List Set) × IsMatching g none m × IsCover g w y us ×

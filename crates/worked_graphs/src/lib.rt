@@ -148,7 +148,8 @@ pub const TWO_K4: [(u32, u32); 11] = [
 pub fn graph_with(alloc: Global, order: u32, edges: &[(u32, u32)]) -> Result<MultiGraph, AddFault>
     requires { order ≤ MOST_VERTICES }
     ensures graph { IfOk result (λ g. g ≡ record { order = order; ends = edges.now }) }
-    ensures fits { OnOk result ((k : ℕ) → k < length edges.now → JoinsTwo order (pair_at edges.now k)) }
+    ensures fits { OnOk result
+        ((k : ℕ) → k < length edges.now → JoinsTwo order (pair_at edges.now k)) }
     ensures few { OnOk result (length edges.now ≤ MOST_EDGES) }
     ensures range { IsErrOf result AddFault.Range → (k : ℕ) × IsReached order edges.now k
         × ¬ (Within order (pair_at edges.now k).0 × Within order (pair_at edges.now k).1) }
