@@ -140,27 +140,6 @@ share_some g e f is we t = elim (or_cases (((first_end g e == first_end g f) || 
   ]
 ]
 
-pub share_none : (g : Graph) (e f : ℕ) → share_end g e f ≡ false → ShareNone g e f
-share_none g e f h v pe pf = elim pe [
-  | inl p ↦ elim pf [
-    | inl q ↦ both_ways (share_end g e f) h (one (first_end g e == first_end g f) (first_end g e == second_end g f) (second_end g e == first_end g f) (second_end g e == second_end g f) (eq-eqb (first_end g e) (first_end g f) (p ∙ sym q)))
-    | inr q ↦ both_ways (share_end g e f) h (two (first_end g e == first_end g f) (first_end g e == second_end g f) (second_end g e == first_end g f) (second_end g e == second_end g f) (eq-eqb (first_end g e) (second_end g f) (p ∙ sym q)))
-  ]
-  | inr p ↦ elim pf [
-    | inl q ↦ both_ways (share_end g e f) h (three (first_end g e == first_end g f) (first_end g e == second_end g f) (second_end g e == first_end g f) (second_end g e == second_end g f) (eq-eqb (second_end g e) (first_end g f) (p ∙ sym q)))
-    | inr q ↦ both_ways (share_end g e f) h (or_right (((first_end g e == first_end g f) || (first_end g e == second_end g f)) || (second_end g e == first_end g f)) (second_end g e == second_end g f) (eq-eqb (second_end g e) (second_end g f) (p ∙ sym q)))
-  ]
-]
-  where
-    one : (a b c d : Bool) → a ≡ true → (((a || b) || c) || d) ≡ true
-    one a b c d h = or_left ((a || b) || c) d (or_left (a || b) c (or_left a b h))
-
-    two : (a b c d : Bool) → b ≡ true → (((a || b) || c) || d) ≡ true
-    two a b c d h = or_left ((a || b) || c) d (or_left (a || b) c (or_right a b h))
-
-    three : (a b c d : Bool) → c ≡ true → (((a || b) || c) || d) ≡ true
-    three a b c d h = or_left ((a || b) || c) d (or_right (a || b) c h)
-
 -- two edges with a common end do not lie together
 pub apart_shared : (g : Graph) (e f v : ℕ) → e ≢ f → Within (size g) e → Within (size g) f → Within g.order v → IsEnd g e v → IsEnd g f v → Together g e f → ⊥
 apart_shared g e f v d we wf wv pe pf t =

@@ -168,13 +168,3 @@ class_trivial g b u s is cov bi wb c wu su t =
     let one = count_singleton g.order b wb in
     let z = count_mono g.order s (singleton b) (λ v w h. sym (class_single g b s bi wb c v w) ∙ h) in
     let r = ((part_nontrivial g s b u is cov (class_barrier g b s is cov wb c) wb (c.all b wb (inl refl)) wu su).0 t).0 in omega arith
-
--- a graph is bicritical exactly where no class has a nontrivial tight cut
-pub bicritical_by_classes : (g : Graph) → IsGraph g → IsCovered g → ((x : Set) → IsSide g x → ⊥) → IsBicritical g ↔ ((b : ℕ) (s : Set) → Within g.order b → IsClass g b s → BarrierCut g s → ⊥)
-bicritical_by_classes g is cov odd_cycle = (
-  (λ bi b s wb c k. class_trivial g b k.vertex s is cov bi wb c k.within k.outside k.nontrivial),
-  λ h a b wa wb d. elim (perfect_or_not g (pair_set a b)) [
-    | inl m ↦ m
-    | inr f ↦ let k = class_cut g is cov odd_cycle (λ bi. let m = bi a b wa wb d in f m.0 m.1) in absurd (h k.0 k.2.0 k.1 k.2.1 k.2.2)
-  ],
-)

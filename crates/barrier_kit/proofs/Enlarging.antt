@@ -192,12 +192,3 @@ module _ (g : Graph) (is : IsGraph g) (m : Set) (p : IsPerfect g none m) (s : Se
       barrier = settle (missed_count g r t.m) (count g.order s) (count g.order t.s) (odd_component_count g big) (count g.order big)
           (let a = parts_sum in let b : odd_component_count g s ≡ count g.order s = bar in let c = t.equal in omega arith)
           big_count (few_odd_components g big m is p) (λ z. no_match t.m (none_missed-perfect g r t.m t.is z)) (same_parity g big is (even_order g m is p))
-
--- an odd component that keeps no perfect matching without one of its vertices lets the barrier grow
-pub enlarge_any : (g : Graph) (m s : Set) (v : ℕ) → IsGraph g → IsPerfect g none m → IsBarrier g s → Within g.order v → s v ≡ false → is_odd (count g.order (joined g s v)) ≡ true →
-    ((k : Set) → IsPerfect g (complement (minus (joined g s v) (singleton v))) k → ⊥) → (b : Set) × IsBarrier g b × ((w : ℕ) → s w ≡ true → b w ≡ true) × (b v ≡ true)
-enlarge_any g m s v is p bar wv sv odd none_k =
-    let l = leader_of g s is v wv sv in
-    let same = part_same g s is l.0 v l.1 wv l.3 in
-    enlarge g is m p s bar l.0 l.1 l.2 (ap is_odd (count_congr g.order _ _ (λ w x. same w)) ∙ odd) v wv l.3
-    (λ k q. none_k k (perfect_congr g _ _ k (λ w x. ap (λ i. not (i && not (v == w))) (same w)) q))

@@ -258,13 +258,3 @@ module _ (g : Graph) (is : IsGraph g) (cov : IsCovered g) (s : Set) (bar : IsBar
         let m = glue_family g is from star_set
         (λ z w h. let r = picks.lands z w h in star z (picks.to z) w r.0 (from_s z h).0 (others_l (picks.to z) r.1).0 r.2)
         (λ y z v wy wz wv fy hy fz hz. star_apart y z v wy wz wv (and_from (from y) (star_set y v) fy hy) (and_from (from z) (star_set z v) fz hz)) in (m.0, perfect_congr g (complement (so_far g.order)) (complement left_over) m.0 (λ v w. ap not (all_stars v w)) m.1)
-
--- without a vertex of a barrier and a component there is a perfect matching
-pub join_any : (g : Graph) (s : Set) (b u : ℕ) → IsGraph g → IsCovered g → IsBarrier g s → Within g.order b → s b ≡ true → Within g.order u → s u ≡ false → (m : Set) × IsPerfect g (union (singleton b) (joined g s u)) m
-join_any g s b u is cov bar wb sb wu su =
-    let l = leader_of g s is u wu su in
-    let m = join g is cov s bar b wb sb l.0 l.1 l.2 in
-    (m.0, perfect_congr g _ (union (singleton b) (joined g s u)) m.0 (λ v w. turn (b == v) (joined g s l.0 v) ∙ ap (λ k. (b == v) || k) (part_same g s is l.0 u l.1 wu l.3 v)) m.1)
-  where
-    turn : (i j : Bool) → not (not i && not j) ≡ (i || j)
-    turn i j = grind arith

@@ -24,12 +24,6 @@ use Rattle.barrier_kit.proofs.Matched.{perfect_congr}
 pub has_perfect-true : (g : Graph) (r s : Set) → ((v : ℕ) → r v ≡ s v) → HasPerfect g r → has_perfect g s ≡ true
 has_perfect-true g r s same m = has_perfect_found g s (m.0, perfect_congr g r s m.0 (λ v w. same v) m.1)
 
-pub has_perfect-false : (g : Graph) (r s : Set) → ((v : ℕ) → r v ≡ s v) → (HasPerfect g r → ⊥) → has_perfect g s ≡ false
-has_perfect-false g r s same none = elim (cases_Bool (has_perfect g s)) [
-  | inr f ↦ f
-  | inl t ↦ let m = has_perfect_says g s t in absurd (none (m.0, perfect_congr g s r m.0 (λ v w. sym (same v)) m.1))
-]
-
 -- a rising list by its last number
 pub rising_list-more : (k : ℕ) (x : Set) → rising_list (k + 1) x ≡ rising_list k x ++ cond (x (k + 1)) ((k + 1) ∷ []) []
 rising_list-more k x =
@@ -127,8 +121,3 @@ module _ (g : Graph) (is : IsGraph g) (cov : IsCovered g) where
   pub classes-all : (k : ℕ) (list : List (List ℕ)) → k ≡ g.order → list ≡ map (λ a. rising_list g.order (is_equivalent g a)) (rising_list k (is_least_of_class g)) → list ≡ classes g
   unfolding classes
   classes-all k list e h = h ∙ ap (λ j. map (λ a. rising_list g.order (is_equivalent g a)) (rising_list j (is_least_of_class g))) e
-
--- an answer that is there exactly where there is a perfect matching
-pub answer-has_perfect : {M : Type 0} (o : Option M) (g : Graph) (r s : Set) → ((v : ℕ) → r v ≡ s v) → ((m : M) → o ≡ Some m → HasPerfect g r) → (o ≡ None → HasPerfect g r → ⊥) → is_some o ≡ has_perfect g s
-answer-has_perfect None g r s same found none = sym (has_perfect-false g r s same (none refl))
-answer-has_perfect (Some m) g r s same found none = sym (has_perfect-true g r s same (found m refl))

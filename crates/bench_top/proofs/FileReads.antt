@@ -22,7 +22,3 @@ file_read-within {A} place reading file bytes held within = ap (file_read place 
 -- a text that is read as a value
 pub file_read-value : {A : Type 0} (place : ℕ) (reading : List ℕ → Result A (ℕ × FaultKind)) (file : Option (List ℕ)) (bytes : List ℕ) (value : A) → file ≡ Some bytes → length bytes ≤ 1048576 → reading bytes ≡ Ok value → file_read place reading file ≡ All value
 file_read-value place reading file bytes value held within read = file_read-within place reading file bytes held within ∙ ap (from_reading place) read
-
--- a text that has a first fault
-pub file_read-fault : {A : Type 0} (place : ℕ) (reading : List ℕ → Result A (ℕ × FaultKind)) (file : Option (List ℕ)) (bytes : List ℕ) (line : ℕ) (kind : FaultKind) → file ≡ Some bytes → length bytes ≤ 1048576 → reading bytes ≡ Err (line, kind) → file_read place reading file ≡ Bad place line (kind_number kind)
-file_read-fault place reading file bytes line kind held within read = file_read-within place reading file bytes held within ∙ ap (from_reading place) read

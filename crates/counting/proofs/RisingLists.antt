@@ -225,10 +225,6 @@ set-narrower m n xs r h = set-from_rises n xs (go 1 xs (rises-from_set m xs r) h
 pub set-part : (m n : ℕ) (xs ys : List ℕ) → IsRisingIn m xs → IsRisingIn n ys → ((v : ℕ) → mem xs v ≡ true → mem ys v ≡ true) → IsRisingIn n xs
 set-part m n xs ys r s h = set-narrower m n xs r (λ v t. (mem-within n ys s v (h v t)).1)
 
--- a union of two sets of numbers 1 to n
-pub set-union : (m n : ℕ) (us xs ys : List ℕ) → IsRisingIn m us → IsRisingIn n xs → IsRisingIn n ys → ((v : ℕ) → mem us v ≡ (mem xs v || mem ys v)) → IsRisingIn n us
-set-union m n us xs ys u r s h = set-narrower m n us u (λ v t. elim (or_cases (mem xs v) (mem ys v) (sym (h v) ∙ t)) [ inl a ↦ (mem-within n xs r v a).1 | inr b ↦ (mem-within n ys s v b).1 ])
-
 -- the least number is the first
 pub first-least : (n x v : ℕ) (xs : List ℕ) → IsRisingIn n (x ∷ xs) → IsLeastOf (x ∷ xs) v → x ≡ v
 first-least n x v xs r least = elim (cases_lt x v) [

@@ -32,43 +32,6 @@ count_split n x y = total_congr n _ _ (λ v w. bits (x v) (y v)) ∙ total_add n
 pub count_singleton : (n v : ℕ) → Within n v → count n (singleton v) ≡ 1
 count_singleton n v w = count_of_one n (λ u. true) v w
 
--- without v
-pub length-without : (n : ℕ) (xs ys : List ℕ) (v : ℕ) → IsRisingIn n xs → IsRisingIn n ys → Within n v → ((w : ℕ) → mem ys w ≡ (mem xs w && not (v == w))) → length ys + bit (mem xs v) ≡ length xs
-length-without n xs ys v r s w h =
-    let all = count_split n (mem xs) (singleton v) in
-    let one = count_of_one n (mem xs) v w in
-    let others = count_congr n (mem ys) (minus (mem xs) (singleton v)) (λ u _. h u) in
-    omega (arith, count_mem_length n xs r, count_mem_length n ys s)
-
--- with v
-pub length-with : (n : ℕ) (xs ys : List ℕ) (v : ℕ) → IsRisingIn n xs → IsRisingIn n ys → Within n v → ((w : ℕ) → mem ys w ≡ (mem xs w || v == w)) → length ys + bit (mem xs v) ≡ length xs + 1
-length-with n xs ys v r s w h =
-    let all = count_meet_union n (mem xs) (singleton v) in
-    let one = count_of_one n (mem xs) v w in
-    let alone = count_singleton n v w in
-    let joined = count_congr n (mem ys) (union (mem xs) (singleton v)) (λ u _. h u) in
-    omega (arith, count_mem_length n xs r, count_mem_length n ys s)
-
--- the union and the common part of two sets have together as many numbers as the two
-pub length-union : (n : ℕ) (xs ys us ms : List ℕ) → IsRisingIn n xs → IsRisingIn n ys → IsRisingIn n us → IsRisingIn n ms → ((v : ℕ) → mem us v ≡ (mem xs v || mem ys v)) → ((v : ℕ) → mem ms v ≡ (mem xs v && mem ys v)) → length us + length ms ≡ length xs + length ys
-length-union n xs ys us ms r s u m hu hm =
-    let all = count_meet_union n (mem xs) (mem ys) in
-    let joined = count_congr n (mem us) (union (mem xs) (mem ys)) (λ v _. hu v) in
-    let both = count_congr n (mem ms) (meet (mem xs) (mem ys)) (λ v _. hm v) in
-    omega (arith, count_mem_length n xs r, count_mem_length n ys s, count_mem_length n us u, count_mem_length n ms m)
-
--- a set has as many numbers as its common part with another and its difference from it
-pub length-minus : (n : ℕ) (xs ys ms ds : List ℕ) → IsRisingIn n xs → IsRisingIn n ms → IsRisingIn n ds → ((v : ℕ) → mem ms v ≡ (mem xs v && mem ys v)) → ((v : ℕ) → mem ds v ≡ (mem xs v && not (mem ys v))) → length ms + length ds ≡ length xs
-length-minus n xs ys ms ds r m d hm hd =
-    let all = count_split n (mem xs) (mem ys) in
-    let both = count_congr n (mem ms) (meet (mem xs) (mem ys)) (λ v _. hm v) in
-    let left = count_congr n (mem ds) (minus (mem xs) (mem ys)) (λ v _. hd v) in
-    omega (arith, count_mem_length n xs r, count_mem_length n ms m, count_mem_length n ds d)
-
--- a subset has no more numbers
-pub length-subset : (n : ℕ) (xs ys : List ℕ) → IsRisingIn n xs → IsRisingIn n ys → is_subset xs ys ≡ true → length xs ≤ length ys
-length-subset n xs ys r s h = let l = count_mono n (mem xs) (mem ys) (λ v _. all_in_true xs (mem ys) h v) in omega (arith, count_mem_length n xs r, count_mem_length n ys s)
-
 -- a subset with as many numbers is the set
 pub same_set-from_size : (n : ℕ) (xs ys : List ℕ) → IsRisingIn n xs → IsRisingIn n ys → is_subset xs ys ≡ true → length ys ≤ length xs → xs ≡ ys
 same_set-from_size n xs ys r s h l = same_rising_list n xs ys r s (λ v w. decide v w (mem xs v) (mem ys v) refl refl)

@@ -26,29 +26,6 @@ meets_once g f m v = not (is_met g f v) || (degree g m v == 1)
 abbrev pub is_perfect_of : Graph → Set → Set → Bool
 is_perfect_of g f m = every (size g) (is_part f m) && every g.order (meets_once g f m)
 
-pub perfect_of_true : (g : Graph) (f m : Set) → is_perfect_of g f m ≡ true → IsPerfectOf g f m
-perfect_of_true g f m h =
-    let b = and_parts (every (size g) (is_part f m)) (every g.order (meets_once g f m)) h in
-    record {
-      part = λ e w t. implied (m e) (f e) (every_true (size g) (is_part f m) b.0 e w) t;
-      once = λ v w t. eqb-true (degree g m v) 1 (implied (is_met g f v) (degree g m v == 1) (every_true g.order (meets_once g f m) b.1 v w) t);
-    }
-
-pub true_perfect_of : (g : Graph) (f m : Set) → IsPerfectOf g f m → is_perfect_of g f m ≡ true
-true_perfect_of g f m p = and_from (every (size g) (is_part f m)) (every g.order (meets_once g f m))
-    (true_every (size g) (is_part f m) (λ e w. implies (m e) (f e) (p.part e w)))
-    (true_every g.order (meets_once g f m) (λ v w. implies (is_met g f v) (degree g m v == 1) (λ t. eq-eqb (degree g m v) 1 (p.once v w t))))
-
--- an edge lies in a perfect matching of f, or in none
-pub in_some_or_none : (g : Graph) (f : Set) (e : ℕ) → Within (size g) e → ((m : Set) × IsPerfectOf g f m × (m e ≡ true)) ⊎ ((m : Set) → IsPerfectOf g f m → m e ≡ true → ⊥)
-in_some_or_none g f e w = elim (choose_set (size g) (λ m. is_perfect_of g f m && m e) (record {
-  same = λ m k h. ap₂ ◌&&◌
-      (ap₂ ◌&&◌ (every_congr (size g) _ _ (λ d wd. ap (λ b. not b || f d) (h d wd))) (every_congr g.order _ _ (λ v wv. ap (λ k. not (is_met g f v) || (k == 1)) (degree_congr g m k v h)))) (h e w);
-})) [
-  | inl x ↦ let b = and_parts (is_perfect_of g f x.0) (x.0 e) x.1 in inl (x.0, perfect_of_true g f x.0 b.0, b.1)
-  | inr x ↦ inr (λ m p t. both_ways (is_perfect_of g f m && m e) (x m) (and_from (is_perfect_of g f m) (m e) (true_perfect_of g f m p) t))
-]
-
 pub nearly : (g : Graph) (f : Set) → IsStage g f → IsNearlyStage g f none
 nearly g f s = record {
   some_edge = s.some_edge;

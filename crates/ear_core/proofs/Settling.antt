@@ -10,13 +10,6 @@ use Rattle.ear_core.specs.Stages.{is_met, AllowedBy, with_edges}
 use Rattle.ear_core.specs.StageGraphs.{listed, Settled, asked_too}
 use Rattle.ear_core.proofs.EngineGraphs.{served_listed, edge_serves}
 
--- one marked edge more, or none
-pub listed-more : (g : Graph) (f : Set) (k : ℕ) (stage : Graph) → stage ≡ with_ends g (listed g f k) → f (suc k) ≡ true → with_edge stage (first_end g (suc k)) (second_end g (suc k)) ≡ with_ends g (listed g f (suc k))
-listed-more g f k stage is marked = ap (λ s. with_edge s (first_end g (suc k)) (second_end g (suc k))) is ∙ ap (λ b. with_ends g (cond b (listed g f k ++ (first_end g (suc k), second_end g (suc k)) ∷ []) (listed g f k))) (sym marked)
-
-pub listed-same : (g : Graph) (f : Set) (k : ℕ) (stage : Graph) → stage ≡ with_ends g (listed g f k) → f (suc k) ≡ false → stage ≡ with_ends g (listed g f (suc k))
-listed-same g f k stage is unmarked = is ∙ ap (λ b. with_ends g (cond b (listed g f k ++ (first_end g (suc k), second_end g (suc k)) ∷ []) (listed g f k))) (sym unmarked)
-
 -- sets that agree on the vertices leave the same perfect matchings
 removed-same : (h : Graph) (r x : Set) → ((v : ℕ) → Within h.order v → r v ≡ x v) → HasPerfect h r → HasPerfect h x
 removed-same h r x same m = (m.0, record { once = λ v w o. m.1.once v w (same v w ∙ o); away = λ v w o. m.1.away v w (same v w ∙ o) })
@@ -51,57 +44,10 @@ module _ (g : Graph) (is : IsGraph g) (f r : Set) (e : ℕ) (within : Within (si
   pub none-refused : (HasPerfect stage r → ⊥) → AllowedBy g f e → ⊥
   none-refused nothing allowed = nothing (subst (λ h. HasPerfect h r) (sym listed_edges) ((engine-asked g is f r e within differ marked same).1 allowed))
 
--- what is known when one edge more was asked
-pub settled-over : (g : Graph) (f asked : Set) (d e : ℕ) → Settled g f asked (Some d) → d ≤ e → Settled g f (asked_too asked e) (Some d)
-settled-over g f asked d e known low = (
-  known.0,
-  known.1,
-  known.2,
-  λ c w t less. elim (or_cases (asked c) (e == c) t) [
-    | inl i ↦ known.3 c w i less
-    | inr i ↦ let same = eqb-true e c i in absurd (omega arith)
-  ],
-)
-
-pub settled-allowed : (g : Graph) (f asked : Set) (known : Option ℕ) (e : ℕ) → Settled g f asked known → AllowedBy g f e → Settled g f (asked_too asked e) known
-settled-allowed g f asked None e known allowed = λ c w t. elim (or_cases (asked c) (e == c) t) [
-  | inl i ↦ known c w i
-  | inr i ↦ subst (AllowedBy g f) (eqb-true e c i) allowed
-]
-settled-allowed g f asked (Some d) e known allowed = (
-  known.0,
-  known.1,
-  known.2,
-  λ c w t less. elim (or_cases (asked c) (e == c) t) [
-    | inl i ↦ known.3 c w i less
-    | inr i ↦ subst (AllowedBy g f) (eqb-true e c i) allowed
-  ],
-)
-
 -- below what is known
 abbrev pub Below : ℕ → Option ℕ → Type 0
 Below e None = Unit {0}
 Below e (Some d) = e < d
-
-pub settled-refused : (g : Graph) (f asked : Set) (known : Option ℕ) (e : ℕ) → Settled g f asked known → Below e known → Within (size g) e → f e ≡ true → (AllowedBy g f e → ⊥) → Settled g f (asked_too asked e) (Some e)
-settled-refused g f asked None e known below within marked refused = (
-  within,
-  marked,
-  refused,
-  λ c w t less. elim (or_cases (asked c) (e == c) t) [
-    | inl i ↦ known c w i
-    | inr i ↦ let same = eqb-true e c i in absurd (omega arith)
-  ],
-)
-settled-refused g f asked (Some d) e known below within marked refused = (
-  within,
-  marked,
-  refused,
-  λ c w t less. elim (or_cases (asked c) (e == c) t) [
-    | inl i ↦ known.3 c w i (omega arith)
-    | inr i ↦ let same = eqb-true e c i in absurd (omega arith)
-  ],
-)
 
 -- the same edges asked
 pub settled-same : (g : Graph) (f asked others : Set) (known : Option ℕ) → ((e : ℕ) → others e ≡ asked e) → Settled g f asked known → Settled g f others known
@@ -114,14 +60,6 @@ asked-edges asked e rest others begins w = ap (λ es. asked w || mem es w) begin
     joined : (a b c : Bool) → (a || (b || c)) ≡ ((a || b) || c)
     joined true b c = refl
     joined false b c = refl
-
-pub asked-none : (asked : Set) (rest : List ℕ) → length rest ≡ 0 → (w : ℕ) → with_edges asked rest w ≡ asked w
-asked-none asked [] none w = no (asked w)
-  where
-    no : (a : Bool) → (a || false) ≡ a
-    no true = refl
-    no false = refl
-asked-none asked (e ∷ rest) none w = absurd (omega arith)
 
 pub settled-result : {Fault : Type 0} (g : Graph) (f asked others : Set) (result : Result (Option ℕ) Fault) → ((e : ℕ) → others e ≡ asked e) → IfOk result (Settled g f asked) → IfOk result (Settled g f others)
 settled-result g f asked others (Ok known) same is = settled-same g f asked others known same is

@@ -22,18 +22,6 @@ pair_lines old first second a b is_first is_second =
     ∙ append_assoc old (written (ear_words (codes "ear") a ∷ [])) (written (ear_words (codes "with") b ∷ []))
     ∙ ap (λ t. old ++ t) (sym (written-append (ear_words (codes "ear") a ∷ []) (ear_words (codes "with") b ∷ [])))
 
--- the lines of a step and of those behind it
-step_words-append : (s : PlainStep) (steps : List PlainStep) → step_words (s ∷ steps) ≡ step_words (s ∷ []) ++ step_words steps
-step_words-append (one a) steps = refl
-step_words-append (two a b) steps = refl
-
-pub steps_lines : (old next : List ℕ) (s : PlainStep) (steps : List PlainStep) → next ≡ old ++ written (step_words (s ∷ [])) → old ++ written (step_words (s ∷ steps)) ≡ next ++ written (step_words steps)
-steps_lines old next s steps is =
-    ap (λ lines. old ++ written lines) (step_words-append s steps)
-    ∙ ap (λ t. old ++ t) (written-append (step_words (s ∷ [])) (step_words steps))
-    ∙ sym (append_assoc old (written (step_words (s ∷ []))) (written (step_words steps)))
-    ∙ ap (λ t. t ++ written (step_words steps)) (sym is)
-
 -- the bytes of the first two lines
 abbrev pub first_lines : ℕ → ℕ → ℕ → List ℕ
 first_lines n m e = codes "r mcg " ++ (decimal n ++ 32 ∷ (decimal m ++ 10 ∷ (codes "start " ++ (decimal e ++ 10 ∷ []))))

@@ -51,15 +51,6 @@ each P rows v i w l h p = elim (cases_eq w v) [
   | inr d ↦ subst (All P) (sym (row_of-other rows v i w d)) h
 ]
 
--- no arcs, and rows that are all empty
-pub ListsArcs-none : (net : Net) (rows : List (List ℕ)) → length rows ≡ suc net.nodes → ((v : ℕ) → row_of rows v ≡ []) → ListsArcs net 0 rows
-ListsArcs-none net rows l h = record {
-  size = l;
-  ends = λ v. subst (All (λ i. (i < 0) × HasEnd (arc_at net.arcs i) v)) (sym (h v)) (All-nil (λ i. (i < 0) × HasEnd (arc_at net.arcs i) v));
-  at_a = λ i b. absurd (omega arith);
-  at_b = λ i b. absurd (omega arith);
-}
-
 -- one arc more
 pub ListsArcs-more : (net : Net) (n : ℕ) → IsArc net.nodes (arc_at net.arcs n) → (rows : List (List ℕ)) → ListsArcs net n rows
     → ListsArcs net (n + 1) (with_place (with_place rows (arc_at net.arcs n).a n) (arc_at net.arcs n).b n)

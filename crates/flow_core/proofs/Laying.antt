@@ -38,68 +38,8 @@ arcs_left-pass nodes rows places v w l p =
     (λ u k d. ap (λ x. length (row_of rows u) - x) (get_or-set_other places v u (slice_index places v + 1) 0 d))
     (let e = get_or-set_same places v (slice_index places v + 1) 0 l in omega arith)
 
--- the front of a list of visits
-visit_at-take : (path : List Visit) (n j : ℕ) → j < n → visit_at (take n path) j ≡ visit_at path j
-visit_at-take path n j l = get_or-take n path j (record { node = 0; parent = 0; arc = 0; room = 0 }) l
-
-node_at-take : (path : List Visit) (n j : ℕ) → j < n → node_at (take n path) j ≡ node_at path j
-node_at-take path n j l = ap (λ (u : Visit). u.node) (visit_at-take path n j l)
-
 long-take : (path : List Visit) (n : ℕ) → n ≤ length path → length (take n path) ≡ n
 long-take path n l = let e = length-take n path in omega arith
-
--- the front of a tree is a tree
-pub IsTree-take : (net : Net) (amounts : List ℤ) (path : List Visit) → IsTree net amounts path → (n : ℕ) → 0 < n → n ≤ length path → IsTree net amounts (take n path)
-IsTree-take net amounts path tree n some l = record {
-  some = omega (arith, long-take path n l);
-  root = ap (λ (u : Visit). u.room) (visit_at-take path n 0 some) ∙ tree.root;
-  each = λ j p k. let m : j < n = omega (arith, long-take path n l) in front j m (tree.each j p (omega arith));
-  nodes = λ j k. let m : j < n = omega (arith, long-take path n l) in subst (Within net.nodes) (sym (node_at-take path n j m)) (tree.nodes j (omega arith));
-  distinct = λ i j k h e.
-      let m : j < n = omega (arith, long-take path n l) in
-      tree.distinct i j k (omega arith) (sym (node_at-take path n i (omega arith)) ∙ e ∙ node_at-take path n j m);
-}
-  where
-    front : (j : ℕ) → j < n → IsVisit net.arcs amounts path j → IsVisit net.arcs amounts (take n path) j
-    front j m v =
-        let was = visit_at path j in
-        let is : visit_at (take n path) j ≡ was = visit_at-take path n j m in
-        let from : visit_at (take n path) was.parent ≡ visit_at path was.parent = visit_at-take path n was.parent (let e = v.earlier in omega arith) in
-        record {
-          earlier = subst (λ (u : Visit). u.parent < j) (sym is) v.earlier;
-          step = subst (λ (u : Visit). IsStep net.arcs amounts (visit_at (take n path) u.parent) u) (sym is) (subst (λ (u : Visit). IsStep net.arcs amounts u was) (sym from) v.step);
-        }
-
--- an arc of the last node is passed over
-pub IsLaid-pass : (net : Net) (rows : List (List ℕ)) (amounts : List ℤ) (levels places : List ℕ) (path : List Visit) → IsLaid net rows amounts levels places path → (p : ℕ)
-    → IsLaid net rows amounts levels (set places (last_node path) p) path
-IsLaid-pass net rows amounts levels places path laid p = record {
-  tree = laid.tree;
-  all_levels = laid.all_levels;
-  all_places = length-set places (last_node path) p ∙ laid.all_places;
-  rising = laid.rising;
-  ahead = λ j l.
-      let other : node_at path j ≢ last_node path = laid.tree.distinct j (length path - 1) (omega arith) (omega arith) in
-      subst (λ k. k < length (row_of rows (node_at path j))) (sym (get_or-set_other places (last_node path) (node_at path j) p 0 other)) (laid.ahead j l);
-}
-
--- the path goes one step back, and the arc that it came by is passed over
-pub IsLaid-back : (net : Net) (rows : List (List ℕ)) (amounts : List ℤ) (levels places : List ℕ) (path : List Visit) → IsLaid net rows amounts levels places path → (last : ℕ) → length path ≡ last + 1 → 0 < last → (p : ℕ)
-    → IsLaid net rows amounts levels (set places (node_at path (last - 1)) p) (take last path)
-IsLaid-back net rows amounts levels places path laid last l some p = record {
-  tree = IsTree-take net amounts path laid.tree last some (omega arith);
-  all_levels = laid.all_levels;
-  all_places = length-set places (node_at path (last - 1)) p ∙ laid.all_places;
-  rising = λ j k. let m : j < last = omega (arith, long) in ap (slice_index levels) (node_at-take path last j m) ∙ laid.rising j (omega arith);
-  ahead = λ j k.
-      let m : suc j < last = omega (arith, long) in
-      let other : node_at path j ≢ node_at path (last - 1) = laid.tree.distinct j (last - 1) (omega arith) (omega arith) in
-      subst (λ v. slice_index (set places (node_at path (last - 1)) p) v < length (row_of rows v)) (sym (node_at-take path last j (omega arith)))
-      (subst (λ k. k < length (row_of rows (node_at path j))) (sym (get_or-set_other places (node_at path (last - 1)) (node_at path j) p 0 other)) (laid.ahead j (omega arith)));
-}
-  where
-    long : length (take last path) ≡ last
-    long = long-take path last (omega arith)
 
 -- the path goes on to a node of the next level
 module _ (net : Net) (rows : List (List ℕ)) (amounts : List ℤ) (levels places : List ℕ) (path : List Visit) (laid : IsLaid net rows amounts levels places path)
@@ -142,17 +82,6 @@ module _ (net : Net) (rows : List (List ℕ)) (amounts : List ℤ) (levels place
         ]);
   }
 
--- after a flow has grown along it, the path starts again at its first node
-pub IsLaid-start : (net : Net) (rows : List (List ℕ)) (before amounts : List ℤ) (levels places : List ℕ) (path : List Visit) → IsLaid net rows before levels places path → IsLaid net rows amounts levels places (take 1 path)
-IsLaid-start net rows before amounts levels places [] laid = absurd (let s = laid.tree.some in omega arith)
-IsLaid-start net rows before amounts levels places (visit ∷ path) laid = record {
-  tree = IsTree-root net amounts visit (laid.tree.nodes 0 laid.tree.some) laid.tree.root;
-  all_levels = laid.all_levels;
-  all_places = laid.all_places;
-  rising = λ j l. let e : 0 ≡ j = omega arith in subst (λ i. slice_index levels (node_at (visit ∷ []) i) ≡ i) e (laid.rising 0 laid.tree.some);
-  ahead = λ j l. absurd (omega arith);
-}
-
 -- with a step back there is less left
 pub work-back : (nodes : ℕ) (rows : List (List ℕ)) (places : List ℕ) (path : List Visit) (v last : ℕ) → length path ≡ last + 1 → Within nodes v → v < length places → slice_index places v < length (row_of rows v)
     → work_left nodes rows (set places v (slice_index places v + 1)) (take last path) < work_left nodes rows places path
@@ -163,10 +92,6 @@ work-back nodes rows places path v last l w m p =
 pub work-pass : (nodes : ℕ) (rows : List (List ℕ)) (places : List ℕ) (path : List Visit) (v : ℕ) → Within nodes v → v < length places → slice_index places v < length (row_of rows v)
     → work_left nodes rows (set places v (slice_index places v + 1)) path < work_left nodes rows places path
 work-pass nodes rows places path v w m p = let a = arcs_left-pass nodes rows places v w m p in omega arith
-
--- and with a step on
-pub work-push : (nodes : ℕ) (rows : List (List ℕ)) (places : List ℕ) (path : List Visit) (visit : Visit) → length path < 256 → work_left nodes rows places (path ++ visit ∷ []) < work_left nodes rows places path
-work-push nodes rows places path visit l = omega (arith, length-append path (visit ∷ []))
 
 -- a new start adds at most the levels
 pub work-start : (nodes : ℕ) (rows : List (List ℕ)) (places : List ℕ) (path : List Visit) → work_left nodes rows places (take 1 path) ≤ work_left nodes rows places path + 256

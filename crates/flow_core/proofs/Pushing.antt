@@ -98,19 +98,6 @@ pub record IsPushed (net : Net) (old amounts : List ℤ) (visits : List Visit) (
   pub rest : (j : ℕ) → 0 < j → j ≤ at → amount_at amounts (visit_at visits j).arc ≡ amount_at old (visit_at visits j).arc
   pub out : (v : ℕ) → goes_out net.arcs amounts v ≡ goes_out net.arcs old v +ℤ (only_at (node_at visits at) d v -ℤ only_at (last_node visits) d v)
 
--- at the last visit nothing is changed yet
-pub IsPushed-last : (net : Net) (old : List ℤ) (visits : List Visit) (d : ℕ) → 0 < length visits → Fits net.arcs old → d ≤ (visit_at visits (length visits - 1)).room → IsPushed net old old visits d (length visits - 1)
-IsPushed-last net old visits d l f r = record {
-  long = omega arith;
-  fits = f;
-  room = r;
-  rest = λ j p q. refl;
-  out = λ v. let e = same (only_at (last_node visits) d v) in omega (arith, ints);
-}
-  where
-    same : (z : ℤ) → (z -ℤ z) ≡ pos 0
-    same z = omega (arith, ints)
-
 -- one step back
 module _ (net : Net) (is : IsNet net) (old amounts : List ℤ) (visits : List Visit) (tree : IsTree net old visits) (d at : ℕ) (p : IsPushed net old amounts visits d at) (some : 0 < at) where
   abbrev visit : Visit

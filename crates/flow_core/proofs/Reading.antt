@@ -16,10 +16,6 @@ use Rattle.flow_core.specs.Rows.{rows_of}
 use Rattle.counting.specs.Lists.{row_of}
 use Rattle.flow_core.specs.declared.arc.Arc.{Arc as StoredArc}
 
--- the stored arc at a place is the arc at that place
-pub arc_of-read : (items : List StoredArc) (i : ℕ) (d : StoredArc) → i < length (map arc_of items) → arc_of (get_or items i d) ≡ arc_at (map arc_of items) i
-arc_of-read items i d l = sym (get_or-map arc_of items i d (record { a = 0; b = 0; capacity = 0 }) (let m = length-map items arc_of in omega arith))
-
 -- an arc of a net in order is in order
 pub IsNet-at : (net : Net) → IsNet net → (i : ℕ) → i < length net.arcs → IsArc net.nodes (arc_at net.arcs i)
 IsNet-at net is i l = is i (record { a = 0; b = 0; capacity = 0 }) l

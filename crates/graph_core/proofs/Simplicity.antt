@@ -21,14 +21,6 @@ repeats-back g e f h = elim (has_ends-cases g (first_end g e) (second_end g e) f
   | inr p ↦ has_ends-from g (first_end g f) (second_end g f) e (inr (sym p.1, sym p.0))
 ]
 
--- one more number without the property
-pub some_more : (p : ℕ → Bool) (f : ℕ) → 1 ≤ f → some (f - 1) p ≡ false → p f ≡ false → some (f + 1 - 1) p ≡ false
-some_more p f w h n = false_from_ne_true (some (f + 1 - 1) p) (λ t. let r = some_true (f + 1 - 1) p t in
-    elim (cases_eq r.0 f) [
-      | inl e ↦ both_ways (p f) n (ap p (sym e) ∙ r.2)
-      | inr d ↦ let a = r.1 in both_ways (p r.0) (some_none (f - 1) p h r.0 (omega arith)) r.2
-    ])
-
 pub simple_from_no_repeat : (g : Graph) → ((e : ℕ) → Within (size g) e → some (e - 1) (repeats g e) ≡ false) → IsSimple g
 simple_from_no_repeat g h e f we wf r = elim (cases_eq e f) [
   | inl q ↦ q

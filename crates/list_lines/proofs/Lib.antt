@@ -3,5 +3,4 @@ pub mod SimpleQuotients
 pub mod SingleLeaves
 pub mod FewLeaves
 pub mod LeafTexts
-pub mod KindCases
 pub mod PickedTrees

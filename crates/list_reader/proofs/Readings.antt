@@ -237,28 +237,6 @@ so_far_fault tells bad lines held left_before left_now left_next written_before 
       };
     }
 
-pub so_far_torn :
-    (tells : ℕ → List ℕ → List ℕ → Type 0) (lines : ℕ) (held : List ℕ)
-    (left_before left_now left_next written_before written_now : Option (List ℕ)) →
-    SoFar tells lines held left_before left_now written_before written_now → left_next ≡ left_now →
-    Appended (ReadsTold tells left_before left_next) written_before written_now
-so_far_torn tells lines held left_before left_now left_next written_before written_now so_far same = record {
-  output = so_far.output;
-  right = record {
-    read = so_far.whole ++ held;
-    left = so_far.left ∙ ap (prepended (so_far.whole ++ held)) (sym same);
-    told = record {
-      whole = so_far.whole;
-      part = held;
-      cut = refl;
-      closed = so_far.closed;
-      no_feed = so_far.no_feed;
-      told = so_far.told;
-    };
-  };
-  written = so_far.written;
-}
-
 -- nothing was read or written
 pub untouched :
     (tells : ℕ → List ℕ → List ℕ → Type 0) (bad : ℕ → List ℕ → FaultKind → Type 0) (left written : Option (List ℕ)) →

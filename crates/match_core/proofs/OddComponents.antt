@@ -146,12 +146,6 @@ best_from (suc n) g r f is mm l = elim (step g r f is mm) [
 pub best : (g : Graph) (r : Set) → IsGraph g → Best g r
 best g r is = best_from (suc (count g.order (complement r))) g r none is (none_matching g r) (omega arith)
 
--- the law of Tutte and Berge, by alternating forests
-pub tutte_berge_again : (g : Graph) (r : Set) → IsGraph g → (s : Set) × (m : Set) × ((v : ℕ) → Within g.order v → s v ≡ true → r v ≡ false) × IsMaximum g r m × (missed_count g r m + count g.order s ≡ odd_component_count g (union r s))
-tutte_berge_again g r is =
-    let b = best g r is in
-    (b.inner, b.m, b.frame.certificate.outside, certificate_maximum g r b.inner (count (size g) b.m) b.frame.label b.frame.classes is b.frame.certificate b.m b.is refl, (certificate_components g r b.inner (count (size g) b.m) b.frame.label b.frame.classes is b.frame.certificate b.m b.is refl).1)
-
 -- the outer vertices of a frame are those that some maximum matching misses, the inner ones their other neighbours
 module _ (g : Graph) (is : IsGraph g) (r : Set) (k : ℕ) (outer inner : Set) (frame : Frame g r k outer inner) (m : Set) (mm : IsMatching g r m) (full : count (size g) m ≡ k) where
   pub outer_free : (v : ℕ) → Within g.order v → outer v ≡ true → union r inner v ≡ false

@@ -8,18 +8,6 @@ use Rattle.tree_core.specs.Moves.{PlainMove, rotate_at, switch_at}
 use Rattle.tree_core.specs.MoveView.{move_of, moves_of}
 use Rattle.move_text.specs.Writing.{path_word, set_word, move_words, header_words, moves_text}
 
--- the line of a Rotate
-pub rotate_line-text : (old first second third : List ℕ) (path : List Side) → first ≡ old ++ codes "rotate " → second ≡ first ++ path_word path → third ≡ second ++ 10 ∷ [] → third ≡ old ++ written (move_words (rotate_at path) ∷ [])
-rotate_line-text old first second third path is_first is_second is_third =
-    is_third ∙ ap (λ t. t ++ 10 ∷ []) (is_second ∙ ap (λ t. t ++ path_word path) is_first) ∙ simp append_assoc
-
--- the line of a Switch
-pub switch_line-text : (old first second third fourth fifth sixth last : List ℕ) (path : List Side) (u v : List ℕ) → first ≡ old ++ codes "switch " → second ≡ first ++ path_word path → third ≡ second ++ 32 ∷ [] → fourth ≡ third ++ set_word u → fifth ≡ fourth ++ 32 ∷ [] → sixth ≡ fifth ++ set_word v → last ≡ sixth ++ 10 ∷ [] → last ≡ old ++ written (move_words (switch_at path u v) ∷ [])
-switch_line-text old first second third fourth fifth sixth last path u v is_first is_second is_third is_fourth is_fifth is_sixth is_last =
-    is_last
-    ∙ ap (λ t. t ++ 10 ∷ []) (is_sixth ∙ ap (λ t. t ++ set_word v) (is_fifth ∙ ap (λ t. t ++ 32 ∷ []) (is_fourth ∙ ap (λ t. t ++ set_word u) (is_third ∙ ap (λ t. t ++ 32 ∷ []) (is_second ∙ ap (λ t. t ++ path_word path) is_first)))))
-    ∙ simp append_assoc
-
 -- all moves
 map-moves : (moves : List Move) → map (λ m. move_words (move_of m)) moves ≡ map move_words (moves_of moves)
 map-moves [] = refl

@@ -20,31 +20,3 @@ file_named-append name (file ∷ files) others =
       | true ↦ refl
       | false ↦ file_named-append name files others
     ]
-
--- a file that is put under a name not yet held is the one of that name
-pub file_named-put :
-    (name bytes : List ℕ) (files : List Named) →
-    file_named name files ≡ None → file_named name (files ++ (name, bytes) ∷ []) ≡ Some bytes
-file_named-put name bytes files absent =
-    let same = (bytes_eq-Decides name name).1 refl in
-    rw (file_named-append, absent, same)
-
--- where the files are told, what is told of a name is what is looked up
-pub TellsFile-told :
-    (told : Option (List Named)) (files : List Named) (name : List ℕ) (file : Option (List ℕ)) →
-    told ≡ Some files → TellsFile told name file → file_named name files ≡ file
-TellsFile-told told files name file is tells = rw is at tells
-
--- where the files are told, the one of that name is longer than the limit
-pub IsLonger-told :
-    (told : Option (List Named)) (files : List Named) (name : List ℕ) (limit taken : ℕ) →
-    told ≡ Some files → IsLonger told name limit taken → HoldsLonger files name limit
-IsLonger-told told files name limit taken is longer = rw is at longer
-
--- a file within the limit is not longer than it
-pub within-not_HoldsLonger :
-    (files : List Named) (name bytes : List ℕ) (limit : ℕ) →
-    file_named name files ≡ Some bytes → length bytes ≤ limit → ¬ HoldsLonger files name limit
-within-not_HoldsLonger files name bytes limit held within longer =
-    let same : bytes ≡ longer.0 = cc in
-    omega (arith, subst (λ (b : List ℕ). length b ≤ limit) same within)
