@@ -34,9 +34,11 @@ fn load<S: Shelf, F: FileFormat>(
     ensures stops { IfErr result (StopsAt place) }
     ensures failed { IsReadFault result → Rose (S.faults shelf.old) (S.faults shelf.new) }
     ensures loads { (files : List Named) → S.files shelf.old ≡ Some files
-        → LoadsAs F.meaning result (file_read place (F.reading format.now) (file_named name.now files)) }
+        → LoadsAs F.meaning result
+        (file_read place (F.reading format.now) (file_named name.now files)) }
     ensures absent { (files : List Named) → S.files shelf.old ≡ Some files
-        → FailsAs (S.steady shelf.old) result (file_read place (F.reading format.now) (file_named name.now files)) }
+        → FailsAs (S.steady shelf.old) result
+        (file_read place (F.reading format.now) (file_named name.now files)) }
     ensures keeps { IfOk result (F.keeps format.now) }
 {
     let bytes = match shelf.read(alloc, name, MOST_BYTES) {
@@ -75,9 +77,11 @@ fn load_first<S: Shelf, F: FileFormat>(
     ensures reads { ReadsAs S.reads (name.now ∷ []) result shelf.old shelf.new }
     ensures failed { IsReadFault result → Rose (S.faults shelf.old) (S.faults shelf.new) }
     ensures loads { (files : List Named) → S.files shelf.old ≡ Some files
-        → LoadsAs F.meaning result (file_read 1 (F.reading format.now) (file_named name.now files)) }
+        → LoadsAs F.meaning result
+        (file_read 1 (F.reading format.now) (file_named name.now files)) }
     ensures absent { (files : List Named) → S.files shelf.old ≡ Some files
-        → FailsAs (S.steady shelf.old) result (file_read 1 (F.reading format.now) (file_named name.now files)) }
+        → FailsAs (S.steady shelf.old) result
+        (file_read 1 (F.reading format.now) (file_named name.now files)) }
     ensures keeps { IfOk result (F.keeps format.now) }
 {
     load(alloc, format, name, 1, shelf)

@@ -48,7 +48,8 @@ pub fn run_in_memory(
         → (output : List ℕ) × Outcome (map string_bytes words.now) shelf.old.files result output }
     ensures absent { (command : Command) (file : ℕ) →
         command_of (map string_bytes words.now) ≡ Some command
-        → loaded shelf.old.files command ≡ Absent file → (result ≡ Status.ReadFault) ⊎ (result ≡ Status.Memory) }
+        → loaded shelf.old.files command ≡ Absent file →
+        (result ≡ Status.ReadFault) ⊎ (result ≡ Status.Memory) }
     ensures bad { (command : Command) (file line kind : ℕ) →
         command_of (map string_bytes words.now) ≡ Some command
         → loaded shelf.old.files command ≡ Bad file line kind

@@ -26,7 +26,8 @@ pub fn completeness_law()
 /// Two outcomes of the same words and files have the same status.
 pub fn one_status_law()
     ensures { (words : List (List ℕ)) (files : List Named) (first second : Status)
-        (output other : List ℕ) → Outcome words files first output → Outcome words files second other → first ≡ second }
+        (output other : List ℕ) → Outcome words files first output →
+        Outcome words files second other → first ≡ second }
 {}
 
 /// Two outcomes of the same words and files have one output, but for what is free. Where a task is done its output is one, but for a
@@ -42,7 +43,8 @@ pub fn one_output_law()
         (task : Task)
         (output other : List ℕ)
         → command_of words ≡ Some command → loaded files command ≡ All task → ShowsNothingFree task
-        → Outcome words files Negative output → Outcome words files Negative other → output ≡ other }
+        → Outcome words files Negative output → Outcome words files Negative other →
+        output ≡ other }
     ensures shown { (words : List (List ℕ)) (files : List Named) (command : Command) (task : Task)
         (status : Status) (output other : List ℕ)
         → command_of words ≡ Some command → loaded files command ≡ All task
@@ -50,5 +52,6 @@ pub fn one_output_law()
         → Outcome words files status output → Outcome words files status other
         → DifferAtMostIn (MayShow task) output other }
     ensures bad { (words : List (List ℕ)) (files : List Named) (output other : List ℕ)
-        → Outcome words files BadInput output → Outcome words files BadInput other → output ≡ other }
+        → Outcome words files BadInput output → Outcome words files BadInput other →
+        output ≡ other }
 {}

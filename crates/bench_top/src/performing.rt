@@ -63,7 +63,8 @@ pub fn perform<S: Shelf, K: Sink>(
         → ReadsInTurn S.reads (file_names (asked command.entry)) shelf.old shelf.new }
     ensures asks_until { (files : List Named) → S.files shelf.old ≡ Some files
         → HasRead (S.steady shelf.old) result
-        → let names = names_until (loaded files (asked command.entry)) (file_names (asked command.entry))
+        → let names = names_until (loaded files (asked command.entry))
+        (file_names (asked command.entry))
         in ReadsInTurn S.reads names shelf.old shelf.new }
     ensures read_fault { result ≡ Status.ReadFault →
         Rose (S.faults shelf.old) (S.faults shelf.new) }

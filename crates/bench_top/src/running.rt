@@ -47,7 +47,8 @@ pub fn run<S: Shelf, K: Sink>(
     ensures asks { ReadsFirst S.reads (names_in (command_of (map string_bytes words.now)))
         shelf.old shelf.new }
     ensures asks_all { IsSettled result
-        → ReadsInTurn S.reads (names_in (command_of (map string_bytes words.now))) shelf.old shelf.new }
+        → ReadsInTurn S.reads (names_in (command_of (map string_bytes words.now))) shelf.old
+        shelf.new }
     ensures asks_until { (files : List Named) (command : Command) → S.files shelf.old ≡ Some files
         → command_of (map string_bytes words.now) ≡ Some command
         → HasRead (S.steady shelf.old) result
@@ -62,7 +63,8 @@ pub fn run<S: Shelf, K: Sink>(
         → Appended (Outcome (map string_bytes words.now) files) result
         (K.written sink.old) (K.written sink.new) }
     ensures cut { (files : List Named) → S.files shelf.old ≡ Some files → result ≡ Status.WriteFault
-        → CutShort (Outcome (map string_bytes words.now) files) (K.written sink.old) (K.written sink.new) }
+        → CutShort (Outcome (map string_bytes words.now) files) (K.written sink.old)
+        (K.written sink.new) }
 
     // Over a steady shelf a read fails only where a named file is not held and all before it are held and good.
     ensures missing { (files : List Named) (command : Command) → S.files shelf.old ≡ Some files
@@ -73,11 +75,13 @@ pub fn run<S: Shelf, K: Sink>(
     // What the files hold decides the status, where the outside does not fail and memory lasts.
     ensures absent { (files : List Named) (command : Command) (file : ℕ) →
         S.files shelf.old ≡ Some files
-        → command_of (map string_bytes words.now) ≡ Some command → loaded files command ≡ Absent file
+        → command_of (map string_bytes words.now) ≡ Some command →
+        loaded files command ≡ Absent file
         → (result ≡ Status.ReadFault) ⊎ (result ≡ Status.Memory) }
     ensures bad { (files : List Named) (command : Command) (file line kind : ℕ) →
         S.files shelf.old ≡ Some files
-        → command_of (map string_bytes words.now) ≡ Some command → loaded files command ≡ Bad file line kind
+        → command_of (map string_bytes words.now) ≡ Some command →
+        loaded files command ≡ Bad file line kind
         → IsCalm (S.steady shelf.old) (S.faults shelf.old) (S.faults shelf.new)
         (K.faults sink.old) (K.faults sink.new)
         → (result ≡ Status.BadInput) ⊎ (result ≡ Status.Memory) }

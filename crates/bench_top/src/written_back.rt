@@ -74,7 +74,8 @@ pub fn convert_law()
 pub fn replayed_script_law()
     ensures { (files again : List Named) (graph first second script : List ℕ) (output : List ℕ)
         → Outcome (codes "script" ∷ graph ∷ first ∷ second ∷ []) files Done output
-        → file_named graph again ≡ file_named graph files → file_named first again ≡ file_named first files
+        → file_named graph again ≡ file_named graph files →
+        file_named first again ≡ file_named first files
         → file_named script again ≡ Some output → length output ≤ most_bytes
         → ReplaysScript files again graph first second script output }
 {}

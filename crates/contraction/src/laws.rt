@@ -52,13 +52,17 @@ pub fn merged_quotients_law()
     ensures covered { (g : Graph) (p : List (List ℕ)) (x : List ℕ) → IsGraph g →
         AreBlocks g.order p → IsRisingIn g.order x → IsTightAt g p (mem x) →
         IsCovered (quotient g p) →
-        IsCovered (quotient g (merged p x)) × IsCovered (quotient g (merged p (complement_of g.order x))) }
+        IsCovered (quotient g (merged p x)) ×
+        IsCovered (quotient g (merged p (complement_of g.order x))) }
     ensures before { (g : Graph) (p : List (List ℕ)) (x : List ℕ) (y : Set) → IsGraph g →
         AreBlocks g.order p → IsRisingIn g.order x → IsTightAt g p (mem x) →
         IsCovered (quotient g p) →
-        (IsTightAt g (merged p x) y → IsTightAt g p y) × (IsTightAt g (merged p (complement_of g.order x)) y → IsTightAt g p y) }
+        (IsTightAt g (merged p x) y → IsTightAt g p y) ×
+        (IsTightAt g (merged p (complement_of g.order x)) y → IsTightAt g p y) }
     ensures after { (g : Graph) (p : List (List ℕ)) (x : List ℕ) (y : Set) → IsGraph g →
         AreBlocks g.order p → IsRisingIn g.order x → IsTightAt g p (mem x) →
         IsCovered (quotient g p) → IsTightAt g p y →
-        (IsUnion g.order (merged p x) y → IsTightAt g (merged p x) y) × (IsUnion g.order (merged p (complement_of g.order x)) y → IsTightAt g (merged p (complement_of g.order x)) y) }
+        (IsUnion g.order (merged p x) y → IsTightAt g (merged p x) y) ×
+        (IsUnion g.order (merged p (complement_of g.order x)) y →
+        IsTightAt g (merged p (complement_of g.order x)) y) }
 {}

@@ -27,5 +27,7 @@ pub fn first_parted_law()
     ensures first { (g : Graph) (e : ℕ) (k : ℕ × ℕ) → IsGraph g → Within (size g) e →
         ((first_parted g e ≡ Some k) ↔ IsFirstParted g (lesser_end g e) (greater_end g e) k) }
     ensures none { (g : Graph) (e : ℕ) → IsGraph g → Within (size g) e →
-        ((first_parted g e ≡ None) ↔ ((k : ℕ × ℕ) → Within g.order k.0 → Within g.order k.1 → ¬ (IsParted g (lesser_end g e) (greater_end g e) k))) }
+        ((first_parted g e ≡ None) ↔
+        ((k : ℕ × ℕ) → Within g.order k.0 → Within g.order k.1 →
+        ¬ (IsParted g (lesser_end g e) (greater_end g e) k))) }
 {}

@@ -11,12 +11,15 @@ ghost use Rattle.cut_laws.specs.Preorder.{ListsPaths};
 /// cuts as paths that lead to one, and the list of leaves and that of shores have at each place what the path of that place leads to.
 pub fn tree_nodes_law()
     ensures nodes { (n : ℕ) (t : Shape) → (paths : List (List Side)) × (length paths ≡ node_count t)
-        × ListsPaths paths (λ path. (q : List (List ℕ)) × (s : Shape) × LeadsTo n path (singles n) t q s) }
+        × ListsPaths paths (λ path. (q : List (List ℕ)) × (s : Shape) ×
+        LeadsTo n path (singles n) t q s) }
     ensures leaves { (n : ℕ) (t : Shape) →
         (paths : List (List Side)) × (length paths ≡ leaf_count t)
         × ListsPaths paths (λ path. (q : List (List ℕ)) × LeadsTo n path (singles n) t q leaf)
         × AllZip (λ path q. LeadsTo n path (singles n) t q leaf) paths (leaves n t) }
     ensures cuts { (n : ℕ) (t : Shape) → (paths : List (List Side)) × (length paths ≡ cut_count t)
-        × ListsPaths paths (λ path. (x : List ℕ) × (q : List (List ℕ)) × (k : Shape) × (m : Shape) × LeadsTo n path (singles n) t q (cut x k m))
-        × AllZip (λ path x. (q : List (List ℕ)) × (k : Shape) × (m : Shape) × LeadsTo n path (singles n) t q (cut x k m)) paths (shores t) }
+        × ListsPaths paths (λ path. (x : List ℕ) × (q : List (List ℕ)) × (k : Shape) × (m : Shape) ×
+        LeadsTo n path (singles n) t q (cut x k m))
+        × AllZip (λ path x. (q : List (List ℕ)) × (k : Shape) × (m : Shape) ×
+        LeadsTo n path (singles n) t q (cut x k m)) paths (shores t) }
 {}

@@ -27,9 +27,11 @@ pub fn component_law()
         Joined g s u u × (Joined g s u v → Joined g s v u) ×
         (Joined g s u v → Joined g s v w → Joined g s u w) }
     ensures least { (g : Graph) (s : Set) (u : ℕ) → IsGraph g → Within g.order u →
-        ((is_least g s u ≡ true) ↔ ((s u ≡ false) × ((v : ℕ) → Within g.order v → Joined g s u v → u ≤ v))) }
+        ((is_least g s u ≡ true) ↔
+        ((s u ≡ false) × ((v : ℕ) → Within g.order v → Joined g s u v → u ≤ v))) }
     ensures one { (g : Graph) (s : Set) (v : ℕ) → IsGraph g → Within g.order v → s v ≡ false →
-        (u : ℕ) × Within g.order u × (is_least g s u ≡ true) × Joined g s u v × ((w : ℕ) → Within g.order w → is_least g s w ≡ true → Joined g s w v → w ≡ u) }
+        (u : ℕ) × Within g.order u × (is_least g s u ≡ true) × Joined g s u v ×
+        ((w : ℕ) → Within g.order w → is_least g s w ≡ true → Joined g s w v → w ≡ u) }
     ensures apart { (g : Graph) (s : Set) (u v : ℕ) → IsGraph g → Within g.order u →
         Within g.order v →
         is_least g s u ≡ true → is_least g s v ≡ true → Joined g s u v → u ≡ v }

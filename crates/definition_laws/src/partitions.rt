@@ -18,7 +18,8 @@ pub fn blocks_law()
         Within (length p) (place p v) × (mem (block p (place p v)) v ≡ true) ×
         ((i : ℕ) → Within (length p) i → mem (block p i) v ≡ true → i ≡ place p v) }
     ensures same { (n : ℕ) (p q : List (List ℕ)) → IsPartition n p → IsPartition n q →
-        ((u v : ℕ) → Within n u → Within n v → ((place p u ≡ place p v) ↔ (place q u ≡ place q v))) → p ≡ q }
+        ((u v : ℕ) → Within n u → Within n v →
+        ((place p u ≡ place p v) ↔ (place q u ≡ place q v))) → p ≡ q }
 {}
 
 /// A perfect matching at a partition, in words: none of its edges is inside a block, and each block holds an end of exactly one.
@@ -32,6 +33,7 @@ pub fn perfect_at_law()
 pub fn tight_at_law()
     ensures { (g : Graph) (p : List (List ℕ)) (x : Set) → IsGraph g → AreBlocks g.order p →
         (IsTightAt g p x ↔
-        (IsUnion g.order p x × (is_odd (block_count p x) ≡ true) × (is_odd (block_count p (complement x)) ≡ true) ×
+        (IsUnion g.order p x × (is_odd (block_count p x) ≡ true) ×
+        (is_odd (block_count p (complement x)) ≡ true) ×
         ((m : Set) → IsPerfectAt g p m → edges_in_cut g m x ≡ 1))) }
 {}

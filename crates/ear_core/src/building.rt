@@ -93,9 +93,12 @@ fn matching_with_first(alloc: Global, g: &MultiGraph) -> Result<Matching, Memory
 fn leaving_edge(g: &MultiGraph, mark: &[bool]) -> Option<u32>
     requires { length mark.now ≡ size g.now + 1 }
     ensures some { IfSome result (λ e. Within (size g.now) e × (marks mark.now e ≡ false)
-        × ((is_met g.now (marks mark.now) (first_end g.now e) || is_met g.now (marks mark.now) (second_end g.now e)) ≡ true)) }
+        × ((is_met g.now (marks mark.now) (first_end g.now e) ||
+        is_met g.now (marks mark.now) (second_end g.now e)) ≡ true)) }
     ensures none { IfNone result ((e : ℕ) → Within (size g.now) e
-        → (not (marks mark.now e) && (is_met g.now (marks mark.now) (first_end g.now e) || is_met g.now (marks mark.now) (second_end g.now e))) ≡ false) }
+        → (not (marks mark.now e) &&
+        (is_met g.now (marks mark.now) (first_end g.now e) ||
+        is_met g.now (marks mark.now) (second_end g.now e))) ≡ false) }
 {
     g.keeps_limits();
     let met = met_by(g, mark);

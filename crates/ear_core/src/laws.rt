@@ -25,7 +25,8 @@ pub fn new_stage_law()
     ensures tests { (g : Graph) (f : Set) (s : PlainStep) → (step_fault g f s ≡ None) ↔
         IsStep g f s }
     ensures stage { (g : Graph) → IsGraph g → (f : Set) (s : PlainStep) → IsStage g f → IsStep g f s
-        → ((e : ℕ) → Within (size g) e → next_stage f s e ≡ true → AllowedBy g (next_stage f s) e) → IsStage g (next_stage f s) }
+        → ((e : ℕ) → Within (size g) e → next_stage f s e ≡ true → AllowedBy g (next_stage f s) e) →
+        IsStage g (next_stage f s) }
 {}
 
 /// Steps that lead from a stage to all edges have no refusal, and others have one first refusal at most.

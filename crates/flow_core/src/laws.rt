@@ -15,5 +15,6 @@ pub fn flow_law()
         → (x : Set) → Separates source sink x → value ≤ value_of net x }
     ensures least { (net : Net) (source sink : ℕ) (amounts : List ℤ) (value : ℕ) → IsNet net →
         Within net.nodes source → IsFlow net source sink amounts value
-        → (set : List ℕ) → IsReachedSet net amounts source sink set → IsLeastCut net source sink set value }
+        → (set : List ℕ) → IsReachedSet net amounts source sink set →
+        IsLeastCut net source sink set value }
 {}

@@ -117,10 +117,12 @@ pub fn contraction_law()
         IsTightAt g p (mem x) → IsCovered (contracted g p) → IsCovered (contracted g (merged p x)) }
     ensures before { (g : Graph) (p : List (List ℕ)) (x : List ℕ) (y : Set) → IsGraph g →
         AreBlocks g.order p → IsRisingIn g.order x →
-        IsTightAt g p (mem x) → IsCovered (contracted g p) → IsTightAt g (merged p x) y → IsTightAt g p y }
+        IsTightAt g p (mem x) → IsCovered (contracted g p) → IsTightAt g (merged p x) y →
+        IsTightAt g p y }
     ensures after { (g : Graph) (p : List (List ℕ)) (x : List ℕ) (y : Set) → IsGraph g →
         AreBlocks g.order p → IsRisingIn g.order x →
-        IsTightAt g p (mem x) → IsCovered (contracted g p) → IsTightAt g p y → IsUnion g.order (merged p x) y → IsTightAt g (merged p x) y }
+        IsTightAt g p (mem x) → IsCovered (contracted g p) → IsTightAt g p y →
+        IsUnion g.order (merged p x) y → IsTightAt g (merged p x) y }
 {}
 
 /// A set of blocks is tight in the quotient exactly where it is in the contracted graph.

@@ -46,7 +46,8 @@ fn walk_over_root(alloc: Global, nodes: &[TreeNode], a: u32, b: u32) -> Result<N
     requires first { Within (length nodes.now) a }
     requires second { Within (length nodes.now) b }
     ensures { IfOk result (λ walk.
-        walk ≡ a ∷ (way_up (parent_at nodes.now) (depth_at nodes.now a) a ++ way_down (parent_at nodes.now) (depth_at nodes.now b) b)) }
+        walk ≡ a ∷ (way_up (parent_at nodes.now) (depth_at nodes.now a) a ++
+        way_down (parent_at nodes.now) (depth_at nodes.now b) b)) }
 {
     let mut walk = Numbers::new(alloc);
     walk.push(a)?;

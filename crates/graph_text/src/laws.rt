@@ -35,7 +35,8 @@ pub fn written_names_stand()
 /// header of version 2, that line is the first fault in version 1, of the kind Header.
 pub fn versions_law()
     ensures reads { (text : List ℕ) (g : Graph)
-        → Stands version_one text g ↔ Stands either_version text (record { graph = g; names = None }) }
+        → Stands version_one text g ↔
+        Stands either_version text (record { graph = g; names = None }) }
     ensures faults { (text : List ℕ) (line : ℕ) (kind : FaultKind) → is_version_two text ≡ false
         → FirstFault version_one text line kind ↔ FirstFault either_version text line kind }
     ensures refused { (text : List ℕ) (line : SignificantLine) (lines : List SignificantLine) →

@@ -18,7 +18,8 @@ pub fn splice_law()
         Within g.order w → i < 6 → IsCubic (splice g w h (permutation i)) }
     ensures simple { (g h : Graph) (w i : ℕ) → IsMultigraph g → IsMultigraph h → IsCubic g →
         IsCubic h → 2 ≤ h.order →
-        Within g.order w → i < 6 → IsSimple g → IsSimple h → IsSimple (splice g w h (permutation i)) }
+        Within g.order w → i < 6 → IsSimple g → IsSimple h →
+        IsSimple (splice g w h (permutation i)) }
     ensures covered { (g h : Graph) (w i : ℕ) → IsMultigraph g → IsMultigraph h → IsCubic g →
         IsCubic h → IsCovered g → IsCovered h →
         Within g.order w → i < 6 → IsCovered (splice g w h (permutation i)) }

@@ -9,7 +9,8 @@ use crate::teller::LineTeller;
 pub fn one_output_law<T: LineTeller>(teller: &T)
     ensures { (number : ℕ) (lines : List (List ℕ)) (a b : List ℕ)
         → HasOneOutput (T.tells teller.now)
-        → AllTold (T.tells teller.now) number lines a → AllTold (T.tells teller.now) number lines b → a ≡ b }
+        → AllTold (T.tells teller.now) number lines a →
+        AllTold (T.tells teller.now) number lines b → a ≡ b }
 {
     let _ = teller;
 }

@@ -40,7 +40,8 @@ pub fn run<S: Source, K: Sink>(
         → Appended (Outcome command.query bytes result) (K.written sink.old) (K.written sink.new) }
     // Where the source does not tell what is left, it is what they ask of the lines of some list.
     ensures tells { (command : Command) → command_of (map string_bytes words.now) ≡ Some command
-        → TellsSome command.query result (S.left source.old) (K.written sink.old) (K.written sink.new) }
+        → TellsSome command.query result (S.left source.old) (K.written sink.old)
+        (K.written sink.new) }
     // Where the source fails, each whole line of what was read is told and written.
     ensures torn { (command : Command) → command_of (map string_bytes words.now) ≡ Some command
         → result ≡ Status.ReadFault

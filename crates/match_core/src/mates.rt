@@ -51,7 +51,8 @@ pub fn clear(mate: &mut [u32], ring: &[u32])
     requires in_mates { (i : ℕ) → Within (length ring.now - 1) i →
         numbers ring.now i < length mate.old }
     ensures { (u : ℕ) →
-        numbers mate.new u ≡ cleared_mates (numbers mate.old) (length ring.now - 1) (numbers ring.now) u }
+        numbers mate.new u ≡ cleared_mates (numbers mate.old) (length ring.now - 1)
+        (numbers ring.now) u }
 {
     for i in 0..ring.len() - 1 {
         expose(mate, ring[i + 1]);
@@ -73,7 +74,9 @@ fn pair_place(mate: &mut [u32], ring: &[u32], tip: usize, place: usize)
     requires in_mates { (i : ℕ) → Within (length ring.now - 1) i →
         numbers ring.now i < length mate.old }
     ensures { (u : ℕ) → numbers mate.new u ≡
-        cond (every_other tip place) (with_pair (numbers mate.old) (numbers ring.now place) (numbers ring.now (next (length ring.now - 1) place)) u) (numbers mate.old u) }
+        cond (every_other tip place)
+        (with_pair (numbers mate.old) (numbers ring.now place)
+        (numbers ring.now (next (length ring.now - 1) place)) u) (numbers mate.old u) }
 {
     if is_every_other(tip, place) {
         join(mate, ring[place], ring[place_after(ring.len() - 1, place)]);
@@ -87,7 +90,8 @@ pub fn pair_round(mate: &mut [u32], ring: &[u32], tip: usize)
     requires in_mates { (i : ℕ) → Within (length ring.now - 1) i →
         numbers ring.now i < length mate.old }
     ensures { (u : ℕ) →
-        numbers mate.new u ≡ paired_round (numbers mate.old) (length ring.now - 1) (numbers ring.now) tip (length ring.now - 1) u }
+        numbers mate.new u ≡ paired_round (numbers mate.old) (length ring.now - 1)
+        (numbers ring.now) tip (length ring.now - 1) u }
 {
     for i in 0..ring.len() - 1 {
         pair_place(mate, ring, tip, i + 1);

@@ -107,7 +107,8 @@ fn missable_alone(
     requires { IsOf g.now m.now }
     ensures within { IfOk result (λ row. (v : ℕ) → mem row v ≡ true → Within g.now.order v) }
     ensures row { IfOk result (λ row. (v : ℕ) → Within g.now.order v →
-        mem row v ≡ (not (mem removed v) && has_perfect g.now (union (mem removed) (singleton v)))) }
+        mem row v ≡ (not (mem removed v) &&
+        has_perfect g.now (union (mem removed) (singleton v)))) }
 {
     let n = g.order();
     let ends = g.edges();

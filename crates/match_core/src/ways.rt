@@ -16,7 +16,8 @@ use std::alloc::{AllocError as Memory, Global};
 fn write_pair(row: &mut [u32], place: usize, first: u32, second: u32)
     requires { suc place < length row.old }
     ensures { (j : ℕ) →
-        numbers row.new j ≡ with_mate (with_mate (numbers row.old) (suc place) second) place first j }
+        numbers row.new j ≡ with_mate (with_mate (numbers row.old) (suc place) second) place first
+        j }
 {
     row[place + 1] = second;
     row[place] = first;

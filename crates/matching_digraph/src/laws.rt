@@ -14,7 +14,8 @@ ghost use Rattle.matching_digraph.specs.Digraph.{NoArcLeaves, NoneParts, Spans, 
 /// a and without its mate that no arc of the digraph of the matching leaves, but the arc of a.
 pub fn tight_shores_law()
     ensures { (g : Graph) (x m : Set) (a b : ℕ) (y : Set) →
-        IsGraph g → IsCovered g → IsSide g x → IsPerfect g none m → x a ≡ true → are_mates g m a b ≡ true →
+        IsGraph g → IsCovered g → IsSide g x → IsPerfect g none m → x a ≡ true →
+        are_mates g m a b ≡ true →
         y a ≡ true → y b ≡ false → IsTight g y ↔ NoArcLeaves g x m a y }
 {}
 
@@ -30,7 +31,8 @@ pub fn reached_law()
 /// of each other edge of it as one node, is strongly connected.
 pub fn unparted_law()
     ensures { (g : Graph) (x m : Set) (a b r : ℕ) →
-        IsGraph g → IsCovered g → IsSide g x → IsPerfect g none m → x a ≡ true → are_mates g m a b ≡ true →
+        IsGraph g → IsCovered g → IsSide g x → IsPerfect g none m → x a ≡ true →
+        are_mates g m a b ≡ true →
         Within g.order r → r ≢ a → r ≢ b →
         NoneParts g a b
         ↔ (Spans g.order (arc g x m) a r b × Spans g.order (arc g (complement x) m) b r a) }

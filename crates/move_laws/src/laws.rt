@@ -26,12 +26,18 @@ ghost use Rattle.move_laws.specs.SameLeaf.{IsSameLeaf, from_name, image_shore, m
 pub fn exchange()
     ensures kept { (g : Graph) (p : List (List ℕ)) (x u v : List ℕ) (s t : ℕ) → IsGraph g →
         IsPartition g.order p → IsCovered (contracted g p) →
-        IsRisingIn g.order x → IsRisingIn g.order u → IsRisingIn g.order v → Corner g p (mem x) (mem u) (mem v) s t →
-        IsSameLeaf g (kept_at g.order p x) (merged p (union_list g.order (outer_rest g.order x v) u)) (map (λ b. last_of (kept_image g.order x u v b)) (kept_at g.order p x)) }
+        IsRisingIn g.order x → IsRisingIn g.order u → IsRisingIn g.order v →
+        Corner g p (mem x) (mem u) (mem v) s t →
+        IsSameLeaf g (kept_at g.order p x)
+        (merged p (union_list g.order (outer_rest g.order x v) u))
+        (map (λ b. last_of (kept_image g.order x u v b)) (kept_at g.order p x)) }
     ensures merged { (g : Graph) (p : List (List ℕ)) (x u v : List ℕ) (s t : ℕ) → IsGraph g →
         IsPartition g.order p → IsCovered (contracted g p) →
-        IsRisingIn g.order x → IsRisingIn g.order u → IsRisingIn g.order v → Corner g p (mem x) (mem u) (mem v) s t →
-        IsSameLeaf g (merged_at g.order p x) (merged p (union_list g.order (inner_rest g.order x u) v)) (map (λ b. last_of (merged_image g.order x u v b)) (merged_at g.order p x)) }
+        IsRisingIn g.order x → IsRisingIn g.order u → IsRisingIn g.order v →
+        Corner g p (mem x) (mem u) (mem v) s t →
+        IsSameLeaf g (merged_at g.order p x)
+        (merged p (union_list g.order (inner_rest g.order x u) v))
+        (map (λ b. last_of (merged_image g.order x u v b)) (merged_at g.order p x)) }
 {}
 
 /// Carrying: let two partitions be the same leaf by a list of names. A set of blocks is tight, or nontrivial, at the one exactly where
@@ -44,13 +50,17 @@ pub fn carrying()
         IsUnion g.order p x → (IsTightAt g p x ↔ IsTightAt g q (pre (from_name p q names) x)) }
     ensures nontrivial { (g : Graph) (p q : List (List ℕ)) (names : List ℕ) (x : Set) → IsGraph g →
         IsPartition g.order p → IsPartition g.order q → IsSameLeaf g p q names →
-        IsUnion g.order p x → (IsNontrivial (length p) (blocks_in p x) ↔ IsNontrivial (length q) (blocks_in q (pre (from_name p q names) x))) }
+        IsUnion g.order p x → (IsNontrivial (length p) (blocks_in p x) ↔
+        IsNontrivial (length q) (blocks_in q (pre (from_name p q names) x))) }
     ensures derivation { (g : Graph) (p q : List (List ℕ)) (names : List ℕ) (t : Shape) →
         IsGraph g → IsPartition g.order p → IsPartition g.order q → IsSameLeaf g p q names →
-        (IsDerivationAt g p t ↔ (Fits g.order t × StandsAt g.order p t × IsDerivationAt g q (carry g.order (from_name p q names) t))) }
+        (IsDerivationAt g p t ↔
+        (Fits g.order t × StandsAt g.order p t ×
+        IsDerivationAt g q (carry g.order (from_name p q names) t))) }
     ensures again { (g : Graph) (p q : List (List ℕ)) (names : List ℕ) (t : Shape) → IsGraph g →
         IsPartition g.order p → IsPartition g.order q → IsSameLeaf g p q names →
-        Fits g.order t → StandsAt g.order p t → carry g.order (to_name p names) (carry g.order (from_name p q names) t) ≡ t }
+        Fits g.order t → StandsAt g.order p t →
+        carry g.order (to_name p names) (carry g.order (from_name p q names) t) ≡ t }
 {}
 
 /// Names: let two partitions be the same leaf by a list of names. Then the second and the first are the same leaf by the names turned
@@ -62,7 +72,8 @@ pub fn same_leaves()
     ensures merged { (g : Graph) (p q : List (List ℕ)) (names x : List ℕ) → IsGraph g →
         IsPartition g.order p → IsPartition g.order q → IsSameLeaf g p q names →
         IsRisingIn g.order x → 0 < length x → IsUnion g.order p (mem x) →
-        (let y = image_shore g.order p q names x in IsSameLeaf g (merged p x) (merged q y) (merged_names p (merged p x) (merged q y) names)) }
+        (let y = image_shore g.order p q names x in IsSameLeaf g (merged p x) (merged q y)
+        (merged_names p (merged p x) (merged q y) names)) }
 {}
 
 /// Rotate takes a derivation to a derivation, wherever it has a result.

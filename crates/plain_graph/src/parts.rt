@@ -38,7 +38,8 @@ fn is_next(graph: &MultiGraph, removed: VSet, reached: VSet, v: u32) -> bool
 fn one_step_more(graph: &MultiGraph, removed: VSet, reached: VSet) -> VSet
     requires { (v : ℕ) → mem reached v ≡ true → Within graph.now.order v }
     ensures more { (v : ℕ) → Within graph.now.order v →
-        mem result v ≡ (mem reached v || some graph.now.order (λ u. mem reached u && adjacent graph.now (mem removed) u v)) }
+        mem result v ≡ (mem reached v ||
+        some graph.now.order (λ u. mem reached u && adjacent graph.now (mem removed) u v)) }
     ensures vertices { (v : ℕ) → mem result v ≡ true → Within graph.now.order v }
 {
     let mut more = reached;

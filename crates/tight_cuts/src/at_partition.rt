@@ -74,7 +74,8 @@ pub fn first_candidate_at(
     ensures some { IfOk result
         (λ found. (c : _) → found ≡ Some c → IsCandidateAt g.now p.now.blocks (candidate_of c)) }
     ensures none { IfOk result (λ found. (found ≡ None) ↔
-        ((x : Set) → IsTightAt g.now p.now.blocks x → IsNontrivial (length p.now.blocks) (blocks_in p.now.blocks x) → ⊥)) }
+        ((x : Set) → IsTightAt g.now p.now.blocks x →
+        IsNontrivial (length p.now.blocks) (blocks_in p.now.blocks x) → ⊥)) }
 {
     g.keeps_limits();
     p.keeps_partition();

@@ -50,7 +50,8 @@ pub fn tree_paths()
         (Any (λ (p : List (List ℕ)). p ≡ q) (leaves n t) ↔
         ((path : List Side) × LeadsTo n path (singles n) t q leaf)) }
     ensures shore { (n : ℕ) (t : Shape) (x : List ℕ) → (Any (λ (y : List ℕ). y ≡ x) (shores t) ↔
-        ((path : List Side) × (q : List (List ℕ)) × (k : Shape) × (m : Shape) × LeadsTo n path (singles n) t q (cut x k m))) }
+        ((path : List Side) × (q : List (List ℕ)) × (k : Shape) × (m : Shape) ×
+        LeadsTo n path (singles n) t q (cut x k m))) }
     ensures within { (n : ℕ) (t : Shape) (q : List (List ℕ)) (path : List Side) →
         LeadsTo n path (singles n) t q leaf → length path + 1 ≤ depth t }
     ensures deepest { (n : ℕ) (t : Shape) →

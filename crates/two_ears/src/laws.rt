@@ -15,7 +15,8 @@ ghost use Rattle.two_ears.specs.VertexPairs.{AreDisjoint, in_pairs, vertices_of}
 pub fn two_ears_law()
     ensures { (g : Graph) → IsGraph g → IsCovered g → (ps : List (ℕ × ℕ)) → ps ≢ [] →
         AreDisjoint g.order ps → HasPerfect g (in_pairs ps)
-        → (p : ℕ × ℕ) × (q : ℕ × ℕ) × IsIn p ps × IsIn q ps × HasPerfect g (union (vertices_of p) (vertices_of q)) }
+        → (p : ℕ × ℕ) × (q : ℕ × ℕ) × IsIn p ps × IsIn q ps ×
+        HasPerfect g (union (vertices_of p) (vertices_of q)) }
 {}
 
 /// Where a matching covered graph is matching covered with further edges, it is with one of them, or with two.
@@ -24,7 +25,8 @@ pub fn further_edges_law()
         ((p : ℕ × ℕ) → IsIn p ps → Within g.order p.0 × Within g.order p.1)
         → ((p : ℕ × ℕ) → IsIn p ps → p.0 ≢ p.1) → IsCovered (with_ends g (with_pairs g.ends ps))
         → ((p : ℕ × ℕ) × IsIn p ps × IsCovered (with_ends g (with_pairs g.ends (p ∷ []))))
-        ⊎ ((p : ℕ × ℕ) × (q : ℕ × ℕ) × IsIn p ps × IsIn q ps × IsCovered (with_ends g (with_pairs g.ends (p ∷ q ∷ [])))) }
+        ⊎ ((p : ℕ × ℕ) × (q : ℕ × ℕ) × IsIn p ps × IsIn q ps ×
+        IsCovered (with_ends g (with_pairs g.ends (p ∷ q ∷ [])))) }
 {}
 
 /// A bipartite matching covered graph has a perfect matching without any two vertices on opposite sides.

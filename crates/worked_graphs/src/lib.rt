@@ -154,7 +154,8 @@ pub fn graph_with(alloc: Global, order: u32, edges: &[(u32, u32)]) -> Result<Mul
     ensures range { IsErrOf result AddFault.Range → (k : ℕ) × IsReached order edges.now k
         × ¬ (Within order (pair_at edges.now k).0 × Within order (pair_at edges.now k).1) }
     ensures equal { IsErrOf result AddFault.Loop → (k : ℕ) × IsReached order edges.now k
-        × Within order (pair_at edges.now k).0 × ((pair_at edges.now k).0 ≡ (pair_at edges.now k).1) }
+        × Within order (pair_at edges.now k).0 ×
+        ((pair_at edges.now k).0 ≡ (pair_at edges.now k).1) }
     ensures too_many { IsErrOf result AddFault.TooMany → (k : ℕ) × IsReached order edges.now k
         × JoinsTwo order (pair_at edges.now k) × (k ≡ MOST_EDGES) }
 {
