@@ -1,7 +1,10 @@
 pub mod Gallai
 pub mod TutteBerge
 pub mod Certificates
+pub mod NearPerfectSets
 pub mod Shrinking
+pub mod ShrunkMatchings
+pub mod ShrunkFrames
 pub mod OddCycles
 pub mod AlternatingPaths
 pub mod LongerPaths
@@ -18,6 +21,7 @@ pub mod ClosingPairs
 pub mod ForestWays
 pub mod ShrunkInstances
 pub mod OpenedPairs
+pub mod BlossomMates
 pub mod BlossomSteps
 pub mod MateSteps
 pub mod NamedMates
@@ -34,6 +38,8 @@ pub mod FirstMarks
 pub mod FrameFacts
 pub mod Gluing
 pub mod RepairWalks
+pub mod RepairedPaths
+pub mod NamedEdges
 pub mod ClearedMatchings
 pub mod PartnerRows
 pub mod MarkedMates

@@ -7,7 +7,8 @@ use Rattle.match_core.specs.Blossoms.{blossom_length}
 use Rattle.match_core.specs.Instances.{Touches}
 use Rattle.match_core.specs.Mates.{paired_round, with_mate, with_pair}
 use Rattle.match_core.specs.Rows.{numbers}
-use Rattle.match_core.proofs.BlossomSteps.{below_size, blossom_short, opened_free, opened_taken, outside_edge, outside_near, outside_within, same_count}
+use Rattle.match_core.proofs.BlossomMates.{below_size, outside_edge, outside_near, outside_within}
+use Rattle.match_core.proofs.BlossomSteps.{blossom_short, opened_free, opened_taken, same_count}
 use Rattle.match_core.proofs.blossom.open.Goals as goal
 
 pub pair_round-requires-clause-few : goal.pair_round-requires-clause-few

@@ -1,7 +1,7 @@
 use Rattle.std.proofs.Common.{◌≡◌, Bool, List, sym, ap, ap₂, ◌∙◌, subst, subst₂}
 use mathlib.Core.Path.{fun_ext}
 use Rattle.match_core.specs.RepairPaths.{DiffersByPath}
-use Rattle.match_core.proofs.RepairWalks.{differs_alike}
+use Rattle.match_core.proofs.RepairedPaths.{differs_alike}
 use Rattle.counting.specs.Lists.{mem, rising_list}
 use Rattle.counting.specs.Sets.{Set, none}
 use Rattle.graph_core.specs.Graph.{Graph, size}
