@@ -33,15 +33,15 @@ use Rattle.graph_core.specs.Tight.{IsTight, IsNontrivial}
 -- a perfect matching of two vertices that an edge joins
 pub one_edge : (g : Graph) (e x y : ℕ) → Within (size g) e → has_ends g x y e ≡ true → x ≢ y → IsPerfect g (complement (union (singleton x) (singleton y))) (singleton e)
 one_edge g e x y w h d = record {
-  once = λ v wv o. at v ∙ one (x == v) (y == v) o (λ t s. d (eqb-true x v t ∙ sym (eqb-true y v s)));
+  once = λ v wv o. at v ∙ one_end (x == v) (y == v) o (λ t s. d (eqb-true x v t ∙ sym (eqb-true y v s)));
   away = λ v wv o. at v ∙ zero_ends (x == v) (y == v) o;
 }
   where
-    one : (a b : Bool) → not (a || b) ≡ false → (a ≡ true → b ≡ true → ⊥) → bit a + bit b ≡ 1
-    one true true h f = absurd (f refl refl)
-    one true false h f = refl
-    one false true h f = refl
-    one false false h f = absurd (true≢false h)
+    one_end : (a b : Bool) → not (a || b) ≡ false → (a ≡ true → b ≡ true → ⊥) → bit a + bit b ≡ 1
+    one_end true true h f = absurd (f refl refl)
+    one_end true false h f = refl
+    one_end false true h f = refl
+    one_end false false h f = absurd (true≢false h)
 
     zero_ends : (a b : Bool) → not (a || b) ≡ true → bit a + bit b ≡ 0
     zero_ends true b h = absurd (true≢false (sym h))
