@@ -5,7 +5,6 @@ use Rattle.std.proofs.lemmas.Bool.{cases_lt}
 use Rattle.std.proofs.lemmas.List.{ext_get_or, length-map}
 use Rattle.counting.specs.Counts.{Within}
 use Rattle.std.proofs.lemmas.Option.{none-some, same_Some, slice_get-map}
-use Rattle.outside.specs.Shelf.{Named}
 use Rattle.graph_core.specs.Graph.{Graph}
 use Rattle.tight_cuts.specs.Candidates.{Candidate}
 use Rattle.tight_cuts.specs.CandidatesAt.{candidates_at}
@@ -15,7 +14,6 @@ use Rattle.decomposer.specs.Choices.{gap, gap_of}
 use Rattle.decomposer.specs.Picked.{IsPickedAt, PicksShore}
 use Rattle.tree_core.specs.Derivations.{kept_at, merged_at}
 use Rattle.tree_core.specs.LeafMaps.{leaf_at}
-use Rattle.tree_core.specs.Leaves.{leaves}
 use Rattle.tree_core.specs.Shapes.{Shape, leaf, cut, cut_count}
 use Rattle.report_text.specs.Tallies.{AreLeafKinds, IsLeafKind, IsTally, kind_at, tally_of}
 use Rattle.report_text.specs.declared.tallies.LeafKind.{LeafKind}
