@@ -31,6 +31,7 @@ pub mod GraphRows
 pub mod Marks
 pub mod MatchingEdges
 pub mod FirstMarks
+pub mod WholeGraphs
 pub mod FrameFacts
 pub mod Gluing
 pub mod RepairWalks
