@@ -13,6 +13,7 @@ pub mod MatePairs
 pub mod Instances
 pub mod ParentForests
 pub mod Reaching
+pub mod Branching
 pub mod WaysUp
 pub mod ClosingPairs
 pub mod ForestWays

@@ -3,7 +3,7 @@
 -- both leave one vertex of an odd number. Where more than one vertex is missed, no matching misses one alone. A perfect matching
 -- without two vertices misses just these, so where there are partners, a maximum matching misses none or two.
 use Rattle.std.proofs.Common.{◌≡◌, ◌≢◌, ℕ, zero, suc, ◌+◌, ◌-◌, ◌*◌, ◌≤◌, ◌↔◌, List, length, Bool, true, false, ◌==◌, ◌&&◌, ◌||◌, not, refl, sym, ap, ◌∙◌, arith, inl, inr, eq-eqb, eqb-true, ne_eqb}
-use Rattle.std.proofs.lemmas.Bool.{both_ways, cases_Bool, cases_eq, false_from_ne_true, and_from, and_parts, not-true, or_left}
+use Rattle.std.proofs.lemmas.Bool.{both_ways, cases_Bool, cases_eq, false_from_ne_true, and_from, and_parts, not-true, or_left, or_right}
 use Rattle.counting.specs.Counts.{Within, count}
 use Rattle.counting.specs.Sets.{Set, complement, pair_set, singleton, union}
 use Rattle.counting.specs.Lists.{item, mem, IsRisingIn}
@@ -21,13 +21,8 @@ use Rattle.match_core.specs.Optimal.{IsBest}
 use Rattle.match_core.specs.Partners.{AreEmptyRows, ArePartners, are_partners}
 use Rattle.match_core.specs.Rows.{marks}
 use Rattle.match_core.specs.declared.best.Best.{Best}
+use Rattle.match_core.proofs.GrownRows.{or-false}
 use Rattle.match_core.proofs.OddComponents.{certificate_maximum, missable_outer, outer_missable}
-
-or_true_right : (a b : Bool) → b ≡ true → (a || b) ≡ true
-or_true_right a b h = grind arith
-
-or_false : (a b : Bool) → a ≡ false → b ≡ false → (a || b) ≡ false
-or_false a b h k = grind arith
 
 or_none : (a b : Bool) → (a || b) ≡ false → (a ≡ false) × (b ≡ false)
 or_none a b h = grind arith
@@ -35,14 +30,10 @@ or_none a b h = grind arith
 -- r and v
 module _ (r : Set) (v : ℕ) where
   with_own : union r (singleton v) v ≡ true
-  with_own = or_true_right (r v) (v == v) (eq-eqb v v refl)
+  with_own = or_right (r v) (v == v) (eq-eqb v v refl)
 
   with_other : (w : ℕ) → v ≢ w → union r (singleton v) w ≡ r w
-  with_other w d = rw (ne_eqb v w d) (or_zero (r w))
-    where
-      or_zero : (b : Bool) → (b || false) ≡ b
-      or_zero true = refl
-      or_zero false = refl
+  with_other w d = rw (ne_eqb v w d) (or-false (r w))
 
 -- a matching that misses one vertex, v, is perfect without v
 pub alone-perfect : (g : Graph) (r m : Set) (v : ℕ) → IsMatching g r m → missed_count g r m ≡ 1 → Within g.order v → r v ≡ false → degree g m v ≡ 0 → IsPerfect g (union r (singleton v)) m
@@ -203,12 +194,15 @@ module _ (g : Graph) (is : IsGraph g) (r : Set) (b : Best) (best : IsBest g r b)
       four : (a b d p : Bool) → (not a && not b && not d && p) ≡ true → (a ≡ false) × (b ≡ false) × (d ≡ false) × (p ≡ true)
       four a b d p h = grind arith
 
-  pub empty-partners : missed ≢ 0 → missed ≢ 2 → (n : ℕ) → n ≡ g.order → (table : List (List ℕ)) → AreEmptyRows n table → ArePartners g r table
-  empty-partners some other n order table empty = record {
+  pub empty-partners : (missed == 0 || missed == 2) ≡ false → (n : ℕ) → n ≡ g.order → (table : List (List ℕ)) → AreEmptyRows n table → ArePartners g r table
+  empty-partners not_searched n order table empty = record {
     one_each = empty.one_each ∙ order;
     within = λ u v wu t. absurd (both_ways (mem (item table u) v) (empty.empty u v (omega arith)) t);
-    partner_is = λ u v wu wv. empty.empty u v (omega arith) ∙ sym (no_partners some other u v wu wv);
+    partner_is = λ u v wu wv. empty.empty u v (omega arith) ∙ sym (no_partners (λ q. both_ways (missed == 0) parts.0 (eq-eqb missed 0 q)) (λ q. both_ways (missed == 2) parts.1 (eq-eqb missed 2 q)) u v wu wv);
   }
+    where
+      parts : ((missed == 0) ≡ false) × ((missed == 2) ≡ false)
+      parts = or_none (missed == 0) (missed == 2) not_searched
 
 -- the vertices of 1 to n outside a set, as a list
 pub left-length : (n : ℕ) (full left removed : List ℕ) → IsRisingIn 128 left → ((v : ℕ) → (mem full v ≡ true) ↔ Within n v) → ((v : ℕ) → mem left v ≡ (mem full v && not (mem removed v))) →

@@ -134,7 +134,7 @@ fn clear_rows(alloc: Global, rows: &[MatchRow], removed: VSet) -> Result<Vec<Mat
     requires { All (λ row. Within MOST_VERTICES row.a × Within MOST_VERTICES row.b) rows.now }
     ensures { IfOk result (λ kept. kept.items ≡ filter (is_clear (mem removed)) rows.now) }
 {
-    let mut kept = Vec::new(alloc);
+    let mut kept = Vec::with_capacity(alloc, rows.len())?;
     for row in rows {
         if !removed.contains(row.a) && !removed.contains(row.b) {
             kept.push(*row)?;

@@ -9,7 +9,7 @@
 //! search. Where none is missed, the matching less its edge at u misses one vertex of G - R - u, the mate of u; no step can enlarge
 //! it, so the first step answers a frame, and the outer vertices of a frame are exactly those that some matching as large misses.
 //! Where two are missed, a row costs one augmentation more at most.
-ghost use Rattle.std.specs.Prelude.{◌≡◌, ℕ, ◌+◌, ◌-◌, ◌≤◌, ◌&&◌, not, true, length, IfOk};
+ghost use Rattle.std.specs.Prelude.{◌≡◌, ℕ, ◌+◌, ◌-◌, ◌≤◌, ◌==◌, ◌&&◌, ◌||◌, not, true, length, IfOk};
 ghost use Rattle.counting.specs.Counts.{Within, count};
 ghost use Rattle.counting.specs.Sets.{none, singleton, union};
 ghost use Rattle.counting.specs.Lists.{item, mem};
@@ -65,12 +65,18 @@ pub fn partners(
     ensures { IfOk result (ArePartners g.now (mem removed)) }
 {
     let Best { mark, sets: _ } = enlarged(alloc, g, removed, m)?;
-    let missed = missed_by(g, removed, &mark);
-    if missed == 0 || missed == 2 {
-        let most = matching_of(alloc, g, &mark)?;
-        return rows_from(alloc, g, removed, &most);
+    if !leaves_partners(missed_by(g, removed, &mark)) {
+        return empty_rows(alloc, g.order());
     }
-    empty_rows(alloc, g.order())
+    let most = matching_of(alloc, g, &mark)?;
+    rows_from(alloc, g, removed, &most)
+}
+
+// Whether there can be partners where a maximum matching misses so many vertices.
+fn leaves_partners(missed: usize) -> bool
+    ensures { result ≡ (missed == 0 || missed == 2) }
+{
+    missed == 0 || missed == 2
 }
 
 // The table with a search for each row.
