@@ -16,10 +16,12 @@ pub mod Reaching
 pub mod Branching
 pub mod WaysUp
 pub mod ClosingPairs
+pub mod ClosedRings
 pub mod ForestWays
 pub mod ShrunkInstances
 pub mod OpenedPairs
 pub mod BlossomSteps
+pub mod Opening
 pub mod MateSteps
 pub mod NamedMates
 pub mod SameMates
