@@ -1,6 +1,5 @@
 -- The ways to the two ends of a closing edge: they are paths of the forest, with outer and inner vertices in turn.
 use Rattle.std.proofs.Common.{◌≡◌, ℕ, suc, ◌+◌, ◌≤◌, ◌<◌, true, refl, sym, ap, ◌∙◌, arith, subst, length, List, get_or}
-use Rattle.std.proofs.lemmas.Grind.{get_or_default_zero}
 use Rattle.counting.specs.Counts.{is_odd}
 use Rattle.counting.specs.Sets.{Set}
 use Rattle.counting.specs.Lists.{mem}
@@ -15,6 +14,7 @@ use Rattle.match_core.proofs.Alike.{path_alike}
 use Rattle.match_core.proofs.Forests.{outer_edge}
 use Rattle.match_core.proofs.LongerPaths.{ends_by}
 use Rattle.match_core.proofs.Reaching.{pairs_few}
+use Rattle.match_core.proofs.WaysUp.{pairs_read}
 
 -- the numbers of pairs of two ways are those of the forest, and small: a path meets no vertex twice
 pub record AreShortWays (t : AlternatingForest) (o : Adjacent) (first second : ℕ) : Type 0 where
@@ -26,12 +26,9 @@ pub record AreShortWays (t : AlternatingForest) (o : Adjacent) (first second : �
 -- they are so as the code reads them
 pub short_ways : (g : Graph) (r f : Set) (mate : List ℕ) (t : AlternatingForest) (o : Adjacent) (first second : ℕ) → ClosesForest g r f mate t o → first ≡ get_or t.pairs.items o.v first → second ≡ get_or t.pairs.items o.w second → AreShortWays t o first second
 short_ways g r f mate t o first second is first_read second_read =
-    let v_in = (is.holds.forest.outer_in o.v is.v_outer).0 in
-    let w_in = (is.holds.forest.outer_in o.w is.w_outer).0 in
-    let long = is.holds.pairs_long in
     let few = is.few in
-    let first_is : first ≡ numbers t.pairs.items o.v = first_read ∙ get_or_default_zero t.pairs.items o.v first (omega arith) in
-    let second_is : second ≡ numbers t.pairs.items o.w = second_read ∙ get_or_default_zero t.pairs.items o.w second (omega arith) in
+    let first_is = pairs_read g r f mate t is.holds o.v first is.v_outer first_read in
+    let second_is = pairs_read g r f mate t is.holds o.w second is.w_outer second_read in
     let v_few = pairs_few g r f mate t is.holds o.v is.v_outer in
     let w_few = pairs_few g r f mate t is.holds o.w is.w_outer in
     record { first_is = first_is; second_is = second_is; first_short = omega arith; second_short = omega arith }

@@ -1,6 +1,6 @@
 -- What a matching with a frame is: maximum, with the Gallai-Edmonds sets as its outer and inner vertices; perfect exactly
 -- where there is no outer vertex. A missed vertex is outer, and an outer vertex is missed by some matching as large.
-use Rattle.std.proofs.Common.{◌≡◌, ℕ, suc, zero, ◌≤◌, ◌<◌, Bool, true, false, ◌==◌, ◌↔◌, refl, sym, ap, ◌∙◌, arith, List, [], ◌∷◌, length, subst, inl, inr, eq-eqb}
+use Rattle.std.proofs.Common.{◌≡◌, ℕ, suc, zero, ◌≤◌, ◌<◌, ◌≢◌, Bool, true, false, ◌==◌, ◌↔◌, refl, sym, ap, ◌∙◌, arith, List, [], ◌∷◌, length, subst, inl, inr, eq-eqb}
 use Rattle.std.proofs.lemmas.Bool.{both_ways, true≢false, false_from_ne_true}
 use mathlib.Core.Path.{fun_ext}
 use Rattle.counting.specs.Counts.{Within, count, is_odd}
@@ -118,7 +118,7 @@ module _ (g : Graph) (is : IsGraph g) (removed : List ℕ) (b : Best) (nothing :
 
 -- a matching with a frame is perfect exactly where there is no outer vertex
 module _ (g : Graph) (is : IsGraph g) (r m outer inner : Set) (mm : IsMatching g r m) (frame : Frame g r (count (size g) m) outer inner) where
-  pub no_outer-perfect : ((v : ℕ) → outer v ≡ false) → IsPerfect g r m
+  no_outer-perfect : ((v : ℕ) → outer v ≡ false) → IsPerfect g r m
   no_outer-perfect h = record { once = λ v w rv. one (degree g m v) (mm.once v w) (λ z. met v w rv z); away = mm.away }
     where
       met : (v : ℕ) → Within g.order v → r v ≡ false → degree g m v ≡ 0 → ⊥
@@ -129,7 +129,7 @@ module _ (g : Graph) (is : IsGraph g) (r m outer inner : Set) (mm : IsMatching g
       one (suc zero) l n = refl
       one (suc (suc d)) l n = absurd (omega arith)
 
-  pub outer-no_perfect : (v : ℕ) → Within g.order v → outer v ≡ true → HasPerfect g r → ⊥
+  outer-no_perfect : (v : ℕ) → Within g.order v → outer v ≡ true → HasPerfect g r → ⊥
   outer-no_perfect v w t p =
       let f = frame.missable v w t in
       let a = missed_edges g r f.0 is f.1 in
@@ -141,10 +141,20 @@ module _ (g : Graph) (is : IsGraph g) (r m outer inner : Set) (mm : IsMatching g
       let s = f.2 in absurd (omega arith)
 
 -- an empty list, and the first of one that is not
-pub empty-mem : (xs : List ℕ) → length xs ≡ 0 → (v : ℕ) → mem xs v ≡ false
+empty-mem : (xs : List ℕ) → length xs ≡ 0 → (v : ℕ) → mem xs v ≡ false
 empty-mem [] l v = refl
 empty-mem (x ∷ xs) l v = absurd (omega arith)
 
-pub some-mem : (xs : List ℕ) → 0 < length xs → (v : ℕ) × (mem xs v ≡ true)
+some-mem : (xs : List ℕ) → 0 < length xs → (v : ℕ) × (mem xs v ≡ true)
 some-mem [] l = absurd (omega arith)
 some-mem (x ∷ xs) l = (x, Rattle.std.proofs.lemmas.Bool.or_left (x == x) (mem xs x) (eq-eqb x x refl))
+
+-- what the engine answers is perfect exactly where its list of outer vertices is empty
+module _ (g : Graph) (is : IsGraph g) (r : Set) (b : Best) (best : IsBest g r b) where
+  pub no_outer-best_perfect : length b.sets.outer ≡ 0 → IsPerfect g r (marks b.mark.items)
+  no_outer-best_perfect nothing = no_outer-perfect g is r (marks b.mark.items) (mem b.sets.outer) (mem b.sets.inner) best.matching best.frame (empty-mem b.sets.outer nothing)
+
+  pub outer-none_perfect : length b.sets.outer ≢ 0 → HasPerfect g r → ⊥
+  outer-none_perfect some =
+      let v = some-mem b.sets.outer (omega arith) in
+      outer-no_perfect g is r (marks b.mark.items) (mem b.sets.outer) (mem b.sets.inner) best.matching best.frame v.0 ((best.sets v.0).0 v.1) v.1

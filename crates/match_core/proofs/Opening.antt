@@ -1,11 +1,11 @@
 -- The opening of a blossom after its shrinking, in the words of what its caller knows.
 -- Where the base is free, the ring is paired round from it; else the mate of the base is near a vertex of the ring, its tip.
-use Rattle.std.proofs.Common.{◌≡◌, ◌≢◌, ℕ, suc, ◌+◌, ◌-◌, ◌≤◌, ◌∙◌, true, arith, length, List, get_or}
+use Rattle.std.proofs.Common.{◌≡◌, ◌≢◌, ℕ, suc, ◌≤◌, ◌∙◌, true, arith, length, List, get_or}
 use Rattle.std.proofs.lemmas.Grind.{get_or_default_zero}
 use Rattle.counting.specs.Counts.{Within}
 use Rattle.counting.specs.Sets.{Set}
 use Rattle.counting.specs.Lists.{mem}
-use Rattle.graph_core.specs.Graph.{Graph, HasEnds, size}
+use Rattle.graph_core.specs.Graph.{Graph}
 use Rattle.match_core.specs.Blossoms.{IsCompleted, MayOpen, blossom_length}
 use Rattle.match_core.specs.Instances.{Touches}
 use Rattle.match_core.specs.Mates.{paired_round, with_mate, with_pair}

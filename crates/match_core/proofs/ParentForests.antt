@@ -3,7 +3,7 @@
 use Rattle.std.proofs.Common.{◌≡◌, ◌≢◌, ℕ, suc, ◌+◌, Bool, true, false, cond, ◌==◌, refl, sym, ap, ◌∙◌, arith, eq-eqb, eqb-true, ne_eqb, inl, inr, not, ◌&&◌, ◌||◌, nat_lt, nat_le, length, List}
 use Rattle.std.proofs.lemmas.Bool.{cases_Bool, cases_eq, both_ways, and_from, and_parts, false_from_ne_true, leb-true}
 use Rattle.counting.specs.Counts.{Within, count}
-use Rattle.counting.specs.Sets.{Set, none, put}
+use Rattle.counting.specs.Sets.{Set, none}
 use Rattle.counting.specs.Lists.{mem}
 use Rattle.graph_core.specs.Graph.{Graph, HasEnds, IsGraph, degree, size}
 use Rattle.match_core.specs.Forests.{IsForest}
