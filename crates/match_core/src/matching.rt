@@ -166,7 +166,7 @@ fn marked_rows(alloc: Global, n: u32, ends: &[Ends], mark: &[bool]) -> Result<Ve
         (λ rows. rows.items ≡ map (row_at (graph_of n ends.now))
         (rising_list (length ends.now) (marks mark.now))) }
 {
-    let mut rows = Vec::new(alloc);
+    let mut rows = Vec::with_capacity(alloc, n as usize / 2)?;
     for (k, e) in ends.iter().enumerate() {
         if mark[k + 1] {
             rows.push(MatchRow {

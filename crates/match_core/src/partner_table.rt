@@ -54,7 +54,8 @@ impl PartnerTable {
 
 /// The partners of each vertex in G - removed, from any matching `m` of `g`: two vertices outside `removed` are partners if there
 /// is a perfect matching without `removed` and these two. The row of a vertex of `removed` is empty. `m` is made maximum
-/// without `removed` once; a row then costs one search, or nothing, where more than two vertices are missed or an odd number.
+/// without `removed` once. Where it then misses another number of vertices than none or two, no row is searched; else a row
+/// costs one search, after one augmentation at most.
 pub fn partners(
     alloc: Global,
     g: &MultiGraph,
