@@ -98,11 +98,11 @@ module _ (g : Graph) (is : IsGraph g) (cov : IsCovered g) (b : ℕ) (wb : Within
       let c = count_singleton g.order b wb in
       let l = few_odd_components g (singleton b) p.0 is p.1 in
       let o : is_odd (odd_component_count g (singleton b)) ≡ true = same_parity g (singleton b) is (even_order g p.0 is p.1) ∙ ap is_odd c in
-      one (odd_component_count g (singleton b)) (count g.order (singleton b)) c l o
+      odd_is_one (odd_component_count g (singleton b)) (count g.order (singleton b)) c l o
     where
-      one : (o n : ℕ) → n ≡ 1 → o ≤ n → is_odd o ≡ true → o ≡ n
-      one zero n e l h = absurd (true≢false (sym h))
-      one (suc o) n e l h = omega arith
+      odd_is_one : (o n : ℕ) → n ≡ 1 → o ≤ n → is_odd o ≡ true → o ≡ n
+      odd_is_one zero n e l h = absurd (true≢false (sym h))
+      odd_is_one (suc o) n e l h = omega arith
 
   -- the class of b is a barrier
   pub class_exists : (s : Set) × IsBarrier g s × IsClass g b s

@@ -122,8 +122,8 @@ module _ (g : Graph) (is : IsGraph g) (cov : IsCovered g) (odd_cycle : (x : Set)
       (p.0, p.2, (s.0, s.2, barrier_cut s.0 s.1 p.0 p.1 p.2 p.3 p.4 (s.2.all p.0 p.2 (inl refl)) (s.2.all p.1 p.3 (inr (λ h. p.5 h.0 h.1)))))
 
   -- at least four vertices, since two would have two sides
-  pub four : 4 ≤ g.order
-  four = let m = covered_perfect g is cov in go g.order refl cov.two (even_order g m.0 is m.1)
+  pub four_vertices : 4 ≤ g.order
+  four_vertices = let m = covered_perfect g is cov in go g.order refl cov.two (even_order g m.0 is m.1)
     where
       two_sides : g.order ≡ 2 → IsSide g (singleton 1)
       two_sides q e w l = elim (cases_eq (first_end g e) 1) [

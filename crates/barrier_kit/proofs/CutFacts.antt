@@ -126,10 +126,10 @@ canonical-out n x = go (x n)
 -- the cuts of tight shores
 pub cuts-canonical : (g : Graph) (shores : List (List ℕ)) → IsGraph g → 1 ≤ g.order → All (λ s. IsTight g (mem s)) shores → All (IsCanonicalCut g) (cuts_of g.order shores)
 cuts-canonical g shores is some tight =
-    cuts-keep g.order (IsCanonicalCut g) [] shores (All-nil (IsCanonicalCut g)) (λ i d l wide. one _ (tight i d l) wide)
+    cuts-keep g.order (IsCanonicalCut g) [] shores (All-nil (IsCanonicalCut g)) (λ i d l wide. canonical_cut _ (tight i d l) wide)
   where
-    one : (s : List ℕ) → IsTight g (mem s) → is_nontrivial g.order (canonical_shore g.order (mem s)) ≡ true → IsCanonicalCut g (canonical_list g.order s)
-    one s t wide =
+    canonical_cut : (s : List ℕ) → IsTight g (mem s) → is_nontrivial g.order (canonical_shore g.order (mem s)) ≡ true → IsCanonicalCut g (canonical_list g.order s)
+    canonical_cut s t wide =
         let x = canonical_shore g.order (mem s) in
         let same : (v : ℕ) → Within g.order v → x v ≡ mem (rising_list g.order x) v = λ v w. sym (mem-rising_list g.order x v w) in
         record {

@@ -80,12 +80,12 @@ count_by-least g s (suc n) =
     part : ℕ → List ℕ
     part u = rising_list g.order (joined g s u)
 
-    one : (b : Bool) → 0 + cond b 1 0 ≡ bit b
-    one true = omega arith
-    one false = omega arith
+    counted_last : (b : Bool) → 0 + cond b 1 0 ≡ bit b
+    counted_last true = omega arith
+    counted_last false = omega arith
 
     last : (b : Bool) → count_by (λ p. is_odd (length p)) (map part (cond b (suc n ∷ []) [])) ≡ bit (b && is_odd (count g.order (joined g s (suc n))))
-    last true = one (is_odd (length (part (suc n)))) ∙ ap (λ k. bit (is_odd k)) (length-rising_list g.order (joined g s (suc n)))
+    last true = counted_last (is_odd (length (part (suc n)))) ∙ ap (λ k. bit (is_odd k)) (length-rising_list g.order (joined g s (suc n)))
     last false = refl
 
 pub odd_parts-counted : (g : Graph) (s : Set) → count_by (λ p. is_odd (length p)) (components g s) ≡ odd_component_count g s

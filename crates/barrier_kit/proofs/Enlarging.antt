@@ -2,10 +2,10 @@
 -- By the law of Tutte and Berge the component has a set that shows this; together with the barrier and the vertex it is a barrier.
 use Rattle.std.proofs.Common.{◌≡◌, ℕ, suc, zero, ◌+◌, ◌≤◌, Bool, true, false, cond, ◌==◌, refl, sym, ap, ap₂, ◌∙◌, arith, ◌&&◌, ◌||◌, not, eq-eqb, ne_eqb, eqb-true, inl, inr, nat_lt, List, [], ◌∷◌}
 use Rattle.std.proofs.lemmas.Bool.{cases_eq, true≢false, false_from_ne_true, both_ways}
-use Rattle.barrier_kit.proofs.BarrierCuts.{leader_of, leader_same, leads_out, part_same}
+use Rattle.barrier_kit.proofs.BarrierCuts.{leader_same, leads_out}
 use Rattle.barrier_kit.proofs.Barriers.{few_odd_components, odd_component_count-parity}
 use Rattle.graph_core.proofs.Perfect.{none_missed-perfect}
-use Rattle.barrier_kit.proofs.Matched.{even_order, perfect_congr}
+use Rattle.barrier_kit.proofs.Matched.{even_order}
 use Rattle.counting.proofs.RisingLists.{same_answers}
 use Rattle.counting.proofs.SetSizes.{count_singleton}
 use Rattle.counting.proofs.Tests.{some_congr}

@@ -238,11 +238,11 @@ module _ (n : ℕ) (f : ℕ → ℕ → Bool) where
       times i = count n (λ u. a u && (p.to u == i))
 
       sum : total n times ≡ count n a
-      sum = total_swap n n (λ i u. bit (a u && (p.to u == i))) ∙ total_congr n _ _ (λ u w. one u w (a u) refl)
+      sum = total_swap n n (λ i u. bit (a u && (p.to u == i))) ∙ total_congr n _ _ (λ u w. lands_once u w (a u) refl)
         where
-          one : (u : ℕ) → Within n u → (b : Bool) → a u ≡ b → total n (λ i. bit (a u && (p.to u == i))) ≡ bit (a u)
-          one u w true t = count_of_one n (λ i. a u) (p.to u) (p.lands u w t).0
-          one u w false t = rw t (total_none n (λ i. 0) (λ i w. refl))
+          lands_once : (u : ℕ) → Within n u → (b : Bool) → a u ≡ b → total n (λ i. bit (a u && (p.to u == i))) ≡ bit (a u)
+          lands_once u w true t = count_of_one n (λ i. a u) (p.to u) (p.lands u w t).0
+          lands_once u w false t = rw t (total_none n (λ i. 0) (λ i w. refl))
 
       few : (i : ℕ) → Within n i → times i ≤ bit (c i)
       few i w = go (c i) refl

@@ -1,17 +1,16 @@
 -- The classes found one after the other: a vertex is the least of its class exactly where no class before it holds it.
 -- A class is met by its least vertex, and by transitivity a vertex that was met adds no vertex to those met.
-use Rattle.std.proofs.Common.{◌≡◌, ℕ, suc, inl, inr, ◌+◌, ◌<◌, ◌≤◌, ◌↔◌, Bool, true, false, ◌==◌, refl, sym, ap, ap₂, ◌∙◌, arith, ◌&&◌, ◌||◌, not, cond, List, [], ◌∷◌, ◌++◌, map, nat_lt, ltb-true, lt-ltb, subst, append-nil, Option, Some, None}
+use Rattle.std.proofs.Common.{◌≡◌, ℕ, suc, inl, inr, ◌+◌, ◌<◌, ◌≤◌, ◌↔◌, Bool, true, false, ◌==◌, refl, sym, ap, ap₂, ◌∙◌, arith, ◌&&◌, ◌||◌, not, cond, List, [], ◌∷◌, ◌++◌, map, nat_lt, ltb-true, lt-ltb, subst, append-nil}
 use Rattle.std.proofs.lemmas.Bool.{cases_Bool, and_parts, and_from, both_ways, false_from_ne_true}
 use Rattle.std.proofs.lemmas.List.{map-append}
-use Rattle.std.specs.Option.{is_some}
 use Rattle.counting.specs.Counts.{Within}
 use Rattle.counting.specs.Lists.{IsRisingIn, mem, rising_list}
 use Rattle.counting.specs.Sets.{Set, none, pair_set}
 use Rattle.counting.specs.Tests.{some}
-use Rattle.counting.proofs.Lists.{mem-append, rising_only}
+use Rattle.counting.proofs.Lists.{rising_only}
 use Rattle.counting.proofs.RisingLists.{mem-rising_list, rising_list-rises, same_answers, same_rising_list, set-wider}
 use Rattle.counting.proofs.Tests.{some_true, true_some}
-use Rattle.graph_core.proofs.Decide.{has_perfect_found, has_perfect_says, is_equivalent_found, is_equivalent_says}
+use Rattle.graph_core.proofs.Decide.{has_perfect_found, is_equivalent_found, is_equivalent_says}
 use Rattle.graph_core.specs.Covered.{IsCovered}
 use Rattle.graph_core.specs.Graph.{Graph, IsGraph}
 use Rattle.graph_core.specs.Matchings.{HasPerfect, has_perfect}

@@ -16,7 +16,7 @@ use Rattle.graph_core.proofs.Walks.{parted}
 use Rattle.graph_core.specs.Covered.{IsCovered}
 use Rattle.graph_core.specs.Graph.{Graph, IsGraph, degree, edges_in_cut, first_end, in_cut, inside, second_end, size}
 use Rattle.graph_core.specs.Matchings.{IsPerfect}
-use Rattle.match_core.proofs.Shrinking.{ends_far, ends_near}
+use Rattle.match_core.proofs.NearPerfectSets.{ends_far, ends_near}
 
 abbrev pub inner : Graph → Set → Set → ℕ
 inner g m x = count (size g) (λ e. m e && inside g x e)
@@ -53,7 +53,7 @@ loop_free g r m is p e w t l =
 -- perfect matchings of two sets apart make one of the union
 pub glue : (g : Graph) (x y m k : Set) → IsGraph g → ((v : ℕ) → Within g.order v → x v ≡ true → y v ≡ true → ⊥) → IsPerfect g (complement x) m → IsPerfect g (complement y) k → IsPerfect g (complement (union x y)) (λ e. m e || k e)
 glue g x y m k is h p q = record {
-  once = λ v w o. one v w (x v) (y v) refl refl o;
+  once = λ v w o. met_once v w (x v) (y v) refl refl o;
   away = λ v w o. let d = degree_or g m k apart v in let b = both (x v) (y v) o in let c = p.away v w b.0 in let e = q.away v w b.1 in omega arith;
 }
   where
@@ -67,11 +67,11 @@ glue g x y m k is h p q = record {
     apart : (e : ℕ) → Within (size g) e → m e ≡ true → k e ≡ true → ⊥
     apart e w me ke = h (first_end g e) (is e w).0 (up (x (first_end g e)) (ends_out g (complement x) m is p e w me).0) (up (y (first_end g e)) (ends_out g (complement y) k is q e w ke).0)
 
-    one : (v : ℕ) → Within g.order v → (a b : Bool) → x v ≡ a → y v ≡ b → not (a || b) ≡ false → degree g (λ e. m e || k e) v ≡ 1
-    one v w true true e f o = absurd (h v w e f)
-    one v w true false e f o = let d = degree_or g m k apart v in let c = p.once v w (ap not e) in let l = q.away v w (ap not f) in omega arith
-    one v w false true e f o = let d = degree_or g m k apart v in let c = p.away v w (ap not e) in let l = q.once v w (ap not f) in omega arith
-    one v w false false e f o = absurd (true≢false o)
+    met_once : (v : ℕ) → Within g.order v → (a b : Bool) → x v ≡ a → y v ≡ b → not (a || b) ≡ false → degree g (λ e. m e || k e) v ≡ 1
+    met_once v w true true e f o = absurd (h v w e f)
+    met_once v w true false e f o = let d = degree_or g m k apart v in let c = p.once v w (ap not e) in let l = q.away v w (ap not f) in omega arith
+    met_once v w false true e f o = let d = degree_or g m k apart v in let c = p.away v w (ap not e) in let l = q.once v w (ap not f) in omega arith
+    met_once v w false false e f o = absurd (true≢false o)
 
 -- a perfect matching with no edge in the cut of x, inside x
 pub restrict : (g : Graph) (m x : Set) → IsPerfect g none m → edges_in_cut g m x ≡ 0 → IsPerfect g (complement x) (λ e. m e && inside g x e)

@@ -29,13 +29,13 @@ critical_or_pair g = elim (scan g.order (λ a. (b : ℕ) × Within g.order b × 
 ]
   where
     row : (a : ℕ) → ((b : ℕ) × Within g.order b × (a ≢ b) × ((m : Set) → IsPerfect g (pair_set a b) m → ⊥)) ⊎ ((b : ℕ) → Within g.order b → a ≢ b → HasPerfect g (pair_set a b))
-    row a = elim (scan g.order (λ b. (a ≢ b) × ((m : Set) → IsPerfect g (pair_set a b) m → ⊥)) (λ b. a ≢ b → HasPerfect g (pair_set a b)) (λ b wb. one b)) [
+    row a = elim (scan g.order (λ b. (a ≢ b) × ((m : Set) → IsPerfect g (pair_set a b) m → ⊥)) (λ b. a ≢ b → HasPerfect g (pair_set a b)) (λ b wb. decided_pair b)) [
       | inl p ↦ inl (p.0, p.1, p.2.0, p.2.1)
       | inr h ↦ inr h
     ]
       where
-        one : (b : ℕ) → ((a ≢ b) × ((m : Set) → IsPerfect g (pair_set a b) m → ⊥)) ⊎ (a ≢ b → HasPerfect g (pair_set a b))
-        one b = elim (cases_eq a b) [
+        decided_pair : (b : ℕ) → ((a ≢ b) × ((m : Set) → IsPerfect g (pair_set a b) m → ⊥)) ⊎ (a ≢ b → HasPerfect g (pair_set a b))
+        decided_pair b = elim (cases_eq a b) [
           | inl e ↦ inr (λ d. absurd (d e))
           | inr d ↦ elim (perfect_or_not g (pair_set a b)) [
             | inl m ↦ inr (λ d. m)

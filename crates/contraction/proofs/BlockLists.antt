@@ -51,7 +51,7 @@ count-along t [] = refl
 count-along t (b ∷ p) =
     front (length p) (λ i. bit (t (block (b ∷ p) i)))
     ∙ ap (λ k. bit (t b) + k) (total_congr (length p) _ _ (λ i w. ap (λ c. bit (t c)) (past i w.0)) ∙ count-along t p)
-    ∙ one (t b)
+    ∙ counted_first (t b)
     ∙ sym (sum_by-cons (λ c. cond (t c) 1 0) b p)
   where
     front : (n : ℕ) (f : ℕ → ℕ) → total (suc n) f ≡ f 1 + total n (λ i. f (i + 1))
@@ -62,9 +62,9 @@ count-along t (b ∷ p) =
     past zero h = absurd (omega arith)
     past (suc k) h = let e : suc k + 1 - 1 ≡ suc k = omega arith in let d : k ≡ suc k - 1 = omega arith in ap (λ j. get_or (b ∷ p) j []) e ∙ ap (λ j. get_or p j []) d
 
-    one : (s : Bool) → bit s + count_by t p ≡ cond s 1 0 + count_by t p
-    one true = refl
-    one false = refl
+    counted_first : (s : Bool) → bit s + count_by t p ≡ cond s 1 0 + count_by t p
+    counted_first true = refl
+    counted_first false = refl
 
 -- a partition of 1 to n has at most n blocks
 pub length-partition : (n : ℕ) (p : List (List ℕ)) → IsPartition n p → length p ≤ n

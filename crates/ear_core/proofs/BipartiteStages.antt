@@ -10,7 +10,7 @@ use Rattle.counting.specs.Counts.{Within, count, is_odd}
 use Rattle.counting.specs.Sets.{Set, pair_set}
 use Rattle.counting.specs.Tests.{some}
 use Rattle.ear_core.proofs.EngineGraphs.{ends-met}
-use Rattle.ear_core.proofs.AddedEars.{two_less_odd}
+use Rattle.ear_core.proofs.TraceEdges.{two_less_odd}
 use Rattle.ear_core.proofs.NextStages.{met-within}
 use Rattle.ear_core.proofs.RankedStages.{second_end-ranked, ranked-off, first_end-ranked, off-loop, rank-test, rank-within, size-ranked, stage_graph, ranked-covered, ranked-graph}
 use Rattle.ear_core.specs.AlternatingEars.{Serves, AreCandidates}

@@ -6,7 +6,7 @@ use Rattle.counting.proofs.Lists.{times_mem}
 use Rattle.counting.specs.Counts.{bit, is_odd}
 use Rattle.counting.specs.Lists.{mem, times}
 use Rattle.counting.specs.Sets.{Set}
-use Rattle.ear_core.proofs.AddedEars.{mem_times}
+use Rattle.ear_core.proofs.TraceEdges.{mem_times}
 use Rattle.ear_core.specs.EarTests.{follows, front, inner_vertices, repeats, no_member, is_empty, Passes}
 use Rattle.ear_core.specs.Ears.{other_end, Follow, trail, last_vertex, IsEar, IsEarPair}
 use Rattle.ear_core.specs.Stages.{is_met}

@@ -8,7 +8,7 @@ use Rattle.counting.proofs.Tests.{some_true, true_some}
 use Rattle.counting.specs.Counts.{bit, count, Within}
 use Rattle.counting.specs.Sets.{Set, union, put, pair_set, complement}
 use Rattle.counting.specs.Tests.{some}
-use Rattle.ear_core.proofs.AddedEars.{some-met, unmet, degree_le}
+use Rattle.ear_core.proofs.TraceEdges.{some-met, unmet, degree_le}
 use Rattle.ear_core.specs.StageGraphs.{listed}
 use Rattle.two_ears.proofs.AddedEdges.{size-added, degree-added}
 use Rattle.ear_core.specs.Stages.{is_met, IsPerfectOff, IsPerfectOf}

@@ -13,7 +13,7 @@ use Rattle.graph_core.specs.Graph.{Graph, size, first_end, second_end}
 use Rattle.ear_core.specs.Ears.{last_vertex}
 use Rattle.ear_core.specs.Stages.{is_met}
 use Rattle.ear_core.specs.EarTests.{not_path, even_length, bad_ends, inner_on_stage, edge_used, is_path, has_odd_length, has_good_ends, has_free_inner, has_new_edges, ear_fault, inner_vertices, no_member}
-use Rattle.ear_core.proofs.AddedEars.{met-some, some-met}
+use Rattle.ear_core.proofs.TraceEdges.{met-some, some-met}
 use Rattle.ear_core.proofs.EarTests.{no_member_at, at_no_member}
 
 -- the vertices that f meets are the ends of its edges

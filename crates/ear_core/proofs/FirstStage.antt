@@ -12,7 +12,7 @@ use Rattle.graph_core.proofs.Decide.{degree_congr}
 use Rattle.graph_core.proofs.Edits.{ends_of}
 use Rattle.graph_core.proofs.Walks.{has_ends-own, has_ends-back}
 use Rattle.graph_core.specs.Graph.{Graph, size, first_end, second_end, degree, has_ends, IsMultigraph}
-use Rattle.ear_core.proofs.AddedEars.{list_ends, mem_degree, met-some, edges-within}
+use Rattle.ear_core.proofs.TraceEdges.{list_ends, mem_degree, met-some, edges-within}
 use Rattle.ear_core.specs.EarLists.{PlainStep, one, two, next_stage, IsStep}
 use Rattle.ear_core.specs.Ears.{IsEar}
 use Rattle.ear_core.specs.Stages.{is_met, adjacent_by, IsStage, with_edges}

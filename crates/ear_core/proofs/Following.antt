@@ -14,7 +14,7 @@ use Rattle.ear_core.specs.AlternatingEars.{row_edge, mate, KeepsMates, IsAlterna
 use Rattle.ear_core.specs.EarLists.{PlainEar}
 use Rattle.ear_core.specs.Ears.{trail}
 use Rattle.ear_core.specs.Stages.{is_met}
-use Rattle.ear_core.proofs.AddedEars.{start_mem}
+use Rattle.ear_core.proofs.TraceEdges.{start_mem}
 use Rattle.ear_core.proofs.NextStages.{met-within}
 use Rattle.ear_core.proofs.Mates.{AreMates}
 use Rattle.ear_core.proofs.MatedPaths.{path_ends, path_goes_on, passed_too, next_is_clear, fewer_left}

@@ -1,3 +1,5 @@
+pub mod TraceEdges
+pub mod TraceWalks
 pub mod AddedEars
 pub mod NextStages
 pub mod EarTests

@@ -7,7 +7,7 @@ use Rattle.counting.proofs.Lists.{times_mem}
 use Rattle.counting.specs.Counts.{Within, bit, count, is_odd}
 use Rattle.counting.specs.Lists.{mem, times}
 use Rattle.counting.specs.Sets.{Set, complement}
-use Rattle.ear_core.proofs.AddedEars.{start_mem}
+use Rattle.ear_core.proofs.TraceEdges.{start_mem}
 use Rattle.ear_core.proofs.Mates.{AreMates, mate_back, mate_within}
 use Rattle.ear_core.specs.AlternatingEars.{mate, KeepsMates, IsAlternating, IsClear}
 use Rattle.ear_core.specs.Ears.{last_vertex, trail}

@@ -13,7 +13,7 @@ use Rattle.match_core.specs.MatchingRows.{MatchingValue, IsRowOf, edges_of}
 use Rattle.match_core.specs.declared.matching.MatchRow.{MatchRow}
 use Rattle.ear_core.specs.AlternatingEars.{IsPerfectRows, row_edge, mate}
 use Rattle.ear_core.specs.Ears.{other_end}
-use Rattle.ear_core.proofs.AddedEars.{ends_of-other_end}
+use Rattle.ear_core.proofs.TraceEdges.{ends_of-other_end}
 use Rattle.ear_core.proofs.Walking.{joins}
 
 pub joins-other_end : (g : Graph) (e v : ℕ) → joins g e (other_end g e v) ≡ true

@@ -1,18 +1,16 @@
 -- Steps from a stage. Whether an edge lies in a perfect matching of a stage is decided, and the second ear of a step is an ear of the
 -- stage with the first.
-use Rattle.std.proofs.Common.{◌≡◌, ℕ, Bool, true, ◌==◌, ap, ap₂, arith, ◌&&◌, ◌||◌, not, eq-eqb, eqb-true, ◌⊎◌, inl, inr, subst, List}
-use Rattle.std.proofs.lemmas.Bool.{and_parts, and_from, both_ways, false_from_ne_true, or_left, or_from}
-use Rattle.counting.proofs.Choice.{choose_set, implies, implied}
-use Rattle.counting.proofs.Tests.{every_true, true_every, every_congr}
+use Rattle.std.proofs.Common.{◌≡◌, ℕ, Bool, true, ◌==◌, arith, ◌&&◌, ◌||◌, not, inl, inr, subst, List}
+use Rattle.std.proofs.lemmas.Bool.{both_ways, false_from_ne_true, or_left, or_from}
 use Rattle.counting.specs.Counts.{Within}
 use Rattle.counting.specs.Lists.{mem}
 use Rattle.counting.specs.Sets.{Set, none}
 use Rattle.counting.specs.Tests.{every}
-use Rattle.ear_core.proofs.AddedEars.{met-some, some-met, degree_le, new-met}
+use Rattle.ear_core.proofs.TraceEdges.{met-some, some-met, degree_le}
+use Rattle.ear_core.proofs.AddedEars.{new-met}
 use Rattle.ear_core.specs.Ears.{last_vertex, IsEar, IsEarPair}
 use Rattle.ear_core.specs.NearlyStages.{IsNearlyStage}
-use Rattle.ear_core.specs.Stages.{is_met, IsPerfectOf, IsStage, with_edges}
-use Rattle.graph_core.proofs.Decide.{degree_congr}
+use Rattle.ear_core.specs.Stages.{is_met, IsStage, with_edges}
 use Rattle.graph_core.proofs.Edits.{edge_at}
 use Rattle.graph_core.specs.Graph.{Graph, size, IsGraph, degree}
 

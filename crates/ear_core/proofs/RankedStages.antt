@@ -11,7 +11,7 @@ use Rattle.counting.proofs.Totals.{at_le_total, two_le_total}
 use Rattle.counting.specs.Counts.{Within, bit, count}
 use Rattle.counting.specs.Sets.{Set, none, union}
 use Rattle.ear_core.proofs.EngineGraphs.{ends-met}
-use Rattle.ear_core.proofs.AddedEars.{degree_le, unmet}
+use Rattle.ear_core.proofs.TraceEdges.{degree_le, unmet}
 use Rattle.ear_core.proofs.NextStages.{met-within}
 use Rattle.ear_core.specs.Stages.{IsPerfectOff, IsStage, adjacent_by, is_met}
 use Rattle.graph_core.proofs.Edits.{ends_le_degree, ends_of}

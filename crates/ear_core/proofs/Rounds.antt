@@ -15,7 +15,8 @@ use Rattle.ear_core.specs.AlternatingEars.{mate, IsAlternating, IsClear, HoldsMa
 use Rattle.ear_core.specs.EarLists.{PlainEar}
 use Rattle.ear_core.specs.Ears.{trail, last_vertex}
 use Rattle.ear_core.specs.Stages.{is_met, IsPerfectOff}
-use Rattle.ear_core.proofs.AddedEars.{edges-within, ends_of-other_end, degree_le, evens_at, some-met}
+use Rattle.ear_core.proofs.TraceEdges.{edges-within, ends_of-other_end, degree_le, some-met}
+use Rattle.ear_core.proofs.AddedEars.{evens_at}
 use Rattle.ear_core.proofs.Mates.{AreMates}
 use Rattle.ear_core.proofs.Walking.{joins}
 

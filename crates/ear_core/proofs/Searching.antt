@@ -18,7 +18,7 @@ use Rattle.ear_core.specs.StageGraphs.{listed}
 use Rattle.ear_core.specs.Stages.{is_met, IsStage}
 use Rattle.ear_core.specs.declared.choosing.Asked.{Asked}
 use Rattle.ear_core.proofs.EngineGraphs.{served_listed}
-use Rattle.ear_core.proofs.AddedEars.{edges-within}
+use Rattle.ear_core.proofs.TraceEdges.{edges-within}
 use Rattle.ear_core.proofs.NextStages.{met-within}
 use Rattle.ear_core.proofs.ServingEars.{off-same}
 use Rattle.ear_core.proofs.ServingPairs.{apart-pair, serving-one, serving-two, some-serve, serve-twice}

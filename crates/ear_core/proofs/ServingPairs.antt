@@ -11,7 +11,7 @@ use Rattle.ear_core.specs.AlternatingEars.{ends_of_ears, AreCandidates, Serves, 
 use Rattle.ear_core.specs.EarLists.{PlainEar}
 use Rattle.ear_core.specs.Ears.{other_end, trail, last_vertex, IsEar, IsEarPair}
 use Rattle.ear_core.specs.Stages.{is_met, IsStage, with_edges}
-use Rattle.ear_core.proofs.AddedEars.{start_mem, trail_has}
+use Rattle.ear_core.proofs.TraceEdges.{start_mem, trail_has}
 use Rattle.ear_core.proofs.RankedStages.{pairs-serve}
 use Rattle.ear_core.proofs.ServingEars.{one-serves, two-serve, off-same}
 

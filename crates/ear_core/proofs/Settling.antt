@@ -1,10 +1,10 @@
 -- The edges of the ears of a step, asked one by one: what an answer of the engine says of an edge, and what is known behind it.
-use Rattle.std.proofs.Common.{◌≡◌, ◌≢◌, ℕ, suc, ◌≤◌, ◌<◌, Bool, true, false, cond, ◌==◌, refl, sym, ap, ap₂, ◌∙◌, arith, ◌&&◌, ◌||◌, not, eqb-true, Some, None, Option, Result, Ok, Err, IfOk, [], ◌∷◌, ◌++◌, List, length, subst, ◌↔◌, inl, inr}
-use Rattle.std.proofs.lemmas.Bool.{or_cases, true≢false}
+use Rattle.std.proofs.Common.{◌≡◌, ◌≢◌, ℕ, ◌<◌, Bool, true, false, ◌==◌, refl, sym, ap, ap₂, ◌∙◌, ◌&&◌, ◌||◌, not, Some, None, Option, Result, Ok, Err, IfOk, ◌∷◌, List, subst, ◌↔◌}
+use Rattle.std.proofs.lemmas.Bool.{true≢false}
 use Rattle.counting.specs.Counts.{Within}
 use Rattle.counting.specs.Lists.{mem}
 use Rattle.counting.specs.Sets.{Set, union, complement, pair_set, none}
-use Rattle.graph_core.specs.Graph.{Graph, size, IsGraph, first_end, second_end, with_edge, with_ends}
+use Rattle.graph_core.specs.Graph.{Graph, size, IsGraph, first_end, second_end, with_ends}
 use Rattle.graph_core.specs.Matchings.{HasPerfect}
 use Rattle.ear_core.specs.Stages.{is_met, AllowedBy, with_edges}
 use Rattle.ear_core.specs.StageGraphs.{listed, Settled, asked_too}

@@ -22,7 +22,8 @@ use Rattle.ear_core.specs.NearlyStages.{odds}
 use Rattle.ear_core.specs.Stages.{is_met, IsStage, with_edges}
 use Rattle.ear_core.proofs.EngineGraphs.{ends-met}
 use Rattle.ear_core.proofs.FirstStage.{one-ends, step-adds}
-use Rattle.ear_core.proofs.AddedEars.{odds_at, mem_times, mem_odds, degree_le, met-some, some-met, new-met}
+use Rattle.ear_core.proofs.TraceEdges.{mem_times, mem_odds, degree_le, met-some, some-met}
+use Rattle.ear_core.proofs.AddedEars.{odds_at, new-met}
 use Rattle.ear_core.proofs.Mates.{row-found, row-is, rows-mates}
 use Rattle.ear_core.proofs.NextStages.{second_ear}
 use Rattle.ear_core.proofs.Rounds.{mated-candidates}

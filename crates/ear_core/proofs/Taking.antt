@@ -14,7 +14,7 @@ use Rattle.ear_core.specs.StageGraphs.{Settled}
 use Rattle.ear_core.specs.Stages.{IsStage, AllowedBy, with_edges}
 use Rattle.ear_core.specs.View.{ear_of, plain_step}
 use Rattle.ear_core.specs.declared.ears.Ear.{Ear}
-use Rattle.ear_core.proofs.AddedEars.{mem_odds}
+use Rattle.ear_core.proofs.TraceEdges.{mem_odds}
 use Rattle.ear_core.proofs.Refusing.{step-none, step_odds, step-nearly, fine-stage}
 
 all-marked : (new : Set) (es : List ℕ) → ((i : ℕ) → mem es i ≡ true → new i ≡ true) → All (λ e. new e ≡ true) es

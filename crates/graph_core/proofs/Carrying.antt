@@ -21,12 +21,12 @@ pub total_image : (k l : ℕ) (m : Set) (pick : ℕ → ℕ) (f : ℕ → ℕ) �
     total l (λ i. bit (image k m pick i) * f i) ≡ total k (λ e. bit (m e) * f (pick e))
 unfolding image
 total_image k l m pick f inside apart =
-    total_congr l _ _ (λ i w. ap (λ c. c * f i) (one i) ∙ spread i)
+    total_congr l _ _ (λ i w. ap (λ c. c * f i) (hits_once i) ∙ spread i)
     ∙ total_swap l k (λ i e. bit (m e && (pick e == i)) * f i)
     ∙ total_congr k _ _ (λ e w. each e w (m e) refl)
   where
-    one : (i : ℕ) → bit (some k (λ e. m e && (pick e == i))) ≡ count k (λ e. m e && (pick e == i))
-    one i = let a = some_le_count k (λ e. m e && (pick e == i)) in
+    hits_once : (i : ℕ) → bit (some k (λ e. m e && (pick e == i))) ≡ count k (λ e. m e && (pick e == i))
+    hits_once i = let a = some_le_count k (λ e. m e && (pick e == i)) in
         let b = count_le_one k (λ e. m e && (pick e == i)) (λ d e wd we l pd pe.
         let x = and_parts (m d) (pick d == i) pd in let y = and_parts (m e) (pick e == i) pe in
         let z = apart d e wd we x.0 y.0 (eqb-true (pick d) i x.1 ∙ sym (eqb-true (pick e) i y.1)) in absurd (omega arith)) in

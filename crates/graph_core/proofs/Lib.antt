@@ -17,7 +17,9 @@ pub mod WeakDuality
 pub mod View
 pub mod Trees
 pub mod TwoSides
+pub mod OneVertexLess
 pub mod FoundVertices
+pub mod FoundComponents
 pub mod Merging
 pub mod SameBlocks
 pub mod MergeOrder

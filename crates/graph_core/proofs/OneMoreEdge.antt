@@ -1,7 +1,7 @@
 -- A graph with one edge more: its ends, that it keeps the limits of size where there is room, and that its rows are the old rows
 -- with each end of the new edge in the row of the other.
 -- Idea: the new edge is the last item of the list of ends, and "some edge joins v and w" is "some item does".
-use Rattle.std.proofs.Common.{◌≡◌, ◌≢◌, ℕ, ◌+◌, ◌-◌, ◌<◌, ◌∷◌, [], List, length, Bool, true, false, ◌==◌, ◌&&◌, ◌||◌, refl, sym, ap, ap₂, ◌∙◌, arith, subst, subst₂, inl, inr}
+use Rattle.std.proofs.Common.{◌≡◌, ◌≢◌, ℕ, ◌+◌, ◌-◌, ◌<◌, ◌∷◌, [], List, length, Bool, false, ◌==◌, ◌&&◌, ◌||◌, sym, ap, ◌∙◌, arith, subst₂, inl, inr}
 use Rattle.std.proofs.lemmas.Bool.{cases_eq}
 use Rattle.std.proofs.lemmas.List.{get_or_append_left, get_or_push, length-append}
 use Rattle.std.proofs.lemmas.List.Folds.{list_any-append}

@@ -32,11 +32,11 @@ missed_one g r m v w out z =
 
 pub none_missed-perfect : (g : Graph) (r m : Set) → IsMatching g r m → missed_count g r m ≡ 0 → IsPerfect g r m
 none_missed-perfect g r m is none = record {
-  once = λ v w out. one (degree g m v) (is.once v w) (λ z. let a = missed_one g r m v w out z in absurd (omega arith));
+  once = λ v w out. exactly_one (degree g m v) (is.once v w) (λ z. let a = missed_one g r m v w out z in absurd (omega arith));
   away = is.away;
 }
   where
-    one : (d : ℕ) → d ≤ 1 → (d ≡ 0 → ⊥) → d ≡ 1
-    one zero l n = absurd (n refl)
-    one (suc zero) l n = refl
-    one (suc (suc d)) l n = absurd (omega arith)
+    exactly_one : (d : ℕ) → d ≤ 1 → (d ≡ 0 → ⊥) → d ≡ 1
+    exactly_one zero l n = absurd (n refl)
+    exactly_one (suc zero) l n = refl
+    exactly_one (suc (suc d)) l n = absurd (omega arith)

@@ -1,5 +1,5 @@
-use Rattle.std.proofs.Common.{◌≡◌, ℕ, ◌+◌, ◌-◌, ◌≤◌, Bool, true, false, sym, ap, ◌∙◌, arith, inl, inr}
-use Rattle.std.proofs.lemmas.Bool.{both_ways, cases_lt, cases_eq, false_from_ne_true}
+use Rattle.std.proofs.Common.{◌≡◌, ℕ, ◌-◌, Bool, true, false, sym, arith, inl, inr}
+use Rattle.std.proofs.lemmas.Bool.{both_ways, cases_lt, cases_eq}
 use Rattle.counting.specs.Counts.{Within}
 use Rattle.counting.specs.Tests.{some}
 use Rattle.counting.proofs.Tests.{some_true, some_none}

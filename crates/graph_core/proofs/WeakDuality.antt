@@ -44,16 +44,16 @@ loose_few g s m is =
     bits : (v : ℕ) → bit (loose g s m v) ≤ bit (not (s v) && (degree g m v == 0)) + (one (first_end g) (second_end g) v + one (second_end g) (first_end g) v)
     bits v = omega (
       arith,
-      three (not (s v)) (degree g m v == 0) (some (size g) (λ e. (m e && s (second_end g e)) && (first_end g e == v))) (some (size g) (λ e. (m e && s (first_end g e)) && (second_end g e == v))),
+      bit_at_most (not (s v)) (degree g m v == 0) (some (size g) (λ e. (m e && s (second_end g e)) && (first_end g e == v))) (some (size g) (λ e. (m e && s (first_end g e)) && (second_end g e == v))),
       some_le_count (size g) (λ e. (m e && s (second_end g e)) && (first_end g e == v)),
       some_le_count (size g) (λ e. (m e && s (first_end g e)) && (second_end g e == v)),
     )
       where
-        three : (p q r t : Bool) → bit (p && (q || (r || t))) ≤ bit (p && q) + (bit r + bit t)
-        three false q r t = omega arith
-        three true true r t = omega arith
-        three true false true t = omega arith
-        three true false false t = omega arith
+        bit_at_most : (p q r t : Bool) → bit (p && (q || (r || t))) ≤ bit (p && q) + (bit r + bit t)
+        bit_at_most false q r t = omega arith
+        bit_at_most true true r t = omega arith
+        bit_at_most true false true t = omega arith
+        bit_at_most true false false t = omega arith
 
     into : (f h : ℕ → ℕ) → ((e : ℕ) → Within (size g) e → Within g.order (f e)) → ((e : ℕ) → Within (size g) e → Within g.order (h e)) → total g.order (λ v. one f h v) ≡ total g.order (λ v. bit (s v) * count (size g) (λ e. m e && (h e == v)))
     into f h fw hw =

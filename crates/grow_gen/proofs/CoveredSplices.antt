@@ -15,7 +15,8 @@ use Rattle.grow_gen.proofs.EdgeSums.{Each, each-split, total-edges, length-marks
 use Rattle.grow_gen.proofs.Rehanging.{caught}
 use Rattle.grow_gen.proofs.Renumbering.{kept_edges, ends_beside, old_or_new}
 use Rattle.grow_gen.proofs.ThreeEdges.{unit, three-items, each-edge_of, edges-at, marks-through}
-use Rattle.grow_gen.proofs.Splicing.{beside, targets, targets-permuted, targets-three, mem-three, permuted-mem, splice-multigraph, splice-allowed, permuted_values}
+use Rattle.grow_gen.proofs.PermutedLists.{mem-three, permuted-mem, permuted_values}
+use Rattle.grow_gen.proofs.Splicing.{beside, targets, targets-permuted, targets-three, splice-multigraph, splice-allowed}
 use Rattle.grow_gen.proofs.Connecting.{Stays, without, with_answer, answer-own, answer-other, steady-connected, connected-steady, sum_edges-crossing, each-stays_old, each-stays_new, crosses}
 
 -- twice a number does not change the parity

@@ -2,6 +2,7 @@ pub mod EdgeSums
 pub mod Rehanging
 pub mod Renumbering
 pub mod ThreeEdges
+pub mod PermutedLists
 pub mod Splicing
 pub mod Connecting
 pub mod CoveredSplices

@@ -16,7 +16,8 @@ use Rattle.grow_gen.proofs.EdgeSums.{Each, by_test, item-next, each-weaker}
 use Rattle.grow_gen.proofs.Rehanging.{IsEdge, IsClear, at-cases, not_at-ends, rehung_edges-none, member-first, member-later}
 use Rattle.grow_gen.proofs.Renumbering.{kept_edges, ends_beside, new_number-same, new_number-where, old_or_new}
 use Rattle.grow_gen.proofs.ThreeEdges.{each-edge_of, edges-at}
-use Rattle.grow_gen.proofs.Splicing.{beside, beside-in_range, targets, targets-permuted, targets-three, target-place, permuted_values, by_permutation, splice-multigraph}
+use Rattle.grow_gen.proofs.PermutedLists.{permuted_values, by_permutation}
+use Rattle.grow_gen.proofs.Splicing.{beside, beside-in_range, targets, targets-permuted, targets-three, target-place, splice-multigraph}
 
 -- the edge joins u and v
 abbrev pub joins : ℕ → ℕ → ℕ × ℕ → Bool

@@ -1,11 +1,11 @@
--- A splice of two covered cubic graphs is a covered cubic graph. Idea: a perfect matching of each that agree on the edges
+-- Is a splice of two covered cubic graphs a covered cubic graph? Yes: a perfect matching of each that agree on the edges
 -- that are joined give one of the splice, and each edge is in such a pair since each of the joined edges is allowed.
-use Rattle.std.proofs.Common.{◌≡◌, ℕ, suc, zero, ◌+◌, ◌-◌, ◌≤◌, ◌<◌, ◌≢◌, Bool, true, false, ◌==◌, ◌&&◌, ◌||◌, not, ◌⊎◌, inl, inr, List, [], ◌∷◌, ◌++◌, length, map, filter, refl, sym, ap, ap₂, ◌∙◌, arith, subst, eqb-true}
-use Rattle.std.specs.Prelude.{slice_index, slice_index_or}
+use Rattle.std.proofs.Common.{◌≡◌, ℕ, ◌+◌, ◌-◌, ◌≤◌, ◌<◌, ◌≢◌, Bool, true, ◌==◌, ◌&&◌, not, ◌⊎◌, inl, inr, List, [], ◌∷◌, ◌++◌, length, map, filter, refl, sym, ap, ap₂, ◌∙◌, arith, subst}
+use Rattle.std.specs.Prelude.{slice_index_or}
 use Rattle.std.proofs.lemmas.List.{length-append, length-map}
-use Rattle.std.proofs.lemmas.Bool.{cases_lt, or_cases, true≢false}
+use Rattle.std.proofs.lemmas.Bool.{cases_lt, true≢false}
 use Rattle.counting.specs.Counts.{Within, bit}
-use Rattle.counting.specs.Sets.{Set, everything, none}
+use Rattle.counting.specs.Sets.{everything, none}
 use Rattle.counting.specs.Lists.{mem}
 use Rattle.graph_core.specs.Graph.{Graph, size, degree, IsMultigraph}
 use Rattle.graph_core.specs.Matchings.{IsPerfect, Allowed}
@@ -14,88 +14,10 @@ use Rattle.graph_core.proofs.Decide.{degree_congr}
 use Rattle.grow_gen.specs.Cubic.{IsCubic}
 use Rattle.grow_gen.specs.Splices.{is_at, neighbours, new_number, permutation, renumbered_edge, rehung_edges, targets_of, splice}
 use Rattle.grow_gen.proofs.EdgeSums.{Each, sum_edges, sum_edges-append, ends_at, marks_from, marked, marked-front, marked-back, each-append, edge-at, edge-at_place, each-weaker, degree-marked, length-marks_from, length-marks_where, marked-marks_from}
-use Rattle.grow_gen.proofs.Rehanging.{IsEdge, IsClear, flags_at, caught, each-rehung, length-rehung_edges, member-first, member-later, sum_edges-rehung_elsewhere, sum_edges-rehung_there}
+use Rattle.grow_gen.proofs.Rehanging.{IsEdge, IsClear, flags_at, caught, each-rehung, length-rehung_edges, sum_edges-rehung_elsewhere, sum_edges-rehung_there}
 use Rattle.grow_gen.proofs.Renumbering.{kept_edges, kept_marks, ends_beside, each-beside, each-kept, new_number-same, new_number-where, old_or_new, sum_edges-kept_new, sum_edges-kept_old}
-use Rattle.grow_gen.proofs.ThreeEdges.{true_count, unit-of_one, three-items, three-true, each-edge_of, edges-at, flags-three, PerfectMarks, marks-with, marks-through}
-
--- three marks in the order of a permutation
-abbrev pub permuted : ℕ → List Bool → List Bool
-permuted i bs = map (λ j. slice_index_or bs (j - 1) false) (permutation i)
-
--- f of three numbers in the order of a permutation
-abbrev pub permuted_values : ℕ → (ℕ → ℕ) → List ℕ → List ℕ
-permuted_values i f xs = map (λ j. f (slice_index xs (j - 1))) (permutation i)
-
--- six cases
-pub by_permutation : (P : ℕ → Type 0) → P 0 → P 1 → P 2 → P 3 → P 4 → P 5 → (i : ℕ) → i < 6 → P i
-by_permutation P a b c d e f zero l = a
-by_permutation P a b c d e f (suc zero) l = b
-by_permutation P a b c d e f (suc (suc zero)) l = c
-by_permutation P a b c d e f (suc (suc (suc zero))) l = d
-by_permutation P a b c d e f (suc (suc (suc (suc zero)))) l = e
-by_permutation P a b c d e f (suc (suc (suc (suc (suc zero))))) l = f
-by_permutation P a b c d e f (suc (suc (suc (suc (suc (suc i)))))) l = absurd (omega arith)
-
--- both in the same order give the same sum
-pub caught-permuted : (x : Set) (f : ℕ → ℕ) (a b c : Bool) (p q r : ℕ) (i : ℕ) → i < 6 →
-    caught x (permuted i (a ∷ b ∷ c ∷ [])) (permuted_values i f (p ∷ q ∷ r ∷ [])) ≡ caught (λ v. x (f v)) (a ∷ b ∷ c ∷ []) (p ∷ q ∷ r ∷ [])
-caught-permuted x f a b c p q r = by_permutation (λ i. caught x (permuted i (a ∷ b ∷ c ∷ [])) (permuted_values i f (p ∷ q ∷ r ∷ [])) ≡ caught (λ v. x (f v)) (a ∷ b ∷ c ∷ []) (p ∷ q ∷ r ∷ []))
-    (omega arith) (omega arith) (omega arith) (omega arith) (omega arith) (omega arith)
-
--- a member of a list of three is one of them
-pub mem-three : (t x y z : ℕ) → mem (x ∷ y ∷ z ∷ []) t ≡ true → (t ≡ x) ⊎ ((t ≡ y) ⊎ (t ≡ z))
-mem-three t x y z h = elim (or_cases (x == t) ((y == t) || ((z == t) || false)) h) [
-  | inl k ↦ inl (sym (eqb-true x t k))
-  | inr k ↦ elim (or_cases (y == t) ((z == t) || false) k) [
-    | inl m ↦ inr (inl (sym (eqb-true y t m)))
-    | inr m ↦ elim (or_cases (z == t) false m) [
-      | inl n ↦ inr (inr (sym (eqb-true z t n)))
-      | inr n ↦ absurd (true≢false (sym n))
-    ]
-  ]
-]
-
--- a permuted list holds what the list holds
-pub mem-permuted : (f : ℕ → ℕ) (p q r t : ℕ) (i : ℕ) → i < 6 → mem (permuted_values i f (p ∷ q ∷ r ∷ [])) t ≡ true → (t ≡ f p) ⊎ ((t ≡ f q) ⊎ (t ≡ f r))
-mem-permuted f p q r t = by_permutation (λ i. mem (permuted_values i f (p ∷ q ∷ r ∷ [])) t ≡ true → (t ≡ f p) ⊎ ((t ≡ f q) ⊎ (t ≡ f r)))
-    (λ h. elim (mem-three t (f p) (f q) (f r) h) [ inl z ↦ inl z | inr z ↦ elim z [ inl y ↦ inr (inl y) | inr y ↦ inr (inr y) ] ])
-    (λ h. elim (mem-three t (f p) (f r) (f q) h) [ inl z ↦ inl z | inr z ↦ elim z [ inl y ↦ inr (inr y) | inr y ↦ inr (inl y) ] ])
-    (λ h. elim (mem-three t (f q) (f p) (f r) h) [ inl z ↦ inr (inl z) | inr z ↦ elim z [ inl y ↦ inl y | inr y ↦ inr (inr y) ] ])
-    (λ h. elim (mem-three t (f q) (f r) (f p) h) [ inl z ↦ inr (inl z) | inr z ↦ elim z [ inl y ↦ inr (inr y) | inr y ↦ inl y ] ])
-    (λ h. elim (mem-three t (f r) (f p) (f q) h) [ inl z ↦ inr (inr z) | inr z ↦ elim z [ inl y ↦ inl y | inr y ↦ inr (inl y) ] ])
-    (λ h. elim (mem-three t (f r) (f q) (f p) h) [ inl z ↦ inr (inr z) | inr z ↦ elim z [ inl y ↦ inr (inl y) | inr y ↦ inl y ] ])
-
-pub permuted-mem : (f : ℕ → ℕ) (p q r : ℕ) (i : ℕ) → i < 6 →
-    (mem (permuted_values i f (p ∷ q ∷ r ∷ [])) (f p) ≡ true) × (mem (permuted_values i f (p ∷ q ∷ r ∷ [])) (f q) ≡ true) × (mem (permuted_values i f (p ∷ q ∷ r ∷ [])) (f r) ≡ true)
-permuted-mem f p q r = by_permutation (λ i. (mem (permuted_values i f (p ∷ q ∷ r ∷ [])) (f p) ≡ true) × (mem (permuted_values i f (p ∷ q ∷ r ∷ [])) (f q) ≡ true) × (mem (permuted_values i f (p ∷ q ∷ r ∷ [])) (f r) ≡ true))
-    (first (f p) (f q) (f r), second (f p) (f q) (f r), third (f p) (f q) (f r))
-    (first (f p) (f r) (f q), third (f p) (f r) (f q), second (f p) (f r) (f q))
-    (second (f q) (f p) (f r), first (f q) (f p) (f r), third (f q) (f p) (f r))
-    (third (f q) (f r) (f p), first (f q) (f r) (f p), second (f q) (f r) (f p))
-    (second (f r) (f p) (f q), third (f r) (f p) (f q), first (f r) (f p) (f q))
-    (third (f r) (f q) (f p), second (f r) (f q) (f p), first (f r) (f q) (f p))
-  where
-    first : (x y z : ℕ) → mem (x ∷ y ∷ z ∷ []) x ≡ true
-    first x y z = member-first x (y ∷ z ∷ [])
-
-    second : (x y z : ℕ) → mem (x ∷ y ∷ z ∷ []) y ≡ true
-    second x y z = member-later y x (y ∷ z ∷ []) (member-first y (z ∷ []))
-
-    third : (x y z : ℕ) → mem (x ∷ y ∷ z ∷ []) z ≡ true
-    third x y z = member-later z x (y ∷ z ∷ []) (member-later z y (z ∷ []) (member-first z []))
-
--- a permutation keeps how many are true, and each three come from three
-pub true_count-permuted : (a b c : Bool) (i : ℕ) → i < 6 → (x : Bool) × (y : Bool) × (z : Bool) × (permuted i (a ∷ b ∷ c ∷ []) ≡ x ∷ y ∷ z ∷ []) × (true_count (x ∷ y ∷ z ∷ []) ≡ true_count (a ∷ b ∷ c ∷ []))
-true_count-permuted a b c = by_permutation (λ i. (x : Bool) × (y : Bool) × (z : Bool) × (permuted i (a ∷ b ∷ c ∷ []) ≡ x ∷ y ∷ z ∷ []) × (true_count (x ∷ y ∷ z ∷ []) ≡ true_count (a ∷ b ∷ c ∷ [])))
-    (a, b, c, refl, refl) (a, c, b, refl, omega arith) (b, a, c, refl, omega arith) (b, c, a, refl, omega arith) (c, a, b, refl, omega arith) (c, b, a, refl, omega arith)
-
-pub permuted-back : (a b c : Bool) (i : ℕ) → i < 6 → (x : Bool) × (y : Bool) × (z : Bool) × ((a ∷ b ∷ c ∷ []) ≡ permuted i (x ∷ y ∷ z ∷ [])) × (true_count (x ∷ y ∷ z ∷ []) ≡ true_count (a ∷ b ∷ c ∷ []))
-permuted-back a b c = by_permutation (λ i. (x : Bool) × (y : Bool) × (z : Bool) × ((a ∷ b ∷ c ∷ []) ≡ permuted i (x ∷ y ∷ z ∷ [])) × (true_count (x ∷ y ∷ z ∷ []) ≡ true_count (a ∷ b ∷ c ∷ [])))
-    (a, b, c, refl, refl) (a, c, b, refl, omega arith) (b, a, c, refl, omega arith) (c, a, b, refl, omega arith) (b, c, a, refl, omega arith) (c, b, a, refl, omega arith)
-
--- the length of a permuted list
-pub length-permuted : (f : ℕ → ℕ) (p q r : ℕ) (i : ℕ) → i < 6 → length (permuted_values i f (p ∷ q ∷ r ∷ [])) ≡ 3
-length-permuted f p q r = by_permutation (λ i. length (permuted_values i f (p ∷ q ∷ r ∷ [])) ≡ 3) refl refl refl refl refl refl
+use Rattle.grow_gen.proofs.ThreeEdges.{unit-of_one, three-items, three-true, each-edge_of, edges-at, flags-three, PerfectMarks, marks-with, marks-through}
+use Rattle.grow_gen.proofs.PermutedLists.{permuted, permuted_values, by_permutation, caught-permuted, mem-permuted, true_count-permuted, permuted-back, length-permuted}
 
 module _ (g h : Graph) (w i : ℕ) (mg : IsMultigraph g) (mh : IsMultigraph h) (cg : IsCubic g) (ch : IsCubic h) (two : 2 ≤ h.order) (ww : Within g.order w) (li : i < 6) where
   pub one : Within h.order 1

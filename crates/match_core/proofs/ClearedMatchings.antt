@@ -23,7 +23,7 @@ use Rattle.match_core.specs.Questions.{MeetOnce}
 use Rattle.match_core.specs.declared.matching.MatchRow.{MatchRow}
 use Rattle.match_core.proofs.Alike.{matching_alike}
 use Rattle.match_core.proofs.MatchingEdges.{edge_of, rows-matching, rows-rise}
-use Rattle.match_core.proofs.Shrinking.{degree_split}
+use Rattle.match_core.proofs.NearPerfectSets.{degree_split}
 
 -- the rows that meet no vertex of x
 abbrev pub cleared : Set → MatchingValue → MatchingValue

@@ -25,7 +25,7 @@ use Rattle.match_core.proofs.ClosingEdges.{around, cycle, edges_around, even_j, 
 use Rattle.match_core.proofs.Forests.{met}
 use Rattle.match_core.proofs.MatePairs.{flipped_exposes, flipped_pairs, joined_pairs}
 use Rattle.match_core.proofs.OddCycles.{cycle_holds, every_other-near_perfect, same_ends}
-use Rattle.match_core.proofs.Shrinking.{bit_minus, degree_split}
+use Rattle.match_core.proofs.NearPerfectSets.{bit_minus, degree_split}
 
 -- the mates of a set that answers the same
 pub mates_alike : (g : Graph) (r m : Set) (mate new : ℕ → ℕ) → ((u : ℕ) → new u ≡ mate u) → HasMates g r m mate → HasMates g r m new

@@ -14,7 +14,7 @@ use Rattle.graph_core.specs.Matchings.{IsMatching, IsPerfect}
 use Rattle.match_core.specs.Questions.{MeetOnce}
 use Rattle.match_core.proofs.Forests.{met as met_ends}
 use Rattle.match_core.proofs.GrownRows.{or-false, or-true}
-use Rattle.match_core.proofs.Shrinking.{degree_split, bit_minus, bit_union}
+use Rattle.match_core.proofs.NearPerfectSets.{degree_split, bit_minus, bit_union}
 
 -- an edge outside c with two free ends is added
 pub meet_more : (g : Graph) (c met met' : Set) (e a b : ℕ) → Within (size g) e → HasEnds g e a b → a ≢ b → c e ≡ false → MeetOnce g c met → met a ≡ false → met b ≡ false → ((v : ℕ) → met' v ≡ ((met v || (a == v)) || (b == v))) → MeetOnce g (put c e true) met'

@@ -1,7 +1,10 @@
 pub mod Gallai
 pub mod TutteBerge
 pub mod Certificates
+pub mod NearPerfectSets
 pub mod Shrinking
+pub mod ShrunkMatchings
+pub mod ShrunkFrames
 pub mod OddCycles
 pub mod AlternatingPaths
 pub mod LongerPaths
@@ -20,6 +23,7 @@ pub mod ClosedRings
 pub mod ForestWays
 pub mod ShrunkInstances
 pub mod OpenedPairs
+pub mod BlossomMates
 pub mod BlossomSteps
 pub mod Opening
 pub mod MateSteps
@@ -38,6 +42,8 @@ pub mod WholeGraphs
 pub mod FrameFacts
 pub mod Gluing
 pub mod RepairWalks
+pub mod RepairedPaths
+pub mod NamedEdges
 pub mod ClearedMatchings
 pub mod PartnerRows
 pub mod MarkedMates

@@ -21,7 +21,8 @@ use Rattle.match_core.specs.declared.growing.Growth.{Growth}
 use Rattle.match_core.specs.declared.instance.Instance.{Instance}
 use Rattle.match_core.specs.declared.answer.Answer.{Answer}
 use Rattle.match_core.specs.declared.answer.Answer.TheVariants.{Final}
-use Rattle.match_core.proofs.BlossomSteps.{below_mates, below_size, cr, cw, cz, graph, pulls, same_count, smaller, step_up}
+use Rattle.match_core.proofs.BlossomMates.{below_mates, below_size, cr, cw, cz, graph, pulls, smaller}
+use Rattle.match_core.proofs.BlossomSteps.{same_count, step_up}
 use Rattle.match_core.proofs.Instances.{instance_alike, near_edge}
 use Rattle.match_core.proofs.ParentForests.{done_frame}
 use Rattle.match_core.proofs.ShrunkInstances.{shrunk_instance}

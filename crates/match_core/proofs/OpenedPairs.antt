@@ -16,7 +16,7 @@ use Rattle.match_core.proofs.AlternatingPaths.{put_off}
 use Rattle.match_core.proofs.Forests.{met, one_edge, turned}
 use Rattle.match_core.proofs.MatePairs.{with_here, with_there}
 use Rattle.match_core.proofs.OddCycles.{edges_apart, every_other-near_perfect, next_in, same_ends}
-use Rattle.match_core.proofs.Shrinking.{bit_union, count_split, degree_split}
+use Rattle.match_core.proofs.NearPerfectSets.{bit_union, count_split, degree_split}
 
 -- a pair less
 module _ (g : Graph) (r m : Set) (mate : ℕ → ℕ) (has : HasMates g r m mate) (d v w : ℕ) (wd : Within (size g) d) (md : m d ≡ true) (ends : HasEnds g d v w) where

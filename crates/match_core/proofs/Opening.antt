@@ -12,7 +12,8 @@ use Rattle.match_core.specs.Mates.{paired_round, with_mate, with_pair}
 use Rattle.match_core.specs.Rows.{numbers}
 use Rattle.match_core.specs.declared.blossom.Blossom.{Blossom}
 use Rattle.match_core.specs.declared.instance.Instance.{Instance}
-use Rattle.match_core.proofs.BlossomSteps.{below_size, blossom_short, opened_free, opened_taken, outside_edge, outside_near, outside_within, same_count}
+use Rattle.match_core.proofs.BlossomMates.{below_size, outside_edge, outside_near, outside_within}
+use Rattle.match_core.proofs.BlossomSteps.{blossom_short, opened_free, opened_taken, same_count}
 
 -- the ring has three vertices at least and few, and the first one is the base that the code reads
 pub record IsSmallRing (g : Graph) (mate : List ℕ) (b : Blossom) (base : ℕ) : Type 0 where

@@ -5,7 +5,7 @@ use Rattle.counting.proofs.Counts.{count_le}
 use Rattle.counting.specs.Counts.{Within, count}
 use Rattle.counting.specs.Sets.{Set}
 use Rattle.counting.specs.Lists.{mem}
-use Rattle.graph_core.proofs.FoundVertices.{count_gained, count_lost}
+use Rattle.graph_core.proofs.OneVertexLess.{count_gained, count_lost}
 use Rattle.graph_core.specs.Graph.{Graph}
 use Rattle.match_core.specs.AlternatingForests.{HoldsAlternating, IsDone, HasBranched}
 use Rattle.match_core.specs.Instances.{AreNear, Touches}

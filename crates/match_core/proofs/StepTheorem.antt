@@ -16,7 +16,9 @@ use Rattle.match_core.proofs.Forests.{first_outer, forest_start, outer_edge, tur
 use Rattle.match_core.proofs.ForestSteps.{mate, grown, grown_size, more_e, more_inner, more_k, more_outer, more_v}
 use Rattle.match_core.proofs.ClosingEdges.{even_j, cycle, stem_count, stem_free, stem_holds, stem_matching}
 use Rattle.match_core.proofs.AlternatingPaths.{two_paths}
-use Rattle.match_core.proofs.Shrinking.{frame_up, shrunk_graph, complement_size, tip, down, up}
+use Rattle.match_core.proofs.Shrinking.{shrunk_graph, tip}
+use Rattle.match_core.proofs.ShrunkMatchings.{down, up}
+use Rattle.match_core.proofs.ShrunkFrames.{frame_up, complement_size}
 use Rattle.match_core.specs.OddCycles.{IsOddCycle, listed, every_other, picked}
 use Rattle.match_core.specs.Forests.{IsAlternating, IsForest}
 use Rattle.match_core.specs.Frames.{Frame, IsNearPerfect, IsShrunk, shrunk_ends, shrunk_vertex, shrunk_removed}

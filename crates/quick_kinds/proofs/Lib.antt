@@ -1,2 +1,4 @@
+pub mod MatchedFours
+pub mod UnmatchedFours
 pub mod Braces
 pub mod QuickBricks

@@ -10,7 +10,7 @@ use Rattle.graph_core.specs.Graph.{Graph, IsBipartite, IsMultigraph}
 use Rattle.graph_core.specs.Structure.{IsBicritical, IsCutPair, unlike_pair}
 use Rattle.graph_core.specs.Tight.{IsNontrivial, IsTight}
 use Rattle.barrier_kit.specs.BarrierShores.{barrier_cuts}
-use Rattle.barrier_kit.proofs.CriticalPairs.{four, no_sides}
+use Rattle.barrier_kit.proofs.CriticalPairs.{four_vertices, no_sides}
 use Rattle.barrier_kit.proofs.ShoreFacts.{bicritical_no_cuts, some_cut}
 use Rattle.brick_kit.proofs.Bricks.{brick_or_not}
 use Rattle.separation_kit.specs.SeparationShores.{separation_cuts}
@@ -50,7 +50,7 @@ module _ (g : Graph) (is : IsMultigraph g) (cov : IsCovered g) (odd : IsBipartit
   ]
 
   pub at_least_four : 4 ≤ g.order
-  at_least_four = four g is.ends cov (no_sides g is.no_loop odd)
+  at_least_four = four_vertices g is.ends cov (no_sides g is.no_loop odd)
 
   -- a first cut of a class
   pub class-none : (r : List ℕ) → slice_get (barrier_cuts g) 0 ≡ Some r → IsBicritical g → ⊥

@@ -13,7 +13,7 @@ use Rattle.graph_core.specs.Structure.{IsBicritical, IsCutPair}
 use Rattle.graph_core.specs.Tight.{IsTight, IsNontrivial}
 use Rattle.graph_core.specs.Walks.{joined}
 use Rattle.separation_kit.proofs.Separations.{separation_tight, separation_nontrivial}
-use Rattle.barrier_kit.proofs.CriticalPairs.{four, bicritical}
+use Rattle.barrier_kit.proofs.CriticalPairs.{four_vertices, bicritical}
 
 -- a vertex outside a cut pair
 pub beside_pair : (g : Graph) (u v : ℕ) → IsCutPair g u v → (a : ℕ) × Within g.order a × (pair_set u v a ≡ false)
@@ -36,4 +36,4 @@ pub brick_facts : (g : Graph) → IsGraph g → IsCovered g → ((x : Set) → I
     (4 ≤ g.order) × IsBicritical g × ((u v : ℕ) → Within g.order u → Within g.order v → IsCutPair g u v → ⊥)
 brick_facts g is cov odd_cycle brick =
     let b = bicritical g is cov odd_cycle brick in
-    (four g is cov odd_cycle, b, no_cut_pair g is b brick)
+    (four_vertices g is cov odd_cycle, b, no_cut_pair g is b brick)

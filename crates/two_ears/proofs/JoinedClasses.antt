@@ -13,7 +13,7 @@ use Rattle.graph_core.proofs.Walks.{IsClosed, Walk-stays, adjacent-edge, adjacen
 use Rattle.graph_core.specs.Components.{component_count, is_least}
 use Rattle.graph_core.specs.Graph.{Graph, IsGraph, first_end, has_ends, second_end, size, with_ends}
 use Rattle.graph_core.specs.Walks.{Joined, Walk, adjacent, joined}
-use Rattle.two_ears.proofs.Labels.{IsFiner, four_classes}
+use Rattle.two_ears.proofs.ClassCounts.{IsFiner, four_classes}
 use Rattle.two_ears.specs.AddedEdges.{KeepsEdges}
 use Rattle.two_ears.specs.Equivalences.{IsEquivalence, class_count}
 

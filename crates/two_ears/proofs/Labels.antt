@@ -1,14 +1,13 @@
--- Partitions of 1 to n as labels: a coarser one has no more labels, and one that joins two classes has one less. For four equivalences,
--- the first within two others and the fourth within each that holds these two, the two others have no more classes than the first and the fourth.
-use Rattle.std.proofs.Common.{◌≡◌, ℕ, suc, zero, ◌+◌, ◌≤◌, ◌≢◌, Bool, true, false, cond, ◌==◌, refl, sym, ap, ap₂, ◌∙◌, arith, ◌&&◌, ◌||◌, not, eq-eqb, ne_eqb, eqb-true, ◌⊎◌, inl, inr, nat_lt, ltb-true, lt-ltb, le_trans, le_of_eq}
-use Rattle.std.proofs.lemmas.Bool.{cases_eq, cases_Bool, cases_lt, and_parts, and_from, both_ways, true≢false, false_from_ne_true, not-true}
-use Rattle.counting.proofs.Counts.{count_congr, count_le_one}
+-- Partitions of 1 to n as labels: how many labels are in use? A coarser partition has no more of them, and one that joins
+-- two classes of the other has one less.
+use Rattle.std.proofs.Common.{◌≡◌, ℕ, ◌+◌, ◌≤◌, ◌≢◌, Bool, true, false, cond, ◌==◌, refl, sym, ap, ◌∙◌, arith, ◌&&◌, not, eq-eqb, ne_eqb, eqb-true, ◌⊎◌, inl, inr, le_trans, le_of_eq}
+use Rattle.std.proofs.lemmas.Bool.{cases_eq, cases_Bool, and_parts, and_from, both_ways, false_from_ne_true, not-true}
+use Rattle.counting.proofs.Counts.{count_le_one}
 use Rattle.counting.proofs.RisingLists.{same_answers}
-use Rattle.counting.proofs.Tests.{some_congr, some_none, some_true, true_some}
+use Rattle.counting.proofs.Tests.{some_none, some_true, true_some}
 use Rattle.counting.proofs.Totals.{at_le_total, total_add, total_at, total_congr, total_le, total_none, total_swap}
 use Rattle.counting.specs.Counts.{Within, bit, count, total}
 use Rattle.counting.specs.Tests.{some}
-use Rattle.two_ears.specs.Equivalences.{IsEquivalence, class_count}
 
 -- a relation that gives each passer of p a passer of q, and no two the same
 pub count_along : (n : ℕ) (p q : ℕ → Bool) (r : ℕ → ℕ → Bool) → ((l : ℕ) → Within n l → p l ≡ true → (k : ℕ) × Within n k × (r l k ≡ true)) →
@@ -145,173 +144,9 @@ parted_pair n f h = elim (cases_Bool (some n (λ x. some n (λ y. (f x == f y) &
   ])
 ]
 
--- four partitions: f0 in f and in h, and r in each that holds f and h
-pub record Four (n : ℕ) (f0 f h r : ℕ → ℕ) : Type 0 where
-  pub label0 : IsLabel n f0
-  pub label1 : IsLabel n f
-  pub label2 : IsLabel n h
-  pub label3 : IsLabel n r
-  pub below1 : Finer n f0 f
-  pub below2 : Finer n f0 h
-  pub above : (z : ℕ → ℕ) → IsLabel n z → Finer n f z → Finer n h z → Finer n r z
-
-four_end : (n : ℕ) (f0 f h r : ℕ → ℕ) → Four n f0 f h r → Finer n f f0 → count n (used n f) + count n (used n h) ≤ count n (used n f0) + count n (used n r)
-four_end n f0 f h r q fin =
-    let a = finer_used n f0 f q.label0 q.below1 in
-    let b = finer_used n r h q.label3 (q.above h q.label2 (λ a b wa wb e. q.below2 a b wa wb (fin a b wa wb e)) (λ a b wa wb e. e)) in omega arith
-
-four_step : (n : ℕ) (f0 f h r : ℕ → ℕ) (x y : ℕ) → Four n f0 f h r → Within n x → Within n y → f x ≡ f y → Four n (merge f0 x y) f (merge h x y) r
-four_step n f0 f h r x y q wx wy e = record {
-  label0 = merge_label n f0 x y wy q.label0;
-  label1 = q.label1;
-  label2 = merge_label n h x y wy q.label2;
-  label3 = q.label3;
-  below1 = merge_in n f0 f x y wx wy q.below1 e;
-  below2 = merge_in n f0 (merge h x y) x y wx wy (λ a b wa wb i. merge_finer n h x y a b wa wb (q.below2 a b wa wb i)) (merge_joins h x y);
-  above = λ z lz fz hz. q.above z lz fz (λ a b wa wb i. hz a b wa wb (merge_finer n h x y a b wa wb i));
-}
-
 -- one merge takes away at most one class
-merge_most : (n : ℕ) (h : ℕ → ℕ) (x y : ℕ) → Within n x → Within n y → IsLabel n h → count n (used n h) ≤ count n (used n (merge h x y)) + 1
+pub merge_most : (n : ℕ) (h : ℕ → ℕ) (x y : ℕ) → Within n x → Within n y → IsLabel n h → count n (used n h) ≤ count n (used n (merge h x y)) + 1
 merge_most n h x y wx wy lh = elim (cases_eq (h x) (h y)) [
   | inl e ↦ let a = finer_used n (merge h x y) h (merge_label n h x y wy lh) (merge_in n h h x y wx wy (λ a b wa wb i. i) e) in omega arith
   | inr d ↦ let a = merge_used n h x y wx wy lh d in omega arith
 ]
-
-four_below : (k n : ℕ) (f0 f h r : ℕ → ℕ) → count n (used n f0) ≤ k → Four n f0 f h r → count n (used n f) + count n (used n h) ≤ count n (used n f0) + count n (used n r)
-four_below zero n f0 f h r le q = elim (parted_pair n f f0) [
-  | inr fin ↦ four_end n f0 f h r q fin
-  | inl p ↦ let a = merge_used n f0 p.0 p.1 p.2 p.3 q.label0 p.5 in absurd (omega arith)
-]
-four_below (suc k) n f0 f h r le q = elim (parted_pair n f f0) [
-  | inr fin ↦ four_end n f0 f h r q fin
-  | inl p ↦
-      let a = merge_used n f0 p.0 p.1 p.2 p.3 q.label0 p.5 in
-      let b = four_below k n (merge f0 p.0 p.1) f (merge h p.0 p.1) r (omega arith) (four_step n f0 f h r p.0 p.1 q p.2 p.3 p.4) in
-      let c = merge_most n h p.0 p.1 p.2 p.3 q.label2 in omega arith
-]
-
-pub four : (n : ℕ) (f0 f h r : ℕ → ℕ) → Four n f0 f h r → count n (used n f) + count n (used n h) ≤ count n (used n f0) + count n (used n r)
-four n f0 f h r q = four_below (count n (used n f0)) n f0 f h r (omega arith) q
-
--- the least of 1 to n that passes
-abbrev pub least_passer : ℕ → (ℕ → Bool) → ℕ
-least_passer zero p = 0
-least_passer (suc n) p = cond (some n p) (least_passer n p) (suc n)
-
-least_passer-is : (n : ℕ) (p : ℕ → Bool) → some n p ≡ true → Within n (least_passer n p) × (p (least_passer n p) ≡ true) × ((w : ℕ) → Within n w → p w ≡ true → least_passer n p ≤ w)
-least_passer-is zero p h = absurd (true≢false (sym h))
-least_passer-is (suc n) p h = elim (cases_Bool (some n p)) [
-  | inl t ↦
-      let r = least_passer-is n p t in
-      let e : least_passer (suc n) p ≡ least_passer n p = ap (λ b. cond b (least_passer n p) (suc n)) t in (
-        let a = r.0 in omega (arith, e),
-        ap p e ∙ r.1,
-        λ w ww pw. elim (cases_eq w (suc n)) [
-          | inl i ↦ let a = r.0 in omega (arith, e)
-          | inr i ↦ let a = r.2 w (omega arith) pw in omega (arith, e)
-        ],
-      )
-  | inr f ↦
-      let e : least_passer (suc n) p ≡ suc n = ap (λ b. cond b (least_passer n p) (suc n)) f in (
-        omega (arith, e),
-        ap p e ∙ last (some n p) (p (suc n)) f h,
-        λ w ww pw. elim (cases_eq w (suc n)) [
-          | inl i ↦ omega (arith, e)
-          | inr i ↦ absurd (both_ways (p w) (some_none n p f w (omega arith)) pw)
-        ],
-      )
-]
-  where
-    last : (a b : Bool) → a ≡ false → (a || b) ≡ true → b ≡ true
-    last a b p q = grind arith
-
-least_passer-congr : (n : ℕ) (p q : ℕ → Bool) → ((v : ℕ) → Within n v → p v ≡ q v) → least_passer n p ≡ least_passer n q
-least_passer-congr zero p q h = refl
-least_passer-congr (suc n) p q h = ap₂ (λ b k. cond b k (suc n)) (some_congr n p q (λ v w. h v (omega arith))) (least_passer-congr n p q (λ v w. h v (omega arith)))
-
-module _ (n : ℕ) (p : ℕ → ℕ → Bool) (eq : IsEquivalence n p) where
-  -- the least member of the class of v
-  pub label : ℕ → ℕ
-  label v = least_passer n (p v)
-
-  label_is : (v : ℕ) → Within n v → Within n (label v) × (p v (label v) ≡ true) × ((w : ℕ) → Within n w → p v w ≡ true → label v ≤ w)
-  unfolding label
-  label_is v w = least_passer-is n (p v) (true_some n (p v) v w (eq.own v w))
-
-  pub label_label : IsLabel n label
-  label_label v w = (label_is v w).0
-
-  pub label_same : (a b : ℕ) → Within n a → Within n b → p a b ≡ true → label a ≡ label b
-  unfolding label
-  label_same a b wa wb h = least_passer-congr n (p a) (p b) (λ v w. same_answers (p a v) (p b v) (λ t. eq.on b a v wb wa w (eq.back a b wa wb h) t) (λ t. eq.on a b v wa wb w h t))
-
-  pub same_label : (a b : ℕ) → Within n a → Within n b → label a ≡ label b → p a b ≡ true
-  same_label a b wa wb e =
-      let x = label_is a wa in let y = label_is b wb in
-      eq.on a (label a) b wa x.0 wb x.1 (eq.back b (label a) wb x.0 (ap (p b) e ∙ y.1))
-
-  pub label_classes : count n (used n label) ≡ class_count n p
-  label_classes = count_congr n _ _ (λ l w. same_answers (used n label l) (not (some n (λ v. p l v && nat_lt v l))) (there l w) (back l w))
-    where
-      there : (l : ℕ) → Within n l → used n label l ≡ true → not (some n (λ v. p l v && nat_lt v l)) ≡ true
-      there l w t =
-          let v = some_true n (λ v. label v == l) t in
-          let e = eqb-true (label v.0) l v.2 in
-          let d = label_is v.0 v.1 in
-          ap not (false_from_ne_true (some n (λ v. p l v && nat_lt v l)) (λ s.
-          let u = some_true n (λ v. p l v && nat_lt v l) s in
-          let b = and_parts (p l u.0) (nat_lt u.0 l) u.2 in
-          let c = d.2 u.0 u.1 (eq.on v.0 l u.0 v.1 w u.1 (ap (p v.0) (sym e) ∙ d.1) b.0) in
-          let i = ltb-true u.0 l b.1 in absurd (omega arith)))
-
-      back : (l : ℕ) → Within n l → not (some n (λ v. p l v && nat_lt v l)) ≡ true → used n label l ≡ true
-      back l w t =
-          let d = label_is l w in
-          let z = some_none n (λ v. p l v && nat_lt v l) (not-true (some n (λ v. p l v && nat_lt v l)) t) (label l) d.0 in
-          let a = d.2 l w (eq.own l w) in
-          true_some n (λ v. label v == l) l w (eq-eqb (label l) l (elim (cases_lt (label l) l) [
-            | inl k ↦ absurd (both_ways (p l (label l) && nat_lt (label l) l) z (and_from (p l (label l)) (nat_lt (label l) l) d.1 (lt-ltb (label l) l k)))
-            | inr k ↦ omega arith
-          ]))
-
-abbrev pub IsFiner : ℕ → (ℕ → ℕ → Bool) → (ℕ → ℕ → Bool) → Type 0
-IsFiner n p q = (a b : ℕ) → Within n a → Within n b → p a b ≡ true → q a b ≡ true
-
--- of two equivalences the coarser has no more classes
-pub coarser : (n : ℕ) (p q : ℕ → ℕ → Bool) → IsEquivalence n p → IsEquivalence n q → IsFiner n p q → class_count n q ≤ class_count n p
-coarser n p q ep eq h =
-    let a = finer_used n (label n p ep) (label n q eq) (label_label n p ep) (λ a b wa wb e. label_same n q eq a b wa wb (h a b wa wb (same_label n p ep a b wa wb e))) in
-    let b = label_classes n p ep in
-    let c = label_classes n q eq in omega arith
-
--- and fewer where it joins two that the other keeps apart
-pub strictly : (n : ℕ) (p q : ℕ → ℕ → Bool) → IsEquivalence n p → IsEquivalence n q → IsFiner n p q → (x y : ℕ) → Within n x → Within n y → q x y ≡ true → p x y ≡ false → class_count n q + 1 ≤ class_count n p
-strictly n p q ep eq h x y wx wy qxy pxy =
-    let f = label n p ep in
-    let lf = label_label n p ep in
-    let d : f x ≢ f y = λ e. both_ways (p x y) pxy (same_label n p ep x y wx wy e) in
-    let a = merge_used n f x y wx wy lf d in
-    let i = finer_used n (merge f x y) (label n q eq) (merge_label n f x y wy lf)
-    (merge_in n f (label n q eq) x y wx wy (λ a b wa wb e. label_same n q eq a b wa wb (h a b wa wb (same_label n p ep a b wa wb e))) (label_same n q eq x y wx wy qxy)) in
-    let b = label_classes n p ep in
-    let c = label_classes n q eq in omega arith
-
--- four equivalences: p0 in p and in q, and r in each that holds p and q
-pub four_classes : (n : ℕ) (p0 p q r : ℕ → ℕ → Bool) → IsEquivalence n p0 → IsEquivalence n p → IsEquivalence n q → IsEquivalence n r → IsFiner n p0 p → IsFiner n p0 q →
-    ((z : ℕ → ℕ) → ((a b : ℕ) → Within n a → Within n b → p a b ≡ true → z a ≡ z b) → ((a b : ℕ) → Within n a → Within n b → q a b ≡ true → z a ≡ z b) → (a b : ℕ) → Within n a → Within n b → r a b ≡ true → z a ≡ z b) →
-    class_count n p + class_count n q ≤ class_count n p0 + class_count n r
-four_classes n p0 p q r e0 ep eq er b0 b1 above =
-    let a = four n (label n p0 e0) (label n p ep) (label n q eq) (label n r er) (record {
-      label0 = label_label n p0 e0;
-      label1 = label_label n p ep;
-      label2 = label_label n q eq;
-      label3 = label_label n r er;
-      below1 = λ a b wa wb e. label_same n p ep a b wa wb (b0 a b wa wb (same_label n p0 e0 a b wa wb e));
-      below2 = λ a b wa wb e. label_same n q eq a b wa wb (b1 a b wa wb (same_label n p0 e0 a b wa wb e));
-      above = λ z lz fz hz a b wa wb e. above z (λ a b wa wb t. fz a b wa wb (label_same n p ep a b wa wb t)) (λ a b wa wb t. hz a b wa wb (label_same n q eq a b wa wb t)) a b wa wb (same_label n r er a b wa wb e);
-    }) in
-    let b = label_classes n p0 e0 in
-    let c = label_classes n p ep in
-    let d = label_classes n q eq in
-    let e = label_classes n r er in omega arith

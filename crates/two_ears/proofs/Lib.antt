@@ -1,4 +1,6 @@
 pub mod Labels
+pub mod FourPartitions
+pub mod ClassCounts
 pub mod JoinedClasses
 pub mod ComponentCuts
 pub mod BarrierComponents

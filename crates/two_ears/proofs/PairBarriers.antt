@@ -18,7 +18,7 @@ use Rattle.two_ears.proofs.AddedEdges.{degree-added, each-with_pairs, keeps-adde
 use Rattle.two_ears.proofs.BarrierComponents.{all_components, meet_full, no_more_components, none_inside, some_perfect}
 use Rattle.two_ears.proofs.ComponentCuts.{odd_need}
 use Rattle.two_ears.proofs.JoinedClasses.{adjacent_joined, class_count-components, keeps-itself, joined_equivalence, joined_more, joined_steps}
-use Rattle.two_ears.proofs.Labels.{coarser, strictly}
+use Rattle.two_ears.proofs.ClassCounts.{coarser, strictly}
 use Rattle.two_ears.specs.AddedEdges.{KeepsEdges, with_pairs}
 use Rattle.counting.specs.Lists.{IsIn}
 use Rattle.two_ears.specs.VertexPairs.{vertices_of}

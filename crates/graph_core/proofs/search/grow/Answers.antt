@@ -6,7 +6,8 @@ use Rattle.graph_core.specs.Graph.{Graph}
 use Rattle.graph_core.specs.FoundVertices.{IsGrowth}
 use Rattle.graph_core.specs.Nodes.{parent_at, depth_at}
 use Rattle.graph_core.specs.declared.tree.TreeNode.{TreeNode}
-use Rattle.graph_core.proofs.FoundVertices.{growth_start, growth_step, growth_drop, growth_end, count_lost, count_gained}
+use Rattle.graph_core.proofs.OneVertexLess.{count_lost, count_gained}
+use Rattle.graph_core.proofs.FoundVertices.{growth_start, growth_step, growth_drop, growth_end}
 use Rattle.graph_core.proofs.Rows.{none_left, one_left}
 use Rattle.graph_core.proofs.search.grow.Goals as goal
 

@@ -6,7 +6,8 @@ use Rattle.counting.proofs.RisingLists.{set-narrower}
 use Rattle.graph_core.specs.FoundVertices.{IsStage}
 use Rattle.graph_core.specs.Nodes.{parent_at, depth_at}
 use Rattle.graph_core.specs.declared.tree.TreeNode.{TreeNode}
-use Rattle.graph_core.proofs.FoundVertices.{grown_less, stage_start, stage_step, stage_end}
+use Rattle.graph_core.proofs.FoundVertices.{grown_less}
+use Rattle.graph_core.proofs.FoundComponents.{stage_start, stage_step, stage_end}
 use Rattle.graph_core.proofs.search.search.Goals as goal
 
 pub searching-init : goal.searching-init

@@ -1,4 +1,4 @@
-use Rattle.barrier_kit.proofs.CriticalPairs.{bicritical, four, no_sides}
+use Rattle.barrier_kit.proofs.CriticalPairs.{bicritical, four_vertices, no_sides}
 use Rattle.separation_kit.proofs.CutPairs.{no_cut_pair}
 use Rattle.leaf_kinds.proofs.laws.brick_law.Goals as goal
 
@@ -7,7 +7,7 @@ returns c = λ g is covered brick.
     let odd = no_sides g is.no_loop brick.0 in
     let critical = bicritical g is.ends covered odd brick.1 in
     record {
-      four = four g is.ends covered odd;
+      four = four_vertices g is.ends covered odd;
       bicritical = critical;
       connected = λ u v pair. no_cut_pair g is.ends critical brick.1 u v pair.first pair.second pair;
     }

@@ -2,7 +2,7 @@ use Rattle.std.proofs.Common.{◌-◌, ◌∙◌, sym, rules, arith, subst, leng
 use Rattle.counting.specs.Lists.{mem}
 use Rattle.match_core.specs.Blossoms.{IsClosed, removed_with, without_blossom}
 use Rattle.match_core.specs.Rows.{numbers}
-use Rattle.match_core.proofs.BlossomSteps.{cw}
+use Rattle.match_core.proofs.BlossomMates.{cw}
 use Rattle.match_core.proofs.Instances.{alike_self, left_parts, put_back}
 use Rattle.match_core.proofs.MateSteps.{base_read, base_within, below_holds, below_less, candidates_below, roots_exposed, growth_closes, growth_final, may_open, may_open_alike, step_completed}
 use Rattle.match_core.proofs.augment.+augment_once.Goals as goal

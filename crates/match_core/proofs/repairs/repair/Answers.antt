@@ -8,7 +8,7 @@ use Rattle.match_core.specs.Rows.{marks}
 use Rattle.match_core.specs.MatchingRows.{edges_of, MatchingValue}
 use Rattle.match_core.specs.RepairPaths.{DiffersByPath}
 use Rattle.match_core.proofs.FrameFacts.{listed_marks, listed_perfect, passed_matching}
-use Rattle.match_core.proofs.RepairWalks.{differs_alike}
+use Rattle.match_core.proofs.RepairedPaths.{differs_alike}
 use Rattle.match_core.proofs.WholeGraphs.{ends_rows, limits_row, whole_graph}
 use Rattle.match_core.proofs.repairs.repair.Goals as goal
 

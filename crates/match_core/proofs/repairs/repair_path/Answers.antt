@@ -4,7 +4,8 @@ use Rattle.graph_core.specs.View.{graph_of}
 use Rattle.match_core.specs.Rows.{marks, numbers}
 use Rattle.match_core.specs.RepairPaths.{IsWalk, IsRepairRow, Misses}
 use Rattle.match_core.proofs.GraphRows.{row_graph, missed_degree}
-use Rattle.match_core.proofs.RepairWalks.{walk_start, walk_within, walk_outside, walk_short, walk_more, walk_end, next_within, next_outside, mate_pair, perfect_named, free_misses, none_free, appended_length}
+use Rattle.match_core.proofs.RepairWalks.{walk_start, walk_within, walk_outside, walk_short, walk_more, walk_end, next_within, next_outside, appended_length}
+use Rattle.match_core.proofs.NamedEdges.{mate_pair, perfect_named, free_misses, none_free}
 use Rattle.match_core.proofs.repairs.repair_path.Goals as goal
 
 pub unreachable-requires : goal.unreachable-requires

@@ -9,7 +9,7 @@ use Rattle.match_core.specs.Rows.{marks, numbers, part}
 use Rattle.match_core.specs.RepairPaths.{DiffersByPath, IsRepairRow, Misses}
 use Rattle.match_core.proofs.FrameFacts.{no_outer-best_perfect, outer-none_perfect}
 use Rattle.match_core.proofs.GraphRows.{row_graph, size_is}
-use Rattle.match_core.proofs.RepairWalks.{row_real, flipped_row, repaired_path}
+use Rattle.match_core.proofs.RepairedPaths.{row_real, flipped_row, repaired_path}
 use Rattle.match_core.proofs.repairs.repaired_marks.Goals as goal
 
 pub best_from-requires-clause-matching : goal.best_from-requires-clause-matching

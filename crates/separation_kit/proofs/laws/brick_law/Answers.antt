@@ -1,9 +1,9 @@
-use Rattle.barrier_kit.proofs.CriticalPairs.{bicritical, four, no_sides}
+use Rattle.barrier_kit.proofs.CriticalPairs.{bicritical, four_vertices, no_sides}
 use Rattle.separation_kit.proofs.CutPairs.{no_cut_pair}
 use Rattle.separation_kit.proofs.laws.brick_law.Goals as goal
 
 pub returns-clause-four : goal.returns-clause-four
-returns-clause-four c g is cov odd_cycle = four g is.ends cov (no_sides g is.no_loop odd_cycle)
+returns-clause-four c g is cov odd_cycle = four_vertices g is.ends cov (no_sides g is.no_loop odd_cycle)
 
 pub returns-clause-bicritical : goal.returns-clause-bicritical
 returns-clause-bicritical c g is cov odd_cycle brick = bicritical g is.ends cov (no_sides g is.no_loop odd_cycle) brick
