@@ -1,6 +1,6 @@
 -- The first of the components is that of vertex 1, since no vertex is less; a graph is connected where it holds all vertices.
 -- A walk from one vertex to another leads over 1.
-use Rattle.std.proofs.Common.{◌≡◌, ℕ, suc, zero, ◌≤◌, ◌<◌, Bool, true, false, not, ◌&&◌, ◌↔◌, List, [], ◌∷◌, ◌++◌, map, length, cond, sym, ap, ◌∙◌, arith, nat_lt, ltb-true}
+use Rattle.std.proofs.Common.{◌≡◌, ℕ, suc, zero, ◌≤◌, ◌<◌, Bool, true, false, not, ◌&&◌, ◌↔◌, List, [], ◌∷◌, ◌++◌, map, length, cond, sym, ap, ◌∙◌, arith, subst, nat_lt, ltb-true}
 use Rattle.std.specs.Prelude.{IfNone, IfSome, None, Option, Some, slice_get}
 use Rattle.std.proofs.lemmas.Bool.{both_ways, and_parts, false_from_ne_true}
 use Rattle.counting.specs.Counts.{Within}
@@ -32,7 +32,7 @@ one_is_least g = ap not (false_from_ne_true (some g.order (λ v. joined g none 1
     let l = ltb-true r.0 1 b.1 in let w = r.1 in absurd (omega arith)))
 
 -- the first component is that of 1
-pub first_component : (g : Graph) (part : List ℕ) → 1 ≤ g.order → slice_get (components g none) 0 ≡ Some part → part ≡ rising_list g.order (joined g none 1)
+first_component : (g : Graph) (part : List ℕ) → 1 ≤ g.order → slice_get (components g none) 0 ≡ Some part → part ≡ rising_list g.order (joined g none 1)
 unfolding components
 first_component g part l h =
     let r = begins_with_one g.order (is_least g none) l (one_is_least g) in
@@ -48,36 +48,45 @@ some_component g l =
     omega arith
 
 -- a vertex is in this list exactly where a walk joins it to 1
-pub in_first : (g : Graph) → IsGraph g → 1 ≤ g.order → (v : ℕ) → Within g.order v → mem (rising_list g.order (joined g none 1)) v ≡ true → Joined g none 1 v
+in_first : (g : Graph) → IsGraph g → 1 ≤ g.order → (v : ℕ) → Within g.order v → mem (rising_list g.order (joined g none 1)) v ≡ true → Joined g none 1 v
 in_first g is l v w m = joined_walk g none 1 v (sym (mem-rising_list g.order (joined g none 1) v w) ∙ m)
 
--- the least vertex outside the list is the least that no walk joins to 1
-pub first_apart : (g : Graph) (all others : List ℕ) (b : ℕ) → IsGraph g → 1 ≤ g.order →
-    ((v : ℕ) → (mem all v ≡ true) ↔ Within g.order v) →
-    ((v : ℕ) → mem others v ≡ (mem all v && not (mem (rising_list g.order (joined g none 1)) v))) → IsLeastOf others b → IsLeastWithout g.order (Joined g none 1) b
-first_apart g all others b is l full o least =
-    let out = and_parts (mem all b) (not (mem (rising_list g.order (joined g none 1)) b)) (sym (o b) ∙ least.member) in
-    let wb = (full b).0 out.0 in
-    record {
-      within = wb;
-      without = λ j. both_ways (not (mem (rising_list g.order (joined g none 1)) b)) (ap not (mem-rising_list g.order (joined g none 1) b wb ∙ walk_joined g none is 1 b (omega arith) j)) out.1;
-      before = λ w ww lt. in_first g is l w ww (inside (mem all w) (mem (rising_list g.order (joined g none 1)) w) ((full w).1 ww) (sym (o w) ∙ least.before w lt));
-    }
-  where
-    inside : (a c : Bool) → a ≡ true → (a && not c) ≡ false → c ≡ true
-    inside a c p q = grind arith
+-- the parts of the graph without nothing are its components, the first of them is read, and the others are all vertices outside it
+module _ (g : Graph) (is : IsGraph g) (l : 1 ≤ g.order) (nothing : List ℕ) (nothing_is : nothing ≡ []) (parts : List (List ℕ)) (parts_are : parts ≡ components g (mem nothing)) (part : List ℕ) (part_is : slice_get parts 0 ≡ Some part)
+    (n : ℕ) (order : n ≡ g.order) (all : List ℕ) (all_are : (v : ℕ) → (mem all v ≡ true) ↔ Within n v) (others : List ℕ) (others_are : (v : ℕ) → mem others v ≡ (mem all v && not (mem part v))) where
+  first_is : part ≡ rising_list g.order (joined g none 1)
+  first_is = first_component g part l (ap (λ (ps : List (List ℕ)). slice_get ps 0) (sym (parts_are ∙ ap (λ (xs : List ℕ). components g (mem xs)) nothing_is)) ∙ part_is)
 
--- where nothing is outside, the graph is connected
-pub all_joined : (g : Graph) (all others : List ℕ) → IsGraph g → 1 ≤ g.order →
-    ((v : ℕ) → (mem all v ≡ true) ↔ Within g.order v) →
-    ((v : ℕ) → mem others v ≡ (mem all v && not (mem (rising_list g.order (joined g none 1)) v))) → others ≡ [] → IsConnected g
-all_joined g all others is l full o empty u v wu wv = joined_on g none u 1 v (joined_back g none 1 u (reached u wu)) (reached v wv)
-  where
-    inside : (a c : Bool) → a ≡ true → (a && not c) ≡ false → c ≡ true
-    inside a c p q = grind arith
+  full : (v : ℕ) → (mem all v ≡ true) ↔ Within g.order v
+  full = subst (λ (n : ℕ). (v : ℕ) → (mem all v ≡ true) ↔ Within n v) order all_are
 
-    reached : (w : ℕ) → Within g.order w → Joined g none 1 w
-    reached w ww = in_first g is l w ww (inside (mem all w) (mem (rising_list g.order (joined g none 1)) w) ((full w).1 ww) (sym (o w) ∙ ap (λ xs. mem xs w) empty))
+  outside : (v : ℕ) → mem others v ≡ (mem all v && not (mem (rising_list g.order (joined g none 1)) v))
+  outside v = others_are v ∙ ap (λ (xs : List ℕ). mem all v && not (mem xs v)) first_is
+
+  -- a vertex that is not one of the others
+  reached : (w : ℕ) → Within g.order w → mem others w ≡ false → Joined g none 1 w
+  reached w ww h = in_first g is l w ww (inside (mem all w) (mem (rising_list g.order (joined g none 1)) w) ((full w).1 ww) (sym (outside w) ∙ h))
+    where
+      inside : (a c : Bool) → a ≡ true → (a && not c) ≡ false → c ≡ true
+      inside a c p q = grind arith
+
+  -- the least of the others is the least that no walk joins to 1
+  pub first_apart : (b : ℕ) → IsLeastOf others b → IsLeastWithout g.order (Joined g none 1) b
+  first_apart b least =
+      let out = and_parts (mem all b) (not (mem (rising_list g.order (joined g none 1)) b)) (sym (outside b) ∙ least.member) in
+      let wb = (full b).0 out.0 in
+      record {
+        within = wb;
+        without = λ j. both_ways (not (mem (rising_list g.order (joined g none 1)) b)) (ap not (mem-rising_list g.order (joined g none 1) b wb ∙ walk_joined g none is 1 b (omega arith) j)) out.1;
+        before = λ w ww lt. reached w ww (least.before w lt);
+      }
+
+  -- where there is no other, the graph is connected
+  pub all_joined : others ≡ [] → IsConnected g
+  all_joined empty u v wu wv = joined_on g none u 1 v (joined_back g none 1 u (from_one u wu)) (from_one v wv)
+    where
+      from_one : (w : ℕ) → Within g.order w → Joined g none 1 w
+      from_one w ww = reached w ww (ap (λ (xs : List ℕ). mem xs w) empty)
 
 -- what is said of the value in an option, and of there being none
 pub some_weaker : (o : Option ℕ) (P Q : ℕ → Type 0) → ((v : ℕ) → P v → Q v) → IfSome o P → IfSome o Q

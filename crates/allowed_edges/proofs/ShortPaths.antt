@@ -1,15 +1,18 @@
 -- A matching with an edge more, between two vertices that it does not meet, and what a row that was read says of a matching's ends.
-use Rattle.std.proofs.Common.{◌≡◌, ℕ, suc, zero, ◌+◌, ◌<◌, true, false, ◌==◌, ◌||◌, refl, sym, ap, ◌∙◌, arith, List, [], ◌∷◌, inl, eq-eqb, ne_eqb, Some, Option, length, slice_get}
+use Rattle.std.proofs.Common.{◌≡◌, ℕ, suc, zero, ◌+◌, ◌*◌, ◌<◌, true, false, ◌==◌, ◌||◌, refl, sym, ap, ◌∙◌, arith, List, [], ◌∷◌, inl, eq-eqb, ne_eqb, Some, Option, length, slice_get}
 use Rattle.std.proofs.lemmas.Bool.{both_ways}
 use Rattle.counting.specs.Counts.{Within, bit}
 use Rattle.counting.specs.Sets.{Set, put}
-use Rattle.counting.specs.Lists.{mem}
-use Rattle.graph_core.specs.Graph.{Graph, IsMultigraph, degree, first_end, second_end, size}
-use Rattle.graph_core.specs.Matchings.{IsMatching}
+use Rattle.counting.specs.Lists.{IsRisingIn, mem}
+use Rattle.counting.proofs.RisingLists.{set-narrower}
+use Rattle.graph_core.specs.Graph.{Graph, IsGraph, IsMultigraph, degree, first_end, second_end, size}
+use Rattle.graph_core.specs.Matchings.{IsMatching, missed_count}
 use Rattle.graph_core.proofs.Edits.{add_edge}
 use Rattle.match_core.specs.MatchingRows.{IsOf, KeepsMatching, MatchingValue, edges_of, ends_at}
 use Rattle.match_core.specs.declared.matching.MatchRow.{MatchRow}
+use Rattle.allowed_edges.specs.Leaving.{IsMatchingOff}
 use Rattle.match_core.proofs.Alike.{matching_alike}
+use Rattle.match_core.proofs.ClearedMatchings.{left_size}
 use Rattle.match_core.proofs.GrownRows.{with_put}
 use Rattle.match_core.proofs.MatchingEdges.{degree-ends_at, rows-rise}
 
@@ -42,6 +45,10 @@ module _ (g : Graph) (m : MatchingValue) (of : IsOf g m) (keeps : KeepsMatching 
   longer_matching r k n is mm wk ra rb fa fb h =
       matching_alike g r (put (mem (edges_of m)) k true) n (λ e we. h e ∙ with_put (mem (edges_of m)) k e)
       (add_edge g r (mem (edges_of m)) k (first_end g k) (second_end g k) mm wk (is.no_loop k wk) ra rb (inl (refl, refl)) (no_edge (first_end g k) fa) (no_edge (second_end g k) fb)).0
+
+-- what a matching of g without met misses, with its ends and with met, are all vertices
+pub off_size : (g : Graph) (met : List ℕ) (m : MatchingValue) → IsGraph g → IsRisingIn 128 met → KeepsMatching m → IsMatchingOff g met m → missed_count g (mem met) (mem (edges_of m)) + 2 * length m.rows + length met ≡ g.order
+off_size g met m is rises keeps off = left_size g met m is (set-narrower 128 g.order met rises (λ v t. (off.within v t).1)) off.of keeps off.matching
 
 -- a matching of the graph without more vertices
 pub fewer_removed : (g : Graph) (r s m : Set) → ((v : ℕ) → s v ≡ true → r v ≡ true) → IsMatching g r m → IsMatching g s m

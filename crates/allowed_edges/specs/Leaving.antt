@@ -1,9 +1,22 @@
--- What a matching leaves when the edges with an end in a set are taken out of it.
-use Rattle.std.specs.Prelude.{◌≡◌, ℕ, ◌⊎◌, Bool, ◌||◌, ◌==◌}
+-- Matchings off a set of vertices, and what a matching leaves when the edges with an end in the set are taken out of it.
+use Rattle.std.specs.Prelude.{◌≡◌, ℕ, ◌⊎◌, Bool, true, List, ◌||◌, ◌==◌}
+use Rattle.counting.specs.Counts.{Within}
+use Rattle.counting.specs.Lists.{mem}
 use Rattle.counting.specs.Sets.{Set}
 use Rattle.graph_core.specs.Graph.{Graph, first_end, second_end}
-use Rattle.graph_core.specs.Matchings.{IsEnd, missed_count}
-use Rattle.match_core.specs.MatchingRows.{left_over}
+use Rattle.graph_core.specs.Matchings.{IsEnd, IsMatching, IsPerfect, missed_count}
+use Rattle.match_core.specs.MatchingRows.{IsOf, MatchingValue, edges_of, left_over}
+
+-- m is a matching of g without met, a set of vertices of g
+pub record IsMatchingOff (g : Graph) (met : List ℕ) (m : MatchingValue) : Type 0 where
+  pub of : IsOf g m
+  pub within : (v : ℕ) → mem met v ≡ true → Within g.order v
+  pub matching : IsMatching g (mem met) (mem (edges_of m))
+
+-- m is a perfect matching of g without met
+pub record IsPerfectOff (g : Graph) (met : List ℕ) (m : MatchingValue) : Type 0 where
+  pub of : IsOf g m
+  pub perfect : IsPerfect g (mem met) (mem (edges_of m))
 
 -- the edges of m without an end in x miss no vertex outside x, or two
 abbrev pub LeavesFew : Graph → Set → Set → Type 0

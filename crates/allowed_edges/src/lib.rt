@@ -12,8 +12,8 @@
 //! edge or a pair of edges that no earlier one holds (`IsLean`).
 //!
 //! Each question on a pair is answered from a perfect matching at hand by one augmentation at most. Stands on `match_core`,
-//! which makes the table of partners and repairs a matching along one path. Source: Lovász and Plummer, "Matching Theory", chapter 5; Lucchesi and Murty,
-//! "Perfect Matchings".
+//! which makes the table of partners and repairs a matching along one path. Source: Lovász and Plummer, "Matching Theory",
+//! chapter 5; Lucchesi and Murty, "Perfect Matchings".
 #![tactic(auto)]
 
 mod edges;

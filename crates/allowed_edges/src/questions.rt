@@ -4,9 +4,9 @@ ghost use Rattle.counting.specs.Counts.{Within};
 ghost use Rattle.counting.specs.Sets.{none};
 ghost use Rattle.counting.specs.Lists.{mem};
 ghost use Rattle.graph_core.specs.Graph.{size, first_end, second_end};
-ghost use Rattle.graph_core.specs.Matchings.{Allowed, HasPerfect, IsMatching, IsPerfect, Together, missed_count};
+ghost use Rattle.graph_core.specs.Matchings.{Allowed, HasPerfect, IsPerfect, Together, missed_count};
 ghost use Rattle.match_core.specs.MatchingRows.{IsOf, edges_of};
-ghost use Rattle.allowed_edges.specs.Leaving.{LeavesFew, ShareNone};
+ghost use Rattle.allowed_edges.specs.Leaving.{IsMatchingOff, LeavesFew, ShareNone};
 
 use crate::short_paths::completed;
 use graph_core::MultiGraph;
@@ -99,9 +99,7 @@ fn perfect_off(
 
 /// Whether a matching of G - met misses no other vertex.
 pub fn misses_none(g: &MultiGraph, m: &Matching, met: VSet) -> bool
-    requires of { IsOf g.now m.now }
-    requires within { (v : ℕ) → mem met v ≡ true → Within g.now.order v }
-    requires matching { IsMatching g.now (mem met) (mem (edges_of m.now)) }
+    requires { IsMatchingOff g.now met m.now }
     ensures { result ≡ (missed_count g.now (mem met) (mem (edges_of m.now)) == 0) }
 {
     g.keeps_limits();

@@ -1,11 +1,11 @@
 //! Short alternating paths: a matching that misses two vertices made perfect by one edge between them, or by two edges in place
 //! of one. In a graph with many edges such a path is found far sooner than by the search for any path.
-ghost use Rattle.std.specs.Prelude.{◌≡◌, ◌<◌, ◌≤◌, ℕ, true, false, length, slice_get, IfOk, Some, None};
+ghost use Rattle.std.specs.Prelude.{◌≡◌, ◌<◌, ◌≤◌, ℕ, false, length, slice_get, IfOk, Some, None};
 ghost use Rattle.counting.specs.Counts.{Within};
 ghost use Rattle.counting.specs.Lists.{mem};
 ghost use Rattle.graph_core.specs.Graph.{size};
-ghost use Rattle.graph_core.specs.Matchings.{IsMatching, IsPerfect};
-ghost use Rattle.match_core.specs.MatchingRows.{IsOf, edges_of, ends_at};
+ghost use Rattle.match_core.specs.MatchingRows.{ends_at};
+ghost use Rattle.allowed_edges.specs.Leaving.{IsMatchingOff, IsPerfectOff};
 
 use crate::questions::misses_none;
 use graph_core::MultiGraph;
@@ -21,12 +21,8 @@ pub fn completed(
     met: VSet,
     m: &Matching,
 ) -> Result<Option<Matching>, Memory>
-    requires of { IsOf g.now m.now }
-    requires within { (v : ℕ) → mem met v ≡ true → Within g.now.order v }
-    requires matching { IsMatching g.now (mem met) (mem (edges_of m.now)) }
-    ensures of { IfOk result (λ o. (n : _) → o ≡ Some n → IsOf g.now n) }
-    ensures perfect { IfOk result
-        (λ o. (n : _) → o ≡ Some n → IsPerfect g.now (mem met) (mem (edges_of n))) }
+    requires { IsMatchingOff g.now met m.now }
+    ensures { IfOk result (λ o. (n : _) → o ≡ Some n → IsPerfectOff g.now met n) }
 {
     g.keeps_limits();
     let missed = VSet::full(g.order()).minus(met).minus(met_vertices(m));
@@ -52,13 +48,9 @@ fn with_one(
     m: &Matching,
     k: u32,
 ) -> Result<Option<Matching>, Memory>
-    requires of { IsOf g.now m.now }
-    requires within { (v : ℕ) → mem met v ≡ true → Within g.now.order v }
-    requires matching { IsMatching g.now (mem met) (mem (edges_of m.now)) }
+    requires matching { IsMatchingOff g.now met m.now }
     requires edge { Within (size g.now) k }
-    ensures of { IfOk result (λ o. (n : _) → o ≡ Some n → IsOf g.now n) }
-    ensures perfect { IfOk result
-        (λ o. (n : _) → o ≡ Some n → IsPerfect g.now (mem met) (mem (edges_of n))) }
+    ensures { IfOk result (λ o. (n : _) → o ≡ Some n → IsPerfectOff g.now met n) }
 {
     match with_edge(alloc, g, met, m, k)? {
         Some(found) => {
@@ -83,12 +75,8 @@ fn with_two(
 ) -> Result<Option<Matching>, Memory>
     requires first { Within MOST_VERTICES x }
     requires second { Within MOST_VERTICES y }
-    requires of { IsOf g.now m.now }
-    requires within { (v : ℕ) → mem met v ≡ true → Within g.now.order v }
-    requires matching { IsMatching g.now (mem met) (mem (edges_of m.now)) }
-    ensures of { IfOk result (λ o. (n : _) → o ≡ Some n → IsOf g.now n) }
-    ensures perfect { IfOk result
-        (λ o. (n : _) → o ≡ Some n → IsPerfect g.now (mem met) (mem (edges_of n))) }
+    requires matching { IsMatchingOff g.now met m.now }
+    ensures { IfOk result (λ o. (n : _) → o ≡ Some n → IsPerfectOff g.now met n) }
 {
     g.keeps_limits();
     m.keeps_matching();
@@ -119,12 +107,9 @@ fn with_edge(
     m: &Matching,
     k: u32,
 ) -> Result<Option<Matching>, Memory>
-    requires of { IsOf g.now m.now }
-    requires matching { IsMatching g.now (mem met) (mem (edges_of m.now)) }
+    requires matching { IsMatchingOff g.now met m.now }
     requires edge { Within (size g.now) k }
-    ensures of { IfOk result (λ o. (n : _) → o ≡ Some n → IsOf g.now n) }
-    ensures matching { IfOk result
-        (λ o. (n : _) → o ≡ Some n → IsMatching g.now (mem met) (mem (edges_of n))) }
+    ensures { IfOk result (λ o. (n : _) → o ≡ Some n → IsMatchingOff g.now met n) }
 {
     g.keeps_limits();
     m.keeps_matching();

@@ -33,7 +33,7 @@ impl EdgeTable {
         ensures square { IfOk result (λ table. IsSquare table) }
         ensures empty { IfOk result (λ table. (e f : ℕ) → marks (row_of table e) f ≡ false) }
     {
-        let mut rows = Vec::new(alloc);
+        let mut rows = Vec::with_capacity(alloc, size as usize + 1)?;
         for _e in 0..size + 1 {
             rows.push(vec![in alloc; false; size as usize + 1]?)?;
         }

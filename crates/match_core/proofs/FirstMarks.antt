@@ -1,6 +1,6 @@
 -- The marks that the engine begins with, and the bound on its augmentations.
 -- An edge between two free vertices is added: it meets these two alone, so all other free vertices stay free.
-use Rattle.std.proofs.Common.{◌≡◌, ℕ, ◌+◌, ◌≤◌, ◌≢◌, true, false, ◌==◌, ◌||◌, ◌&&◌, sym, ap, ap₂, ◌∙◌, arith}
+use Rattle.std.proofs.Common.{◌≡◌, ℕ, ◌+◌, ◌≤◌, ◌≢◌, Bool, true, false, ◌==◌, ◌||◌, ◌&&◌, not, sym, ap, ap₂, ◌∙◌, arith}
 use Rattle.std.proofs.lemmas.Bool.{both_ways, or_left, or_right, false_from_ne_true}
 use Rattle.counting.proofs.Counts.{count_le}
 use Rattle.counting.proofs.Totals.{total_none}
@@ -16,6 +16,10 @@ empty_degree g m h v = ap₂ ◌+◌ (total_none (size g) _ (λ e w. ap (λ b. b
 
 pub empty_matching : (g : Graph) (r m : Set) → ((e : ℕ) → m e ≡ false) → IsMatching g r m
 empty_matching g r m h = record { once = λ v w. let a = empty_degree g m h v in omega arith; away = λ v w q. empty_degree g m h v }
+
+-- what the test of an edge says: its ends differ, and neither was met
+pub addable : (a b d : Bool) → (not a && (not b && not d)) ≡ true → (a ≡ false) × (b ≡ false) × (d ≡ false)
+addable a b d h = grind arith
 
 -- an edge between two free vertices is added
 pub added_edge : (g : Graph) (r m met met' : Set) (e x y : ℕ) → IsMatching g r m → ((v : ℕ) → Within g.order v → met v ≡ false → (r v ≡ false) × (degree g m v ≡ 0)) →

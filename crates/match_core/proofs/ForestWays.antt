@@ -1,5 +1,5 @@
 -- The ways to the two ends of a closing edge: they are paths of the forest, with outer and inner vertices in turn.
-use Rattle.std.proofs.Common.{◌≡◌, ℕ, suc, ◌+◌, ◌≤◌, true, refl, sym, ap, ◌∙◌, arith, subst, length, List}
+use Rattle.std.proofs.Common.{◌≡◌, ℕ, suc, ◌+◌, ◌≤◌, ◌<◌, true, refl, sym, ap, ◌∙◌, arith, subst, length, List, get_or}
 use Rattle.counting.specs.Counts.{is_odd}
 use Rattle.counting.specs.Sets.{Set}
 use Rattle.counting.specs.Lists.{mem}
@@ -13,6 +13,25 @@ use Rattle.match_core.specs.declared.ways.Ways.{Ways}
 use Rattle.match_core.proofs.Alike.{path_alike}
 use Rattle.match_core.proofs.Forests.{outer_edge}
 use Rattle.match_core.proofs.LongerPaths.{ends_by}
+use Rattle.match_core.proofs.Reaching.{pairs_few}
+use Rattle.match_core.proofs.WaysUp.{pairs_read}
+
+-- the numbers of pairs of two ways are those of the forest, and small: a path meets no vertex twice
+pub record AreShortWays (t : AlternatingForest) (o : Adjacent) (first second : ℕ) : Type 0 where
+  pub first_is : first ≡ numbers t.pairs.items o.v
+  pub second_is : second ≡ numbers t.pairs.items o.w
+  pub first_short : first + first < 128
+  pub second_short : second + second < 128
+
+-- they are so as the code reads them
+pub short_ways : (g : Graph) (r f : Set) (mate : List ℕ) (t : AlternatingForest) (o : Adjacent) (first second : ℕ) → ClosesForest g r f mate t o → first ≡ get_or t.pairs.items o.v first → second ≡ get_or t.pairs.items o.w second → AreShortWays t o first second
+short_ways g r f mate t o first second is first_read second_read =
+    let few = is.few in
+    let first_is = pairs_read g r f mate t is.holds o.v first is.v_outer first_read in
+    let second_is = pairs_read g r f mate t is.holds o.w second is.w_outer second_read in
+    let v_few = pairs_few g r f mate t is.holds o.v is.v_outer in
+    let w_few = pairs_few g r f mate t is.holds o.w is.w_outer in
+    record { first_is = first_is; second_is = second_is; first_short = omega arith; second_short = omega arith }
 
 module _ (g : Graph) (r f : Set) (mate : List ℕ) (t : AlternatingForest) (o : Adjacent) (is : ClosesForest g r f mate t o) (w : Ways) (first : w.first ≡ numbers t.pairs.items o.v) (second : w.second ≡ numbers t.pairs.items o.w)
     (long : length w.row.items ≡ second_start w + suc (w.second + w.second)) (first_way : (j : ℕ) → j ≤ w.first + w.first → part w.row.items 0 j ≡ is.holds.v o.v j) (second_way : (j : ℕ) → j ≤ w.second + w.second → part w.row.items (second_start w) j ≡ is.holds.v o.w j) where

@@ -1,7 +1,8 @@
 -- What a matching with a frame is: maximum, with the Gallai-Edmonds sets as its outer and inner vertices; perfect exactly
 -- where there is no outer vertex. A missed vertex is outer, and an outer vertex is missed by some matching as large.
-use Rattle.std.proofs.Common.{◌≡◌, ℕ, suc, zero, ◌≤◌, ◌<◌, true, false, ◌==◌, ◌↔◌, refl, sym, ap, ◌∙◌, arith, List, [], ◌∷◌, length, subst, inl, inr, eq-eqb, ◌-◌}
+use Rattle.std.proofs.Common.{◌≡◌, ℕ, suc, zero, ◌≤◌, ◌<◌, ◌≢◌, Bool, true, false, ◌==◌, ◌↔◌, refl, sym, ap, ◌∙◌, arith, List, [], ◌∷◌, length, subst, inl, inr, eq-eqb}
 use Rattle.std.proofs.lemmas.Bool.{both_ways, true≢false, false_from_ne_true}
+use mathlib.Core.Path.{fun_ext}
 use Rattle.counting.specs.Counts.{Within, count, is_odd}
 use Rattle.counting.specs.Sets.{Set, none}
 use Rattle.counting.specs.Lists.{mem, rising_list, IsRisingIn}
@@ -12,52 +13,19 @@ use Rattle.graph_core.specs.Matchings.{IsMatching, IsMaximum, IsPerfect, HasPerf
 use Rattle.graph_core.specs.BergeSets.{Attains}
 use Rattle.graph_core.specs.GallaiEdmonds.{InD, InA}
 use Rattle.graph_core.specs.Walks.{joined}
-use Rattle.graph_core.specs.Rows.{AreRows}
-use Rattle.graph_core.specs.View.{graph_of, IsWithinLimits}
-use Rattle.graph_core.specs.declared.ends.Ends.{Ends}
 use Rattle.graph_core.proofs.Decide.{degree_congr}
 use Rattle.graph_core.proofs.Edits.{edge_of, missed_edges}
 use Rattle.graph_core.proofs.Adjacency.{has_ends-from}
 use Rattle.graph_core.proofs.Perfect.{perfect_matching, perfect_misses, missed_one}
 use Rattle.graph_core.proofs.Walks.{adjacent_from}
 use Rattle.match_core.specs.Frames.{Frame}
-use Rattle.match_core.specs.Rows.{marks, end_a, end_b}
-use Rattle.match_core.specs.GraphRows.{AreEnds, IsGraphRow}
+use Rattle.match_core.specs.Rows.{marks}
 use Rattle.match_core.specs.Optimal.{IsBest}
 use Rattle.match_core.specs.declared.best.Best.{Best}
 use Rattle.match_core.proofs.Alike.{matching_alike}
 use Rattle.match_core.proofs.Certificates.{certificate_bound}
 use Rattle.match_core.proofs.OddComponents.{certificate_components, certificate_maximum, outer_free, outer_missable, missable_outer, inner_next, next_inner}
 use Rattle.match_core.proofs.OuterComponents.{outer_odd, odd_outer}
-use Rattle.match_core.proofs.GraphRows.{size_is, near_is, far_is}
-
--- the ends of a graph are of 1 to its order
-pub graph_ends : (n : ℕ) (ends : List Ends) → IsGraph (graph_of n ends) → AreEnds n ends
-graph_ends n ends is = record {
-  a = λ k l. subst (Within n) (near_is n ends (suc k) (omega arith) ∙ ap (end_a ends) (back k)) (is (suc k) (in_size k l)).0;
-  b = λ k l. subst (Within n) (far_is n ends (suc k) (omega arith) ∙ ap (end_b ends) (back k)) (is (suc k) (in_size k l)).1;
-}
-  where
-    back : (k : ℕ) → suc k - 1 ≡ k
-    back k = omega arith
-
-    in_size : (k : ℕ) → k < length ends → Within (size (graph_of n ends)) (suc k)
-    in_size k l = let s = size_is n ends in omega arith
-
--- a graph within the limits of a multigraph, as its order and its ends
-pub limits_row : (g : Graph) (n : ℕ) (ends : List Ends) → n ≡ g.order → graph_of g.order ends ≡ g → IsWithinLimits g → IsGraphRow n ends
-limits_row g n ends order same limits =
-    let there : graph_of n ends ≡ g = ap (λ n. graph_of n ends) order ∙ same in
-    let here : IsWithinLimits (graph_of n ends) = subst IsWithinLimits (sym there) limits in
-    record {
-      vertices = here.vertices;
-      few = let a = here.edges in let b = size_is n ends in omega arith;
-      within = graph_ends n ends here.multigraph.ends;
-    }
-
--- the rows of a graph are those of its ends
-pub ends_rows : (g : Graph) (n : ℕ) (ends : List Ends) (rows : List (List ℕ)) → n ≡ g.order → graph_of g.order ends ≡ g → AreRows g rows → AreRows (graph_of n ends) rows
-ends_rows g n ends rows order same = subst (λ (h : Graph). AreRows h rows) (sym (ap (λ n. graph_of n ends) order ∙ same))
 
 -- a matching of g without r is one of g
 pub whole_matching : (g : Graph) (r m : Set) → IsMatching g r m → IsMatching g none m
@@ -67,77 +35,90 @@ whole_matching g r m mm = record { once = mm.once; away = λ v w q. absurd (true
 pub listed_marks : (g : Graph) (m : Set) (e : ℕ) → Within (size g) e → mem (rising_list (size g) m) e ≡ m e
 listed_marks g m e w = mem-rising_list (size g) m e w
 
--- a perfect matching is one of the list of its edges
-pub listed_perfect : (g : Graph) (r m : Set) (es : List ℕ) → es ≡ rising_list (size g) m → IsPerfect g r m → IsPerfect g r (mem es)
-listed_perfect g r m es es_is p = record {
-  once = λ v w rv. degree_congr g (mem es) m v same ∙ p.once v w rv;
-  away = λ v w rv. degree_congr g (mem es) m v same ∙ p.away v w rv;
-}
-  where
-    same : (e : ℕ) → Within (size g) e → mem es e ≡ m e
-    same e w = ap (λ xs. mem xs e) es_is ∙ listed_marks g m e w
+-- the marks of a perfect matching are passed on, and made a list of edges: this is a perfect matching again
+module _ (g : Graph) (r : Set) (mark passed : List Bool) (passed_is : passed ≡ mark) (p : IsPerfect g r (marks mark)) where
+  pub passed_matching : IsMatching g none (marks passed)
+  passed_matching = subst (λ (row : List Bool). IsMatching g none (marks row)) (sym passed_is) (whole_matching g r (marks mark) (perfect_matching g r (marks mark) p))
 
-module _ (g : Graph) (is : IsGraph g) (b : Best) (best : IsBest g none b) (es : List ℕ) (es_is : es ≡ rising_list (size g) (marks b.mark.items)) where
-  same : (e : ℕ) → Within (size g) e → mem es e ≡ marks b.mark.items e
-  same e w = ap (λ xs. mem xs e) es_is ∙ listed_marks g (marks b.mark.items) e w
+  pub listed_perfect : (es : List ℕ) → es ≡ rising_list (size g) (marks passed) → IsPerfect g r (mem es)
+  listed_perfect es es_is = record {
+    once = λ v w rv. degree_congr g (mem es) (marks mark) v same ∙ p.once v w rv;
+    away = λ v w rv. degree_congr g (mem es) (marks mark) v same ∙ p.away v w rv;
+  }
+    where
+      same : (e : ℕ) → Within (size g) e → mem es e ≡ marks mark e
+      same e w = ap (λ xs. mem xs e) es_is ∙ listed_marks g (marks passed) e w ∙ ap (λ row. marks row e) passed_is
 
-  mm : IsMatching g none (mem es)
-  mm = matching_alike g none (marks b.mark.items) (mem es) same best.matching
+-- what the engine answers where nothing is removed, with its marks passed on
+module _ (g : Graph) (is : IsGraph g) (removed : List ℕ) (b : Best) (nothing : removed ≡ []) (found : IsBest g (mem removed) b) (passed : List Bool) (passed_is : passed ≡ b.mark.items) where
+  best : IsBest g none b
+  best = subst (λ (r : Set). IsBest g r b) (fun_ext (λ v. ap (λ s. mem s v) nothing)) found
 
-  frame : Frame g none (count (size g) (mem es)) (mem b.sets.outer) (mem b.sets.inner)
-  frame = subst (λ k. Frame g none k (mem b.sets.outer) (mem b.sets.inner)) (sym (count_congr (size g) (mem es) (marks b.mark.items) same)) best.frame
+  pub best_whole : IsMatching g none (marks passed)
+  best_whole = subst (λ (row : List Bool). IsMatching g none (marks row)) (sym passed_is) best.matching
 
-  abbrev outer : Set
-  outer = mem b.sets.outer
+  -- and made a list of edges
+  module _ (es : List ℕ) (es_is : es ≡ rising_list (size g) (marks passed)) where
+    same : (e : ℕ) → Within (size g) e → mem es e ≡ marks b.mark.items e
+    same e w = ap (λ xs. mem xs e) es_is ∙ listed_marks g (marks passed) e w ∙ ap (λ row. marks row e) passed_is
 
-  abbrev inner : Set
-  inner = mem b.sets.inner
+    mm : IsMatching g none (mem es)
+    mm = matching_alike g none (marks b.mark.items) (mem es) same best.matching
 
-  abbrev k : ℕ
-  k = count (size g) (mem es)
+    frame : Frame g none (count (size g) (mem es)) (mem b.sets.outer) (mem b.sets.inner)
+    frame = subst (λ k. Frame g none k (mem b.sets.outer) (mem b.sets.inner)) (sym (count_congr (size g) (mem es) (marks b.mark.items) same)) best.frame
 
-  pub best_maximum : IsMaximum g none (mem es)
-  best_maximum = certificate_maximum g none inner k frame.label frame.classes is frame.certificate (mem es) mm refl
+    abbrev outer : Set
+    outer = mem b.sets.outer
 
-  pub best_attains : Attains g none inner (mem es)
-  best_attains = (certificate_components g none inner k frame.label frame.classes is frame.certificate (mem es) mm refl).1
+    abbrev inner : Set
+    inner = mem b.sets.inner
 
-  pub best_odd : (v : ℕ) → Within g.order v → (outer v ≡ true) ↔ ((inner v ≡ false) × (is_odd (count g.order (joined g inner v)) ≡ true))
-  best_odd v w = (
-    (λ t. (outer_free g is none k outer inner frame (mem es) mm refl v w t, outer_odd g is none k outer inner frame (mem es) mm refl v w t)),
-    (λ t. odd_outer g is none k outer inner frame (mem es) mm refl v w refl t.0 t.1),
-  )
+    abbrev k : ℕ
+    k = count (size g) (mem es)
 
-  pub best_missed : (v : ℕ) → Within g.order v → (outer v ≡ true) ↔ InD g v
-  best_missed v w = (
-    (λ t. (outer_missable g is none k outer inner frame (mem es) mm refl v w t).1),
-    (λ d. missable_outer g is none k outer inner frame (mem es) mm refl v w refl d.0 d.1 d.2),
-  )
+    pub best_maximum : IsMaximum g none (mem es)
+    best_maximum = certificate_maximum g none inner k frame.label frame.classes is frame.certificate (mem es) mm refl
 
-  pub best_next : (v : ℕ) → Within g.order v → (inner v ≡ true) ↔ InA g v
-  best_next v w = (
-    (λ t.
-        let n = inner_next g is none k outer inner frame (mem es) mm refl v w t in
-        let o = n.2.1 in
-        let wo : Within g.order o = elim n.2.3 [ inl q ↦ subst (Within g.order) q.1 (is n.2.0 n.2.2).1 | inr q ↦ subst (Within g.order) q.0 (is n.2.0 n.2.2).0 ] in (
-          (λ d. both_ways (outer v) n.0 ((best_missed v w).1 d)),
-          (o, wo, (best_missed o wo).0 n.2.4, adjacent_from g none v o n.2.0 refl refl n.2.2 (has_ends-from g v o n.2.0 n.2.3)),
-        )),
-    (λ a.
-        let u = a.1.0 in
-        let e = edge_of g none v u a.1.3 in
-        next_inner g is none k outer inner frame (mem es) mm refl v w (false_from_ne_true (outer v) (λ t. a.0 ((best_missed v w).0 t))) refl e.0 u e.1 e.4 ((best_missed u a.1.1).1 a.1.2)),
-  )
+    pub best_attains : Attains g none inner (mem es)
+    best_attains = (certificate_components g none inner k frame.label frame.classes is frame.certificate (mem es) mm refl).1
 
-  pub outer_rises : IsRisingIn 128 b.sets.outer → IsRisingIn g.order b.sets.outer
-  outer_rises rises = set-narrower 128 g.order b.sets.outer rises (λ v q. ((best.sets v).0 q).1)
+    pub best_odd : (v : ℕ) → Within g.order v → (outer v ≡ true) ↔ ((inner v ≡ false) × (is_odd (count g.order (joined g inner v)) ≡ true))
+    best_odd v w = (
+      (λ t. (outer_free g is none k outer inner frame (mem es) mm refl v w t, outer_odd g is none k outer inner frame (mem es) mm refl v w t)),
+      (λ t. odd_outer g is none k outer inner frame (mem es) mm refl v w refl t.0 t.1),
+    )
 
-  pub inner_rises : IsRisingIn 128 b.sets.inner → IsRisingIn g.order b.sets.inner
-  inner_rises rises = set-narrower 128 g.order b.sets.inner rises (λ v q. ((best.sets v).1 q).1)
+    pub best_missed : (v : ℕ) → Within g.order v → (outer v ≡ true) ↔ InD g v
+    best_missed v w = (
+      (λ t. (outer_missable g is none k outer inner frame (mem es) mm refl v w t).1),
+      (λ d. missable_outer g is none k outer inner frame (mem es) mm refl v w refl d.0 d.1 d.2),
+    )
+
+    pub best_next : (v : ℕ) → Within g.order v → (inner v ≡ true) ↔ InA g v
+    best_next v w = (
+      (λ t.
+          let n = inner_next g is none k outer inner frame (mem es) mm refl v w t in
+          let o = n.2.1 in
+          let wo : Within g.order o = elim n.2.3 [ inl q ↦ subst (Within g.order) q.1 (is n.2.0 n.2.2).1 | inr q ↦ subst (Within g.order) q.0 (is n.2.0 n.2.2).0 ] in (
+            (λ d. both_ways (outer v) n.0 ((best_missed v w).1 d)),
+            (o, wo, (best_missed o wo).0 n.2.4, adjacent_from g none v o n.2.0 refl refl n.2.2 (has_ends-from g v o n.2.0 n.2.3)),
+          )),
+      (λ a.
+          let u = a.1.0 in
+          let e = edge_of g none v u a.1.3 in
+          next_inner g is none k outer inner frame (mem es) mm refl v w (false_from_ne_true (outer v) (λ t. a.0 ((best_missed v w).0 t))) refl e.0 u e.1 e.4 ((best_missed u a.1.1).1 a.1.2)),
+    )
+
+    pub outer_rises : IsRisingIn 128 b.sets.outer → IsRisingIn g.order b.sets.outer
+    outer_rises rises = set-narrower 128 g.order b.sets.outer rises (λ v q. ((best.sets v).0 q).1)
+
+    pub inner_rises : IsRisingIn 128 b.sets.inner → IsRisingIn g.order b.sets.inner
+    inner_rises rises = set-narrower 128 g.order b.sets.inner rises (λ v q. ((best.sets v).1 q).1)
 
 -- a matching with a frame is perfect exactly where there is no outer vertex
 module _ (g : Graph) (is : IsGraph g) (r m outer inner : Set) (mm : IsMatching g r m) (frame : Frame g r (count (size g) m) outer inner) where
-  pub no_outer-perfect : ((v : ℕ) → outer v ≡ false) → IsPerfect g r m
+  no_outer-perfect : ((v : ℕ) → outer v ≡ false) → IsPerfect g r m
   no_outer-perfect h = record { once = λ v w rv. one (degree g m v) (mm.once v w) (λ z. met v w rv z); away = mm.away }
     where
       met : (v : ℕ) → Within g.order v → r v ≡ false → degree g m v ≡ 0 → ⊥
@@ -148,7 +129,7 @@ module _ (g : Graph) (is : IsGraph g) (r m outer inner : Set) (mm : IsMatching g
       one (suc zero) l n = refl
       one (suc (suc d)) l n = absurd (omega arith)
 
-  pub outer-no_perfect : (v : ℕ) → Within g.order v → outer v ≡ true → HasPerfect g r → ⊥
+  outer-no_perfect : (v : ℕ) → Within g.order v → outer v ≡ true → HasPerfect g r → ⊥
   outer-no_perfect v w t p =
       let f = frame.missable v w t in
       let a = missed_edges g r f.0 is f.1 in
@@ -160,10 +141,20 @@ module _ (g : Graph) (is : IsGraph g) (r m outer inner : Set) (mm : IsMatching g
       let s = f.2 in absurd (omega arith)
 
 -- an empty list, and the first of one that is not
-pub empty-mem : (xs : List ℕ) → length xs ≡ 0 → (v : ℕ) → mem xs v ≡ false
+empty-mem : (xs : List ℕ) → length xs ≡ 0 → (v : ℕ) → mem xs v ≡ false
 empty-mem [] l v = refl
 empty-mem (x ∷ xs) l v = absurd (omega arith)
 
-pub some-mem : (xs : List ℕ) → 0 < length xs → (v : ℕ) × (mem xs v ≡ true)
+some-mem : (xs : List ℕ) → 0 < length xs → (v : ℕ) × (mem xs v ≡ true)
 some-mem [] l = absurd (omega arith)
 some-mem (x ∷ xs) l = (x, Rattle.std.proofs.lemmas.Bool.or_left (x == x) (mem xs x) (eq-eqb x x refl))
+
+-- what the engine answers is perfect exactly where its list of outer vertices is empty
+module _ (g : Graph) (is : IsGraph g) (r : Set) (b : Best) (best : IsBest g r b) where
+  pub no_outer-best_perfect : length b.sets.outer ≡ 0 → IsPerfect g r (marks b.mark.items)
+  no_outer-best_perfect nothing = no_outer-perfect g is r (marks b.mark.items) (mem b.sets.outer) (mem b.sets.inner) best.matching best.frame (empty-mem b.sets.outer nothing)
+
+  pub outer-none_perfect : length b.sets.outer ≢ 0 → HasPerfect g r → ⊥
+  outer-none_perfect some =
+      let v = some-mem b.sets.outer (omega arith) in
+      outer-no_perfect g is r (marks b.mark.items) (mem b.sets.outer) (mem b.sets.inner) best.matching best.frame v.0 ((best.sets v.0).0 v.1) v.1

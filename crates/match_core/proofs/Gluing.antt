@@ -13,6 +13,7 @@ use Rattle.graph_core.specs.Graph.{Graph, HasEnds, IsGraph, degree, size, first_
 use Rattle.graph_core.specs.Matchings.{IsMatching, IsPerfect}
 use Rattle.match_core.specs.Questions.{MeetOnce}
 use Rattle.match_core.proofs.Forests.{met as met_ends}
+use Rattle.match_core.proofs.GrownRows.{or-false, or-true}
 use Rattle.match_core.proofs.NearPerfectSets.{degree_split, bit_minus, bit_union}
 
 -- an edge outside c with two free ends is added
@@ -121,17 +122,9 @@ mem-take (x ∷ xs) (suc k) v h = elim (Rattle.std.proofs.lemmas.Bool.or_cases (
 -- an item that is there already changes nothing
 pub mem-again : (x : Set) (v w : ℕ) → x v ≡ true → (x w || (v == w)) ≡ x w
 mem-again x v w h = elim (cases_Bool (v == w)) [
-  | inl q ↦ ap (λ b. x w || b) q ∙ or_true (x w) ∙ sym (ap x (sym (eqb-true v w q)) ∙ h)
-  | inr q ↦ ap (λ b. x w || b) q ∙ or_false (x w)
+  | inl q ↦ ap (λ b. x w || b) q ∙ or-true (x w) ∙ sym (ap x (sym (eqb-true v w q)) ∙ h)
+  | inr q ↦ ap (λ b. x w || b) q ∙ or-false (x w)
 ]
-  where
-    or_true : (b : Bool) → (b || true) ≡ true
-    or_true true = refl
-    or_true false = refl
-
-    or_false : (b : Bool) → (b || false) ≡ b
-    or_false true = refl
-    or_false false = refl
 
 -- all items of a list
 pub mem-take_all : (xs : List ℕ) (k v : ℕ) → length xs ≤ k → mem (take k xs) v ≡ mem xs v

@@ -16,13 +16,16 @@ pub mod MatePairs
 pub mod Instances
 pub mod ParentForests
 pub mod Reaching
+pub mod Branching
 pub mod WaysUp
 pub mod ClosingPairs
+pub mod ClosedRings
 pub mod ForestWays
 pub mod ShrunkInstances
 pub mod OpenedPairs
 pub mod BlossomMates
 pub mod BlossomSteps
+pub mod Opening
 pub mod MateSteps
 pub mod NamedMates
 pub mod SameMates
@@ -35,6 +38,7 @@ pub mod GraphRows
 pub mod Marks
 pub mod MatchingEdges
 pub mod FirstMarks
+pub mod WholeGraphs
 pub mod FrameFacts
 pub mod Gluing
 pub mod RepairWalks

@@ -1,9 +1,10 @@
 -- One augmentation by mates: what its parts hand to one another.
-use Rattle.std.proofs.Common.{◌≡◌, ℕ, ◌<◌, refl, ap, ◌∙◌, arith, subst₂, length, List, not, ◌&&◌, nat_lt, nat_le, lt-ltb, Some, None, Bool, true, false, ◌==◌, ◌||◌, ◌⊎◌, sym, inl, inr, eq-eqb}
+use Rattle.std.proofs.Common.{◌≡◌, ℕ, ◌<◌, refl, ap, ◌∙◌, arith, subst₂, length, List, get_or, not, ◌&&◌, nat_lt, nat_le, lt-ltb, Some, None, Bool, true, false, ◌==◌, ◌||◌, ◌⊎◌, sym, inl, inr, eq-eqb}
 use mathlib.Core.Path.{fun_ext}
 use Rattle.std.proofs.lemmas.Bool.{and_from, le-leb, and_parts, or_left, or_right, true≢false}
+use Rattle.std.proofs.lemmas.Grind.{get_or_default_zero}
 use Rattle.counting.proofs.Totals.{total_congr}
-use Rattle.counting.specs.Counts.{bit, count}
+use Rattle.counting.specs.Counts.{Within, bit, count}
 use Rattle.counting.specs.Sets.{Set, complement}
 use Rattle.counting.specs.Lists.{mem}
 use Rattle.graph_core.specs.Graph.{Graph}
@@ -25,6 +26,14 @@ use Rattle.match_core.proofs.BlossomSteps.{same_count, step_up}
 use Rattle.match_core.proofs.Instances.{instance_alike, near_edge}
 use Rattle.match_core.proofs.ParentForests.{done_frame}
 use Rattle.match_core.proofs.ShrunkInstances.{shrunk_instance}
+
+-- the base of a blossom, as the code reads it, is the first vertex of the ring, and a vertex of the graph
+module _ (g : Graph) (r f : Set) (mate : List ℕ) (b : Blossom) (held : HoldsBlossom g r f mate b) (base : ℕ) (read : base ≡ get_or b.ring.items 1 base) where
+  pub base_read : base ≡ numbers b.ring.items 1
+  base_read = let three = held.opened.cycle.three in read ∙ get_or_default_zero b.ring.items 1 base (omega arith)
+
+  pub base_within : Within g.order base
+  base_within = let three = held.opened.cycle.three in let w = held.opened.cycle.within 1 (omega arith, omega arith) in let first = base_read in omega arith
 
 -- the vertices that are left are counted by the instance
 pub left_count : (g : Graph) (r : Set) (s : Instance) → IsInstance g r s → count (length s.rows.items) (mem s.left) ≡ count g.order (complement r)

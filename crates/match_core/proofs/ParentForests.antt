@@ -3,7 +3,7 @@
 use Rattle.std.proofs.Common.{◌≡◌, ◌≢◌, ℕ, suc, ◌+◌, Bool, true, false, cond, ◌==◌, refl, sym, ap, ◌∙◌, arith, eq-eqb, eqb-true, ne_eqb, inl, inr, not, ◌&&◌, ◌||◌, nat_lt, nat_le, length, List}
 use Rattle.std.proofs.lemmas.Bool.{cases_Bool, cases_eq, both_ways, and_from, and_parts, false_from_ne_true, leb-true}
 use Rattle.counting.specs.Counts.{Within, count}
-use Rattle.counting.specs.Sets.{Set, none, put}
+use Rattle.counting.specs.Sets.{Set, none}
 use Rattle.counting.specs.Lists.{mem}
 use Rattle.graph_core.specs.Graph.{Graph, HasEnds, IsGraph, degree, size}
 use Rattle.match_core.specs.Forests.{IsForest}
@@ -15,6 +15,7 @@ use Rattle.match_core.specs.declared.instance.Instance.{Instance}
 use Rattle.match_core.specs.declared.alternating.AlternatingForest.{AlternatingForest}
 use Rattle.match_core.proofs.Alike.{forest_alike}
 use Rattle.match_core.proofs.Forests.{first_outer, forest_start, final_frame, met, turned}
+use Rattle.match_core.proofs.GrownRows.{with_put}
 use Rattle.match_core.proofs.ForestSteps.{grown, more_e, more_inner, more_k, more_outer, more_v}
 use Rattle.match_core.proofs.Instances.{left_from, left_parts, near_edge}
 use Rattle.match_core.proofs.LongerPaths.{end_within, longer, longer_below, longer_at}
@@ -115,20 +116,6 @@ module _ (g : Graph) (r f : Set) (s : Instance) (mate : List ℕ) (is : HoldsMat
         abbrev along : ℕ → ℕ
         along = longer (suc (numbers t.pairs.items x + numbers t.pairs.items x)) (holds.v x) y z
 
-        or_put : (m : Set) (a v : ℕ) → (m v || (a == v)) ≡ put m a true v
-        or_put m a v = elim (cases_eq v a) [
-          | inl q ↦ ap (λ b. m v || b) (eq-eqb a v (sym q)) ∙ or_true (m v) ∙ sym (ap (λ b. cond b true (m v)) (eq-eqb v a q))
-          | inr q ↦ ap (λ b. m v || b) (ne_eqb a v (λ e. q (sym e))) ∙ or_false (m v) ∙ sym (ap (λ b. cond b true (m v)) (ne_eqb v a q))
-        ]
-          where
-            or_true : (b : Bool) → (b || true) ≡ true
-            or_true true = refl
-            or_true false = refl
-
-            or_false : (b : Bool) → (b || false) ≡ b
-            or_false true = refl
-            or_false false = refl
-
         not_z : (u : ℕ) → mem t.outer u ≡ true → u ≢ z
         not_z u o q = both_ways (mem t.outer z) oz (ap (mem t.outer) (sym q) ∙ o)
 
@@ -178,7 +165,7 @@ module _ (g : Graph) (r f : Set) (s : Instance) (mate : List ℕ) (is : HoldsMat
           v = path;
           e = more_e g is_graph r f is.mates.matching (mem t.outer) (mem t.inner) (numbers t.pairs.items) holds.v holds.e holds.forest edge.0 x y pair.0 z edge.1 edge.2 ox ry oy iy pair.1 pair.2 pair.3;
           forest = forest_alike g r f _ _ _ _ _ (mem h.outer) (mem h.inner) (numbers h.pairs.items) path (more_e g is_graph r f is.mates.matching (mem t.outer) (mem t.inner) (numbers t.pairs.items) holds.v holds.e holds.forest edge.0 x y pair.0 z edge.1 edge.2 ox ry oy iy pair.1 pair.2 pair.3)
-              (λ u. grew.outer u ∙ or_put (mem t.outer) z u) (λ u. grew.inner u ∙ or_put (mem t.inner) y u) (λ u o. grew.pairs u) (λ u o j l. refl) (λ u o j l. refl) bigger;
+              (λ u. grew.outer u ∙ with_put (mem t.outer) z u) (λ u. grew.inner u ∙ with_put (mem t.inner) y u) (λ u o. grew.pairs u) (λ u o j l. refl) (λ u o j l. refl) bigger;
           parents_long = grew.parents_long ∙ holds.parents_long;
           pairs_long = grew.pairs_long ∙ holds.pairs_long;
           up = λ u o n. elim (cases_eq u z) [
@@ -188,4 +175,4 @@ module _ (g : Graph) (r f : Set) (s : Instance) (mate : List ℕ) (is : HoldsMat
         }
           where
             old_outer : (u : ℕ) → u ≢ z → mem h.outer u ≡ true → mem t.outer u ≡ true
-            old_outer u q o = sym (ap (λ b. cond b true (mem t.outer u)) (ne_eqb u z q)) ∙ sym (or_put (mem t.outer) z u) ∙ sym (grew.outer u) ∙ o
+            old_outer u q o = sym (ap (λ b. cond b true (mem t.outer u)) (ne_eqb u z q)) ∙ sym (with_put (mem t.outer) z u) ∙ sym (grew.outer u) ∙ o

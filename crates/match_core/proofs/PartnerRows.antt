@@ -1,30 +1,28 @@
 -- The outer vertices of a maximum matching that misses one vertex are exactly the vertices without which there is a perfect matching.
 -- A matching as large that misses v misses v alone, so it is perfect without v; and a perfect matching without v is as large, since
--- both leave one vertex of an odd number. Where more than one vertex is missed, no matching misses one alone.
+-- both leave one vertex of an odd number. Where more than one vertex is missed, no matching misses one alone. A perfect matching
+-- without two vertices misses just these, so where there are partners, a maximum matching misses none or two.
 use Rattle.std.proofs.Common.{◌≡◌, ◌≢◌, ℕ, zero, suc, ◌+◌, ◌-◌, ◌*◌, ◌≤◌, ◌↔◌, List, length, Bool, true, false, ◌==◌, ◌&&◌, ◌||◌, not, refl, sym, ap, ◌∙◌, arith, inl, inr, eq-eqb, eqb-true, ne_eqb}
-use Rattle.std.proofs.lemmas.Bool.{both_ways, cases_Bool, cases_eq, false_from_ne_true, and_from, and_parts, not-true}
+use Rattle.std.proofs.lemmas.Bool.{both_ways, cases_Bool, cases_eq, false_from_ne_true, and_from, and_parts, not-true, or_left, or_right}
 use Rattle.counting.specs.Counts.{Within, count}
-use Rattle.counting.specs.Sets.{Set, complement, singleton, union}
-use Rattle.counting.specs.Lists.{mem, IsRisingIn}
-use Rattle.counting.proofs.Counts.{count_congr, count_le_one, only_one}
+use Rattle.counting.specs.Sets.{Set, complement, pair_set, singleton, union}
+use Rattle.counting.specs.Lists.{item, mem, IsRisingIn}
+use Rattle.counting.proofs.Counts.{count_complement, count_congr, count_le, count_le_one, only_one}
 use Rattle.counting.proofs.Lists.{count_mem_length}
+use Rattle.counting.proofs.Members.{count_plus}
 use Rattle.counting.proofs.RisingLists.{set-narrower}
 use Rattle.graph_core.specs.Graph.{Graph, IsGraph, degree, size}
 use Rattle.graph_core.specs.Matchings.{HasPerfect, IsMatching, IsPerfect, has_perfect, missed_count}
 use Rattle.graph_core.proofs.Decide.{has_perfect_found, has_perfect_says}
 use Rattle.graph_core.proofs.Edits.{missed_edges}
-use Rattle.graph_core.proofs.Perfect.{missed_one}
+use Rattle.graph_core.proofs.Perfect.{missed_one, perfect_matching, perfect_misses}
 use Rattle.match_core.specs.Frames.{Frame}
 use Rattle.match_core.specs.Optimal.{IsBest}
+use Rattle.match_core.specs.Partners.{AreEmptyRows, ArePartners, are_partners}
 use Rattle.match_core.specs.Rows.{marks}
 use Rattle.match_core.specs.declared.best.Best.{Best}
+use Rattle.match_core.proofs.GrownRows.{or-false}
 use Rattle.match_core.proofs.OddComponents.{certificate_maximum, missable_outer, outer_missable}
-
-or_true_right : (a b : Bool) → b ≡ true → (a || b) ≡ true
-or_true_right a b h = grind arith
-
-or_false : (a b : Bool) → a ≡ false → b ≡ false → (a || b) ≡ false
-or_false a b h k = grind arith
 
 or_none : (a b : Bool) → (a || b) ≡ false → (a ≡ false) × (b ≡ false)
 or_none a b h = grind arith
@@ -32,14 +30,10 @@ or_none a b h = grind arith
 -- r and v
 module _ (r : Set) (v : ℕ) where
   with_own : union r (singleton v) v ≡ true
-  with_own = or_true_right (r v) (v == v) (eq-eqb v v refl)
+  with_own = or_right (r v) (v == v) (eq-eqb v v refl)
 
   with_other : (w : ℕ) → v ≢ w → union r (singleton v) w ≡ r w
-  with_other w d = rw (ne_eqb v w d) (or_zero (r w))
-    where
-      or_zero : (b : Bool) → (b || false) ≡ b
-      or_zero true = refl
-      or_zero false = refl
+  with_other w d = rw (ne_eqb v w d) (or-false (r w))
 
 -- a matching that misses one vertex, v, is perfect without v
 pub alone-perfect : (g : Graph) (r m : Set) (v : ℕ) → IsMatching g r m → missed_count g r m ≡ 1 → Within g.order v → r v ≡ false → degree g m v ≡ 0 → IsPerfect g (union r (singleton v)) m
@@ -97,23 +91,52 @@ perfect-alone g r p v w rv perfect = (record { once = once; away = away }, z, on
     one : count g.order (λ u. not (r u) && (degree g p u == 0)) ≡ 1
     one = let some = missed_one g r p v w rv z in let f = few in omega arith
 
+-- a perfect matching without r, u and v is a matching without r that misses two vertices
+pub perfect-two : (g : Graph) (r p : Set) (u v : ℕ) → IsGraph g → Within g.order u → Within g.order v → r u ≡ false → r v ≡ false → u ≢ v → IsPerfect g (union r (pair_set u v)) p → IsMatching g r p × (missed_count g r p ≡ 2)
+perfect-two g r p u v is wu wv ru rv d perfect = (mm, two)
+  where
+    both : Set
+    both = union r (pair_set u v)
+
+    mm : IsMatching g r p
+    mm = record { once = (perfect_matching g both p perfect).once; away = λ w ww rw. perfect.away w ww (or_left (r w) (pair_set u v w) rw) }
+
+    assoc : (a b e : Bool) → ((a || b) || e) ≡ (a || (b || e))
+    assoc a b e = grind arith
+
+    two : missed_count g r p ≡ 2
+    two =
+        let more = count_plus g.order r u wu ru in
+        let most = count_plus g.order (union r (singleton u)) v wv (with_other r u v d ∙ rv) in
+        let same : count g.order (union (union r (singleton u)) (singleton v)) ≡ count g.order (union r (pair_set u v)) = count_congr g.order _ _ (λ w ww. assoc (r w) (u == w) (v == w)) in
+        let left = count_complement g.order r in
+        let left_both = count_complement g.order (union r (pair_set u v)) in
+        let none_missed = perfect_misses g (union r (pair_set u v)) p perfect in
+        let own = missed_edges g r p is mm in
+        let own_both = missed_edges g (union r (pair_set u v)) p is (perfect_matching g (union r (pair_set u v)) p perfect) in
+        omega arith
+
 -- m is a matching of g without r, with its frame
 module _ (g : Graph) (is : IsGraph g) (r m outer inner : Set) (mm : IsMatching g r m) (frame : Frame g r (count (size g) m) outer inner) where
+  -- a matching has as many edges as m at most
+  most_edges : (p : Set) → IsMatching g r p → count (size g) p ≤ count (size g) m
+  most_edges = (certificate_maximum g r inner (count (size g) m) frame.label frame.classes is frame.certificate m mm refl).most
+
   -- where one vertex is missed, an outer vertex is missed alone by some matching
-  outer-perfect : (v : ℕ) → count g.order (complement r) ≡ 2 * count (size g) m + 1 → Within g.order v → outer v ≡ true → HasPerfect g (union r (singleton v))
-  outer-perfect v odd w t =
+  outer-perfect : (v : ℕ) → missed_count g r m ≡ 1 → Within g.order v → outer v ≡ true → HasPerfect g (union r (singleton v))
+  outer-perfect v one w t =
       let f = frame.missable v w t in
       let o = outer_missable g is r (count (size g) m) outer inner frame m mm refl v w t in
       let sum = missed_edges g r f.0 is f.1 in
+      let own = missed_edges g r m is mm in
       let same = f.2 in
       (f.0, alone-perfect g r f.0 v f.1 (omega arith) w o.0 f.3)
 
   -- a vertex without which there is a perfect matching is outer, and m misses one vertex
-  perfect-outer : (v : ℕ) → Within g.order v → r v ≡ false → HasPerfect g (union r (singleton v)) → (count g.order (complement r) ≡ 2 * count (size g) m + 1) × (outer v ≡ true)
+  perfect-outer : (v : ℕ) → Within g.order v → r v ≡ false → HasPerfect g (union r (singleton v)) → (missed_count g r m ≡ 1) × (outer v ≡ true)
   perfect-outer v w rv p =
       let a = perfect-alone g r p.0 v w rv p.1 in
-      let max = certificate_maximum g r inner (count (size g) m) frame.label frame.classes is frame.certificate m mm refl in
-      let most = max.most p.0 a.0 in
+      let most = most_edges p.0 a.0 in
       let sum = missed_edges g r p.0 is a.0 in
       let own = missed_edges g r m is mm in
       let one = a.2 in
@@ -124,20 +147,62 @@ module _ (g : Graph) (is : IsGraph g) (r m outer inner : Set) (mm : IsMatching g
       )
 
   -- the outer vertices are the row
-  pub outer-row : count g.order (complement r) ≡ 2 * count (size g) m + 1 → (v : ℕ) → Within g.order v → outer v ≡ (not (r v) && has_perfect g (union r (singleton v)))
-  outer-row odd v w = elim (cases_Bool (outer v)) [
+  outer-row : missed_count g r m ≡ 1 → (v : ℕ) → Within g.order v → outer v ≡ (not (r v) && has_perfect g (union r (singleton v)))
+  outer-row one v w = elim (cases_Bool (outer v)) [
     | inl t ↦ t ∙ sym (and_from (not (r v)) (has_perfect g (union r (singleton v)))
-        (ap not (outer_missable g is r (count (size g) m) outer inner frame m mm refl v w t).0) (has_perfect_found g (union r (singleton v)) (outer-perfect v odd w t)))
+        (ap not (outer_missable g is r (count (size g) m) outer inner frame m mm refl v w t).0) (has_perfect_found g (union r (singleton v)) (outer-perfect v one w t)))
     | inr f ↦ f ∙ sym (false_from_ne_true (not (r v) && has_perfect g (union r (singleton v))) (λ h.
         let b = and_parts (not (r v)) (has_perfect g (union r (singleton v))) h in
         both_ways (outer v) f (perfect-outer v w (not-true (r v) b.0) (has_perfect_says g (union r (singleton v)) b.1)).1))
   ]
 
   -- where another number of vertices is missed, the row is empty
-  pub no_row : count g.order (complement r) ≢ 2 * count (size g) m + 1 → (v : ℕ) → Within g.order v → (not (r v) && has_perfect g (union r (singleton v))) ≡ false
+  no_row : missed_count g r m ≢ 1 → (v : ℕ) → Within g.order v → (not (r v) && has_perfect g (union r (singleton v))) ≡ false
   no_row d v w = false_from_ne_true (not (r v) && has_perfect g (union r (singleton v))) (λ h.
       let b = and_parts (not (r v)) (has_perfect g (union r (singleton v))) h in
       d (perfect-outer v w (not-true (r v) b.0) (has_perfect_says g (union r (singleton v)) b.1)).0)
+
+  -- where there are partners, no vertex is missed or two
+  pair-missed : (u v : ℕ) → Within g.order u → Within g.order v → r u ≡ false → r v ≡ false → u ≢ v → HasPerfect g (union r (pair_set u v)) → missed_count g r m ≢ 0 → missed_count g r m ≡ 2
+  pair-missed u v wu wv ru rv d p some =
+      let a = perfect-two g r p.0 u v is wu wv ru rv d p.1 in
+      let most = most_edges p.0 a.0 in
+      let sum = missed_edges g r p.0 is a.0 in
+      let own = missed_edges g r m is mm in
+      let two = a.1 in
+      omega arith
+
+-- what the engine answers, with the number of vertices that it misses, as the code counts them
+module _ (g : Graph) (is : IsGraph g) (r : Set) (b : Best) (best : IsBest g r b) (mark : List Bool) (missed : ℕ) (mark_is : mark ≡ b.mark.items) (missed_is : missed ≡ missed_count g r (marks mark)) where
+  counted : missed ≡ missed_count g r (marks b.mark.items)
+  counted = missed_is ∙ ap (λ row. missed_count g r (marks row)) mark_is
+
+  -- where one is missed, the outer vertices are the row
+  pub one_missed-row : missed ≡ 1 → (v : ℕ) → Within g.order v → mem b.sets.outer v ≡ (not (r v) && has_perfect g (union r (singleton v)))
+  one_missed-row one = outer-row g is r (marks b.mark.items) (mem b.sets.outer) (mem b.sets.inner) best.matching best.frame (sym counted ∙ one)
+
+  -- and else the row is empty
+  pub more_missed-row : missed ≢ 1 → (v : ℕ) → Within g.order v → (not (r v) && has_perfect g (union r (singleton v))) ≡ false
+  more_missed-row more = no_row g is r (marks b.mark.items) (mem b.sets.outer) (mem b.sets.inner) best.matching best.frame (λ q. more (counted ∙ q))
+
+  -- no vertex has a partner where another number is missed than none or two
+  no_partners : missed ≢ 0 → missed ≢ 2 → (u v : ℕ) → Within g.order u → Within g.order v → are_partners g r u v ≡ false
+  no_partners some other u v wu wv = false_from_ne_true (are_partners g r u v) (λ h.
+      let parts = four (r u) (r v) (u == v) (has_perfect g (union r (pair_set u v))) h in
+      other (counted ∙ pair-missed g is r (marks b.mark.items) (mem b.sets.outer) (mem b.sets.inner) best.matching best.frame u v wu wv parts.0 parts.1 (λ q. both_ways (u == v) parts.2 (eq-eqb u v q)) (has_perfect_says g (union r (pair_set u v)) parts.3) (λ q. some (counted ∙ q))))
+    where
+      four : (a b d p : Bool) → (not a && not b && not d && p) ≡ true → (a ≡ false) × (b ≡ false) × (d ≡ false) × (p ≡ true)
+      four a b d p h = grind arith
+
+  pub empty-partners : (missed == 0 || missed == 2) ≡ false → (n : ℕ) → n ≡ g.order → (table : List (List ℕ)) → AreEmptyRows n table → ArePartners g r table
+  empty-partners not_searched n order table empty = record {
+    one_each = empty.one_each ∙ order;
+    within = λ u v wu t. absurd (both_ways (mem (item table u) v) (empty.empty u v (omega arith)) t);
+    partner_is = λ u v wu wv. empty.empty u v (omega arith) ∙ sym (no_partners (λ q. both_ways (missed == 0) parts.0 (eq-eqb missed 0 q)) (λ q. both_ways (missed == 2) parts.1 (eq-eqb missed 2 q)) u v wu wv);
+  }
+    where
+      parts : ((missed == 0) ≡ false) × ((missed == 2) ≡ false)
+      parts = or_none (missed == 0) (missed == 2) not_searched
 
 -- the vertices of 1 to n outside a set, as a list
 pub left-length : (n : ℕ) (full left removed : List ℕ) → IsRisingIn 128 left → ((v : ℕ) → (mem full v ≡ true) ↔ Within n v) → ((v : ℕ) → mem left v ≡ (mem full v && not (mem removed v))) →
@@ -146,13 +211,13 @@ left-length n full left removed rises all outside =
     sym (count_mem_length n left (set-narrower 128 n left rises (λ v q. ((all v).0 (and_parts (mem full v) (not (mem removed v)) (sym (outside v) ∙ q)).0).1)))
     ∙ count_congr n (mem left) (complement (mem removed)) (λ v w. outside v ∙ ap (λ b. b && not (mem removed v)) ((all v).1 w))
 
--- what the code counts tells whether one vertex is missed
-module _ (g : Graph) (is : IsGraph g) (r : Set) (b : Best) (best : IsBest g r b) (mark : List Bool) (left found : ℕ) (left_is : left ≡ count g.order (complement r)) (same : mark ≡ b.mark.items) (found_is : found ≡ count (length mark - 1) (marks mark)) where
-  pub found-edges : found ≡ count (size g) (marks b.mark.items)
-  found-edges = found_is ∙ ap (λ (xs : List Bool). count (length xs - 1) (marks xs)) same ∙ ap (λ k. count k (marks b.mark.items)) (let long = best.long in omega arith)
+-- what the marked edges leave of these vertices is what they miss
+pub missed-left : (g : Graph) (is : IsGraph g) (n : ℕ) (full left removed : List ℕ) (mark : List Bool) → n ≡ g.order → IsRisingIn 128 left → ((v : ℕ) → (mem full v ≡ true) ↔ Within n v) → ((v : ℕ) → mem left v ≡ (mem full v && not (mem removed v))) →
+    length mark ≡ size g + 1 → IsMatching g (mem removed) (marks mark) → missed_count g (mem removed) (marks mark) + 2 * count (length mark - 1) (marks mark) ≡ length left
+missed-left g is n full left removed mark order rises all outside long mm =
+    ap (λ k. missed_count g (mem removed) (marks mark) + 2 * count k (marks mark)) (omega arith)
+    ∙ missed_edges g (mem removed) (marks mark) is mm ∙ ap (λ k. count k (complement (mem removed))) (sym order) ∙ sym (left-length n full left removed rises all outside)
 
-  pub one_missed-row : left ≡ 2 * found + 1 → (v : ℕ) → Within g.order v → mem b.sets.outer v ≡ (not (r v) && has_perfect g (union r (singleton v)))
-  one_missed-row odd = outer-row g is r (marks b.mark.items) (mem b.sets.outer) (mem b.sets.inner) best.matching best.frame (let e = found-edges in omega arith)
-
-  pub more_missed-row : left ≢ 2 * found + 1 → (v : ℕ) → Within g.order v → (not (r v) && has_perfect g (union r (singleton v))) ≡ false
-  more_missed-row other = no_row g is r (marks b.mark.items) (mem b.sets.outer) (mem b.sets.inner) best.matching best.frame (λ q. other (let e = found-edges in omega arith))
+-- they are few
+pub few_left : (left : List ℕ) → IsRisingIn 128 left → length left ≤ 128
+few_left left rises = let a = count_mem_length 128 left rises in let b = count_le 128 (mem left) in omega arith

@@ -20,6 +20,7 @@ use Rattle.graph_core.specs.Graph.{Graph, IsGraph, degree, first_end, has_ends, 
 use Rattle.graph_core.specs.Matchings.{IsMatching, IsMaximum, missed_count}
 use Rattle.graph_core.specs.Walks.{Joined, adjacent, joined}
 use Rattle.match_core.proofs.Gallai.{no_two}
+use Rattle.match_core.proofs.GrownRows.{or-false}
 
 module _ (g : Graph) (is : IsGraph g) (r m : Set) (mm : IsMaximum g r m)
     (no_pair : (u v : ℕ) → Joined g r u v → u ≢ v → degree g m u ≡ 0 → degree g m v ≡ 0 → ⊥) where
@@ -121,11 +122,7 @@ pub record TutteBerge (g : Graph) (r : Set) : Type 0 where
   pub equal : missed_count g r m + count g.order s ≡ odd_component_count g (union r s)
 
 union_none : (r : Set) → union r none ≡ r
-union_none r = fun_ext (λ v. or_false (r v))
-  where
-    or_false : (b : Bool) → (b || false) ≡ b
-    or_false true = refl
-    or_false false = refl
+union_none r = fun_ext (λ v. or-false (r v))
 
 -- where each vertex is missed by some maximum matching
 all_missed : (g : Graph) (r : Set) → IsGraph g → ((v : ℕ) → Within g.order v → r v ≡ false → (m : Set) × IsMaximum g r m × (degree g m v ≡ 0)) → TutteBerge g r

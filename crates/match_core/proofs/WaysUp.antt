@@ -1,5 +1,6 @@
 -- One step of the way up from an outer vertex: over its mate to its grandparent.
-use Rattle.std.proofs.Common.{◌≡◌, ◌≢◌, ℕ, suc, ◌+◌, ◌≤◌, ◌<◌, true, sym, ap, ◌∙◌, arith, inl, inr, subst, List}
+use Rattle.std.proofs.Common.{◌≡◌, ◌≢◌, ℕ, suc, ◌+◌, ◌≤◌, ◌<◌, true, sym, ap, ◌∙◌, arith, inl, inr, subst, List, get_or}
+use Rattle.std.proofs.lemmas.Grind.{get_or_default_zero}
 use Rattle.std.proofs.lemmas.Bool.{cases_eq}
 use Rattle.counting.specs.Counts.{Within}
 use Rattle.counting.specs.Sets.{Set}
@@ -14,6 +15,10 @@ use Rattle.match_core.proofs.MatePairs.{with_here, with_there}
 -- before the place nothing changes
 pub unwritten : (row : ℕ → ℕ) (place u w j : ℕ) → j < place → with_mate (with_mate row (suc place) u) place w j ≡ row j
 unwritten row place u w j l = with_there (with_mate row (suc place) u) place w j (λ s. absurd (omega arith)) ∙ with_there row (suc place) u j (λ s. absurd (omega arith))
+
+-- the number of pairs of an outer vertex, as the code reads it
+pub pairs_read : (g : Graph) (r f : Set) (mate : List ℕ) (t : AlternatingForest) → HoldsAlternating g r f mate t → (u pairs : ℕ) → mem t.outer u ≡ true → pairs ≡ get_or t.pairs.items u pairs → pairs ≡ numbers t.pairs.items u
+pairs_read g r f mate t h u pairs o read = read ∙ get_or_default_zero t.pairs.items u pairs (let w = (h.forest.outer_in u o).0 in let long = h.pairs_long in omega arith)
 
 module _ (g : Graph) (r f : Set) (mate : List ℕ) (t : AlternatingForest) (h : HoldsAlternating g r f mate t) (u : ℕ) (o : mem t.outer u ≡ true) (n : numbers t.pairs.items u ≢ 0) where
   abbrev pub grandparent : ℕ

@@ -1,5 +1,5 @@
 -- Partners: the vertices that can be missed together (Lovász and Plummer, "Matching Theory", chapter 5).
-use Rattle.std.specs.Prelude.{◌≡◌, ℕ, Bool, true, List, ◌==◌, ◌&&◌, not, length}
+use Rattle.std.specs.Prelude.{◌≡◌, ℕ, Bool, true, false, List, ◌==◌, ◌&&◌, not, length}
 use Rattle.counting.specs.Counts.{Within}
 use Rattle.counting.specs.Sets.{Set, pair_set, union}
 use Rattle.counting.specs.Lists.{item, mem}
@@ -9,6 +9,11 @@ use Rattle.graph_core.specs.Matchings.{has_perfect}
 -- u and v are two different vertices outside r, and g without r and without these two has a perfect matching
 abbrev pub are_partners : Graph → Set → ℕ → ℕ → Bool
 are_partners g r u v = not (r u) && not (r v) && not (u == v) && has_perfect g (union r (pair_set u v))
+
+-- n rows, all of them empty
+pub record AreEmptyRows (n : ℕ) (table : List (List ℕ)) : Type 0 where
+  pub one_each : length table ≡ n
+  pub empty : (u v : ℕ) → Within n u → mem (item table u) v ≡ false
 
 -- there is one row for each vertex, and row u holds exactly the partners of u in g without r
 pub record ArePartners (g : Graph) (r : Set) (table : List (List ℕ)) : Type 0 where

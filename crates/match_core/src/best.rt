@@ -18,7 +18,7 @@ use crate::instance::instance_of;
 use crate::marked::marks_of;
 use crate::mates::mates_of;
 use crate::rows::{falses, mark_place};
-use graph_core::Ends;
+use graph_core::{Ends, MultiGraph};
 use std::alloc::{AllocError as Memory, Global};
 use vset_core::{MOST_VERTICES, VSet};
 
@@ -30,19 +30,13 @@ pub struct Best {
 }
 
 /// Makes a maximum matching of G - removed: one edge after the other at first, then by augmentations.
-pub fn find_best(
-    alloc: Global,
-    n: u32,
-    ends: &[Ends],
-    rows: &[VSet],
-    removed: VSet,
-) -> Result<Best, Memory>
-    requires row { IsGraphRow n ends.now }
-    requires neighbours { AreRows (graph_of n ends.now) rows.now }
-    ensures { IfOk result (λ b. IsBest (graph_of n ends.now) (mem removed) b) }
+pub fn find_best(alloc: Global, g: &MultiGraph, removed: VSet) -> Result<Best, Memory>
+    ensures { IfOk result (λ b. IsBest g.now (mem removed) b) }
 {
+    let n = g.order();
+    let ends = g.edges();
     let mark = first_marks(alloc, n, ends, removed)?;
-    best_from(alloc, n, ends, rows, removed, &mark)
+    best_from(alloc, n, ends, g.rows(), removed, &mark)
 }
 
 /// Enlarges a matching of G - removed, given by its marks, until it is maximum. It is enlarged by mates; the edges are read

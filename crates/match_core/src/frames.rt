@@ -65,13 +65,12 @@ pub fn frame(alloc: Global, g: &MultiGraph) -> Result<FrameSets, Memory>
     ensures next { IfOk result
         (λ f. (v : ℕ) → Within g.now.order v → (mem f.inner v ≡ true) ↔ InA g.now v) }
 {
-    let n = g.order();
-    let ends = g.edges();
-    let Best { mark, sets } = find_best(alloc, n, ends, g.rows(), VSet::empty())?;
+    g.keeps_limits();
+    let Best { mark, sets } = find_best(alloc, g, VSet::empty())?;
     let FinalSets { outer, inner } = sets;
     outer.rises();
     inner.rises();
-    let matching = matching_of(alloc, n, ends, &mark)?;
+    let matching = matching_of(alloc, g, &mark)?;
     Ok(FrameSets {
         found: Found {
             matching,

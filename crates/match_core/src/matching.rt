@@ -95,11 +95,11 @@ impl Matching {
         ensures edges { IfOk result
             (λ m. (i : ℕ) → mem (edges_of m) i ≡ (mem (edges_of self.now) i || (e == i))) }
     {
-        let ends = g.edges();
+        g.keeps_limits();
         self.keeps_matching();
-        let mut mark = self.marks(alloc, ends.len())?;
+        let mut mark = self.marks(alloc, g.size() as usize)?;
         mark_place(&mut mark, e as usize);
-        matching_of(alloc, g.order(), ends, &mark)
+        matching_of(alloc, g, &mark)
     }
 
     /// The edges as marks on 1 to `size`.
@@ -134,7 +134,7 @@ fn clear_rows(alloc: Global, rows: &[MatchRow], removed: VSet) -> Result<Vec<Mat
     requires { All (λ row. Within MOST_VERTICES row.a × Within MOST_VERTICES row.b) rows.now }
     ensures { IfOk result (λ kept. kept.items ≡ filter (is_clear (mem removed)) rows.now) }
 {
-    let mut kept = Vec::new(alloc);
+    let mut kept = Vec::with_capacity(alloc, rows.len())?;
     for row in rows {
         if !removed.contains(row.a) && !removed.contains(row.b) {
             kept.push(*row)?;
@@ -143,14 +143,15 @@ fn clear_rows(alloc: Global, rows: &[MatchRow], removed: VSet) -> Result<Vec<Mat
     Ok(kept)
 }
 
-/// The matching whose edges are the marked ones.
-pub fn matching_of(alloc: Global, n: u32, ends: &[Ends], mark: &[bool]) -> Result<Matching, Memory>
-    requires row { IsGraphRow n ends.now }
-    requires mark_long { length mark.now ≡ length ends.now + 1 }
-    requires matching { IsMatching (graph_of n ends.now) none (marks mark.now) }
-    ensures of { IfOk result (λ m. IsOf (graph_of n ends.now) m) }
-    ensures edges { IfOk result (λ m. edges_of m ≡ rising_list (length ends.now) (marks mark.now)) }
+/// The matching of `g` whose edges are the marked ones.
+pub fn matching_of(alloc: Global, g: &MultiGraph, mark: &[bool]) -> Result<Matching, Memory>
+    requires long { length mark.now ≡ size g.now + 1 }
+    requires matching { IsMatching g.now none (marks mark.now) }
+    ensures of { IfOk result (λ m. IsOf g.now m) }
+    ensures edges { IfOk result (λ m. edges_of m ≡ rising_list (size g.now) (marks mark.now)) }
 {
+    let n = g.order();
+    let ends = g.edges();
     Ok(Matching {
         order: n,
         rows: marked_rows(alloc, n, ends, mark)?,
@@ -165,7 +166,7 @@ fn marked_rows(alloc: Global, n: u32, ends: &[Ends], mark: &[bool]) -> Result<Ve
         (λ rows. rows.items ≡ map (row_at (graph_of n ends.now))
         (rising_list (length ends.now) (marks mark.now))) }
 {
-    let mut rows = Vec::new(alloc);
+    let mut rows = Vec::with_capacity(alloc, n as usize / 2)?;
     for (k, e) in ends.iter().enumerate() {
         if mark[k + 1] {
             rows.push(MatchRow {

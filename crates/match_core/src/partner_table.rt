@@ -4,21 +4,25 @@
 //! structure of a graph: an edge is allowed exactly where its ends are partners, the class of u in the canonical partition is
 //! what is left outside its row, and G is bicritical exactly where each row has all vertices but its own.
 //!
-//! A row costs one search: a perfect matching of G - R, less its edge at u, is a matching of G - R - u that misses one vertex, the
-//! mate of u. No step can enlarge it, so the first step answers a frame, and the outer vertices of a frame are exactly those that
-//! some matching as large misses. From a smaller matching a row costs some augmentations more.
-ghost use Rattle.std.specs.Prelude.{◌≡◌, ℕ, ◌+◌, ◌-◌, ◌≤◌, ◌&&◌, not, true, length, IfOk};
+//! The table is made from a maximum matching of G - R. A perfect matching without two vertices misses just these two, so where a
+//! maximum matching misses another number than none or two, no vertex has a partner, and no row is searched. Else a row costs one
+//! search. Where none is missed, the matching less its edge at u misses one vertex of G - R - u, the mate of u; no step can enlarge
+//! it, so the first step answers a frame, and the outer vertices of a frame are exactly those that some matching as large misses.
+//! Where two are missed, a row costs one augmentation more at most.
+ghost use Rattle.std.specs.Prelude.{◌≡◌, ℕ, ◌+◌, ◌-◌, ◌≤◌, ◌==◌, ◌&&◌, ◌||◌, not, true, length, IfOk};
 ghost use Rattle.counting.specs.Counts.{Within, count};
 ghost use Rattle.counting.specs.Sets.{none, singleton, union};
 ghost use Rattle.counting.specs.Lists.{item, mem};
-ghost use Rattle.graph_core.specs.Matchings.{has_perfect};
+ghost use Rattle.graph_core.specs.Graph.{size};
+ghost use Rattle.graph_core.specs.Matchings.{IsMatching, has_perfect, missed_count};
 ghost use Rattle.match_core.specs.MatchingRows.{IsOf};
-ghost use Rattle.match_core.specs.Partners.{ArePartners, are_partners};
+ghost use Rattle.match_core.specs.Optimal.{IsBest};
+ghost use Rattle.match_core.specs.Partners.{AreEmptyRows, ArePartners, are_partners};
 ghost use Rattle.match_core.specs.Rows.{marks};
 
 use crate::best::{Best, best_from};
 use crate::frames::maximum;
-use crate::matching::Matching;
+use crate::matching::{Matching, matching_of};
 use graph_core::MultiGraph;
 use std::alloc::{AllocError as Memory, Global};
 use std::marker::Model;
@@ -49,9 +53,35 @@ impl PartnerTable {
 }
 
 /// The partners of each vertex in G - removed, from any matching `m` of `g`: two vertices outside `removed` are partners if there
-/// is a perfect matching without `removed` and these two. Where `m` is perfect without `removed`, a row costs one search. The
-/// row of a vertex of `removed` is empty.
+/// is a perfect matching without `removed` and these two. The row of a vertex of `removed` is empty. `m` is made maximum
+/// without `removed` once. Where it then misses another number of vertices than none or two, no row is searched; else a row
+/// costs one search, after one augmentation at most.
 pub fn partners(
+    alloc: Global,
+    g: &MultiGraph,
+    removed: VSet,
+    m: &Matching,
+) -> Result<PartnerTable, Memory>
+    requires { IsOf g.now m.now }
+    ensures { IfOk result (ArePartners g.now (mem removed)) }
+{
+    let Best { mark, sets: _ } = enlarged(alloc, g, removed, m)?;
+    if !leaves_partners(missed_by(g, removed, &mark)) {
+        return empty_rows(alloc, g.order());
+    }
+    let most = matching_of(alloc, g, &mark)?;
+    rows_from(alloc, g, removed, &most)
+}
+
+// Whether there can be partners where a maximum matching misses so many vertices.
+fn leaves_partners(missed: usize) -> bool
+    ensures { result ≡ (missed == 0 || missed == 2) }
+{
+    missed == 0 || missed == 2
+}
+
+// The table with a search for each row.
+fn rows_from(
     alloc: Global,
     g: &MultiGraph,
     removed: VSet,
@@ -64,6 +94,17 @@ pub fn partners(
     let mut rows = Vec::with_capacity(alloc, g.order() as usize)?;
     for k in 0..g.order() {
         rows.push(partners_of(alloc, g, removed, m, k + 1)?)?;
+    }
+    Ok(PartnerTable { rows })
+}
+
+// The table of `n` empty rows.
+fn empty_rows(alloc: Global, n: u32) -> Result<PartnerTable, Memory>
+    ensures { IfOk result (AreEmptyRows n) }
+{
+    let mut rows = Vec::with_capacity(alloc, n as usize)?;
+    for _ in 0..n {
+        rows.push(VSet::empty())?;
     }
     Ok(PartnerTable { rows })
 }
@@ -110,16 +151,35 @@ fn missable_alone(
         mem row v ≡ (not (mem removed v) &&
         has_perfect g.now (union (mem removed) (singleton v)))) }
 {
-    let n = g.order();
-    let ends = g.edges();
-    let mark = m.cleared(alloc, removed)?.marks(alloc, ends.len())?;
-    let Best { mark, sets } = best_from(alloc, n, ends, g.rows(), removed, &mark)?;
-    let left = VSet::full(n).minus(removed);
-    left.rises();
-    if left.len() as usize == 2 * marked_count(&mark) + 1 {
+    g.keeps_limits();
+    let Best { mark, sets } = enlarged(alloc, g, removed, m)?;
+    if missed_by(g, removed, &mark) == 1 {
         return Ok(sets.outer);
     }
     Ok(VSet::empty())
+}
+
+// A maximum matching of G - removed, made from a matching of `g` less its edges at `removed`.
+fn enlarged(alloc: Global, g: &MultiGraph, removed: VSet, m: &Matching) -> Result<Best, Memory>
+    requires { IsOf g.now m.now }
+    ensures { IfOk result (λ b. IsBest g.now (mem removed) b) }
+{
+    let n = g.order();
+    let ends = g.edges();
+    let mark = m.cleared(alloc, removed)?.marks(alloc, g.size() as usize)?;
+    best_from(alloc, n, ends, g.rows(), removed, &mark)
+}
+
+// How many vertices of G - removed the marked edges miss.
+fn missed_by(g: &MultiGraph, removed: VSet, mark: &[bool]) -> usize
+    requires long { length mark.now ≡ size g.now + 1 }
+    requires matching { IsMatching g.now (mem removed) (marks mark.now) }
+    ensures { result ≡ missed_count g.now (mem removed) (marks mark.now) }
+{
+    g.keeps_limits();
+    let left = VSet::full(g.order()).minus(removed);
+    left.rises();
+    left.len() as usize - 2 * marked_count(mark)
 }
 
 // How many places from 1 on are marked.

@@ -4,18 +4,15 @@ ghost use Rattle.counting.specs.Counts.{Within};
 ghost use Rattle.counting.specs.Sets.{none};
 ghost use Rattle.counting.specs.Lists.{mem};
 ghost use Rattle.graph_core.specs.Graph.{size};
-ghost use Rattle.graph_core.specs.Rows.{AreRows};
-ghost use Rattle.graph_core.specs.View.{graph_of};
 ghost use Rattle.graph_core.specs.Matchings.{IsPerfect, HasPerfect};
 ghost use Rattle.match_core.specs.Rows.{marks};
-ghost use Rattle.match_core.specs.GraphRows.{IsGraphRow};
 ghost use Rattle.match_core.specs.MatchingRows.{IsOf, edges_of};
 ghost use Rattle.match_core.specs.Questions.{HoldsAll, HasPerfectWith, MeetOnce};
 
 use crate::best::{Best, find_best, is_addable};
 use crate::matching::{Matching, matching_of};
 use crate::rows::{falses, is_marked, mark_place, mark_places};
-use graph_core::{Ends, MultiGraph, Numbers};
+use graph_core::{MultiGraph, Numbers};
 use std::alloc::{AllocError as Memory, Global};
 use vset_core::VSet;
 
@@ -30,10 +27,8 @@ pub fn perfect_without(
         (λ o. (m : _) → o ≡ Some m → IsPerfect g.now (mem removed) (mem (edges_of m))) }
     ensures none { IfOk result (λ o. (o ≡ None) ↔ (HasPerfect g.now (mem removed) → ⊥)) }
 {
-    let n = g.order();
-    let ends = g.edges();
-    match perfect_marks(alloc, n, ends, g.rows(), removed)? {
-        Some(mark) => Ok(Some(matching_of(alloc, n, ends, &mark)?)),
+    match perfect_marks(alloc, g, removed)? {
+        Some(mark) => Ok(Some(matching_of(alloc, g, &mark)?)),
         None => Ok(None),
     }
 }
@@ -52,38 +47,27 @@ pub fn perfect_with(
         (λ o. (m : _) → o ≡ Some m → HoldsAll edges.now (mem (edges_of m))) }
     ensures none { IfOk result (λ o. (o ≡ None) ↔ (HasPerfectWith g.now edges.now → ⊥)) }
 {
-    let n = g.order();
-    let ends = g.edges();
-    match marks_with(alloc, n, ends, g.rows(), edges.as_slice())? {
-        Some(mark) => Ok(Some(matching_of(alloc, n, ends, &mark)?)),
+    match marks_with(alloc, g, edges.as_slice())? {
+        Some(mark) => Ok(Some(matching_of(alloc, g, &mark)?)),
         None => Ok(None),
     }
 }
 
 // The marks of a perfect matching that holds the edges, if there is one.
-fn marks_with(
-    alloc: Global,
-    n: u32,
-    ends: &[Ends],
-    rows: &[VSet],
-    edges: &[u32],
-) -> Result<Option<Vec<bool>>, Memory>
-    requires row { IsGraphRow n ends.now }
-    requires neighbours { AreRows (graph_of n ends.now) rows.now }
-    requires edges { All (Within (length ends.now)) edges.now }
+fn marks_with(alloc: Global, g: &MultiGraph, edges: &[u32]) -> Result<Option<Vec<bool>>, Memory>
+    requires { All (Within (size g.now)) edges.now }
     ensures long { IfOk result
-        (λ o. (mark : _) → o ≡ Some mark → length mark.items ≡ length ends.now + 1) }
+        (λ o. (mark : _) → o ≡ Some mark → length mark.items ≡ size g.now + 1) }
     ensures perfect { IfOk result
-        (λ o. (mark : _) → o ≡ Some mark →
-        IsPerfect (graph_of n ends.now) none (marks mark.items)) }
+        (λ o. (mark : _) → o ≡ Some mark → IsPerfect g.now none (marks mark.items)) }
     ensures holds { IfOk result
         (λ o. (mark : _) → o ≡ Some mark → HoldsAll edges.now (marks mark.items)) }
-    ensures none { IfOk result
-        (λ o. (o ≡ None) ↔ (HasPerfectWith (graph_of n ends.now) edges.now → ⊥)) }
+    ensures none { IfOk result (λ o. (o ≡ None) ↔ (HasPerfectWith g.now edges.now → ⊥)) }
 {
-    match ends_met(alloc, n, ends, edges)? {
+    g.keeps_limits();
+    match ends_met(alloc, g, edges)? {
         None => Ok(None),
-        Some(met) => match perfect_marks(alloc, n, ends, rows, met)? {
+        Some(met) => match perfect_marks(alloc, g, met)? {
             None => Ok(None),
             Some(mut mark) => {
                 mark_places(&mut mark, edges);
@@ -94,14 +78,13 @@ fn marks_with(
 }
 
 // The ends of the edges, if no two of them share one.
-fn ends_met(alloc: Global, n: u32, ends: &[Ends], edges: &[u32]) -> Result<Option<VSet>, Memory>
-    requires row { IsGraphRow n ends.now }
-    requires edges { All (Within (length ends.now)) edges.now }
+fn ends_met(alloc: Global, g: &MultiGraph, edges: &[u32]) -> Result<Option<VSet>, Memory>
+    requires { All (Within (size g.now)) edges.now }
     ensures once { IfOk result
-        (λ o. (met : _) → o ≡ Some met → MeetOnce (graph_of n ends.now) (mem edges.now) (mem met)) }
-    ensures none { IfOk result
-        (λ o. o ≡ None → HasPerfectWith (graph_of n ends.now) edges.now → ⊥) }
+        (λ o. (met : _) → o ≡ Some met → MeetOnce g.now (mem edges.now) (mem met)) }
+    ensures none { IfOk result (λ o. o ≡ None → HasPerfectWith g.now edges.now → ⊥) }
 {
+    let ends = g.edges();
     let mut mark = falses(alloc, ends.len() + 1)?;
     let mut met = VSet::empty();
     for edge in edges {
@@ -118,24 +101,15 @@ fn ends_met(alloc: Global, n: u32, ends: &[Ends], edges: &[u32]) -> Result<Optio
 }
 
 // The marks of a perfect matching of G - removed, if there is one.
-fn perfect_marks(
-    alloc: Global,
-    n: u32,
-    ends: &[Ends],
-    rows: &[VSet],
-    removed: VSet,
-) -> Result<Option<Vec<bool>>, Memory>
-    requires row { IsGraphRow n ends.now }
-    requires neighbours { AreRows (graph_of n ends.now) rows.now }
+fn perfect_marks(alloc: Global, g: &MultiGraph, removed: VSet) -> Result<Option<Vec<bool>>, Memory>
     ensures long { IfOk result
-        (λ o. (mark : _) → o ≡ Some mark → length mark.items ≡ length ends.now + 1) }
+        (λ o. (mark : _) → o ≡ Some mark → length mark.items ≡ size g.now + 1) }
     ensures perfect { IfOk result
-        (λ o. (mark : _) → o ≡ Some mark →
-        IsPerfect (graph_of n ends.now) (mem removed) (marks mark.items)) }
-    ensures none { IfOk result
-        (λ o. (o ≡ None) ↔ (HasPerfect (graph_of n ends.now) (mem removed) → ⊥)) }
+        (λ o. (mark : _) → o ≡ Some mark → IsPerfect g.now (mem removed) (marks mark.items)) }
+    ensures none { IfOk result (λ o. (o ≡ None) ↔ (HasPerfect g.now (mem removed) → ⊥)) }
 {
-    let Best { mark, sets } = find_best(alloc, n, ends, rows, removed)?;
+    g.keeps_limits();
+    let Best { mark, sets } = find_best(alloc, g, removed)?;
     if sets.outer.len() == 0 {
         return Ok(Some(mark));
     }

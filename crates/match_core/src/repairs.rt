@@ -49,7 +49,7 @@ pub fn repair(
     let ends = g.edges();
     let given = m.marks(alloc, ends.len())?;
     match repaired_marks(alloc, n, ends, g.rows(), removed, given)? {
-        Some(mark) => Ok(Some(matching_of(alloc, n, ends, &mark)?)),
+        Some(mark) => Ok(Some(matching_of(alloc, g, &mark)?)),
         None => Ok(None),
     }
 }

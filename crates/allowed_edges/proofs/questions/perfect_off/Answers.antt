@@ -5,8 +5,8 @@ use Rattle.graph_core.proofs.Perfect.{none_missed-perfect}
 use Rattle.match_core.specs.MatchingRows.{IsOf, MatchingValue, edges_of}
 use Rattle.allowed_edges.proofs.questions.perfect_off.Goals as goal
 
-pub misses_none-requires-clause-of : goal.misses_none-requires-clause-of
-misses_none-requires-clause-of c = c.in_ok-rest.ensures.of c.args.g.now c.requires.of
+pub misses_none-requires : goal.misses_none-requires
+misses_none-requires c = record { of = c.in_ok-rest.ensures.of c.args.g.now c.requires.of; within = c.requires.within; matching = c.in_ok-rest.ensures.matching c.args.g.now c.requires.of }
 
 pub returns-then-misses_none-clause-of : goal.returns-then-misses_none-clause-of
 returns-then-misses_none-clause-of c = λ m q.
@@ -30,11 +30,21 @@ returns-then-misses_none-clause-none c =
 pub repair-requires-clause-of : goal.repair-requires-clause-of
 repair-requires-clause-of c = c.in_ok-rest.ensures.of c.args.g.now c.requires.of
 
-pub completed-requires-clause-of : goal.completed-requires-clause-of
-completed-requires-clause-of c = c.in_ok-rest.ensures.of c.args.g.now c.requires.of
+pub completed-requires : goal.completed-requires
+completed-requires c = record { of = c.in_ok-rest.ensures.of c.args.g.now c.requires.of; within = c.requires.within; matching = c.in_ok-rest.ensures.matching c.args.g.now c.requires.of }
+
+pub returns-in-Some-clause-of : goal.returns-in-Some-clause-of
+returns-in-Some-clause-of c = λ m q.
+    let same : c.in-Some.found ≡ m = cc in
+    subst (λ (m : MatchingValue). IsOf c.args.g.now m) same (c.in_ok-found.ensures c.in-Some.found c.in-Some.is).of
+
+pub returns-in-Some-clause-perfect : goal.returns-in-Some-clause-perfect
+returns-in-Some-clause-perfect c = λ m q.
+    let same : c.in-Some.found ≡ m = cc in
+    subst (λ (m : MatchingValue). IsPerfect c.args.g.now (mem c.args.met) (mem (edges_of m))) same (c.in_ok-found.ensures c.in-Some.found c.in-Some.is).perfect
 
 pub returns-in-Some-clause-none : goal.returns-in-Some-clause-none
 returns-in-Some-clause-none c = (
   (λ q. cc),
-  (λ h. absurd (h (mem (edges_of c.in-Some.found), c.in_ok-found.ensures.perfect c.in-Some.found c.in-Some.is))),
+  (λ h. absurd (h (mem (edges_of c.in-Some.found), (c.in_ok-found.ensures c.in-Some.found c.in-Some.is).perfect))),
 )

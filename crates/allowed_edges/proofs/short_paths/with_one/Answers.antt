@@ -1,13 +1,17 @@
 use Rattle.std.proofs.Common.{◌≡◌, ◌∙◌, sym, subst, eqb-true}
 use Rattle.counting.specs.Lists.{mem}
-use Rattle.graph_core.specs.Matchings.{IsPerfect, missed_count}
+use Rattle.graph_core.specs.Matchings.{missed_count}
 use Rattle.graph_core.proofs.Perfect.{none_missed-perfect}
-use Rattle.match_core.specs.MatchingRows.{MatchingValue, edges_of}
+use Rattle.match_core.specs.MatchingRows.{edges_of}
+use Rattle.allowed_edges.specs.Leaving.{IsPerfectOff}
 use Rattle.allowed_edges.proofs.short_paths.with_one.Goals as goal
 
-pub returns-then-misses_none-clause-perfect : goal.returns-then-misses_none-clause-perfect
-returns-then-misses_none-clause-perfect c = λ n q.
+pub misses_none-requires : goal.misses_none-requires
+misses_none-requires c = c.in_ok-found.ensures c.in-Some.found c.in-Some.is
+
+pub returns-then-misses_none : goal.returns-then-misses_none
+returns-then-misses_none c = λ n q.
+    let found = c.in_ok-found.ensures c.in-Some.found c.in-Some.is in
     let zero = eqb-true (missed_count c.args.g.now (mem c.args.met) (mem (edges_of c.in-Some.found))) 0 (sym c.misses_none.ensures ∙ c.if-misses_none.true) in
     let same : c.in-Some.found ≡ n = cc in
-    subst (λ (m : MatchingValue). IsPerfect c.args.g.now (mem c.args.met) (mem (edges_of m))) same
-    (none_missed-perfect c.args.g.now (mem c.args.met) (mem (edges_of c.in-Some.found)) (c.in_ok-found.ensures.matching c.in-Some.found c.in-Some.is) zero)
+    subst (IsPerfectOff c.args.g.now c.args.met) same (record { of = found.of; perfect = none_missed-perfect c.args.g.now (mem c.args.met) (mem (edges_of c.in-Some.found)) found.matching zero })

@@ -1,11 +1,10 @@
-use Rattle.std.proofs.Common.{◌≡◌, ◌-◌, ◌∙◌, sym, rules, arith, subst, length}
-use Rattle.std.proofs.lemmas.Grind.{get_or_default_zero}
+use Rattle.std.proofs.Common.{◌-◌, ◌∙◌, sym, rules, arith, subst, length}
 use Rattle.counting.specs.Lists.{mem}
 use Rattle.match_core.specs.Blossoms.{IsClosed, removed_with, without_blossom}
 use Rattle.match_core.specs.Rows.{numbers}
-use Rattle.match_core.proofs.BlossomMates.{cw, wz}
+use Rattle.match_core.proofs.BlossomMates.{cw}
 use Rattle.match_core.proofs.Instances.{alike_self, left_parts, put_back}
-use Rattle.match_core.proofs.MateSteps.{below_holds, below_less, candidates_below, roots_exposed, growth_closes, growth_final, may_open, may_open_alike, step_completed}
+use Rattle.match_core.proofs.MateSteps.{base_read, base_within, below_holds, below_less, candidates_below, roots_exposed, growth_closes, growth_final, may_open, may_open_alike, step_completed}
 use Rattle.match_core.proofs.augment.+augment_once.Goals as goal
 
 pub exposed_in-roots-requires-clause-vertices : goal.exposed_in-roots-requires-clause-vertices
@@ -45,9 +44,7 @@ pub shrink-before-requires-clause-base : goal.shrink-before-requires-clause-base
 shrink-before-requires-clause-base t c =
     let q = c.requires.holds in
     let held = subst (IsClosed q.0 q.1 q.2 c.close.new.mate) c.in-Some-2.is (c.in_ok-close-in-Some.ensures.closed q.0 q.1 q.2 (c.in_ok-ways-in-Some.ensures q.0 q.1 q.2 (growth_closes q.0 q.1 q.2 c.args.instance.now c.args.mate.now q.3 c.grow_forest-forest.result c.in-Some.gap (c.grow_forest-forest.ensures q.0 q.1 q.2 q.3) c.in-Some.is))) in
-    let three = held.opened.cycle.three in
-    let base : c.index-base.result.now ≡ numbers c.in-Some-2.blossom.ring.items 1 = c.index-base.ensures ∙ get_or_default_zero c.in-Some-2.blossom.ring.items 1 c.index-base.result.now (omega arith) in
-    let w = wz q.0 q.3.instance_is.graph q.1 q.2 held.m (length c.in-Some-2.blossom.ring.items - 1) (numbers c.in-Some-2.blossom.ring.items) held.edge held.opened in
+    let w = base_within q.0 q.1 q.2 c.close.new.mate c.in-Some-2.blossom held c.index-base.result.now c.index-base.ensures in
     let few = q.3.instance_is.few in
     let each = q.3.instance_is.one_each in (omega arith, omega arith)
 
@@ -55,9 +52,7 @@ pub unshrink-requires-clause-base : goal.unshrink-requires-clause-base
 unshrink-requires-clause-base t c =
     let q = c.requires.holds in
     let held = subst (IsClosed q.0 q.1 q.2 c.close.new.mate) c.in-Some-2.is (c.in_ok-close-in-Some.ensures.closed q.0 q.1 q.2 (c.in_ok-ways-in-Some.ensures q.0 q.1 q.2 (growth_closes q.0 q.1 q.2 c.args.instance.now c.args.mate.now q.3 c.grow_forest-forest.result c.in-Some.gap (c.grow_forest-forest.ensures q.0 q.1 q.2 q.3) c.in-Some.is))) in
-    let three = held.opened.cycle.three in
-    let base : c.index-base.result.now ≡ numbers c.in-Some-2.blossom.ring.items 1 = c.index-base.ensures ∙ get_or_default_zero c.in-Some-2.blossom.ring.items 1 c.index-base.result.now (omega arith) in
-    let w = wz q.0 q.3.instance_is.graph q.1 q.2 held.m (length c.in-Some-2.blossom.ring.items - 1) (numbers c.in-Some-2.blossom.ring.items) held.edge held.opened in
+    let w = base_within q.0 q.1 q.2 c.close.new.mate c.in-Some-2.blossom held c.index-base.result.now c.index-base.ensures in
     let few = q.3.instance_is.few in
     let each = q.3.instance_is.one_each in
     let long = c.shrink-before.ensures.shrunk.rows.one_each in
@@ -67,9 +62,7 @@ pub with-requires : goal.with-requires
 with-requires t c =
     let q = c.requires.holds in
     let held = subst (IsClosed q.0 q.1 q.2 c.close.new.mate) c.in-Some-2.is (c.in_ok-close-in-Some.ensures.closed q.0 q.1 q.2 (c.in_ok-ways-in-Some.ensures q.0 q.1 q.2 (growth_closes q.0 q.1 q.2 c.args.instance.now c.args.mate.now q.3 c.grow_forest-forest.result c.in-Some.gap (c.grow_forest-forest.ensures q.0 q.1 q.2 q.3) c.in-Some.is))) in
-    let three = held.opened.cycle.three in
-    let base : c.index-base.result.now ≡ numbers c.in-Some-2.blossom.ring.items 1 = c.index-base.ensures ∙ get_or_default_zero c.in-Some-2.blossom.ring.items 1 c.index-base.result.now (omega arith) in
-    let w = wz q.0 q.3.instance_is.graph q.1 q.2 held.m (length c.in-Some-2.blossom.ring.items - 1) (numbers c.in-Some-2.blossom.ring.items) held.edge held.opened in
+    let w = base_within q.0 q.1 q.2 c.close.new.mate c.in-Some-2.blossom held c.index-base.result.now c.index-base.ensures in
     let few = q.3.instance_is.few in (omega arith, omega arith)
 
 pub shrink-before-requires-clause-vertices : goal.shrink-before-requires-clause-vertices
@@ -83,8 +76,7 @@ pub augment_once-requires : goal.augment_once-requires
 augment_once-requires t c =
     let q = c.requires.holds in
     let held = subst (IsClosed q.0 q.1 q.2 c.close.new.mate) c.in-Some-2.is (c.in_ok-close-in-Some.ensures.closed q.0 q.1 q.2 (c.in_ok-ways-in-Some.ensures q.0 q.1 q.2 (growth_closes q.0 q.1 q.2 c.args.instance.now c.args.mate.now q.3 c.grow_forest-forest.result c.in-Some.gap (c.grow_forest-forest.ensures q.0 q.1 q.2 q.3) c.in-Some.is))) in
-    let three = held.opened.cycle.three in
-    let base : c.index-base.result.now ≡ numbers c.in-Some-2.blossom.ring.items 1 = c.index-base.ensures ∙ get_or_default_zero c.in-Some-2.blossom.ring.items 1 c.index-base.result.now (omega arith) in
+    let base = base_read q.0 q.1 q.2 c.close.new.mate c.in-Some-2.blossom held c.index-base.result.now c.index-base.ensures in
     let falls = c.decreases in
     let grown = c.grow_forest-forest.ensures q.0 q.1 q.2 q.3 in
     let parents = grown.holds.parents_long in
@@ -100,8 +92,7 @@ pub open-requires : goal.open-requires
 open-requires t c =
     let q = c.requires.holds in
     let held = subst (IsClosed q.0 q.1 q.2 c.close.new.mate) c.in-Some-2.is (c.in_ok-close-in-Some.ensures.closed q.0 q.1 q.2 (c.in_ok-ways-in-Some.ensures q.0 q.1 q.2 (growth_closes q.0 q.1 q.2 c.args.instance.now c.args.mate.now q.3 c.grow_forest-forest.result c.in-Some.gap (c.grow_forest-forest.ensures q.0 q.1 q.2 q.3) c.in-Some.is))) in
-    let three = held.opened.cycle.three in
-    let base : c.index-base.result.now ≡ numbers c.in-Some-2.blossom.ring.items 1 = c.index-base.ensures ∙ get_or_default_zero c.in-Some-2.blossom.ring.items 1 c.index-base.result.now (omega arith) in
+    let base = base_read q.0 q.1 q.2 c.close.new.mate c.in-Some-2.blossom held c.index-base.result.now c.index-base.ensures in
     let step = c.in_ok-below-in-Some-2.ensures.step (without_blossom q.0 c.in-Some-2.blossom) (removed_with q.1 c.in-Some-2.blossom) held.m (below_holds q.0 q.1 q.2 c.args.instance.now c.args.mate.now q.3 c.close.new.mate c.close.auto.mate c.in-Some-2.blossom held c.index-base.result.now base c.shrink-before.new.self c.shrink-before.ensures.shrunk) in
     let back = put_back c.args.instance.now c.shrink-before.new.self c.augment_once.new.instance c.unshrink.new.self (mem c.in-Some-2.blossom.members) c.index-base.result.now c.shrink-before.result c.shrink-before.ensures.shrunk c.shrink-before.ensures.before c.in_ok-below-in-Some-2.ensures.restored c.unshrink.ensures in
     (q.0, q.1, q.2, held.m, step.m, may_open_alike q.0 q.1 q.2 held.m step.m c.args.instance.now c.unshrink.new.self c.augment_once.new.mate c.in-Some-2.blossom (may_open q.0 q.1 q.2 c.args.instance.now c.args.mate.now q.3 c.close.new.mate c.close.auto.mate c.in-Some-2.blossom held c.index-base.result.now base c.shrink-before.new.self c.shrink-before.ensures.shrunk c.augment_once.new.mate c.augment_once.auto.mate c.in_ok-below-in-Some-2.below step) back)
@@ -112,8 +103,7 @@ returns-in_ok-below-in-Some-2-clause-restored t c = put_back c.args.instance.now
 pub returns-in_ok-below-in-Some-2-clause-step : goal.returns-in_ok-below-in-Some-2-clause-step
 returns-in_ok-below-in-Some-2-clause-step t c = λ g r f is.
     let held = subst (IsClosed g r f c.close.new.mate) c.in-Some-2.is (c.in_ok-close-in-Some.ensures.closed g r f (c.in_ok-ways-in-Some.ensures g r f (growth_closes g r f c.args.instance.now c.args.mate.now is c.grow_forest-forest.result c.in-Some.gap (c.grow_forest-forest.ensures g r f is) c.in-Some.is))) in
-    let three = held.opened.cycle.three in
-    let base : c.index-base.result.now ≡ numbers c.in-Some-2.blossom.ring.items 1 = c.index-base.ensures ∙ get_or_default_zero c.in-Some-2.blossom.ring.items 1 c.index-base.result.now (omega arith) in
+    let base = base_read g r f c.close.new.mate c.in-Some-2.blossom held c.index-base.result.now c.index-base.ensures in
     let step = c.in_ok-below-in-Some-2.ensures.step (without_blossom g c.in-Some-2.blossom) (removed_with r c.in-Some-2.blossom) held.m (below_holds g r f c.args.instance.now c.args.mate.now is c.close.new.mate c.close.auto.mate c.in-Some-2.blossom held c.index-base.result.now base c.shrink-before.new.self c.shrink-before.ensures.shrunk) in
     let back = put_back c.args.instance.now c.shrink-before.new.self c.augment_once.new.instance c.unshrink.new.self (mem c.in-Some-2.blossom.members) c.index-base.result.now c.shrink-before.result c.shrink-before.ensures.shrunk c.shrink-before.ensures.before c.in_ok-below-in-Some-2.ensures.restored c.unshrink.ensures in
     let done = c.open.ensures g r f held.m step.m (may_open_alike g r f held.m step.m c.args.instance.now c.unshrink.new.self c.augment_once.new.mate c.in-Some-2.blossom (may_open g r f c.args.instance.now c.args.mate.now is c.close.new.mate c.close.auto.mate c.in-Some-2.blossom held c.index-base.result.now base c.shrink-before.new.self c.shrink-before.ensures.shrunk c.augment_once.new.mate c.augment_once.auto.mate c.in_ok-below-in-Some-2.below step) back) in

@@ -1,19 +1,14 @@
-use Rattle.std.proofs.Common.{◌≡◌, ◌+◌, ◌==◌, ◌&&◌, not, length}
+use Rattle.std.proofs.Common.{◌==◌, ◌&&◌, not}
 use Rattle.counting.specs.Counts.{count}
 use Rattle.counting.specs.Lists.{mem}
 use Rattle.counting.specs.Sets.{Set}
 use Rattle.graph_core.specs.View.{graph_of}
-use Rattle.match_core.specs.Instances.{IsInstance}
-use Rattle.match_core.specs.Mates.{HasMates}
+use Rattle.match_core.specs.AlternatingForests.{HoldsMatching}
 use Rattle.match_core.specs.Rows.{numbers}
 use Rattle.match_core.proofs.best.best_from.Given as goal
 
 abbrev pub invariant-augmenting : goal.invariant-augmenting
-invariant-augmenting l = record {
-  instance_is : IsInstance (graph_of l.n l.ends) (mem l.fn.removed) l.instance;
-  long : length l.mate.items ≡ l.n + 1;
-  mates : (f : Set) × HasMates (graph_of l.n l.ends) (mem l.fn.removed) f (numbers l.mate.items);
-}
+invariant-augmenting l = (f : Set) × HoldsMatching (graph_of l.n l.ends) (mem l.fn.removed) f l.instance l.mate.items
 
 -- each augmentation leaves two exposed vertices less
 abbrev pub decreases-augmenting : goal.decreases-augmenting

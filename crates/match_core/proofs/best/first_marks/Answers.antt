@@ -1,4 +1,4 @@
-use Rattle.std.proofs.Common.{◌≡◌, ℕ, suc, ◌+◌, ◌==◌, ◌&&◌, ◌||◌, not, Bool, true, false, sym, subst, ap, ◌∙◌, arith, inl, eq-eqb, length, Vec, Global}
+use Rattle.std.proofs.Common.{◌≡◌, ℕ, suc, ◌+◌, ◌==◌, ◌||◌, Bool, true, false, sym, subst, ap, ◌∙◌, arith, inl, eq-eqb, length, Vec, Global}
 use Rattle.std.proofs.lemmas.Bool.{both_ways}
 use mathlib.Core.Path.{fun_ext}
 use Rattle.counting.specs.Sets.{Set, put}
@@ -9,7 +9,7 @@ use Rattle.counting.specs.Lists.{mem}
 use Rattle.graph_core.specs.View.{graph_of}
 use Rattle.match_core.specs.Rows.{marks, end_a, end_b}
 use Rattle.match_core.proofs.GraphRows.{size_is, ends_here}
-use Rattle.match_core.proofs.FirstMarks.{empty_matching, empty_degree, added_edge}
+use Rattle.match_core.proofs.FirstMarks.{addable, empty_matching, empty_degree, added_edge}
 use Rattle.match_core.proofs.best.first_marks.Goals as goal
 use Rattle.match_core.proofs.best.first_marks.Goals.{then-is_addable, else-is_addable}
 
@@ -19,9 +19,6 @@ loop-k-init c = record {
   matching = empty_matching (graph_of c.args.n c.args.ends.now) (mem c.args.removed) (marks c.in_ok-mark.mark.items) c.in_ok-mark.ensures.each;
   free = λ v w q. (q, empty_degree (graph_of c.args.n c.args.ends.now) (marks c.in_ok-mark.mark.items) c.in_ok-mark.ensures.each v);
 }
-
-addable : (a b d : Bool) → (not a && (not b && not d)) ≡ true → (a ≡ false) × (b ≡ false) × (d ≡ false)
-addable a b d h = grind arith
 
 pub loop-k-preserved : goal.loop-k-preserved
 loop-k-preserved c = elim c.if-is_addable.branch [

@@ -5,8 +5,9 @@ use Rattle.counting.specs.Lists.{mem}
 use Rattle.match_core.specs.AlternatingForests.{IsDone, IsClosingPair}
 use Rattle.match_core.specs.declared.growing.Adjacent.{Adjacent}
 use Rattle.match_core.proofs.Instances.{left_parts}
-use Rattle.match_core.proofs.ParentForests.{branch_holds, branch_mate, oz, roots_hold}
-use Rattle.match_core.proofs.Reaching.{branch_less, done_stays, drop_less, none_reached, pairs_few, reach_parts, unmet}
+use Rattle.match_core.proofs.Branching.{fits_branch, holds_branched, nearer_end}
+use Rattle.match_core.proofs.ParentForests.{roots_hold}
+use Rattle.match_core.proofs.Reaching.{done_stays, drop_less, none_reached, reach_parts}
 use Rattle.match_core.specs.Rows.{numbers}
 use Rattle.match_core.proofs.growing.grow_forest.Goals as goal
 
@@ -46,10 +47,7 @@ returns-in-Some-first c = λ g r f is. record {
   holds = c.growing.invariant.holds g r f is;
   done = λ q. cc;
   closing_pair = λ o q.
-      let h = c.growing.invariant.holds g r f is in
       let ox = c.growing.invariant.opens c.in-Some.x c.in-Some.ensures.some.member in
-      let w = (h.forest.outer_in c.in-Some.x ox).0 in
-      let e = is.instance_is.one_each in
       let m = and_parts (mem c.minus-reach.result c.in-Some-first.y) (mem c.growing.forest.outer c.in-Some-first.y) (sym (c.meet.ensures c.in-Some-first.y) ∙ c.in-Some-first.ensures.some.member) in
       let p = reach_parts c.args.instance.now c.growing.forest c.in-Some.x c.near.result c.without-near.result c.minus-reach.result c.near.ensures c.without-near.ensures c.minus-reach.ensures c.in-Some-first.y m.0 in
       let here : Adjacent = record { v = c.in-Some.x; w = c.in-Some-first.y } in
@@ -72,10 +70,6 @@ growing-preserved-in-None c = record {
   opens = λ v o. c.growing.invariant.opens v (and_parts (mem c.growing.«open» v) (not (c.in-Some.x == v)) (sym (c.without-open.ensures v) ∙ o)).0;
   done = λ v o n. elim (cases_eq c.in-Some.x v) [
     | inl same ↦
-        let q = c.requires.holds in
-        let h = c.growing.invariant.holds q.0 q.1 q.2 q.3 in
-        let w = (h.forest.outer_in c.in-Some.x (c.growing.invariant.opens c.in-Some.x c.in-Some.ensures.some.member)).0 in
-        let e = q.3.instance_is.one_each in
         subst (λ (v : ℕ). IsDone c.args.instance.now c.growing.forest v) same
         (none_reached c.args.instance.now c.growing.forest c.in-Some.x c.near.result c.without-near.result c.minus-reach.result c.near.ensures c.without-near.ensures c.minus-reach.ensures c.in-None.ensures.none)
     | inr other ↦ c.growing.invariant.done v o (false_from_ne_true (mem c.growing.«open» v) (λ t. both_ways (mem c.without-open.result v) n (c.without-open.ensures v ∙ and_from (mem c.growing.«open» v) (not (c.in-Some.x == v)) t (ap not (Rattle.std.proofs.Common.ne_eqb c.in-Some.x v other)))))
@@ -85,135 +79,29 @@ growing-preserved-in-None c = record {
 pub bounds-mate-y : goal.bounds-mate-y
 bounds-mate-y c =
     let q = c.requires.holds in
-    let h = c.growing.invariant.holds q.0 q.1 q.2 q.3 in
-    let ox = c.growing.invariant.opens c.in-Some.x c.in-Some.ensures.some.member in
-    let w = (h.forest.outer_in c.in-Some.x ox).0 in
-    let e = q.3.instance_is.one_each in
-    let reached = c.in-Some-first-2.ensures.some.member in
-    let p = reach_parts c.args.instance.now c.growing.forest c.in-Some.x c.near.result c.without-near.result c.minus-reach.result c.near.ensures c.without-near.ensures c.minus-reach.ensures c.in-Some-first-2.y reached in
-    let oy = unmet c.minus-reach.result c.growing.forest.outer c.meet.result c.in-Some-first-2.y c.meet.ensures c.in_default-first.ensures.none reached in
-    let wy = (left_parts q.0 q.1 c.args.instance.now q.3.instance_is c.in-Some-first-2.y p.1).0 in
-    let z = branch_mate q.0 q.1 q.2 c.args.instance.now c.args.mate.now q.3 c.growing.forest h c.in-Some.x c.in-Some-first-2.y ox p.0 p.1 p.2 oy p.3 in
-    let few = q.3.instance_is.few in
-    let l = q.3.long in omega arith
+    let fits = fits_branch c.args.instance.now c.args.mate.now c.growing.forest c.in-Some.x c.in-Some-first-2.y c.near.result c.without-near.result c.minus-reach.result c.meet.result (c.growing.invariant.opens c.in-Some.x c.in-Some.ensures.some.member) c.near.ensures c.without-near.ensures c.minus-reach.ensures c.meet.ensures c.in_default-first.ensures.none c.in-Some-first-2.ensures.some.member q.0 q.1 q.2 q.3 (c.growing.invariant.holds q.0 q.1 q.2 q.3) in
+    fits.y_mate
 
-pub branch-forest-requires-clause-x_in : goal.branch-forest-requires-clause-x_in
-branch-forest-requires-clause-x_in c =
+pub branch-forest-requires : goal.branch-forest-requires
+branch-forest-requires c =
     let q = c.requires.holds in
-    let h = c.growing.invariant.holds q.0 q.1 q.2 q.3 in
-    let ox = c.growing.invariant.opens c.in-Some.x c.in-Some.ensures.some.member in
-    let w = (h.forest.outer_in c.in-Some.x ox).0 in
-    let e = q.3.instance_is.one_each in
-    let reached = c.in-Some-first-2.ensures.some.member in
-    let p = reach_parts c.args.instance.now c.growing.forest c.in-Some.x c.near.result c.without-near.result c.minus-reach.result c.near.ensures c.without-near.ensures c.minus-reach.ensures c.in-Some-first-2.y reached in
-    let oy = unmet c.minus-reach.result c.growing.forest.outer c.meet.result c.in-Some-first-2.y c.meet.ensures c.in_default-first.ensures.none reached in
-    let wy = (left_parts q.0 q.1 c.args.instance.now q.3.instance_is c.in-Some-first-2.y p.1).0 in
-    let z = branch_mate q.0 q.1 q.2 c.args.instance.now c.args.mate.now q.3 c.growing.forest h c.in-Some.x c.in-Some-first-2.y ox p.0 p.1 p.2 oy p.3 in
-    let few = q.3.instance_is.few in
-    let l = h.pairs_long in omega arith
-
-pub branch-forest-requires-clause-y_in : goal.branch-forest-requires-clause-y_in
-branch-forest-requires-clause-y_in c =
-    let q = c.requires.holds in
-    let h = c.growing.invariant.holds q.0 q.1 q.2 q.3 in
-    let ox = c.growing.invariant.opens c.in-Some.x c.in-Some.ensures.some.member in
-    let w = (h.forest.outer_in c.in-Some.x ox).0 in
-    let e = q.3.instance_is.one_each in
-    let reached = c.in-Some-first-2.ensures.some.member in
-    let p = reach_parts c.args.instance.now c.growing.forest c.in-Some.x c.near.result c.without-near.result c.minus-reach.result c.near.ensures c.without-near.ensures c.minus-reach.ensures c.in-Some-first-2.y reached in
-    let oy = unmet c.minus-reach.result c.growing.forest.outer c.meet.result c.in-Some-first-2.y c.meet.ensures c.in_default-first.ensures.none reached in
-    let wy = (left_parts q.0 q.1 c.args.instance.now q.3.instance_is c.in-Some-first-2.y p.1).0 in
-    let z = branch_mate q.0 q.1 q.2 c.args.instance.now c.args.mate.now q.3 c.growing.forest h c.in-Some.x c.in-Some-first-2.y ox p.0 p.1 p.2 oy p.3 in
-    let few = q.3.instance_is.few in
-    let l = h.parents_long in omega arith
-
-pub branch-forest-requires-clause-z_in : goal.branch-forest-requires-clause-z_in
-branch-forest-requires-clause-z_in c =
-    let q = c.requires.holds in
-    let h = c.growing.invariant.holds q.0 q.1 q.2 q.3 in
-    let ox = c.growing.invariant.opens c.in-Some.x c.in-Some.ensures.some.member in
-    let w = (h.forest.outer_in c.in-Some.x ox).0 in
-    let e = q.3.instance_is.one_each in
-    let reached = c.in-Some-first-2.ensures.some.member in
-    let p = reach_parts c.args.instance.now c.growing.forest c.in-Some.x c.near.result c.without-near.result c.minus-reach.result c.near.ensures c.without-near.ensures c.minus-reach.ensures c.in-Some-first-2.y reached in
-    let oy = unmet c.minus-reach.result c.growing.forest.outer c.meet.result c.in-Some-first-2.y c.meet.ensures c.in_default-first.ensures.none reached in
-    let wy = (left_parts q.0 q.1 c.args.instance.now q.3.instance_is c.in-Some-first-2.y p.1).0 in
-    let z = branch_mate q.0 q.1 q.2 c.args.instance.now c.args.mate.now q.3 c.growing.forest h c.in-Some.x c.in-Some-first-2.y ox p.0 p.1 p.2 oy p.3 in
-    let few = q.3.instance_is.few in
-    let l = h.pairs_long in let zw = z.0 in omega arith
-
-pub branch-forest-requires-clause-z_vertex : goal.branch-forest-requires-clause-z_vertex
-branch-forest-requires-clause-z_vertex c =
-    let q = c.requires.holds in
-    let h = c.growing.invariant.holds q.0 q.1 q.2 q.3 in
-    let ox = c.growing.invariant.opens c.in-Some.x c.in-Some.ensures.some.member in
-    let w = (h.forest.outer_in c.in-Some.x ox).0 in
-    let e = q.3.instance_is.one_each in
-    let reached = c.in-Some-first-2.ensures.some.member in
-    let p = reach_parts c.args.instance.now c.growing.forest c.in-Some.x c.near.result c.without-near.result c.minus-reach.result c.near.ensures c.without-near.ensures c.minus-reach.ensures c.in-Some-first-2.y reached in
-    let oy = unmet c.minus-reach.result c.growing.forest.outer c.meet.result c.in-Some-first-2.y c.meet.ensures c.in_default-first.ensures.none reached in
-    let wy = (left_parts q.0 q.1 c.args.instance.now q.3.instance_is c.in-Some-first-2.y p.1).0 in
-    let z = branch_mate q.0 q.1 q.2 c.args.instance.now c.args.mate.now q.3 c.growing.forest h c.in-Some.x c.in-Some-first-2.y ox p.0 p.1 p.2 oy p.3 in
-    let few = q.3.instance_is.few in
-    let zw = z.0 in (zw.0, omega arith)
-
-pub branch-forest-requires-clause-shallow : goal.branch-forest-requires-clause-shallow
-branch-forest-requires-clause-shallow c =
-    let q = c.requires.holds in
-    let h = c.growing.invariant.holds q.0 q.1 q.2 q.3 in
-    let ox = c.growing.invariant.opens c.in-Some.x c.in-Some.ensures.some.member in
-    let w = (h.forest.outer_in c.in-Some.x ox).0 in
-    let e = q.3.instance_is.one_each in
-    let reached = c.in-Some-first-2.ensures.some.member in
-    let p = reach_parts c.args.instance.now c.growing.forest c.in-Some.x c.near.result c.without-near.result c.minus-reach.result c.near.ensures c.without-near.ensures c.minus-reach.ensures c.in-Some-first-2.y reached in
-    let oy = unmet c.minus-reach.result c.growing.forest.outer c.meet.result c.in-Some-first-2.y c.meet.ensures c.in_default-first.ensures.none reached in
-    let wy = (left_parts q.0 q.1 c.args.instance.now q.3.instance_is c.in-Some-first-2.y p.1).0 in
-    let z = branch_mate q.0 q.1 q.2 c.args.instance.now c.args.mate.now q.3 c.growing.forest h c.in-Some.x c.in-Some-first-2.y ox p.0 p.1 p.2 oy p.3 in
-    let few = q.3.instance_is.few in
-    let k = pairs_few q.0 q.1 q.2 c.args.mate.now c.growing.forest h c.in-Some.x ox in omega arith
+    let fits = fits_branch c.args.instance.now c.args.mate.now c.growing.forest c.in-Some.x c.in-Some-first-2.y c.near.result c.without-near.result c.minus-reach.result c.meet.result (c.growing.invariant.opens c.in-Some.x c.in-Some.ensures.some.member) c.near.ensures c.without-near.ensures c.minus-reach.ensures c.meet.ensures c.in_default-first.ensures.none c.in-Some-first-2.ensures.some.member q.0 q.1 q.2 q.3 (c.growing.invariant.holds q.0 q.1 q.2 q.3) in
+    record { x_in = fits.x_in; y_in = fits.y_in; z_in = fits.z_in; y_vertex = fits.y_vertex; z_vertex = fits.z_vertex; shallow = fits.shallow }
 
 pub with-open-requires : goal.with-open-requires
 with-open-requires c =
     let q = c.requires.holds in
-    let h = c.growing.invariant.holds q.0 q.1 q.2 q.3 in
-    let ox = c.growing.invariant.opens c.in-Some.x c.in-Some.ensures.some.member in
-    let w = (h.forest.outer_in c.in-Some.x ox).0 in
-    let e = q.3.instance_is.one_each in
-    let reached = c.in-Some-first-2.ensures.some.member in
-    let p = reach_parts c.args.instance.now c.growing.forest c.in-Some.x c.near.result c.without-near.result c.minus-reach.result c.near.ensures c.without-near.ensures c.minus-reach.ensures c.in-Some-first-2.y reached in
-    let oy = unmet c.minus-reach.result c.growing.forest.outer c.meet.result c.in-Some-first-2.y c.meet.ensures c.in_default-first.ensures.none reached in
-    let wy = (left_parts q.0 q.1 c.args.instance.now q.3.instance_is c.in-Some-first-2.y p.1).0 in
-    let z = branch_mate q.0 q.1 q.2 c.args.instance.now c.args.mate.now q.3 c.growing.forest h c.in-Some.x c.in-Some-first-2.y ox p.0 p.1 p.2 oy p.3 in
-    let few = q.3.instance_is.few in
-    let zw = z.0 in (zw.0, omega arith)
+    let fits = fits_branch c.args.instance.now c.args.mate.now c.growing.forest c.in-Some.x c.in-Some-first-2.y c.near.result c.without-near.result c.minus-reach.result c.meet.result (c.growing.invariant.opens c.in-Some.x c.in-Some.ensures.some.member) c.near.ensures c.without-near.ensures c.minus-reach.ensures c.meet.ensures c.in_default-first.ensures.none c.in-Some-first-2.ensures.some.member q.0 q.1 q.2 q.3 (c.growing.invariant.holds q.0 q.1 q.2 q.3) in
+    fits.z_vertex
 
 pub growing-smaller : goal.growing-smaller
 growing-smaller c =
     let q = c.requires.holds in
-    let h = c.growing.invariant.holds q.0 q.1 q.2 q.3 in
-    let ox = c.growing.invariant.opens c.in-Some.x c.in-Some.ensures.some.member in
-    let w = (h.forest.outer_in c.in-Some.x ox).0 in
-    let e = q.3.instance_is.one_each in
-    let reached = c.in-Some-first-2.ensures.some.member in
-    let p = reach_parts c.args.instance.now c.growing.forest c.in-Some.x c.near.result c.without-near.result c.minus-reach.result c.near.ensures c.without-near.ensures c.minus-reach.ensures c.in-Some-first-2.y reached in
-    let oy = unmet c.minus-reach.result c.growing.forest.outer c.meet.result c.in-Some-first-2.y c.meet.ensures c.in_default-first.ensures.none reached in
-    let wy = (left_parts q.0 q.1 c.args.instance.now q.3.instance_is c.in-Some-first-2.y p.1).0 in
-    let z = branch_mate q.0 q.1 q.2 c.args.instance.now c.args.mate.now q.3 c.growing.forest h c.in-Some.x c.in-Some-first-2.y ox p.0 p.1 p.2 oy p.3 in
-    let few = q.3.instance_is.few in
-    let o = oz q.0 q.1 q.2 c.args.instance.now c.args.mate.now q.3 c.growing.forest h c.in-Some.x c.in-Some-first-2.y ox p.0 p.1 p.2 oy p.3 in
-    let zw = z.0 in
-    let shut = false_from_ne_true (mem c.growing.«open» (numbers c.args.mate.now c.in-Some-first-2.y)) (λ t. both_ways (mem c.growing.forest.outer (numbers c.args.mate.now c.in-Some-first-2.y)) o (c.growing.invariant.opens (numbers c.args.mate.now c.in-Some-first-2.y) t)) in
-    branch_less (length c.args.instance.now.rows.items) (mem c.growing.forest.inner) (mem c.branch-forest.new.self.inner) (mem c.growing.«open») (mem c.with-open.result) c.in-Some-first-2.y (numbers c.args.mate.now c.in-Some-first-2.y) (omega arith) (omega arith) p.3 shut c.branch-forest.ensures.inner c.with-open.ensures
+    nearer_end c.args.instance.now c.args.mate.now c.growing.forest c.in-Some.x c.in-Some-first-2.y c.near.result c.without-near.result c.minus-reach.result c.meet.result (c.growing.invariant.opens c.in-Some.x c.in-Some.ensures.some.member) c.near.ensures c.without-near.ensures c.minus-reach.ensures c.meet.ensures c.in_default-first.ensures.none c.in-Some-first-2.ensures.some.member q.0 q.1 q.2 q.3 (c.growing.invariant.holds q.0 q.1 q.2 q.3) c.growing.«open» c.with-open.result c.branch-forest.new.self.inner c.growing.invariant.opens c.branch-forest.ensures.inner c.with-open.ensures
 
 pub growing-preserved : goal.growing-preserved
 growing-preserved c = record {
-  holds = λ g r f is.
-      let h = c.growing.invariant.holds g r f is in
-      let w = (h.forest.outer_in c.in-Some.x ox).0 in
-      let e = is.instance_is.one_each in
-      let p = reach_parts c.args.instance.now c.growing.forest c.in-Some.x c.near.result c.without-near.result c.minus-reach.result c.near.ensures c.without-near.ensures c.minus-reach.ensures c.in-Some-first-2.y reached in
-      let oy = unmet c.minus-reach.result c.growing.forest.outer c.meet.result c.in-Some-first-2.y c.meet.ensures c.in_default-first.ensures.none reached in
-      branch_holds g r f c.args.instance.now c.args.mate.now is c.growing.forest h c.in-Some.x c.in-Some-first-2.y ox p.0 p.1 p.2 oy p.3 c.branch-forest.new.self c.branch-forest.ensures;
+  holds = λ g r f is. holds_branched c.args.instance.now c.args.mate.now c.growing.forest c.in-Some.x c.in-Some-first-2.y c.near.result c.without-near.result c.minus-reach.result c.meet.result (c.growing.invariant.opens c.in-Some.x c.in-Some.ensures.some.member) c.near.ensures c.without-near.ensures c.minus-reach.ensures c.meet.ensures c.in_default-first.ensures.none c.in-Some-first-2.ensures.some.member g r f is (c.growing.invariant.holds g r f is) c.branch-forest.new.self c.branch-forest.ensures;
   opens = λ v o. elim (or_cases (mem c.growing.«open» v) (numbers c.args.mate.now c.in-Some-first-2.y == v) (sym (c.with-open.ensures v) ∙ o)) [
     | inl t ↦ c.branch-forest.ensures.outer v ∙ or_left (mem c.growing.forest.outer v) (numbers c.args.mate.now c.in-Some-first-2.y == v) (c.growing.invariant.opens v t)
     | inr t ↦ c.branch-forest.ensures.outer v ∙ or_right (mem c.growing.forest.outer v) (numbers c.args.mate.now c.in-Some-first-2.y == v) t
@@ -223,12 +111,6 @@ growing-preserved c = record {
       done_stays c.args.instance.now c.growing.forest c.branch-forest.new.self c.in-Some-first-2.y (numbers c.args.mate.now c.in-Some-first-2.y) c.in-Some.x v c.branch-forest.ensures
       (c.growing.invariant.done v (elim (or_cases (mem c.growing.forest.outer v) (numbers c.args.mate.now c.in-Some-first-2.y == v) (sym (c.branch-forest.ensures.outer v) ∙ o)) [ inl t ↦ t | inr t ↦ absurd (both_ways (numbers c.args.mate.now c.in-Some-first-2.y == v) shut.1 t) ]) shut.0);
 }
-  where
-    ox : mem c.growing.forest.outer c.in-Some.x ≡ true
-    ox = c.growing.invariant.opens c.in-Some.x c.in-Some.ensures.some.member
-
-    reached : mem c.minus-reach.result c.in-Some-first-2.y ≡ true
-    reached = c.in-Some-first-2.ensures.some.member
 
 pub returns : goal.returns
 returns c = λ g r f is. record {

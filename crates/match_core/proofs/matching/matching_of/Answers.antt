@@ -1,30 +1,25 @@
-use Rattle.std.proofs.Common.{◌≡◌, List, sym, subst, ap, ◌∙◌, map, arith}
-use Rattle.counting.specs.Lists.{rising_list}
-use Rattle.graph_core.specs.Graph.{size as size_of}
-use Rattle.graph_core.specs.View.{graph_of}
+use Rattle.std.proofs.Common.{sym, ap, ◌∙◌, subst}
 use Rattle.match_core.specs.Rows.{marks}
-use Rattle.match_core.specs.MatchingRows.{KeepsMatching, IsOf, row_at}
-use Rattle.match_core.specs.declared.matching.MatchRow.{MatchRow}
-use Rattle.match_core.proofs.GraphRows.{row_graph, size_is}
+use Rattle.match_core.specs.MatchingRows.{KeepsMatching, IsOf, edges_of}
 use Rattle.match_core.proofs.MatchingEdges.{marked-keeps, marked-of, marked-edges}
+use Rattle.match_core.proofs.WholeGraphs.{limits_row, whole_marked}
 use Rattle.match_core.proofs.matching.matching_of.Goals as goal
+
+pub marked_rows-requires-clause-row : goal.marked_rows-requires-clause-row
+marked_rows-requires-clause-row c = limits_row c.args.g.now c.order-n.result c.edges-ends.result.now c.order-n.ensures.is c.edges-ends.ensures.edges c.edges-ends.ensures.limits
 
 pub invariant_of-result : goal.invariant_of-result
 invariant_of-result c =
-    let size = size_is c.args.n c.args.ends.now in
-    let rows : c.in_ok-marked_rows.field-0.items ≡ map (row_at (graph_of c.args.n c.args.ends.now)) (rising_list (size_of (graph_of c.args.n c.args.ends.now)) (marks c.args.mark.now)) = c.in_ok-marked_rows.ensures ∙ ap (λ k. map (row_at (graph_of c.args.n c.args.ends.now)) (rising_list k (marks c.args.mark.now))) (sym size) in
-    let few = c.requires.row.few in
-    subst (λ (rows : List MatchRow). KeepsMatching (record { order = c.args.n; rows = rows })) (sym rows)
-    (marked-keeps (graph_of c.args.n c.args.ends.now) (marks c.args.mark.now) (row_graph c.args.n c.args.ends.now c.requires.row.within) c.requires.row.vertices (omega arith) c.requires.matching)
+    let made = whole_marked c.args.g.now c.order-n.result c.edges-ends.result.now c.order-n.ensures.is c.edges-ends.ensures.edges (marks c.args.mark.now) c.in_ok-marked_rows.field-0.items c.in_ok-marked_rows.ensures in
+    let limits = c.edges-ends.ensures.limits in
+    subst KeepsMatching (sym made) (marked-keeps c.args.g.now (marks c.args.mark.now) limits.multigraph.ends limits.vertices limits.edges c.requires.matching)
 
 pub returns-clause-of : goal.returns-clause-of
 returns-clause-of c =
-    let size = size_is c.args.n c.args.ends.now in
-    let rows : c.in_ok-marked_rows.field-0.items ≡ map (row_at (graph_of c.args.n c.args.ends.now)) (rising_list (size_of (graph_of c.args.n c.args.ends.now)) (marks c.args.mark.now)) = c.in_ok-marked_rows.ensures ∙ ap (λ k. map (row_at (graph_of c.args.n c.args.ends.now)) (rising_list k (marks c.args.mark.now))) (sym size) in
-    subst (λ (rows : List MatchRow). IsOf (graph_of c.args.n c.args.ends.now) (record { order = c.args.n; rows = rows })) (sym rows) (marked-of (graph_of c.args.n c.args.ends.now) (marks c.args.mark.now))
+    let made = whole_marked c.args.g.now c.order-n.result c.edges-ends.result.now c.order-n.ensures.is c.edges-ends.ensures.edges (marks c.args.mark.now) c.in_ok-marked_rows.field-0.items c.in_ok-marked_rows.ensures in
+    subst (IsOf c.args.g.now) (sym made) (marked-of c.args.g.now (marks c.args.mark.now))
 
 pub returns-clause-edges : goal.returns-clause-edges
 returns-clause-edges c =
-    let size = size_is c.args.n c.args.ends.now in
-    let rows : c.in_ok-marked_rows.field-0.items ≡ map (row_at (graph_of c.args.n c.args.ends.now)) (rising_list (size_of (graph_of c.args.n c.args.ends.now)) (marks c.args.mark.now)) = c.in_ok-marked_rows.ensures ∙ ap (λ k. map (row_at (graph_of c.args.n c.args.ends.now)) (rising_list k (marks c.args.mark.now))) (sym size) in
-    ap (λ (rows : List MatchRow). map (λ (row : MatchRow). row.edge) rows) rows ∙ marked-edges (graph_of c.args.n c.args.ends.now) (marks c.args.mark.now) ∙ ap (λ k. rising_list k (marks c.args.mark.now)) size
+    let made = whole_marked c.args.g.now c.order-n.result c.edges-ends.result.now c.order-n.ensures.is c.edges-ends.ensures.edges (marks c.args.mark.now) c.in_ok-marked_rows.field-0.items c.in_ok-marked_rows.ensures in
+    ap edges_of made ∙ marked-edges c.args.g.now (marks c.args.mark.now)

@@ -1,69 +1,62 @@
-use Rattle.std.proofs.Common.{◌≡◌, ◌-◌, ◌==◌, ◌&&◌, ◌||◌, not, Bool, true, false, sym, subst, ap, ◌∙◌, arith, inl, eq-eqb, length, Vec, Global, get_or, take}
+use Rattle.std.proofs.Common.{◌≡◌, ◌-◌, ◌==◌, ◌||◌, Bool, true, false, refl, sym, subst, ap, ◌∙◌, arith, eq-eqb, length, Vec, Global, get_or, take}
 use Rattle.std.proofs.lemmas.Bool.{both_ways}
 use mathlib.Core.Path.{fun_ext}
 use Rattle.counting.proofs.RisingLists.{mem-item}
 use Rattle.counting.specs.Counts.{bit}
-use Rattle.counting.specs.Sets.{Set, put}
+use Rattle.counting.specs.Sets.{Set, none, put}
 use Rattle.counting.specs.Lists.{mem}
-use Rattle.graph_core.specs.Graph.{HasEnds, degree}
-use Rattle.graph_core.specs.View.{graph_of}
+use Rattle.graph_core.specs.Graph.{degree}
 use Rattle.graph_core.proofs.Perfect.{perfect_matching}
-use Rattle.counting.specs.Sets.{none}
 use Rattle.match_core.specs.Rows.{marks, end_a, end_b}
 use Rattle.match_core.specs.Questions.{MeetOnce}
 use Rattle.match_core.proofs.GrownRows.{with_put}
-use Rattle.match_core.proofs.FirstMarks.{empty_degree}
+use Rattle.match_core.proofs.FirstMarks.{addable, empty_degree}
 use Rattle.match_core.proofs.Gluing.{meet_more, meet_none, mem-more, mem-take, mem-again, mem-take_all}
-use Rattle.match_core.proofs.GraphRows.{size_is, row_graph, near_is, far_is}
+use Rattle.match_core.proofs.WholeGraphs.{whole_pair, whole_size, whole_within}
 use Rattle.match_core.proofs.questions.ends_met.Goals as goal
 use Rattle.match_core.proofs.questions.ends_met.Goals.{then-not-is_marked+else-not-is_addable, else-not-is_marked}
-
-addable : (a b d : Bool) → (not a && (not b && not d)) ≡ true → (a ≡ false) × (b ≡ false) × (d ≡ false)
-addable a b d h = grind arith
 
 pub loop-edge-init : goal.loop-edge-init
 loop-edge-init c = record {
   long = c.in_ok-mark.ensures.length;
   edges = c.in_ok-mark.ensures.each;
-  once = λ v w. empty_degree (graph_of c.args.n c.args.ends.now) (marks c.in_ok-mark.mark.items) c.in_ok-mark.ensures.each v ∙ sym (ap (λ s. bit (mem s v)) c.empty-met.ensures);
+  once = λ v w. empty_degree c.args.g.now (marks c.in_ok-mark.mark.items) c.in_ok-mark.ensures.each v ∙ sym (ap (λ s. bit (mem s v)) c.empty-met.ensures);
 }
 
 pub returns-then-not-is_addable-clause-none : goal.returns-then-not-is_addable-clause-none
 returns-then-not-is_addable-clause-none c = λ q p.
     let k = c.loop-edge.edge-index in
     let e = get_or c.args.edges.now c.loop-edge.edge-index 0 in
-    let we = c.requires.edges c.loop-edge.edge-index 0 c.loop-edge-test.true in
-    let g = graph_of c.args.n c.args.ends.now in
-    let size = size_is c.args.n c.args.ends.now in
-    let a = end_a c.args.ends.now (get_or c.args.edges.now c.loop-edge.edge-index 0 - 1) in
-    let b = end_b c.args.ends.now (get_or c.args.edges.now c.loop-edge.edge-index 0 - 1) in
-    let ends : HasEnds (graph_of c.args.n c.args.ends.now) e a b = inl (near_is c.args.n c.args.ends.now e we, far_is c.args.n c.args.ends.now e we) in
+    let we = c.requires c.loop-edge.edge-index 0 c.loop-edge-test.true in
+    let ends = c.edges-ends.result.now in
+    let limits = c.edges-ends.ensures.limits in
+    let size = whole_size c.args.g.now c.args.g.now.order c.edges-ends.result.now refl c.edges-ends.ensures.edges in
+    let within = whole_within c.args.g.now c.args.g.now.order c.edges-ends.result.now refl c.edges-ends.ensures.edges limits.multigraph.ends in
     let unmarked : marks c.loop-edge.mark.items e ≡ false = sym (c.is_marked.ensures ∙ ap (λ row. marks row e) c.deref.ensures.value) ∙ c.if-not-is_marked.true in
-    meet_none (graph_of c.args.n c.args.ends.now) (marks c.loop-edge.mark.items) (mem c.loop-edge.met) e a b (row_graph c.args.n c.args.ends.now c.requires.row.within) (omega arith) ends
-    (c.requires.row.within.a (e - 1) (omega arith)) (c.requires.row.within.b (e - 1) (omega arith)) unmarked c.loop-edge.invariant.once (sym c.is_addable.ensures ∙ c.if-not-is_addable.true)
-    p.0 (perfect_matching (graph_of c.args.n c.args.ends.now) none p.0 p.1) (λ i ci. p.2 i (mem-take c.args.edges.now k i (sym (c.loop-edge.invariant.edges i) ∙ ci))) (p.2 e (mem-item c.args.edges.now k 0 c.loop-edge-test.true))
+    meet_none c.args.g.now (marks c.loop-edge.mark.items) (mem c.loop-edge.met) e (end_a ends (e - 1)) (end_b ends (e - 1)) limits.multigraph.ends we
+    (whole_pair c.args.g.now c.args.g.now.order c.edges-ends.result.now refl c.edges-ends.ensures.edges e we)
+    (within.a (e - 1) (omega arith)) (within.b (e - 1) (omega arith)) unmarked c.loop-edge.invariant.once (sym c.is_addable.ensures ∙ c.if-not-is_addable.true)
+    p.0 (perfect_matching c.args.g.now none p.0 p.1) (λ i ci. p.2 i (mem-take c.args.edges.now k i (sym (c.loop-edge.invariant.edges i) ∙ ci))) (p.2 e (mem-item c.args.edges.now k 0 c.loop-edge-test.true))
 
 pub loop-edge-preserved : goal.loop-edge-preserved
 loop-edge-preserved c = elim c.if-not-is_marked.branch [
   | then-not-is_marked+else-not-is_addable w ↦
       let k = c.loop-edge.edge-index in
       let e = get_or c.args.edges.now c.loop-edge.edge-index 0 in
-      let we = c.requires.edges c.loop-edge.edge-index 0 c.loop-edge-test.true in
-      let g = graph_of c.args.n c.args.ends.now in
-      let size = size_is c.args.n c.args.ends.now in
-      let a = end_a c.args.ends.now (get_or c.args.edges.now c.loop-edge.edge-index 0 - 1) in
-      let b = end_b c.args.ends.now (get_or c.args.edges.now c.loop-edge.edge-index 0 - 1) in
-      let ends : HasEnds (graph_of c.args.n c.args.ends.now) e a b = inl (near_is c.args.n c.args.ends.now e we, far_is c.args.n c.args.ends.now e we) in
+      let we = c.requires c.loop-edge.edge-index 0 c.loop-edge-test.true in
+      let a = end_a c.edges-ends.result.now (get_or c.args.edges.now c.loop-edge.edge-index 0 - 1) in
+      let b = end_b c.edges-ends.result.now (get_or c.args.edges.now c.loop-edge.edge-index 0 - 1) in
       let unmarked : marks c.loop-edge.mark.items e ≡ false = sym (c.is_marked.ensures ∙ ap (λ row. marks row e) c.deref.ensures.value) ∙ w.if-not-is_marked.true in
       let t = addable (a == b) (mem c.loop-edge.met a) (mem c.loop-edge.met b) (sym w.is_addable.ensures ∙ w.if-not-is_addable.false) in
-      let once = meet_more (graph_of c.args.n c.args.ends.now) (marks c.loop-edge.mark.items) (mem c.loop-edge.met) (mem c.if-not-is_marked.met) e a b (omega arith) ends
+      let once = meet_more c.args.g.now (marks c.loop-edge.mark.items) (mem c.loop-edge.met) (mem c.if-not-is_marked.met) e a b we
+      (whole_pair c.args.g.now c.args.g.now.order c.edges-ends.result.now refl c.edges-ends.ensures.edges e we)
       (λ q. both_ways (a == b) t.0 (eq-eqb a b q)) unmarked c.loop-edge.invariant.once t.1 t.2
       (λ v. ap (λ m. mem m v) w.met-is ∙ w.with-met.ensures v ∙ ap (λ s. s || (b == v)) (w.with.ensures v)) in
       let now : marks c.if-not-is_marked.mark.items ≡ put (marks c.loop-edge.mark.items) e true = fun_ext (λ i. ap (λ m. marks m.items i) w.mark-is ∙ w.mark_place.ensures.each i) in
       record {
         long = ap (λ m. length m.items) w.mark-is ∙ w.mark_place.ensures.length ∙ c.loop-edge.invariant.long;
         edges = λ i. ap (λ (m : Set). m i) now ∙ sym (with_put (marks c.loop-edge.mark.items) e i) ∙ ap (λ b. b || (e == i)) (c.loop-edge.invariant.edges i) ∙ sym (mem-more c.args.edges.now k i c.loop-edge-test.true);
-        once = subst (λ (m : Set). MeetOnce (graph_of c.args.n c.args.ends.now) m (mem c.if-not-is_marked.met)) (sym now) once;
+        once = subst (λ (m : Set). MeetOnce c.args.g.now m (mem c.if-not-is_marked.met)) (sym now) once;
       }
   | else-not-is_marked w ↦
       let k = c.loop-edge.edge-index in
@@ -72,7 +65,7 @@ loop-edge-preserved c = elim c.if-not-is_marked.branch [
       record {
         long = ap (λ m. length m.items) w.mark-is ∙ c.loop-edge.invariant.long;
         edges = λ i. ap (λ m. marks m.items i) w.mark-is ∙ c.loop-edge.invariant.edges i ∙ sym (mem-again (mem (take k c.args.edges.now)) e i (sym (c.loop-edge.invariant.edges e) ∙ marked)) ∙ sym (mem-more c.args.edges.now k i c.loop-edge-test.true);
-        once = λ v q. ap (λ (m : Vec Bool Global). degree (graph_of c.args.n c.args.ends.now) (marks m.items) v) w.mark-is ∙ c.loop-edge.invariant.once v q ∙ sym (ap (λ m. bit (mem m v)) w.met-is);
+        once = λ v q. ap (λ (m : Vec Bool Global). degree c.args.g.now (marks m.items) v) w.mark-is ∙ c.loop-edge.invariant.once v q ∙ sym (ap (λ m. bit (mem m v)) w.met-is);
       }
 ]
 
@@ -80,4 +73,4 @@ pub returns-clause-once : goal.returns-clause-once
 returns-clause-once c = λ m q.
     let same : c.loop-edge.met ≡ m = cc in
     let all : marks c.loop-edge.mark.items ≡ mem c.args.edges.now = fun_ext (λ i. c.loop-edge.invariant.edges i ∙ mem-take_all c.args.edges.now c.loop-edge.edge-index i c.loop-edge-test.false) in
-    λ v w. ap (λ (s : Set). degree (graph_of c.args.n c.args.ends.now) s v) (sym all) ∙ c.loop-edge.invariant.once v w ∙ ap (λ s. bit (mem s v)) same
+    λ v w. ap (λ (s : Set). degree c.args.g.now s v) (sym all) ∙ c.loop-edge.invariant.once v w ∙ ap (λ s. bit (mem s v)) same

@@ -1,6 +1,5 @@
 use Rattle.std.proofs.Common.{◌≡◌, ℕ, ◌+◌, length, take}
 use Rattle.counting.specs.Lists.{mem}
-use Rattle.graph_core.specs.View.{graph_of}
 use Rattle.match_core.specs.Rows.{marks}
 use Rattle.match_core.specs.Questions.{MeetOnce}
 use Rattle.match_core.proofs.questions.ends_met.Given as goal
@@ -9,5 +8,5 @@ abbrev pub invariant-loop-edge : goal.invariant-loop-edge
 invariant-loop-edge l = record {
   long : length l.mark.items ≡ length l.ends + 1;
   edges : (i : ℕ) → marks l.mark.items i ≡ mem (take l.edge-index l.edges) i;
-  once : MeetOnce (graph_of l.n l.ends) (marks l.mark.items) (mem l.met);
+  once : MeetOnce l.g (marks l.mark.items) (mem l.met);
 }

@@ -4,15 +4,13 @@ use mathlib.Core.Path.{fun_ext}
 use Rattle.counting.specs.Sets.{Set, none, minus, union}
 use Rattle.counting.specs.Lists.{mem}
 use Rattle.graph_core.specs.Matchings.{IsPerfect}
-use Rattle.graph_core.specs.View.{graph_of}
 use Rattle.match_core.specs.Rows.{marks}
 use Rattle.match_core.proofs.Gluing.{glued, cut_off}
-use Rattle.match_core.proofs.GraphRows.{row_graph}
 use Rattle.match_core.proofs.questions.marks_with.Goals as goal
 
 pub returns-in-None-2-clause-none : goal.returns-in-None-2-clause-none
 returns-in-None-2-clause-none c = (
-  (λ q p. c.in_ok-perfect_marks-in-Some.ensures.none.0 c.in-None-2.is (minus p.0 (mem c.args.edges.now), cut_off (graph_of c.args.n c.args.ends.now) (mem c.args.edges.now) (mem c.in-Some.met) p.0 (c.in_ok-ends_met.ensures.once c.in-Some.met c.in-Some.is) p.1 p.2)),
+  (λ q p. c.in_ok-perfect_marks-in-Some.ensures.none.0 c.in-None-2.is (minus p.0 (mem c.args.edges.now), cut_off c.args.g.now (mem c.args.edges.now) (mem c.in-Some.met) p.0 (c.in_ok-ends_met.ensures.once c.in-Some.met c.in-Some.is) p.1 p.2)),
   (λ h. refl),
 )
 
@@ -20,9 +18,9 @@ pub returns-in-Some-2-clause-perfect : goal.returns-in-Some-2-clause-perfect
 returns-in-Some-2-clause-perfect c = λ m q.
     let same : c.mark_places.new.mark ≡ m = cc in
     let all : marks c.mark_places.new.mark.items ≡ union (marks c.in-Some-2.mark.items) (mem c.args.edges.now) = fun_ext c.mark_places.ensures.each in
-    subst (λ (m : Vec Bool Global). IsPerfect (graph_of c.args.n c.args.ends.now) none (marks m.items)) same
-    (subst (λ (s : Set). IsPerfect (graph_of c.args.n c.args.ends.now) none s) (sym all)
-    (glued (graph_of c.args.n c.args.ends.now) (mem c.args.edges.now) (mem c.in-Some.met) (marks c.in-Some-2.mark.items) (row_graph c.args.n c.args.ends.now c.requires.row.within) (c.in_ok-ends_met.ensures.once c.in-Some.met c.in-Some.is) (c.in_ok-perfect_marks-in-Some.ensures.perfect c.in-Some-2.mark c.in-Some-2.is)))
+    subst (λ (m : Vec Bool Global). IsPerfect c.args.g.now none (marks m.items)) same
+    (subst (λ (s : Set). IsPerfect c.args.g.now none s) (sym all)
+    (glued c.args.g.now (mem c.args.edges.now) (mem c.in-Some.met) (marks c.in-Some-2.mark.items) c.keeps_limits.ensures.multigraph.ends (c.in_ok-ends_met.ensures.once c.in-Some.met c.in-Some.is) (c.in_ok-perfect_marks-in-Some.ensures.perfect c.in-Some-2.mark c.in-Some-2.is)))
 
 pub returns-in-Some-2-clause-none : goal.returns-in-Some-2-clause-none
 returns-in-Some-2-clause-none c =
@@ -30,8 +28,8 @@ returns-in-Some-2-clause-none c =
       (λ q. cc),
       (λ h. absurd (h (
         marks c.mark_places.new.mark.items,
-        subst (λ (s : Set). IsPerfect (graph_of c.args.n c.args.ends.now) none s) (sym all)
-            (glued (graph_of c.args.n c.args.ends.now) (mem c.args.edges.now) (mem c.in-Some.met) (marks c.in-Some-2.mark.items) (row_graph c.args.n c.args.ends.now c.requires.row.within) (c.in_ok-ends_met.ensures.once c.in-Some.met c.in-Some.is) (c.in_ok-perfect_marks-in-Some.ensures.perfect c.in-Some-2.mark c.in-Some-2.is)),
+        subst (λ (s : Set). IsPerfect c.args.g.now none s) (sym all)
+            (glued c.args.g.now (mem c.args.edges.now) (mem c.in-Some.met) (marks c.in-Some-2.mark.items) c.keeps_limits.ensures.multigraph.ends (c.in_ok-ends_met.ensures.once c.in-Some.met c.in-Some.is) (c.in_ok-perfect_marks-in-Some.ensures.perfect c.in-Some-2.mark c.in-Some-2.is)),
         λ e t. c.mark_places.ensures.each e ∙ or_right (marks c.in-Some-2.mark.items e) (mem c.args.edges.now e) t,
       ))),
     )

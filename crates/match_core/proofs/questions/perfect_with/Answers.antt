@@ -1,47 +1,28 @@
-use Rattle.std.proofs.Common.{◌≡◌, Bool, List, sym, ap, ap₂, ◌∙◌, subst}
-use Rattle.counting.specs.Lists.{mem, rising_list}
+use Rattle.std.proofs.Common.{◌≡◌, sym, ap, ◌∙◌, subst}
+use Rattle.counting.specs.Lists.{mem}
 use Rattle.counting.proofs.Lists.{rising_holds}
 use Rattle.counting.specs.Counts.{Within}
-use Rattle.match_core.proofs.Gluing.{mem-holds}
 use Rattle.counting.specs.Sets.{none}
-use Rattle.graph_core.specs.Graph.{Graph, size}
-use Rattle.graph_core.specs.Matchings.{IsMatching, IsPerfect}
-use Rattle.graph_core.specs.View.{graph_of}
-use Rattle.graph_core.proofs.Perfect.{perfect_matching}
+use Rattle.graph_core.specs.Graph.{size}
+use Rattle.graph_core.specs.Matchings.{IsPerfect}
 use Rattle.match_core.specs.Rows.{marks}
 use Rattle.match_core.specs.MatchingRows.{edges_of, MatchingValue}
-use Rattle.match_core.proofs.GraphRows.{size_is}
-use Rattle.match_core.proofs.FrameFacts.{ends_rows, limits_row, whole_matching, listed_perfect}
+use Rattle.match_core.proofs.FrameFacts.{passed_matching, listed_perfect}
+use Rattle.match_core.proofs.Gluing.{mem-holds}
 use Rattle.match_core.proofs.questions.perfect_with.Goals as goal
 
-pub marks_with-requires-clause-row : goal.marks_with-requires-clause-row
-marks_with-requires-clause-row c = limits_row c.args.g.now c.order-n.result c.edges-ends.result.now c.order-n.ensures.is c.edges-ends.ensures.edges c.edges-ends.ensures.limits
-
-pub marks_with-requires-clause-neighbours : goal.marks_with-requires-clause-neighbours
-marks_with-requires-clause-neighbours c = ends_rows c.args.g.now c.order-n.result c.edges-ends.result.now c.rows.result.now c.order-n.ensures.is c.edges-ends.ensures.edges c.rows.ensures
-
-pub matching_of-requires-clause-row : goal.matching_of-requires-clause-row
-matching_of-requires-clause-row c = limits_row c.args.g.now c.order-n.result c.edges-ends.result.now c.order-n.ensures.is c.edges-ends.ensures.edges c.edges-ends.ensures.limits
-
 pub matching_of-requires-clause-matching : goal.matching_of-requires-clause-matching
-matching_of-requires-clause-matching c =
-    let g = graph_of c.order-n.result c.edges-ends.result.now in
-    let perfect = c.in_ok-mark.ensures.perfect c.in-Some.mark c.in-Some.is in
-    subst (λ (row : List Bool). IsMatching (graph_of c.order-n.result c.edges-ends.result.now) none (marks row)) (sym c.deref.ensures.value) (whole_matching g none (marks c.in-Some.mark.items) (perfect_matching g none (marks c.in-Some.mark.items) perfect))
+matching_of-requires-clause-matching c = passed_matching c.args.g.now none c.in-Some.mark.items c.deref.result.now c.deref.ensures.value (c.in_ok-mark.ensures.perfect c.in-Some.mark c.in-Some.is)
 
 pub returns-in_ok-matching_of-in-Some-clause-perfect : goal.returns-in_ok-matching_of-in-Some-clause-perfect
 returns-in_ok-matching_of-in-Some-clause-perfect c = λ m q.
-    let there : graph_of c.order-n.result c.edges-ends.result.now ≡ c.args.g.now = ap (λ n. graph_of n c.edges-ends.result.now) c.order-n.ensures.is ∙ c.edges-ends.ensures.edges in
     let same : c.in_ok-matching_of-in-Some.field-0 ≡ m = cc in
-    let perfect = subst (λ (g : Graph). IsPerfect g none (marks c.in-Some.mark.items)) there (c.in_ok-mark.ensures.perfect c.in-Some.mark c.in-Some.is) in
-    let edges : edges_of c.in_ok-matching_of-in-Some.field-0 ≡ rising_list (size c.args.g.now) (marks c.in-Some.mark.items) = c.in_ok-matching_of-in-Some.ensures.edges ∙ ap₂ (λ k row. rising_list k (marks row)) (sym (size_is c.order-n.result c.edges-ends.result.now) ∙ ap size there) c.deref.ensures.value in
     subst (λ (m : MatchingValue). IsPerfect c.args.g.now none (mem (edges_of m))) same
-    (listed_perfect c.args.g.now none (marks c.in-Some.mark.items) (edges_of c.in_ok-matching_of-in-Some.field-0) edges perfect)
+    (listed_perfect c.args.g.now none c.in-Some.mark.items c.deref.result.now c.deref.ensures.value (c.in_ok-mark.ensures.perfect c.in-Some.mark c.in-Some.is) _ c.in_ok-matching_of-in-Some.ensures.edges)
 
 pub returns-in_ok-matching_of-in-Some-clause-holds : goal.returns-in_ok-matching_of-in-Some-clause-holds
 returns-in_ok-matching_of-in-Some-clause-holds c = λ m q e t.
-    let there : graph_of c.order-n.result c.edges-ends.result.now ≡ c.args.g.now = ap (λ n. graph_of n c.edges-ends.result.now) c.order-n.ensures.is ∙ c.edges-ends.ensures.edges in
     let same : c.in_ok-matching_of-in-Some.field-0 ≡ m = cc in
-    let edges : edges_of c.in_ok-matching_of-in-Some.field-0 ≡ rising_list (size c.args.g.now) (marks c.in-Some.mark.items) = c.in_ok-matching_of-in-Some.ensures.edges ∙ ap₂ (λ k row. rising_list k (marks row)) (sym (size_is c.order-n.result c.edges-ends.result.now) ∙ ap size there) c.deref.ensures.value in
-    let marked = c.in_ok-mark.ensures.holds c.in-Some.mark c.in-Some.is e (ap (λ xs. mem xs e) c.as_slice.ensures ∙ t) in
-    ap (λ (m : MatchingValue). mem (edges_of m) e) (sym same) ∙ ap (λ xs. mem xs e) edges ∙ rising_holds (size c.args.g.now) (marks c.in-Some.mark.items) e (mem-holds (Within (size c.args.g.now)) c.args.edges.now e c.requires t) marked
+    let marked = ap (λ row. marks row e) c.deref.ensures.value ∙ c.in_ok-mark.ensures.holds c.in-Some.mark c.in-Some.is e (ap (λ xs. mem xs e) c.as_slice.ensures ∙ t) in
+    ap (λ (m : MatchingValue). mem (edges_of m) e) (sym same) ∙ ap (λ xs. mem xs e) c.in_ok-matching_of-in-Some.ensures.edges
+    ∙ rising_holds (size c.args.g.now) (marks c.deref.result.now) e (mem-holds (Within (size c.args.g.now)) c.args.edges.now e c.requires t) marked

@@ -1,55 +1,48 @@
-use Rattle.std.proofs.Common.{◌≡◌, Bool, List, sym, ap, ap₂, ◌∙◌, subst, subst₂}
+use Rattle.std.proofs.Common.{◌≡◌, sym, ap, ◌∙◌, subst, subst₂}
 use mathlib.Core.Path.{fun_ext}
-use Rattle.match_core.specs.RepairPaths.{DiffersByPath}
-use Rattle.match_core.proofs.RepairedPaths.{differs_alike}
-use Rattle.counting.specs.Lists.{mem, rising_list}
-use Rattle.counting.specs.Sets.{Set, none}
-use Rattle.graph_core.specs.Graph.{Graph, size}
+use Rattle.counting.specs.Lists.{mem}
+use Rattle.counting.specs.Sets.{Set}
+use Rattle.graph_core.specs.Graph.{Graph}
 use Rattle.graph_core.specs.Matchings.{IsMatching, IsPerfect}
-use Rattle.graph_core.specs.View.{graph_of}
-use Rattle.graph_core.proofs.Perfect.{perfect_matching}
 use Rattle.match_core.specs.Rows.{marks}
 use Rattle.match_core.specs.MatchingRows.{edges_of, MatchingValue}
-use Rattle.match_core.proofs.GraphRows.{size_is}
-use Rattle.match_core.proofs.FrameFacts.{ends_rows, limits_row, listed_marks, whole_matching, listed_perfect}
+use Rattle.match_core.specs.RepairPaths.{DiffersByPath}
+use Rattle.match_core.proofs.FrameFacts.{listed_marks, listed_perfect, passed_matching}
+use Rattle.match_core.proofs.RepairedPaths.{differs_alike}
+use Rattle.match_core.proofs.WholeGraphs.{ends_rows, limits_row, whole_graph}
 use Rattle.match_core.proofs.repairs.repair.Goals as goal
 
 pub repaired_marks-requires-clause-row : goal.repaired_marks-requires-clause-row
 repaired_marks-requires-clause-row c = limits_row c.args.g.now c.order-n.result c.edges-ends.result.now c.order-n.ensures.is c.edges-ends.ensures.edges c.edges-ends.ensures.limits
 
 pub repaired_marks-requires-clause-neighbours : goal.repaired_marks-requires-clause-neighbours
-repaired_marks-requires-clause-neighbours c = ends_rows c.args.g.now c.order-n.result c.edges-ends.result.now c.rows.result.now c.order-n.ensures.is c.edges-ends.ensures.edges c.rows.ensures
-
-pub matching_of-requires-clause-row : goal.matching_of-requires-clause-row
-matching_of-requires-clause-row c = limits_row c.args.g.now c.order-n.result c.edges-ends.result.now c.order-n.ensures.is c.edges-ends.ensures.edges c.edges-ends.ensures.limits
-
-pub matching_of-requires-clause-matching : goal.matching_of-requires-clause-matching
-matching_of-requires-clause-matching c =
-    let g = graph_of c.order-n.result c.edges-ends.result.now in
-    let perfect = c.in_ok-mark.ensures.perfect c.in-Some.mark c.in-Some.is in
-    subst (λ (row : List Bool). IsMatching (graph_of c.order-n.result c.edges-ends.result.now) none (marks row)) (sym c.deref.ensures.value) (whole_matching g (mem c.args.removed) (marks c.in-Some.mark.items) (perfect_matching g (mem c.args.removed) (marks c.in-Some.mark.items) perfect))
-
-pub returns-in_ok-matching_of-in-Some-clause-perfect : goal.returns-in_ok-matching_of-in-Some-clause-perfect
-returns-in_ok-matching_of-in-Some-clause-perfect c = λ m q.
-    let there : graph_of c.order-n.result c.edges-ends.result.now ≡ c.args.g.now = ap (λ n. graph_of n c.edges-ends.result.now) c.order-n.ensures.is ∙ c.edges-ends.ensures.edges in
-    let same : c.in_ok-matching_of-in-Some.field-0 ≡ m = cc in
-    let perfect = subst (λ (g : Graph). IsPerfect g (mem c.args.removed) (marks c.in-Some.mark.items)) there (c.in_ok-mark.ensures.perfect c.in-Some.mark c.in-Some.is) in
-    let edges : edges_of c.in_ok-matching_of-in-Some.field-0 ≡ rising_list (size c.args.g.now) (marks c.in-Some.mark.items) = c.in_ok-matching_of-in-Some.ensures.edges ∙ ap₂ (λ k row. rising_list k (marks row)) (sym (size_is c.order-n.result c.edges-ends.result.now) ∙ ap size there) c.deref.ensures.value in
-    subst (λ (m : MatchingValue). IsPerfect c.args.g.now (mem c.args.removed) (mem (edges_of m))) same
-    (listed_perfect c.args.g.now (mem c.args.removed) (marks c.in-Some.mark.items) (edges_of c.in_ok-matching_of-in-Some.field-0) edges perfect)
+repaired_marks-requires-clause-neighbours c = ends_rows c.args.g.now c.order-n.result c.edges-ends.result.now c.order-n.ensures.is c.edges-ends.ensures.edges c.rows.result.now c.rows.ensures
 
 pub repaired_marks-requires-clause-matching : goal.repaired_marks-requires-clause-matching
 repaired_marks-requires-clause-matching c =
-    let there : graph_of c.order-n.result c.edges-ends.result.now ≡ c.args.g.now = ap (λ n. graph_of n c.edges-ends.result.now) c.order-n.ensures.is ∙ c.edges-ends.ensures.edges in
+    let there = whole_graph c.args.g.now c.order-n.result c.edges-ends.result.now c.order-n.ensures.is c.edges-ends.ensures.edges in
     let given : marks c.in_ok-given.given.items ≡ mem (edges_of c.args.m.now) = fun_ext c.in_ok-given.ensures.each in
     subst₂ (λ (g : Graph) (s : Set). IsMatching g (mem c.args.removed) s) (sym there) (sym given) c.requires.matching
 
+pub matching_of-requires-clause-matching : goal.matching_of-requires-clause-matching
+matching_of-requires-clause-matching c =
+    let there = whole_graph c.args.g.now c.order-n.result c.edges-ends.result.now c.order-n.ensures.is c.edges-ends.ensures.edges in
+    let perfect = subst (λ (g : Graph). IsPerfect g (mem c.args.removed) (marks c.in-Some.mark.items)) there (c.in_ok-mark.ensures.perfect c.in-Some.mark c.in-Some.is) in
+    passed_matching c.args.g.now (mem c.args.removed) c.in-Some.mark.items c.deref.result.now c.deref.ensures.value perfect
+
+pub returns-in_ok-matching_of-in-Some-clause-perfect : goal.returns-in_ok-matching_of-in-Some-clause-perfect
+returns-in_ok-matching_of-in-Some-clause-perfect c = λ m q.
+    let there = whole_graph c.args.g.now c.order-n.result c.edges-ends.result.now c.order-n.ensures.is c.edges-ends.ensures.edges in
+    let same : c.in_ok-matching_of-in-Some.field-0 ≡ m = cc in
+    let perfect = subst (λ (g : Graph). IsPerfect g (mem c.args.removed) (marks c.in-Some.mark.items)) there (c.in_ok-mark.ensures.perfect c.in-Some.mark c.in-Some.is) in
+    subst (λ (m : MatchingValue). IsPerfect c.args.g.now (mem c.args.removed) (mem (edges_of m))) same
+    (listed_perfect c.args.g.now (mem c.args.removed) c.in-Some.mark.items c.deref.result.now c.deref.ensures.value perfect _ c.in_ok-matching_of-in-Some.ensures.edges)
+
 pub returns-in_ok-matching_of-in-Some-clause-path : goal.returns-in_ok-matching_of-in-Some-clause-path
 returns-in_ok-matching_of-in-Some-clause-path c = λ answer q.
-    let there : graph_of c.order-n.result c.edges-ends.result.now ≡ c.args.g.now = ap (λ n. graph_of n c.edges-ends.result.now) c.order-n.ensures.is ∙ c.edges-ends.ensures.edges in
+    let there = whole_graph c.args.g.now c.order-n.result c.edges-ends.result.now c.order-n.ensures.is c.edges-ends.ensures.edges in
     let given : marks c.in_ok-given.given.items ≡ mem (edges_of c.args.m.now) = fun_ext c.in_ok-given.ensures.each in
     let same : c.in_ok-matching_of-in-Some.field-0 ≡ answer = cc in
     let differs = subst₂ (λ (g : Graph) (s : Set). DiffersByPath g (mem c.args.removed) s (marks c.in-Some.mark.items)) there given (c.in_ok-mark.ensures.path c.in-Some.mark c.in-Some.is) in
-    let edges : edges_of c.in_ok-matching_of-in-Some.field-0 ≡ rising_list (size c.args.g.now) (marks c.in-Some.mark.items) = c.in_ok-matching_of-in-Some.ensures.edges ∙ ap₂ (λ k row. rising_list k (marks row)) (sym (size_is c.order-n.result c.edges-ends.result.now) ∙ ap size there) c.deref.ensures.value in
     subst (λ (m : MatchingValue). DiffersByPath c.args.g.now (mem c.args.removed) (mem (edges_of c.args.m.now)) (mem (edges_of m))) same
-    (differs_alike c.args.g.now (mem c.args.removed) (mem (edges_of c.args.m.now)) (marks c.in-Some.mark.items) (mem (edges_of c.in_ok-matching_of-in-Some.field-0)) (λ e w. ap (λ xs. mem xs e) edges ∙ listed_marks c.args.g.now (marks c.in-Some.mark.items) e w) differs)
+    (differs_alike c.args.g.now (mem c.args.removed) (mem (edges_of c.args.m.now)) (marks c.in-Some.mark.items) (mem (edges_of c.in_ok-matching_of-in-Some.field-0)) (λ e w. ap (λ xs. mem xs e) c.in_ok-matching_of-in-Some.ensures.edges ∙ listed_marks c.args.g.now (marks c.deref.result.now) e w ∙ ap (λ row. marks row e) c.deref.ensures.value) differs)

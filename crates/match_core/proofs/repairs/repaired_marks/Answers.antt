@@ -7,7 +7,7 @@ use Rattle.graph_core.specs.View.{graph_of}
 use Rattle.match_core.specs.Forests.{flipped}
 use Rattle.match_core.specs.Rows.{marks, numbers, part}
 use Rattle.match_core.specs.RepairPaths.{DiffersByPath, IsRepairRow, Misses}
-use Rattle.match_core.proofs.FrameFacts.{empty-mem, no_outer-perfect, outer-no_perfect, some-mem}
+use Rattle.match_core.proofs.FrameFacts.{no_outer-best_perfect, outer-none_perfect}
 use Rattle.match_core.proofs.GraphRows.{row_graph, size_is}
 use Rattle.match_core.proofs.RepairedPaths.{row_real, flipped_row, repaired_path}
 use Rattle.match_core.proofs.repairs.repaired_marks.Goals as goal
@@ -17,7 +17,7 @@ best_from-requires-clause-matching c = subst (λ (row : List Bool). IsMatching (
 
 pub repair_path-requires-clause-perfect : goal.repair_path-requires-clause-perfect
 repair_path-requires-clause-perfect c = subst (λ (xs : List Bool). IsPerfect (graph_of c.args.n c.args.ends.now) (mem c.args.removed) (marks xs)) (sym c.deref-then-len-eq0-2.ensures.value)
-    (no_outer-perfect (graph_of c.args.n c.args.ends.now) (row_graph c.args.n c.args.ends.now c.requires.row.within) (mem c.args.removed) (marks c.in_ok-found.field-0.mark.items) (mem c.in_ok-found.field-0.sets.outer) (mem c.in_ok-found.field-0.sets.inner) c.in_ok-found.ensures.matching c.in_ok-found.ensures.frame (empty-mem c.in_ok-found.field-0.sets.outer (sym c.len.ensures ∙ c.if-len-eq0.true)))
+    (no_outer-best_perfect (graph_of c.args.n c.args.ends.now) (row_graph c.args.n c.args.ends.now c.requires.row.within) (mem c.args.removed) c.in_ok-found.field-0 c.in_ok-found.ensures (sym c.len.ensures ∙ c.if-len-eq0.true))
 
 pub flipped_along-requires-clause-in_mark : goal.flipped_along-requires-clause-in_mark
 flipped_along-requires-clause-in_mark c =
@@ -29,18 +29,14 @@ flipped_along-requires-clause-in_mark c =
 
 pub returns-clause-none : goal.returns-clause-none
 returns-clause-none c = (
-  (λ q.
-      let n = c.if-len-eq0.false in
-      let l = c.len.ensures in
-      let v = some-mem c.in_ok-found.field-0.sets.outer (omega arith) in
-      outer-no_perfect (graph_of c.args.n c.args.ends.now) (row_graph c.args.n c.args.ends.now c.requires.row.within) (mem c.args.removed) (marks c.in_ok-found.field-0.mark.items) (mem c.in_ok-found.field-0.sets.outer) (mem c.in_ok-found.field-0.sets.inner) c.in_ok-found.ensures.matching c.in_ok-found.ensures.frame v.0 ((c.in_ok-found.ensures.sets v.0).0 v.1) v.1),
+  (λ q. outer-none_perfect (graph_of c.args.n c.args.ends.now) (row_graph c.args.n c.args.ends.now c.requires.row.within) (mem c.args.removed) c.in_ok-found.field-0 c.in_ok-found.ensures (λ z. c.if-len-eq0.false (c.len.ensures ∙ z))),
   (λ h. refl),
 )
 
 pub returns-then-len-eq0-clause-none : goal.returns-then-len-eq0-clause-none
 returns-then-len-eq0-clause-none c = (
   (λ q. cc),
-  (λ h. absurd (h (marks c.in_ok-found.field-0.mark.items, no_outer-perfect (graph_of c.args.n c.args.ends.now) (row_graph c.args.n c.args.ends.now c.requires.row.within) (mem c.args.removed) (marks c.in_ok-found.field-0.mark.items) (mem c.in_ok-found.field-0.sets.outer) (mem c.in_ok-found.field-0.sets.inner) c.in_ok-found.ensures.matching c.in_ok-found.ensures.frame (empty-mem c.in_ok-found.field-0.sets.outer (sym c.len.ensures ∙ c.if-len-eq0.true))))),
+  (λ h. absurd (h (marks c.in_ok-found.field-0.mark.items, no_outer-best_perfect (graph_of c.args.n c.args.ends.now) (row_graph c.args.n c.args.ends.now c.requires.row.within) (mem c.args.removed) c.in_ok-found.field-0 c.in_ok-found.ensures (sym c.len.ensures ∙ c.if-len-eq0.true)))),
 )
 
 pub returns-then-len-eq0-clause-perfect : goal.returns-then-len-eq0-clause-perfect

@@ -4,15 +4,13 @@ use Rattle.std.proofs.lemmas.List.{get_or-set_same, get_or-set_other}
 use Rattle.std.proofs.lemmas.Grind.{get_or_default_zero}
 use Rattle.counting.specs.Lists.{mem}
 use Rattle.match_core.specs.Rows.{numbers}
-use Rattle.match_core.proofs.WaysUp.{unwritten, up_parts, up_within, way_written}
+use Rattle.match_core.proofs.WaysUp.{pairs_read, unwritten, up_parts, up_within, way_written}
 use Rattle.match_core.proofs.ways.write_way.Goals as goal
 
 pub index-v-requires : goal.index-v-requires
 index-v-requires c =
     let q = c.requires.forest in
-    let wx = (q.3.forest.outer_in c.args.x c.requires.outer).0 in
-    let lp = q.3.pairs_long in
-    let pairs : c.index-pairs.result.now ≡ numbers c.args.forest.now.pairs.items c.args.x = c.index-pairs.ensures ∙ get_or_default_zero c.args.forest.now.pairs.items c.args.x c.index-pairs.result.now (omega arith) in
+    let pairs = pairs_read q.0 q.1 q.2 c.args.mate.now c.args.forest.now q.3 c.args.x c.index-pairs.result.now c.requires.outer c.index-pairs.ensures in
     let left = c.loop-i.invariant.left in
     let less = c.loop-i-test.true in
     let w = up_within q.0 q.1 q.2 c.args.mate.now c.args.forest.now q.3 c.loop-i.v c.loop-i.invariant.outer (λ z. absurd (omega arith)) in
@@ -21,9 +19,7 @@ index-v-requires c =
 pub loop-i-preserved : goal.loop-i-preserved
 loop-i-preserved c =
     let q = c.requires.forest in
-    let wx = (q.3.forest.outer_in c.args.x c.requires.outer).0 in
-    let lp = q.3.pairs_long in
-    let pairs : c.index-pairs.result.now ≡ numbers c.args.forest.now.pairs.items c.args.x = c.index-pairs.ensures ∙ get_or_default_zero c.args.forest.now.pairs.items c.args.x c.index-pairs.result.now (omega arith) in
+    let pairs = pairs_read q.0 q.1 q.2 c.args.mate.now c.args.forest.now q.3 c.args.x c.index-pairs.result.now c.requires.outer c.index-pairs.ensures in
     let left = c.loop-i.invariant.left in
     let less = c.loop-i-test.true in
     let some : numbers c.args.forest.now.pairs.items c.loop-i.v ≢ 0 = λ z. absurd (omega arith) in
@@ -47,9 +43,7 @@ loop-i-preserved c =
 
 pub returns-clause-path : goal.returns-clause-path
 returns-clause-path c = λ g r f h j b.
-    let wx = (h.forest.outer_in c.args.x c.requires.outer).0 in
-    let lp = h.pairs_long in
-    let pairs : c.index-pairs.result.now ≡ numbers c.args.forest.now.pairs.items c.args.x = c.index-pairs.ensures ∙ get_or_default_zero c.args.forest.now.pairs.items c.args.x c.index-pairs.result.now (omega arith) in
+    let pairs = pairs_read g r f c.args.mate.now c.args.forest.now h c.args.x c.index-pairs.result.now c.requires.outer c.index-pairs.ensures in
     let left = c.loop-i.invariant.left in
     let done = c.loop-i-test.false in
     let same = c.loop-i.invariant.same in

@@ -2,7 +2,7 @@ use Rattle.std.proofs.Common.{◌≡◌, ℕ, true, length}
 use Rattle.counting.specs.Counts.{Within}
 use Rattle.counting.specs.Lists.{item, mem}
 use Rattle.match_core.specs.Partners.{are_partners}
-use Rattle.match_core.proofs.partner_table.partners.Given as goal
+use Rattle.match_core.proofs.partner_table.rows_from.Given as goal
 
 abbrev pub invariant-loop-k : goal.invariant-loop-k
 invariant-loop-k l = record {

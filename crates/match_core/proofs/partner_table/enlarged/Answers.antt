@@ -1,0 +1,25 @@
+use Rattle.std.proofs.Common.{◌≡◌, ap, sym, ◌∙◌, subst₂, arith}
+use mathlib.Core.Path.{fun_ext}
+use Rattle.counting.specs.Lists.{mem}
+use Rattle.counting.specs.Sets.{Set}
+use Rattle.graph_core.specs.Graph.{Graph}
+use Rattle.graph_core.specs.Matchings.{IsMatching}
+use Rattle.match_core.specs.MatchingRows.{edges_of}
+use Rattle.match_core.specs.Rows.{marks}
+use Rattle.match_core.proofs.WholeGraphs.{ends_rows, limits_row, whole_graph}
+use Rattle.match_core.proofs.partner_table.enlarged.Goals as goal
+
+pub marks-requires-clause-within : goal.marks-requires-clause-within
+marks-requires-clause-within c = λ k d l. let edge = ((c.in_ok-cleared.ensures.of c.args.g.now c.requires).rows k d l).edge in let size_is = c.size.ensures.is in (edge.0, omega arith)
+
+pub best_from-requires-clause-row : goal.best_from-requires-clause-row
+best_from-requires-clause-row c = limits_row c.args.g.now c.order-n.result c.edges-ends.result.now c.order-n.ensures.is c.edges-ends.ensures.edges c.edges-ends.ensures.limits
+
+pub best_from-requires-clause-neighbours : goal.best_from-requires-clause-neighbours
+best_from-requires-clause-neighbours c = ends_rows c.args.g.now c.order-n.result c.edges-ends.result.now c.order-n.ensures.is c.edges-ends.ensures.edges c.rows.result.now c.rows.ensures
+
+pub best_from-requires-clause-matching : goal.best_from-requires-clause-matching
+best_from-requires-clause-matching c =
+    let marked : marks c.deref.result.now ≡ mem (edges_of c.in_ok-cleared.field-0) = ap marks c.deref.ensures.value ∙ fun_ext c.in_ok-mark.ensures.each in
+    subst₂ (λ (g : Graph) (s : Set). IsMatching g (mem c.args.removed) s) (sym (whole_graph c.args.g.now c.order-n.result c.edges-ends.result.now c.order-n.ensures.is c.edges-ends.ensures.edges)) (sym marked)
+    (c.in_ok-cleared.ensures.matching c.args.g.now c.requires)

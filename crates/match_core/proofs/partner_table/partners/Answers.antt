@@ -1,0 +1,12 @@
+use Rattle.std.proofs.Common.{sym, ◌∙◌}
+use Rattle.std.proofs.lemmas.Result.{IfOk-weaker}
+use Rattle.counting.specs.Lists.{mem}
+use Rattle.match_core.specs.Partners.{AreEmptyRows, ArePartners}
+use Rattle.match_core.proofs.PartnerRows.{empty-partners}
+use Rattle.match_core.proofs.partner_table.partners.Goals as goal
+
+pub returns-then-not-leaves_partners : goal.returns-then-not-leaves_partners
+returns-then-not-leaves_partners c =
+    IfOk-weaker c.empty_rows.result (AreEmptyRows c.order.result) (ArePartners c.args.g.now (mem c.args.removed))
+    (empty-partners c.args.g.now c.order.ensures.limits.multigraph.ends (mem c.args.removed) c.in_ok-mark.field-0 c.in_ok-mark.ensures c.deref.result.now c.missed_by.result c.deref.ensures.value c.missed_by.ensures
+    (sym c.leaves_partners.ensures ∙ c.if-not-leaves_partners.true) c.order.result c.order.ensures.is) c.empty_rows.ensures
