@@ -9,8 +9,9 @@ use std::alloc::{AllocError as Memory, Global};
 
 /// Whether the graph is matching covered.
 pub fn is_covered(alloc: Global, g: &MultiGraph) -> Result<bool, Memory>
-    ensures { IfOk result (λ yes. IsTrue yes → IsCovered g.now) }
+    ensures { IfOk result (λ yes. IsTrue yes ↔ IsCovered g.now) }
 {
+    g.keeps_limits();
     match covered(alloc, g)? {
         Verdict::Covered => Ok(true),
         // one reason is named, so that the borrow checker is told of their type
