@@ -2,20 +2,19 @@
 -- Idea: visit j is at level j, so no node comes twice; each arc is passed over once, and a path is no longer than there are levels.
 use Rattle.std.proofs.Common.{◌≡◌, ◌≢◌, ℕ, zero, suc, ◌+◌, ◌-◌, ◌≤◌, ◌<◌, List, [], ◌∷◌, ◌++◌, length, get_or, set, take, min, sym, ◌∙◌, ap, subst, arith, inl, inr, length-append, slice_index}
 use Rattle.std.specs.Prelude.{ℤ}
-use Rattle.std.proofs.Math.ListN.{length-set}
 use Rattle.std.proofs.Math.Seq.{get_or-append_seam}
 use Rattle.std.proofs.lemmas.Bool.{cases_eq}
 use Rattle.std.proofs.lemmas.Int.{ints}
-use Rattle.std.proofs.lemmas.List.{get_or-set_same, get_or-set_other, get_or-take, length-take}
+use Rattle.std.proofs.lemmas.List.{get_or_read, get_or-set_same, get_or-set_other, length-take}
 use Rattle.counting.specs.Counts.{Within, total}
 use Rattle.counting.proofs.Totals.{total_congr}
 use Rattle.flow_core.specs.Nets.{Net}
 use Rattle.flow_core.specs.Residual.{arc_at}
 use Rattle.counting.specs.Lists.{row_of}
-use Rattle.flow_core.specs.Search.{visit_at, node_at, last_node, IsStep, IsVisit, IsTree}
+use Rattle.flow_core.specs.Search.{visit_at, node_at, IsStep}
 use Rattle.flow_core.specs.Layers.{IsLaid, arcs_left, work_left}
 use Rattle.flow_core.specs.declared.search.Visit.{Visit}
-use Rattle.flow_core.proofs.SearchTrees.{IsTree-root, IsTree-push, visit_at-push, room-some}
+use Rattle.flow_core.proofs.SearchTrees.{IsTree-push, visit_at-push, room-some}
 use Rattle.flow_core.proofs.Scanning.{Leads, taken, end_within}
 
 -- one term falls by one
@@ -40,6 +39,25 @@ arcs_left-pass nodes rows places v w l p =
 
 long-take : (path : List Visit) (n : ℕ) → n ≤ length path → length (take n path) ≡ n
 long-take path n l = let e = length-take n path in omega arith
+
+-- what the code reads at the last visit of a path that is laid
+pub record IsLastRead (net : Net) (places : List ℕ) (path : List Visit) (last : ℕ) (from : Visit) (place : ℕ) : Type 0 where
+  pub is : visit_at path last ≡ from
+  pub within : Within net.nodes from.node
+  pub at : slice_index places from.node ≡ place
+
+pub last-read : (net : Net) (rows : List (List ℕ)) (amounts : List ℤ) (levels places : List ℕ) (path : List Visit) → IsLaid net rows amounts levels places path → (last : ℕ) → length path ≡ last + 1 → (from : Visit) → from ≡ get_or path last from
+    → (place : ℕ) → place ≡ get_or places from.node place → IsLastRead net places path last from place
+last-read net rows amounts levels places path laid last long from f place p = record { is = is; within = within; at = at }
+  where
+    is : visit_at path last ≡ from
+    is = sym (get_or_read path last from (omega arith) f (record { node = 0; parent = 0; arc = 0; room = 0 }))
+
+    within : Within net.nodes from.node
+    within = subst (λ (u : Visit). Within net.nodes u.node) is (laid.tree.nodes last (omega arith))
+
+    at : slice_index places from.node ≡ place
+    at = sym (get_or_read places from.node place (let all = laid.all_places in let w = within in omega arith) p 0)
 
 -- the path goes on to a node of the next level
 module _ (net : Net) (rows : List (List ℕ)) (amounts : List ℤ) (levels places : List ℕ) (path : List Visit) (laid : IsLaid net rows amounts levels places path)

@@ -1,7 +1,7 @@
 -- What the code reads of a net: its arcs, the rows of its nodes and the amounts on its arcs.
 -- Idea: each is a reading law of lists, at the one default that the definitions use.
-use Rattle.std.proofs.Common.{◌≡◌, ℕ, zero, suc, ◌<◌, ◌≤◌, ◌^◌, List, [], ◌∷◌, ◌++◌, length, get_or, set, map, refl, sym, ◌∙◌, ap, ap₂, arith, w64, to_z, of_z}
-use Rattle.std.specs.Prelude.{All, ℤ, pos, slice_get, Some}
+use Rattle.std.proofs.Common.{◌≡◌, ℕ, zero, suc, ◌<◌, ◌≤◌, ◌^◌, List, [], ◌∷◌, ◌++◌, length, get_or, set, refl, sym, ◌∙◌, ap, ap₂, subst, arith, w64, to_z, of_z}
+use Rattle.std.specs.Prelude.{All, ℤ, pos, slice_get, Some, unsigned_abs}
 use mir.Val.{SFits}
 use Rattle.std.specs.Global.{Vec}
 use Rattle.std.proofs.lemmas.Int.{to_z-of_z}
@@ -10,11 +10,11 @@ use Rattle.std.proofs.lemmas.List.{get_or-map, length-map, map-set}
 use Rattle.std.proofs.lemmas.List.Elements.{All-head, All-tail}
 use Rattle.std.proofs.lemmas.List.Sums.{get_or-le-sum_by}
 use Rattle.flow_core.specs.Nets.{Arc, Net, IsArc, IsNet, IsBounded, total_capacity}
+use Rattle.flow_core.specs.Flows.{Fits}
 use Rattle.flow_core.specs.Residual.{arc_at, amount_at}
-use Rattle.flow_core.specs.View.{arc_of}
 use Rattle.flow_core.specs.Rows.{rows_of}
 use Rattle.counting.specs.Lists.{row_of}
-use Rattle.flow_core.specs.declared.arc.Arc.{Arc as StoredArc}
+use Rattle.flow_core.proofs.Duality.{Fits-at}
 
 -- an arc of a net in order is in order
 pub IsNet-at : (net : Net) → IsNet net → (i : ℕ) → i < length net.arcs → IsArc net.nodes (arc_at net.arcs i)
@@ -47,3 +47,7 @@ rows_of-empty (row ∷ rows) h (suc v) = rows_of-empty rows (All-tail (λ (r : V
 -- an amount that was read, as it is passed on
 pub amount-read : (amounts : List ℤ) (i : ℕ) (z : ℤ) → SFits w64 z → slice_get amounts i ≡ Some z → to_z w64 (of_z w64 z) ≡ amount_at amounts i
 amount-read amounts i z f e = to_z-of_z w64 z f ∙ sym (get_or_from_slice_get amounts i z (pos 0) e)
+
+-- an arc as the code reads it has the amount that was read within its capacity
+pub amount-fits : (net : Net) (amounts : List ℤ) → Fits net.arcs amounts → (i : ℕ) → i < length net.arcs → (arc : Arc) → arc ≡ arc_at net.arcs i → (z : ℤ) → z ≡ amount_at amounts i → unsigned_abs z ≤ arc.capacity
+amount-fits net amounts f i l arc e z q = subst (λ (a : Arc). unsigned_abs z ≤ a.capacity) (sym e) (subst (λ y. unsigned_abs y ≤ (arc_at net.arcs i).capacity) (sym q) (Fits-at net.arcs amounts f i l))

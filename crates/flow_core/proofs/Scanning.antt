@@ -1,6 +1,6 @@
 -- The arcs at one node, scanned one by one: each has no room out of the node, or leads to a node that is seen then.
 -- Idea: the arcs scanned so far stay scanned while the seen nodes grow, and the rows list every arc at the node.
-use Rattle.std.proofs.Common.{◌≡◌, ◌≢◌, ℕ, ◌+◌, ◌-◌, ◌≤◌, ◌<◌, ◌==◌, ◌||◌, true, false, List, [], ◌∷◌, ◌++◌, length, get_or, min, refl, sym, ◌∙◌, ap, ap₂, subst, arith, inl, inr, eq-eqb, ne_eqb, below_more, length-append}
+use Rattle.std.proofs.Common.{◌≡◌, ◌≢◌, ℕ, ◌+◌, ◌-◌, ◌≤◌, ◌<◌, ◌==◌, ◌||◌, true, false, List, [], ◌∷◌, ◌++◌, length, get_or, min, refl, sym, ◌∙◌, ap, subst, arith, inl, inr, eq-eqb, ne_eqb, below_more, length-append}
 use Rattle.std.proofs.lemmas.Bool.{or_right, or_left}
 use Rattle.std.specs.Prelude.{ℤ, pos, ◌<ℤ◌, Contains}
 use Rattle.std.proofs.Math.Seq.{get_or-append_seam}
@@ -67,15 +67,18 @@ pub record Leads (net : Net) (amounts : List ℤ) (u : ℕ) (row : List ℕ) (pl
   pub room_is : pos room ≡ room_from u (arc_at net.arcs (get_or row place 0)) (amount_at amounts (get_or row place 0))
 
 -- as the code reads it
-pub Leads-read : (net : Net) → IsNet net → (amounts : List ℤ) (u : ℕ) (row : List ℕ) (place : ℕ) → IsPlaced net u row place
-    → (arc : Arc) → arc ≡ arc_at net.arcs (get_or row place 0) → (node : ℕ) → Joins arc u node → (amount : ℤ) → amount ≡ amount_at amounts (get_or row place 0) → (room : ℕ) → pos room ≡ room_from u arc amount
+pub Leads-read : (net : Net) → IsNet net → (rows : List (List ℕ)) → IsIncidence net rows → (amounts : List ℤ) (u : ℕ) (row : List ℕ) → row ≡ row_of rows u → (place : ℕ) → place < length row
+    → (node : ℕ) → Joins (arc_at net.arcs (get_or row place 0)) u node → (room : ℕ) → pos room ≡ room_from u (arc_at net.arcs (get_or row place 0)) (amount_at amounts (get_or row place 0))
     → Leads net amounts u row place node room
-Leads-read net is amounts u row place p arc e node joins amount z room r = record {
+Leads-read net is rows lists amounts u row e place l node joins room r = record {
   is_arc = p.is_arc;
   in_order = IsNet-at net is (get_or row place 0) p.is_arc;
-  joins = subst (λ (x : Arc). Joins x u node) e joins;
-  room_is = r ∙ ap₂ (λ (x : Arc) (y : ℤ). room_from u x y) e z;
+  joins = joins;
+  room_is = r;
 }
+  where
+    p : IsPlaced net u row place
+    p = IsPlaced-row net rows u row place lists e l
 
 -- an arc is passed over: its other end is seen, or it has no room
 pub IsScanning-seen : (net : Net) (amounts : List ℤ) (sink head : ℕ) (from : Visit) (row : List ℕ) (place : ℕ) (visits : List Visit) (seen : List ℕ) → IsScanning net amounts sink head from row place visits seen
@@ -102,11 +105,21 @@ IsScanning-full net amounts sink head from row place visits seen s node t = reco
 abbrev pub taken : ℕ → ℕ → ℕ → ℕ → Visit
 taken node parent arc room = record { node = node; parent = parent; arc = arc; room = room }
 
+-- what stands after an arc is taken to a new node: the tree with a visit more, and where the node is not the sink, a search that scans on
+pub record IsTaken (net : Net) (amounts : List ℤ) (sink head : ℕ) (from : Visit) (row : List ℕ) (place : ℕ) (visits : List Visit) (node : ℕ) (longer : List Visit) (more : List ℕ) : Type 0 where
+  pub first : first_node longer ≡ first_node visits
+  pub tree : IsTree net amounts longer
+  pub last : last_node longer ≡ node
+  pub scanning : node ≢ sink → IsScanning net amounts sink head from row (place + 1) longer more
+
 -- an arc is taken: it has room, and its other end is new
 module _ (net : Net) (amounts : List ℤ) (sink head : ℕ) (from : Visit) (row : List ℕ) (place : ℕ) (visits : List Visit) (seen : List ℕ) (s : IsScanning net amounts sink head from row place visits seen)
-    (node room : ℕ) (t : Leads net amounts from.node row place node room) (some : room ≢ 0) (new : mem seen node ≡ false) (longer : List Visit) (grown : longer ≡ visits ++ taken node head (get_or row place 0) (min room from.room) ∷ []) (more : List ℕ) (h : (v : ℕ) → mem more v ≡ (mem seen v || node == v)) where
+    (node room : ℕ) (t : Leads net amounts from.node row place node room) (some : room ≢ 0) (new : mem seen node ≡ false) (least : ℕ) (is_least : least ≡ min room from.room) (longer : List Visit) (pushed : longer ≡ visits ++ taken node head (get_or row place 0) least ∷ []) (more : List ℕ) (h : (v : ℕ) → mem more v ≡ (mem seen v || node == v)) where
   abbrev last : Visit
   last = taken node head (get_or row place 0) (min room from.room)
+
+  grown : longer ≡ visits ++ taken node head (get_or row place 0) (min room from.room) ∷ []
+  grown = pushed ∙ ap (λ r. visits ++ taken node head (get_or row place 0) r ∷ []) is_least
 
   stays : (v : ℕ) → mem seen v ≡ true → mem more v ≡ true
   stays v m = h v ∙ or_left (mem seen v) (node == v) m
@@ -121,7 +134,7 @@ module _ (net : Net) (amounts : List ℤ) (sink head : ℕ) (from : Visit) (row 
   from_some = subst (λ (u : Visit). 0 < u.room) s.at_head (room-some net amounts visits s.search.tree head s.long)
 
   -- the tree with the new visit
-  pub taken-tree : IsTree net amounts longer
+  taken-tree : IsTree net amounts longer
   taken-tree = subst (IsTree net amounts) (sym grown) (
       IsTree-push net amounts visits s.search.tree last s.long
       (subst (λ (u : Visit). IsStep net.arcs amounts u last) (sym s.at_head) (record {
@@ -135,7 +148,7 @@ module _ (net : Net) (amounts : List ℤ) (sink head : ℕ) (from : Visit) (row 
       )
 
   -- its last node
-  pub taken-last : last_node longer ≡ node
+  taken-last : last_node longer ≡ node
   taken-last =
       let e : length longer - 1 ≡ length visits = let l = ap (λ (vs : List Visit). length vs) grown in omega (arith, length-append visits (last ∷ [])) in
       ap (node_at longer) e ∙ ap (λ (vs : List Visit). node_at vs (length visits)) grown
@@ -146,11 +159,11 @@ module _ (net : Net) (amounts : List ℤ) (sink head : ℕ) (from : Visit) (row 
   earlier j l = ap (λ (vs : List Visit). visit_at vs j) grown ∙ visit_at-push visits last j l
 
   -- the first among them
-  pub taken-first : first_node longer ≡ first_node visits
+  taken-first : first_node longer ≡ first_node visits
   taken-first = ap (λ (u : Visit). u.node) (earlier 0 s.search.tree.some)
 
   -- where the new node is not the sink, the scan goes on
-  pub IsScanning-take : node ≢ sink → IsScanning net amounts sink head from row (place + 1) longer more
+  IsScanning-take : node ≢ sink → IsScanning net amounts sink head from row (place + 1) longer more
   IsScanning-take d = record {
     search = record {
       tree = taken-tree;
@@ -162,6 +175,9 @@ module _ (net : Net) (amounts : List ℤ) (sink head : ℕ) (from : Visit) (row 
     at_head = earlier head s.long ∙ s.at_head;
     done = below_more (λ p. IsArcScanned net.arcs amounts (mem more) from.node (get_or row p 0)) place (λ p l w j r. stays w (s.done p l w j r)) (λ w j r. ap (mem more) (other_end net.nodes (arc_at net.arcs (get_or row place 0)) from.node node w t.in_order t.joins j) ∙ is_seen);
   }
+
+  pub taken-facts : IsTaken net amounts sink head from row place visits node longer more
+  taken-facts = record { first = taken-first; tree = taken-tree; last = taken-last; scanning = IsScanning-take }
 
 -- at the end of the row the node is scanned
 pub IsScanning-end : (net : Net) (rows : List (List ℕ)) (amounts : List ℤ) (sink head : ℕ) (from : Visit) (row : List ℕ) (place : ℕ) (visits : List Visit) (seen : List ℕ) → IsIncidence net rows → row ≡ row_of rows from.node → length row ≤ place

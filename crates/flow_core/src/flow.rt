@@ -48,9 +48,8 @@ impl Flow {
         'pushing: while at > 0 {
             let visit = visits[at];
             let from = visits[visit.parent].node;
-            let amount = self.on.get(visit.arc);
-            self.on
-                .set(visit.arc, net.arc(visit.arc).sent(from, amount, more));
+            let amount = net.sent_over(&self.on, from, visit.arc, more);
+            self.on.set(visit.arc, amount);
             at = visit.parent;
         }
         self.value += more;

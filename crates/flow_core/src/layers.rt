@@ -119,10 +119,9 @@ impl Layers {
             return Ok(true);
         }
         let i = row[place];
-        let arc = net.arc(i);
-        let node = arc.far_end(from.node);
+        let node = net.end_over(from.node, i);
         if usize::from(self.levels[node as usize]) == last + 1 {
-            let room = arc.room(from.node, amounts.get(i));
+            let room = net.room_over(amounts, from.node, i);
             if room > 0 {
                 self.path.push(Visit {
                     node,

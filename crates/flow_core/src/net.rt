@@ -1,11 +1,14 @@
 //! Nets, and how they grow.
-ghost use Rattle.std.specs.Prelude.{◌≡◌, ◌≢◌, ◌+◌, ◌≤◌, ◌<◌, ◌^◌, [], IfOk, OnOk, OnErr, length};
+ghost use Rattle.std.specs.Prelude.{◌≡◌, ◌≢◌, ◌+◌, ◌≤◌, ◌<◌, ◌≤ℤ◌, ◌^◌, [], IfOk, OnOk, OnErr, length, pos};
 ghost use Rattle.counting.specs.Counts.{Within};
 ghost use Rattle.flow_core.specs.Nets.{IsBounded, with_arc, total_capacity};
-ghost use Rattle.flow_core.specs.Residual.{arc_at};
+ghost use Rattle.flow_core.specs.Flows.{Fits};
+ghost use Rattle.flow_core.specs.Incidence.{HasEnd};
+ghost use Rattle.flow_core.specs.Residual.{Joins, amount_at, arc_at, room_from, sent_amount};
 ghost use Rattle.flow_core.specs.View.{arc_of};
 
 use crate::arc::Arc;
+use crate::signed_list::SignedList;
 use std::alloc::{AllocError as Memory, Global};
 use std::marker::Model;
 use vset_core::MOST_VERTICES;
@@ -88,5 +91,41 @@ impl Net {
         ensures { arc_of result ≡ arc_at self.now.arcs i }
     {
         self.arcs[i]
+    }
+
+    /// The end of arc `i` that is not the node, which is the other one.
+    pub(crate) fn end_over(&self, node: u32, i: usize) -> u32
+        requires bounded { IsBounded self.now }
+        requires arc { i < length self.now.arcs }
+        requires at { HasEnd (arc_at self.now.arcs i) node }
+        ensures joins { Joins (arc_at self.now.arcs i) node result }
+        ensures within { Within self.now.nodes result }
+        ensures few { Within MOST_VERTICES result }
+    {
+        self.arc(i).far_end(node)
+    }
+
+    /// How much more arc `i` can take out of the node, its end, over these amounts.
+    pub(crate) fn room_over(&self, amounts: &SignedList, node: u32, i: usize) -> u64
+        requires bounded { IsBounded self.now }
+        requires fits { Fits self.now.arcs amounts.now }
+        requires arc { i < length self.now.arcs }
+        ensures { pos result ≡ room_from node (arc_at self.now.arcs i) (amount_at amounts.now i) }
+    {
+        self.arc(i).room(node, amounts.get(i))
+    }
+
+    /// The amount on arc `i` after `more` is sent over it out of the node, its end.
+    pub(crate) fn sent_over(&self, amounts: &SignedList, node: u32, i: usize, more: u64) -> i64
+        requires bounded { IsBounded self.now }
+        requires fits { Fits self.now.arcs amounts.now }
+        requires arc { i < length self.now.arcs }
+        requires room { pos more ≤ℤ
+            room_from node (arc_at self.now.arcs i) (amount_at amounts.now i) }
+        requires small { more < 2 ^ 63 }
+        ensures { result ≡
+            sent_amount (arc_at self.now.arcs i) node (amount_at amounts.now i) more }
+    {
+        self.arc(i).sent(node, amounts.get(i), more)
     }
 }

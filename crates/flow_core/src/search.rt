@@ -100,12 +100,11 @@ fn scan(
 {
     let from = reached.visits[head];
     for &i in incidence.row(from.node) {
-        let arc = net.arc(i);
-        let node = arc.far_end(from.node);
+        let node = net.end_over(from.node, i);
         if reached.seen.contains(node) {
             continue;
         }
-        let room = arc.room(from.node, amounts.get(i));
+        let room = net.room_over(amounts, from.node, i);
         if room == 0 {
             continue;
         }

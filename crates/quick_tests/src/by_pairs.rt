@@ -1,40 +1,12 @@
 //! The candidates beside those of the plain way by pairs: the same list in the same order, and its first.
 
-use crate::asked::is_covered;
 use crate::shapes::{TWO_K33, chordal_ring, pages, three_parts};
 use graph_core::MultiGraph;
 use grow_gen::grow;
 use std::alloc::{AllocError as Memory, Global};
 use std::test::Fail;
-use tight_cuts::{Candidate, CandidateList, candidates, candidates_by_pairs, first_candidate};
-use worked_graphs::graph_with;
-
-fn is_same(first: &Candidate, second: &Candidate) -> bool {
-    first.shore == second.shore
-        && first.inside == second.inside
-        && first.outside == second.outside
-        && first.origin == second.origin
-}
-
-fn are_same(first: &CandidateList, second: &CandidateList) -> bool {
-    if first.len() != second.len() {
-        return false;
-    }
-    for i in 0..first.len() {
-        if !is_same(&first.get(i), &second.get(i)) {
-            return false;
-        }
-    }
-    true
-}
-
-// Whether the answer is the first of the list.
-fn is_first(found: Option<Candidate>, list: &CandidateList) -> bool {
-    match found {
-        Some(candidate) => !list.is_empty() && is_same(&candidate, &list.get(0)),
-        None => list.is_empty(),
-    }
-}
+use tight_cuts::{candidates, candidates_by_pairs, first_candidate};
+use worked_graphs::{graph_with, is_covered};
 
 // The number of candidates; none where the graph is not covered, or the list or its first is not that of the plain way.
 fn agreed(alloc: Global, g: &MultiGraph) -> Result<Option<usize>, Memory> {
@@ -44,7 +16,7 @@ fn agreed(alloc: Global, g: &MultiGraph) -> Result<Option<usize>, Memory> {
     let plain = candidates_by_pairs(alloc, g)?;
     let quick = candidates(alloc, g)?;
     let first = first_candidate(alloc, g)?;
-    if are_same(&quick, &plain) && is_first(first, &plain) {
+    if quick.as_slice() == plain.as_slice() && first == plain.as_slice().first().copied() {
         return Ok(Some(plain.len()));
     }
     Ok(None)

@@ -2,7 +2,6 @@
 ghost use Rattle.std.specs.Prelude.{◌≤◌};
 ghost use Rattle.plain_graph.specs.Small.{IsSmall};
 
-use crate::asked::{is_bipartite, is_covered};
 use crate::numbered::{Family, numbered};
 use graph_core::MultiGraph;
 use plain_graph::{edges_in_cut, is_small, perfect_matchings};
@@ -12,6 +11,7 @@ use rand_pcg::Lcg64Xsh32;
 use std::alloc::{AllocError as Memory, Global};
 use std::test::Fail;
 use vset_core::VSet;
+use worked_graphs::{is_bipartite, is_covered};
 
 // The set of the numbers 1 to 7 whose bit is set, where the bit of 1 is the lowest.
 fn set_of_bits(bits: u32) -> VSet {

@@ -6,12 +6,10 @@
 //! `first_candidate` answer what the plain way by pairs does, on generated graphs, bipartite cubic graphs, and barriers and separations with
 //! several parts. Both ways begin with the cuts of barriers and separations, by the same calls; they differ in the search at the edges.
 //!
-//! `numbered` and `shapes` make the graphs; `asked` has what a call asks of a graph first. A test that must find something says how much
+//! `numbered` and `shapes` make the graphs. A test that must find something says how much
 //! it found. Source of the graphs: Lovász and Plummer, "Matching Theory".
 #![tactic(auto)]
 
-#[cfg(test)]
-mod asked;
 #[cfg(test)]
 mod by_pairs;
 #[cfg(test)]

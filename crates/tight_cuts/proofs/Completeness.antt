@@ -1,11 +1,12 @@
 -- The candidates: none twice, each tight where the shores of the first two parts are, and each edge of a nontrivial tight cut in a candidate's cut.
-use Rattle.std.proofs.Common.{◌≡◌, ℕ, Bool, true, false, refl, sym, ap, not, ◌∙◌, arith, List, [], ◌∷◌, ◌↔◌}
+use Rattle.std.proofs.Common.{◌≡◌, ℕ, Bool, true, false, refl, sym, ap, not, ◌∙◌, arith, List, [], ◌∷◌, ◌↔◌, subst}
 use Rattle.std.proofs.lemmas.Bool.{true≢false}
 use Rattle.std.proofs.lemmas.List.Elements.{All-map, All-nil, All-head, All-tail}
 use Rattle.std.specs.List.{AllPairs, list_any}
 use Rattle.std.specs.Prelude.{All, fold}
 use Rattle.tight_cuts.specs.Candidates.{ShoresDiffer, Barrier, Separation, cuts, front_candidates}
 use Rattle.barrier_kit.proofs.Matched.{cut_edge}
+use Rattle.barrier_kit.proofs.ShoreFacts.{barrier_shores-tight}
 use Rattle.barrier_kit.specs.BarrierShores.{barrier_shores}
 use Rattle.counting.proofs.Members.{count_member}
 use Rattle.counting.specs.Counts.{Within}
@@ -14,6 +15,7 @@ use Rattle.counting.specs.Sets.{Set, complement}
 use Rattle.graph_core.specs.Covered.{IsCovered}
 use Rattle.graph_core.specs.Graph.{Graph, size, IsGraph, in_cut}
 use Rattle.graph_core.specs.Tight.{IsTight, IsNontrivial}
+use Rattle.separation_kit.proofs.SeparationFacts.{separation_shores-tight}
 use Rattle.separation_kit.specs.SeparationShores.{separation_shores}
 use Rattle.tight_cuts.proofs.EdgeLoop.{after_apart, after_found, after_covers}
 use Rattle.tight_cuts.proofs.Shores.{with_found, with_apart}
@@ -38,16 +40,18 @@ candidates_apart g = after_apart g (fold (with_list g.order Separation) (fold (w
     (lists_apart g.order Separation (separation_shores g) (fold (with_list g.order Barrier) [] (barrier_shores g)) (lists_apart g.order Barrier (barrier_shores g) [] none_apart))
 
 -- each shore is canonical, tight and nontrivial
-pub front_found : (g : Graph) → IsGraph g → All (λ s. IsTight g (mem s)) (barrier_shores g) → All (λ s. IsTight g (mem s)) (separation_shores g) → All (IsTightCandidate g) (front_candidates g)
+front_found : (g : Graph) → IsGraph g → IsCovered g → All (IsTightCandidate g) (front_candidates g)
 unfolding front_candidates
-front_found g is b s = lists_found g Separation is (separation_shores g) (fold (with_list g.order Barrier) [] (barrier_shores g)) s (lists_found g Barrier is (barrier_shores g) [] b (All-nil (IsTightCandidate g)))
+front_found g is cov =
+    lists_found g Separation is (separation_shores g) (fold (with_list g.order Barrier) [] (barrier_shores g)) (separation_shores-tight g is)
+    (lists_found g Barrier is (barrier_shores g) [] (barrier_shores-tight g is cov) (All-nil (IsTightCandidate g)))
 
-pub front_tight : (g : Graph) → IsGraph g → All (λ s. IsTight g (mem s)) (barrier_shores g) → All (λ s. IsTight g (mem s)) (separation_shores g) → All (λ s. IsTight g (mem s)) (shores_of (front_candidates g))
-front_tight g is b s = All-map (λ s. IsTight g (mem s)) (λ (c : Candidate). c.shore) (front_candidates g) (λ k d l. (front_found g is b s k d l).tight)
+pub front_tight : (g : Graph) → IsGraph g → IsCovered g → All (λ s. IsTight g (mem s)) (shores_of (front_candidates g))
+front_tight g is cov = All-map (λ s. IsTight g (mem s)) (λ (c : Candidate). c.shore) (front_candidates g) (λ k d l. (front_found g is cov k d l).tight)
 
-pub candidates_found : (g : Graph) → IsGraph g → IsCovered g → All (λ s. IsTight g (mem s)) (barrier_shores g) → All (λ s. IsTight g (mem s)) (separation_shores g) → All (IsTightCandidate g) (candidates g)
+pub candidates_found : (g : Graph) → IsGraph g → IsCovered g → All (IsTightCandidate g) (candidates g)
 unfolding candidates
-candidates_found g is cov b s = after_found g is cov (front_candidates g) (size g) (omega arith) (front_found g is b s)
+candidates_found g is cov = after_found g is cov (front_candidates g) (size g) (omega arith) (front_found g is cov)
 
 -- each edge of each nontrivial tight cut is in the cut of a candidate
 pub candidates_cover : (g : Graph) → IsGraph g → IsCovered g → (x : Set) (e : ℕ) → Within (size g) e → IsTight g x → IsNontrivial g.order x → in_cut g x e ≡ true → list_any (cuts g e) (candidates g) ≡ true
@@ -66,12 +70,26 @@ shore_edge g x is cov nt =
     flip b h = grind arith
 
 -- there is no candidate exactly where no nontrivial shore is tight
-pub candidates_none : (g : Graph) → IsGraph g → IsCovered g → All (λ s. IsTight g (mem s)) (barrier_shores g) → All (λ s. IsTight g (mem s)) (separation_shores g) → (candidates g ≡ []) ↔ ((x : Set) → IsTight g x → IsNontrivial g.order x → ⊥)
-candidates_none g is cov b s = (
+pub candidates_none : (g : Graph) → IsGraph g → IsCovered g → (candidates g ≡ []) ↔ ((x : Set) → IsTight g x → IsNontrivial g.order x → ⊥)
+candidates_none g is cov = (
   λ q x t nt. let e = shore_edge g x is cov nt in true≢false (sym (candidates_cover g is cov x e.0 e.1 t nt e.2) ∙ ap (list_any (cuts g e.0)) q),
-  λ f. go (candidates g) (candidates_found g is cov b s) f,
+  λ f. go (candidates g) (candidates_found g is cov) f,
 )
   where
     go : (list : List Candidate) → All (IsTightCandidate g) list → ((x : Set) → IsTight g x → IsNontrivial g.order x → ⊥) → list ≡ []
     go [] h f = refl
     go (c ∷ list) h f = let p = All-head (IsTightCandidate g) c list h in absurd (f (mem c.shore) p.tight p.nontrivial)
+
+-- the same of a list that is that of the candidates
+module _ (g : Graph) (is : IsGraph g) (cov : IsCovered g) (list : List Candidate) (all : list ≡ candidates g) where
+  pub listed-tight : All (IsTightCandidate g) list
+  listed-tight = subst (All (IsTightCandidate g)) (sym all) (candidates_found g is cov)
+
+  pub listed-apart : AllPairs ShoresDiffer list
+  listed-apart = subst (AllPairs ShoresDiffer) (sym all) (candidates_apart g)
+
+  pub listed-cover : (x : Set) (e : ℕ) → Within (size g) e → IsTight g x → IsNontrivial g.order x → in_cut g x e ≡ true → list_any (cuts g e) list ≡ true
+  listed-cover x e w t n q = ap (list_any (cuts g e)) all ∙ candidates_cover g is cov x e w t n q
+
+  pub listed-none : (list ≡ []) ↔ ((x : Set) → IsTight g x → IsNontrivial g.order x → ⊥)
+  listed-none = subst (λ (l : List Candidate). (l ≡ []) ↔ ((x : Set) → IsTight g x → IsNontrivial g.order x → ⊥)) (sym all) (candidates_none g is cov)

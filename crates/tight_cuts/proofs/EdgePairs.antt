@@ -1,7 +1,7 @@
 -- The search over pairs in lexicographic order finds the first pair that is parted.
 -- Idea: a pair of which a vertex does not lead its piece is parted only if the earlier pair of the leaders is.
-use Rattle.std.proofs.Common.{◌≡◌, ℕ, ◌+◌, ◌<◌, Bool, true, false, ◌==◌, refl, sym, ap, ap₂, ◌∙◌, arith, not, ◌&&◌, inl, inr, ◌⊎◌, List, Option, Some, None, subst, eq-eqb}
-use Rattle.std.proofs.lemmas.Bool.{cases_eq, cases_lt, true≢false, both_ways, false_from_ne_true}
+use Rattle.std.proofs.Common.{◌≡◌, ℕ, ◌+◌, ◌<◌, Bool, true, false, ◌==◌, refl, sym, ap, ap₂, ◌∙◌, arith, not, ◌&&◌, inl, inr, ◌⊎◌, List, Option, Some, None, subst, eq-eqb, eqb-true}
+use Rattle.std.proofs.lemmas.Bool.{and_parts, cases_eq, cases_lt, not-true, true≢false, both_ways, false_from_ne_true}
 use Rattle.counting.specs.Counts.{Within}
 use Rattle.counting.specs.Lists.{mem}
 use Rattle.counting.specs.Sets.{pair_set}
@@ -140,3 +140,12 @@ module _ (g : Graph) (lim : IsWithinLimits g) (cov : IsCovered g) (e : ℕ) (we 
 -- what the test of a leader says
 pub leads-test : (g : Graph) (e : ℕ) (leaders : List ℕ) (a b x : ℕ) → a ≡ lesser_end g e → b ≡ greater_end g e → Leads g e leaders x → (not (pair_set a b x) && (at_place leaders x == x)) ≡ true
 leads-test g e leaders a b x qa qb l = ap (λ t. not t && (at_place leaders x == x)) (ap₂ (λ i j. pair_set i j x) qa qb ∙ l.outside) ∙ eq-eqb (at_place leaders x) x l.itself
+
+pub leads-found : (g : Graph) (e : ℕ) (leaders : List ℕ) (a b x : ℕ) → a ≡ lesser_end g e → b ≡ greater_end g e → Within g.order x → (not (pair_set a b x) && (at_place leaders x == x)) ≡ true → Leads g e leaders x
+leads-found g e leaders a b x qa qb w l =
+    let parts = and_parts (not (pair_set a b x)) (at_place leaders x == x) l in
+    record {
+      within = w;
+      outside = ap₂ (λ i j. pair_set i j x) (sym qa) (sym qb) ∙ not-true (pair_set a b x) parts.0;
+      itself = eqb-true (at_place leaders x) x parts.1;
+    }

@@ -1,7 +1,7 @@
 -- What the pairs with one first vertex x give, by one set: the intersection of all tight sets that have x and an end of the edge, not the other.
 -- Idea: that intersection is one of these sets, so a pair (x, y) is parted exactly where it lacks y, and then it is the common shore.
-use Rattle.std.proofs.Common.{◌≡◌, ◌≢◌, ℕ, ◌+◌, true, false, ◌==◌, ◌&&◌, not, refl, sym, ap, ap₂, ◌∙◌, arith, inl, inr, List, Option, Some, None, eq-eqb, ne_eqb}
-use Rattle.std.proofs.lemmas.Bool.{and_parts, cases_lt, true≢false, both_ways, false_from_ne_true, not-true, or_from, or_right}
+use Rattle.std.proofs.Common.{◌≡◌, ◌≢◌, ℕ, ◌+◌, true, false, ◌==◌, refl, sym, ap, ◌∙◌, arith, inl, inr, List, Option, Some, None, eq-eqb, ne_eqb}
+use Rattle.std.proofs.lemmas.Bool.{cases_lt, true≢false, both_ways, false_from_ne_true, or_from, or_right}
 use Rattle.counting.proofs.RisingLists.{same_answers}
 use Rattle.counting.specs.Counts.{Within}
 use Rattle.counting.specs.Lists.{mem}
@@ -14,7 +14,7 @@ use Rattle.tight_cuts.proofs.EdgeShores.{allowed, greater_within, lesser_within}
 use Rattle.tight_cuts.proofs.FirstPairs.{before_first}
 use Rattle.tight_cuts.proofs.LeastShores.{common_from, common_in, common_parts, parted_found, parted_says}
 use Rattle.tight_cuts.specs.Candidates.{common_shore, first_parted, greater_end, is_parted, lesser_end}
-use Rattle.tight_cuts.specs.EdgeSearch.{IsCommonShore, IsShoreOfEdge, NoneBefore, at_place}
+use Rattle.tight_cuts.specs.EdgeSearch.{IsCommonShore, IsShoreOfEdge, NoneBefore}
 use Rattle.tight_cuts.specs.Pieces.{PartsTightly}
 
 -- a set that parts x from y parts x from b alone
@@ -120,7 +120,3 @@ first_done g e x h n c d wc wd before = elim before [
   ]
   | inr s ↦ let s1 = s.1 in let w = wd.0 in absurd (omega arith)
 ]
-
--- a vertex that leads a piece is no end of the edge
-pub leads-outside : (g : Graph) (e : ℕ) (leaders : List ℕ) (a b x : ℕ) → a ≡ lesser_end g e → b ≡ greater_end g e → (not (pair_set a b x) && (at_place leaders x == x)) ≡ true → pair_set (lesser_end g e) (greater_end g e) x ≡ false
-leads-outside g e leaders a b x qa qb l = ap₂ (λ i j. pair_set i j x) (sym qa) (sym qb) ∙ not-true (pair_set a b x) (and_parts (not (pair_set a b x)) (at_place leaders x == x) l).0

@@ -24,7 +24,7 @@ use Rattle.tight_cuts.proofs.LeastShores.{parted_found, parted_says}
 use Rattle.tight_cuts.proofs.Networks.{back, least_back, least_common, parts_nodes}
 use Rattle.tight_cuts.proofs.PiecesOfEdges.{beside_graph}
 use Rattle.tight_cuts.specs.Candidates.{lesser_end, greater_end, is_parted, common_shore}
-use Rattle.tight_cuts.specs.EdgeSearch.{AreLeaders, AreWeights, IsBeyond, IsCommonShore, IsCutOfGroups, IsShoreOfPair, Leads, arc_between, arcs_by, at_place, group_net, row_group}
+use Rattle.tight_cuts.specs.EdgeSearch.{AreGroups, AreLeaders, AreRowsAt, AreWeights, IsBeyond, IsCommonShore, IsCutOfGroups, IsShoreOfPair, Leads, arc_between, arcs_by, at_place, group_net, row_group}
 use Rattle.tight_cuts.specs.PairSums.{weight}
 use Rattle.tight_cuts.specs.Pieces.{PartsTightly, arcs_of, contracted_net, group_of, leader, IsGrouping}
 
@@ -145,26 +145,26 @@ module _ (g : Graph) (lim : IsWithinLimits g) (cov : IsCovered g) (e : ℕ) (we 
 
 -- all that the code asks at the groups, for the two ends of the edge under any names
 pub record GroupFacts (g : Graph) (e : ℕ) (leaders weights : List ℕ) (bound x y a b : ℕ) : Type 0 where
-  pub small : total (size g) (at_place weights) < 2 ^ 63
-  pub nodes : (v : ℕ) → Within g.order v → Within g.order (row_group a b x y leaders v)
-  pub source : Within g.order a
-  pub sink : Within g.order b
-  pub differ : a ≢ b
+  pub groups : AreGroups g leaders weights a b x y
   pub cut : (set : List ℕ) (value : ℕ) → IsLeastCut (group_net g weights leaders a b x y) a b set value → value ≤ bound →
       ((z : Set) × PartsTightly g (lesser_end g e) (greater_end g e) (x, y) z) × ((v : ℕ) → Within g.order v → mem set (row_group a b x y leaders v) ≡ common_shore g (lesser_end g e) (greater_end g e) (x, y) v)
   pub none : (HasCutWithin (group_net g weights leaders a b x y) a b bound → ⊥) → (z : Set) → PartsTightly g (lesser_end g e) (greater_end g e) (x, y) z → ⊥
 
-pub group_facts : (g : Graph) (e : ℕ) (leaders weights : List ℕ) (bound x y a b : ℕ) → IsWithinLimits g → IsCovered g → Within (size g) e → AreLeaders g e leaders → AreWeights g weights bound → Leads g e leaders x → IsBeyond g e leaders x y → a ≡ lesser_end g e → b ≡ greater_end g e →
+pub group_facts : (g : Graph) (e : ℕ) (leaders weights : List ℕ) (bound x y a b : ℕ) → IsWithinLimits g → AreRowsAt g e weights bound leaders → Leads g e leaders x → IsBeyond g e leaders x y → a ≡ lesser_end g e → b ≡ greater_end g e →
     GroupFacts g e leaders weights bound x y a b
-group_facts g e leaders weights bound x y a b lim cov we ld wt lx beyond qa qb =
+group_facts g e leaders weights bound x y a b lim rows lx beyond qa qb =
+    let cov = rows.covered in
+    let we = rows.edge in
     subst (λ b. GroupFacts g e leaders weights bound x y a b) (sym qb) (subst (λ a. GroupFacts g e leaders weights bound x y a (greater_end g e)) (sym qa) (record {
-      small = weights_small g weights bound lim wt;
-      nodes = groups_within g lim cov e we leaders ld x y lx beyond;
-      source = lesser_within g lim cov e we;
-      sink = greater_within g lim cov e we;
-      differ = ends_apart g lim cov e we;
-      cut = cut_parts g lim cov e we leaders ld x y lx beyond weights bound wt;
-      none = no_cut_parts g lim cov e we leaders ld x y lx beyond weights bound wt;
+      groups = record {
+        small = weights_small g weights bound lim rows.weighed;
+        within = groups_within g lim cov e we leaders rows.led x y lx beyond;
+        source = lesser_within g lim cov e we;
+        sink = greater_within g lim cov e we;
+        differ = ends_apart g lim cov e we;
+      };
+      cut = cut_parts g lim cov e we leaders rows.led x y lx beyond weights bound rows.weighed;
+      none = no_cut_parts g lim cov e we leaders rows.led x y lx beyond weights bound rows.weighed;
     }))
 
 -- what the cut of the groups gives is the common shore

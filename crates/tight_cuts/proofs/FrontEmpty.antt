@@ -3,7 +3,7 @@
 -- no nontrivial shore is tight.
 use Rattle.std.proofs.Common.{◌≡◌, ◌≤◌, ℕ, Option, Some, None, [], refl, sym, ◌∙◌, arith}
 use Rattle.barrier_kit.proofs.CriticalPairs.{no_sides}
-use Rattle.barrier_kit.proofs.ShoreFacts.{barrier_shores-tight, bicritical_no_cuts, some_cut}
+use Rattle.barrier_kit.proofs.ShoreFacts.{bicritical_no_cuts, some_cut}
 use Rattle.barrier_kit.specs.BarrierShores.{barrier_cuts}
 use Rattle.brick_kit.proofs.Bricks.{no_shore}
 use Rattle.counting.proofs.Counts.{count_complement}
@@ -12,7 +12,7 @@ use Rattle.graph_core.specs.Covered.{IsCovered}
 use Rattle.graph_core.specs.Graph.{Graph, IsBipartite, IsMultigraph}
 use Rattle.graph_core.specs.Structure.{IsBicritical, unlike_pair}
 use Rattle.graph_core.specs.Tight.{IsNontrivial, IsTight}
-use Rattle.separation_kit.proofs.SeparationFacts.{pair_some_cut, separation_shores-tight, unlike-none}
+use Rattle.separation_kit.proofs.SeparationFacts.{pair_some_cut, unlike-none}
 use Rattle.separation_kit.specs.SeparationShores.{separation_cuts}
 use Rattle.tight_cuts.proofs.Completeness.{candidates_none}
 use Rattle.tight_cuts.proofs.FrontCandidates.{front-barriers, front-separations, unlike-some}
@@ -37,4 +37,4 @@ module _ (g : Graph) (is : IsMultigraph g) (cov : IsCovered g) (odd_cycle : IsBi
       at None q = bicritical ((unlike-none g).0 q)
 
   pub front_empty : candidates g ≡ []
-  front_empty = (candidates_none g is.ends cov (barrier_shores-tight g is.ends cov) (separation_shores-tight g is.ends)).1 no_tight
+  front_empty = (candidates_none g is.ends cov).1 no_tight

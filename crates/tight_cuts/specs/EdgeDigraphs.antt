@@ -1,12 +1,22 @@
--- The digraph of a perfect matching that holds an edge, with the side of the edge's lesser end.
-use Rattle.std.specs.Prelude.{◌≡◌, ℕ, true}
+-- What the search in a bipartite graph stands on: a side and a perfect matching, and at an edge the digraph of a perfect matching
+-- that holds it, with the side of its lesser end.
+use Rattle.std.specs.Prelude.{◌≡◌, ℕ, List, true}
+use Rattle.barrier_kit.specs.BarrierCuts.{IsSide}
 use Rattle.counting.specs.Lists.{mem}
+use Rattle.counting.specs.Sets.{none}
 use Rattle.graph_core.specs.Graph.{Graph}
-use Rattle.match_core.specs.MatchingRows.{edges_of}
+use Rattle.graph_core.specs.Matchings.{IsPerfect}
+use Rattle.match_core.specs.MatchingRows.{IsOf, MatchingValue, edges_of}
 use Rattle.matching_digraph.specs.Digraph.{are_mates}
 use Rattle.matching_digraph.specs.Digraphs.{IsDigraphOf}
 use Rattle.matching_digraph.specs.declared.digraph.Digraph.{Digraph}
 use Rattle.tight_cuts.specs.Candidates.{greater_end, lesser_end}
+
+-- a side of g and a perfect matching of it
+pub record AreFloodsOf (g : Graph) (side : List ℕ) (kept : MatchingValue) : Type 0 where
+  pub side_of : IsSide g (mem side)
+  pub matching : IsOf g kept
+  pub perfect : IsPerfect g none (mem (edges_of kept))
 
 -- the digraph is of g, its side has the lesser end of edge e, and the ends of e are mates
 pub record IsDigraphAt (g : Graph) (e : ℕ) (d : Digraph) : Type 0 where

@@ -1,10 +1,13 @@
 -- What the search at one edge keeps in rows, and what it answers.
-use Rattle.std.specs.Prelude.{◌≡◌, ◌≢◌, ℕ, zero, suc, ◌+◌, ◌<◌, ◌≤◌, ◌⊎◌, false, true, List, [], ◌∷◌, ◌++◌, ◌==◌, Option, Some, None, cond, length, slice_index_or}
-use Rattle.counting.specs.Counts.{Within}
+use Rattle.std.specs.Prelude.{◌≡◌, ◌≢◌, ℕ, zero, suc, ◌+◌, ◌<◌, ◌≤◌, ◌^◌, ◌⊎◌, ◌↔◌, false, true, List, [], ◌∷◌, ◌++◌, ◌==◌, Option, Some, None, cond, length, slice_index_or}
+use Rattle.allowed_edges.specs.PairTables.{PairsValue, edge_lists, holds_both}
+use Rattle.counting.specs.Counts.{Within, total}
 use Rattle.counting.specs.Sets.{Set, pair_set}
 use Rattle.counting.specs.Lists.{mem}
 use Rattle.graph_core.specs.Components.{components}
+use Rattle.graph_core.specs.Covered.{IsCovered}
 use Rattle.graph_core.specs.Graph.{Graph, size, first_end, second_end}
+use Rattle.graph_core.specs.Matchings.{Together}
 use Rattle.graph_core.specs.PairLists.{IsPairList, IsLean}
 use Rattle.flow_core.specs.Nets.{Arc, Net, HasCutWithin, IsLeastCut}
 use Rattle.tight_cuts.specs.Candidates.{lesser_end, greater_end, is_parted, common_shore, first_parted}
@@ -31,6 +34,19 @@ pub record AreLeaders (g : Graph) (e : ℕ) (leaders : List ℕ) : Type 0 where
   pub long : length leaders ≡ g.order + 1
   pub each : (v : ℕ) → Within g.order v → at_place leaders v ≡ leader (components beside (pair_set (lesser_end g e) (greater_end g e))) v
 
+-- the table tells which edges of the graph lie together in a perfect matching, and the row has the weights of the edges
+pub record AreRowsOf (g : Graph) (pairs : PairsValue) (weights : List ℕ) (bound : ℕ) : Type 0 where
+  pub edge_count : pairs.size ≡ size g
+  pub both : (e f : ℕ) → Within (size g) e → Within (size g) f → (holds_both (edge_lists pairs) e f ≡ true) ↔ Together g e f
+  pub weighed : AreWeights g weights bound
+
+-- the rows have the weights and the leaders at edge e of a covered graph
+pub record AreRowsAt (g : Graph) (e : ℕ) (weights : List ℕ) (bound : ℕ) (leaders : List ℕ) : Type 0 where
+  pub covered : IsCovered g
+  pub edge : Within (size g) e
+  pub weighed : AreWeights g weights bound
+  pub led : AreLeaders g e leaders
+
 -- an arc between two nodes, and none where they are one
 abbrev pub arc_between : ℕ → ℕ → ℕ → List Arc
 arc_between a b capacity = cond (a == b) [] (record { a = a; b = b; capacity = capacity } ∷ [])
@@ -47,6 +63,14 @@ row_group a b x y leaders v = group_of a b x y (at_place leaders v)
 -- the network of the groups for the pieces that x and y lead
 abbrev pub group_net : Graph → List ℕ → List ℕ → (a b x y : ℕ) → Net
 group_net g weights leaders a b x y = record { nodes = g.order; arcs = arcs_by g weights (row_group a b x y leaders) (size g) }
+
+-- the weights are small, each group is a node, and a and b are two of the nodes
+pub record AreGroups (g : Graph) (leaders weights : List ℕ) (a b x y : ℕ) : Type 0 where
+  pub small : total (size g) (at_place weights) < 2 ^ 63
+  pub within : (v : ℕ) → Within g.order v → Within g.order (row_group a b x y leaders v)
+  pub source : Within g.order a
+  pub sink : Within g.order b
+  pub differ : a ≢ b
 
 -- x leads a piece of edge e
 pub record Leads (g : Graph) (e : ℕ) (leaders : List ℕ) (x : ℕ) : Type 0 where

@@ -2,19 +2,17 @@
 ghost use Rattle.std.specs.Prelude.{◌≡◌, ◌+◌, true, Some, None, IfOk};
 ghost use Rattle.counting.specs.Counts.{Within};
 ghost use Rattle.counting.specs.Lists.{mem};
-ghost use Rattle.counting.specs.Sets.{none};
 ghost use Rattle.graph_core.specs.Covered.{IsCovered};
 ghost use Rattle.graph_core.specs.Graph.{size};
-ghost use Rattle.graph_core.specs.Matchings.{IsPerfect};
 ghost use Rattle.barrier_kit.specs.BarrierCuts.{IsSide};
-ghost use Rattle.match_core.specs.MatchingRows.{IsOf, edges_of};
-ghost use Rattle.tight_cuts.specs.EdgeDigraphs.{IsDigraphAt};
+ghost use Rattle.tight_cuts.specs.EdgeDigraphs.{AreFloodsOf, IsDigraphAt};
 ghost use Rattle.tight_cuts.specs.EdgeSearch.{IsShoreOfEdge, NoneBefore};
 
+use crate::edge_cuts::EdgeSearch;
 use crate::edge_search::first_lacking;
 use allowed_edges::perfect_with_edge;
 use graph_core::MultiGraph;
-use match_core::Matching;
+use match_core::{Matching, perfect_without};
 use matching_digraph::Digraph;
 use std::alloc::{AllocError as Memory, Global};
 use vset_core::VSet;
@@ -33,25 +31,45 @@ fn side_with(g: &MultiGraph, side: VSet, a: u32) -> VSet
     VSet::full(g.order()).minus(side)
 }
 
+/// The search at the edges of a bipartite covered graph: one of its sides, and a perfect matching. At an edge two floods in the
+/// digraph of a perfect matching that holds it say whether any pair is parted, and then one for each vertex finds the first.
+#[derive(Drop)]
+pub(crate) struct FloodSearch {
+    side: VSet,
+    kept: Matching,
+}
+
+impl FloodSearch {
+    /// The search in a covered graph with this side.
+    pub(crate) fn new(alloc: Global, g: &MultiGraph, side: VSet) -> Result<FloodSearch, Memory>
+        requires covered { IsCovered g.now }
+        requires side { IsSide g.now (mem side) }
+        ensures { IfOk result (λ search. AreFloodsOf g.now search.side search.kept) }
+    {
+        g.keeps_limits();
+        match perfect_without(alloc, g, VSet::empty())? {
+            Some(kept) => Ok(FloodSearch { side, kept }),
+            None => unreachable!(),
+        }
+    }
+}
+
 // The digraph of a perfect matching that holds edge `e`, with the side of its lesser end.
 fn digraph_at(
     alloc: Global,
     g: &MultiGraph,
-    side: VSet,
-    kept: &Matching,
+    search: &FloodSearch,
     e: u32,
 ) -> Result<Digraph, Memory>
     requires covered { IsCovered g.now }
     requires edge { Within (size g.now) e }
-    requires side { IsSide g.now (mem side) }
-    requires of { IsOf g.now kept.now }
-    requires perfect { IsPerfect g.now none (mem (edges_of kept.now)) }
+    requires floods { AreFloodsOf g.now search.now.side search.now.kept }
     ensures { IfOk result (IsDigraphAt g.now e) }
 {
     g.keeps_limits();
     let ends = g.ends(e);
-    let near = side_with(g, side, ends.a.min(ends.b));
-    match perfect_with_edge(alloc, g, kept, e)? {
+    let near = side_with(g, search.side, ends.a.min(ends.b));
+    match perfect_with_edge(alloc, g, &search.kept, e)? {
         Some(matching) => Digraph::new(alloc, g, near, matching),
         None => unreachable!(),
     }
@@ -97,28 +115,16 @@ fn first_shore(g: &MultiGraph, digraph: &Digraph, e: u32) -> Option<VSet>
     None
 }
 
-/// What edge `e` of a bipartite covered graph gives: the common shore of all tight sets that part the first pair in lexicographic order
-/// that any parts; `None` exactly where no pair is parted. Two floods in the digraph of a perfect matching that holds `e` say
-/// whether any is, and then one for each vertex finds the first.
-pub(crate) fn bipartite_shore_of_edge(
-    alloc: Global,
-    g: &MultiGraph,
-    side: VSet,
-    kept: &Matching,
-    e: u32,
-) -> Result<Option<VSet>, Memory>
-    requires covered { IsCovered g.now }
-    requires edge { Within (size g.now) e }
-    requires side { IsSide g.now (mem side) }
-    requires of { IsOf g.now kept.now }
-    requires perfect { IsPerfect g.now none (mem (edges_of kept.now)) }
-    ensures { IfOk result (IsShoreOfEdge g.now e) }
-{
-    g.keeps_limits();
-    let digraph = digraph_at(alloc, g, side, kept, e)?;
-    let ends = g.ends(e);
-    if digraph.is_unparted(g, ends.a.min(ends.b), ends.a.max(ends.b)) {
-        return Ok(None);
+impl EdgeSearch for FloodSearch {
+    ghost is_of = { λ search g. AreFloodsOf g search.side search.kept };
+
+    fn shore_of_edge(&self, alloc: Global, g: &MultiGraph, e: u32) -> Result<Option<VSet>, Memory> {
+        g.keeps_limits();
+        let digraph = digraph_at(alloc, g, self, e)?;
+        let ends = g.ends(e);
+        if digraph.is_unparted(g, ends.a.min(ends.b), ends.a.max(ends.b)) {
+            return Ok(None);
+        }
+        Ok(first_shore(g, &digraph, e))
     }
-    Ok(first_shore(g, &digraph, e))
 }

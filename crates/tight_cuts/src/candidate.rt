@@ -28,7 +28,7 @@ pub enum Origin {
 
 /// A nontrivial tight cut by its canonical shore, the one without the greatest vertex, with the numbers of vertices inside and
 /// outside.
-#[derive(Clone, Copy, Drop)]
+#[derive(Clone, Copy, PartialEq, Eq, Drop)]
 pub struct Candidate {
     pub shore: VSet,
     pub inside: u32,

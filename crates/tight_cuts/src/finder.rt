@@ -7,62 +7,26 @@ ghost use Rattle.counting.specs.Lists.{mem};
 ghost use Rattle.counting.specs.Sets.{Set, none};
 ghost use Rattle.graph_core.specs.Covered.{IsCovered};
 ghost use Rattle.graph_core.specs.Graph.{in_cut, size};
-ghost use Rattle.graph_core.specs.Matchings.{IsPerfect, Together};
 ghost use Rattle.graph_core.specs.Structure.{IsBicritical, cut_pair};
 ghost use Rattle.graph_core.specs.Tight.{HasNoTightCut, IsNontrivial, IsTight};
-ghost use Rattle.match_core.specs.MatchingRows.{IsOf, edges_of};
 ghost use Rattle.match_core.specs.Partners.{ArePartners};
-ghost use Rattle.allowed_edges.specs.PairTables.{edge_lists, holds_both};
 ghost use Rattle.barrier_kit.specs.BarrierCuts.{IsSide};
 ghost use Rattle.separation_kit.specs.Pairs.{pair_of};
-ghost use Rattle.tight_cuts.specs.Candidates.{IsTightCandidate, ShoresDiffer, candidates, cuts, first_of, first_shore, front_candidates, with_edge_cut};
-ghost use Rattle.tight_cuts.specs.EdgeSearch.{AreWeights};
+ghost use Rattle.tight_cuts.specs.Candidates.{IsTightCandidate, ShoresDiffer, candidates, cuts, first_of, first_shore, front_candidates};
 ghost use Rattle.tight_cuts.specs.View.{candidate_of};
 
-use crate::bipartite::bipartite_shore_of_edge;
-use crate::candidate::{Candidate, CandidateList, Origin, add_shore, any_cuts, shores_of};
-use crate::edge_search::{Weights, leaders_at, shore_of_edge};
+use crate::bipartite::FloodSearch;
+use crate::candidate::{Candidate, CandidateList, any_cuts, shores_of};
+use crate::edge_cuts::{add_edge_cut, add_edge_cuts};
+use crate::edge_search::{ByPieces, NetworkSearch};
 use crate::front::{first_front_candidate, front_candidates, pair_where_bicritical};
-use crate::pieces::weights_of;
-use allowed_edges::{PairTable, together_beside};
 use graph_core::MultiGraph;
-use match_core::{Matching, PartnerTable, all_partners, perfect_without};
+use match_core::{PartnerTable, all_partners};
 use matching_digraph::side_of;
 use quick_kinds::quick_brace;
 use separation_kit::Pair;
 use std::alloc::{AllocError as Memory, Global};
 use vset_core::VSet;
-
-// What one edge adds to the list.
-fn add_edge_cut(
-    alloc: Global,
-    g: &MultiGraph,
-    pairs: &PairTable,
-    weights: &Weights,
-    e: u32,
-    list: &mut CandidateList,
-) -> Result<(), Memory>
-    requires covered { IsCovered g.now }
-    requires edge { Within (size g.now) e }
-    requires size { pairs.now.size ≡ size g.now }
-    requires both { (e f : ℕ) → Within (size g.now) e → Within (size g.now) f →
-        (holds_both (edge_lists pairs.now) e f ≡ true) ↔ Together g.now e f }
-    requires weights { AreWeights g.now weights.now.row.items weights.now.matchings }
-    ensures { OnOk result (list.new ≡ with_edge_cut g.now list.old e) }
-{
-    g.keeps_limits();
-    if any_cuts(list, g, e) {
-        return Ok(());
-    }
-    let leaders = leaders_at(alloc, g, pairs, e)?;
-    match shore_of_edge(alloc, g, weights, &leaders, e)? {
-        Some(shore) => {
-            add_shore(list, g.order(), Origin::Flow, shore)?;
-            Ok(())
-        }
-        None => Ok(()),
-    }
-}
 
 // The number of edges before the first that is in the cut of no candidate.
 fn edges_cut(list: &CandidateList, g: &MultiGraph) -> u32
@@ -79,7 +43,7 @@ fn edges_cut(list: &CandidateList, g: &MultiGraph) -> u32
 }
 
 // Adds what the edges of any graph give. The table of pairs is made where an edge is in the cut of no earlier candidate, and else not at all.
-fn add_edge_cuts(alloc: Global, g: &MultiGraph, list: &mut CandidateList) -> Result<(), Memory>
+fn add_network_cuts(alloc: Global, g: &MultiGraph, list: &mut CandidateList) -> Result<(), Memory>
     requires covered { IsCovered g.now }
     requires front { list.old ≡ front_candidates g.now }
     ensures { OnOk result (list.new ≡ candidates g.now) }
@@ -90,74 +54,8 @@ fn add_edge_cuts(alloc: Global, g: &MultiGraph, list: &mut CandidateList) -> Res
         return Ok(());
     }
     let shores = shores_of(alloc, list)?;
-    let pairs = together_beside(alloc, g, shores.as_slice())?;
-    let weights = weights_of(alloc, g, &pairs)?;
-    for k in known..g.size() {
-        add_edge_cut(alloc, g, &pairs, &weights, k + 1, list)?;
-    }
-    Ok(())
-}
-
-// What one edge of a bipartite graph adds to the list.
-fn add_bipartite_cut(
-    alloc: Global,
-    g: &MultiGraph,
-    side: VSet,
-    kept: &Matching,
-    e: u32,
-    list: &mut CandidateList,
-) -> Result<(), Memory>
-    requires covered { IsCovered g.now }
-    requires edge { Within (size g.now) e }
-    requires side { IsSide g.now (mem side) }
-    requires of { IsOf g.now kept.now }
-    requires perfect { IsPerfect g.now none (mem (edges_of kept.now)) }
-    ensures { OnOk result (list.new ≡ with_edge_cut g.now list.old e) }
-{
-    g.keeps_limits();
-    if any_cuts(list, g, e) {
-        return Ok(());
-    }
-    match bipartite_shore_of_edge(alloc, g, side, kept, e)? {
-        Some(shore) => {
-            add_shore(list, g.order(), Origin::Flow, shore)?;
-            Ok(())
-        }
-        None => Ok(()),
-    }
-}
-
-// A perfect matching of a covered graph.
-fn perfect_of(alloc: Global, g: &MultiGraph) -> Result<Matching, Memory>
-    requires { IsCovered g.now }
-    ensures of { IfOk result (λ kept. IsOf g.now kept) }
-    ensures perfect { IfOk result (λ kept. IsPerfect g.now none (mem (edges_of kept))) }
-{
-    g.keeps_limits();
-    match perfect_without(alloc, g, VSet::empty())? {
-        Some(kept) => Ok(kept),
-        None => unreachable!(),
-    }
-}
-
-// Adds what the edges of a bipartite graph give.
-fn add_bipartite_cuts(
-    alloc: Global,
-    g: &MultiGraph,
-    side: VSet,
-    list: &mut CandidateList,
-) -> Result<(), Memory>
-    requires covered { IsCovered g.now }
-    requires side { IsSide g.now (mem side) }
-    requires front { list.old ≡ front_candidates g.now }
-    ensures { OnOk result (list.new ≡ candidates g.now) }
-{
-    g.keeps_limits();
-    let kept = perfect_of(alloc, g)?;
-    for k in 0..g.size() {
-        add_bipartite_cut(alloc, g, side, &kept, k + 1, list)?;
-    }
-    Ok(())
+    let search = NetworkSearch::new(alloc, g, shores.as_slice(), ByPieces)?;
+    add_edge_cuts(alloc, g, &search, known, list)
 }
 
 // The first candidate that an edge of a bipartite graph gives, where the first two parts give none.
@@ -172,10 +70,10 @@ fn first_bipartite_cut(
     ensures { IfOk result (λ found. option_map candidate_of found ≡ first_of (candidates g.now)) }
 {
     g.keeps_limits();
-    let kept = perfect_of(alloc, g)?;
+    let search = FloodSearch::new(alloc, g, side)?;
     let mut list = CandidateList::new(alloc);
     for k in 0..g.size() {
-        add_bipartite_cut(alloc, g, side, &kept, k + 1, &mut list)?;
+        add_edge_cut(alloc, g, &search, k + 1, &mut list)?;
         if !list.is_empty() {
             return Ok(Some(list.get(0)));
         }
@@ -192,13 +90,14 @@ fn all_candidates(alloc: Global, g: &MultiGraph) -> Result<CandidateList, Memory
     g.keeps_limits();
     let mut list = front_candidates(alloc, g)?;
     if let Some(side) = side_of(alloc, g)? {
-        add_bipartite_cuts(alloc, g, side, &mut list)?;
+        let search = FloodSearch::new(alloc, g, side)?;
+        add_edge_cuts(alloc, g, &search, 0, &mut list)?;
         return Ok(list);
     }
     if list.is_empty() {
         return Ok(list);
     }
-    add_edge_cuts(alloc, g, &mut list)?;
+    add_network_cuts(alloc, g, &mut list)?;
     Ok(list)
 }
 
@@ -256,24 +155,23 @@ pub fn first_candidate_in(
     ensures none { IfOk result (λ found. (found ≡ None) ↔ HasNoTightCut g.now) }
 {
     g.keeps_limits();
-    let found = first_found(alloc, g, table, pair)?;
+    let front = first_front_candidate(alloc, g, table, pair)?;
+    let found = first_after(alloc, g, front)?;
     Ok(found)
 }
 
-// The first candidate.
-fn first_found(
+// The first candidate, from the first one of the first two parts.
+fn first_after(
     alloc: Global,
     g: &MultiGraph,
-    table: &PartnerTable,
-    pair: Option<Pair>,
+    front: Option<Candidate>,
 ) -> Result<Option<Candidate>, Memory>
     requires covered { IsCovered g.now }
-    requires table { ArePartners g.now none table.now }
-    requires pair { IsBicritical g.now → option_map pair_of pair ≡ cut_pair g.now }
+    requires front { option_map candidate_of front ≡ first_of (front_candidates g.now) }
     ensures { IfOk result (λ found. option_map candidate_of found ≡ first_of (candidates g.now)) }
 {
     g.keeps_limits();
-    if let Some(first) = first_front_candidate(alloc, g, table, pair)? {
+    if let Some(first) = front {
         return Ok(Some(first));
     }
     match side_of(alloc, g)? {

@@ -13,7 +13,8 @@
 //! through an edge is a union of the edge's pieces beside one of its ends (`Pieces`); over a pair list each odd set is met at least as
 //! often as the list is long, and exactly so often where it is tight (`PairSums`); so the least minimum cut of the network of the pieces
 //! is the intersection of all tight sets that have a piece (`Networks`), and one cut for each piece tells what the edge gives
-//! (`EdgePieces`). `candidates_by_pairs` answers the same by a cut for each pair of pieces, and only tests call it.
+//! (`EdgePieces`). `candidates_by_pairs` answers the same by a cut for each pair of pieces, and only tests call it. One walk over the
+//! edges, `add_edge_cuts`, asks any of the three (the trait `EdgeSearch`).
 //!
 //! `candidates_at` lists the candidates at a partition of the vertices into blocks: those of the quotient, led back to vertices of
 //! the graph (`IsCandidateAt`); `first_candidate_at` answers the first.
@@ -26,9 +27,11 @@ mod at_partition;
 mod bipartite;
 mod by_pairs;
 mod candidate;
+mod edge_cuts;
 mod edge_search;
 mod finder;
 mod front;
+mod groups;
 mod pieces;
 mod tightness;
 

@@ -12,11 +12,17 @@ ghost use Rattle.tight_cuts.specs.EdgeSearch.{AreWeights, at_place};
 ghost use Rattle.tight_cuts.specs.PairSums.{weight};
 ghost use Rattle.tight_cuts.specs.Pieces.{IsBeside};
 
-use crate::edge_search::Weights;
 use allowed_edges::PairTable;
 use graph_core::MultiGraph;
 use match_core::Matching;
 use std::alloc::{AllocError as Memory, Global};
+
+/// How many matchings of a pair list hold each edge, by edge number, and how many matchings the list has.
+#[derive(Drop)]
+pub(crate) struct Weights {
+    pub(crate) row: Vec<u64>,
+    pub(crate) matchings: u64,
+}
 
 // Counts the edges of one matching more.
 fn count_edges(row: &mut Vec<u64>, m: &Matching)

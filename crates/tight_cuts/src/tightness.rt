@@ -1,5 +1,5 @@
 //! Whether an odd cut is tight.
-ghost use Rattle.std.specs.Prelude.{◌≡◌, ◌≢◌, ℕ, ◌+◌, ◌||◌, ◌&&◌, ◌==◌, not, true, length, ◌↔◌, Some, None, IfOk};
+ghost use Rattle.std.specs.Prelude.{◌≡◌, ℕ, ◌+◌, ◌<◌, ◌||◌, ◌&&◌, ◌==◌, not, true, length, ◌↔◌, Some, None, IfOk};
 ghost use Rattle.counting.specs.Counts.{Within, is_odd};
 ghost use Rattle.counting.specs.Sets.{none};
 ghost use Rattle.counting.specs.Lists.{mem, IsRisingIn};
@@ -7,6 +7,7 @@ ghost use Rattle.graph_core.specs.Covered.{IsCovered};
 ghost use Rattle.graph_core.specs.Graph.{in_cut, size};
 ghost use Rattle.graph_core.specs.Matchings.{IsPerfect, Together};
 ghost use Rattle.match_core.specs.MatchingRows.{IsOf, edges_of};
+ghost use Rattle.allowed_edges.specs.PairTables.{IsPerfectWith};
 ghost use Rattle.tight_cuts.specs.Tightness.{CrossesTwice, IsTightness, NoLaterWith};
 
 use allowed_edges::{is_in_cut, perfect_with_edge, perfect_with_pair, share_end};
@@ -61,18 +62,15 @@ fn crossing(
         NoLaterWith g.now (mem shore) e) }
 {
     for k in 0..g.size() {
-        let e = k + 1;
-        if is_in_cut(g, shore, e) {
-            if let Some(matching) = crossing_with(alloc, g, shore, kept, e)? {
-                return Ok(Some(matching));
-            }
+        if let Some(matching) = crossing_with(alloc, g, shore, kept, k + 1)? {
+            return Ok(Some(matching));
         }
     }
     Ok(None)
 }
 
-// A perfect matching with edge e of the cut and a later edge of it, from a perfect matching; none exactly where no later edge
-// of the cut lies together with e.
+// A perfect matching with edge e and a later edge of the cut, from a perfect matching; none exactly where e is not in the cut or no
+// later edge of the cut lies together with it.
 fn crossing_with(
     alloc: Global,
     g: &MultiGraph,
@@ -81,19 +79,22 @@ fn crossing_with(
     e: u32,
 ) -> Result<Option<Matching>, Memory>
     requires edge { Within (size g.now) e }
-    requires in_cut { in_cut g.now (mem shore) e ≡ true }
     requires of { IsOf g.now kept.now }
     requires perfect { IsPerfect g.now none (mem (edges_of kept.now)) }
     ensures some { IfOk result (λ o. (m : _) → o ≡ Some m → CrossesTwice g.now (mem shore) m) }
-    ensures none { IfOk result (λ o. o ≡ None → NoLaterWith g.now (mem shore) e) }
+    ensures none { IfOk result
+        (λ o. o ≡ None → in_cut g.now (mem shore) e ≡ true → NoLaterWith g.now (mem shore) e) }
 {
+    if !is_in_cut(g, shore, e) {
+        return Ok(None);
+    }
     match perfect_with_edge(alloc, g, kept, e)? {
         Some(held) => crossing_from(alloc, g, shore, &held, e),
         None => Ok(None),
     }
 }
 
-// The same from a perfect matching that holds e.
+// The same for an edge e of the cut from a perfect matching that holds it.
 fn crossing_from(
     alloc: Global,
     g: &MultiGraph,
@@ -103,47 +104,44 @@ fn crossing_from(
 ) -> Result<Option<Matching>, Memory>
     requires edge { Within (size g.now) e }
     requires in_cut { in_cut g.now (mem shore) e ≡ true }
-    requires of { IsOf g.now held.now }
-    requires perfect { IsPerfect g.now none (mem (edges_of held.now)) }
-    requires holds { mem (edges_of held.now) e ≡ true }
+    requires held { IsPerfectWith g.now e held.now }
     ensures some { IfOk result (λ o. (m : _) → o ≡ Some m → CrossesTwice g.now (mem shore) m) }
     ensures none { IfOk result (λ o. o ≡ None → NoLaterWith g.now (mem shore) e) }
 {
     for k in e..g.size() {
-        let f = k + 1;
-        if is_in_cut(g, shore, f) {
-            if let Some(matching) = perfect_with_both(alloc, g, held, e, f)? {
-                return Ok(Some(matching));
-            }
+        if let Some(matching) = crossing_by(alloc, g, shore, held, e, k + 1)? {
+            return Ok(Some(matching));
         }
     }
     Ok(None)
 }
 
-// A perfect matching that holds the different edges e and f, from one that holds e; none exactly where they do not lie together.
-fn perfect_with_both(
+// A perfect matching with the edge e of the cut and the later edge f of it, from one that holds e; none exactly where f is not in the
+// cut or the two do not lie together.
+fn crossing_by(
     alloc: Global,
     g: &MultiGraph,
+    shore: VSet,
     held: &Matching,
     e: u32,
     f: u32,
 ) -> Result<Option<Matching>, Memory>
     requires first { Within (size g.now) e }
     requires second { Within (size g.now) f }
-    requires differ { e ≢ f }
-    requires of { IsOf g.now held.now }
-    requires perfect { IsPerfect g.now none (mem (edges_of held.now)) }
-    requires holds { mem (edges_of held.now) e ≡ true }
-    ensures of { IfOk result (λ o. (m : _) → o ≡ Some m → IsOf g.now m) }
-    ensures perfect { IfOk result
-        (λ o. (m : _) → o ≡ Some m → IsPerfect g.now none (mem (edges_of m))) }
-    ensures holds { IfOk result
-        (λ o. (m : _) → o ≡ Some m → (mem (edges_of m) e ≡ true) × (mem (edges_of m) f ≡ true)) }
-    ensures none { IfOk result (λ o. (o ≡ None) ↔ (Together g.now e f → ⊥)) }
+    requires later { e < f }
+    requires in_cut { in_cut g.now (mem shore) e ≡ true }
+    requires held { IsPerfectWith g.now e held.now }
+    ensures some { IfOk result (λ o. (m : _) → o ≡ Some m → CrossesTwice g.now (mem shore) m) }
+    ensures none { IfOk result
+        (λ o. o ≡ None → in_cut g.now (mem shore) f ≡ true → Together g.now e f → ⊥) }
 {
     g.keeps_limits();
+    if !is_in_cut(g, shore, f) {
+        return Ok(None);
+    }
     if share_end(g, e, f) {
         return Ok(None);
     }
-    perfect_with_pair(alloc, g, held, e, f)
+    let found = perfect_with_pair(alloc, g, held, e, f)?;
+    Ok(found)
 }

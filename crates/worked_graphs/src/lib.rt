@@ -1,15 +1,18 @@
 //! Graphs of the literature, by the ends of their edges, for the tests of the other crates.
 //!
 //! Each graph is a constant, the edges in the order of their numbers; `graph_with` makes the multigraph of them. What is asked of
-//! these graphs is worked out by hand in the tests.
+//! these graphs is worked out by hand in the tests. `is_covered` and `is_bipartite` tell what most calls ask of a graph first.
 //!
-//! Stands on `graph_core`. Source of the graphs: Lovász and Plummer, "Matching Theory"; Lucchesi and Murty, "Perfect Matchings".
+//! Stands on `graph_core` and `allowed_edges`. Source of the graphs: Lovász and Plummer, "Matching Theory"; Lucchesi and Murty, "Perfect Matchings".
 #![tactic(auto)]
 
 ghost use Rattle.std.specs.Prelude.{◌≡◌, ℕ, ◌<◌, ◌≤◌, length, IfOk, OnOk, IsErrOf};
 ghost use Rattle.counting.specs.Counts.{Within};
 ghost use Rattle.worked_graphs.specs.EdgeFaults.{IsReached, JoinsTwo, pair_at};
 
+mod asked;
+
+pub use asked::{is_bipartite, is_covered};
 use graph_core::{AddFault, MOST_EDGES, MultiGraph};
 use std::alloc::Global;
 use vset_core::MOST_VERTICES;
@@ -46,6 +49,20 @@ pub const CYCLE_OF_8: [(u32, u32); 8] = [
 
 /// The cycle of four with one edge doubled.
 pub const DOUBLED_SQUARE: [(u32, u32); 5] = [(1, 2), (1, 2), (2, 3), (3, 4), (4, 1)];
+
+/// Three odd cycles, each around the one before, and a stem, on 8 vertices: 1 2 3, then 4 5 with it, then 6 7 with these; and 8 at 7.
+pub const FLOWER: [(u32, u32); 10] = [
+    (1, 2),
+    (4, 5),
+    (6, 7),
+    (1, 3),
+    (2, 3),
+    (1, 4),
+    (5, 2),
+    (4, 6),
+    (7, 3),
+    (8, 7),
+];
 
 /// The complete graph on four vertices.
 pub const K4: [(u32, u32); 6] = [(1, 2), (1, 3), (1, 4), (2, 3), (2, 4), (3, 4)];

@@ -1,7 +1,5 @@
 use Rattle.std.proofs.Common.{ap, sym}
-use Rattle.barrier_kit.proofs.ShoreFacts.{barrier_shores-tight}
 use Rattle.counting.specs.Lists.{mem}
-use Rattle.separation_kit.proofs.SeparationFacts.{separation_shores-tight}
 use Rattle.tight_cuts.specs.Candidates.{first_of}
 use Rattle.tight_cuts.proofs.Completeness.{candidates_none}
 use Rattle.tight_cuts.proofs.finder.first_of_bipartite.Goals as goal
@@ -13,6 +11,4 @@ quick_brace-requires-clause-bipartite c =
 pub returns-then-branch : goal.returns-then-branch
 returns-then-branch c =
     let none = c.in_ok-quick_brace.ensures.0 c.if-branch.true in
-    ap first_of (sym ((candidates_none c.args.g.now c.keeps_limits.ensures.multigraph.ends c.requires.covered
-    (barrier_shores-tight c.args.g.now c.keeps_limits.ensures.multigraph.ends c.requires.covered)
-    (separation_shores-tight c.args.g.now c.keeps_limits.ensures.multigraph.ends)).1 none))
+    ap first_of (sym ((candidates_none c.args.g.now c.keeps_limits.ensures.multigraph.ends c.requires.covered).1 none))

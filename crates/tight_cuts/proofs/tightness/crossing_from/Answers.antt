@@ -1,11 +1,5 @@
-use Rattle.std.proofs.Common.{◌+◌, ◌∙◌, sym, arith}
-use Rattle.counting.specs.Lists.{mem}
-use Rattle.tight_cuts.proofs.CrossingMatchings.{crosses_by_two}
+use Rattle.std.proofs.Common.{◌∙◌}
 use Rattle.tight_cuts.proofs.tightness.crossing_from.Goals as goal
 
 pub returns-in-Some-clause-some : goal.returns-in-Some-clause-some
-returns-in-Some-clause-some c m q =
-    let is = c.in-Some.is ∙ q in
-    let found = c.in_ok-matching.ensures in
-    crosses_by_two c.args.g.now (mem c.args.shore) m c.args.e (c.loop-k.k + 1) c.requires.edge (omega arith) (omega arith) (found.of m is) (found.perfect m is) (found.holds m is).0 (found.holds m is).1 c.requires.in_cut
-    (sym c.is_in_cut.ensures ∙ c.if-is_in_cut.true)
+returns-in-Some-clause-some c m q = c.in_ok-matching.ensures.some m (c.in-Some.is ∙ q)

@@ -1,0 +1,30 @@
+use Rattle.std.proofs.Common.{◌∙◌, sym, subst}
+use Rattle.counting.specs.Counts.{Within}
+use Rattle.tight_cuts.specs.Candidates.{greater_end, lesser_end}
+use Rattle.tight_cuts.specs.EdgeSearch.{IsCommonShore}
+use Rattle.tight_cuts.proofs.EdgePieces.{first_done, piece_found, piece_full, piece_none}
+use Rattle.tight_cuts.proofs.edge_search.ByPiecesPieceSearch.shore_of_piece.Goals as goal
+
+pub returns-in_default-clause-none : goal.returns-in_default-clause-none
+returns-in_default-clause-none c n = first_done c.args.g.now c.args.e c.args.groups.x c.requires.before (λ y w.
+    piece_none c.args.g.now c.keeps_limits.ensures c.requires.rows.covered c.args.e c.requires.rows.edge c.args.groups.x c.requires.x.within c.in_ok-shore.field-0
+    (subst (λ j. IsCommonShore c.args.g.now (lesser_end c.args.g.now c.args.e) (greater_end c.args.g.now c.args.e) (c.args.groups.x, j) c.in_ok-shore.field-0) c.requires.y c.in_ok-shore.ensures)
+    c.in_default.is y)
+
+pub returns-in-Some-first_lacking-clause-some : goal.returns-in-Some-first_lacking-clause-some
+returns-in-Some-first_lacking-clause-some c s q =
+    let lacks = c.in-Some-first_lacking.ensures.some in
+    piece_found c.args.g.now c.keeps_limits.ensures c.requires.rows.covered c.args.e c.requires.rows.edge c.args.groups.x c.requires.x.within c.in_ok-shore.field-0
+    (subst (λ j. IsCommonShore c.args.g.now (lesser_end c.args.g.now c.args.e) (greater_end c.args.g.now c.args.e) (c.args.groups.x, j) c.in_ok-shore.field-0) c.requires.y c.in_ok-shore.ensures)
+    c.requires.x.outside
+    c.requires.before c.in-Some.shore c.in-Some.is c.in-Some-first_lacking.field-0
+    (subst (λ n. Within n c.in-Some-first_lacking.field-0) c.order.ensures.is lacks.0)
+    (λ e. lacks.1 (e ∙ sym c.requires.second))
+    lacks.2
+
+pub returns-in-None-clause-none : goal.returns-in-None-clause-none
+returns-in-None-clause-none c n = first_done c.args.g.now c.args.e c.args.groups.x c.requires.before
+    (piece_full c.args.g.now c.keeps_limits.ensures c.requires.rows.covered c.args.e c.requires.rows.edge c.args.groups.x c.requires.x.within c.in_ok-shore.field-0
+    (subst (λ j. IsCommonShore c.args.g.now (lesser_end c.args.g.now c.args.e) (greater_end c.args.g.now c.args.e) (c.args.groups.x, j) c.in_ok-shore.field-0) c.requires.y c.in_ok-shore.ensures)
+    c.in-Some.shore c.in-Some.is
+    (λ y w d. c.in-None.ensures.none y (subst (λ n. Within n y) (sym c.order.ensures.is) w) (λ e. d (e ∙ c.requires.second))))

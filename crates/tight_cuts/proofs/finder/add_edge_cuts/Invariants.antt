@@ -1,7 +1,0 @@
-use Rattle.std.proofs.Common.{◌≡◌}
-use Rattle.tight_cuts.specs.Candidates.{front_candidates}
-use Rattle.tight_cuts.proofs.EdgeLoop.{after_edges}
-use Rattle.tight_cuts.proofs.finder.add_edge_cuts.Given as goal
-
-abbrev pub invariant-loop-k : goal.invariant-loop-k
-invariant-loop-k l = l.list ≡ after_edges l.g (front_candidates l.g) l.k

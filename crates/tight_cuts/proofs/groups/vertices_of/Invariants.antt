@@ -1,0 +1,11 @@
+use Rattle.std.proofs.Common.{◌≡◌, ◌<◌, ℕ, false}
+use Rattle.counting.specs.Counts.{Within}
+use Rattle.counting.specs.Lists.{mem}
+use Rattle.tight_cuts.specs.EdgeSearch.{row_group}
+use Rattle.tight_cuts.proofs.groups.vertices_of.Given as goal
+
+abbrev pub invariant-loop-k : goal.invariant-loop-k
+invariant-loop-k l = record {
+  these : (v : ℕ) → Within l.k v → mem l.vertices v ≡ mem l.set (row_group l.groups.a l.groups.b l.groups.x l.groups.y l.leaders v);
+  later : (v : ℕ) → l.k < v → mem l.vertices v ≡ false;
+}

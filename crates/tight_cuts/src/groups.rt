@@ -1,0 +1,147 @@
+//! The network of the pieces of an edge in groups, and its least minimum cut.
+ghost use Rattle.std.specs.Prelude.{◌≡◌, ◌≢◌, ℕ, ◌+◌, ◌<◌, ◌≤◌, ◌^◌, ◌++◌, length, IfOk, OnOk};
+ghost use Rattle.counting.specs.Counts.{Within, total};
+ghost use Rattle.counting.specs.Lists.{mem};
+ghost use Rattle.flow_core.specs.Nets.{total_capacity, with_arc};
+ghost use Rattle.graph_core.specs.Graph.{first_end, second_end, size};
+ghost use Rattle.tight_cuts.specs.Candidates.{greater_end, lesser_end};
+ghost use Rattle.tight_cuts.specs.EdgeSearch.{AreGroups, AreRowsAt, IsBeyond, IsCommonShore, IsCutOfGroups, Leads, arc_between, arcs_by, at_place, group_net, row_group};
+ghost use Rattle.tight_cuts.specs.Pieces.{group_of};
+
+use crate::pieces::Weights;
+use flow_core::{CutAnswer, Net, min_cut};
+use graph_core::MultiGraph;
+use std::alloc::{AllocError as Memory, Global};
+use vset_core::{MOST_VERTICES, VSet};
+
+/// The ends `a` and `b` of an edge, and the vertices `x` and `y` that lead two of its pieces: `a` and the piece of `x` make one
+/// group, `b` and the piece of `y` another, and each other piece is a group. Where `y` is `b`, `b` alone is a group.
+#[derive(Clone, Copy, Drop)]
+pub(crate) struct Grouping {
+    pub(crate) a: u32,
+    pub(crate) b: u32,
+    pub(crate) x: u32,
+    pub(crate) y: u32,
+}
+
+impl Grouping {
+    // The group of a vertex, by the vertex that leads its piece.
+    fn group(self, leader: u32) -> u32
+        ensures { result ≡ group_of self.a self.b self.x self.y leader }
+    {
+        if leader == self.x {
+            self.a
+        } else if leader == self.y {
+            self.b
+        } else {
+            leader
+        }
+    }
+}
+
+// Appends an arc between two nodes, unless they are one.
+fn add_arc(net: &mut Net, first: u32, second: u32, capacity: u64) -> Result<(), Memory>
+    requires first { Within net.old.nodes first }
+    requires second { Within net.old.nodes second }
+    requires below { total_capacity net.old + capacity < 2 ^ 63 }
+    ensures { OnOk result
+        (net.new ≡ record net.old { arcs = net.old.arcs ++ arc_between first second capacity }) }
+{
+    if first != second {
+        net.add(first, second, capacity)?;
+    }
+    Ok(())
+}
+
+// The network of the groups: an arc for each edge that joins two groups, with the edge's weight.
+fn network(
+    alloc: Global,
+    g: &MultiGraph,
+    weights: &[u64],
+    leaders: &[u32],
+    groups: Grouping,
+) -> Result<Net, Memory>
+    requires weights { length weights.now ≡ size g.now + 1 }
+    requires leaders { length leaders.now ≡ g.now.order + 1 }
+    requires small { total (size g.now) (at_place weights.now) < 2 ^ 63 }
+    requires within { (v : ℕ) → Within g.now.order v →
+        Within g.now.order (row_group groups.a groups.b groups.x groups.y leaders.now v) }
+    ensures { IfOk result
+        (λ net. net ≡ group_net g.now weights.now leaders.now groups.a groups.b groups.x groups.y) }
+{
+    g.keeps_limits();
+    let mut net = Net::new(alloc, g.order())?;
+    for k in 0..g.size() {
+        let e = k + 1;
+        let ends = g.ends(e);
+        let first = groups.group(leaders[ends.a as usize]);
+        let second = groups.group(leaders[ends.b as usize]);
+        add_arc(&mut net, first, second, weights[e as usize])?;
+    }
+    Ok(net)
+}
+
+// The vertices whose groups are in the set of nodes.
+fn vertices_of(set: VSet, leaders: &[u32], n: u32, groups: Grouping) -> VSet
+    requires few { n ≤ MOST_VERTICES }
+    requires leaders { length leaders.now ≡ n + 1 }
+    requires within { (v : ℕ) → Within n v →
+        Within n (row_group groups.a groups.b groups.x groups.y leaders.now v) }
+    ensures { (v : ℕ) → Within n v →
+        mem result v ≡ mem set (row_group groups.a groups.b groups.x groups.y leaders.now v) }
+{
+    let mut vertices = VSet::empty();
+    for k in 0..n {
+        let v = k + 1;
+        if set.contains(groups.group(leaders[v as usize])) {
+            vertices = vertices.with(v);
+        }
+    }
+    vertices
+}
+
+// The vertices of the least minimum cut of the groups' network, if its value is at most the number of matchings in the pair list.
+fn cut_of_groups(
+    alloc: Global,
+    g: &MultiGraph,
+    weights: &Weights,
+    leaders: &[u32],
+    groups: Grouping,
+) -> Result<Option<VSet>, Memory>
+    requires weights { length weights.now.row.items ≡ size g.now + 1 }
+    requires leaders { length leaders.now ≡ g.now.order + 1 }
+    requires groups { AreGroups g.now leaders.now weights.now.row.items groups.a groups.b groups.x
+        groups.y }
+    ensures { IfOk result
+        (IsCutOfGroups g.now weights.now.row.items leaders.now weights.now.matchings groups.a
+        groups.b groups.x groups.y) }
+{
+    g.keeps_limits();
+    let net = network(alloc, g, &weights.row, leaders, groups)?;
+    match min_cut(alloc, &net, groups.a, groups.b, weights.matchings)? {
+        CutAnswer::Cut { set, .. } => Ok(Some(vertices_of(set, leaders, g.order(), groups))),
+        CutAnswer::Exceeds { .. } => Ok(None),
+    }
+}
+
+/// The common shore of all tight sets that have `a` and `x` and neither `b` nor `y`, where there is one. Here `x` leads a piece of
+/// edge `e`, and `y` leads another or is `b` itself.
+pub(crate) fn common_shore(
+    alloc: Global,
+    g: &MultiGraph,
+    weights: &Weights,
+    leaders: &[u32],
+    groups: Grouping,
+    e: u32,
+) -> Result<Option<VSet>, Memory>
+    requires rows { AreRowsAt g.now e weights.now.row.items weights.now.matchings leaders.now }
+    requires first { groups.a ≡ lesser_end g.now e }
+    requires second { groups.b ≡ greater_end g.now e }
+    requires x { Leads g.now e leaders.now groups.x }
+    requires y { IsBeyond g.now e leaders.now groups.x groups.y }
+    ensures { IfOk result
+        (IsCommonShore g.now (lesser_end g.now e) (greater_end g.now e) (groups.x, groups.y)) }
+{
+    g.keeps_limits();
+    cut_of_groups(alloc, g, weights, leaders, groups)
+}
