@@ -14,7 +14,7 @@ use Rattle.tight_cuts.specs.Candidates.{Candidate}
 use Rattle.tight_cuts.specs.CandidatesAt.{candidates_at}
 use Rattle.tight_cuts.specs.View.{candidate_of}
 use Rattle.tight_cuts.specs.declared.candidate.Candidate.{Candidate as StoredCandidate}
-use Rattle.decomposer.specs.Choices.{gap, gap_of}
+use Rattle.decomposer.specs.Choices.{PicksBalanced, gap, gap_of}
 use Rattle.decomposer.specs.Picked.{IsPickedAt, PicksShore}
 use Rattle.tree_core.specs.Derivations.{kept_at, merged_at}
 use Rattle.ear_core.specs.EarLists.{PlainEars}
@@ -44,7 +44,7 @@ use Rattle.bench_top.specs.EarChecks.{EarCheckGives}
 use Rattle.bench_top.specs.Fixed.{DifferAtMostIn, HasChosenText, HasOneOutput, MayBeBerge, MayShow, ShowsNothingFree}
 use Rattle.bench_top.specs.Growths.{Grown, IsCounted}
 use Rattle.bench_top.specs.Loading.{Loaded, All, Bad, Absent, loaded}
-use Rattle.bench_top.specs.Orders.{NamedPicks, PicksBalanced, ScriptPicks}
+use Rattle.bench_top.specs.Orders.{NamedPicks, ScriptPicks}
 use Rattle.bench_top.specs.Outcome.{Analysed, Analysed6, CommandGives, DecomposeGives, LoadedGives, Outcome, ResultOf, TellsDerivation, with_given_names}
 use Rattle.bench_top.specs.Replays.{ReplayGives, ReplayedTree}
 use Rattle.bench_top.specs.Tasks.{Task}
