@@ -1,19 +1,13 @@
--- A derivation of a graph within the limits may be written: no shore is empty, and there are at most 127 nodes, since there are few
--- leaves where the graph has at least four vertices, and no cut where it has fewer. Its leaves are partitions of the graph's vertices.
-use Rattle.std.proofs.Common.{◌≡◌, ℕ, ◌≤◌, ◌<◌, List, [], ◌∷◌, length, map, All, ap, subst, true, refl, ◌∙◌, arith, zero, suc, inl, inr}
-use Rattle.std.proofs.lemmas.Bool.{cases_lt}
-use Rattle.counting.specs.Lists.{mem}
-use Rattle.counting.proofs.Counts.{count_complement}
-use Rattle.graph_core.specs.Graph.{Graph, IsGraph}
+-- A derivation of a graph within the limits may be written, since no shore is empty and there are few nodes; and the report with its
+-- leaves behind it stands for the tree.
+use Rattle.std.proofs.Common.{◌≡◌, ℕ, List, ◌∷◌, map, ap, subst, true, refl, ◌∙◌, arith}
+use Rattle.graph_core.specs.Graph.{Graph}
 use Rattle.graph_core.specs.Partitions.{singles}
-use Rattle.graph_core.specs.Shores.{blocks_in}
 use Rattle.graph_core.specs.View.{IsWithinLimits}
-use Rattle.graph_core.proofs.Singles.{length-singles}
 use Rattle.contraction.specs.Partition.{PartitionValue}
-use Rattle.tree_core.specs.Derivations.{IsDerivation, IsDerivationAt, kept_at, merged_at}
+use Rattle.tree_core.specs.Derivations.{IsDerivation, kept_at, merged_at}
 use Rattle.tree_core.specs.Leaves.{StandsAt, leaves, partitions_of}
-use Rattle.tree_core.specs.Shapes.{Shape, leaf, cut, node_count}
-use Rattle.tree_core.proofs.CutsBelow.{few-leaves}
+use Rattle.tree_core.specs.Shapes.{Shape, leaf, cut}
 use Rattle.tree_core.proofs.DerivationLeaves.{partitions-leaves}
 use Rattle.tree_core.proofs.Sizes.{leaf_count-cuts, node_count-cuts, length-leaves_at}
 use Rattle.line_text.specs.Format.{Stands}
@@ -29,6 +23,7 @@ use Rattle.report_text.specs.Tallies.{AreLeafKinds}
 use Rattle.report_text.specs.declared.tallies.LeafKind.{LeafKind}
 use Rattle.report_text.proofs.Comments.{commented-more, stands-commented}
 use Rattle.report_text.proofs.CommentLines.{derivation-commented}
+use Rattle.report_text.proofs.FewLeaves.{blocks-of_leaves, few-nodes}
 use Rattle.bench_top.specs.Outcome.{TellsDerivation, with_given_names}
 use Rattle.bench_top.specs.declared.status.Status.TheVariants.{Done}
 
@@ -36,43 +31,6 @@ use Rattle.bench_top.specs.declared.status.Status.TheVariants.{Done}
 pub has-vertices : (n : ℕ) (p : List (List ℕ)) (t : Shape) → StandsAt n p t → HasVertices t
 has-vertices n p leaf stands = tt
 has-vertices n p (cut x k m) stands = (stands.1, has-vertices n (kept_at n p x) k stands.3, has-vertices n (merged_at n p x) m stands.4)
-
--- a cut has at least three blocks on either side
-few-without_cut : (g : Graph) (t : Shape) → g.order < 4 → IsDerivationAt g (singles g.order) t → node_count t ≤ 127
-few-without_cut g leaf small is = omega arith
-few-without_cut g (cut x k m) small is =
-    let inside = is.0.nontrivial.inside in
-    let outside = is.0.nontrivial.outside in
-    let all = count_complement (length (singles g.order)) (blocks_in (singles g.order) (mem x)) in
-    let so_many = length-singles g.order in
-    absurd (omega arith)
-
-pub few-nodes : (g : Graph) (t : Shape) → IsGraph g → g.order ≤ 128 → IsDerivation g t → node_count t ≤ 127
-few-nodes g t is few derived = elim (cases_lt g.order 4) [
-  | inl small ↦ few-without_cut g t small derived.derives
-  | inr four ↦ let leaves = few-leaves g t is derived four in let cuts = leaf_count-cuts t in let nodes = node_count-cuts t in omega arith
-]
-
--- and so there are few leaves
-pub few-leaves_listed : (n : ℕ) (t : Shape) → node_count t ≤ 127 → length (partitions_of n (leaves n t)) ≤ 127
-few-leaves_listed n t few =
-    let listed = length-leaves_at n (singles n) t in let cuts = leaf_count-cuts t in let nodes = node_count-cuts t in
-    let same = length-partitions n (leaves n t) in omega arith
-  where
-    length-partitions : (n : ℕ) (ps : List (List (List ℕ))) → length (partitions_of n ps) ≡ length ps
-    length-partitions n [] = refl
-    length-partitions n (p ∷ ps) = ap suc (length-partitions n ps)
-
--- each is a partition of 1 to n
-pub orders-of_leaves : (n : ℕ) (ps : List (List (List ℕ))) → All (λ (p : PartitionValue). p.order ≡ n) (partitions_of n ps)
-orders-of_leaves n [] k d l = absurd (omega arith)
-orders-of_leaves n (p ∷ ps) zero d l = refl
-orders-of_leaves n (p ∷ ps) (suc k) d l = orders-of_leaves n ps k d (omega arith)
-
--- and has the blocks of the leaf
-pub blocks-of_leaves : (n : ℕ) (ps : List (List (List ℕ))) → map (λ (p : PartitionValue). p.blocks) (partitions_of n ps) ≡ ps
-blocks-of_leaves n [] = refl
-blocks-of_leaves n (p ∷ ps) = ap (λ (qs : List (List (List ℕ))). p ∷ qs) (blocks-of_leaves n ps)
 
 -- the text of a tree ends with a line feed
 pub closed-tree_text : (n : ℕ) (t : Shape) → is_closed (tree_text n t) ≡ true

@@ -10,7 +10,7 @@ use Rattle.tight_cuts.specs.Candidates.{Candidate}
 use Rattle.tight_cuts.specs.CandidatesAt.{candidates_at}
 use Rattle.tight_cuts.specs.View.{candidate_of}
 use Rattle.tight_cuts.specs.declared.candidate.Candidate.{Candidate as StoredCandidate}
-use Rattle.decomposer.specs.Choices.{gap, gap_of}
+use Rattle.decomposer.specs.Choices.{PicksBalanced, gap, gap_of}
 use Rattle.decomposer.specs.Picked.{IsPickedAt, PicksShore}
 use Rattle.tree_core.specs.Derivations.{kept_at, merged_at}
 use Rattle.tree_core.specs.LeafMaps.{leaf_at}
@@ -19,7 +19,7 @@ use Rattle.report_text.specs.Tallies.{AreLeafKinds, IsLeafKind, IsTally, kind_at
 use Rattle.report_text.specs.declared.tallies.LeafKind.{LeafKind}
 use Rattle.report_text.specs.declared.tallies.LeafKind.TheVariants.{Brick, Brace}
 use Rattle.report_text.specs.declared.tallies.Tally.{Tally}
-use Rattle.bench_top.specs.Orders.{NamedPicks, PicksBalanced, ScriptPicks}
+use Rattle.bench_top.specs.Orders.{NamedPicks, ScriptPicks}
 use Rattle.bench_top.specs.declared.command.NamedOrder.{NamedOrder}
 use Rattle.bench_top.specs.declared.command.NamedOrder.TheVariants.{First, Last, Balanced}
 

@@ -1,24 +1,32 @@
--- The lines of the first leaves, with one more.
-use Rattle.std.proofs.Common.{◌≡◌, ◌∙◌, ℕ, zero, suc, ◌+◌, List, [], ◌∷◌, ◌++◌, Some, take, slice_get, ap, ap₂, arith}
+-- The lines of the leaves from a place on: that of the leaf there, and then those from the next place on.
+use Rattle.std.proofs.Common.{◌≡◌, ◌∙◌, ℕ, zero, suc, ◌+◌, List, [], ◌∷◌, ◌++◌, Some, append_assoc, drop, length, slice_get, refl, ap, sym, arith}
 use Rattle.std.proofs.lemmas.Option.{none-some, same_Some}
 use Rattle.tree_core.specs.LeafMaps.{PlainLeafMap}
 use Rattle.report_text.specs.declared.comparisons.MapLine.{MapLine}
 use Rattle.bench_top.specs.Comparisons.{line_of, lines_of}
 
-lines-next : (before i : ℕ) (ps : List (List (List ℕ))) (maps : List PlainLeafMap) (p : List (List ℕ)) (m : PlainLeafMap) → slice_get ps i ≡ Some p → slice_get maps i ≡ Some m →
-    lines_of before (take (suc i) ps) (take (suc i) maps) ≡ lines_of before (take i ps) (take i maps) ++ line_of (before + suc i) p m ∷ []
-lines-next before i [] maps p m at_p at_m = absurd (none-some _ at_p)
-lines-next before i (q ∷ ps) [] p m at_p at_m = absurd (none-some _ at_m)
-lines-next before zero (q ∷ ps) (n ∷ maps) p m at_p at_m =
-    ap₂ (λ (b : List (List ℕ)) (a : PlainLeafMap). line_of (suc before) b a ∷ []) (same_Some _ _ at_p) (same_Some _ _ at_m)
-    ∙ ap (λ (k : ℕ). line_of k p m ∷ []) (let e : suc before ≡ before + suc zero = omega arith in e)
-lines-next before (suc i) (q ∷ ps) (n ∷ maps) p m at_p at_m =
-    ap (λ (lines : List MapLine). line_of (suc before) q n ∷ lines)
-    (lines-next (suc before) i ps maps p m at_p at_m
-    ∙ ap (λ (k : ℕ). lines_of (suc before) (take i ps) (take i maps) ++ line_of k p m ∷ []) (let e : suc before + suc i ≡ before + suc (suc i) = omega arith in e))
+-- a list from a place on
+drop-at : (i : ℕ) (ps : List (List (List ℕ))) (p : List (List ℕ)) → slice_get ps i ≡ Some p → drop i ps ≡ p ∷ drop (suc i) ps
+drop-at i [] p is = absurd (none-some _ is)
+drop-at zero (q ∷ ps) p is = ap (λ (b : List (List ℕ)). b ∷ ps) (same_Some _ _ is)
+drop-at (suc i) (q ∷ ps) p is = drop-at i ps p is
 
--- from the first on
-pub lines-more : (i : ℕ) (ps : List (List (List ℕ))) (maps : List PlainLeafMap) (p : List (List ℕ)) (m : PlainLeafMap) → slice_get ps i ≡ Some p → slice_get maps i ≡ Some m →
-    lines_of 0 (take (suc i) ps) (take (suc i) maps) ≡ lines_of 0 (take i ps) (take i maps) ++ line_of (suc i) p m ∷ []
-lines-more i ps maps p m at_p at_m =
-    lines-next 0 i ps maps p m at_p at_m ∙ ap (λ (k : ℕ). lines_of 0 (take i ps) (take i maps) ++ line_of k p m ∷ []) (let e : 0 + suc i ≡ suc i = omega arith in e)
+-- one line more is written, and one map less is left
+pub lines-more : (i : ℕ) (ps : List (List (List ℕ))) (p : List (List ℕ)) (m : PlainLeafMap) (left maps : List PlainLeafMap) (all lines next : List MapLine) (line : MapLine) → slice_get ps i ≡ Some p →
+    all ≡ lines ++ lines_of i (drop i ps) left → left ≡ m ∷ maps → line ≡ line_of (i + 1) p m → next ≡ lines ++ line ∷ [] → all ≡ next ++ lines_of (i + 1) (drop (i + 1) ps) maps
+lines-more i ps p m left maps all lines next line at before first is more =
+    let one : i + 1 ≡ suc i = omega arith in
+    before
+    ∙ ap (λ (ms : List PlainLeafMap). lines ++ lines_of i (drop i ps) ms) first
+    ∙ ap (λ (qs : List (List (List ℕ))). lines ++ lines_of i qs (m ∷ maps)) (drop-at i ps p at)
+    ∙ sym (append_assoc lines (line_of (suc i) p m ∷ []) (lines_of (suc i) (drop (suc i) ps) maps))
+    ∙ ap (λ (k : ℕ). (lines ++ line_of k p m ∷ []) ++ lines_of k (drop k ps) maps) (sym one)
+    ∙ ap (λ (l : MapLine). (lines ++ l ∷ []) ++ lines_of (i + 1) (drop (i + 1) ps) maps) (sym is)
+    ∙ ap (λ (ls : List MapLine). ls ++ lines_of (i + 1) (drop (i + 1) ps) maps) (sym more)
+
+-- where no map is left, there is no line
+pub lines-none : (i : ℕ) (ps : List (List (List ℕ))) (maps : List PlainLeafMap) → length maps ≡ 0 → lines_of i ps maps ≡ []
+lines-none i [] [] none = refl
+lines-none i (p ∷ ps) [] none = refl
+lines-none i [] (m ∷ maps) none = refl
+lines-none i (p ∷ ps) (m ∷ maps) none = absurd (omega arith)

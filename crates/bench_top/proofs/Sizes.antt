@@ -1,6 +1,6 @@
 -- A matching that is maximum has as many edges as rows, and misses the vertices that are no ends of its rows.
 -- Each edge has two ends at different vertices, so the missed vertices and twice the edges make all vertices.
-use Rattle.std.proofs.Common.{◌≡◌, ℕ, ◌+◌, ◌-◌, ◌*◌, length, ◌∙◌, arith}
+use Rattle.std.proofs.Common.{◌≡◌, ◌≤◌, ℕ, ◌+◌, ◌-◌, ◌*◌, length, ◌∙◌, arith}
 use Rattle.std.proofs.lemmas.List.{length-map}
 use Rattle.counting.specs.Counts.{count}
 use Rattle.counting.specs.Sets.{none}
@@ -32,6 +32,10 @@ module _ (g : Graph) (is : IsGraph g) (m : MatchingValue) (of : IsOf g m) (keeps
       let z : count g.order none ≡ 0 = total_zero g.order in
       let r = rows_count in
       omega arith
+
+  -- so there are no more than all vertices
+  pub ends_within : (edges : ℕ) → edges ≡ length m.rows → 2 * edges ≤ g.order
+  ends_within edges same = let all = missed_and_ends in omega arith
 
   pub has_maximum : HasMaximum g (length m.rows) (g.order - 2 * length m.rows)
   has_maximum = record { matching = mem (edges_of m); maximum = most; size_is = rows_count; misses = let a = missed_and_ends in omega arith }

@@ -1,18 +1,10 @@
 -- The orders of choice that `decompose` can be asked for: which candidate each picks at a node, of the list of candidates there, with
 -- so many cuts before the node in preorder.
-use Rattle.std.specs.Prelude.{◌≡◌, ℕ, ◌-◌, ◌%◌, List, length, map, slice_index_or}
+use Rattle.std.specs.Prelude.{◌≡◌, ℕ, ◌-◌, ◌%◌, List, length, slice_index_or}
 use Rattle.tight_cuts.specs.Candidates.{Candidate}
-use Rattle.tight_cuts.specs.View.{candidate_of}
-use Rattle.tight_cuts.specs.declared.candidate.Candidate.{Candidate as StoredCandidate}
-use Rattle.decomposer.specs.Choices.{IsBalanced}
+use Rattle.decomposer.specs.Choices.{PicksBalanced}
 use Rattle.bench_top.specs.declared.command.NamedOrder.{NamedOrder}
 use Rattle.bench_top.specs.declared.command.NamedOrder.TheVariants.{First, Last, Balanced}
-
--- the first place with the least difference between inside and outside, in the list as it is stored
-pub record PicksBalanced (list : List Candidate) (place : ℕ) : Type 0 where
-  pub stored : List StoredCandidate
-  pub shows : map candidate_of stored ≡ list
-  pub balanced : IsBalanced stored place
 
 -- a named order picks the first place, the last, or the first balanced one
 abbrev pub NamedPicks : NamedOrder → List Candidate → ℕ → ℕ → Type 0

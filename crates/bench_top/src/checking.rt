@@ -1,22 +1,21 @@
 //! Whether a tree is a derivation of a graph, as `check` tells it.
 ghost use Rattle.std.specs.Prelude.{◌≡◌, IfOk};
+ghost use Rattle.graph_core.specs.Covered.{IsCovered};
 ghost use Rattle.tree_core.specs.Derivations.{IsDerivation};
-ghost use Rattle.tree_core.specs.Leaves.{leaves};
 ghost use Rattle.tree_core.specs.Shapes.{Fits};
 ghost use Rattle.tree_core.specs.View.{shape_of};
-ghost use Rattle.tree_check.specs.Judgements.{why_of};
+ghost use Rattle.tree_check.specs.Judgements.{IsJudgement, why_of};
 ghost use Rattle.tree_check.specs.Refusals.{why_number, IsRefused};
-ghost use Rattle.report_text.specs.Tallies.{IsTally};
 ghost use Rattle.bench_top.specs.Checks.{AcceptedTree, CheckGives, RefusedTree, RefusesIfAny, shown_of};
 
 use crate::report::Report;
 use crate::status::Status;
 use crate::uncovered::uncovered_report;
 use graph_core::MultiGraph;
-use report_text::{Shown, Tally, TreeLine, count_leaves, judgement};
+use report_text::{Shown, TreeLine, judgement, tally_of_tree};
 use std::alloc::{AllocError as Memory, Global};
-use tree_check::{Judgement, Why, check};
-use tree_core::{Tree, leaves};
+use tree_check::{Judgement, Why, check, check_covered};
+use tree_core::Tree;
 
 /// The number of a reason.
 pub fn number_of(why: &Why) -> u32
@@ -67,6 +66,26 @@ fn refused_report(
     })
 }
 
+// The report of the answer to the tree of this place, where it is no derivation.
+fn refusal_of_answer(
+    alloc: Global,
+    g: &MultiGraph,
+    tree: &Tree,
+    place: u32,
+    answer: Judgement,
+) -> Result<Option<Report>, Memory>
+    requires { IsJudgement g.now (shape_of tree.now) answer }
+    ensures { IfOk result (RefusesIfAny g.now (shape_of tree.now) place) }
+{
+    match answer {
+        Judgement::Accepted => Ok(None),
+        Judgement::NotCovered(reason) => Ok(Some(uncovered_report(alloc, g, reason)?)),
+        Judgement::Refused { node, why } => {
+            Ok(Some(refused_report(alloc, g, tree, place, node, why)?))
+        }
+    }
+}
+
 /// The report that refuses the tree of this place among those that are named, counted from 1: the graph is not covered, or the tree is
 /// no derivation of it. None where the tree is a derivation.
 pub fn refusal_of_tree(
@@ -78,25 +97,23 @@ pub fn refusal_of_tree(
     requires { Fits g.now.order (shape_of tree.now) }
     ensures { IfOk result (RefusesIfAny g.now (shape_of tree.now) place) }
 {
-    match check(alloc, g, tree)? {
-        Judgement::Accepted => Ok(None),
-        Judgement::NotCovered(reason) => Ok(Some(uncovered_report(alloc, g, reason)?)),
-        Judgement::Refused { node, why } => {
-            Ok(Some(refused_report(alloc, g, tree, place, node, why)?))
-        }
-    }
+    let answer = check(alloc, g, tree)?;
+    refusal_of_answer(alloc, g, tree, place, answer)
 }
 
-/// The numbers of the leaves of a derivation.
-pub fn tally_of_tree(alloc: Global, g: &MultiGraph, tree: &Tree) -> Result<Tally, Memory>
-    requires { IsDerivation g.now (shape_of tree.now) }
-    ensures { IfOk result (IsTally g.now (leaves g.now.order (shape_of tree.now))) }
+/// The same for a graph that is known to be covered.
+pub fn refusal_where_covered(
+    alloc: Global,
+    g: &MultiGraph,
+    tree: &Tree,
+    place: u32,
+) -> Result<Option<Report>, Memory>
+    requires covered { IsCovered g.now }
+    requires fits { Fits g.now.order (shape_of tree.now) }
+    ensures { IfOk result (RefusesIfAny g.now (shape_of tree.now) place) }
 {
-    g.keeps_limits();
-    let n = g.order();
-    let found = leaves(alloc, tree, n)?;
-    let tally = count_leaves(alloc, g, &found)?;
-    Ok(tally)
+    let answer = check_covered(alloc, g, tree)?;
+    refusal_of_answer(alloc, g, tree, place, answer)
 }
 
 // The line of a derivation.
@@ -118,8 +135,6 @@ pub fn check_report(alloc: Global, g: &MultiGraph, tree: &Tree) -> Result<Report
     ensures { IfOk result
         (λ report. CheckGives g.now (shape_of tree.now) report.status report.bytes.items) }
 {
-    match refusal_of_tree(alloc, g, tree, 1)? {
-        Some(report) => Ok(report),
-        None => accepted_report(alloc, g, tree),
-    }
+    let refusal = refusal_of_tree(alloc, g, tree, 1)?;
+    refusal.map_or_else(|| accepted_report(alloc, g, tree), Ok)
 }

@@ -7,11 +7,11 @@ ghost use Rattle.tree_core.specs.View.{shape_of};
 ghost use Rattle.uncross.specs.MapView.{map_of, maps_of};
 ghost use Rattle.bench_top.specs.Comparisons.{Compared, CompareGives, RefusesPairIfAny, ScriptGives, Scripted, line_of, lines_of};
 
-use crate::checking::refusal_of_tree;
+use crate::checking::{refusal_of_tree, refusal_where_covered};
 use crate::report::Report;
 use crate::status::Status;
 use contraction::Partition;
-use graph_core::{MultiGraph, Numbers};
+use graph_core::MultiGraph;
 use move_text::write_moves;
 use report_text::{MapLine, MapLines, block_names, pairing};
 use std::alloc::{AllocError as Memory, Global};
@@ -19,7 +19,7 @@ use tree_core::{Partitions, Tree, leaves, nodes};
 use uncross::{LeafMap, LeafMaps, compare, moves_between};
 
 /// The report that refuses one of two trees: the graph is not covered, or the first tree is no derivation of it, or the second is none.
-/// None where both are derivations.
+/// None where both are derivations. Whether the graph is covered is asked once: a graph with a derivation is.
 pub fn refusal_of_pair(
     alloc: Global,
     g: &MultiGraph,
@@ -32,45 +32,36 @@ pub fn refusal_of_pair(
 {
     match refusal_of_tree(alloc, g, first, 1)? {
         Some(report) => Ok(Some(report)),
-        None => refusal_of_tree(alloc, g, second, 2),
+        None => refusal_where_covered(alloc, g, second, 2),
     }
-}
-
-// The same numbers.
-fn copy_of(alloc: Global, numbers: &Numbers) -> Result<Numbers, Memory>
-    ensures { IfOk result (λ copy. copy ≡ numbers.now) }
-{
-    let mut copy = Numbers::new(alloc);
-    let mut rest = numbers.as_slice();
-    'copying: while let Some((number, others)) = rest.split_first() {
-        copy.push(*number)?;
-        rest = others;
-    }
-    Ok(copy)
 }
 
 // The line of a leaf of this number, with the names of its blocks and of their images.
-fn line_of(alloc: Global, number: u32, p: &Partition, map: &LeafMap) -> Result<MapLine, Memory>
-    ensures { IfOk result (λ line. line ≡ line_of number p.now.blocks (map_of map.now)) }
+fn line_of(alloc: Global, number: u32, p: &Partition, map: LeafMap) -> Result<MapLine, Memory>
+    ensures { IfOk result (λ line. line ≡ line_of number p.now.blocks (map_of map)) }
 {
+    let LeafMap { to, images } = map;
     Ok(MapLine {
         leaf: number,
-        partner: map.to,
+        partner: to,
         names: block_names(alloc, p)?,
-        images: copy_of(alloc, &map.images)?,
+        images,
     })
 }
 
 // The lines of the leaves, each with its map.
-fn lines_of(alloc: Global, found: &Partitions, maps: &LeafMaps) -> Result<MapLines, Memory>
-    requires one_each { length maps.now ≡ length found.now }
+fn lines_of(alloc: Global, found: &Partitions, maps: LeafMaps) -> Result<MapLines, Memory>
+    requires one_each { length maps ≡ length found.now }
     requires few { length found.now < 2 ^ 32 }
     ensures { IfOk result
-        (λ lines. lines ≡ lines_of 0 (map (λ p. p.blocks) found.now) (maps_of maps.now)) }
+        (λ lines. lines ≡ lines_of 0 (map (λ p. p.blocks) found.now) (maps_of maps)) }
 {
     let mut lines = MapLines::new(alloc);
-    for i in 0..found.len() {
-        lines.push(line_of(alloc, i as u32 + 1, found.get(i), maps.get(i))?)?;
+    let mut rest = maps.into_items().into_iter();
+    let mut i = 0usize;
+    'lines: while let Some(map) = rest.next() {
+        lines.push(line_of(alloc, i as u32 + 1, found.get(i), map)?)?;
+        i += 1;
     }
     Ok(lines)
 }
@@ -92,7 +83,7 @@ fn pairing_report(
     let n = g.order();
     let found = leaves(alloc, first, n)?;
     let pairs = compare(alloc, g, first, second)?;
-    let lines = lines_of(alloc, &found, &pairs.maps)?;
+    let lines = lines_of(alloc, &found, pairs.maps)?;
     Ok(Report {
         status: Status::Done,
         bytes: pairing(alloc, &pairs.moves, &lines)?,
@@ -113,10 +104,8 @@ pub fn compare_report(
         (λ report. CompareGives g.now (shape_of first.now) (shape_of second.now) report.status
         report.bytes.items) }
 {
-    match refusal_of_pair(alloc, g, first, second)? {
-        Some(report) => Ok(report),
-        None => pairing_report(alloc, g, first, second),
-    }
+    let refusal = refusal_of_pair(alloc, g, first, second)?;
+    refusal.map_or_else(|| pairing_report(alloc, g, first, second), Ok)
 }
 
 // The text of a script between two derivations, and then the numbers of leaves and of moves.
@@ -157,8 +146,6 @@ pub fn script_report(
         (λ report. ScriptGives g.now (shape_of first.now) (shape_of second.now) report.status
         report.bytes.items) }
 {
-    match refusal_of_pair(alloc, g, first, second)? {
-        Some(report) => Ok(report),
-        None => moves_report(alloc, g, first, second),
-    }
+    let refusal = refusal_of_pair(alloc, g, first, second)?;
+    refusal.map_or_else(|| moves_report(alloc, g, first, second), Ok)
 }

@@ -6,7 +6,6 @@ ghost use Rattle.decomposer.specs.Choices.{FnPicks, PicksInRange};
 ghost use Rattle.bench_top.specs.Orders.{NamedPicks};
 ghost use Rattle.bench_top.specs.Growths.{Grown, IsCounted};
 
-use crate::checking::tally_of_tree;
 use crate::command::{Growth, NamedOrder};
 use crate::report::Report;
 use crate::status::Status;
@@ -14,7 +13,7 @@ use decomposer::{Order, Refused, decompose, decompose_first, last_place};
 use graph_core::MultiGraph;
 use graph_text::write_graph;
 use grow_gen::grow;
-use report_text::{Tally, grown};
+use report_text::{Tally, grown, tally_of_tree};
 use std::alloc::{AllocError as Memory, Global};
 use tight_cuts::Candidate;
 use tree_core::Tree;

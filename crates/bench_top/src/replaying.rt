@@ -101,8 +101,6 @@ pub fn replay_report(
         (λ report. ReplayGives g.now (shape_of tree) (moves_of moves.now) report.status
         report.bytes.items) }
 {
-    match refusal_of_tree(alloc, g, &tree, 1)? {
-        Some(report) => Ok(report),
-        None => moves_report(alloc, g, tree, moves),
-    }
+    let refusal = refusal_of_tree(alloc, g, &tree, 1)?;
+    refusal.map_or_else(|| moves_report(alloc, g, tree, moves), Ok)
 }

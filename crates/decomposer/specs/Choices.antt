@@ -43,3 +43,9 @@ pub record IsBalanced (list : List StoredCandidate) (place : ℕ) : Type 0 where
   pub held : place < length list
   pub least : (i : ℕ) → i < length list → gap list place ≤ gap list i
   pub first : (i : ℕ) → i < place → gap list place < gap list i
+
+-- the first place with the least difference between inside and outside, in the list as it is stored
+pub record PicksBalanced (list : List Candidate) (place : ℕ) : Type 0 where
+  pub stored : List StoredCandidate
+  pub shows : map candidate_of stored ≡ list
+  pub balanced : IsBalanced stored place

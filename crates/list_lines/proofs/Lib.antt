@@ -1,6 +1,5 @@
 pub mod QuotientSides
 pub mod SimpleQuotients
 pub mod SingleLeaves
-pub mod FewLeaves
 pub mod LeafTexts
 pub mod PickedTrees

@@ -1,22 +1,14 @@
 -- The orders of choice: which candidate each picks at a node, of the list of candidates there, with so many cuts before the node in
 -- preorder.
-use Rattle.std.specs.Prelude.{◌≡◌, ℕ, ◌-◌, List, length, map}
+use Rattle.std.specs.Prelude.{◌≡◌, ℕ, ◌-◌, List, length}
 use Rattle.graph_core.specs.Graph.{Graph}
 use Rattle.tight_cuts.specs.Candidates.{Candidate}
-use Rattle.tight_cuts.specs.View.{candidate_of}
-use Rattle.tight_cuts.specs.declared.candidate.Candidate.{Candidate as StoredCandidate}
 use Rattle.tree_core.specs.Derivations.{IsDerivation}
 use Rattle.tree_core.specs.Shapes.{Shape}
-use Rattle.decomposer.specs.Choices.{IsBalanced}
+use Rattle.decomposer.specs.Choices.{PicksBalanced}
 use Rattle.decomposer.specs.Picked.{IsPicked}
 use Rattle.list_lines.specs.declared.query.LeafOrder.{LeafOrder}
 use Rattle.list_lines.specs.declared.query.LeafOrder.TheVariants.{First, Last, Balanced}
-
--- the first place with the least difference between inside and outside, in the list as it is stored
-pub record PicksBalanced (list : List Candidate) (place : ℕ) : Type 0 where
-  pub stored : List StoredCandidate
-  pub shows : map candidate_of stored ≡ list
-  pub balanced : IsBalanced stored place
 
 -- an order picks the first place, the last, or the first balanced one
 abbrev pub Picks : LeafOrder → List Candidate → ℕ → ℕ → Type 0

@@ -14,9 +14,9 @@ ghost use Rattle.list_lines.specs.Orders.{IsPickedTree, Picks};
 use crate::query::LeafOrder;
 use contraction::{Contracted, Partition, quotient};
 use decomposer::{Order, Refused, balanced_place, decompose, decompose_first, last_place};
-use graph_core::{MultiGraph, Sides};
+use graph_core::MultiGraph;
 use graph6_text::write_graph6;
-use report_text::LeafKind;
+use report_text::{LeafKind, kind_of};
 use std::alloc::{AllocError as Memory, Global};
 use tight_cuts::Candidate;
 use tree_core::{Partitions, Tree, leaves};
@@ -156,16 +156,9 @@ fn push_leaf(
         (λ kind. lines.new.items ≡ lines.old.items ++ leaf_line front.now g.now p.now.blocks kind) }
 {
     let q = leaf_quotient(alloc, g, p)?;
-    match q.graph().two_sides(alloc)? {
-        Sides::Even { .. } => {
-            push_line(alloc, lines, q.graph(), front, LeafKind::Brace)?;
-            Ok(LeafKind::Brace)
-        }
-        Sides::Odd { .. } => {
-            push_line(alloc, lines, q.graph(), front, LeafKind::Brick)?;
-            Ok(LeafKind::Brick)
-        }
-    }
+    let kind = kind_of(alloc, q.graph())?;
+    push_line(alloc, lines, q.graph(), front, kind)?;
+    Ok(kind)
 }
 
 // The quotient at a partition, a simple graph.

@@ -6,10 +6,6 @@ ghost use Rattle.graph_core.specs.Structure.{IsBicritical};
 ghost use Rattle.graph_core.specs.Verdicts.{reason_of};
 ghost use Rattle.leaf_kinds.specs.LeafKinds.{IsKind};
 ghost use Rattle.match_core.specs.Partners.{ArePartners};
-ghost use Rattle.tree_core.specs.Derivations.{IsDerivation};
-ghost use Rattle.tree_core.specs.Leaves.{leaves};
-ghost use Rattle.tree_core.specs.View.{shape_of};
-ghost use Rattle.report_text.specs.Tallies.{IsTally};
 ghost use Rattle.list_lines.specs.Selecting.{Decides};
 ghost use Rattle.list_lines.specs.Standings.{IsCounted, IsStanding, TellsReason, sort_of, why_of};
 
@@ -19,11 +15,10 @@ use decomposer::{Refused, decompose_first};
 use graph_core::{Kind, MultiGraph, Reason, Verdict};
 use leaf_kinds::kind_in;
 use match_core::{PartnerTable, maximum, partners};
-use report_text::{Tally, count_leaves};
+use report_text::{Tally, tally_of_tree};
 use separation_kit::{first_pairs_law, not_bicritical_in};
 use std::alloc::{AllocError as Memory, Global};
 use tight_cuts::pair_where_bicritical;
-use tree_core::{Tree, leaves};
 use vset_core::VSet;
 
 /// The kind of the first reason why a graph is not matching covered.
@@ -190,16 +185,4 @@ pub fn counted(alloc: Global, g: &MultiGraph) -> Result<Tally, Memory>
         Err(Refused::NotCovered(_)) => unreachable!(),
         Err(Refused::Memory) => Err(Memory),
     }
-}
-
-// The numbers of the leaves of a derivation.
-fn tally_of_tree(alloc: Global, g: &MultiGraph, tree: &Tree) -> Result<Tally, Memory>
-    requires { IsDerivation g.now (shape_of tree.now) }
-    ensures { IfOk result (IsTally g.now (leaves g.now.order (shape_of tree.now))) }
-{
-    g.keeps_limits();
-    let n = g.order();
-    let found = leaves(alloc, tree, n)?;
-    let tally = count_leaves(alloc, g, &found)?;
-    Ok(tally)
 }

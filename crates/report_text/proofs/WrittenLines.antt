@@ -4,12 +4,12 @@ use Rattle.std.proofs.lemmas.Option.{get_or_from_slice_get, slice_get-map}
 use Rattle.std.specs.Prelude.{codes}
 use Rattle.std.specs.Option.{option_map}
 use Rattle.counting.specs.Counts.{Within}
-use Rattle.graph_core.specs.Graph.{Graph, first_end, second_end}
+use Rattle.graph_core.specs.Graph.{Graph, first_end, second_end, size}
 use Rattle.graph_core.specs.Quotients.{quotient, remembered}
 use Rattle.contraction.specs.Contracted.{ContractedValue, contraction}
 use Rattle.contraction.specs.Partition.{PartitionValue}
 use Rattle.report_text.specs.Reports.{list_line}
-use Rattle.report_text.specs.Derivations.{adjacent_line, adjacent_lines, block_lines, leaf_lines, leaf_text, name_at}
+use Rattle.report_text.specs.Derivations.{adjacent_line, adjacent_lines, block_lines, leaf_line, leaf_lines, leaf_text, name_at}
 use Rattle.tree_core.specs.LeafMaps.{leaf_at}
 use Rattle.report_text.specs.Tallies.{kind_at}
 use Rattle.report_text.specs.declared.tallies.LeafKind.{LeafKind}
@@ -40,6 +40,19 @@ adjacent-written g p q h i a b x y edges start now next is same first_is second_
     let ys : y ≡ name_at p (second_end (quotient g p) (suc i)) = y_is ∙ ap (name_at p) (second_is ∙ ap (λ (h : Graph). second_end h (suc i)) e) in
     one-more start (adjacent_lines g p i) (adjacent_line (name_at p (first_end (quotient g p) (suc i))) (name_at p (second_end (quotient g p) (suc i))) (remembered g p (suc i))) now next first
     (second ∙ ap (λ (l : List ℕ). now ++ l) (ap (λ (v : ℕ). adjacent_line v y edges) xs ∙ ap (λ (v : ℕ). adjacent_line (name_at p (first_end (quotient g p) (suc i))) v edges) ys ∙ ap (λ (es : List ℕ). adjacent_line (name_at p (first_end (quotient g p) (suc i))) (name_at p (second_end (quotient g p) (suc i))) es) edges_are))
+
+-- the lines of a leaf: its own, those of its blocks, and those of the pairs of adjacent blocks, which are the edges of its quotient
+pub leaf_text-written : (g : Graph) (p : List (List ℕ)) (number : ℕ) (kind : LeafKind) (q : ContractedValue) (h : Graph) (i count : ℕ) (start first second end : List ℕ) →
+    q ≡ contraction g p → h ≡ q.graph → count ≡ size h → i ≡ count → first ≡ start ++ leaf_line number kind → second ≡ first ++ block_lines p (length p) → end ≡ second ++ adjacent_lines g p i →
+    end ≡ start ++ leaf_text g number p kind
+unfolding leaf_text
+leaf_text-written g p number kind q h i count start first second end is same counted last line blocks pairs =
+    let adjacent : List ℕ = adjacent_lines g p (size (quotient g p)) in
+    let all : i ≡ size (quotient g p) = last ∙ counted ∙ ap size (same ∙ ap (λ (q : ContractedValue). q.graph) is) in
+    pairs
+    ∙ ap (λ (k : ℕ). second ++ adjacent_lines g p k) all
+    ∙ ap (λ (t : List ℕ). t ++ adjacent) (one-more start (leaf_line number kind) (block_lines p (length p)) first second line blocks)
+    ∙ append_assoc start (leaf_line number kind ++ block_lines p (length p)) adjacent
 
 -- the lines of the next leaf
 pub leaf-written : (g : Graph) (leaves : List PartitionValue) (kinds : List LeafKind) (i : ℕ) (p : PartitionValue) (kind : LeafKind) (start now next : List ℕ) → slice_get leaves i ≡ Some p → kind ≡ get_or kinds i Brick →

@@ -14,9 +14,13 @@ yes_or_no holds = if holds then codes "yes" else codes "no"
 abbrev pub graph_line : ℕ → ℕ → List ℕ
 graph_line order size = codes "graph " ++ decimal order ++ codes " " ++ decimal size ++ codes "\n"
 
+-- a line of a word and a number
+abbrev pub count_line : List ℕ → ℕ → List ℕ
+count_line word count = word ++ codes " " ++ decimal count ++ codes "\n"
+
 -- the line with the number of components
 abbrev pub components_line : ℕ → List ℕ
-components_line count = codes "components " ++ decimal count ++ codes "\n"
+components_line count = count_line (codes "components") count
 
 -- the line that tells whether the graph is bipartite
 abbrev pub bipartite_line : Bool → List ℕ
@@ -45,11 +49,11 @@ verdict_text (NotCovered reason) = codes "covered no" ++ reason_text reason ++ c
 
 -- the line with the number of edges of a maximum matching
 abbrev pub matching_line : ℕ → List ℕ
-matching_line edges = codes "matching " ++ decimal edges ++ codes "\n"
+matching_line edges = count_line (codes "matching") edges
 
 -- the line with the number of vertices that a maximum matching misses
 abbrev pub deficiency_line : ℕ → List ℕ
-deficiency_line missed = codes "deficiency " ++ decimal missed ++ codes "\n"
+deficiency_line missed = count_line (codes "deficiency") missed
 
 -- the report of a file that is outside its format: its place among the named files, the line and the kind of the fault
 unfoldable pub bad_input_text : (file line kind : ℕ) → List ℕ

@@ -9,10 +9,14 @@ use Rattle.report_text.specs.declared.tallies.LeafKind.{LeafKind}
 use Rattle.report_text.specs.declared.tallies.LeafKind.TheVariants.{Brick, Brace}
 use Rattle.report_text.specs.declared.tallies.Tally.{Tally}
 
+-- the kind of a leaf with this quotient
+abbrev pub IsKindOf : Graph → LeafKind → Type 0
+IsKindOf q Brace = IsBipartite q
+IsKindOf q Brick = ¬ IsBipartite q
+
 -- the kind of the leaf at this partition
 abbrev pub IsLeafKind : Graph → List (List ℕ) → LeafKind → Type 0
-IsLeafKind g p Brace = IsBipartite (quotient g p)
-IsLeafKind g p Brick = ¬ IsBipartite (quotient g p)
+IsLeafKind g p kind = IsKindOf (quotient g p) kind
 
 -- the kind of leaf i, counted from 1
 abbrev pub kind_at : List LeafKind → ℕ → LeafKind

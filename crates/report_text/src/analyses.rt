@@ -1,7 +1,7 @@
 //! The report of `analyse`.
 ghost use Rattle.std.specs.Prelude.{◌≡◌, ◌++◌, codes, OnOk, IfOk, string_bytes};
 ghost use Rattle.report_text.specs.Analyses.{analysis_text, verdict_lines, with_structure};
-ghost use Rattle.report_text.specs.Reports.{graph_line, components_line, bipartite_line, matching_line, deficiency_line, list_line, yes_or_no};
+ghost use Rattle.report_text.specs.Reports.{bipartite_line, count_line, graph_line, yes_or_no};
 
 use crate::numbers::{push_numbers_line, push_set_line};
 use crate::structures::{Structure, push_structure};
@@ -52,10 +52,12 @@ fn push_graph(text: &mut String, order: u32, size: u32) -> Result<(), Memory>
     write!(text, "graph {order} {size}\n")
 }
 
-fn push_components(text: &mut String, count: u32) -> Result<(), Memory>
-    ensures { OnOk result (string_bytes text.new ≡ string_bytes text.old ++ components_line count) }
+// Appends a line of the word and the number.
+fn push_count(text: &mut String, word: &str, count: u32) -> Result<(), Memory>
+    ensures { OnOk result
+        (string_bytes text.new ≡ string_bytes text.old ++ count_line word.now count) }
 {
-    write!(text, "components {count}\n")
+    write!(text, "{word} {count}\n")
 }
 
 fn push_bipartite(text: &mut String, holds: bool) -> Result<(), Memory>
@@ -65,20 +67,6 @@ fn push_bipartite(text: &mut String, holds: bool) -> Result<(), Memory>
     write!(text, "bipartite {answer}\n")
 }
 
-fn push_matching(text: &mut String, matching: u32) -> Result<(), Memory>
-    ensures { OnOk result
-        (string_bytes text.new ≡ string_bytes text.old ++ matching_line matching) }
-{
-    write!(text, "matching {matching}\n")
-}
-
-fn push_deficiency(text: &mut String, deficiency: u32) -> Result<(), Memory>
-    ensures { OnOk result
-        (string_bytes text.new ≡ string_bytes text.old ++ deficiency_line deficiency) }
-{
-    write!(text, "deficiency {deficiency}\n")
-}
-
 // The lines from that of the graph to that of the verdict.
 #[tactic(auto, unfolding(crate::specs::Analyses::verdict_lines))]
 fn text_to_verdict(alloc: Global, lines: &AnalysisLines) -> Result<String, Memory>
@@ -86,10 +74,10 @@ fn text_to_verdict(alloc: Global, lines: &AnalysisLines) -> Result<String, Memor
 {
     let mut text = String::new(alloc);
     push_graph(&mut text, lines.order, lines.size)?;
-    push_components(&mut text, lines.components)?;
+    push_count(&mut text, "components", lines.components)?;
     push_bipartite(&mut text, lines.bipartite)?;
-    push_matching(&mut text, lines.matching)?;
-    push_deficiency(&mut text, lines.deficiency)?;
+    push_count(&mut text, "matching", lines.matching)?;
+    push_count(&mut text, "deficiency", lines.deficiency)?;
     push_set_line(&mut text, "D", lines.d)?;
     push_set_line(&mut text, "A", lines.a)?;
     push_set_line(&mut text, "C", lines.c)?;

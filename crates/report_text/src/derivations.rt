@@ -4,12 +4,13 @@ ghost use Rattle.counting.specs.Counts.{Within};
 ghost use Rattle.counting.specs.Lists.{last_of};
 ghost use Rattle.graph_core.specs.Graph.{size};
 ghost use Rattle.graph_core.specs.Quotients.{quotient};
-ghost use Rattle.report_text.specs.Tallies.{AreLeafKinds, tally_of};
+ghost use Rattle.report_text.specs.Tallies.{AreLeafKinds, IsLeafKind, tally_of};
 ghost use Rattle.report_text.specs.Derivations.{adjacent_line, adjacent_lines, block_lines, derivation_text, kind_word, leaf_line, leaf_lines, leaf_text, name_at, tally_line};
 ghost use Rattle.report_text.specs.declared.tallies.LeafKind.{LeafKind};
 
+use crate::commenting::commented;
 use crate::numbers::{push_numbers, push_set_line};
-use crate::tallies::{LeafKind, Tally, leaf_kinds, tallied};
+use crate::tallies::{LeafKind, Tally, kind_of, tallied};
 use contraction::{Partition, quotient};
 use graph_core::MultiGraph;
 use std::alloc::{AllocError as Memory, Global};
@@ -69,20 +70,26 @@ fn push_adjacent(text: &mut String, a: u32, b: u32, edges: &[u32]) -> Result<(),
     write!(text, "\n")
 }
 
-// The lines of the pairs of adjacent blocks.
-fn push_all_adjacent(
+// The lines of the leaf at a partition, and its kind. Its quotient is made once for both.
+#[tactic(auto, unfolding(crate::specs::Derivations::leaf_text))]
+fn push_leaf(
     alloc: Global,
     text: &mut String,
     g: &MultiGraph,
+    number: usize,
     p: &Partition,
-) -> Result<(), Memory>
+) -> Result<LeafKind, Memory>
     requires { p.now.order ≡ g.now.order }
-    ensures { OnOk result
-        (string_bytes text.new ≡ string_bytes text.old ++
-        adjacent_lines g.now p.now.blocks (size (quotient g.now p.now.blocks))) }
+    ensures kind { IfOk result (IsLeafKind g.now p.now.blocks) }
+    ensures lines { IfOk result
+        (λ kind. string_bytes text.new ≡ string_bytes text.old ++
+        leaf_text g.now number p.now.blocks kind) }
 {
     let q = quotient(alloc, g, p)?;
     let graph = q.graph();
+    let kind = kind_of(alloc, graph)?;
+    push_leaf_line(text, number, kind)?;
+    push_blocks(text, p)?;
     for i in 0..graph.size() {
         let edge = i + 1;
         let ends = graph.ends(edge);
@@ -93,47 +100,29 @@ fn push_all_adjacent(
             q.remembered(edge),
         )?;
     }
-    Ok(())
+    Ok(kind)
 }
 
-// The lines of the leaf at a partition.
-#[tactic(auto, unfolding(crate::specs::Derivations::leaf_text))]
-fn push_leaf(
-    alloc: Global,
-    text: &mut String,
-    g: &MultiGraph,
-    number: usize,
-    p: &Partition,
-    kind: LeafKind,
-) -> Result<(), Memory>
-    requires { p.now.order ≡ g.now.order }
-    ensures { OnOk result
-        (string_bytes text.new ≡ string_bytes text.old ++
-        leaf_text g.now number p.now.blocks kind) }
-{
-    push_leaf_line(text, number, kind)?;
-    push_blocks(text, p)?;
-    push_all_adjacent(alloc, text, g, p)
-}
-
-// The lines of the leaves, which have these kinds.
+// The lines of the leaves, and their kinds.
 fn push_leaves(
     alloc: Global,
     text: &mut String,
     g: &MultiGraph,
     leaves: &Partitions,
-    kinds: &[LeafKind],
-) -> Result<(), Memory>
-    requires order { All (λ p. p.order ≡ g.now.order) leaves.now }
-    requires kinds { length kinds.now ≡ length leaves.now }
-    ensures { OnOk result
-        (string_bytes text.new ≡ string_bytes text.old ++
-        leaf_lines g.now (map (λ p. p.blocks) leaves.now) kinds.now (length leaves.now)) }
+) -> Result<Vec<LeafKind>, Memory>
+    requires { All (λ p. p.order ≡ g.now.order) leaves.now }
+    ensures kinds { IfOk result
+        (λ kinds. AreLeafKinds g.now (map (λ p. p.blocks) leaves.now) kinds.items) }
+    ensures lines { IfOk result
+        (λ kinds. string_bytes text.new ≡ string_bytes text.old ++
+        leaf_lines g.now (map (λ p. p.blocks) leaves.now) kinds.items (length leaves.now)) }
 {
+    let mut kinds = Vec::new(alloc);
     for i in 0..leaves.len() {
-        push_leaf(alloc, text, g, i + 1, leaves.get(i), kinds[i])?;
+        let kind = push_leaf(alloc, text, g, i + 1, leaves.get(i))?;
+        kinds.push(kind)?;
     }
-    Ok(())
+    Ok(kinds)
 }
 
 fn push_tally(text: &mut String, tally: Tally) -> Result<(), Memory>
@@ -148,23 +137,19 @@ fn push_tally(text: &mut String, tally: Tally) -> Result<(), Memory>
 }
 
 // The lines of the leaves and of their counts.
-fn leaf_comments(
-    alloc: Global,
-    g: &MultiGraph,
-    leaves: &Partitions,
-    kinds: &[LeafKind],
-) -> Result<String, Memory>
+fn leaf_comments(alloc: Global, g: &MultiGraph, leaves: &Partitions) -> Result<String, Memory>
     requires order { All (λ p. p.order ≡ g.now.order) leaves.now }
-    requires kinds { length kinds.now ≡ length leaves.now }
     requires few { length leaves.now < 2 ^ 32 }
     ensures { IfOk result
-        (λ comments. string_bytes comments ≡
-        leaf_lines g.now (map (λ p. p.blocks) leaves.now) kinds.now (length leaves.now) ++
-        tally_line (tally_of kinds.now)) }
+        (λ comments. (kinds : List LeafKind) ×
+        AreLeafKinds g.now (map (λ p. p.blocks) leaves.now) kinds ×
+        (string_bytes comments ≡
+        leaf_lines g.now (map (λ p. p.blocks) leaves.now) kinds (length leaves.now) ++
+        tally_line (tally_of kinds))) }
 {
     let mut comments = String::new(alloc);
-    push_leaves(alloc, &mut comments, g, leaves, kinds)?;
-    push_tally(&mut comments, tallied(kinds))?;
+    let kinds = push_leaves(alloc, &mut comments, g, leaves)?;
+    push_tally(&mut comments, tallied(&kinds))?;
     Ok(comments)
 }
 
@@ -186,9 +171,6 @@ pub fn derivation(
         (report.items ≡ derivation_text text.now g.now (map (λ p. p.blocks) leaves.now)
         kinds)) }
 {
-    let kinds = leaf_kinds(alloc, g, leaves)?;
-    let comments = leaf_comments(alloc, g, leaves, &kinds)?;
-    let mut report = Vec::from_slice(alloc, text)?;
-    report.extend_from_slice(comments.as_bytes())?;
-    Ok(report)
+    let comments = leaf_comments(alloc, g, leaves)?;
+    commented(alloc, text, comments.as_str())
 }

@@ -2,6 +2,7 @@
 ghost use Rattle.std.specs.Prelude.{◌≡◌, ◌++◌, OnOk, IfOk, string_bytes};
 ghost use Rattle.report_text.specs.Growths.{grown_text, growth_lines, order_line, pairs_line};
 
+use crate::commenting::commented;
 use crate::tallies::Tally;
 use std::alloc::{AllocError as Memory, Global};
 
@@ -50,7 +51,5 @@ pub fn grown(
     ensures { IfOk result (λ report. report.items ≡ grown_text text.now first last pairs) }
 {
     let comments = growth_comments(alloc, first, last, pairs)?;
-    let mut report = Vec::from_slice(alloc, text)?;
-    report.extend_from_slice(comments.as_bytes())?;
-    Ok(report)
+    commented(alloc, text, comments.as_str())
 }

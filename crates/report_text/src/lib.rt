@@ -14,6 +14,7 @@
 #![tactic(auto)]
 
 mod analyses;
+mod commenting;
 mod comparisons;
 mod derivations;
 mod ear_judgements;
@@ -42,5 +43,5 @@ pub use judgements::{Shown, TreeLine, judgement};
 pub use names::with_names;
 pub use scripts::{replay_refused, replay_stuck, replayed, script_report};
 pub use structures::Structure;
-pub use tallies::{LeafKind, Tally, count_leaves};
+pub use tallies::{LeafKind, Tally, count_leaves, kind_of, tally_of_tree};
 pub use verdicts::verdict_line;

@@ -1,23 +1,16 @@
 //! The reports on scripts of moves, made and replayed.
-ghost use Rattle.std.specs.Prelude.{◌≡◌, ◌++◌, OnOk, IfOk, string_bytes};
+ghost use Rattle.std.specs.Prelude.{◌≡◌, IfOk, string_bytes};
 ghost use Rattle.report_text.specs.Scripts.{moves_line, refused_move_text, replayed_text, script_line, script_report_text, stuck_text};
 
+use crate::commenting::commented;
 use crate::judgements::{Shown, push_refused};
 use std::alloc::{AllocError as Memory, Global};
-
-fn push_script(text: &mut String, leaves: u32, moves: u32) -> Result<(), Memory>
-    ensures { OnOk result
-        (string_bytes text.new ≡ string_bytes text.old ++ script_line leaves moves) }
-{
-    write!(text, "c leaves {leaves} moves {moves}\n")
-}
 
 // The line of the numbers of leaves and of moves.
 fn line_of_script(alloc: Global, leaves: u32, moves: u32) -> Result<String, Memory>
     ensures { IfOk result (λ line. string_bytes line ≡ script_line leaves moves) }
 {
-    let mut line = String::new(alloc);
-    push_script(&mut line, leaves, moves)?;
+    let line = format!(in alloc; "c leaves {leaves} moves {moves}\n")?;
     Ok(line)
 }
 
@@ -27,24 +20,14 @@ pub fn script_report(alloc: Global, text: &[u8], leaves: u32, moves: u32) -> Res
     ensures { IfOk result (λ report. report.items ≡ script_report_text text.now leaves moves) }
 {
     let line = line_of_script(alloc, leaves, moves)?;
-    let mut report = Vec::from_slice(alloc, text)?;
-    report.extend_from_slice(line.as_bytes())?;
-    Ok(report)
-}
-
-fn push_number_of_moves(text: &mut String, moves: u32) -> Result<(), Memory>
-    ensures { OnOk result (string_bytes text.new ≡ string_bytes text.old ++ moves_line moves) }
-{
-    write!(text, "c moves {moves}\n")
+    commented(alloc, text, line.as_str())
 }
 
 // The line of the number of moves.
 fn line_of_moves(alloc: Global, moves: u32) -> Result<String, Memory>
     ensures { IfOk result (λ line. string_bytes line ≡ moves_line moves) }
 {
-    let mut line = String::new(alloc);
-    push_number_of_moves(&mut line, moves)?;
-    Ok(line)
+    format!(in alloc; "c moves {moves}\n")
 }
 
 /// Writes the text and then, as a comment, how many moves there are.
@@ -53,9 +36,7 @@ pub fn replayed(alloc: Global, text: &[u8], moves: u32) -> Result<Vec<u8>, Memor
     ensures { IfOk result (λ report. report.items ≡ replayed_text text.now moves) }
 {
     let line = line_of_moves(alloc, moves)?;
-    let mut report = Vec::from_slice(alloc, text)?;
-    report.extend_from_slice(line.as_bytes())?;
-    Ok(report)
+    commented(alloc, text, line.as_str())
 }
 
 /// Writes the line on a move, by its number counted from 1, that has no result.

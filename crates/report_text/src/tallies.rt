@@ -1,11 +1,14 @@
 //! The kinds of the leaves of a decomposition, and their numbers.
 ghost use Rattle.std.specs.Prelude.{◌≡◌, ◌<◌, ◌^◌, length, map, count_by, not, IfOk, All};
-ghost use Rattle.report_text.specs.Tallies.{AreLeafKinds, IsLeafKind, IsTally, is_brick, tally_of};
+ghost use Rattle.tree_core.specs.Derivations.{IsDerivation};
+ghost use Rattle.tree_core.specs.Leaves.{leaves};
+ghost use Rattle.tree_core.specs.View.{shape_of};
+ghost use Rattle.report_text.specs.Tallies.{AreLeafKinds, IsKindOf, IsLeafKind, IsTally, is_brick, tally_of};
 
 use contraction::{Partition, quotient};
 use graph_core::{MultiGraph, Sides};
 use std::alloc::{AllocError as Memory, Global};
-use tree_core::Partitions;
+use tree_core::{Partitions, Tree, leaves};
 
 /// The kind of a leaf, told by its quotient.
 #[derive(Clone, Copy, Debug, PartialEq, Eq)]
@@ -27,24 +30,27 @@ pub struct Tally {
     pub braces: u32,
 }
 
+/// The kind of a leaf with this quotient: a brace exactly where the quotient is bipartite, and a brick otherwise.
+pub fn kind_of(alloc: Global, q: &MultiGraph) -> Result<LeafKind, Memory>
+    ensures { IfOk result (IsKindOf q.now) }
+{
+    match q.two_sides(alloc)? {
+        Sides::Even { .. } => Ok(LeafKind::Brace),
+        Sides::Odd { .. } => Ok(LeafKind::Brick),
+    }
+}
+
 // The kind of the leaf at a partition.
 fn leaf_kind(alloc: Global, g: &MultiGraph, p: &Partition) -> Result<LeafKind, Memory>
     requires { p.now.order ≡ g.now.order }
     ensures { IfOk result (λ kind. IsLeafKind g.now p.now.blocks kind) }
 {
     let q = quotient(alloc, g, p)?;
-    match q.graph().two_sides(alloc)? {
-        Sides::Even { .. } => Ok(LeafKind::Brace),
-        Sides::Odd { .. } => Ok(LeafKind::Brick),
-    }
+    kind_of(alloc, q.graph())
 }
 
-/// The kinds of the leaves, in order.
-pub fn leaf_kinds(
-    alloc: Global,
-    g: &MultiGraph,
-    leaves: &Partitions,
-) -> Result<Vec<LeafKind>, Memory>
+// The kinds of the leaves, in order.
+fn leaf_kinds(alloc: Global, g: &MultiGraph, leaves: &Partitions) -> Result<Vec<LeafKind>, Memory>
     requires { All (λ p. p.order ≡ g.now.order) leaves.now }
     ensures { IfOk result
         (λ kinds. AreLeafKinds g.now (map (λ p. p.blocks) leaves.now) kinds.items) }
@@ -97,4 +103,16 @@ pub fn count_leaves(alloc: Global, g: &MultiGraph, leaves: &Partitions) -> Resul
 {
     let kinds = leaf_kinds(alloc, g, leaves)?;
     Ok(tallied(&kinds))
+}
+
+/// Counts the leaves of a derivation of `g`.
+pub fn tally_of_tree(alloc: Global, g: &MultiGraph, tree: &Tree) -> Result<Tally, Memory>
+    requires { IsDerivation g.now (shape_of tree.now) }
+    ensures { IfOk result (IsTally g.now (leaves g.now.order (shape_of tree.now))) }
+{
+    g.keeps_limits();
+    let n = g.order();
+    let found = leaves(alloc, tree, n)?;
+    let tally = count_leaves(alloc, g, &found)?;
+    Ok(tally)
 }

@@ -3,7 +3,7 @@
 use Rattle.std.proofs.Common.{◌≡◌, ◌≢◌, ◌⊎◌, ◌↔◌, IsTrue, ◌%◌, ◌==◌, Option, Some, unwrap_or, ℕ, zero, suc, ◌+◌, ◌*◌, ◌-◌, ◌≤◌, ◌<◌, Bool, true, false, not, ◌&&◌, ◌||◌, List, length, refl, sym, ap, ap₂, ◌∙◌, arith, subst, inl, inr}
 use Rattle.std.specs.List.{list_all}
 use Rattle.std.proofs.lemmas.Bool.{both_ways, cases_Bool, cases_lt}
-use Rattle.counting.proofs.Counts.{count_congr}
+use Rattle.counting.proofs.Counts.{count_complement, count_congr}
 use Rattle.counting.proofs.Odd.{is_odd_remainder, odd-double}
 use Rattle.counting.proofs.RisingLists.{length-rising_list, mem-outside, mem-rising_list, rising_list-rises, set-wider}
 use Rattle.counting.specs.Counts.{Within, count, is_odd}
@@ -114,6 +114,12 @@ module _ (g : Graph) (p : List (List ℕ)) (x : Set) (is : IsGraph g) (pp : AreB
               (at_least_two (edges_in_cut (contracted g p) m (blocks_in p x)) (count (size (contracted g p)) (λ e. m e && inside (contracted g p) (blocks_in p x) e)) other
               (sym (ap (λ n. count n (blocks_in p x)) (contracted-order g p)) ∙ parity (contracted g p) (contracted-graph g p is pp) m (blocks_in p x) perfect));
         }
+
+-- at least three blocks inside, and three outside
+pub nontrivial-shown : (p : List (List ℕ)) (x : Set) (inside all : ℕ) → inside ≡ block_count p x → all ≡ length p → 3 ≤ inside → inside + 3 ≤ all → IsNontrivial (length p) (blocks_in p x)
+nontrivial-shown p x inside all counted sized few rest =
+    let both = count_complement (length p) (blocks_in p x) in
+    record { inside = omega arith; outside = omega arith }
 
 nontrivial_or_not : (n : ℕ) (x : Set) → IsNontrivial n x ⊎ (IsNontrivial n x → ⊥)
 nontrivial_or_not n x = elim (cases_lt (count n x) 3) [

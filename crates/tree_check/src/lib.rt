@@ -3,7 +3,8 @@
 //! `check` accepts exactly the derivations of a matching covered graph (`IsDerivation` of `tree_core`). Of another tree it names the
 //! first node in preorder that breaks a rule, with the first of the rules 1 to 5 that it breaks and what shows it (`IsRefused` of
 //! `specs/Refusals`): a perfect matching at the node's partition with at least two edges in a cut that is not tight, or a nontrivial
-//! tight cut where a leaf stands. Of a graph that is not matching covered it gives the first reason.
+//! tight cut where a leaf stands. Of a graph that is not matching covered it gives the first reason. `check_covered` answers the same
+//! of a graph that is known to be covered, and doesn't ask that again.
 //!
 //! `replay` makes a script of moves on a derivation and judges each tree on the way: it gives the last tree exactly where all are
 //! derivations, and else names the first failing move, with what `check` answers where its result is no derivation (`IsReplay` of
@@ -26,4 +27,4 @@ mod scan;
 
 pub use judgement::{Judgement, Why};
 pub use replaying::{Replayed, replay};
-pub use scan::check;
+pub use scan::{check, check_covered};

@@ -29,8 +29,9 @@ pub fn check(alloc: Global, g: &MultiGraph, tree: &Tree) -> Result<Judgement, Me
     }
 }
 
-// The judgement of a tree of a covered graph.
-fn check_covered(alloc: Global, g: &MultiGraph, tree: &Tree) -> Result<Judgement, Memory>
+/// Whether `tree`, whose shores lie below the order of `g`, is a derivation of `g`, a graph that is known to be matching covered: the
+/// answer of `check`, without its search for an edge that lies in no perfect matching.
+pub fn check_covered(alloc: Global, g: &MultiGraph, tree: &Tree) -> Result<Judgement, Memory>
     requires covered { IsCovered g.now }
     requires fits { Fits g.now.order (shape_of tree.now) }
     ensures { IfOk result (IsJudgement g.now (shape_of tree.now)) }

@@ -84,6 +84,13 @@ impl LeafMaps {
         self.items.push(item)?;
         Ok(())
     }
+
+    /// The maps, to be taken apart. Takes no memory.
+    pub fn into_items(self) -> Vec<LeafMap>
+        ensures { result.items ≡ self }
+    {
+        self.items
+    }
 }
 
 // The place of the block that holds v, counted from 0, and the number of blocks if none does.

@@ -1,27 +1,38 @@
-use Rattle.std.proofs.Common.{◌≡◌, ◌∙◌, ℕ, List, [], ◌∷◌, ◌++◌, map, take_all, slice_get, Some, ap, ap₂, sym, arith, add-one}
+use Rattle.std.proofs.Common.{◌≡◌, ◌∙◌, ℕ, List, ◌++◌, Some, map, drop, length, slice_get, ap, sym, arith}
 use Rattle.std.specs.Option.{option_map}
-use Rattle.std.proofs.lemmas.List.{length-map}
+use Rattle.std.specs.Vec.Iter.{into_iter_items}
+use Rattle.std.proofs.lemmas.List.{append-nil, length-map}
 use Rattle.std.proofs.lemmas.Option.{slice_get-map}
 use Rattle.contraction.specs.Partition.{PartitionValue}
 use Rattle.report_text.specs.declared.comparisons.MapLine.{MapLine}
 use Rattle.uncross.specs.MapView.{map_of, maps_of}
 use Rattle.bench_top.specs.Comparisons.{lines_of}
-use Rattle.bench_top.proofs.PairLines.{lines-more}
+use Rattle.bench_top.proofs.PairLines.{lines-more, lines-none}
 use Rattle.bench_top.proofs.comparing.lines_of.Goals as goal
 
-pub loop-i-preserved : goal.loop-i-preserved
-loop-i-preserved c =
+pub lines-preserved : goal.lines-preserved
+lines-preserved c =
     let ps : List (List (List ℕ)) = map (λ (p : PartitionValue). p.blocks) c.args.found.now in
-    let at_p : slice_get ps c.loop-i.i ≡ Some c.get.result.now.blocks = slice_get-map (λ (p : PartitionValue). p.blocks) c.args.found.now c.loop-i.i ∙ ap (option_map (λ (p : PartitionValue). p.blocks)) c.get.ensures in
-    let at_m : slice_get (maps_of c.args.maps.now) c.loop-i.i ≡ Some (map_of c.get-in-loop-i.result.now) = slice_get-map map_of c.args.maps.now c.loop-i.i ∙ ap (option_map map_of) c.get-in-loop-i.ensures in
-    rw add-one (c.in_ok-push.ensures.ok ∙ ap₂ (λ (lines : List MapLine) (line : MapLine). lines ++ line ∷ []) c.loop-i.invariant (rw add-one at c.in_ok-line_of.ensures) ∙ sym (lines-more c.loop-i.i ps (maps_of c.args.maps.now) c.get.result.now.blocks (map_of c.get-in-loop-i.result.now) at_p at_m))
+    let at_p : slice_get ps c.lines.i ≡ Some c.get.result.now.blocks = slice_get-map (λ (p : PartitionValue). p.blocks) c.args.found.now c.lines.i ∙ ap (option_map (λ (p : PartitionValue). p.blocks)) c.get.ensures in
+    let less = ap length c.in-Some.ensures.cases.0 in
+    let counts = c.in-Some.ensures.cases.1 in
+    let left = c.lines.invariant.left in
+    let counted = c.lines.invariant.counted in
+    record {
+      left = omega arith;
+      counted = omega arith;
+      lines = lines-more c.lines.i ps c.get.result.now.blocks (map_of c.in-Some.map) (maps_of (into_iter_items c.lines.rest)) (maps_of (into_iter_items c.next.new.self)) (lines_of 0 ps (maps_of c.args.maps)) c.lines.lines c.push.new.self c.in_ok-line_of.field-0
+          at_p c.lines.invariant.lines (ap maps_of c.in-Some.ensures.cases.0) c.in_ok-line_of.ensures c.in_ok-push.ensures.ok;
+    }
 
 pub returns : goal.returns
 returns c =
     let ps : List (List (List ℕ)) = map (λ (p : PartitionValue). p.blocks) c.args.found.now in
-    let end = c.len-i-end.ensures in
-    let test = c.loop-i-test.false in
-    let leaves = length-map c.args.found.now (λ (p : PartitionValue). p.blocks) in
-    let maps = length-map c.args.maps.now map_of in
-    let each = c.requires.one_each in
-    c.loop-i.invariant ∙ ap₂ (lines_of 0) (take_all c.loop-i.i ps (omega arith)) (take_all c.loop-i.i (maps_of c.args.maps.now) (omega arith))
+    let none = c.in_default.ensures.cases.0 in
+    let counted = c.lines.invariant.counted in
+    let same = length-map (into_iter_items c.lines.rest) map_of in
+    sym (
+    c.lines.invariant.lines
+    ∙ ap (λ (ls : List MapLine). c.lines.lines ++ ls) (lines-none c.lines.i (drop c.lines.i ps) (maps_of (into_iter_items c.lines.rest)) (omega arith))
+    ∙ append-nil c.lines.lines
+    )

@@ -6,7 +6,8 @@ use Rattle.tree_core.specs.Shapes.{Fits}
 use Rattle.tree_core.specs.View.{shape_of}
 use Rattle.graph_core.specs.Partitions.{singles}
 use Rattle.tree_core.proofs.DerivationStands.{fits-derivation, stands-derivation}
-use Rattle.bench_top.proofs.DerivationTexts.{few-leaves_listed, few-nodes, has-vertices, orders-of_leaves, told}
+use Rattle.report_text.proofs.FewLeaves.{few-leaves_listed, few-nodes, orders-of_leaves}
+use Rattle.bench_top.proofs.DerivationTexts.{has-vertices, told}
 use Rattle.bench_top.proofs.decomposing.derivation_report.Goals as goal
 
 pub write_tree-requires-clause-fits : goal.write_tree-requires-clause-fits

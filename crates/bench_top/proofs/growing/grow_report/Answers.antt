@@ -12,7 +12,7 @@ use Rattle.move_laws.specs.Pairings.{IsPairing}
 use Rattle.bench_top.specs.Growths.{IsCounted}
 use Rattle.bench_top.specs.Orders.{NamedPicks}
 use Rattle.bench_top.specs.declared.command.NamedOrder.TheVariants.{First, Last}
-use Rattle.bench_top.proofs.DerivationTexts.{few-nodes}
+use Rattle.report_text.proofs.FewLeaves.{few-nodes}
 use Rattle.bench_top.proofs.GrownSizes.{few-edges, few-vertices}
 use Rattle.bench_top.proofs.growing.grow_report.Goals as goal
 

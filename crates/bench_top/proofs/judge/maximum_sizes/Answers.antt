@@ -1,28 +1,22 @@
 use Rattle.std.proofs.Common.{ℕ, ◌-◌, ◌*◌, arith, sym, subst₂}
 use Rattle.bench_top.specs.Facts.{HasMaximum}
-use Rattle.bench_top.proofs.Sizes.{missed_and_ends, has_maximum}
+use Rattle.bench_top.proofs.Sizes.{ends_within, has_maximum}
 use Rattle.bench_top.proofs.judge.maximum_sizes.Goals as goal
 
 pub overflow_cast-edges : goal.overflow_cast-edges
 overflow_cast-edges c =
-    let a = missed_and_ends c.args.g.now c.keeps_limits.ensures.multigraph.ends c.args.m.now c.requires.of c.keeps_matching.ensures c.requires.maximum in
-    let b = c.keeps_limits.ensures.vertices in
-    let d = c.len-edges.ensures in
-    omega arith
+    let few = ends_within c.args.g.now c.keeps_limits.ensures.multigraph.ends c.args.m.now c.requires.of c.keeps_matching.ensures c.requires.maximum _ c.len-edges.ensures in
+    omega (arith, c.keeps_limits.ensures.vertices)
 
 pub overflow_mul-result : goal.overflow_mul-result
 overflow_mul-result c =
-    let a = missed_and_ends c.args.g.now c.keeps_limits.ensures.multigraph.ends c.args.m.now c.requires.of c.keeps_matching.ensures c.requires.maximum in
-    let b = c.keeps_limits.ensures.vertices in
-    let d = c.len-edges.ensures in
-    omega arith
+    let few = ends_within c.args.g.now c.keeps_limits.ensures.multigraph.ends c.args.m.now c.requires.of c.keeps_matching.ensures c.requires.maximum _ c.len-edges.ensures in
+    omega (arith, c.keeps_limits.ensures.vertices)
 
 pub overflow_sub-result : goal.overflow_sub-result
 overflow_sub-result c =
-    let a = missed_and_ends c.args.g.now c.keeps_limits.ensures.multigraph.ends c.args.m.now c.requires.of c.keeps_matching.ensures c.requires.maximum in
-    let d = c.len-edges.ensures in
-    let e = c.order.ensures.is in
-    omega arith
+    let few = ends_within c.args.g.now c.keeps_limits.ensures.multigraph.ends c.args.m.now c.requires.of c.keeps_matching.ensures c.requires.maximum _ c.len-edges.ensures in
+    omega (arith, c.order.ensures.is)
 
 pub returns : goal.returns
 returns c =

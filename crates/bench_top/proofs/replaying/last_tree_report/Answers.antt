@@ -3,7 +3,8 @@ use Rattle.graph_core.specs.Partitions.{singles}
 use Rattle.tree_core.specs.Shapes.{Fits}
 use Rattle.tree_core.specs.View.{shape_of}
 use Rattle.tree_core.proofs.DerivationStands.{fits-derivation, stands-derivation}
-use Rattle.bench_top.proofs.DerivationTexts.{few-nodes, has-vertices}
+use Rattle.report_text.proofs.FewLeaves.{few-nodes}
+use Rattle.bench_top.proofs.DerivationTexts.{has-vertices}
 use Rattle.bench_top.proofs.replaying.last_tree_report.Goals as goal
 
 pub write_tree-requires-clause-fits : goal.write_tree-requires-clause-fits

@@ -6,7 +6,7 @@ use Rattle.tree_core.specs.Shapes.{Fits}
 use Rattle.tree_core.specs.View.{shape_of}
 use Rattle.tree_core.proofs.DerivationStands.{fits-derivation, stands-derivation}
 use Rattle.list_lines.specs.LeafLines.{AreLinesOf, line_front}
-use Rattle.list_lines.proofs.FewLeaves.{blocks_of, orders_of}
+use Rattle.report_text.proofs.FewLeaves.{blocks-of_leaves, orders-of_leaves}
 use Rattle.list_lines.proofs.leaf_lines.lines_of_tree.Goals as goal
 
 pub leaves-requires-clause-fits : goal.leaves-requires-clause-fits
@@ -20,12 +20,12 @@ pub lines_of_leaves-requires : goal.lines_of_leaves-requires
 lines_of_leaves-requires c =
     subst (All (λ (p : PartitionValue). p.order ≡ c.args.g.now.order)) (sym c.in_ok-found.ensures)
     (subst (λ (n : ℕ). All (λ (p : PartitionValue). p.order ≡ n) (partitions_of c.order-n.result (leaves c.order-n.result (shape_of c.args.tree.now)))) c.order-n.ensures.is
-    (orders_of c.order-n.result (leaves c.order-n.result (shape_of c.args.tree.now))))
+    (orders-of_leaves c.order-n.result (leaves c.order-n.result (shape_of c.args.tree.now))))
 
 pub returns : goal.returns
 returns c =
     let front : c.as_str.result.now ≡ line_front c.args.number = c.as_str.ensures.value ∙ c.in_ok-front.ensures.ok in
     subst₂ (λ (before : List ℕ) (ps : List (List (List ℕ))). AreLinesOf before c.args.g.now ps c.in_ok-lines.lines.items) front
-    (ap (map (λ (p : PartitionValue). p.blocks)) c.in_ok-found.ensures ∙ blocks_of c.order-n.result (leaves c.order-n.result (shape_of c.args.tree.now))
+    (ap (map (λ (p : PartitionValue). p.blocks)) c.in_ok-found.ensures ∙ blocks-of_leaves c.order-n.result (leaves c.order-n.result (shape_of c.args.tree.now))
     ∙ ap (λ (k : ℕ). leaves k (shape_of c.args.tree.now)) c.order-n.ensures.is)
     c.in_ok-lines.ensures

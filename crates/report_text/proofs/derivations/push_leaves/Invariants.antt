@@ -1,7 +1,14 @@
-use Rattle.std.proofs.Common.{◌≡◌, ◌++◌, map, string_bytes}
+use Rattle.std.proofs.Common.{◌≡◌, ◌++◌, ℕ, length, map, string_bytes}
+use Rattle.counting.specs.Counts.{Within}
+use Rattle.tree_core.specs.LeafMaps.{leaf_at}
 use Rattle.report_text.specs.Derivations.{leaf_lines}
+use Rattle.report_text.specs.Tallies.{IsLeafKind, kind_at}
 use Rattle.report_text.proofs.derivations.push_leaves.Given as goal
 
--- the lines of the first leaves are written
+-- the lines of the first leaves are written, and their kinds are known
 abbrev pub invariant-loop-i : goal.invariant-loop-i
-invariant-loop-i l = string_bytes l.text ≡ string_bytes l.fn.text ++ leaf_lines l.g (map (λ p. p.blocks) l.leaves) l.kinds l.i
+invariant-loop-i l = record {
+  so_many : length l.kinds.items ≡ l.i;
+  right : (k : ℕ) → Within l.i k → IsLeafKind l.g (leaf_at (map (λ p. p.blocks) l.leaves) k) (kind_at l.kinds.items k);
+  lines : string_bytes l.text ≡ string_bytes l.fn.text ++ leaf_lines l.g (map (λ p. p.blocks) l.leaves) l.kinds.items l.i;
+}

@@ -1,5 +1,4 @@
-use Rattle.std.proofs.Common.{◌≡◌, ◌+◌, ◌<◌, get_or, length, take, refl, subst, arith}
-use Rattle.std.proofs.lemmas.Option.{get_or_from_slice_get}
+use Rattle.std.proofs.Common.{◌+◌, take, refl, subst}
 use Rattle.tree_core.specs.MoveView.{move_of, moves_of}
 use Rattle.tree_core.specs.View.{shape_of}
 use Rattle.tree_check.proofs.ReplaySteps.{reached-derivation, refused_move-next, stuck-next, turns-next}
@@ -13,27 +12,15 @@ step-requires c =
 
 pub returns-in-Stuck : goal.returns-in-Stuck
 returns-in-Stuck c =
-    let i = c.loop-i.i in
-    let item = c.get.result.now in
-    let less : i < length c.args.moves.now = let all = c.len-i-end.ensures in let test = c.loop-i-test.true in omega arith in
-    let same : get_or c.args.moves.now i item ≡ item = get_or_from_slice_get c.args.moves.now i item item c.get.ensures in
-    let moved = subst (IsMoved c.args.g.now (shape_of c.loop-i.reached) (move_of item)) c.in-Stuck.is c.in_ok-tree.ensures in
-    stuck-next c.args.g.now (shape_of c.args.tree) (shape_of c.loop-i.reached) c.args.moves.now i (i + 1) item less same refl c.loop-i.invariant moved
+    let moved = subst (IsMoved c.args.g.now (shape_of c.loop-i.reached) (move_of c.get.result.now)) c.in-Stuck.is c.in_ok-tree.ensures in
+    stuck-next c.args.g.now (shape_of c.args.tree) (shape_of c.loop-i.reached) c.args.moves.now c.loop-i.i (c.loop-i.i + 1) c.get.result.now c.get.ensures refl c.loop-i.invariant moved
 
 pub returns-in-Refused : goal.returns-in-Refused
 returns-in-Refused c =
-    let i = c.loop-i.i in
-    let item = c.get.result.now in
-    let less : i < length c.args.moves.now = let all = c.len-i-end.ensures in let test = c.loop-i-test.true in omega arith in
-    let same : get_or c.args.moves.now i item ≡ item = get_or_from_slice_get c.args.moves.now i item item c.get.ensures in
-    let moved = subst (IsMoved c.args.g.now (shape_of c.loop-i.reached) (move_of item)) c.in-Refused.is c.in_ok-tree.ensures in
-    refused_move-next c.args.g.now (shape_of c.args.tree) (shape_of c.loop-i.reached) moved.0 c.args.moves.now i (i + 1) c.in-Refused.node (why_of c.in-Refused.why) item less same refl c.loop-i.invariant moved.1 moved.2
+    let moved = subst (IsMoved c.args.g.now (shape_of c.loop-i.reached) (move_of c.get.result.now)) c.in-Refused.is c.in_ok-tree.ensures in
+    refused_move-next c.args.g.now (shape_of c.args.tree) (shape_of c.loop-i.reached) moved.0 c.args.moves.now c.loop-i.i (c.loop-i.i + 1) c.in-Refused.node (why_of c.in-Refused.why) c.get.result.now c.get.ensures refl c.loop-i.invariant moved.1 moved.2
 
 pub loop-i-preserved : goal.loop-i-preserved
 loop-i-preserved c =
-    let i = c.loop-i.i in
-    let item = c.get.result.now in
-    let less : i < length c.args.moves.now = let all = c.len-i-end.ensures in let test = c.loop-i-test.true in omega arith in
-    let same : get_or c.args.moves.now i item ≡ item = get_or_from_slice_get c.args.moves.now i item item c.get.ensures in
-    let moved = subst (IsMoved c.args.g.now (shape_of c.loop-i.reached) (move_of item)) c.in-Passed.is c.in_ok-tree.ensures in
-    turns-next c.args.g.now (shape_of c.args.tree) (shape_of c.loop-i.reached) (shape_of c.in-Passed.tree) c.args.moves.now i item less same c.loop-i.invariant moved.0 moved.1
+    let moved = subst (IsMoved c.args.g.now (shape_of c.loop-i.reached) (move_of c.get.result.now)) c.in-Passed.is c.in_ok-tree.ensures in
+    turns-next c.args.g.now (shape_of c.args.tree) (shape_of c.loop-i.reached) (shape_of c.in-Passed.tree) c.args.moves.now c.loop-i.i c.get.result.now c.get.ensures c.loop-i.invariant moved.0 moved.1

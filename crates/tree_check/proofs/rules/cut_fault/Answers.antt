@@ -2,7 +2,7 @@ use Rattle.std.proofs.Common.{length, arith}
 use Rattle.counting.proofs.Counts.{count_complement}
 use Rattle.counting.specs.Lists.{mem}
 use Rattle.graph_core.specs.Shores.{blocks_in}
-use Rattle.tree_check.proofs.CutRules.{breaks-some, even-count, is-cut, odd-count, union-at}
+use Rattle.tree_check.proofs.CutRules.{breaks-some, even-count, is-cut, nontrivial-shown, odd-count, union-at}
 use Rattle.tree_check.specs.declared.judgement.Why.TheVariants.{Even, Trivial, NotTight}
 use Rattle.tree_check.proofs.rules.cut_fault.Goals.{then-inside-lt3-via-then-inside-lt3, then-inside-lt3-via-else-inside-lt3+then-len-inside}
 use Rattle.tree_check.proofs.rules.cut_fault.Goals as goal
@@ -33,24 +33,10 @@ pub returns-in-Some-clause-some : goal.returns-in-Some-clause-some
 returns-in-Some-clause-some c why is = breaks-some c.args.g.now c.args.p.now.blocks (mem c.args.shore) (NotTight c.in-Some.matching) why is (
   union-at c.args.g.now c.args.p.now c.args.shore c.is_union.result c.requires.order c.is_union.ensures c.if-not-is_union.false,
   odd-count _ _ c.blocks_in-inside.ensures c.if-inside-eq0.false,
-  record {
-    inside = let e = c.blocks_in-inside.ensures in let l = c.if-inside-lt3.false in omega arith;
-    outside =
-        let s = count_complement (length c.args.p.now.blocks) (blocks_in c.args.p.now.blocks (mem c.args.shore)) in
-        let e = c.blocks_in-inside.ensures in
-        let n = c.len.ensures in
-        let l = c.if-len-inside.false in omega arith;
-  },
+  nontrivial-shown c.args.p.now.blocks (mem c.args.shore) c.blocks_in-inside.result c.len.result c.blocks_in-inside.ensures c.len.ensures (omega (arith, c.if-inside-lt3.false)) (omega (arith, c.if-len-inside.false)),
   c.in_ok-matching.ensures.some c.in-Some.matching c.in-Some.is,
 )
 
 pub returns-in-None-clause-none : goal.returns-in-None-clause-none
 returns-in-None-clause-none c none = is-cut c.args.g.now c.args.p.now.blocks c.args.shore (record { rising = c.rises.ensures.rising; within = c.requires.fits }) (c.in_ok-matching.ensures.none c.in-None.is)
-    (record {
-      inside = let e = c.blocks_in-inside.ensures in let l = c.if-inside-lt3.false in omega arith;
-      outside =
-          let s = count_complement (length c.args.p.now.blocks) (blocks_in c.args.p.now.blocks (mem c.args.shore)) in
-          let e = c.blocks_in-inside.ensures in
-          let n = c.len.ensures in
-          let l = c.if-len-inside.false in omega arith;
-    })
+    (nontrivial-shown c.args.p.now.blocks (mem c.args.shore) c.blocks_in-inside.result c.len.result c.blocks_in-inside.ensures c.len.ensures (omega (arith, c.if-inside-lt3.false)) (omega (arith, c.if-len-inside.false)))

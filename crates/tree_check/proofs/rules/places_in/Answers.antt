@@ -1,34 +1,19 @@
 use Rattle.std.proofs.Common.{◌≡◌, ℕ, ◌+◌, ◌==◌, ◌||◌, true, List, sym, ◌∙◌, subst, arith}
 use Rattle.counting.specs.Lists.{mem}
 use Rattle.graph_core.specs.Shores.{blocks_in}
-use Rattle.contraction.proofs.BlockLists.{length-partition}
-use Rattle.tree_check.proofs.PlacesInside.{added-members, added-within, all-places, left-members, left-within}
+use Rattle.tree_check.proofs.PlacesInside.{added-members, added-within, all-places, left-members, left-within, room}
 use Rattle.tree_check.proofs.rules.places_in.Goals.{then-is_subset, else-is_subset}
 use Rattle.tree_check.proofs.rules.places_in.Goals as goal
 
 pub overflow_cast-i : goal.overflow_cast-i
-overflow_cast-i c =
-    let l = length-partition c.args.p.now.order c.args.p.now.blocks c.keeps_partition.ensures.partition in
-    let f = c.keeps_partition.ensures.few in
-    let t = c.loop-i-test.true in
-    let s = c.len-i-end.ensures in
-    omega arith
+overflow_cast-i c = let below = room _ _ _ _ c.keeps_partition.ensures.partition c.keeps_partition.ensures.few c.len-i-end.ensures c.loop-i-test.true in omega arith
 
 pub overflow_add-i : goal.overflow_add-i
-overflow_add-i c =
-    let l = length-partition c.args.p.now.order c.args.p.now.blocks c.keeps_partition.ensures.partition in
-    let f = c.keeps_partition.ensures.few in
-    let t = c.loop-i-test.true in
-    let s = c.len-i-end.ensures in
-    omega arith
+overflow_add-i c = let below = room _ _ _ _ c.keeps_partition.ensures.partition c.keeps_partition.ensures.few c.len-i-end.ensures c.loop-i-test.true in omega arith
 
 pub with-places-requires : goal.with-places-requires
 with-places-requires c =
-    let l = length-partition c.args.p.now.order c.args.p.now.blocks c.keeps_partition.ensures.partition in
-    let f = c.keeps_partition.ensures.few in
-    let t = c.loop-i-test.true in
-    let s = c.len-i-end.ensures in
-    (omega arith, omega arith)
+    let below = room _ _ _ _ c.keeps_partition.ensures.partition c.keeps_partition.ensures.few c.len-i-end.ensures c.loop-i-test.true in (omega arith, omega arith)
 
 pub loop-i-preserved : goal.loop-i-preserved
 loop-i-preserved c = elim c.if-is_subset.branch [

@@ -1,0 +1,53 @@
+-- A derivation of a graph within the limits has at most 127 nodes, since there are few leaves where the graph has at least four vertices,
+-- and no cut where it has fewer. Its leaves are partitions of the graph's vertices.
+use Rattle.std.proofs.Common.{◌≡◌, ℕ, ◌≤◌, ◌<◌, List, [], ◌∷◌, length, map, All, ap, refl, arith, zero, suc, inl, inr}
+use Rattle.std.proofs.lemmas.Bool.{cases_lt}
+use Rattle.counting.specs.Lists.{mem}
+use Rattle.counting.proofs.Counts.{count_complement}
+use Rattle.graph_core.specs.Graph.{Graph, IsGraph}
+use Rattle.graph_core.specs.Partitions.{singles}
+use Rattle.graph_core.specs.Shores.{blocks_in}
+use Rattle.graph_core.proofs.Singles.{length-singles}
+use Rattle.contraction.specs.Partition.{PartitionValue}
+use Rattle.tree_core.specs.Derivations.{IsDerivation, IsDerivationAt}
+use Rattle.tree_core.specs.Leaves.{leaves, partitions_of}
+use Rattle.tree_core.specs.Shapes.{Shape, leaf, cut, node_count}
+use Rattle.tree_core.proofs.CutsBelow.{few-leaves}
+use Rattle.tree_core.proofs.Sizes.{leaf_count-cuts, node_count-cuts, length-leaves_at}
+
+-- a cut has at least three blocks on either side
+few-without_cut : (g : Graph) (t : Shape) → g.order < 4 → IsDerivationAt g (singles g.order) t → node_count t ≤ 127
+few-without_cut g leaf small is = omega arith
+few-without_cut g (cut x k m) small is =
+    let inside = is.0.nontrivial.inside in
+    let outside = is.0.nontrivial.outside in
+    let all = count_complement (length (singles g.order)) (blocks_in (singles g.order) (mem x)) in
+    let so_many = length-singles g.order in
+    absurd (omega arith)
+
+pub few-nodes : (g : Graph) (t : Shape) → IsGraph g → g.order ≤ 128 → IsDerivation g t → node_count t ≤ 127
+few-nodes g t is few derived = elim (cases_lt g.order 4) [
+  | inl small ↦ few-without_cut g t small derived.derives
+  | inr four ↦ let leaves = few-leaves g t is derived four in let cuts = leaf_count-cuts t in let nodes = node_count-cuts t in omega arith
+]
+
+-- and so there are few leaves
+pub few-leaves_listed : (n : ℕ) (t : Shape) → node_count t ≤ 127 → length (partitions_of n (leaves n t)) ≤ 127
+few-leaves_listed n t few =
+    let listed = length-leaves_at n (singles n) t in let cuts = leaf_count-cuts t in let nodes = node_count-cuts t in
+    let same = length-partitions n (leaves n t) in omega arith
+  where
+    length-partitions : (n : ℕ) (ps : List (List (List ℕ))) → length (partitions_of n ps) ≡ length ps
+    length-partitions n [] = refl
+    length-partitions n (p ∷ ps) = ap suc (length-partitions n ps)
+
+-- each is a partition of 1 to n
+pub orders-of_leaves : (n : ℕ) (ps : List (List (List ℕ))) → All (λ (p : PartitionValue). p.order ≡ n) (partitions_of n ps)
+orders-of_leaves n [] k d l = absurd (omega arith)
+orders-of_leaves n (p ∷ ps) zero d l = refl
+orders-of_leaves n (p ∷ ps) (suc k) d l = orders-of_leaves n ps k d (omega arith)
+
+-- and has the blocks of the leaf
+pub blocks-of_leaves : (n : ℕ) (ps : List (List (List ℕ))) → map (λ (p : PartitionValue). p.blocks) (partitions_of n ps) ≡ ps
+blocks-of_leaves n [] = refl
+blocks-of_leaves n (p ∷ ps) = ap (λ (qs : List (List (List ℕ))). p ∷ qs) (blocks-of_leaves n ps)

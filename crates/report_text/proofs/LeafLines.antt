@@ -1,0 +1,53 @@
+-- The lines of the leaves grow by those of one leaf, and so do their kinds: the lines of the leaves before it tell their own kinds alone.
+use Rattle.std.proofs.Common.{◌≡◌, ◌<◌, ◌≤◌, ℕ, zero, suc, ◌+◌, ◌-◌, List, [], ◌∷◌, ◌++◌, length, map, ap, ap₂, refl, subst, subst₂, sym, ◌∙◌, get_or, slice_get, Some, inl, inr, arith}
+use Rattle.std.proofs.Math.ListN.{get_or-append}
+use Rattle.std.proofs.Math.Seq.{get_or-append_seam}
+use Rattle.std.proofs.lemmas.Bool.{cases_lt}
+use Rattle.std.proofs.lemmas.Option.{get_or_from_slice_get, slice_get-map}
+use Rattle.std.specs.Option.{option_map}
+use Rattle.counting.specs.Counts.{Within}
+use Rattle.contraction.specs.Partition.{PartitionValue}
+use Rattle.graph_core.specs.Graph.{Graph}
+use Rattle.tree_core.specs.LeafMaps.{leaf_at}
+use Rattle.report_text.specs.Derivations.{leaf_lines, leaf_text}
+use Rattle.report_text.specs.Tallies.{IsLeafKind, kind_at}
+use Rattle.report_text.specs.declared.tallies.LeafKind.{LeafKind}
+use Rattle.report_text.specs.declared.tallies.LeafKind.TheVariants.{Brick}
+use Rattle.report_text.proofs.WrittenLines.{leaf-written}
+
+-- the kinds so far, with that of the next leaf
+pub kinds-more : (g : Graph) (ps : List (List (List ℕ))) (i : ℕ) (kinds : List LeafKind) (kind : LeafKind) → length kinds ≡ i →
+    ((j : ℕ) → Within i j → IsLeafKind g (leaf_at ps j) (kind_at kinds j)) → IsLeafKind g (get_or ps i []) kind →
+    (j : ℕ) → Within (i + 1) j → IsLeafKind g (leaf_at ps j) (kind_at (kinds ++ kind ∷ []) j)
+kinds-more g ps i kinds kind e before here j w = elim (cases_lt (j - 1) i) [
+  | inl b ↦ subst (λ (d : LeafKind). IsLeafKind g (leaf_at ps j) d) (sym (get_or-append kinds (kind ∷ []) Brick (j - 1) (omega arith))) (before j (omega arith))
+  | inr a ↦
+      let same : length kinds ≡ j - 1 = omega arith in
+      let own : i ≡ j - 1 = omega arith in
+      subst₂ (λ (n : ℕ) (d : LeafKind). IsLeafKind g (get_or ps n []) d) own
+      (sym (get_or-append_seam kinds kind [] Brick) ∙ ap (λ (n : ℕ). get_or (kinds ++ kind ∷ []) n Brick) same) here
+]
+
+-- the blocks of the partition at a place
+pub blocks-at : (found : List PartitionValue) (i : ℕ) (p : PartitionValue) → slice_get found i ≡ Some p → get_or (map (λ (q : PartitionValue). q.blocks) found) i [] ≡ p.blocks
+blocks-at found i p is =
+    get_or_from_slice_get (map (λ (q : PartitionValue). q.blocks) found) i p.blocks []
+    (slice_get-map (λ (q : PartitionValue). q.blocks) found i ∙ ap (option_map (λ (q : PartitionValue). q.blocks)) is)
+
+-- the lines of the first leaves don't tell the kinds of later ones
+lines-before : (g : Graph) (ps : List (List (List ℕ))) (kinds more : List LeafKind) (i : ℕ) → i ≤ length kinds → leaf_lines g ps kinds i ≡ leaf_lines g ps (kinds ++ more) i
+lines-before g ps kinds more zero l = refl
+lines-before g ps kinds more (suc i) l =
+    ap₂ (λ (before : List ℕ) (kind : LeafKind). before ++ leaf_text g (suc i) (leaf_at ps (suc i)) kind) (lines-before g ps kinds more i (omega arith))
+    (sym (get_or-append kinds more Brick (suc i - 1) (omega arith)))
+
+-- the lines of the next leaf, with its kind
+pub lines-more : (g : Graph) (leaves : List PartitionValue) (kinds : List LeafKind) (i : ℕ) (p : PartitionValue) (kind : LeafKind) (start now next : List ℕ) → slice_get leaves i ≡ Some p → length kinds ≡ i →
+    now ≡ start ++ leaf_lines g (map (λ (p : PartitionValue). p.blocks) leaves) kinds i → next ≡ now ++ leaf_text g (suc i) p.blocks kind →
+    next ≡ start ++ leaf_lines g (map (λ (p : PartitionValue). p.blocks) leaves) (kinds ++ kind ∷ []) (suc i)
+lines-more g leaves kinds i p kind start now next is so_many first second =
+    let ps : List (List (List ℕ)) = map (λ (p : PartitionValue). p.blocks) leaves in
+    leaf-written g leaves (kinds ++ kind ∷ []) i p kind start now next is
+    (sym (get_or-append_seam kinds kind [] Brick) ∙ ap (λ (n : ℕ). get_or (kinds ++ kind ∷ []) n Brick) so_many)
+    (first ∙ ap (λ (lines : List ℕ). start ++ lines) (lines-before g ps kinds (kind ∷ []) i (omega arith)))
+    second
