@@ -10,7 +10,8 @@ use Rattle.graph_core.specs.declared.verdict.Verdict.TheVariants.{NotCovered}
 use Rattle.definition_laws.proofs.Reasons.{reason-one}
 use Rattle.definition_laws.specs.Words.{without_berge}
 use Rattle.report_text.specs.Reports.{numbers_text, verdict_text}
-use Rattle.bench_top.specs.Fixed.{DifferAtMostIn, MayBeBerge}
+use Rattle.bench_top.specs.Fixed.{DifferAtMostIn}
+use Rattle.bench_top.specs.Shown.{MayBeBerge}
 use Rattle.bench_top.specs.Uncovered.{Uncovered}
 use Rattle.bench_top.specs.declared.status.Status.{Status}
 use Rattle.bench_top.proofs.AlikeTexts.{alike-along, alike-before, alike-behind, alike-lists}

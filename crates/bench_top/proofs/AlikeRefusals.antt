@@ -24,7 +24,8 @@ use Rattle.bench_top.specs.Checks.{CheckGives, RefusedTree, Refuses, shown_of}
 use Rattle.bench_top.specs.Comparisons.{CompareGives, RefusesPair, ScriptGives}
 use Rattle.bench_top.specs.EarChecks.{EarCheckGives, EarsGives, RefusedEars, named_edge}
 use Rattle.bench_top.specs.EarChecks as ears
-use Rattle.bench_top.specs.Fixed.{DifferAtMostIn, MayBeBerge, MayCross, MayCrossBehind, MayShow, MayShowOfMoves, MayShowOfTree, MayShowOfTwo}
+use Rattle.bench_top.specs.Fixed.{DifferAtMostIn, MayShow}
+use Rattle.bench_top.specs.Shown.{MayBeBerge, MayCross, MayCrossBehind, MayShowOfMoves, MayShowOfTree, MayShowOfTwo}
 use Rattle.bench_top.specs.Outcome.{DecomposeGives, ResultOf}
 use Rattle.bench_top.specs.Replays.{MovesGive, RefusedMove, ReplayGives, StuckMove}
 use Rattle.bench_top.specs.Tasks.{Task}

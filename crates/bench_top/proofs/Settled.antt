@@ -28,20 +28,15 @@ use Rattle.bench_top.specs.declared.status.Status.TheVariants.{Done, Negative}
 abbrev pub Settles : Type 0 → Status → Type 0
 Settles fact status = ((status ≡ Done) × fact) ⊎ ((status ≡ Negative) × (fact → ⊥))
 
--- the graph of a task is one, and where its structure is told it has no loops
+-- the graph of a task with trees is one, and where its structure is told it has no loops; nothing else is needed
 abbrev pub KeepsGraph : Task → Type 0
 KeepsGraph (task.Analyse named) = IsMultigraph named.graph
-KeepsGraph (task.Convert named) = Unit {0}
 KeepsGraph (task.Analyse6 g) = IsMultigraph g
-KeepsGraph (task.Decompose named order) = Unit {0}
-KeepsGraph (task.DecomposeBy named picks) = Unit {0}
 KeepsGraph (task.Check named tree) = IsGraph named.graph
-KeepsGraph (task.CheckEars named list) = Unit {0}
-KeepsGraph (task.Ears named) = Unit {0}
 KeepsGraph (task.Replay named tree moves) = IsGraph named.graph
 KeepsGraph (task.Compare named first second) = IsGraph named.graph
 KeepsGraph (task.Script named first second) = IsGraph named.graph
-KeepsGraph (task.Grow seed pieces) = Unit {0}
+KeepsGraph t = Unit {0}
 
 -- moves that lead through derivations do not fail
 turns-not_stuck : (g : Graph) (s t : Shape) (ms : List PlainMove) (at : ℕ) → TurnsThrough g s ms t → IsStuckAt g s ms at → ⊥

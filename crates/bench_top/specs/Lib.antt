@@ -3,6 +3,8 @@ pub mod Asked
 pub mod Codes
 pub mod Orders
 pub mod Tasks
+pub mod Shown
+pub mod Conducts
 pub mod Loading
 pub mod Facts
 pub mod Uncovered

@@ -25,7 +25,8 @@ use Rattle.report_text.specs.Reports.{bad_input_text, with_names_text, graph6_li
 use Rattle.report_text.specs.Tallies.{AreLeafKinds}
 use Rattle.report_text.specs.declared.analyses.AnalysisLines.{AnalysisLines}
 use Rattle.report_text.specs.declared.tallies.LeafKind.{LeafKind}
-use Rattle.bench_top.specs.Commands.{Command, Analyse, Convert, Analyse6, Decompose, DecomposeBy, Check, CheckEars, Ears, Replay, Compare, Script, Grow, command_of}
+use Rattle.bench_top.specs.Commands.{Command, Analyse, Convert, Analyse6, Grow, command_of}
+use Rattle.bench_top.specs.Conducts.{Conduct, Writes, Tells, Needs, Chooses, conduct_of}
 use Rattle.bench_top.specs.Orders.{NamedPicks, ScriptPicks}
 use Rattle.bench_top.specs.Uncovered.{Uncovered}
 use Rattle.bench_top.specs.Checks.{CheckGives}
@@ -146,36 +147,25 @@ IsReported status = (status ≡ Done) ⊎ ((status ≡ Negative) ⊎ (status ≡
 abbrev pub IsSettled : Status → Type 0
 IsSettled status = (status ≡ Done) ⊎ (status ≡ Negative)
 
--- a command that may refuse what it is given
+-- a command that may refuse what it is given: all do but these four
 abbrev pub MayRefuse : Option Command → Type 0
 MayRefuse None = ⊥
 MayRefuse (Some (Analyse name)) = ⊥
 MayRefuse (Some (Convert name)) = ⊥
 MayRefuse (Some (Analyse6 name)) = ⊥
-MayRefuse (Some (Decompose name order)) = Unit {0}
-MayRefuse (Some (DecomposeBy name picks)) = Unit {0}
-MayRefuse (Some (Check name tree)) = Unit {0}
-MayRefuse (Some (CheckEars name ears)) = Unit {0}
-MayRefuse (Some (Ears name)) = Unit {0}
-MayRefuse (Some (Replay name tree moves)) = Unit {0}
-MayRefuse (Some (Compare name first second)) = Unit {0}
-MayRefuse (Some (Script name first second)) = Unit {0}
 MayRefuse (Some (Grow seed pieces)) = ⊥
+MayRefuse (Some command) = Unit {0}
+
+-- the same of a conduct: what needs something may be refused
+abbrev pub RefusesBy : Conduct → Type 0
+RefusesBy Writes = ⊥
+RefusesBy (Tells shown) = ⊥
+RefusesBy (Needs fact shown) = Unit {0}
+RefusesBy (Chooses fact shown) = Unit {0}
 
 -- the same of what a command works on
 abbrev pub TaskMayRefuse : Task → Type 0
-TaskMayRefuse (task.Analyse named) = ⊥
-TaskMayRefuse (task.Convert named) = ⊥
-TaskMayRefuse (task.Analyse6 g) = ⊥
-TaskMayRefuse (task.Decompose named order) = Unit {0}
-TaskMayRefuse (task.DecomposeBy named picks) = Unit {0}
-TaskMayRefuse (task.Check named tree) = Unit {0}
-TaskMayRefuse (task.CheckEars named list) = Unit {0}
-TaskMayRefuse (task.Ears named) = Unit {0}
-TaskMayRefuse (task.Replay named tree moves) = Unit {0}
-TaskMayRefuse (task.Compare named first second) = Unit {0}
-TaskMayRefuse (task.Script named first second) = Unit {0}
-TaskMayRefuse (task.Grow seed pieces) = ⊥
+TaskMayRefuse t = RefusesBy (conduct_of t)
 
 -- the same of what was loaded, if it was
 abbrev pub GatheredMayRefuse : Result code.the_data Stop → Type 0
