@@ -1,17 +1,10 @@
--- A path of at least one step, taken apart before its last step: what stands before is the path of the parent.
+-- The order of the leaves under a Rotate: its path taken apart before the last step, where the path of the parent ends.
 use Rattle.std.proofs.Common.{◌≡◌, ℕ, List, [], ◌∷◌, ◌++◌, ap, ap₂, refl, ◌∙◌}
+use Rattle.tree_core.proofs.RotateSteps.{last_step-end, parent_path-end}
 use Rattle.tree_core.specs.LeafMaps.{move_order, order_at, rotate_order}
-use Rattle.tree_core.specs.Moves.{last_step, parent_path, rotate_at}
+use Rattle.tree_core.specs.Moves.{rotate_at}
 use Rattle.tree_core.specs.Shapes.{Shape}
 use Rattle.tree_core.specs.declared.path.Side.{Side}
-
-last_step-end : (side : Side) (path : List Side) (last : Side) → last_step side (path ++ last ∷ []) ≡ last
-last_step-end side [] last = refl
-last_step-end side (next ∷ path) last = last_step-end next path last
-
-parent_path-end : (side : Side) (path : List Side) (last : Side) → parent_path side (path ++ last ∷ []) ≡ side ∷ path
-parent_path-end side [] last = refl
-parent_path-end side (next ∷ path) last = ap (λ (rest : List Side). side ∷ rest) (parent_path-end next path last)
 
 order-end : (n : ℕ) (parents : List Side) (last : Side) (t : Shape) → move_order n (rotate_at (parents ++ last ∷ [])) t ≡ order_at (rotate_order last) parents 0 t
 order-end n [] last t = refl
