@@ -169,7 +169,8 @@ fn push_order_along(
 ) -> Result<(), Memory>
     requires { k + leaf_count (shape_of tree.now) ≤ 255 }
     ensures order { OnOk result
-        (order.new ≡ order.old ++ order_at (changed_order change.now) path.now k (shape_of tree.now)) }
+        (order.new ≡ order.old ++
+        order_at (changed_order change.now) path.now k (shape_of tree.now)) }
     ensures count { OnOk result
         (length order.new ≡ length order.old + leaf_count (shape_of tree.now)) }
 {
