@@ -11,7 +11,7 @@ use Rattle.graph_core.specs.Graph.{Graph, size, IsGraph, with_ends}
 use Rattle.graph_core.specs.Matchings.{HasPerfect}
 use Rattle.two_ears.specs.VertexPairs.{pairs_at}
 use Rattle.ear_core.specs.AlternatingEars.{AreCandidates, Serves, ends_of_ear, ends_of_ears, IsChosen}
-use Rattle.ear_core.specs.Asking.{IsAsked, IsBefore, FindsOne, FindsWith, FindsTwo, NoneServes, NoneServesWith, NoTwoServe}
+use Rattle.ear_core.specs.Asking.{IsAsked, IsBefore, FindsBeside, FindsTwo, NoneServes, NoneServesBeside, NoTwoServe}
 use Rattle.ear_core.specs.EarLists.{PlainEar, PlainStep, one, two, FitsEar, IsStep, next_stage}
 use Rattle.ear_core.specs.Ears.{last_vertex, trail, IsEar}
 use Rattle.ear_core.specs.StageGraphs.{listed}
@@ -50,34 +50,25 @@ none-carried (Ok None) P Q h p = h p
 none-carried (Err e) P Q h p = tt
 
 module _ (g : Graph) (f : Set) (a : PlainEar) (ears others : List PlainEar) (begins : ears ≡ a ∷ others) where
-  pub one-found : (s : PlainStep) → FindsOne g f (a ∷ others) s → FindsOne g f ears s
-  one-found s found = subst (λ (xs : List PlainEar). FindsOne g f xs s) (sym begins) found
+  pub beside-here : (x : Set) (b : PlainEar) → b ≡ a → Serves g f (union x (ends_of_ear g a)) → FindsBeside g f x ears b
+  beside-here x b is q = (subst (IsIn b) (sym begins) (inl is), subst (λ (c : PlainEar). Serves g f (union x (ends_of_ear g c))) (sym is) q)
 
-  pub one-here : (s : PlainStep) → s ≡ one a → Serves g f (ends_of_ear g a) → FindsOne g f ears s
-  one-here s is q = one-found s (a, inl refl, is, q)
+  pub beside-later : (x : Set) (b : PlainEar) → FindsBeside g f x others b → FindsBeside g f x ears b
+  beside-later x b found = (subst (IsIn b) (sym begins) (inr found.0), found.1)
 
-  pub one-later : (s : PlainStep) → FindsOne g f others s → FindsOne g f ears s
-  one-later s found = one-found s (found.0, inr found.1, found.2, found.3)
-
-  pub none-later : (Serves g f (ends_of_ear g a) → ⊥) → NoneServes g f others → NoneServes g f ears
-  none-later here later b i q = elim (subst (IsIn b) begins i) [
-    | inl e ↦ here (subst (λ (c : PlainEar). Serves g f (ends_of_ear g c)) e q)
+  pub none-beside-later : (x : Set) → (Serves g f (union x (ends_of_ear g a)) → ⊥) → NoneServesBeside g f x others → NoneServesBeside g f x ears
+  none-beside-later x here later b i q = elim (subst (IsIn b) begins i) [
+    | inl e ↦ here (subst (λ (c : PlainEar). Serves g f (union x (ends_of_ear g c))) e q)
     | inr j ↦ later b j q
   ]
 
-  pub with-here : (x : PlainEar) (s : PlainStep) → s ≡ two x a → Serves g f (union (ends_of_ear g x) (ends_of_ear g a)) → FindsWith g f x ears s
-  with-here x s is q = subst (λ (xs : List PlainEar). FindsWith g f x xs s) (sym begins) (a, inl refl, is, q)
+  pub two-here : (b : PlainEar) (s : PlainStep) → s ≡ two a b → FindsBeside g f (ends_of_ear g a) others b → FindsTwo g f ears s
+  two-here b s is found = (a, b, subst (IsBefore a b) (sym begins) (inl (refl, found.0)), is, found.1)
 
-  pub with-later : (x : PlainEar) (s : PlainStep) → FindsWith g f x others s → FindsWith g f x ears s
-  with-later x s found = subst (λ (xs : List PlainEar). FindsWith g f x xs s) (sym begins) (found.0, inr found.1, found.2, found.3)
+  pub two-later : (s : PlainStep) → FindsTwo g f others s → FindsTwo g f ears s
+  two-later s found = (found.0, found.1, subst (IsBefore found.0 found.1) (sym begins) (inr found.2), found.3, found.4)
 
-  pub none-with-later : (x : PlainEar) → (Serves g f (union (ends_of_ear g x) (ends_of_ear g a)) → ⊥) → NoneServesWith g f x others → NoneServesWith g f x ears
-  none-with-later x here later b i q = elim (subst (IsIn b) begins i) [
-    | inl e ↦ here (subst (λ (c : PlainEar). Serves g f (union (ends_of_ear g x) (ends_of_ear g c))) e q)
-    | inr j ↦ later b j q
-  ]
-
-  pub no-two-later : NoneServesWith g f a others → NoTwoServe g f others → NoTwoServe g f ears
+  pub no-two-later : NoneServesBeside g f (ends_of_ear g a) others → NoTwoServe g f others → NoTwoServe g f ears
   no-two-later here later b c i q = elim (subst (IsBefore b c) begins i) [
     | inl p ↦ here c p.1 (subst (λ (x : PlainEar). Serves g f (union (ends_of_ear g x) (ends_of_ear g c))) p.0 q)
     | inr j ↦ later b c j q
@@ -116,11 +107,8 @@ ends-before g a b (c ∷ ears) w i = elim i [
 
 module _ (g : Graph) (is : IsGraph g) (f : Set) (stage : IsStage g f) (ears : List PlainEar) (c : AreCandidates g f ears) where
   -- what a step that is found is
-  pub found-one : (s : PlainStep) → FindsOne g f ears s → IsChosen ears s × IsStep g f s × IsStage g (next_stage f s)
-  found-one s found =
-      let a = found.0 in
-      subst (λ (s : PlainStep). IsChosen ears s × IsStep g f s × IsStage g (next_stage f s)) (sym found.2)
-      (found.1, c.each a found.1, serving-one g is f stage a (c.each a found.1) found.3)
+  pub found-one : (a : PlainEar) → FindsBeside g f (mem []) ears a → IsChosen ears (one a) × IsStep g f (one a) × IsStage g (next_stage f (one a))
+  found-one a found = (found.0, c.each a found.0, serving-one g is f stage a (c.each a found.0) found.1)
 
   apart-before : (a b : PlainEar) → IsBefore a b ears → (w : ℕ) → mem (trail g a.begin a.edges) w ≡ true → mem (trail g b.begin b.edges) w ≡ true → ⊥
   apart-before a b i =

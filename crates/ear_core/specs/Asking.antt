@@ -5,7 +5,7 @@ use Rattle.counting.specs.Lists.{mem, IsIn}
 use Rattle.counting.specs.Sets.{Set, union}
 use Rattle.graph_core.specs.Graph.{Graph, size, with_ends}
 use Rattle.ear_core.specs.AlternatingEars.{Serves, ends_of_ear}
-use Rattle.ear_core.specs.EarLists.{PlainEar, PlainStep, one, two}
+use Rattle.ear_core.specs.EarLists.{PlainEar, PlainStep, two}
 use Rattle.ear_core.specs.StageGraphs.{listed}
 use Rattle.ear_core.specs.Stages.{is_met}
 use Rattle.ear_core.specs.declared.choosing.Asked.{Asked}
@@ -20,15 +20,11 @@ abbrev pub IsBefore : PlainEar → PlainEar → List PlainEar → Type 0
 IsBefore a b [] = ⊥
 IsBefore a b (c ∷ ears) = ((a ≡ c) × IsIn b ears) ⊎ IsBefore a b ears
 
--- the step adds an ear of the list that serves
-abbrev pub FindsOne : Graph → Set → List PlainEar → PlainStep → Type 0
-FindsOne g f ears s = (a : PlainEar) × IsIn a ears × (s ≡ one a) × Serves g f (ends_of_ear g a)
+-- an ear of the list that serves together with the vertices x
+abbrev pub FindsBeside : Graph → Set → Set → List PlainEar → PlainEar → Type 0
+FindsBeside g f x ears a = IsIn a ears × Serves g f (union x (ends_of_ear g a))
 
--- it adds a and an ear of the list that serve together
-abbrev pub FindsWith : Graph → Set → PlainEar → List PlainEar → PlainStep → Type 0
-FindsWith g f a ears s = (b : PlainEar) × IsIn b ears × (s ≡ two a b) × Serves g f (union (ends_of_ear g a) (ends_of_ear g b))
-
--- it adds two ears of the list that serve together
+-- the step adds two ears of the list that serve together
 abbrev pub FindsTwo : Graph → Set → List PlainEar → PlainStep → Type 0
 FindsTwo g f ears s = (a : PlainEar) × (b : PlainEar) × IsBefore a b ears × (s ≡ two a b) × Serves g f (union (ends_of_ear g a) (ends_of_ear g b))
 
@@ -36,9 +32,9 @@ FindsTwo g f ears s = (a : PlainEar) × (b : PlainEar) × IsBefore a b ears × (
 abbrev pub NoneServes : Graph → Set → List PlainEar → Type 0
 NoneServes g f ears = (a : PlainEar) → IsIn a ears → Serves g f (ends_of_ear g a) → ⊥
 
--- no ear of the list serves together with a
-abbrev pub NoneServesWith : Graph → Set → PlainEar → List PlainEar → Type 0
-NoneServesWith g f a ears = (b : PlainEar) → IsIn b ears → Serves g f (union (ends_of_ear g a) (ends_of_ear g b)) → ⊥
+-- no ear of the list serves together with the vertices x
+abbrev pub NoneServesBeside : Graph → Set → Set → List PlainEar → Type 0
+NoneServesBeside g f x ears = (a : PlainEar) → IsIn a ears → Serves g f (union x (ends_of_ear g a)) → ⊥
 
 -- no two ears of the list serve together
 abbrev pub NoTwoServe : Graph → Set → List PlainEar → Type 0

@@ -6,7 +6,7 @@ ghost use Rattle.counting.specs.Sets.{Set};
 ghost use Rattle.graph_core.specs.Graph.{Graph, size, IsBipartite};
 ghost use Rattle.match_core.specs.Rows.{marks};
 ghost use Rattle.ear_core.specs.AlternatingEars.{Serves, ends_of_ear, AreCandidates, IsChosen};
-ghost use Rattle.ear_core.specs.Asking.{IsAsked, FindsOne, FindsWith, FindsTwo, NoneServes, NoneServesWith, NoTwoServe};
+ghost use Rattle.ear_core.specs.Asking.{IsAsked, FindsBeside, FindsTwo, NoneServesBeside, NoTwoServe};
 ghost use Rattle.ear_core.specs.EarLists.{next_stage, IsStep, IsSingle, FitsEar};
 ghost use Rattle.ear_core.specs.Stages.{is_met, IsStage};
 ghost use Rattle.ear_core.specs.View.{ear_of, step_of};
@@ -83,63 +83,29 @@ fn ends_of(g: &MultiGraph, ear: &Ear) -> VSet
     VSet::one(ear.from).with(last)
 }
 
-// The step of the first ear that serves.
-fn single_step(
+// A copy of the first ear whose ends serve together with the vertices `beside`.
+fn first_serving(
     alloc: Global,
     g: &MultiGraph,
     asked: &Asked,
+    beside: VSet,
     ears: &[Ear],
-) -> Result<Option<Step>, Memory>
+) -> Result<Option<Ear>, Memory>
     requires { AllByRecursion (FitsEar g.now.order (size g.now)) (map ear_of ears.now) }
-    ensures some { (f : Set) → IsAsked g.now f asked.now →
+    ensures some { (f x : Set) → IsAsked g.now f asked.now → ((v : ℕ) → mem beside v ≡ x v) →
         IfOk result (λ o. IfSome o
-        (λ step. FindsOne g.now f (map ear_of ears.now) (step_of step))) }
-    ensures none { (f : Set) → IsAsked g.now f asked.now →
-        IfOk result (λ o. IfNone o (NoneServes g.now f (map ear_of ears.now))) }
+        (λ ear. FindsBeside g.now f x (map ear_of ears.now) (ear_of ear))) }
+    ensures none { (f x : Set) → IsAsked g.now f asked.now → ((v : ℕ) → mem beside v ≡ x v) →
+        IfOk result (λ o. IfNone o (NoneServesBeside g.now f x (map ear_of ears.now))) }
 {
     let Some((ear, others)) = ears.split_first() else {
         return Ok(None);
     };
-    if serves(alloc, asked, ends_of(g, ear))? {
-        let first = copy_of(alloc, ear)?;
-        return Ok(Some(Step {
-            first,
-            second: None,
-        }));
+    if serves(alloc, asked, beside.union(ends_of(g, ear)))? {
+        let found = copy_of(alloc, ear)?;
+        return Ok(Some(found));
     }
-    single_step(alloc, g, asked, others)
-}
-
-// The step of an ear and the first other one that serves with it.
-fn step_with(
-    alloc: Global,
-    g: &MultiGraph,
-    asked: &Asked,
-    first: &Ear,
-    ears: &[Ear],
-) -> Result<Option<Step>, Memory>
-    requires first { FitsEar g.now.order (size g.now) (ear_of first.now) }
-    requires others { AllByRecursion (FitsEar g.now.order (size g.now)) (map ear_of ears.now) }
-    ensures some { (f : Set) → IsAsked g.now f asked.now →
-        IfOk result (λ o. IfSome o
-        (λ step. FindsWith g.now f (ear_of first.now) (map ear_of ears.now) (step_of step))) }
-    ensures none { (f : Set) → IsAsked g.now f asked.now →
-        IfOk result (λ o. IfNone o
-        (NoneServesWith g.now f (ear_of first.now) (map ear_of ears.now))) }
-{
-    let Some((ear, others)) = ears.split_first() else {
-        return Ok(None);
-    };
-    let ends = ends_of(g, first).union(ends_of(g, ear));
-    if serves(alloc, asked, ends)? {
-        let copy = copy_of(alloc, first)?;
-        let other = copy_of(alloc, ear)?;
-        return Ok(Some(Step {
-            first: copy,
-            second: Some(other),
-        }));
-    }
-    step_with(alloc, g, asked, first, others)
+    first_serving(alloc, g, asked, beside, others)
 }
 
 // The step of the first two ears, in lexicographic order, that serve together.
@@ -156,11 +122,13 @@ fn double_step(
     ensures none { (f : Set) → IsAsked g.now f asked.now →
         IfOk result (λ o. IfNone o (NoTwoServe g.now f (map ear_of ears.now))) }
 {
-    let Some((first, others)) = ears.split_first() else {
+    let Some((ear, others)) = ears.split_first() else {
         return Ok(None);
     };
-    if let Some(step) = step_with(alloc, g, asked, first, others)? {
-        return Ok(Some(step));
+    if let Some(second) = first_serving(alloc, g, asked, ends_of(g, ear), others)? {
+        let first = copy_of(alloc, ear)?;
+        let second = Some(second);
+        return Ok(Some(Step { first, second }));
     }
     double_step(alloc, g, asked, others)
 }
@@ -186,8 +154,9 @@ pub fn choose(
 {
     g.keeps_limits();
     let asked = asked_about(alloc, g, mark, met)?;
-    if let Some(step) = single_step(alloc, g, &asked, ears)? {
-        return Ok(step);
+    if let Some(first) = first_serving(alloc, g, &asked, VSet::empty(), ears)? {
+        let second = None;
+        return Ok(Step { first, second });
     }
     match double_step(alloc, g, &asked, ears)? {
         Some(step) => Ok(step),

@@ -1,17 +1,16 @@
 -- What is written of an ear list is read as this list. Line by line the tests of the table pass, since the numbers are in range and
 -- no ear is empty; the ear that stands apart goes to the steps with the next line, or at the end.
-use Rattle.std.proofs.Common.{◌≡◌, ◌<◌, ◌==◌, ◌&&◌, ◌^◌, ◌++◌, codes, nat_le, ℕ, List, [], ◌∷◌, All, Bool, length, map, true, false, Option, Some, None, Ok, inl, inr, refl, sym, ◌∙◌, ap, subst, arith, append_assoc}
+use Rattle.std.proofs.Common.{◌≡◌, ◌<◌, ◌==◌, ◌&&◌, ◌^◌, ◌++◌, codes, nat_le, ℕ, List, [], ◌∷◌, All, Bool, length, map, true, false, Option, Some, None, Ok, refl, sym, ◌∙◌, ap, subst, arith, append_assoc}
 use Rattle.std.specs.List.{AllByRecursion, list_all}
 use Rattle.std.specs.Fmt.{decimal}
 use Rattle.std.proofs.lemmas.List.{length-map, append-nil}
 use Rattle.std.proofs.lemmas.Bool.Decides.{nat_tests}
 use Rattle.counting.specs.Counts.{Within}
-use Rattle.line_text.specs.Format.{Begins, Stands, StandsAlone}
+use Rattle.line_text.specs.Format.{Begins, Stands}
 use Rattle.line_text.specs.Words.{has_form, IsSignificant}
 use Rattle.line_text.specs.Numerals.{is_number, value_of}
 use Rattle.line_text.proofs.Decimals.{number_of-decimal, is_word-decimal, value-decimal, number-decimal, values-decimal, numbers-decimal, words-decimal}
 use Rattle.text_faults.proofs.InRange.{in_range-test, in_range-tests, few-digits}
-use Rattle.line_text.proofs.ExactlyOne.{exactly_one}
 use Rattle.line_text.proofs.ReadBack.{Stands-written}
 use Rattle.ear_core.specs.EarLists.{PlainEar, PlainStep, one, two, PlainEars, FitsEar, FitsStep, HasEdges}
 use Rattle.ear_text.specs.EarFormat.{EarsSoFar, headed, started, ear_format, is_ear_line, is_with_line, closed, ears_end}
@@ -134,10 +133,3 @@ Stands-ears_text n m list is =
     (record { kept = refl; each = (refl, (refl, (is_word-decimal n is.order, (is_word-decimal m is.size, tt)))) }, (record { kept = refl; each = (refl, (is_word-decimal list.start (omega arith), tt)) }, steps-significant n m list.steps is.order is.size is.fits.steps))
     (headed, header-taken n m is.order is.size, (started list.start [] None, start-taken n m list.start is.size is.fits.start, steps-taken n m list.start [] None list.steps is.order is.size is.fits.steps is.filled))
     (after-ends list.start [] None list.steps)
-
--- and for no other
-pub StandsAlone-ears_text : (n m : ℕ) (list : PlainEars) → IsWritable n m list → StandsAlone (ear_format n m) (ears_text n m list)
-StandsAlone-ears_text n m list is = elim (exactly_one (ear_format n m) (ears_text n m list)) [
-  | inl alone ↦ alone
-  | inr broken ↦ absurd (broken.valueless list (Stands-ears_text n m list is))
-]

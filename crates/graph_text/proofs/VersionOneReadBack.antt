@@ -4,11 +4,10 @@ use Rattle.std.proofs.Common.{◌≡◌, ◌+◌, ◌≤◌, ◌<◌, ℕ, List,
 use Rattle.std.specs.List.{AllByRecursion}
 use Rattle.std.proofs.lemmas.Bool.Decides.{nat_tests}
 use Rattle.std.proofs.lemmas.List.{append-nil, length-append}
-use Rattle.line_text.specs.Format.{Rules, Begins, Stands, StandsAlone}
+use Rattle.line_text.specs.Format.{Begins, Stands}
 use Rattle.line_text.specs.Lines.{lines_of}
 use Rattle.line_text.specs.Words.{has_form, words_of, unwords, is_skipped, IsSignificant}
 use Rattle.line_text.proofs.Decimals.{number_of-decimal, is_word-decimal}
-use Rattle.line_text.proofs.ExactlyOne.{exactly_one}
 use Rattle.line_text.proofs.ReadBack.{Stands-written, Stands-comments, is_closed-unlines}
 use Rattle.graph_core.specs.Graph.{Graph, size}
 use Rattle.graph_text.specs.GraphLines.{GraphSoFar}
@@ -57,13 +56,6 @@ Stands-graph_text g fits =
     (record { kept = refl; each = (refl, (refl, (is_word-decimal g.order (omega arith), (is_word-decimal (size g) (omega arith), tt)))) }, edges-significant g.order g.ends (omega arith) each)
     (body g.order (size g) [], header-taken g.order (size g) vertices edges, edges-taken g.order (size g) [] g.ends (omega arith) (omega arith) each)
     (grind (arith, nat_tests))
-
--- a text that stands for a value of a format stands for it alone
-pub StandsAlone-stands : {Body Value Kind : Type 0} (rules : Rules Body Value Kind) (text : List ℕ) (value : Value) → Stands rules text value → StandsAlone rules text
-StandsAlone-stands rules text value stands = elim (exactly_one rules text) [
-  | inl alone ↦ alone
-  | inr broken ↦ absurd (broken.valueless value stands)
-]
 
 -- comments behind it change nothing
 pub Stands-commented : (g : Graph) (comments : List ℕ) → FitsVersionOne g → AllByRecursion (λ line. is_skipped (words_of line) ≡ true) (lines_of comments) → Stands version_one (graph_text g ++ comments) g

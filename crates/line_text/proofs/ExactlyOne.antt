@@ -160,6 +160,13 @@ module _ {Body Value Kind : Type 0} (rules : Rules Body Value Kind) where
   pub exactly_one : (text : List ℕ) → StandsAlone rules text ⊎ BreaksAlone rules text
   exactly_one text = alone-from text (reading_of rules text) refl
 
+  -- a text that stands for a value stands for it alone
+  pub StandsAlone-stands : (text : List ℕ) (value : Value) → Stands rules text value → StandsAlone rules text
+  StandsAlone-stands text value stands = elim (exactly_one text) [
+    | inl alone ↦ alone
+    | inr broken ↦ absurd (broken.valueless value stands)
+  ]
+
   pub reading_tells : (text : List ℕ) → ReadingTells rules text
   reading_tells text = record {
     values = λ value. (Stands-reading_of text value, Stands-from_reading text value);

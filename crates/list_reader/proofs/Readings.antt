@@ -202,37 +202,22 @@ so_far_begins tells lines held rest left_before left_now written_before written_
   told = so_far.told;
 }
 
-pub so_far_memory :
-    (tells : ℕ → List ℕ → List ℕ → Type 0) (bad : ℕ → List ℕ → FaultKind → Type 0) (lines : ℕ) (held : List ℕ)
-    (left_before left_now written_before written_now : Option (List ℕ)) →
+-- the telling stopped there, with an ending that asks for no more than a beginning
+pub so_far_begun :
+    (tells : ℕ → List ℕ → List ℕ → Type 0) (bad : ℕ → List ℕ → FaultKind → Type 0) (ending : Ending) →
+    ((lines : List (List ℕ)) (output : List ℕ) → BeginningTold tells 1 lines output → Gives tells bad 1 lines ending output) →
+    (lines : ℕ) (held : List ℕ) (left_before left_now written_before written_now : Option (List ℕ)) →
     SoFar tells lines held left_before left_now written_before written_now →
-    TellsList tells bad Memory left_before written_before written_now
-so_far_memory tells bad lines held left_before left_now written_before written_now so_far =
+    TellsList tells bad ending left_before written_before written_now
+so_far_begun tells bad ending enough lines held left_before left_now written_before written_now so_far =
     let list = list_is left_before left_now (so_far.whole ++ held) so_far.left in
+    let bytes = (so_far.whole ++ held) ++ list.rest in
     record {
-      bytes = (so_far.whole ++ held) ++ list.rest;
+      bytes = bytes;
       is_left = list.is_left;
       gives = record {
         output = so_far.output;
-        right = so_far_begins tells lines held list.rest left_before left_now written_before written_now so_far;
-        written = so_far.written;
-      };
-    }
-
--- a read failed
-pub so_far_fault :
-    (tells : ℕ → List ℕ → List ℕ → Type 0) (bad : ℕ → List ℕ → FaultKind → Type 0) (lines : ℕ) (held : List ℕ)
-    (left_before left_now left_next written_before written_now : Option (List ℕ)) →
-    SoFar tells lines held left_before left_now written_before written_now → left_next ≡ left_now →
-    TellsList tells bad ReadFault left_before written_before written_now
-so_far_fault tells bad lines held left_before left_now left_next written_before written_now so_far same =
-    let list = list_is left_before left_now (so_far.whole ++ held) so_far.left in
-    record {
-      bytes = (so_far.whole ++ held) ++ list.rest;
-      is_left = list.is_left;
-      gives = record {
-        output = so_far.output;
-        right = so_far_begins tells lines held list.rest left_before left_now written_before written_now so_far;
+        right = enough (lines_of bytes) so_far.output (so_far_begins tells lines held list.rest left_before left_now written_before written_now so_far);
         written = so_far.written;
       };
     }

@@ -22,6 +22,7 @@ use Rattle.move_laws.proofs.Images.{move_is}
 use Rattle.move_laws.proofs.Parts.{Part, part-join, part-one, part-turn}
 use Rattle.move_laws.proofs.Rising.{bounds}
 use Rattle.move_laws.proofs.SameLeaves.{iso_same_leaf}
+use Rattle.move_laws.specs.SameLeaf.{IsSameLeaf}
 use Rattle.move_laws.specs.Isomorphisms.{Isomorphism, carry, carry_cut}
 use Rattle.move_laws.specs.Scripts.{AreRising}
 
@@ -33,6 +34,12 @@ carry_order n f k (cut x a b) = cond (mem x (f n)) (carry_order n f (k + leaf_co
 -- name_of gives each block of a partition coarser than the base the name of its image
 abbrev pub NamesImages : Graph → (h k : ℕ → ℕ) → (List ℕ → ℕ) → List (List ℕ) → Type 0
 NamesImages g h k name_of base = (r s : List (List ℕ)) → IsPartition g.order r → IsPartition g.order s → Isomorphism g r s h k → Finer g.order base r → (i : ℕ) → Within (length r) i → name_of (block r i) ≡ last_of (block s (place s (h (rep r i))))
+
+-- named by their images, its blocks make a coarser partition the same leaf as the one that it is carried to
+pub images-same_leaf : (g : Graph) → IsGraph g → (h k : ℕ → ℕ) (name_of : List ℕ → ℕ) (base p q : List (List ℕ)) → NamesImages g h k name_of base → IsPartition g.order p → IsPartition g.order q → Isomorphism g p q h k → Finer g.order base p → IsSameLeaf g p q (map name_of p)
+images-same_leaf g is h k name_of base p q names lp lq iso finer =
+    iso_same_leaf g is p q h k lp.partition lq.partition iso (map name_of p) (length-map p name_of) (λ i w.
+    get_or-map name_of p (i - 1) [] 0 (omega arith) ∙ names p q lp lq iso finer i w ∙ ap (λ j. last_of (block q j)) (sym (move_is g is p q h k lp.partition lq.partition iso i)))
 
 -- the leaves of the tree and of the carried tree, wherever the first partition is coarser than the base
 abbrev pub LeafParts : Graph → (h k : ℕ → ℕ) → (List ℕ → ℕ) → List (List ℕ) → Shape → Type 0
@@ -90,6 +97,5 @@ parts_node g is h k name_of base x a b ia ib l p q lp lq cov iso finer fits d = 
 -- the leaves of a carried tree
 pub carried_parts : (g : Graph) → IsGraph g → (h k : ℕ → ℕ) (name_of : List ℕ → ℕ) (base : List (List ℕ)) → NamesImages g h k name_of base → (t : Shape) → LeafParts g h k name_of base t
 carried_parts g is h k name_of base names leaf = λ l p q lp lq cov iso finer fits d.
-    part-one g l p q (map name_of p) (iso_same_leaf g is p q h k lp.partition lq.partition iso (map name_of p) (length-map p name_of) (λ i w.
-    get_or-map name_of p (i - 1) [] 0 (omega arith) ∙ names p q lp lq iso finer i w ∙ ap (λ j. last_of (block q j)) (sym (move_is g is p q h k lp.partition lq.partition iso i))))
+    part-one g l p q (map name_of p) (images-same_leaf g is h k name_of base p q names lp lq iso finer)
 carried_parts g is h k name_of base names (cut x a b) = parts_node g is h k name_of base x a b (carried_parts g is h k name_of base names a) (carried_parts g is h k name_of base names b)

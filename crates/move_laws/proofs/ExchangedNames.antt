@@ -1,6 +1,5 @@
 -- The exchange law by names: the two pairs of partitions are the same leaves by the names of the images.
-use Rattle.std.proofs.Common.{◌≡◌, ℕ, ◌-◌, Bool, true, false, ◌||◌, ◌&&◌, not, List, map, sym, ap, ◌∙◌, arith}
-use Rattle.std.proofs.lemmas.List.{get_or-map, length-map}
+use Rattle.std.proofs.Common.{◌≡◌, ℕ, Bool, true, false, ◌||◌, ◌&&◌, not, List, map, sym, ap, ◌∙◌, arith}
 use Rattle.counting.proofs.RisingLists.{mem-rising_list, rising_list-rises}
 use Rattle.counting.specs.Counts.{Within}
 use Rattle.counting.specs.Lists.{IsRisingIn, last_of, mem}
@@ -10,15 +9,14 @@ use Rattle.graph_core.proofs.MergeOrder.{merged_blocks}
 use Rattle.graph_core.proofs.MergedShores.{Some, merge_of}
 use Rattle.graph_core.specs.Covered.{IsCovered}
 use Rattle.graph_core.specs.Graph.{Graph, IsGraph}
-use Rattle.graph_core.specs.Partitions.{IsPartition, block, contracted, merged}
+use Rattle.graph_core.specs.Partitions.{IsPartition, contracted, merged}
 use Rattle.graph_core.specs.Shores.{IsTightAt}
 use Rattle.tree_core.specs.Derivations.{kept_at, merged_at}
 use Rattle.tree_core.specs.LeafMaps.{kept_image, merged_image}
 use Rattle.tree_core.specs.Moves.{inner_rest, outer_rest, union_list}
 use Rattle.move_laws.proofs.BigShores.{Stage}
-use Rattle.move_laws.proofs.Images.{move_is}
 use Rattle.move_laws.proofs.Rising.{bounds}
-use Rattle.move_laws.proofs.SameLeaves.{iso_same_leaf}
+use Rattle.move_laws.proofs.CarriedLeaves.{images-same_leaf}
 use Rattle.move_laws.proofs.SwitchImages.{kept_names, merged_names}
 use Rattle.move_laws.proofs.ExchangedParts.{in_inner_rest, in_outer_rest, inner_rest-mem, iso_a, iso_b, kept_partition, merge_congr, merged_partition, outer_rest-mem}
 use Rattle.move_laws.specs.Exchange.{Corner}
@@ -75,11 +73,8 @@ module _ (g : Graph) (p : List (List ℕ)) (x u v : List ℕ) (s t : ℕ) (is : 
       let sk = kept_partition g p stage x u v s t sx su sv corner in
       let mq = merge_congr g.order p (merged p shore) (mem shore) (union (in_outer_rest g p stage x u v s t sx su sv corner) (mem u)) shore_mem (merge_of g is p shore list.partition shore_tight shore_some (bounds shore_rises)) in
       let lq = merged_blocks g.order p shore list shore_tight.union shore_rises.rising shore_some (bounds shore_rises) in
-      let iso = iso_a g p stage x u v s t sx su sv corner (merged p shore) mq in
-      iso_same_leaf g is (kept_at g.order p x) (merged p shore) _ _ sk.partition lq.partition iso (map (λ b. last_of (kept_image g.order x u v b)) (kept_at g.order p x)) (length-map (kept_at g.order p x) (λ b. last_of (kept_image g.order x u v b))) (λ i w.
-      get_or-map (λ b. last_of (kept_image g.order x u v b)) (kept_at g.order p x) (i - 1) _ 0 (omega arith)
-      ∙ kept_names g p stage x u v s t sx su sv corner (kept_at g.order p x) (merged p shore) sk lq iso (λ u v wu wv same. same) i w
-      ∙ ap (λ j. last_of (block (merged p shore) j)) (sym (move_is g is (kept_at g.order p x) (merged p shore) _ _ sk.partition lq.partition iso i)))
+      images-same_leaf g is _ _ (λ b. last_of (kept_image g.order x u v b)) (kept_at g.order p x) (kept_at g.order p x) (merged p shore) (kept_names g p stage x u v s t sx su sv corner) sk lq
+      (iso_a g p stage x u v s t sx su sv corner (merged p shore) mq) (λ u v wu wv same. same)
 
   pub exchanged_merged : IsSameLeaf g (merged_at g.order p x) (merged p (union_list g.order (inner_rest g.order x u) v)) (map (λ b. last_of (merged_image g.order x u v b)) (merged_at g.order p x))
   unfolding other stage
@@ -87,8 +82,5 @@ module _ (g : Graph) (p : List (List ℕ)) (x u v : List ℕ) (s t : ℕ) (is : 
       let sk = merged_partition g p stage x u v s t sx su sv corner in
       let mq = merge_congr g.order p (merged p other) (mem other) (union (in_inner_rest g p stage x u v s t sx su sv corner) (mem v)) other_mem (merge_of g is p other list.partition other_tight other_some (bounds other_rises)) in
       let lq = merged_blocks g.order p other list other_tight.union other_rises.rising other_some (bounds other_rises) in
-      let iso = iso_b g p stage x u v s t sx su sv corner (merged p other) mq in
-      iso_same_leaf g is (merged_at g.order p x) (merged p other) _ _ sk.partition lq.partition iso (map (λ b. last_of (merged_image g.order x u v b)) (merged_at g.order p x)) (length-map (merged_at g.order p x) (λ b. last_of (merged_image g.order x u v b))) (λ i w.
-      get_or-map (λ b. last_of (merged_image g.order x u v b)) (merged_at g.order p x) (i - 1) _ 0 (omega arith)
-      ∙ merged_names g p stage x u v s t sx su sv corner (merged_at g.order p x) (merged p other) sk lq iso (λ u v wu wv same. same) i w
-      ∙ ap (λ j. last_of (block (merged p other) j)) (sym (move_is g is (merged_at g.order p x) (merged p other) _ _ sk.partition lq.partition iso i)))
+      images-same_leaf g is _ _ (λ b. last_of (merged_image g.order x u v b)) (merged_at g.order p x) (merged_at g.order p x) (merged p other) (merged_names g p stage x u v s t sx su sv corner) sk lq
+      (iso_b g p stage x u v s t sx su sv corner (merged p other) mq) (λ u v wu wv same. same)

@@ -1,7 +1,7 @@
 -- The leaves under a move, down its path: below the node they are those that the move gives, and elsewhere they stay. So the maps of a
 -- proper move pair the leaves of a derivation with those of the next.
 use Rattle.move_laws.specs.Scripts.{AreRising}
-use Rattle.std.proofs.Common.{◌≡◌, ℕ, ◌+◌, Bool, true, false, ◌&&◌, not, List, [], ◌∷◌, ◌++◌, length, map, Option, Some, None, option_map, if◌then◌else◌, refl, sym, ap, ◌∙◌, arith, subst, subst₂}
+use Rattle.std.proofs.Common.{◌≡◌, ℕ, ◌+◌, Bool, true, false, ◌&&◌, not, List, [], ◌∷◌, ◌++◌, length, map, Some, None, if◌then◌else◌, refl, sym, ap, ◌∙◌, arith, subst, subst₂}
 use Rattle.std.proofs.lemmas.List.{length-append, map-append}
 use Rattle.std.proofs.lemmas.Option.{none-some, same_Some}
 use Rattle.counting.proofs.RisingLists.{all_in_true}
@@ -21,15 +21,10 @@ use Rattle.tree_core.specs.declared.path.Side.TheVariants.{Kept, Merged}
 use Rattle.move_laws.proofs.BigShores.{Stage, big_rest, cut_big, stage_merged}
 use Rattle.move_laws.proofs.Parts.{Part, part-join, part-own, part-pairing, part-turn}
 use Rattle.move_laws.proofs.Rising.{rising-derivation_at}
-use Rattle.move_laws.proofs.Rotations.{append_join, row_apart, row_inside, row_kept}
+use Rattle.move_laws.proofs.Rotations.{append_join, mapped, row_apart, row_inside, row_kept}
 use Rattle.move_laws.proofs.SwitchParts.{switch_derives, switch_part}
 use Rattle.graph_core.specs.Covered.{IsCovered}
 use Rattle.move_laws.specs.Pairings.{IsPairing}
-
--- what of a mapped result is known
-mapped : (f : Shape → Shape) (o : Option Shape) (t : Shape) → option_map f o ≡ Some t → (r : Shape) × (o ≡ Some r) × (f r ≡ t)
-mapped f None t e = absurd (none-some _ e)
-mapped f (Some r) t e = (r, refl, same_Some _ _ e)
 
 -- a derivation's leaves as they are
 pub own_part : (g : Graph) (p : List (List ℕ)) (k : ℕ) (t : Shape) → Stage g p → IsDerivationAt g p t → Part g k (leaves_at g.order p t) (leaves_at g.order p t) (numbers k (leaf_count t)) (map names_of (leaves_at g.order p t))

@@ -151,31 +151,22 @@ rotate_keeps g side p leaf r st f d e = absurd (none-some _ e)
 rotate_keeps g Kept p (cut x a b) r st f d e = rotate_kept_keeps g p x a b r st f d e
 rotate_keeps g Merged p (cut x a b) r st f d e = rotate_merged_keeps g p x a b r st f d e
 
+-- what of a mapped result is known
+pub mapped : (f : Shape → Shape) (o : Option Shape) (t : Shape) → option_map f o ≡ Some t → (r : Shape) × (o ≡ Some r) × (f r ≡ t)
+mapped f None t e = absurd (none-some _ e)
+mapped f (Some r) t e = (r, refl, same_Some _ _ e)
+
 -- and along a path
 pub path_keeps : (g : Graph) (f : Shape → Option Shape) → Keeps g f → (path : List Side) → Keeps g (result_at f path)
 path_keeps g f k [] p t r st fits d e = k p t r st fits d e
 path_keeps g f k (side ∷ path) p leaf r st fits d e = absurd (none-some _ e)
-path_keeps g f k (Kept ∷ path) p (cut x a b) r st fits d e = go (result_at f path a) refl e (path_keeps g f k path (kept_at g.order p x) a)
-  where
-    big : Big g p x
-    big = cut_big g p st x fits.0 d.0
-
-    go : (o : Option Shape) → result_at f path a ≡ o → option_map (λ c. cut x c b) o ≡ Some r →
-        ((r : Shape) → Stage g (kept_at g.order p x) → AreRising g.order a → IsDerivationAt g (kept_at g.order p x) a → result_at f path a ≡ Some r → IsDerivationAt g (kept_at g.order p x) r × AreRising g.order r × (cut_count r ≡ cut_count a)) →
-        IsDerivationAt g p r × AreRising g.order r × (cut_count r ≡ cut_count (cut x a b))
-    go None h e ih = absurd (none-some _ e)
-    go (Some c) h e ih =
-        let q = ih c (stage_merged g p st (complement_of g.order x) (big_rest g p st x big)) fits.1 d.1 h in
-        subst (λ t. IsDerivationAt g p t × AreRising g.order t × (cut_count t ≡ cut_count (cut x a b))) (same_Some _ _ e) ((d.0, q.0, d.2), (fits.0, q.1, fits.2), omega (arith, q.2))
-path_keeps g f k (Merged ∷ path) p (cut x a b) r st fits d e = go (result_at f path b) refl e (path_keeps g f k path (merged_at g.order p x) b)
-  where
-    big : Big g p x
-    big = cut_big g p st x fits.0 d.0
-
-    go : (o : Option Shape) → result_at f path b ≡ o → option_map (λ c. cut x a c) o ≡ Some r →
-        ((r : Shape) → Stage g (merged_at g.order p x) → AreRising g.order b → IsDerivationAt g (merged_at g.order p x) b → result_at f path b ≡ Some r → IsDerivationAt g (merged_at g.order p x) r × AreRising g.order r × (cut_count r ≡ cut_count b)) →
-        IsDerivationAt g p r × AreRising g.order r × (cut_count r ≡ cut_count (cut x a b))
-    go None h e ih = absurd (none-some _ e)
-    go (Some c) h e ih =
-        let q = ih c (stage_merged g p st x big) fits.2 d.2 h in
-        subst (λ t. IsDerivationAt g p t × AreRising g.order t × (cut_count t ≡ cut_count (cut x a b))) (same_Some _ _ e) ((d.0, d.1, q.0), (fits.0, fits.1, q.1), omega (arith, q.2))
+path_keeps g f k (Kept ∷ path) p (cut x a b) r st fits d e =
+    let m = mapped (λ c. cut x c b) (result_at f path a) r e in
+    let stage = stage_merged g p st (complement_of g.order x) (big_rest g p st x (cut_big g p st x fits.0 d.0)) in
+    let q = path_keeps g f k path (kept_at g.order p x) a m.0 stage fits.1 d.1 m.1 in
+    subst (λ t. IsDerivationAt g p t × AreRising g.order t × (cut_count t ≡ cut_count (cut x a b))) m.2 ((d.0, q.0, d.2), (fits.0, q.1, fits.2), omega (arith, q.2))
+path_keeps g f k (Merged ∷ path) p (cut x a b) r st fits d e =
+    let m = mapped (λ c. cut x a c) (result_at f path b) r e in
+    let stage = stage_merged g p st x (cut_big g p st x fits.0 d.0) in
+    let q = path_keeps g f k path (merged_at g.order p x) b m.0 stage fits.2 d.2 m.1 in
+    subst (λ t. IsDerivationAt g p t × AreRising g.order t × (cut_count t ≡ cut_count (cut x a b))) m.2 ((d.0, d.1, q.0), (fits.0, fits.1, q.1), omega (arith, q.2))

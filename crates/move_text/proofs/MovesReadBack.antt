@@ -1,15 +1,14 @@
 -- What is written of moves is read as these moves. The header leads to no moves, and the line of a move adds it to the moves before,
 -- since no test of the table applies.
-use Rattle.std.proofs.Common.{◌≡◌, ◌+◌, ◌≤◌, ◌<◌, ◌^◌, codes, nat_le, ℕ, List, [], ◌∷◌, ◌++◌, All, length, map, true, false, Some, Ok, inl, inr, refl, ◌∙◌, ap, subst, arith, append_assoc}
+use Rattle.std.proofs.Common.{◌≡◌, ◌+◌, ◌≤◌, ◌<◌, ◌^◌, codes, nat_le, ℕ, List, [], ◌∷◌, ◌++◌, All, length, map, true, false, Some, Ok, refl, ◌∙◌, ap, subst, arith, append_assoc}
 use Rattle.std.specs.List.{AllByRecursion, list_all, list_any}
 use Rattle.std.proofs.lemmas.Bool.Decides.{nat_tests}
 use Rattle.std.proofs.lemmas.List.{append-nil, length-append}
 use Rattle.counting.specs.Counts.{Within}
-use Rattle.line_text.specs.Format.{Begins, Stands, StandsAlone}
+use Rattle.line_text.specs.Format.{Begins, Stands}
 use Rattle.line_text.specs.Words.{has_form, is_word, IsSignificant}
 use Rattle.line_text.specs.Numerals.{is_number, value_of}
 use Rattle.line_text.proofs.Decimals.{number_of-decimal, is_word-decimal, numbers-decimal, values-decimal}
-use Rattle.line_text.proofs.ExactlyOne.{exactly_one}
 use Rattle.line_text.proofs.ReadBack.{Stands-written}
 use Rattle.text_faults.specs.Ranges.{is_out_of_range}
 use Rattle.text_faults.proofs.InRange.{in_range-tests, few-digits}
@@ -106,10 +105,3 @@ Stands-moves_text n moves is =
     (record { kept = refl; each = (refl, (refl, (is_word-decimal n is.order, tt))) }, moves-significant n moves is.order is.sets)
     ([], header-taken n is.order, moves-taken n [] moves is.order (omega arith) is.paths is.sets is.rising)
     refl
-
--- and for no others
-pub StandsAlone-moves_text : (n : ℕ) (moves : List PlainMove) → IsWritable n moves → StandsAlone (move_format n) (moves_text n moves)
-StandsAlone-moves_text n moves is = elim (exactly_one (move_format n) (moves_text n moves)) [
-  | inl alone ↦ alone
-  | inr broken ↦ absurd (broken.valueless moves (Stands-moves_text n moves is))
-]

@@ -1,12 +1,11 @@
 -- The text of moves grows by the line of the next move.
-use Rattle.std.proofs.Common.{◌≡◌, ◌+◌, ◌≤◌, ◌<◌, ℕ, zero, suc, List, [], ◌∷◌, ◌++◌, codes, get_or, length, map, take, take_all, refl, sym, ◌∙◌, ap, subst, arith, append_assoc}
+use Rattle.std.proofs.Common.{◌≡◌, ◌+◌, ◌≤◌, ◌<◌, ℕ, zero, suc, List, [], ◌∷◌, get_or, length, map, take, take_all, refl, sym, ◌∙◌, ap, subst, arith}
 use Rattle.std.specs.List.{AllByRecursion}
 use Rattle.line_text.specs.Words.{written}
 use Rattle.tree_core.specs.declared.moves.Move.{Move}
-use Rattle.tree_core.specs.declared.path.Side.{Side}
-use Rattle.tree_core.specs.Moves.{PlainMove, rotate_at, switch_at}
+use Rattle.tree_core.specs.Moves.{PlainMove}
 use Rattle.tree_core.specs.MoveView.{move_of, moves_of}
-use Rattle.move_text.specs.Writing.{path_word, set_word, move_words, header_words, moves_text}
+use Rattle.move_text.specs.Writing.{move_words, header_words, moves_text}
 
 -- all moves
 map-moves : (moves : List Move) → map (λ m. move_words (move_of m)) moves ≡ map move_words (moves_of moves)

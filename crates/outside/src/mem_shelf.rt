@@ -8,7 +8,7 @@ ghost use Rattle.outside.specs.Shelf.{file_named, HoldsLonger};
 ghost use Rattle.outside.specs.MemShelf.{FailsNext, IsRead};
 ghost use Rattle.outside.specs.StoredFile.{named_files};
 
-use crate::planned::is_failing;
+use crate::planned::CallPlan;
 use crate::{Shelf, ShelfFault};
 use std::alloc::{AllocError as Memory, Global};
 use std::marker::Model;
@@ -28,10 +28,8 @@ struct StoredFile {
 pub struct MemShelf {
     alloc: Global,
     files: Vec<StoredFile>,
-    failing: Vec<u32>,
-    calls: u32,
     taken: usize,
-    faults: u64,
+    plan: CallPlan,
 }
 
 impl Model for MemShelf {
@@ -42,10 +40,10 @@ impl Model for MemShelf {
 
     ghost view = { λ shelf. record {
       files = named_files shelf.files.items;
-      failing = shelf.failing.items;
-      calls = shelf.calls;
+      failing = shelf.plan.failing.items;
+      calls = shelf.plan.calls;
       taken = shelf.taken;
-      faults = shelf.faults;
+      faults = shelf.plan.faults;
     } };
 }
 
@@ -57,10 +55,8 @@ impl MemShelf {
         MemShelf {
             alloc,
             files: Vec::new(alloc),
-            failing: Vec::new(alloc),
-            calls: 0,
             taken: 0,
-            faults: 0,
+            plan: CallPlan::new(alloc),
         }
     }
 
@@ -82,8 +78,7 @@ impl MemShelf {
             (self.new ≡ record self.old { failing = self.old.failing ++ call ∷ [] }) }
         ensures err { OnErr result (self.new ≡ self.old) }
     {
-        self.failing.push(call)?;
-        Ok(())
+        self.plan.fail(call)
     }
 }
 
@@ -137,15 +132,13 @@ impl Shelf for MemShelf {
             self.new.faults ≡ next_fault self.old.faults }
         ensures stays { IsErrOf result ShelfFault.Failed ⊎ (self.new.faults ≡ self.old.faults) }
     {
-        self.calls = self.calls.saturating_add(1);
         self.taken = 0;
-        if is_failing(&self.failing, self.calls) {
-            self.faults = self.faults.saturating_add(1);
+        if self.plan.fails_next() {
             return Err(ShelfFault::Failed);
         }
         match find_file(&self.files, name) {
             None => {
-                self.faults = self.faults.saturating_add(1);
+                self.plan.count_fault();
                 Err(ShelfFault::Failed)
             }
             Some(bytes) if bytes.len() > limit => Err(ShelfFault::TooLong),

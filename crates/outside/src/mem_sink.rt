@@ -4,7 +4,7 @@ ghost use Rattle.std.specs.declared.option.Option.TheVariants.{Some};
 ghost use Rattle.outside.specs.Faults.{next_call, next_fault, faults_after};
 ghost use Rattle.outside.specs.MemSink.{share};
 
-use crate::planned::is_failing;
+use crate::planned::CallPlan;
 use crate::{Sink, SinkFailed};
 use std::alloc::{AllocError as Memory, Global};
 use std::marker::Model;
@@ -19,9 +19,7 @@ pub struct MemSink {
     buffer: Vec<u8>,
     room: usize,
     most: usize,
-    failing: Vec<u32>,
-    calls: u32,
-    faults: u64,
+    plan: CallPlan,
 }
 
 impl Model for MemSink {
@@ -34,9 +32,9 @@ impl Model for MemSink {
       written = sink.buffer.items;
       room = sink.room;
       most = sink.most;
-      failing = sink.failing.items;
-      calls = sink.calls;
-      faults = sink.faults;
+      failing = sink.plan.failing.items;
+      calls = sink.plan.calls;
+      faults = sink.plan.faults;
     } };
 
     ghost invariant = { λ sink. (vec_len sink.buffer ≤ sink.room) × (sink.room ≤ vec_capacity sink.buffer) };
@@ -60,9 +58,7 @@ impl MemSink {
             buffer: Vec::with_capacity(alloc, room)?,
             room,
             most,
-            failing: Vec::new(alloc),
-            calls: 0,
-            faults: 0,
+            plan: CallPlan::new(alloc),
         })
     }
 
@@ -72,8 +68,7 @@ impl MemSink {
             (self.new ≡ record self.old { failing = self.old.failing ++ call ∷ [] }) }
         ensures err { OnErr result (self.new ≡ self.old) }
     {
-        self.failing.push(call)?;
-        Ok(())
+        self.plan.fail(call)
     }
 
     /// The bytes written so far. It takes no memory.
@@ -106,9 +101,7 @@ impl Sink for MemSink {
           faults = next_fault self.old.faults;
         }) }
     {
-        self.calls = self.calls.saturating_add(1);
-        if is_failing(&self.failing, self.calls) {
-            self.faults = self.faults.saturating_add(1);
+        if self.plan.fails_next() {
             return Err(SinkFailed);
         }
         let count = bytes
@@ -116,7 +109,7 @@ impl Sink for MemSink {
             .min(self.most)
             .min(self.room - self.buffer.len());
         if count == 0 && !bytes.is_empty() {
-            self.faults = self.faults.saturating_add(1);
+            self.plan.count_fault();
         }
         self.buffer.extend_from_slice(&bytes[..count]).unwrap();
         Ok(count)

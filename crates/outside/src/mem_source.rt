@@ -4,7 +4,7 @@ ghost use Rattle.std.specs.declared.option.Option.TheVariants.{Some};
 ghost use Rattle.outside.specs.Faults.{next_call, next_fault};
 ghost use Rattle.outside.specs.MemSource.{size_for, portion};
 
-use crate::planned::is_failing;
+use crate::planned::CallPlan;
 use crate::{Source, SourceFailed};
 use std::alloc::{AllocError as Memory, Global};
 use std::marker::Model;
@@ -19,9 +19,7 @@ pub struct MemSource {
     bytes: Vec<u8>,
     done: usize,
     sizes: Vec<usize>,
-    failing: Vec<u32>,
-    calls: u32,
-    faults: u64,
+    plan: CallPlan,
 }
 
 impl Model for MemSource {
@@ -33,9 +31,9 @@ impl Model for MemSource {
     ghost view = { λ source. record {
       left = drop source.done source.bytes.items;
       sizes = source.sizes.items;
-      failing = source.failing.items;
-      calls = source.calls;
-      faults = source.faults;
+      failing = source.plan.failing.items;
+      calls = source.plan.calls;
+      faults = source.plan.faults;
     } };
 
     ghost invariant = { λ source. source.done ≤ vec_len source.bytes };
@@ -56,9 +54,7 @@ impl MemSource {
             bytes: bytes.to_vec(alloc)?,
             done: 0,
             sizes: Vec::new(alloc),
-            failing: Vec::new(alloc),
-            calls: 0,
-            faults: 0,
+            plan: CallPlan::new(alloc),
         })
     }
 
@@ -78,8 +74,7 @@ impl MemSource {
             (self.new ≡ record self.old { failing = self.old.failing ++ call ∷ [] }) }
         ensures err { OnErr result (self.new ≡ self.old) }
     {
-        self.failing.push(call)?;
-        Ok(())
+        self.plan.fail(call)
     }
 }
 
@@ -114,12 +109,10 @@ impl Source for MemSource {
           faults = next_fault self.old.faults;
         }) }
     {
-        self.calls = self.calls.saturating_add(1);
-        if is_failing(&self.failing, self.calls) {
-            self.faults = self.faults.saturating_add(1);
+        if self.plan.fails_next() {
             return Err(SourceFailed);
         }
-        let most = size_for(&self.sizes, self.calls);
+        let most = size_for(&self.sizes, self.plan.calls);
         let rest = &self.bytes[self.done..];
         let count = piece.len().min(most).min(rest.len());
         piece[..count].copy_from_slice(&rest[..count]);

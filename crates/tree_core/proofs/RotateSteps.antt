@@ -1,13 +1,15 @@
--- Rotate one step down a path, and the test of two sets with no common vertex.
-use Rattle.std.proofs.Common.{◌≡◌, ℕ, ◌==◌, false, not, ◌&&◌, List, [], ◌∷◌, length, Option, None, option_map, refl, sym, ap, ◌∙◌}
-use Rattle.std.proofs.lemmas.Bool.{and_from, and_parts, both_ways}
+-- Rotate at the end of a path, and the test of two sets with no common vertex.
+use Rattle.std.proofs.Common.{◌≡◌, ℕ, not, ◌&&◌, List, [], ◌∷◌, ◌++◌, length, None, refl, sym, ap, ap₂, ◌∙◌, arith}
+use Rattle.std.proofs.lemmas.Bool.{and_from, and_parts}
 use Rattle.counting.proofs.RisingLists.{all_in_true, true_all_in, same_answers}
 use Rattle.counting.specs.Lists.{mem, is_apart, is_subset}
 use Rattle.counting.specs.Sets.{everything, minus}
-use Rattle.tree_core.specs.Moves.{rotate_result, with_child}
-use Rattle.tree_core.specs.Shapes.{Shape, leaf}
+use Rattle.tree_core.specs.Moves.{last_step, parent_path, result_at, rotate_result, rotate_result_at}
+use Rattle.tree_core.specs.Shapes.{Fits, Shape}
 use Rattle.tree_core.specs.declared.path.Side.{Side}
-use Rattle.tree_core.specs.declared.path.Side.TheVariants.{Kept, Merged}
+use Rattle.tree_core.specs.Turns.{MayTurn}
+use Rattle.tree_core.specs.declared.turns.Turn.{Turn}
+use Rattle.tree_core.specs.declared.turns.Turn.TheVariants.{Rotate, Switch}
 
 -- x lies in what it keeps without y exactly where the two have no common vertex
 pub apart-test : (x y z : List ℕ) → ((v : ℕ) → mem z v ≡ (mem x v && not (mem y v))) → is_subset x z ≡ is_apart x y
@@ -15,15 +17,29 @@ apart-test x y z e = same_answers (is_subset x z) (is_apart x y)
     (λ h. true_all_in x (minus everything (mem y)) (λ v m. (and_parts (mem x v) (not (mem y v)) (sym (e v) ∙ all_in_true x (mem z) h v m)).1))
     (λ h. true_all_in x (mem z) (λ v m. e v ∙ and_from (mem x v) (not (mem y v)) m (all_in_true x (minus everything (mem y)) h v m)))
 
--- a leaf has no result
-pub rotate-leaf : (path : List Side) → rotate_result path leaf ≡ None
-rotate-leaf [] = refl
-rotate-leaf (side ∷ []) = refl
-rotate-leaf (side ∷ next ∷ path) = refl
+-- a path of at least one step, taken apart before its last step
+pub last_step-end : (side : Side) (path : List Side) (last : Side) → last_step side (path ++ last ∷ []) ≡ last
+last_step-end side [] last = refl
+last_step-end side (next ∷ path) last = last_step-end next path last
 
--- with a path of further steps the result is the cut with that of the child
-pub rotate-below : (path rest : List Side) (side : Side) (x : List ℕ) (other child whole : Shape) (made : Option Shape) →
-    path ≡ side ∷ rest → false ≡ (length rest == 0) → whole ≡ with_child side x other child → rotate_result rest child ≡ made → rotate_result path whole ≡ option_map (with_child side x other) made
-rotate-below path [] side x other child whole made is some cut_is h = absurd (both_ways (length {A = Side} [] == 0) (sym some) refl)
-rotate-below path (next ∷ rest) Kept x other child whole made is some cut_is h = rw (is, cut_is) (ap (option_map (with_child Kept x other)) h)
-rotate-below path (next ∷ rest) Merged x other child whole made is some cut_is h = rw (is, cut_is) (ap (option_map (with_child Merged x other)) h)
+pub parent_path-end : (side : Side) (path : List Side) (last : Side) → parent_path side (path ++ last ∷ []) ≡ side ∷ path
+parent_path-end side [] last = refl
+parent_path-end side (next ∷ path) last = ap (λ (rest : List Side). side ∷ rest) (parent_path-end next path last)
+
+result-end : (parents : List Side) (last : Side) (t : Shape) → rotate_result (parents ++ last ∷ []) t ≡ result_at (rotate_result_at last) parents t
+result-end [] last t = refl
+result-end (side ∷ parents) last t = ap₂ (λ (s : Side) (path : List Side). result_at (rotate_result_at s) path t) (last_step-end side parents last) (parent_path-end side parents last)
+
+-- Rotate with a path is Rotate by its last step, at the end of the steps before
+pub rotate-end : (path parents : List Side) (last : Side) (t : Shape) → path ≡ parents ++ last ∷ [] → rotate_result path t ≡ result_at (rotate_result_at last) parents t
+rotate-end path parents last t e = ap (λ (p : List Side). rotate_result p t) e ∙ result-end parents last t
+
+-- with no step there is no result
+pub rotate-nowhere : (path : List Side) (t : Shape) → length path ≡ 0 → rotate_result path t ≡ None
+rotate-nowhere [] t e = refl
+rotate-nowhere (side ∷ path) t e = absurd (omega (arith, e))
+
+-- a turn that may be asked for of a tree may be asked for of its child
+pub may_turn-below : (turn : Turn) (whole child : Shape) → ((n : ℕ) → Fits n whole → Fits n child) → MayTurn turn whole → MayTurn turn child
+may_turn-below (Rotate side) whole child below may = tt
+may_turn-below (Switch n u v) whole child below may = below n may

@@ -5,3 +5,4 @@ pub mod View
 pub mod Moves
 pub mod LeafMaps
 pub mod MoveView
+pub mod Turns

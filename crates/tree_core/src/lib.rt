@@ -28,6 +28,7 @@ mod rotation;
 mod switched_shores;
 mod switching;
 mod tree;
+mod turns;
 
 pub use below::{kept_partition, merged_partition, root_partition};
 pub use leaf_partitions::{complement_in, leaves};

@@ -6,9 +6,9 @@ ghost use Rattle.tree_core.specs.Shapes.{cut};
 ghost use Rattle.tree_core.specs.View.{shape_of};
 
 use crate::moves::Stuck;
-use crate::opened::open;
 use crate::path::{Path, Side};
 use crate::tree::Tree;
+use crate::turns::{Turn, turn_along};
 use std::mem;
 use vset_core::VSet;
 
@@ -113,49 +113,23 @@ fn rotate_merged(shore: VSet, kept: Box<Tree>, mut merged: Box<Tree>) -> Result<
     }
 }
 
-// Brings the root of the child on the side over the cut.
-fn rotate_child(side: Side, shore: VSet, kept: Box<Tree>, merged: Box<Tree>) -> Result<Tree, Tree>
+/// Brings the root of the child on the side over the root of the tree.
+pub(crate) fn rotate_here(tree: Tree, side: Side) -> Result<Tree, Tree>
     ensures ok { IfOk result
-        (λ tree. rotate_result_at side (cut shore (shape_of kept.value) (shape_of merged.value)) ≡
-        Some (shape_of tree)) }
-    ensures stuck { IfErr result
-        (λ tree. rotate_result_at side (cut shore (shape_of kept.value) (shape_of merged.value)) ≡
-        None) }
-    ensures same { IfErr result
-        (λ tree. shape_of tree ≡ cut shore (shape_of kept.value) (shape_of merged.value)) }
-{
-    match side {
-        Side::Kept => rotate_kept(shore, kept, merged),
-        Side::Merged => rotate_merged(shore, kept, merged),
-    }
-}
-
-// Rotate with the steps of a path.
-fn rotate_along(tree: Tree, path: &[Side]) -> Result<Tree, Tree>
-    ensures ok { IfOk result
-        (λ made. rotate_result path.now (shape_of tree) ≡ Some (shape_of made)) }
-    ensures stuck { IfErr result (λ back. rotate_result path.now (shape_of tree) ≡ None) }
+        (λ made. rotate_result_at side (shape_of tree) ≡ Some (shape_of made)) }
+    ensures stuck { IfErr result (λ back. rotate_result_at side (shape_of tree) ≡ None) }
     ensures same { IfErr result (λ back. shape_of back ≡ shape_of tree) }
 {
-    let Some((side, rest)) = path.split_first() else {
-        return Err(tree);
-    };
     match tree {
         Tree::Leaf => Err(Tree::Leaf),
         Tree::Cut {
             shore,
             kept,
             merged,
-        } => {
-            if rest.is_empty() {
-                return rotate_child(*side, shore, kept, merged);
-            }
-            let (child, opened) = open(*side, shore, kept, merged);
-            match rotate_along(child, rest) {
-                Ok(made) => Ok(opened.close(made)),
-                Err(back) => Err(opened.close(back)),
-            }
-        }
+        } => match side {
+            Side::Kept => rotate_kept(shore, kept, merged),
+            Side::Merged => rotate_merged(shore, kept, merged),
+        },
     }
 }
 
@@ -168,7 +142,10 @@ pub fn rotate(tree: Tree, path: &Path) -> Result<Tree, (Tree, Stuck)>
     ensures stuck { IfErr result (λ e. rotate_result path.now (shape_of tree) ≡ None) }
     ensures same { IfErr result (λ e. shape_of e.0 ≡ shape_of tree) }
 {
-    match rotate_along(tree, path.as_slice()) {
+    let Some((last, parents)) = path.as_slice().split_last() else {
+        return Err((tree, Stuck));
+    };
+    match turn_along(tree, parents, &Turn::Rotate(*last)) {
         Ok(made) => Ok(made),
         Err(back) => Err((back, Stuck)),
     }

@@ -7,12 +7,12 @@ ghost use Rattle.tree_core.specs.Shapes.{Fits, cut};
 ghost use Rattle.tree_core.specs.View.{shape_of};
 
 use crate::moves::Stuck;
-use crate::opened::open;
-use crate::path::{Path, Side};
+use crate::path::Path;
 use crate::switched_shores::{
     holds_greatest, is_proper_outside, is_proper_part, minus_of, outer_rest_of, set_if, union_of,
 };
 use crate::tree::Tree;
+use crate::turns::{Turn, turn_along};
 use std::mem;
 use vset_core::VSet;
 
@@ -196,8 +196,8 @@ fn exchanged_greatest_stays(mut kept: Box<Tree>, mut merged: Box<Tree>, e: &Exch
     }
 }
 
-// Switch at the root.
-fn switch_here(tree: Tree, n: u32, u: VSet, v: VSet) -> Result<Tree, Tree>
+/// Exchanges `u` and `v` at the root of the tree.
+pub(crate) fn switch_here(tree: Tree, n: u32, u: VSet, v: VSet) -> Result<Tree, Tree>
     requires { Fits n (shape_of tree) }
     ensures ok { IfOk result
         (λ made. switch_result_at n u v (shape_of tree) ≡ Some (shape_of made)) }
@@ -228,33 +228,6 @@ fn switch_here(tree: Tree, n: u32, u: VSet, v: VSet) -> Result<Tree, Tree>
     }
 }
 
-// Switch with the steps of a path.
-fn switch_along(tree: Tree, n: u32, path: &[Side], u: VSet, v: VSet) -> Result<Tree, Tree>
-    requires { Fits n (shape_of tree) }
-    ensures ok { IfOk result
-        (λ made. switch_result n path.now u v (shape_of tree) ≡ Some (shape_of made)) }
-    ensures stuck { IfErr result (λ back. switch_result n path.now u v (shape_of tree) ≡ None) }
-    ensures same { IfErr result (λ back. shape_of back ≡ shape_of tree) }
-{
-    let Some((side, rest)) = path.split_first() else {
-        return switch_here(tree, n, u, v);
-    };
-    match tree {
-        Tree::Leaf => Err(Tree::Leaf),
-        Tree::Cut {
-            shore,
-            kept,
-            merged,
-        } => {
-            let (child, opened) = open(*side, shore, kept, merged);
-            match switch_along(child, n, rest, u, v) {
-                Ok(made) => Ok(opened.close(made)),
-                Err(back) => Err(opened.close(back)),
-            }
-        }
-    }
-}
-
 /// Exchanges `u`, a part of the shore at the end of the path, and `v`, a part of its complement. `Stuck` comes exactly where there
 /// is no result: the path leads to no cut, or one of the two is not a nonempty proper subset there. Then the same tree is handed
 /// back. Takes no memory.
@@ -265,7 +238,7 @@ pub fn switch(tree: Tree, n: u32, path: &Path, u: VSet, v: VSet) -> Result<Tree,
     ensures stuck { IfErr result (λ e. switch_result n path.now u v (shape_of tree) ≡ None) }
     ensures same { IfErr result (λ e. shape_of e.0 ≡ shape_of tree) }
 {
-    match switch_along(tree, n, path.as_slice(), u, v) {
+    match turn_along(tree, path.as_slice(), &Turn::Switch { n, u, v }) {
         Ok(made) => Ok(made),
         Err(back) => Err((back, Stuck)),
     }

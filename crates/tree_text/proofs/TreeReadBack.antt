@@ -1,7 +1,7 @@
 -- What is written of a tree is read as this tree. The header leads to the root, and by induction the lines of a tree lead from any
 -- place to this tree put at the place: the line of a cut leads below it, its `kept` tree put there leads to the place of its
 -- `merged` tree, and this one put there makes the cut whole. No test of the table applies.
-use Rattle.std.proofs.Common.{◌≡◌, ◌+◌, ◌-◌, ◌≤◌, ◌<◌, ◌==◌, ◌&&◌, ◌^◌, nat_lt, ℕ, suc, List, [], ◌∷◌, ◌++◌, All, Bool, length, map, get_or, codes, true, false, Some, Ok, refl, sym, subst, arith, inl, inr}
+use Rattle.std.proofs.Common.{◌≡◌, ◌+◌, ◌-◌, ◌≤◌, ◌<◌, ◌==◌, ◌&&◌, ◌^◌, nat_lt, ℕ, suc, List, [], ◌∷◌, ◌++◌, All, Bool, length, map, get_or, codes, true, false, Some, Ok, refl, sym, subst, arith}
 use Rattle.std.specs.Fmt.{decimal}
 use Rattle.std.specs.List.{AllByRecursion, list_all, list_any}
 use Rattle.std.specs.List.Sorted.{IsStrictlyIncreasing}
@@ -11,13 +11,12 @@ use Rattle.std.proofs.lemmas.Bool.Decides.{nat_tests}
 use Rattle.counting.specs.Counts.{Within}
 use Rattle.counting.specs.Lists.{mem}
 use Rattle.counting.proofs.Lists.{mem-within}
-use Rattle.line_text.specs.Format.{Begins, Stands, StandsAlone}
+use Rattle.line_text.specs.Format.{Begins, Stands}
 use Rattle.line_text.specs.Words.{has_form, words_of, unwords, is_skipped, IsSignificant}
 use Rattle.line_text.specs.Lines.{lines_of}
 use Rattle.line_text.specs.Numerals.{is_number, value_of}
 use Rattle.line_text.proofs.Decimals.{number_of-decimal, is_word-decimal, numbers-decimal, values-decimal, words-decimal}
 use Rattle.text_faults.proofs.InRange.{in_range-tests}
-use Rattle.line_text.proofs.ExactlyOne.{exactly_one}
 use Rattle.line_text.proofs.ReadBack.{Stands-written, Stands-comments, is_closed-unlines, Begins-append, significant-append}
 use Rattle.tree_core.specs.Shapes.{Shape, leaf, cut, Fits, node_count}
 use Rattle.tree_text.specs.Places.{Place, root, in_kept, in_merged, Reading, wanted, whole, put}
@@ -113,13 +112,6 @@ Stands-tree_text n t is =
     (record { kept = refl; each = (refl, (refl, (is_word-decimal n is.order, tt))) }, nodes-significant n t is.order is.fits)
     (at 0 (wanted root), header-taken n is.order, nodes-taken n 0 root t (omega arith) is.order is.fits is.vertices is.rising)
     refl
-
--- and for no other
-pub StandsAlone-tree_text : (n : ℕ) (t : Shape) → IsWritable n t → StandsAlone (tree_format n) (tree_text n t)
-StandsAlone-tree_text n t is = elim (exactly_one (tree_format n) (tree_text n t)) [
-  | inl alone ↦ alone
-  | inr broken ↦ absurd (broken.valueless t (Stands-tree_text n t is))
-]
 
 -- comments behind it change nothing
 pub Stands-commented : (n : ℕ) (t : Shape) (comments : List ℕ) → IsWritable n t → AllByRecursion (λ line. is_skipped (words_of line) ≡ true) (lines_of comments) → Stands (tree_format n) (tree_text n t ++ comments) t

@@ -62,6 +62,12 @@ weighted_cut g xs b w m is h same =
     sides : (e : ℕ) → Within (size g) e → b (first_end g e) ≡ false → b (second_end g e) ≡ false → j (first_end g e) (second_end g e) ≡ true
     sides e we p q = adjacent_joined (with_ends g xs) b h.graph (first_end g e) (second_end g e) (and_from (not (b (first_end g e)) && not (b (second_end g e))) _ (rw (p, q) refl) (h.old e we))
 
+    none_cut : (c d : Bool) → 0 ≡ bit ((c && false) || (d && false))
+    none_cut true true = refl
+    none_cut true false = refl
+    none_cut false true = refl
+    none_cut false false = refl
+
     each : (e : ℕ) → Within (size g) e → (k : Bool) → total g.order (λ u. bit (l u && w u) * bit (k && ((j u (first_end g e) && not (j u (second_end g e))) || (not (j u (first_end g e)) && j u (second_end g e))))) ≡ bit (k && arms g b w e)
     each e we false = total_none g.order _ (λ u wu. omega arith)
     each e we true = go (b (first_end g e)) (b (second_end g e)) refl refl
@@ -101,20 +107,8 @@ weighted_cut g xs b w m is h same =
 
         go : (x y : Bool) → b (first_end g e) ≡ x → b (second_end g e) ≡ y → total g.order (λ u. term u) ≡ bit ((w (first_end g e) && (not x && y)) || (w (second_end g e) && (not y && x)))
         go true true p q = total_none g.order _ (λ u wu. never (l u) (w u) (j u (first_end g e)) (j u (second_end g e)) (λ t.
-            false_from_ne_true (j u (first_end g e)) (λ k. both_ways (b (first_end g e)) (out_of u (first_end g e) t k) p) ∙ sym (false_from_ne_true (j u (second_end g e)) (λ k. both_ways (b (second_end g e)) (out_of u (second_end g e) t k) q)))) ∙ bits (w (first_end g e)) (w (second_end g e))
-          where
-            bits : (c d : Bool) → 0 ≡ bit ((c && false) || (d && false))
-            bits true true = refl
-            bits true false = refl
-            bits false true = refl
-            bits false false = refl
-        go false false p q = total_none g.order _ (λ u wu. never (l u) (w u) (j u (first_end g e)) (j u (second_end g e)) (λ t. eq u (first_end g e) (second_end g e) wu (is e we).0 (is e we).1 (sides e we p q))) ∙ bits (w (first_end g e)) (w (second_end g e))
-          where
-            bits : (c d : Bool) → 0 ≡ bit ((c && false) || (d && false))
-            bits true true = refl
-            bits true false = refl
-            bits false true = refl
-            bits false false = refl
+            false_from_ne_true (j u (first_end g e)) (λ k. both_ways (b (first_end g e)) (out_of u (first_end g e) t k) p) ∙ sym (false_from_ne_true (j u (second_end g e)) (λ k. both_ways (b (second_end g e)) (out_of u (second_end g e) t k) q)))) ∙ none_cut (w (first_end g e)) (w (second_end g e))
+        go false false p q = total_none g.order _ (λ u wu. never (l u) (w u) (j u (first_end g e)) (j u (second_end g e)) (λ t. eq u (first_end g e) (second_end g e) wu (is e we).0 (is e we).1 (sides e we p q))) ∙ none_cut (w (first_end g e)) (w (second_end g e))
         go false true p q =
             total_congr g.order _ _ (λ u wu. fore (l u) (w u) (j u (first_end g e)) (j u (second_end g e)) (λ t. false_from_ne_true (j u (second_end g e)) (λ k. both_ways (b (second_end g e)) (out_of u (second_end g e) t k) q)))
             ∙ leader_sum (with_ends g xs) b w h.graph same (first_end g e) (is e we).0 p

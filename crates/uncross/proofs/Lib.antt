@@ -10,3 +10,4 @@ pub mod BlockImages
 pub mod FollowedMaps
 pub mod ScriptSteps
 pub mod ExposedShores
+pub mod ParentPaths

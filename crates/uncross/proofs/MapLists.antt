@@ -1,19 +1,18 @@
 -- Lists of leaf maps, by induction: the maps from two lists of names, one behind the other, are those from the joined list, where
 -- the second begins with the number that the first has come to. At a cut the names of the leaves are such a joined list.
-use Rattle.std.proofs.Common.{◌≡◌, ℕ, ◌+◌, List, [], ◌∷◌, ◌++◌, Result, OnOk, length, map, ap, sym, ◌∙◌, arith, append_assoc}
-use Rattle.std.proofs.lemmas.List.{length-append, length-map, map-append}
+use Rattle.std.proofs.Common.{◌≡◌, ℕ, ◌+◌, List, [], ◌∷◌, ◌++◌, Result, OnOk, length, ap, subst, refl, sym, ◌∙◌, arith, append_assoc}
+use Rattle.std.proofs.lemmas.List.{length-append, length-map}
 use Rattle.std.proofs.lemmas.Result.{on_ok_weaker}
+use Rattle.graph_core.specs.Partitions.{names_of}
 use Rattle.tree_core.specs.Derivations.{kept_at, merged_at}
 use Rattle.tree_core.specs.LeafMaps.{PlainLeafMap, maps_from, names_at, position, switch_names}
-use Rattle.tree_core.specs.Leaves.{leaves_at}
-use Rattle.tree_core.specs.Shapes.{Shape, cut}
+use Rattle.tree_core.specs.Shapes.{Shape, cut, leaf}
 use Rattle.tree_core.specs.declared.path.Side.{Side}
-use Rattle.tree_core.specs.declared.path.Side.TheVariants.{Kept, Merged}
 use Rattle.move_laws.proofs.Parts.{length-maps_from}
-use Rattle.uncross.specs.declared.block_images.Images.{Images}
-use Rattle.uncross.specs.declared.block_images.Images.TheVariants.{Own}
+use Rattle.uncross.specs.declared.exchanges.Exchange.{Exchange}
 use Rattle.uncross.specs.declared.leaf_maps.LeafMap.{LeafMap}
-use Rattle.uncross.specs.MapView.{image_name, kept_images, map_of, maps_of, merged_images}
+use Rattle.uncross.specs.Exchanges.{exchanged_names}
+use Rattle.uncross.specs.MapView.{map_of, maps_of}
 
 -- the maps from a joined list
 maps_from-append : (o : List ℕ) (k j : ℕ) (ns ms : List (List ℕ)) → j ≡ k + length ns → maps_from o k (ns ++ ms) ≡ maps_from o k ns ++ maps_from o j ms
@@ -44,42 +43,24 @@ joined r o first middle last ns ms left right whole e f a b w =
     ∙ ap (λ (xs : List (List ℕ)). maps_of first ++ maps_from o (length first) xs) parts) f
 
 -- equal trees at equal partitions have equal names
-pub same-names : (m n : ℕ) (is js : Images) (p q : List (List ℕ)) (s t : Shape) → m ≡ n → is ≡ js → p ≡ q → s ≡ t →
-    map (λ (b : List (List ℕ)). map (image_name m is) b) (leaves_at m p s) ≡ map (λ (b : List (List ℕ)). map (image_name n js) b) (leaves_at n q t)
-same-names m n is js p q s t e f g h =
-    ap (λ (k : ℕ). map (λ (b : List (List ℕ)). map (image_name k is) b) (leaves_at k p s)) e
-    ∙ ap (λ (i : Images). map (λ (b : List (List ℕ)). map (image_name n i) b) (leaves_at n p s)) f
-    ∙ ap (λ (x : List (List ℕ)). map (λ (b : List (List ℕ)). map (image_name n js) b) (leaves_at n x s)) g
-    ∙ ap (λ (u : Shape). map (λ (b : List (List ℕ)). map (image_name n js) b) (leaves_at n q u)) h
+pub same-names : (m n : ℕ) (e : Exchange) (path : List Side) (p q : List (List ℕ)) (s t : Shape) → m ≡ n → p ≡ q → s ≡ t → exchanged_names m e path p s ≡ exchanged_names n e path q t
+same-names m n e path p q s t f g h =
+    ap (λ (k : ℕ). exchanged_names k e path p s) f ∙ ap (λ (x : List (List ℕ)). exchanged_names n e path x s) g ∙ ap (exchanged_names n e path q) h
 
--- and equal names along a path
-pub same-names_at : (m n : ℕ) (u v : List ℕ) (path : List Side) (p q : List (List ℕ)) (s t : Shape) → m ≡ n → p ≡ q → s ≡ t →
-    names_at m u v path p s ≡ names_at n u v path q t
-same-names_at m n u v path p q s t e g h =
-    ap (λ (k : ℕ). names_at k u v path p s) e ∙ ap (λ (x : List (List ℕ)). names_at n u v path x s) g ∙ ap (names_at n u v path q) h
+-- the names at a leaf
+pub leaf-names_at : (n : ℕ) (u v : List ℕ) (path : List Side) (p : List (List ℕ)) → names_at n u v path p leaf ≡ names_of p ∷ []
+leaf-names_at n u v [] p = refl
+leaf-names_at n u v (side ∷ path) p = refl
 
--- the names at a cut
-pub cut-names : (n : ℕ) (images : Images) (p : List (List ℕ)) (x : List ℕ) (a b t : Shape) → t ≡ cut x a b →
-    map (λ (q : List (List ℕ)). map (image_name n images) q) (leaves_at n p t)
-    ≡ map (λ (q : List (List ℕ)). map (image_name n images) q) (leaves_at n (kept_at n p x) a) ++ map (λ (q : List (List ℕ)). map (image_name n images) q) (leaves_at n (merged_at n p x) b)
-cut-names n images p x a b t e =
-    ap (λ (s : Shape). map (λ (q : List (List ℕ)). map (image_name n images) q) (leaves_at n p s)) e
-    ∙ map-append (λ (q : List (List ℕ)). map (image_name n images) q) (leaves_at n (kept_at n p x) a) (leaves_at n (merged_at n p x) b)
+-- and where the path ends
+pub here-names_at : (n : ℕ) (u v : List ℕ) (path : List Side) (p : List (List ℕ)) (t : Shape) → length path ≡ 0 → names_at n u v path p t ≡ switch_names n u v p t
+here-names_at n u v [] p t e = refl
+here-names_at n u v (side ∷ path) p t e = absurd (omega (arith, e))
 
--- and at the cut of a Switch
-pub cut-switch_names : (n : ℕ) (u v : List ℕ) (p : List (List ℕ)) (x : List ℕ) (a b t : Shape) → t ≡ cut x a b →
-    switch_names n u v p t
-    ≡ map (λ (q : List (List ℕ)). map (image_name n (kept_images n x u v)) q) (leaves_at n (kept_at n p x) a) ++ map (λ (q : List (List ℕ)). map (image_name n (merged_images n x u v)) q) (leaves_at n (merged_at n p x) b)
-cut-switch_names n u v p x a b t e = ap (switch_names n u v p) e
-
--- and at a cut where the path goes on in `kept`
-pub kept-names_at : (n : ℕ) (u v : List ℕ) (path rest : List Side) (side : Side) (p : List (List ℕ)) (x : List ℕ) (a b t : Shape) → path ≡ side ∷ rest → side ≡ Kept → t ≡ cut x a b →
-    names_at n u v path p t ≡ names_at n u v rest (kept_at n p x) a ++ map (λ (q : List (List ℕ)). map (image_name n Own) q) (leaves_at n (merged_at n p x) b)
-kept-names_at n u v path rest side p x a b t e f g =
-    ap (λ (s : List Side). names_at n u v s p t) (e ∙ ap (λ (s : Side). s ∷ rest) f) ∙ ap (names_at n u v (Kept ∷ rest) p) g
-
--- or in `merged`
-pub merged-names_at : (n : ℕ) (u v : List ℕ) (path rest : List Side) (side : Side) (p : List (List ℕ)) (x : List ℕ) (a b t : Shape) → path ≡ side ∷ rest → side ≡ Merged → t ≡ cut x a b →
-    names_at n u v path p t ≡ map (λ (q : List (List ℕ)). map (image_name n Own) q) (leaves_at n (kept_at n p x) a) ++ names_at n u v rest (merged_at n p x) b
-merged-names_at n u v path rest side p x a b t e f g =
-    ap (λ (s : List Side). names_at n u v s p t) (e ∙ ap (λ (s : Side). s ∷ rest) f) ∙ ap (names_at n u v (Merged ∷ rest) p) g
+-- and at a cut, where those at its two sides are known
+pub cut-names : (m n : ℕ) (e left right : Exchange) (path rest : List Side) (p : List (List ℕ)) (x : List ℕ) (a b t : Shape) → m ≡ n → t ≡ cut x a b →
+    ((q : List (List ℕ)) (a b : Shape) → exchanged_names m e path q (cut x a b) ≡ exchanged_names m left rest (kept_at m q x) a ++ exchanged_names m right rest (merged_at m q x) b) →
+    exchanged_names n e path p t ≡ exchanged_names n left rest (kept_at n p x) a ++ exchanged_names n right rest (merged_at n p x) b
+cut-names m n e left right path rest p x a b t f g law =
+    ap (exchanged_names n e path p) g
+    ∙ subst (λ (k : ℕ). exchanged_names k e path p (cut x a b) ≡ exchanged_names k left rest (kept_at k p x) a ++ exchanged_names k right rest (merged_at k p x) b) f (law p a b)

@@ -82,6 +82,16 @@ big_or_none p u shore = go (nat_lt (block_count p (mem u)) 3) refl
     go true h = inl (grind (arith, nat_tests, h), refl)
     go false h = inr (grind (arith, nat_tests, h), refl)
 
+-- where nothing is to be exposed no moves are made, and the tree is as it was
+exposed_nothing : (g : Graph) (q : List (List ℕ)) (a t : Shape) (m : Option (List PlainMove)) → IsExposed g q a None t m → (m ≡ None) × (t ≡ a)
+exposed_nothing g q a t None e = (refl, e)
+exposed_nothing g q a t (Some ms) e = absurd e
+
+-- and where a shore is to be exposed moves are made
+exposed_shore : (g : Graph) (q : List (List ℕ)) (a t : Shape) (m : Option (List PlainMove)) (y : List ℕ) → IsExposed g q a (Some y) t m → (ms : List PlainMove) × (m ≡ Some ms) × IsExposed g q a (Some y) t (Some ms)
+exposed_shore g q a t None y e = absurd e
+exposed_shore g q a t (Some ms) y e = (ms, refl, e)
+
 -- what the plan exposes first is a cut where it is exposed
 module _ (g : Graph) (p : List (List ℕ)) (st : Stage g p) (x y : List ℕ) (bx : Big g p x) (by : Big g p y) (nx : mem x g.order ≡ false) (ny : mem y g.order ≡ false) where
   crossing_corners : is_subset y x ≡ false → is_subset x y ≡ false → is_apart x y ≡ false → Corners g p x (partner g.order p x y) × Kind g.order y (partner g.order p x y)
@@ -134,31 +144,23 @@ module _ (g : Graph) (p : List (List ℕ)) (st : Stage g p) (x y : List ℕ) (bx
   -- the two trees with their corners exposed
   inner_turned : (c : Corners g p x (partner g.order p x y)) (a ta : Shape) (mi : Option (List PlainMove)) → IsExposed g (kept_at g.order p x) a (if_big p (meet_list g.order x (partner g.order p x y)) (meet_list g.order x (partner g.order p x y))) ta mi → InnerTurned g p x (partner g.order p x y) a ta mi
   inner_turned c a ta mi e = elim (inner_case c) [
-    | inl s ↦ single (subst (λ o. IsExposed g (kept_at g.order p x) a o ta mi) s.0 e) mi refl s.1
-    | inr s ↦ big (subst (λ o. IsExposed g (kept_at g.order p x) a o ta mi) s.0 e) mi refl s.1
+    | inl s ↦
+        let none = exposed_nothing g (kept_at g.order p x) a ta mi (subst (λ o. IsExposed g (kept_at g.order p x) a o ta mi) s.0 e) in
+        subst (InnerTurned g p x (partner g.order p x y) a ta) (sym none.0) (none.1, s.1)
+    | inr s ↦
+        let made = exposed_shore g (kept_at g.order p x) a ta mi (meet_list g.order x (partner g.order p x y)) (subst (λ o. IsExposed g (kept_at g.order p x) a o ta mi) s.0 e) in let q = made.2 in
+        subst (InnerTurned g p x (partner g.order p x y) a ta) (sym made.1) (s.1, q.0, q.1, q.2, q.3, q.4)
   ]
-    where
-      single : IsExposed g (kept_at g.order p x) a None ta mi → (m : Option (List PlainMove)) → mi ≡ m → ((t : ℕ) × IsBlockOf g.order p (mem (meet_list g.order x (partner g.order p x y))) t) → InnerTurned g p x (partner g.order p x y) a ta mi
-      single e None h b = subst (InnerTurned g p x (partner g.order p x y) a ta) (sym h) (subst (IsExposed g (kept_at g.order p x) a None ta) h e, b)
-      single e (Some ms) h b = absurd (subst (IsExposed g (kept_at g.order p x) a None ta) h e)
-
-      big : IsExposed g (kept_at g.order p x) a (Some (meet_list g.order x (partner g.order p x y))) ta mi → (m : Option (List PlainMove)) → mi ≡ m → Big g p (meet_list g.order x (partner g.order p x y)) → InnerTurned g p x (partner g.order p x y) a ta mi
-      big e None h b = absurd (subst (IsExposed g (kept_at g.order p x) a (Some (meet_list g.order x (partner g.order p x y))) ta) h e)
-      big e (Some ms) h b = let q = subst (IsExposed g (kept_at g.order p x) a (Some (meet_list g.order x (partner g.order p x y))) ta) h e in subst (InnerTurned g p x (partner g.order p x y) a ta) (sym h) (b, q.0, q.1, q.2, q.3, q.4)
 
   outer_turned : (c : Corners g p x (partner g.order p x y)) (b tb : Shape) (mo : Option (List PlainMove)) → IsExposed g (merged_at g.order p x) b (if_big p (outer_of g.order x (partner g.order p x y)) (outer_shore g.order (outer_of g.order x (partner g.order p x y)))) tb mo → OuterTurned g p x (partner g.order p x y) b tb mo
   outer_turned c b tb mo e = elim (outer_case c) [
-    | inl s ↦ single (subst (λ o. IsExposed g (merged_at g.order p x) b o tb mo) s.0 e) mo refl s.1
-    | inr s ↦ big (subst (λ o. IsExposed g (merged_at g.order p x) b o tb mo) s.0 e) mo refl s.1
+    | inl s ↦
+        let none = exposed_nothing g (merged_at g.order p x) b tb mo (subst (λ o. IsExposed g (merged_at g.order p x) b o tb mo) s.0 e) in
+        subst (OuterTurned g p x (partner g.order p x y) b tb) (sym none.0) (none.1, s.1)
+    | inr s ↦
+        let made = exposed_shore g (merged_at g.order p x) b tb mo (outer_shore g.order (outer_of g.order x (partner g.order p x y))) (subst (λ o. IsExposed g (merged_at g.order p x) b o tb mo) s.0 e) in let q = made.2 in
+        subst (OuterTurned g p x (partner g.order p x y) b tb) (sym made.1) (s.1, q.0, q.1, q.2, q.3, q.4)
   ]
-    where
-      single : IsExposed g (merged_at g.order p x) b None tb mo → (m : Option (List PlainMove)) → mo ≡ m → ((t : ℕ) × IsBlockOf g.order p (mem (outer_of g.order x (partner g.order p x y))) t) → OuterTurned g p x (partner g.order p x y) b tb mo
-      single e None h k = subst (OuterTurned g p x (partner g.order p x y) b tb) (sym h) (subst (IsExposed g (merged_at g.order p x) b None tb) h e, k)
-      single e (Some ms) h k = absurd (subst (IsExposed g (merged_at g.order p x) b None tb) h e)
-
-      big : IsExposed g (merged_at g.order p x) b (Some (outer_shore g.order (outer_of g.order x (partner g.order p x y)))) tb mo → (m : Option (List PlainMove)) → mo ≡ m → Big g p (outer_of g.order x (partner g.order p x y)) → OuterTurned g p x (partner g.order p x y) b tb mo
-      big e None h k = absurd (subst (IsExposed g (merged_at g.order p x) b (Some (outer_shore g.order (outer_of g.order x (partner g.order p x y)))) tb) h e)
-      big e (Some ms) h k = let q = subst (IsExposed g (merged_at g.order p x) b (Some (outer_shore g.order (outer_of g.order x (partner g.order p x y)))) tb) h e in subst (OuterTurned g p x (partner g.order p x y) b tb) (sym h) (k, q.0, q.1, q.2, q.3, q.4)
 
   -- the plan carried out
   abbrev Done : Shape → Option PlainTurned → Type 0

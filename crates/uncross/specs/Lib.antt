@@ -3,3 +3,5 @@ pub mod TurnedView
 pub mod PlanView
 pub mod MapView
 pub mod Following
+pub mod Exchanges
+pub mod Changes

@@ -11,7 +11,7 @@ use std::alloc::{AllocError as Memory, Global};
 use vset_core::{MOST_VERTICES, VSet};
 
 /// How the blocks of a leaf go over to blocks of its partner.
-#[derive(Drop)]
+#[derive(Clone, Copy)]
 pub enum Images {
     /// Each block is its own image.
     Own,

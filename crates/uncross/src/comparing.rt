@@ -65,24 +65,12 @@ pub fn compare_at(
                     merged: first_merged,
                     ..
                 } => {
-                    let kept_at = kept_partition(alloc, g, p, y)?;
-                    let below_kept = compare_at(
-                        alloc,
-                        g,
-                        &kept_at,
-                        Box::into_inner(first_kept),
-                        kept,
-                    )?;
-                    append_below(alloc, Side::Kept, below_kept.as_slice(), &mut moves)?;
-                    let merged_at = merged_partition(alloc, g, p, y)?;
-                    let below_merged = compare_at(
-                        alloc,
-                        g,
-                        &merged_at,
-                        Box::into_inner(first_merged),
-                        merged,
-                    )?;
-                    append_below(alloc, Side::Merged, below_merged.as_slice(), &mut moves)?;
+                    let q = kept_partition(alloc, g, p, y)?;
+                    let below = compare_at(alloc, g, &q, Box::into_inner(first_kept), kept)?;
+                    append_below(alloc, Side::Kept, below.as_slice(), &mut moves)?;
+                    let q = merged_partition(alloc, g, p, y)?;
+                    let below = compare_at(alloc, g, &q, Box::into_inner(first_merged), merged)?;
+                    append_below(alloc, Side::Merged, below.as_slice(), &mut moves)?;
                     Ok(moves)
                 }
             }

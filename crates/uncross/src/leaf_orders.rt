@@ -1,16 +1,16 @@
 //! The order of the leaves under a move: the old numbers of the leaves in the order of the new tree.
 ghost use Rattle.std.specs.Prelude.{◌≡◌, ◌≤◌, ◌+◌, ◌++◌, IfOk, OnOk, length};
 ghost use Rattle.tree_core.specs.LeafMaps.{kept_order_if_greatest_stays, move_order, numbers, order_at, rotate_order, switch_order};
-ghost use Rattle.tree_core.specs.Moves.{last_step, parent_path};
 ghost use Rattle.tree_core.specs.MoveView.{move_of};
 ghost use Rattle.tree_core.specs.Shapes.{cut, leaf_count};
 ghost use Rattle.tree_core.specs.View.{shape_of};
 ghost use Rattle.tree_core.specs.declared.path.Side.TheVariants.{Merged};
+ghost use Rattle.uncross.specs.Changes.{changed_order};
 
 use graph_core::Numbers;
 use std::alloc::{AllocError as Memory, Global};
 use tree_core::{Move, Side, Tree, holds_greatest};
-use vset_core::{MOST_VERTICES, VSet};
+use vset_core::VSet;
 
 /// The number of leaves of a tree. Takes no memory.
 pub fn count_leaves(tree: &Tree) -> u32
@@ -72,8 +72,7 @@ fn push_switch_order(
     k: u32,
     tree: &Tree,
 ) -> Result<(), Memory>
-    requires order { n ≤ MOST_VERTICES }
-    requires few { k + leaf_count (shape_of tree.now) ≤ 255 }
+    requires { k + leaf_count (shape_of tree.now) ≤ 255 }
     ensures order { OnOk result
         (order.new ≡ order.old ++ switch_order n u v k (shape_of tree.now)) }
     ensures count { OnOk result
@@ -151,62 +150,35 @@ fn push_merged_order(
     }
 }
 
-// Appends the order of a Switch at the end of the path.
-fn push_switch_along(
-    order: &mut Numbers,
-    n: u32,
-    path: &[Side],
-    u: VSet,
-    v: VSet,
-    k: u32,
-    tree: &Tree,
-) -> Result<(), Memory>
-    requires order { n ≤ MOST_VERTICES }
-    requires few { k + leaf_count (shape_of tree.now) ≤ 255 }
-    ensures order { OnOk result
-        (order.new ≡ order.old ++ order_at (switch_order n u v) path.now k (shape_of tree.now)) }
-    ensures count { OnOk result
-        (length order.new ≡ length order.old + leaf_count (shape_of tree.now)) }
-{
-    let Some((side, rest)) = path.split_first() else {
-        return push_switch_order(order, n, u, v, k, tree);
-    };
-    match tree {
-        Tree::Leaf => push_numbers(order, k, 1),
-        Tree::Cut { kept, merged, .. } => {
-            let first = count_leaves(kept);
-            match side {
-                Side::Kept => {
-                    push_switch_along(order, n, rest, u, v, k, kept)?;
-                    push_numbers(order, k + first, count_leaves(merged))
-                }
-                Side::Merged => {
-                    push_numbers(order, k, first)?;
-                    push_switch_along(order, n, rest, u, v, k + first, merged)
-                }
-            }
-        }
-    }
+// What a move changes at the end of a path.
+#[derive(Drop)]
+enum Change {
+    // A Rotate at this node, whose child on the side is the lower cut.
+    Rotate(Side),
+    // A Switch of u and v at this node of a tree over 1 to n.
+    Switch { n: u32, u: VSet, v: VSet },
 }
 
-// Appends the order of a Rotate whose path begins with the side.
-fn push_rotate_along(
+// Appends the order that a change at the end of the path makes.
+fn push_order_along(
     order: &mut Numbers,
-    side: Side,
-    rest: &[Side],
+    path: &[Side],
+    change: &Change,
     k: u32,
     tree: &Tree,
 ) -> Result<(), Memory>
     requires { k + leaf_count (shape_of tree.now) ≤ 255 }
     ensures order { OnOk result
         (order.new ≡ order.old ++
-        order_at (rotate_order (last_step side rest.now)) (parent_path side rest.now) k
-        (shape_of tree.now)) }
+        order_at (changed_order change.now) path.now k (shape_of tree.now)) }
     ensures count { OnOk result
         (length order.new ≡ length order.old + leaf_count (shape_of tree.now)) }
 {
-    let Some((next, others)) = rest.split_first() else {
-        return push_rotate_order(order, side, k, tree);
+    let Some((side, rest)) = path.split_first() else {
+        return match change {
+            Change::Rotate(side) => push_rotate_order(order, *side, k, tree),
+            Change::Switch { n, u, v } => push_switch_order(order, *n, *u, *v, k, tree),
+        };
     };
     match tree {
         Tree::Leaf => push_numbers(order, k, 1),
@@ -214,35 +186,48 @@ fn push_rotate_along(
             let first = count_leaves(kept);
             match side {
                 Side::Kept => {
-                    push_rotate_along(order, *next, others, k, kept)?;
+                    push_order_along(order, rest, change, k, kept)?;
                     push_numbers(order, k + first, count_leaves(merged))
                 }
                 Side::Merged => {
                     push_numbers(order, k, first)?;
-                    push_rotate_along(order, *next, others, k + first, merged)
+                    push_order_along(order, rest, change, k + first, merged)
                 }
             }
         }
     }
 }
 
+// Appends the order that a move on the whole tree makes.
+fn push_move_order(order: &mut Numbers, n: u32, tree: &Tree, m: &Move) -> Result<(), Memory>
+    requires { leaf_count (shape_of tree.now) ≤ 255 }
+    ensures order { OnOk result
+        (order.new ≡ order.old ++ move_order n (move_of m.now) (shape_of tree.now)) }
+    ensures count { OnOk result
+        (length order.new ≡ length order.old + leaf_count (shape_of tree.now)) }
+{
+    match m {
+        Move::Rotate { path } => match path.as_slice().split_last() {
+            None => push_numbers(order, 0, count_leaves(tree)),
+            Some((last, parents)) => {
+                push_order_along(order, parents, &Change::Rotate(*last), 0, tree)
+            }
+        },
+        Move::Switch { path, u, v } => {
+            let change = Change::Switch { n, u: *u, v: *v };
+            push_order_along(order, path.as_slice(), &change, 0, tree)
+        }
+    }
+}
+
 /// The old numbers of the leaves, in the order of the tree that the move makes.
 pub fn move_order(alloc: Global, n: u32, tree: &Tree, m: &Move) -> Result<Numbers, Memory>
-    requires order { n ≤ MOST_VERTICES }
-    requires few { leaf_count (shape_of tree.now) ≤ 255 }
+    requires { leaf_count (shape_of tree.now) ≤ 255 }
     ensures order { IfOk result
         (λ order. order ≡ move_order n (move_of m.now) (shape_of tree.now)) }
     ensures count { IfOk result (λ order. length order ≡ leaf_count (shape_of tree.now)) }
 {
     let mut order = Numbers::new(alloc);
-    match m {
-        Move::Rotate { path } => match path.as_slice().split_first() {
-            None => push_numbers(&mut order, 0, count_leaves(tree))?,
-            Some((side, rest)) => push_rotate_along(&mut order, *side, rest, 0, tree)?,
-        },
-        Move::Switch { path, u, v } => {
-            push_switch_along(&mut order, n, path.as_slice(), *u, *v, 0, tree)?;
-        }
-    }
+    push_move_order(&mut order, n, tree, m)?;
     Ok(order)
 }

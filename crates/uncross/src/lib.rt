@@ -16,6 +16,7 @@
 
 mod block_images;
 mod comparing;
+mod exchanges;
 mod exposing;
 mod leaf_maps;
 mod leaf_orders;

@@ -4,16 +4,18 @@ ghost use Rattle.counting.specs.Counts.{Within};
 ghost use Rattle.graph_core.specs.Partitions.{complement_of, singles};
 ghost use Rattle.contraction.specs.Partition.{IsUnionAt};
 ghost use Rattle.tree_core.specs.Derivations.{IsDerivation, kept_at};
-ghost use Rattle.tree_core.specs.LeafMaps.{maps_from, move_maps, names_at, own_maps, position, script_maps, switch_names};
-ghost use Rattle.tree_core.specs.Leaves.{StandsAt, leaves_at};
+ghost use Rattle.tree_core.specs.LeafMaps.{maps_from, move_maps, own_maps, position, script_maps};
+ghost use Rattle.tree_core.specs.Leaves.{StandsAt};
 ghost use Rattle.tree_core.specs.MoveView.{move_of, moves_of};
 ghost use Rattle.tree_core.specs.Moves.{move_result};
 ghost use Rattle.tree_core.specs.Shapes.{Fits, Shape, leaf_count};
 ghost use Rattle.tree_core.specs.View.{shape_of};
 ghost use Rattle.move_laws.specs.Scripts.{IsProperScript};
-ghost use Rattle.uncross.specs.MapView.{image_name, maps_of};
+ghost use Rattle.uncross.specs.Exchanges.{exchanged_names};
+ghost use Rattle.uncross.specs.MapView.{maps_of};
 
-use crate::block_images::{Images, image_names, kept_images, merged_images};
+use crate::block_images::{Images, image_names};
+use crate::exchanges::Exchange;
 use crate::leaf_maps::{LeafMap, LeafMaps, followed_by};
 use crate::leaf_orders::{count_leaves, move_order, push_numbers};
 use contraction::Partition;
@@ -59,12 +61,13 @@ fn keep(alloc: Global, p: &Partition, shore: VSet) -> Result<Partition, Memory>
     p.merge(alloc, complement)
 }
 
-// Appends the maps of the leaves of the tree at p.
+// Appends the maps of the leaves of the tree at p, below whose root this happens, at the end of the path.
 fn push_leaves(
     alloc: Global,
     tree: &Tree,
     p: Partition,
-    images: &Images,
+    path: &[Side],
+    exchange: &Exchange,
     order: &[u32],
     maps: &mut LeafMaps,
 ) -> Result<(), Memory>
@@ -75,112 +78,56 @@ fn push_leaves(
     ensures maps { OnOk result
         (maps_of maps.new ≡ maps_of maps.old ++
         maps_from order.now (length maps.old)
-        (map (λ q. map (image_name p.order images.now) q)
-        (leaves_at p.order p.blocks (shape_of tree.now)))) }
-    ensures count { OnOk result
-        (length maps.new ≡ length maps.old + leaf_count (shape_of tree.now)) }
-{
-    match tree {
-        Tree::Leaf => push_leaf(order, image_names(alloc, images, &p)?, maps),
-        Tree::Cut {
-            shore,
-            kept,
-            merged,
-        } => {
-            let below = keep(alloc, &p, *shore)?;
-            push_leaves(alloc, kept, below, images, order, maps)?;
-            let below = p.merge(alloc, *shore)?;
-            push_leaves(alloc, merged, below, images, order, maps)
-        }
-    }
-}
-
-// Appends the maps of the leaves of the tree at p, at whose root u and v are exchanged.
-fn push_switched_leaves(
-    alloc: Global,
-    tree: &Tree,
-    p: Partition,
-    u: VSet,
-    v: VSet,
-    order: &[u32],
-    maps: &mut LeafMaps,
-) -> Result<(), Memory>
-    requires few { length maps.old + leaf_count (shape_of tree.now) ≤ 255 }
-    requires short { length order.now ≤ 255 }
-    requires fits { Fits p.order (shape_of tree.now) }
-    requires stands { StandsAt p.order p.blocks (shape_of tree.now) }
-    ensures maps { OnOk result
-        (maps_of maps.new ≡ maps_of maps.old ++
-        maps_from order.now (length maps.old)
-        (switch_names p.order u v p.blocks (shape_of tree.now))) }
+        (exchanged_names p.order exchange.now path.now p.blocks (shape_of tree.now))) }
     ensures count { OnOk result
         (length maps.new ≡ length maps.old + leaf_count (shape_of tree.now)) }
 {
     p.keeps_partition();
     match tree {
-        Tree::Leaf => push_leaf(order, image_names(alloc, &Images::Own, &p)?, maps),
+        Tree::Leaf => push_leaf(order, image_names(alloc, &exchange.at_leaf(), &p)?, maps),
         Tree::Cut {
             shore,
             kept,
             merged,
         } => {
-            let n = p.order();
-            let below = keep(alloc, &p, *shore)?;
-            let images = kept_images(n, *shore, u, v);
-            push_leaves(alloc, kept, below, &images, order, maps)?;
-            let below = p.merge(alloc, *shore)?;
-            let images = merged_images(n, *shore, u, v);
-            push_leaves(alloc, merged, below, &images, order, maps)
+            let below = exchange.at_cut(path, p.order(), *shore);
+            let at_kept = keep(alloc, &p, *shore)?;
+            push_leaves(alloc, kept, at_kept, below.0, &below.1, order, maps)?;
+            let at_merged = p.merge(alloc, *shore)?;
+            push_leaves(alloc, merged, at_merged, below.0, &below.2, order, maps)
         }
     }
 }
 
-// Appends the maps of the leaves of the tree at p, where u and v are exchanged at the end of the path.
-fn push_leaves_along(
+// The maps of the leaves of a tree, with the order of the new tree and what happens below the root, at the end of the path.
+fn maps_with(
     alloc: Global,
+    n: u32,
     tree: &Tree,
-    p: Partition,
     path: &[Side],
-    u: VSet,
-    v: VSet,
-    order: &[u32],
-    maps: &mut LeafMaps,
-) -> Result<(), Memory>
-    requires few { length maps.old + leaf_count (shape_of tree.now) ≤ 255 }
+    exchange: &Exchange,
+    order: &Numbers,
+) -> Result<LeafMaps, Memory>
+    requires order { n ≤ MOST_VERTICES }
     requires short { length order.now ≤ 255 }
-    requires fits { Fits p.order (shape_of tree.now) }
-    requires stands { StandsAt p.order p.blocks (shape_of tree.now) }
-    ensures maps { OnOk result
-        (maps_of maps.new ≡ maps_of maps.old ++
-        maps_from order.now (length maps.old)
-        (names_at p.order u v path.now p.blocks (shape_of tree.now))) }
-    ensures count { OnOk result
-        (length maps.new ≡ length maps.old + leaf_count (shape_of tree.now)) }
+    requires fits { Fits n (shape_of tree.now) }
+    requires stands { StandsAt n (singles n) (shape_of tree.now) }
+    requires few { leaf_count (shape_of tree.now) ≤ 255 }
+    ensures { IfOk result (λ maps. maps_of maps ≡ maps_from order.now 0
+        (exchanged_names n exchange.now path.now (singles n) (shape_of tree.now))) }
 {
-    let Some((side, rest)) = path.split_first() else {
-        return push_switched_leaves(alloc, tree, p, u, v, order, maps);
-    };
-    match tree {
-        Tree::Leaf => push_leaf(order, image_names(alloc, &Images::Own, &p)?, maps),
-        Tree::Cut {
-            shore,
-            kept,
-            merged,
-        } => {
-            let below_kept = keep(alloc, &p, *shore)?;
-            let below_merged = p.merge(alloc, *shore)?;
-            match side {
-                Side::Kept => {
-                    push_leaves_along(alloc, kept, below_kept, rest, u, v, order, maps)?;
-                    push_leaves(alloc, merged, below_merged, &Images::Own, order, maps)
-                }
-                Side::Merged => {
-                    push_leaves(alloc, kept, below_kept, &Images::Own, order, maps)?;
-                    push_leaves_along(alloc, merged, below_merged, rest, u, v, order, maps)
-                }
-            }
-        }
-    }
+    let root = Partition::singles(alloc, n)?;
+    let mut maps = LeafMaps::new(alloc);
+    push_leaves(
+        alloc,
+        tree,
+        root,
+        path,
+        exchange,
+        order.as_slice(),
+        &mut maps,
+    )?;
+    Ok(maps)
 }
 
 /// The maps of no move: each leaf and each block to itself.
@@ -193,10 +140,7 @@ pub fn own_maps(alloc: Global, n: u32, tree: &Tree) -> Result<LeafMaps, Memory>
 {
     let mut order = Numbers::new(alloc);
     push_numbers(&mut order, 0, count_leaves(tree))?;
-    let root = Partition::singles(alloc, n)?;
-    let mut maps = LeafMaps::new(alloc);
-    push_leaves(alloc, tree, root, &Images::Own, order.as_slice(), &mut maps)?;
-    Ok(maps)
+    maps_with(alloc, n, tree, &[], &Exchange::Made(Images::Own), &order)
 }
 
 /// The maps of a move that has a result on the tree: for each leaf, in preorder, its place among the leaves of the result and the
@@ -211,26 +155,13 @@ pub fn move_maps(alloc: Global, n: u32, tree: &Tree, m: &Move) -> Result<LeafMap
     ensures { IfOk result (λ maps. maps_of maps ≡ move_maps n (shape_of tree.now) (move_of m.now)) }
 {
     let order = move_order(alloc, n, tree, m)?;
-    let root = Partition::singles(alloc, n)?;
-    let mut maps = LeafMaps::new(alloc);
     match m {
         Move::Rotate { .. } => {
-            push_leaves(alloc, tree, root, &Images::Own, order.as_slice(), &mut maps)?;
-            Ok(maps)
+            maps_with(alloc, n, tree, &[], &Exchange::Made(Images::Own), &order)
         }
         Move::Switch { path, u, v } => {
-            let steps = path.as_slice();
-            push_leaves_along(
-                alloc,
-                tree,
-                root,
-                steps,
-                *u,
-                *v,
-                order.as_slice(),
-                &mut maps,
-            )?;
-            Ok(maps)
+            let exchange = Exchange::Wanted { u: *u, v: *v };
+            maps_with(alloc, n, tree, path.as_slice(), &exchange, &order)
         }
     }
 }

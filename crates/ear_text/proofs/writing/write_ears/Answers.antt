@@ -1,10 +1,11 @@
 use Rattle.std.proofs.Common.{◌∙◌, ap, subst, sym, string_bytes, Vec, ℕ, Global, map, arith}
-use Rattle.line_text.specs.Format.{Stands, StandsAlone}
+use Rattle.line_text.specs.Format.{Stands}
+use Rattle.line_text.proofs.ExactlyOne.{StandsAlone-stands}
 use Rattle.ear_core.specs.View.{ears_of, step_of}
 use Rattle.ear_text.specs.EarFormat.{ear_format}
 use Rattle.ear_text.specs.Writing.{IsWritable}
 use Rattle.ear_text.proofs.TextSoFar.{ears_text-lines}
-use Rattle.ear_text.proofs.EarsReadBack.{Stands-ears_text, StandsAlone-ears_text}
+use Rattle.ear_text.proofs.EarsReadBack.{Stands-ears_text}
 use Rattle.ear_text.proofs.writing.write_ears.Goals as goal
 
 pub returns-clause-text : goal.returns-clause-text
@@ -20,16 +21,7 @@ returns-clause-stands c =
     let order = c.requires.order in
     let size = c.requires.size in
     let is : IsWritable n m list = record { order = omega arith; size = omega arith; fits = c.requires.fits; filled = c.requires.filled } in
-    let text = ap (λ (v : Vec ℕ Global). v.items) c.into_bytes.ensures.value ∙ ears_text-lines n m list (map step_of c.as_slice.result.now) (string_bytes c.in_ok-text.text) (string_bytes c.push_steps.new.text) (ap (map step_of) c.as_slice.ensures) c.in_ok-text.ensures.ok c.in_ok-push_steps.ensures in
-    subst (λ bytes. Stands (ear_format n m) bytes list) (sym text) (Stands-ears_text n m list is)
+    subst (λ bytes. Stands (ear_format n m) bytes list) (sym (returns-clause-text c)) (Stands-ears_text n m list is)
 
 pub returns-clause-alone : goal.returns-clause-alone
-returns-clause-alone c =
-    let n = c.args.n in
-    let m = c.args.m in
-    let list = ears_of c.args.list.now in
-    let order = c.requires.order in
-    let size = c.requires.size in
-    let is : IsWritable n m list = record { order = omega arith; size = omega arith; fits = c.requires.fits; filled = c.requires.filled } in
-    let text = ap (λ (v : Vec ℕ Global). v.items) c.into_bytes.ensures.value ∙ ears_text-lines n m list (map step_of c.as_slice.result.now) (string_bytes c.in_ok-text.text) (string_bytes c.push_steps.new.text) (ap (map step_of) c.as_slice.ensures) c.in_ok-text.ensures.ok c.in_ok-push_steps.ensures in
-    subst (λ bytes. StandsAlone (ear_format n m) bytes) (sym text) (StandsAlone-ears_text n m list is)
+returns-clause-alone c = StandsAlone-stands (ear_format c.args.n c.args.m) _ (ears_of c.args.list.now) (returns-clause-stands c)

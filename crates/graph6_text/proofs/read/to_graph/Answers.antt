@@ -1,11 +1,11 @@
-use Rattle.std.proofs.Common.{◌≡◌, ◌∙◌, length, map, ap, arith, subst, None}
+use Rattle.std.proofs.Common.{◌≡◌, ◌∙◌, ◌++◌, drop, length, map, ap, arith, subst, None}
 use Rattle.std.proofs.lemmas.List.{length-map}
 use Rattle.std.proofs.lemmas.Result.{err_from_is_err_and, IfOk-weaker, IfErr-weaker, on_ok_weaker}
 use Rattle.graph_core.specs.View.{pair_of}
 use Rattle.graph6_text.specs.Digits.{bits_of}
 use Rattle.graph6_text.specs.Pairs.{chosen, column_pairs}
 use Rattle.graph6_text.specs.Checks.{IsFirstFault, limit_row}
-use Rattle.graph6_text.specs.Reading.{first_fault}
+use Rattle.graph6_text.specs.Reading.{faults_of, first_fault}
 use Rattle.graph6_text.proofs.Passing.{formed, digits-data, enough_bits, padding_row, last_rows, graph-from_bits, is_first-front, is_first-behind, first_fault-append}
 use Rattle.graph6_text.proofs.read.to_graph.Goals as goal
 
@@ -39,28 +39,26 @@ returns-clause-graph c =
     (λ g e. e ∙ graph-from_bits c.args.body.now c.order-n.result (map pair_of c.deref-2.result.now) c.deref-3.result.now c.order-n.ensures pairs bits)
     c.with_edges.ensures.graph
 
-pub returns-clause-passed : goal.returns-clause-passed
-returns-clause-passed c =
+-- the rows of the last two tests, as the code has them
+rows : (c : goal.After-drop-pairs-2) → padding_row c.len.result c.deref.result.now ++ limit_row (chosen (map pair_of c.deref-2.result.now) c.deref-3.result.now) ≡ drop 9 (faults_of c.args.body.now)
+rows c =
     let pairs = ap (map pair_of) c.deref-2.ensures.value ∙ c.in_ok-pairs.ensures in
     let turned = c.in_ok-bits.ensures ∙ ap bits_of c.data.ensures in
     let same = ap length c.deref-2.ensures.value in
     let many = length-map c.deref-2.result.now pair_of in
+    last_rows c.args.body.now c.order-n.result c.len.result (map pair_of c.deref-2.result.now) c.deref.result.now c.deref-3.result.now
+    c.order-n.ensures pairs (omega arith) (c.deref.ensures.value ∙ turned) (c.deref-3.ensures.value ∙ turned)
+
+pub returns-clause-passed : goal.returns-clause-passed
+returns-clause-passed c =
     let edges = chosen (map pair_of c.deref-2.result.now) c.deref-3.result.now in
-    on_ok_weaker c.with_edges.result (λ none. subst (λ rows. first_fault rows ≡ None)
-    (last_rows c.args.body.now c.order-n.result c.len.result (map pair_of c.deref-2.result.now) c.deref.result.now c.deref-3.result.now
-    c.order-n.ensures pairs (omega arith) (c.deref.ensures.value ∙ turned) (c.deref-3.ensures.value ∙ turned))
+    on_ok_weaker c.with_edges.result (λ none. subst (λ rows. first_fault rows ≡ None) (rows c)
     (first_fault-append (padding_row c.len.result c.deref.result.now) (limit_row edges) c.in_ok-check_filling.ensures ∙ none))
     c.with_edges.ensures.within
 
 pub returns-clause-fault : goal.returns-clause-fault
 returns-clause-fault c =
-    let pairs = ap (map pair_of) c.deref-2.ensures.value ∙ c.in_ok-pairs.ensures in
-    let turned = c.in_ok-bits.ensures ∙ ap bits_of c.data.ensures in
-    let same = ap length c.deref-2.ensures.value in
-    let many = length-map c.deref-2.result.now pair_of in
     let edges = chosen (map pair_of c.deref-2.result.now) c.deref-3.result.now in
-    IfErr-weaker c.with_edges.result _ _ (λ e h. subst (λ rows. IsFirstFault rows e)
-    (last_rows c.args.body.now c.order-n.result c.len.result (map pair_of c.deref-2.result.now) c.deref.result.now c.deref-3.result.now
-    c.order-n.ensures pairs (omega arith) (c.deref.ensures.value ∙ turned) (c.deref-3.ensures.value ∙ turned))
+    IfErr-weaker c.with_edges.result _ _ (λ e h. subst (λ rows. IsFirstFault rows e) (rows c)
     (is_first-behind (padding_row c.len.result c.deref.result.now) (limit_row edges) e c.in_ok-check_filling.ensures h))
     c.with_edges.ensures.limit

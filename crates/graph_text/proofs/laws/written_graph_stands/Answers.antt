@@ -1,6 +1,7 @@
+use Rattle.line_text.proofs.ExactlyOne.{StandsAlone-stands}
 use Rattle.graph_text.specs.VersionOne.{version_one}
 use Rattle.graph_text.specs.Writing.{graph_text}
-use Rattle.graph_text.proofs.VersionOneReadBack.{Stands-graph_text, StandsAlone-stands}
+use Rattle.graph_text.proofs.VersionOneReadBack.{Stands-graph_text}
 use Rattle.graph_text.proofs.laws.written_graph_stands.Goals as goal
 
 pub returns : goal.returns

@@ -1,11 +1,12 @@
 use Rattle.std.proofs.Common.{◌≡◌, ◌+◌, ◌-◌, ◌<◌, [], ◌∷◌, ◌++◌, ℕ, List, length, get_or, subst, sym, ◌∙◌, ap, ap₂, arith, Vec, Global}
-use Rattle.line_text.specs.Format.{Stands, StandsAlone}
+use Rattle.line_text.specs.Format.{Stands}
 use Rattle.line_text.specs.Words.{written}
 use Rattle.graph_text.specs.VersionOne.{version_one, FitsVersionOne}
-use Rattle.graph_text.specs.Writing.{edge_words, header_words, graph_text}
+use Rattle.graph_text.specs.Writing.{edge_words, header_words}
+use Rattle.line_text.proofs.ExactlyOne.{StandsAlone-stands}
 use Rattle.line_text.proofs.WrittenLines.{written-more}
 use Rattle.graph_text.proofs.TextSoFar.{graph_text-by_edges}
-use Rattle.graph_text.proofs.VersionOneReadBack.{Stands-graph_text, StandsAlone-stands}
+use Rattle.graph_text.proofs.VersionOneReadBack.{Stands-graph_text}
 use Rattle.graph_text.proofs.writing.write_graph.Goals as goal
 
 pub loop-i-preserved : goal.loop-i-preserved
@@ -28,11 +29,7 @@ returns-clause-text c =
 pub returns-clause-stands : goal.returns-clause-stands
 returns-clause-stands c =
     let fits : FitsVersionOne c.args.g.now = record { multigraph = c.keeps_limits.ensures.multigraph; vertices = c.requires.vertices; edges = c.requires.edges } in
-    let text = ap (λ (v : Vec ℕ Global). v.items) c.into_bytes.ensures.value ∙ c.loop-i.invariant ∙ graph_text-by_edges c.args.g.now c.order-order.result c.size-size.result c.loop-i.i c.order-order.ensures.is c.size-size.ensures.is c.loop-i-test.false in
-    subst (λ t. Stands version_one t c.args.g.now) (sym text) (Stands-graph_text c.args.g.now fits)
+    subst (λ t. Stands version_one t c.args.g.now) (sym (returns-clause-text c)) (Stands-graph_text c.args.g.now fits)
 
 pub returns-clause-alone : goal.returns-clause-alone
-returns-clause-alone c =
-    let fits : FitsVersionOne c.args.g.now = record { multigraph = c.keeps_limits.ensures.multigraph; vertices = c.requires.vertices; edges = c.requires.edges } in
-    let text = ap (λ (v : Vec ℕ Global). v.items) c.into_bytes.ensures.value ∙ c.loop-i.invariant ∙ graph_text-by_edges c.args.g.now c.order-order.result c.size-size.result c.loop-i.i c.order-order.ensures.is c.size-size.ensures.is c.loop-i-test.false in
-    subst (λ t. StandsAlone version_one t) (sym text) (StandsAlone-stands version_one (graph_text c.args.g.now) c.args.g.now (Stands-graph_text c.args.g.now fits))
+returns-clause-alone c = StandsAlone-stands version_one _ c.args.g.now (returns-clause-stands c)

@@ -1,12 +1,12 @@
 use Rattle.std.proofs.Common.{◌≡◌, ◌+◌, ◌-◌, ◌<◌, [], ◌∷◌, ◌++◌, ℕ, List, length, get_or, map, subst, sym, ◌∙◌, ap, ap₂, arith, Vec, Global, Some}
-use Rattle.line_text.specs.Format.{Stands, StandsAlone}
+use Rattle.line_text.specs.Format.{Stands}
 use Rattle.line_text.specs.Words.{written}
 use Rattle.graph_text.specs.EitherVersion.{either_version}
-use Rattle.graph_text.specs.Writing.{name_words, named_edge_words, named_header_words, named_text, FitsNames}
+use Rattle.graph_text.specs.Writing.{name_words, named_edge_words, named_header_words, FitsNames}
+use Rattle.line_text.proofs.ExactlyOne.{StandsAlone-stands}
 use Rattle.line_text.proofs.WrittenLines.{written-more}
 use Rattle.graph_text.proofs.TextSoFar.{named_text-by_edges}
 use Rattle.graph_text.proofs.NamedReadBack.{Stands-named_text}
-use Rattle.graph_text.proofs.VersionOneReadBack.{StandsAlone-stands}
 use Rattle.graph_text.proofs.writing.write_named.Goals as goal
 
 pub loop-k-preserved : goal.loop-k-preserved
@@ -40,12 +40,7 @@ pub returns-clause-stands : goal.returns-clause-stands
 returns-clause-stands c =
     let limits = c.keeps_limits.ensures in
     let fits : FitsNames c.args.g.now c.args.names.now = record { multigraph = limits.multigraph; edges = limits.edges; named = c.are_names.ensures; one_each = c.requires } in
-    let text = ap (λ (v : Vec ℕ Global). v.items) c.into_bytes.ensures.value ∙ c.loop-i.invariant ∙ named_text-by_edges c.args.g.now c.args.names.now c.order-order.result c.size-size.result c.loop-i.i c.order-order.ensures.is c.size-size.ensures.is c.loop-i-test.false in
-    subst (λ t. Stands either_version t (record { graph = c.args.g.now; names = Some c.args.names.now })) (sym text) (Stands-named_text c.args.g.now c.args.names.now fits)
+    subst (λ t. Stands either_version t (record { graph = c.args.g.now; names = Some c.args.names.now })) (sym (returns-clause-text c)) (Stands-named_text c.args.g.now c.args.names.now fits)
 
 pub returns-clause-alone : goal.returns-clause-alone
-returns-clause-alone c =
-    let limits = c.keeps_limits.ensures in
-    let fits : FitsNames c.args.g.now c.args.names.now = record { multigraph = limits.multigraph; edges = limits.edges; named = c.are_names.ensures; one_each = c.requires } in
-    let text = ap (λ (v : Vec ℕ Global). v.items) c.into_bytes.ensures.value ∙ c.loop-i.invariant ∙ named_text-by_edges c.args.g.now c.args.names.now c.order-order.result c.size-size.result c.loop-i.i c.order-order.ensures.is c.size-size.ensures.is c.loop-i-test.false in
-    subst (λ t. StandsAlone either_version t) (sym text) (StandsAlone-stands either_version (named_text c.args.g.now c.args.names.now) (record { graph = c.args.g.now; names = Some c.args.names.now }) (Stands-named_text c.args.g.now c.args.names.now fits))
+returns-clause-alone c = StandsAlone-stands either_version _ (record { graph = c.args.g.now; names = Some c.args.names.now }) (returns-clause-stands c)

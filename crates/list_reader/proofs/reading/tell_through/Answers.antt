@@ -1,6 +1,7 @@
 use Rattle.std.proofs.Common.{◌≡◌, [], take, rules, arith}
 use Rattle.outside.specs.Source.{prepended, IsEnd}
-use Rattle.list_reader.proofs.Readings.{so_far_none, so_far_piece, so_far_stops, so_far_end, so_far_memory, so_far_fault}
+use Rattle.list_reader.specs.declared.ending.Ending.TheVariants.{ReadFault, Memory}
+use Rattle.list_reader.proofs.Readings.{so_far_none, so_far_piece, so_far_stops, so_far_end, so_far_begun}
 use Rattle.list_reader.proofs.reading.tell_through.Goals as goal
 
 pub reading-init : goal.reading-init
@@ -22,9 +23,9 @@ reading-preserved g c = record {
 
 pub returns-in-Err-clause-tells : goal.returns-in-Err-clause-tells
 returns-in-Err-clause-tells g c =
-    so_far_fault (g.T.LineTeller.tells c.args.teller.now) (g.T.LineTeller.bad c.args.teller.now) c.reading.listing.lines
-    c.reading.listing.held.items (g.S.Source.left c.args.source.now) (g.S.Source.left c.reading.source) (g.S.Source.left c.read.new.self)
-    (g.K.Sink.written c.args.sink.now) (g.K.Sink.written c.reading.sink) c.reading.invariant.so_far c.in-Err.ensures.untaken
+    so_far_begun (g.T.LineTeller.tells c.args.teller.now) (g.T.LineTeller.bad c.args.teller.now) ReadFault (λ lines output told. told) c.reading.listing.lines
+    c.reading.listing.held.items (g.S.Source.left c.args.source.now) (g.S.Source.left c.reading.source)
+    (g.K.Sink.written c.args.sink.now) (g.K.Sink.written c.reading.sink) c.reading.invariant.so_far
 
 pub returns-in-Ok-eq0-clause-tells : goal.returns-in-Ok-eq0-clause-tells
 returns-in-Ok-eq0-clause-tells g c =
@@ -44,6 +45,6 @@ returns-in-Err-take_piece-clause-tells g c =
 
 pub returns-clause-tells : goal.returns-clause-tells
 returns-clause-tells g c =
-    so_far_memory (g.T.LineTeller.tells c.args.teller.now) (g.T.LineTeller.bad c.args.teller.now) c.reading.listing.lines
+    so_far_begun (g.T.LineTeller.tells c.args.teller.now) (g.T.LineTeller.bad c.args.teller.now) Memory (λ lines output told. told) c.reading.listing.lines
     c.reading.listing.held.items (g.S.Source.left c.args.source.now) (g.S.Source.left c.reading.source)
     (g.K.Sink.written c.args.sink.now) (g.K.Sink.written c.reading.sink) c.reading.invariant.so_far

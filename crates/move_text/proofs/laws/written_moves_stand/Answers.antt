@@ -1,5 +1,8 @@
-use Rattle.move_text.proofs.MovesReadBack.{Stands-moves_text, StandsAlone-moves_text}
+use Rattle.line_text.proofs.ExactlyOne.{StandsAlone-stands}
+use Rattle.move_text.specs.MoveFormat.{move_format}
+use Rattle.move_text.specs.Writing.{moves_text}
+use Rattle.move_text.proofs.MovesReadBack.{Stands-moves_text}
 use Rattle.move_text.proofs.laws.written_moves_stand.Goals as goal
 
 pub returns : goal.returns
-returns c = record { stands = Stands-moves_text; alone = StandsAlone-moves_text }
+returns c = record { stands = Stands-moves_text; alone = λ n moves is. StandsAlone-stands (move_format n) (moves_text n moves) moves (Stands-moves_text n moves is) }

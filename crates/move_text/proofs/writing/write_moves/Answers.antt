@@ -2,14 +2,15 @@ use Rattle.std.proofs.Common.{◌≡◌, ◌<◌, ◌≤◌, ◌^◌, [], ◌∷
 use Rattle.std.specs.List.{AllByRecursion}
 use Rattle.std.proofs.lemmas.List.{length-map}
 use Rattle.std.proofs.lemmas.Option.{get_or_from_slice_get}
-use Rattle.line_text.specs.Format.{Stands, StandsAlone}
+use Rattle.line_text.specs.Format.{Stands}
 use Rattle.line_text.specs.Words.{written}
+use Rattle.line_text.proofs.ExactlyOne.{StandsAlone-stands}
 use Rattle.line_text.proofs.WrittenLines.{written-more}
 use Rattle.tree_core.specs.declared.moves.Move.{Move}
 use Rattle.tree_core.specs.MoveView.{move_of, moves_of}
 use Rattle.move_text.specs.MoveFormat.{move_format, most_moves}
 use Rattle.move_text.specs.Writing.{header_words, move_words, HasShortPath, HasSets, SetsRise, IsWritable}
-use Rattle.move_text.proofs.MovesReadBack.{Stands-moves_text, StandsAlone-moves_text}
+use Rattle.move_text.proofs.MovesReadBack.{Stands-moves_text}
 use Rattle.move_text.proofs.TextSoFar.{all-next, moves_text-by_moves}
 use Rattle.move_text.proofs.writing.write_moves.Goals as goal
 
@@ -50,15 +51,7 @@ returns-clause-stands c =
     let order = c.requires.order in
     let all = take_all c.loop-i.i c.args.moves.now (let end = c.len-i-end.ensures in let test = c.loop-i-test.false in omega arith) in
     let is : IsWritable n moves = writable n c.args.moves.now c.loop-i.i (omega arith) c.requires.few c.requires.paths c.requires.sets all c.loop-i.invariant.rising in
-    let text = ap (λ (v : Vec ℕ Global). v.items) c.into_bytes.ensures.value ∙ c.loop-i.invariant.text ∙ moves_text-by_moves n c.args.moves.now c.loop-i.i (let end = c.len-i-end.ensures in let test = c.loop-i-test.false in omega arith) in
-    subst (λ bytes. Stands (move_format n) bytes moves) (sym text) (Stands-moves_text n moves is)
+    subst (λ bytes. Stands (move_format n) bytes moves) (sym (returns-clause-text c)) (Stands-moves_text n moves is)
 
 pub returns-clause-alone : goal.returns-clause-alone
-returns-clause-alone c =
-    let n = c.args.n in
-    let moves = moves_of c.args.moves.now in
-    let order = c.requires.order in
-    let all = take_all c.loop-i.i c.args.moves.now (let end = c.len-i-end.ensures in let test = c.loop-i-test.false in omega arith) in
-    let is : IsWritable n moves = writable n c.args.moves.now c.loop-i.i (omega arith) c.requires.few c.requires.paths c.requires.sets all c.loop-i.invariant.rising in
-    let text = ap (λ (v : Vec ℕ Global). v.items) c.into_bytes.ensures.value ∙ c.loop-i.invariant.text ∙ moves_text-by_moves n c.args.moves.now c.loop-i.i (let end = c.len-i-end.ensures in let test = c.loop-i-test.false in omega arith) in
-    subst (λ bytes. StandsAlone (move_format n) bytes) (sym text) (StandsAlone-moves_text n moves is)
+returns-clause-alone c = StandsAlone-stands (move_format c.args.n) _ (moves_of c.args.moves.now) (returns-clause-stands c)

@@ -1,5 +1,8 @@
-use Rattle.tree_text.proofs.TreeReadBack.{Stands-tree_text, StandsAlone-tree_text}
+use Rattle.line_text.proofs.ExactlyOne.{StandsAlone-stands}
+use Rattle.tree_text.specs.TreeFormat.{tree_format}
+use Rattle.tree_text.specs.Writing.{tree_text}
+use Rattle.tree_text.proofs.TreeReadBack.{Stands-tree_text}
 use Rattle.tree_text.proofs.laws.written_tree_stands.Goals as goal
 
 pub returns : goal.returns
-returns c = record { stands = Stands-tree_text; alone = StandsAlone-tree_text }
+returns c = record { stands = Stands-tree_text; alone = λ n t is. StandsAlone-stands (tree_format n) (tree_text n t) t (Stands-tree_text n t is) }

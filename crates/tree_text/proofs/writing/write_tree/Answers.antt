@@ -1,10 +1,11 @@
 use Rattle.std.proofs.Common.{◌∙◌, ℕ, ap, subst, sym, string_bytes, Vec, Global, arith}
-use Rattle.line_text.specs.Format.{Stands, StandsAlone}
+use Rattle.line_text.specs.Format.{Stands}
+use Rattle.line_text.proofs.ExactlyOne.{StandsAlone-stands}
 use Rattle.tree_core.specs.View.{shape_of}
 use Rattle.tree_text.specs.TreeFormat.{tree_format}
 use Rattle.tree_text.specs.Writing.{IsWritable}
 use Rattle.tree_text.proofs.TextSoFar.{tree_text-lines}
-use Rattle.tree_text.proofs.TreeReadBack.{Stands-tree_text, StandsAlone-tree_text}
+use Rattle.tree_text.proofs.TreeReadBack.{Stands-tree_text}
 use Rattle.tree_text.proofs.writing.write_tree.Goals as goal
 
 pub returns-clause-text : goal.returns-clause-text
@@ -18,14 +19,7 @@ returns-clause-stands c =
     let t = shape_of c.args.tree.now in
     let limit = c.requires.order in
     let is : IsWritable n t = record { order = omega arith; fits = c.requires.fits; vertices = c.requires.vertices; rising = c.in_ok-push_nodes.ensures.rising; few = c.requires.few } in
-    let text = ap (λ (v : Vec ℕ Global). v.items) c.into_bytes.ensures.value ∙ tree_text-lines n t (string_bytes c.in_ok-text.text) (string_bytes c.push_nodes.new.text) c.in_ok-text.ensures.ok c.in_ok-push_nodes.ensures.text in
-    subst (λ bytes. Stands (tree_format n) bytes t) (sym text) (Stands-tree_text n t is)
+    subst (λ bytes. Stands (tree_format n) bytes t) (sym (returns-clause-text c)) (Stands-tree_text n t is)
 
 pub returns-clause-alone : goal.returns-clause-alone
-returns-clause-alone c =
-    let n = c.args.n in
-    let t = shape_of c.args.tree.now in
-    let limit = c.requires.order in
-    let is : IsWritable n t = record { order = omega arith; fits = c.requires.fits; vertices = c.requires.vertices; rising = c.in_ok-push_nodes.ensures.rising; few = c.requires.few } in
-    let text = ap (λ (v : Vec ℕ Global). v.items) c.into_bytes.ensures.value ∙ tree_text-lines n t (string_bytes c.in_ok-text.text) (string_bytes c.push_nodes.new.text) c.in_ok-text.ensures.ok c.in_ok-push_nodes.ensures.text in
-    subst (λ bytes. StandsAlone (tree_format n) bytes) (sym text) (StandsAlone-tree_text n t is)
+returns-clause-alone c = StandsAlone-stands (tree_format c.args.n) _ (shape_of c.args.tree.now) (returns-clause-stands c)

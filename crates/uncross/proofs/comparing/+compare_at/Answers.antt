@@ -17,9 +17,9 @@ compare_at-requires t c =
     c.keeps_limits.ensures.multigraph.ends c.requires.order c.keeps_partition.ensures.partition c.requires.covered (ap shape_of c.in-Cut.is) c.requires.first c.requires.second
     (shape_of c.in_ok-tree-in-Cut.field-0.tree) c.in-Cut-tree.shore (shape_of c.in-Cut-tree.first_kept.value) (shape_of c.in-Cut-tree.first_merged.value) (moves_of c.in-Some.exposing) (ap shape_of c.in-Cut-tree.is)
     (subst (λ o. IsExposed c.args.g.now c.args.p.now.blocks (shape_of c.args.first) (Some c.in-Cut.shore) (shape_of c.in_ok-tree-in-Cut.field-0.tree) (option_map moves_of o)) c.in-Some.is c.in_ok-tree-in-Cut.ensures)
-    c.in_ok-kept_at-in-Cut-tree.kept_at.blocks (shape_of c.into_inner.result) (shape_of c.deref.result.now) c.in_ok-kept_at-in-Cut-tree.ensures.blocks (ap shape_of c.into_inner.ensures) (ap shape_of c.deref.ensures) in
+    c.in_ok-q-in-Cut-tree.q.blocks (shape_of c.into_inner.result) (shape_of c.deref.result.now) c.in_ok-q-in-Cut-tree.ensures.blocks (ap shape_of c.into_inner.ensures) (ap shape_of c.deref.ensures) in
     let below = ap (λ (s : Tree). node_count (shape_of s)) c.deref.ensures in let whole = ap (λ (s : Tree). node_count (shape_of s)) c.in-Cut.is in let size = c.decreases in
-    (omega arith, (c.in_ok-kept_at-in-Cut-tree.ensures.order, (c.in_ok-kept_at-in-Cut-tree.ensures.covered, asks)))
+    (omega arith, (c.in_ok-q-in-Cut-tree.ensures.order, (c.in_ok-q-in-Cut-tree.ensures.covered, asks)))
 
 pub compare_at-requires-in-Cut-tree : goal.compare_at-requires-in-Cut-tree
 compare_at-requires-in-Cut-tree t c =
@@ -27,9 +27,9 @@ compare_at-requires-in-Cut-tree t c =
     c.keeps_limits.ensures.multigraph.ends c.requires.order c.keeps_partition.ensures.partition c.requires.covered (ap shape_of c.in-Cut.is) c.requires.first c.requires.second
     (shape_of c.in_ok-tree-in-Cut.field-0.tree) c.in-Cut-tree.shore (shape_of c.in-Cut-tree.first_kept.value) (shape_of c.in-Cut-tree.first_merged.value) (moves_of c.in-Some.exposing) (ap shape_of c.in-Cut-tree.is)
     (subst (λ o. IsExposed c.args.g.now c.args.p.now.blocks (shape_of c.args.first) (Some c.in-Cut.shore) (shape_of c.in_ok-tree-in-Cut.field-0.tree) (option_map moves_of o)) c.in-Some.is c.in_ok-tree-in-Cut.ensures)
-    c.in_ok-merged_at-in-Cut-tree.merged_at.blocks (shape_of c.into_inner-in-Cut-tree.result) (shape_of c.deref-in-Cut-tree.result.now) c.in_ok-merged_at-in-Cut-tree.ensures.blocks (ap shape_of c.into_inner-in-Cut-tree.ensures) (ap shape_of c.deref-in-Cut-tree.ensures) in
+    c.in_ok-q-in-Cut-tree-2.q.blocks (shape_of c.into_inner-in-Cut-tree.result) (shape_of c.deref-in-Cut-tree.result.now) c.in_ok-q-in-Cut-tree-2.ensures.blocks (ap shape_of c.into_inner-in-Cut-tree.ensures) (ap shape_of c.deref-in-Cut-tree.ensures) in
     let below = ap (λ (s : Tree). node_count (shape_of s)) c.deref-in-Cut-tree.ensures in let whole = ap (λ (s : Tree). node_count (shape_of s)) c.in-Cut.is in let size = c.decreases in
-    (omega arith, (c.in_ok-merged_at-in-Cut-tree.ensures.order, (c.in_ok-merged_at-in-Cut-tree.ensures.covered, asks)))
+    (omega arith, (c.in_ok-q-in-Cut-tree-2.ensures.order, (c.in_ok-q-in-Cut-tree-2.ensures.covered, asks)))
 
 pub returns-in-Leaf-clause-script : goal.returns-in-Leaf-clause-script
 returns-in-Leaf-clause-script t c =
@@ -44,10 +44,10 @@ returns-in_ok-append_below-in-Cut-tree-2-clause-script t c =
     c.keeps_limits.ensures.multigraph.ends c.requires.order c.keeps_partition.ensures.partition c.requires.covered (ap shape_of c.in-Cut.is) c.requires.first c.requires.second
     (shape_of c.in_ok-tree-in-Cut.field-0.tree) c.in-Cut-tree.shore (shape_of c.in-Cut-tree.first_kept.value) (shape_of c.in-Cut-tree.first_merged.value) (moves_of c.in-Some.exposing) (ap shape_of c.in-Cut-tree.is)
     (subst (λ o. IsExposed c.args.g.now c.args.p.now.blocks (shape_of c.args.first) (Some c.in-Cut.shore) (shape_of c.in_ok-tree-in-Cut.field-0.tree) (option_map moves_of o)) c.in-Some.is c.in_ok-tree-in-Cut.ensures)
-    c.in_ok-kept_at-in-Cut-tree.kept_at.blocks c.in_ok-merged_at-in-Cut-tree.merged_at.blocks (moves_of c.in_ok-below_kept-in-Cut-tree.below_kept) (moves_of c.in_ok-below_merged-in-Cut-tree.below_merged)
+    c.in_ok-q-in-Cut-tree.q.blocks c.in_ok-q-in-Cut-tree-2.q.blocks (moves_of c.in_ok-below-in-Cut-tree.below) (moves_of c.in_ok-below-in-Cut-tree-2.below)
     (shape_of c.into_inner.result) (shape_of c.deref.result.now) (shape_of c.into_inner-in-Cut-tree.result) (shape_of c.deref-in-Cut-tree.result.now)
-    c.in_ok-kept_at-in-Cut-tree.ensures.blocks c.in_ok-merged_at-in-Cut-tree.ensures.blocks (ap shape_of c.into_inner.ensures) (ap shape_of c.deref.ensures) (ap shape_of c.into_inner-in-Cut-tree.ensures) (ap shape_of c.deref-in-Cut-tree.ensures)
-    c.in_ok-below_kept-in-Cut-tree.ensures.script c.in_ok-below_merged-in-Cut-tree.ensures.script c.in_ok-below_kept-in-Cut-tree.ensures.few c.in_ok-below_merged-in-Cut-tree.ensures.few)
+    c.in_ok-q-in-Cut-tree.ensures.blocks c.in_ok-q-in-Cut-tree-2.ensures.blocks (ap shape_of c.into_inner.ensures) (ap shape_of c.deref.ensures) (ap shape_of c.into_inner-in-Cut-tree.ensures) (ap shape_of c.deref-in-Cut-tree.ensures)
+    c.in_ok-below-in-Cut-tree.ensures.script c.in_ok-below-in-Cut-tree-2.ensures.script c.in_ok-below-in-Cut-tree.ensures.few c.in_ok-below-in-Cut-tree-2.ensures.few)
 
 pub returns-in_ok-append_below-in-Cut-tree-2-clause-few : goal.returns-in_ok-append_below-in-Cut-tree-2-clause-few
 returns-in_ok-append_below-in-Cut-tree-2-clause-few t c =
@@ -57,7 +57,7 @@ returns-in_ok-append_below-in-Cut-tree-2-clause-few t c =
     c.keeps_limits.ensures.multigraph.ends c.requires.order c.keeps_partition.ensures.partition c.requires.covered (ap shape_of c.in-Cut.is) c.requires.first c.requires.second
     (shape_of c.in_ok-tree-in-Cut.field-0.tree) c.in-Cut-tree.shore (shape_of c.in-Cut-tree.first_kept.value) (shape_of c.in-Cut-tree.first_merged.value) (moves_of c.in-Some.exposing) (ap shape_of c.in-Cut-tree.is)
     (subst (λ o. IsExposed c.args.g.now c.args.p.now.blocks (shape_of c.args.first) (Some c.in-Cut.shore) (shape_of c.in_ok-tree-in-Cut.field-0.tree) (option_map moves_of o)) c.in-Some.is c.in_ok-tree-in-Cut.ensures)
-    c.in_ok-kept_at-in-Cut-tree.kept_at.blocks c.in_ok-merged_at-in-Cut-tree.merged_at.blocks (moves_of c.in_ok-below_kept-in-Cut-tree.below_kept) (moves_of c.in_ok-below_merged-in-Cut-tree.below_merged)
+    c.in_ok-q-in-Cut-tree.q.blocks c.in_ok-q-in-Cut-tree-2.q.blocks (moves_of c.in_ok-below-in-Cut-tree.below) (moves_of c.in_ok-below-in-Cut-tree-2.below)
     (shape_of c.into_inner.result) (shape_of c.deref.result.now) (shape_of c.into_inner-in-Cut-tree.result) (shape_of c.deref-in-Cut-tree.result.now)
-    c.in_ok-kept_at-in-Cut-tree.ensures.blocks c.in_ok-merged_at-in-Cut-tree.ensures.blocks (ap shape_of c.into_inner.ensures) (ap shape_of c.deref.ensures) (ap shape_of c.into_inner-in-Cut-tree.ensures) (ap shape_of c.deref-in-Cut-tree.ensures)
-    c.in_ok-below_kept-in-Cut-tree.ensures.script c.in_ok-below_merged-in-Cut-tree.ensures.script c.in_ok-below_kept-in-Cut-tree.ensures.few c.in_ok-below_merged-in-Cut-tree.ensures.few)
+    c.in_ok-q-in-Cut-tree.ensures.blocks c.in_ok-q-in-Cut-tree-2.ensures.blocks (ap shape_of c.into_inner.ensures) (ap shape_of c.deref.ensures) (ap shape_of c.into_inner-in-Cut-tree.ensures) (ap shape_of c.deref-in-Cut-tree.ensures)
+    c.in_ok-below-in-Cut-tree.ensures.script c.in_ok-below-in-Cut-tree-2.ensures.script c.in_ok-below-in-Cut-tree.ensures.few c.in_ok-below-in-Cut-tree-2.ensures.few)

@@ -1,0 +1,16 @@
+-- What a move does at the end of its path, as a partial function on plain trees.
+use Rattle.std.specs.Prelude.{Option}
+use Rattle.tree_core.specs.Moves.{rotate_result_at, switch_result_at}
+use Rattle.tree_core.specs.Shapes.{Fits, Shape}
+use Rattle.tree_core.specs.declared.turns.Turn.{Turn}
+use Rattle.tree_core.specs.declared.turns.Turn.TheVariants.{Rotate, Switch}
+
+-- the tree that it makes
+abbrev pub turn_result : Turn → Shape → Option Shape
+turn_result (Rotate side) = rotate_result_at side
+turn_result (Switch n u v) = switch_result_at n u v
+
+-- where it may be asked for
+abbrev pub MayTurn : Turn → Shape → Type 0
+MayTurn (Rotate side) t = Unit {0}
+MayTurn (Switch n u v) t = Fits n t

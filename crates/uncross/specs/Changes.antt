@@ -1,0 +1,11 @@
+-- The order of the leaves that a move gives at the end of its path.
+use Rattle.std.specs.Prelude.{ℕ, List}
+use Rattle.tree_core.specs.LeafMaps.{rotate_order, switch_order}
+use Rattle.tree_core.specs.Shapes.{Shape}
+use Rattle.uncross.specs.declared.leaf_orders.Change.{Change}
+use Rattle.uncross.specs.declared.leaf_orders.Change.TheVariants.{Rotate, Switch}
+
+-- the old numbers of the leaves of the tree there, in their new order; k leaves stand before
+abbrev pub changed_order : Change → ℕ → Shape → List ℕ
+changed_order (Rotate side) = rotate_order side
+changed_order (Switch n u v) = switch_order n u v
