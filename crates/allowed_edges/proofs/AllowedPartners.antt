@@ -2,12 +2,13 @@
 -- maximum matching is perfect.
 -- A perfect matching with the edge, less the edge, is perfect without its ends, and back. A perfect matching is as large as any.
 use Rattle.std.proofs.Common.{◌≡◌, ◌↔◌, ℕ, ◌==◌, ◌&&◌, ◌||◌, not, Bool, true, false, List, refl, sym, ap, ◌∙◌, arith, subst, ne_eqb, eq-eqb}
+use Rattle.counting.proofs.Booleans.{same_tests}
 use Rattle.std.proofs.lemmas.Bool.{or_right}
 use Rattle.counting.specs.Counts.{Within}
 use Rattle.counting.specs.Lists.{Lists, item, mem, rising_list}
 use Rattle.counting.specs.Sets.{Set, none, pair_set}
 use Rattle.counting.proofs.Lists.{rising_only}
-use Rattle.counting.proofs.RisingLists.{mem-rising_list, rising_list-rises, same_answers}
+use Rattle.counting.proofs.RisingLists.{mem-rising_list, rising_list-rises}
 use Rattle.graph_core.specs.Graph.{Graph, IsGraph, IsMultigraph, first_end, second_end, size}
 use Rattle.graph_core.specs.Matchings.{Allowed, HasPerfect, IsMaximum, has_perfect, is_allowed, missed_count}
 use Rattle.graph_core.proofs.Decide.{has_perfect_found, has_perfect_says, is_allowed_found, is_allowed_says}
@@ -31,7 +32,7 @@ module _ (g : Graph) (is : IsMultigraph g) (e : ℕ) (we : Within (size g) e) wh
 
   pub partners-allowed : are_partners g none (first_end g e) (second_end g e) ≡ is_allowed g e
   partners-allowed = without_itself (first_end g e == second_end g e) (has_perfect g (pair_set (first_end g e) (second_end g e))) (ne_eqb (first_end g e) (second_end g e) (is.no_loop e we))
-      ∙ same_answers _ _
+      ∙ same_tests _ _
       (λ t. is_allowed_found g e we (perfect-allowed (has_perfect_says g (pair_set (first_end g e) (second_end g e)) t)))
       (λ t. has_perfect_found g (pair_set (first_end g e) (second_end g e)) (allowed-perfect (is_allowed_says g e t)))
     where

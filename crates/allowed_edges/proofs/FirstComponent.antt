@@ -9,6 +9,7 @@ use Rattle.counting.specs.Sets.{Set, none}
 use Rattle.counting.specs.Tests.{IsLeastWithout, some}
 use Rattle.counting.proofs.RisingLists.{mem-rising_list}
 use Rattle.counting.proofs.Tests.{some_true}
+use Rattle.counting.proofs.Booleans.{but_fails_second}
 use Rattle.graph_core.specs.Components.{IsConnected, components, is_least}
 use Rattle.graph_core.specs.Graph.{Graph, IsGraph}
 use Rattle.graph_core.specs.Walks.{Joined, joined}
@@ -65,10 +66,7 @@ module _ (g : Graph) (is : IsGraph g) (l : 1 ≤ g.order) (nothing : List ℕ) (
 
   -- a vertex that is not one of the others
   reached : (w : ℕ) → Within g.order w → mem others w ≡ false → Joined g none 1 w
-  reached w ww h = in_first g is l w ww (inside (mem all w) (mem (rising_list g.order (joined g none 1)) w) ((full w).1 ww) (sym (outside w) ∙ h))
-    where
-      inside : (a c : Bool) → a ≡ true → (a && not c) ≡ false → c ≡ true
-      inside a c p q = grind arith
+  reached w ww h = in_first g is l w ww (but_fails_second (mem all w) (mem (rising_list g.order (joined g none 1)) w) ((full w).1 ww) (sym (outside w) ∙ h))
 
   -- the least of the others is the least that no walk joins to 1
   pub first_apart : (b : ℕ) → IsLeastOf others b → IsLeastWithout g.order (Joined g none 1) b

@@ -7,6 +7,7 @@ use Rattle.std.proofs.lemmas.Bool.{cases_eq}
 use Rattle.std.proofs.lemmas.List.{get_or-map, get_or-set_same, get_or-set_other, length-map, map-set}
 use Rattle.std.proofs.lemmas.List.Elements.{All-head, All-tail}
 use Rattle.counting.specs.Lists.{mem, row_of}
+use Rattle.counting.proofs.Booleans.{or_false}
 use Rattle.match_core.proofs.Marks.{no-marks}
 use Rattle.match_core.specs.Rows.{marks}
 use Rattle.match_core.specs.declared.matching.MatchRow.{MatchRow}
@@ -68,7 +69,7 @@ module _ (old now after : List (List Bool)) (rows : List MatchRow) (i : ℕ) (ro
         | inl q ↦ ap (λ d. marks (row_of after d) f) q ∙ marked f ∙ ap (λ d. marks (row_of now d) f || m f) (sym q) ∙ ap (λ b. b || m f) (before e f)
             ∙ with_it (marks (row_of old e) f) (mem (map edge_of (take i rows)) e) (m f) ∙ sym (ap (λ b. marks (row_of old e) f || (b && m f)) (taken ∙ ap (λ b. mem (map edge_of (take i rows)) e || b) (eq-eqb row.edge e (sym q))))
         | inr d ↦ ap (λ (r : List Bool). marks r f) (others e d) ∙ before e f
-            ∙ ap (λ b. marks (row_of old e) f || (b && m f)) (sym (or_no (mem (map edge_of (take i rows)) e)) ∙ ap (λ b. mem (map edge_of (take i rows)) e || b) (sym (ne_eqb row.edge e (λ q. d (sym q)))) ∙ sym taken)
+            ∙ ap (λ b. marks (row_of old e) f || (b && m f)) (sym (or_false (mem (map edge_of (take i rows)) e)) ∙ ap (λ b. mem (map edge_of (take i rows)) e || b) (sym (ne_eqb row.edge e (λ q. d (sym q)))) ∙ sym taken)
       ]
     where
       with_it : (a t b : Bool) → ((a || (t && b)) || b) ≡ (a || ((t || true) && b))
@@ -76,7 +77,3 @@ module _ (old now after : List (List Bool)) (rows : List MatchRow) (i : ℕ) (ro
       with_it false true true = refl
       with_it false true false = refl
       with_it false false b = refl
-
-      or_no : (b : Bool) → (b || false) ≡ b
-      or_no true = refl
-      or_no false = refl

@@ -6,6 +6,7 @@ use Rattle.std.proofs.lemmas.List.Elements.{All-get_or}
 use Rattle.std.proofs.lemmas.Option.{get_or_from_slice_get, slice_get_within}
 use Rattle.std.proofs.lemmas.Bool.{cases_eq, or_right}
 use Rattle.counting.specs.Lists.{mem}
+use Rattle.counting.proofs.Booleans.{or_false}
 use Rattle.match_core.proofs.MatchingEdges.{edge_of}
 use Rattle.match_core.specs.Rows.{marks}
 use Rattle.match_core.specs.declared.matching.MatchRow.{MatchRow}
@@ -14,12 +15,8 @@ use Rattle.match_core.specs.declared.matching.MatchRow.{MatchRow}
 pub marks-set : (xs : List Bool) (e j : ℕ) → e < length xs → marks (slice_set xs e true) j ≡ (marks xs j || (e == j))
 marks-set xs e j l = elim (cases_eq e j) [
   | inl q ↦ ap (marks (slice_set xs e true)) (sym q) ∙ get_or-set_same xs e true false l ∙ sym (or_right (marks xs j) (e == j) (eq-eqb e j q))
-  | inr d ↦ get_or-set_other xs e j true false (λ q. d (sym q)) ∙ sym (ap (λ b. marks xs j || b) (ne_eqb e j d) ∙ or_no (marks xs j))
+  | inr d ↦ get_or-set_other xs e j true false (λ q. d (sym q)) ∙ sym (ap (λ b. marks xs j || b) (ne_eqb e j d) ∙ or_false (marks xs j))
 ]
-  where
-    or_no : (b : Bool) → (b || false) ≡ b
-    or_no true = refl
-    or_no false = refl
 
 -- a row of the list has an edge below the bound of all
 pub edge-below : (n : ℕ) (rows : List MatchRow) (i : ℕ) (row : MatchRow) → All (λ (r : MatchRow). r.edge < n) rows → slice_get rows i ≡ Some row → row.edge < n

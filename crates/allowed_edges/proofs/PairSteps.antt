@@ -12,6 +12,7 @@ use Rattle.counting.proofs.Members.{two_members}
 use Rattle.counting.specs.Counts.{Within}
 use Rattle.counting.specs.Lists.{IsRisingIn, mem}
 use Rattle.counting.specs.Sets.{none}
+use Rattle.counting.proofs.Booleans.{and_comm, or_false}
 use Rattle.graph_core.specs.Graph.{Graph, IsGraph, first_end, in_cut, second_end, size}
 use Rattle.graph_core.specs.Matchings.{IsEnd, IsPerfect, Together}
 use Rattle.graph_core.specs.PairLists.{IsLean, IsPairList}
@@ -26,11 +27,7 @@ use Rattle.allowed_edges.specs.PairTables.{AreGrown, PairsValue, SettlesEdges, S
 
 -- what a longer list holds
 pub held_more : (ms : List (List ℕ)) (es : List ℕ) (e f : ℕ) → holds_both (ms ++ es ∷ []) e f ≡ (holds_both ms e f || (mem es e && mem es f))
-held_more ms es e f = list_any-append (λ m. mem m e && mem m f) ms (es ∷ []) ∙ ap (λ b. holds_both ms e f || b) (or_no (mem es e && mem es f))
-  where
-    or_no : (b : Bool) → (b || false) ≡ b
-    or_no true = refl
-    or_no false = refl
+held_more ms es e f = list_any-append (λ m. mem m e && mem m f) ms (es ∷ []) ∙ ap (λ b. holds_both ms e f || b) (or_false (mem es e && mem es f))
 
 pub still_held : (ms : List (List ℕ)) (es : List ℕ) (e f : ℕ) → holds_both ms e f ≡ true → holds_both (ms ++ es ∷ []) e f ≡ true
 still_held ms es e f h = held_more ms es e f ∙ or_left (holds_both ms e f) (mem es e && mem es f) h
@@ -165,13 +162,7 @@ turned g e f t = (t.0, t.1, t.3, t.2)
 
 held_turned : (ms : List (List ℕ)) (e f : ℕ) → holds_both ms e f ≡ holds_both ms f e
 held_turned [] e f = refl
-held_turned (m ∷ ms) e f = ap (λ b. b || holds_both ms e f) (swap (mem m e) (mem m f)) ∙ ap (λ b. (mem m f && mem m e) || b) (held_turned ms e f)
-  where
-    swap : (a b : Bool) → (a && b) ≡ (b && a)
-    swap true true = refl
-    swap true false = refl
-    swap false true = refl
-    swap false false = refl
+held_turned (m ∷ ms) e f = ap (λ b. b || holds_both ms e f) (and_comm (mem m e) (mem m f)) ∙ ap (λ b. (mem m f && mem m e) || b) (held_turned ms e f)
 
 -- all edges
 module _ (g : Graph) (p : PairsValue) (s : SettlesEdges g (size g + 1) p) where

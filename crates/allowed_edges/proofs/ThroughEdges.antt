@@ -2,6 +2,7 @@
 -- The edges meet their ends once, so they are glued to the one and cut off the other; and a perfect matching leaves few
 -- vertices missed when the edges at these ends are taken out.
 use Rattle.std.proofs.Common.{◌≡◌, ℕ, ◌*◌, ◌≢◌, Bool, true, false, ◌==◌, ◌||◌, ◌⊎◌, refl, sym, ap, ◌∙◌, arith, inl, inr, eqb-true, eq-eqb, ne_eqb, subst}
+use Rattle.counting.proofs.Booleans.{or_true, or_false}
 use Rattle.std.proofs.lemmas.Bool.{both_ways, cases_eq, false_from_ne_true, true≢false, or_cases}
 use Rattle.counting.specs.Counts.{Within, bit}
 use Rattle.counting.specs.Sets.{Set, none, put, union, minus, everything}
@@ -71,14 +72,6 @@ pub or_mid : (a b : Bool) → ((a || true) || b) ≡ true
 or_mid true b = refl
 or_mid false b = refl
 
-pub or_end : (b : Bool) → (b || true) ≡ true
-or_end true = refl
-or_end false = refl
-
-pub or_no : (b : Bool) → (b || false) ≡ b
-or_no true = refl
-or_no false = refl
-
 -- the edge e alone
 pub only_one : (e i : ℕ) → (e == i) ≡ put none e true i
 only_one e i = elim (cases_eq i e) [
@@ -115,7 +108,7 @@ module _ (g : Graph) (is : IsMultigraph g) (e : ℕ) (we : Within (size g) e) (x
   pub edge_free : (r q : Set) → IsPerfect g r q → ((v : ℕ) → y v ≡ true → r v ≡ true) → (degree g q (first_end g e) ≡ 0) × (degree g q (second_end g e) ≡ 0)
   edge_free r q perfect in_r = (
     perfect.away (first_end g e) (is.ends e we).0 (in_r (first_end g e) (first (first_end g e) ∙ ap (λ b. (x (first_end g e) || b) || (second_end g e == first_end g e)) (eq-eqb (first_end g e) (first_end g e) refl) ∙ or_mid (x (first_end g e)) (second_end g e == first_end g e))),
-    perfect.away (second_end g e) (is.ends e we).1 (in_r (second_end g e) (first (second_end g e) ∙ ap (λ b. (x (second_end g e) || (first_end g e == second_end g e)) || b) (eq-eqb (second_end g e) (second_end g e) refl) ∙ or_end (x (second_end g e) || (first_end g e == second_end g e)))),
+    perfect.away (second_end g e) (is.ends e we).1 (in_r (second_end g e) (first (second_end g e) ∙ ap (λ b. (x (second_end g e) || (first_end g e == second_end g e)) || b) (eq-eqb (second_end g e) (second_end g e) refl) ∙ or_true (x (second_end g e) || (first_end g e == second_end g e)))),
   )
 
 module _ (g : Graph) (is : IsMultigraph g) (e f : ℕ) (we : Within (size g) e) (wf : Within (size g) f) (apart : ShareNone g e f) (x y z : Set) (empty : (v : ℕ) → x v ≡ false) (first : AddsEnds g e x y) (second : AddsEnds g f y z) where
@@ -141,8 +134,8 @@ module _ (g : Graph) (is : IsMultigraph g) (e f : ℕ) (we : Within (size g) e) 
     where
       together : (i : ℕ) → ((q i || (e == i)) || (f == i)) ≡ union q pair i
       together i = elim (cases_eq i f) [
-        | inl s ↦ ap (λ b. (q i || (e == i)) || b) (eq-eqb f i (sym s)) ∙ or_end (q i || (e == i)) ∙ sym (ap (λ b. q i || b) (ap pair s ∙ put_at (put none e true) f true) ∙ or_end (q i))
-        | inr s ↦ ap (λ b. (q i || (e == i)) || b) (ne_eqb f i (λ t. s (sym t))) ∙ or_no (q i || (e == i)) ∙ ap (λ b. q i || b) (only_one e i ∙ sym (put_off (put none e true) f true i s))
+        | inl s ↦ ap (λ b. (q i || (e == i)) || b) (eq-eqb f i (sym s)) ∙ or_true (q i || (e == i)) ∙ sym (ap (λ b. q i || b) (ap pair s ∙ put_at (put none e true) f true) ∙ or_true (q i))
+        | inr s ↦ ap (λ b. (q i || (e == i)) || b) (ne_eqb f i (λ t. s (sym t))) ∙ or_false (q i || (e == i)) ∙ ap (λ b. q i || b) (only_one e i ∙ sym (put_off (put none e true) f true i s))
       ]
 
   pub two_cut : Together g e f → HasPerfect g z
@@ -161,7 +154,7 @@ module _ (g : Graph) (is : IsMultigraph g) (e f : ℕ) (we : Within (size g) e) 
       z_ends : (v : ℕ) → (first_end g f ≡ v) ⊎ (second_end g f ≡ v) → z v ≡ true
       z_ends v h = elim h [
         | inl s ↦ second v ∙ ap (λ b. (y v || b) || (second_end g f == v)) (eq-eqb (first_end g f) v s) ∙ or_mid (y v) (second_end g f == v)
-        | inr s ↦ second v ∙ ap (λ b. (y v || (first_end g f == v)) || b) (eq-eqb (second_end g f) v s) ∙ or_end (y v || (first_end g f == v))
+        | inr s ↦ second v ∙ ap (λ b. (y v || (first_end g f == v)) || b) (eq-eqb (second_end g f) v s) ∙ or_true (y v || (first_end g f == v))
       ]
 
       at : (v : ℕ) → Within g.order v → (first_end g f ≡ v) ⊎ (second_end g f ≡ v) → degree g m v ≡ 0

@@ -1,11 +1,10 @@
 -- What a barrier of a covered graph leaves: odd components, as many as it has vertices, each with a tight cut.
 -- Each odd component is left by at least one edge of a perfect matching, and the barrier meets no more of them than it has vertices.
 use Rattle.std.proofs.Common.{◌≡◌, ℕ, ◌*◌, ◌≤◌, ◌≢◌, Bool, true, false, refl, sym, ap, ap₂, ◌∙◌, arith, ◌&&◌, ◌||◌, not, inl, inr, nat_lt, [], ◌∷◌}
-use Rattle.std.proofs.lemmas.Bool.{cases_Bool, true≢false, false_from_ne_true, both_ways, and_parts, and_from}
+use Rattle.std.proofs.lemmas.Bool.{cases_Bool, true≢false, false_from_ne_true, both_ways, and_parts, and_from, not-true}
 use Rattle.barrier_kit.proofs.Matched.{cut_matching, even_order, inner}
 use Rattle.graph_core.proofs.Decide.{covered_perfect}
 use Rattle.counting.proofs.Members.{count_zero, some_count}
-use Rattle.counting.proofs.RisingLists.{same_answers}
 use Rattle.counting.proofs.Counts.{bit_true, count_congr, only_one}
 use Rattle.counting.proofs.Odd.{complement_odd}
 use Rattle.counting.proofs.Tests.{some_true, true_some}
@@ -13,6 +12,7 @@ use Rattle.counting.proofs.Totals.{some_term, total_congr, total_le, total_mul, 
 use Rattle.counting.specs.Counts.{Within, bit, count, is_odd, total}
 use Rattle.counting.specs.Sets.{Set, complement, none}
 use Rattle.counting.specs.Tests.{some}
+use Rattle.counting.proofs.Booleans.{and_fails_second, same_tests}
 use Rattle.graph_core.proofs.Components.{joined_outside, joined_walk, one_leader, some_leader, walk_joined}
 use Rattle.graph_core.proofs.Parity.{parity}
 use Rattle.graph_core.proofs.SameSets.{tight-same}
@@ -27,15 +27,12 @@ use Rattle.graph_core.specs.Tight.{IsTight}
 use Rattle.graph_core.specs.Walks.{Joined, joined}
 
 pub leads_out : (g : Graph) (s : Set) (u : ℕ) → is_least g s u ≡ true → s u ≡ false
-leads_out g s u h = let a = and_parts (not (s u)) (not (some g.order (λ v. joined g s u v && nat_lt v u))) h in flip (s u) a.0
-  where
-    flip : (b : Bool) → not b ≡ true → b ≡ false
-    flip b h = grind arith
+leads_out g s u h = let a = and_parts (not (s u)) (not (some g.order (λ v. joined g s u v && nat_lt v u))) h in not-true (s u) a.0
 
 -- an edge outside s keeps in each component
 pub part_step : (g : Graph) (s : Set) (u e : ℕ) → IsGraph g → Within g.order u → Within (size g) e → s (first_end g e) ≡ false → s (second_end g e) ≡ false → joined g s u (first_end g e) ≡ joined g s u (second_end g e)
 unfolding Joined
-part_step g s u e is wu w a b = same_answers _ _
+part_step g s u e is wu w a b = same_tests _ _
     (λ t. walk_joined g s is u (second_end g e) wu (joined_on g s u (first_end g e) (second_end g e) (joined_walk g s u (first_end g e) t) step))
     (λ t. walk_joined g s is u (first_end g e) wu (joined_on g s u (second_end g e) (first_end g e) (joined_walk g s u (second_end g e) t) (joined_back g s (first_end g e) (second_end g e) step)))
   where
@@ -83,7 +80,7 @@ module _ (g : Graph) (is : IsGraph g) (s c : Set) (lead : (u : ℕ) → c u ≡ 
 
   pub covers_step : (e : ℕ) → Within (size g) e → s (first_end g e) ≡ false → s (second_end g e) ≡ false → covers (first_end g e) ≡ covers (second_end g e)
   unfolding covers
-  covers_step e w a b = same_answers _ _ (λ t. over (first_end g e) (second_end g e) (λ u wu. part_step g s u e is wu w a b) t) (λ t. over (second_end g e) (first_end g e) (λ u wu. sym (part_step g s u e is wu w a b)) t)
+  covers_step e w a b = same_tests _ _ (λ t. over (first_end g e) (second_end g e) (λ u wu. part_step g s u e is wu w a b) t) (λ t. over (second_end g e) (first_end g e) (λ u wu. sym (part_step g s u e is wu w a b)) t)
     where
       over : (x y : ℕ) → ((u : ℕ) → Within g.order u → joined g s u x ≡ joined g s u y) → some g.order (λ u. c u && joined g s u x) ≡ true → some g.order (λ u. c u && joined g s u y) ≡ true
       over x y h t = let r = some_true g.order (λ u. c u && joined g s u x) t in let p = and_parts (c r.0) (joined g s r.0 x) r.2 in
@@ -194,10 +191,7 @@ module _ (g : Graph) (is : IsGraph g) (s : Set) (bar : IsBarrier g s) (m : Set) 
 module _ (g : Graph) (is : IsGraph g) (cov : IsCovered g) (s : Set) (bar : IsBarrier g s) where
   -- no edge joins two vertices of a barrier
   pub none_inside : (e : ℕ) → Within (size g) e → first_end g e ≢ second_end g e → inside g s e ≡ false
-  none_inside e w d = let a = cov.allowed e w d in let z = count_zero (size g) (λ e. a.0 e && inside g s e) (sat_inside g is s bar a.0 a.1) e w in right (a.0 e) (inside g s e) a.2 z
-    where
-      right : (a b : Bool) → a ≡ true → (a && b) ≡ false → b ≡ false
-      right a b p q = grind arith
+  none_inside e w d = let a = cov.allowed e w d in let z = count_zero (size g) (λ e. a.0 e && inside g s e) (sat_inside g is s bar a.0 a.1) e w in and_fails_second (a.0 e) (inside g s e) a.2 z
 
   -- each component is odd
   pub odd_part : (u a : ℕ) → Within g.order u → is_least g s u ≡ true → Within g.order a → s a ≡ true → is_odd (count g.order (joined g s u)) ≡ true
@@ -241,7 +235,7 @@ leader_same g s is u v w wu wv ww lu ju lw jw =
 
 -- two vertices of a component have one component
 pub part_same : (g : Graph) (s : Set) → IsGraph g → (u a : ℕ) → Within g.order u → Within g.order a → joined g s u a ≡ true → (v : ℕ) → joined g s u v ≡ joined g s a v
-part_same g s is u a wu wa j v = same_answers _ _
+part_same g s is u a wu wa j v = same_tests _ _
     (λ t. walk_joined g s is a v wa (joined_on g s a u v (joined_back g s u a (joined_walk g s u a j)) (joined_walk g s u v t)))
     (λ t. walk_joined g s is u v wu (joined_on g s u a v (joined_walk g s u a j) (joined_walk g s a v t)))
 

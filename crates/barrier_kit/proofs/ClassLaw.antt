@@ -7,13 +7,13 @@ use Rattle.barrier_kit.proofs.Barriers.{barrier_pair, few_odd_components}
 use Rattle.barrier_kit.proofs.Enlarging.{barrier_congr, enlarge, same_parity}
 use Rattle.barrier_kit.proofs.Joining.{join}
 use Rattle.barrier_kit.proofs.Matched.{even_order, glue, perfect_congr}
-use Rattle.counting.proofs.RisingLists.{same_answers}
 use Rattle.counting.proofs.SetSizes.{count_singleton}
 use Rattle.counting.proofs.Tests.{scan}
 use Rattle.counting.proofs.Choice.{choose_set}
 use Rattle.counting.proofs.Counts.{count_le, count_more}
 use Rattle.counting.specs.Counts.{Within, count, is_odd}
 use Rattle.counting.specs.Sets.{Set, minus, singleton, union}
+use Rattle.counting.proofs.Booleans.{or_comm, same_tests}
 use Rattle.graph_core.proofs.Decide.{covered_perfect, is_perfect_congr, is_perfect_true, true_is_perfect}
 use Rattle.graph_core.specs.Components.{odd_component_count}
 use Rattle.graph_core.specs.Covered.{IsCovered}
@@ -128,11 +128,8 @@ equivalent_self g a = inl refl
 pub equivalent_back : (g : Graph) (a b : ℕ) → Equivalent g a b → Equivalent g b a
 equivalent_back g a b q = elim q [
   | inl e ↦ inl (sym e)
-  | inr f ↦ inr (λ h. f (h.0, perfect_congr g (union (singleton b) (singleton a)) (union (singleton a) (singleton b)) h.0 (λ v w. turn (b == v) (a == v)) h.1))
+  | inr f ↦ inr (λ h. f (h.0, perfect_congr g (union (singleton b) (singleton a)) (union (singleton a) (singleton b)) h.0 (λ v w. or_comm (b == v) (a == v)) h.1))
 ]
-  where
-    turn : (x y : Bool) → (x || y) ≡ (y || x)
-    turn x y = grind arith
 
 pub equivalent_on : (g : Graph) (a b c : ℕ) → IsGraph g → IsCovered g → Within g.order a → Within g.order b → Within g.order c → Equivalent g a b → Equivalent g b c → Equivalent g a c
 equivalent_on g a b c is cov wa wb wc p q =
@@ -145,7 +142,7 @@ equivalent_on g a b c is cov wa wb wc p q =
 pub class_barrier : (g : Graph) (b : ℕ) (s : Set) → IsGraph g → IsCovered g → Within g.order b → IsClass g b s → IsBarrier g s
 class_barrier g b s is cov wb c =
     let t = class_exists g is cov b wb in
-    barrier_congr g t.0 s is (λ v w. same_answers (t.0 v) (s v) (λ h. c.all v w (t.2.holds v w h)) (λ h. t.2.all v w (c.holds v w h))) t.1
+    barrier_congr g t.0 s is (λ v w. same_tests (t.0 v) (s v) (λ h. c.all v w (t.2.holds v w h)) (λ h. t.2.all v w (c.holds v w h))) t.1
 
 -- a barrier lies in the class of each of its vertices
 pub class_holds_barrier : (g : Graph) (b : ℕ) (s t : Set) → IsGraph g → Within g.order b → IsClass g b s → IsBarrier g t → t b ≡ true → (v : ℕ) → Within g.order v → t v ≡ true → s v ≡ true

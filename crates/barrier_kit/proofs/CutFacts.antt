@@ -11,6 +11,7 @@ use Rattle.counting.specs.Sets.{Set, complement}
 use Rattle.counting.proofs.Counts.{count_congr}
 use Rattle.counting.proofs.RisingLists.{mem-rising_list, rising_list-rises}
 use Rattle.counting.proofs.Totals.{total_congr}
+use Rattle.counting.proofs.Booleans.{apart_denied, not_not}
 use Rattle.graph_core.proofs.SameSets.{nontrivial-same, tight-same}
 use Rattle.graph_core.specs.Graph.{Graph, IsGraph, first_end, second_end, size}
 use Rattle.graph_core.specs.Tight.{IsNontrivial, IsTight, canonical_shore, is_nontrivial}
@@ -80,16 +81,9 @@ nontrivial-turned n x t = let c = count_congr n x (complement (complement x)) (�
 pub tight-turned : (g : Graph) (x : Set) → IsTight g x → IsTight g (complement x)
 tight-turned g x t = record {
   odd = t.odd_complement;
-  odd_complement = ap is_odd (count_congr g.order (complement (complement x)) x (λ v w. not_twice (x v))) ∙ t.odd;
-  cut = λ m p. total_congr (size g) _ _ (λ e w. ap bit (turn (m e) (x (first_end g e)) (x (second_end g e)))) ∙ t.cut m p;
+  odd_complement = ap is_odd (count_congr g.order (complement (complement x)) x (λ v w. not_not (x v))) ∙ t.odd;
+  cut = λ m p. total_congr (size g) _ _ (λ e w. ap bit (apart_denied (m e) (x (first_end g e)) (x (second_end g e)))) ∙ t.cut m p;
 }
-  where
-    not_twice : (b : Bool) → not (not b) ≡ b
-    not_twice true = refl
-    not_twice false = refl
-
-    turn : (k a b : Bool) → (k && ((not a && not (not b)) || (not (not a) && not b))) ≡ (k && ((a && not b) || (not a && b)))
-    turn k a b = grind arith
 
 -- the canonical shore of a cut is the set or its complement
 pub canonical-is : (P : Set → Type 0) (n : ℕ) (x : Set) → ((y z : Set) → ((v : ℕ) → y v ≡ z v) → P y → P z) → P x → P (complement x) → P (canonical_shore n x)
@@ -108,12 +102,8 @@ canonical-wide n x t = canonical-is (IsNontrivial n) n x (λ y z h. nontrivial-s
 pub wide-canonical : (n : ℕ) (x : Set) → IsNontrivial n (canonical_shore n x) → IsNontrivial n x
 wide-canonical n x t = go (x n) refl
   where
-    twice : (b : Bool) → not (not b) ≡ b
-    twice true = refl
-    twice false = refl
-
     go : (b : Bool) → x n ≡ b → IsNontrivial n x
-    go true e = nontrivial-same n (complement (canonical_shore n x)) x (λ v w. ap (λ b. not (cond b (not (x v)) (x v))) e ∙ twice (x v)) (nontrivial-turned n (canonical_shore n x) t)
+    go true e = nontrivial-same n (complement (canonical_shore n x)) x (λ v w. ap (λ b. not (cond b (not (x v)) (x v))) e ∙ not_not (x v)) (nontrivial-turned n (canonical_shore n x) t)
     go false e = nontrivial-same n (canonical_shore n x) x (λ v w. ap (λ b. cond b (not (x v)) (x v)) e) t
 
 pub canonical-out : (n : ℕ) (x : Set) → canonical_shore n x n ≡ false

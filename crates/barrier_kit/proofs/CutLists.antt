@@ -1,7 +1,7 @@
 -- Lists of cuts by canonical shores: what a shore in them is, when the list is empty, and that no cut comes twice.
 -- Each is an induction over the shores: a step leaves the list as it is or appends one canonical shore that is wide.
 use Rattle.std.proofs.Common.{◌≡◌, ℕ, suc, zero, ◌+◌, ◌-◌, ◌≤◌, Bool, true, false, refl, sym, ap, ap₂, ◌∙◌, arith, ◌&&◌, not, cond, List, [], ◌∷◌, ◌++◌, map, length, nat_le, subst, fold, flat_map, take}
-use Rattle.std.proofs.lemmas.Bool.{and_parts, and_from}
+use Rattle.std.proofs.lemmas.Bool.{and_parts, and_from, and_right}
 use Rattle.std.proofs.lemmas.List.{map-append, take_all}
 use Rattle.std.proofs.lemmas.List.Sums.{sum_by-append}
 use Rattle.std.specs.Prelude.{count_by}
@@ -63,11 +63,7 @@ cut-known n cuts s t e known =
     ap (λ b. cond b (cuts ++ canonical_list n s ∷ []) cuts) (sym (and_false (is_nontrivial n (canonical_shore n (mem s))) ∙ refl))
   where
     and_false : (b : Bool) → (b && not (is_listed cuts (canonical_list n s))) ≡ false
-    and_false b = out b (not (is_listed cuts (canonical_list n s))) (ap (λ c. not (is_listed cuts c)) (sym e) ∙ ap not known)
-      where
-        out : (b c : Bool) → c ≡ false → (b && c) ≡ false
-        out true c h = h
-        out false c h = refl
+    and_false b = and_right b (not (is_listed cuts (canonical_list n s))) (ap (λ c. not (is_listed cuts c)) (sym e) ∙ ap not known)
 
 -- the odd components by their lists
 count_by-least : (g : Graph) (s : Set) (n : ℕ) → count_by (λ p. is_odd (length p)) (map (λ u. rising_list g.order (joined g s u)) (rising_list n (is_least g s))) ≡ count n (λ u. is_least g s u && is_odd (count g.order (joined g s u)))

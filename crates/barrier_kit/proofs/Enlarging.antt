@@ -1,12 +1,12 @@
 -- A barrier grows by a vertex of an odd component without which the component has no perfect matching.
 -- By the law of Tutte and Berge the component has a set that shows this; together with the barrier and the vertex it is a barrier.
 use Rattle.std.proofs.Common.{◌≡◌, ℕ, suc, zero, ◌+◌, ◌≤◌, Bool, true, false, cond, ◌==◌, refl, sym, ap, ap₂, ◌∙◌, arith, ◌&&◌, ◌||◌, not, eq-eqb, ne_eqb, eqb-true, inl, inr, nat_lt, List, [], ◌∷◌}
+use Rattle.counting.proofs.Booleans.{same_tests}
 use Rattle.std.proofs.lemmas.Bool.{cases_eq, true≢false, false_from_ne_true, both_ways}
 use Rattle.barrier_kit.proofs.BarrierCuts.{leader_same, leads_out}
 use Rattle.barrier_kit.proofs.Barriers.{few_odd_components, odd_component_count-parity}
 use Rattle.graph_core.proofs.Perfect.{none_missed-perfect}
 use Rattle.barrier_kit.proofs.Matched.{even_order}
-use Rattle.counting.proofs.RisingLists.{same_answers}
 use Rattle.counting.proofs.SetSizes.{count_singleton}
 use Rattle.counting.proofs.Tests.{some_congr}
 use Rattle.counting.proofs.Counts.{count_complement, count_congr}
@@ -38,7 +38,7 @@ module _ (g : Graph) (s t q : Set) (is : IsGraph g) (agree : (v : ℕ) → Withi
     (closed_t : (u v : ℕ) → q u ≡ true → adjacent g t u v ≡ true → q v ≡ true) where
   pub joined_same : (u v : ℕ) → Within g.order u → q u ≡ true → joined g s u v ≡ joined g t u v
   unfolding Joined
-  joined_same u v wu qu = same_answers _ _
+  joined_same u v wu qu = same_tests _ _
       (λ h. let j = joined_walk g s u v h in walk_joined g t is u v wu (j.0, walk_into g s t q is agree closed_s j.0 u v qu j.1))
       (λ h. let j = joined_walk g t u v h in walk_joined g s is u v wu (j.0, walk_into g t s q is (λ v w k. sym (agree v w k)) closed_t j.0 u v qu j.1))
 

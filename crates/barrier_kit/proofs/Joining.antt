@@ -7,7 +7,6 @@ use Rattle.barrier_kit.proofs.Families.{glue_family}
 use Rattle.barrier_kit.proofs.Hall.{hall, hits}
 use Rattle.barrier_kit.proofs.Matched.{cut_matching, inner, loop_free, perfect_congr, restrict}
 use Rattle.counting.proofs.Members.{count_member, count_minus, count_zero}
-use Rattle.counting.proofs.RisingLists.{same_answers}
 use Rattle.barrier_kit.specs.Choices.{Picks, neighbours}
 use Rattle.counting.proofs.SetSizes.{count_singleton}
 use Rattle.counting.proofs.Tests.{some_true, true_some}
@@ -15,6 +14,7 @@ use Rattle.counting.proofs.Totals.{at_le_total, total_add, total_congr, total_le
 use Rattle.counting.specs.Counts.{Within, bit, count}
 use Rattle.counting.specs.Sets.{Set, complement, meet, minus, none, singleton, union}
 use Rattle.counting.specs.Tests.{some}
+use Rattle.counting.proofs.Booleans.{and_fails_second, same_tests}
 use Rattle.graph_core.proofs.Components.{joined_outside}
 use Rattle.graph_core.proofs.Parity.{parity, two_cuts}
 use Rattle.graph_core.specs.Components.{is_least}
@@ -64,16 +64,13 @@ module _ (g : Graph) (is : IsGraph g) (cov : IsCovered g) (s : Set) (bar : IsBar
         cover_in g is s near_parts lead r.0 y r.1 (and_from (is_least g s r.0) (some g.order (λ y. z y && touches g s y r.0)) r.2
         (true_some g.order (λ y. z y && touches g s y r.0) x wx (and_from (z x) (touches g s x r.0) zx (true_some (size g) (connects g (singleton x) (joined g s r.0)) e w (h r.0 r.3))))) r.3
 
-    right : (a c : Bool) → a ≡ true → (a && c) ≡ false → c ≡ false
-    right a c p q = grind arith
-
     left : (a c : Bool) → c ≡ true → (a && c) ≡ false → a ≡ false
     left a c p q = grind arith
 
     into : (m : Set) → IsPerfect g none m → (e : ℕ) → Within (size g) e → m e ≡ true → (z (first_end g e) ≡ true → reached (second_end g e) ≡ true) × (z (second_end g e) ≡ true → reached (first_end g e) ≡ true)
     into m p e w t =
         let i = none_inside g is cov s bar e w (loop_free g none m is p e w t) in (
-          λ h. across e (first_end g e) (second_end g e) w (is e w).0 (is e w).1 h (right (s (first_end g e)) (s (second_end g e)) (sub (first_end g e) (is e w).0 h) i) (λ u j. one (first_end g e == first_end g e) (joined g s u (second_end g e)) (joined g s u (first_end g e)) (first_end g e == second_end g e) (eq-eqb (first_end g e) (first_end g e) refl) j),
+          λ h. across e (first_end g e) (second_end g e) w (is e w).0 (is e w).1 h (and_fails_second (s (first_end g e)) (s (second_end g e)) (sub (first_end g e) (is e w).0 h) i) (λ u j. one (first_end g e == first_end g e) (joined g s u (second_end g e)) (joined g s u (first_end g e)) (first_end g e == second_end g e) (eq-eqb (first_end g e) (first_end g e) refl) j),
           λ h. across e (second_end g e) (first_end g e) w (is e w).1 (is e w).0 h (left (s (first_end g e)) (s (second_end g e)) (sub (second_end g e) (is e w).1 h) i) (λ u j. two (second_end g e == first_end g e) (joined g s u (second_end g e)) (joined g s u (first_end g e)) (second_end g e == second_end g e) j (eq-eqb (second_end g e) (second_end g e) refl)),
         )
       where
@@ -219,7 +216,7 @@ module _ (g : Graph) (is : IsGraph g) (cov : IsCovered g) (s : Set) (bar : IsBar
     left_over v = not (b == v) && not (joined g s l v)
 
     all_stars : (v : ℕ) → Within g.order v → so_far g.order v ≡ left_over v
-    all_stars v w = same_answers _ _ there back
+    all_stars v w = same_tests _ _ there back
       where
         there : so_far g.order v ≡ true → left_over v ≡ true
         there h = let z = some_true g.order (λ z. from z && star_set z v) h in let p = in_star z.0 v z.2 in

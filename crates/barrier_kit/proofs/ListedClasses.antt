@@ -1,6 +1,7 @@
 -- The classes found one after the other: a vertex is the least of its class exactly where no class before it holds it.
 -- A class is met by its least vertex, and by transitivity a vertex that was met adds no vertex to those met.
 use Rattle.std.proofs.Common.{◌≡◌, ℕ, suc, inl, inr, ◌+◌, ◌<◌, ◌≤◌, ◌↔◌, Bool, true, false, ◌==◌, refl, sym, ap, ap₂, ◌∙◌, arith, ◌&&◌, ◌||◌, not, cond, List, [], ◌∷◌, ◌++◌, map, nat_lt, ltb-true, lt-ltb, subst, append-nil}
+use Rattle.counting.proofs.Booleans.{same_tests}
 use Rattle.std.proofs.lemmas.Bool.{cases_Bool, and_parts, and_from, both_ways, false_from_ne_true}
 use Rattle.std.proofs.lemmas.List.{map-append}
 use Rattle.counting.specs.Counts.{Within}
@@ -8,7 +9,7 @@ use Rattle.counting.specs.Lists.{IsRisingIn, mem, rising_list}
 use Rattle.counting.specs.Sets.{Set, none, pair_set}
 use Rattle.counting.specs.Tests.{some}
 use Rattle.counting.proofs.Lists.{rising_only}
-use Rattle.counting.proofs.RisingLists.{mem-rising_list, rising_list-rises, same_answers, same_rising_list, set-wider}
+use Rattle.counting.proofs.RisingLists.{mem-rising_list, rising_list-rises, same_rising_list, set-wider}
 use Rattle.counting.proofs.Tests.{some_true, true_some}
 use Rattle.graph_core.proofs.Decide.{has_perfect_found, is_equivalent_found, is_equivalent_says}
 use Rattle.graph_core.specs.Covered.{IsCovered}
@@ -49,7 +50,7 @@ class-row g full row class a few rises all outside partners =
 
 -- some number below k + 1 passes exactly where one of 1 to k does
 some_below : (n k : ℕ) (p : Set) → k < n → some n (λ b. nat_lt b (k + 1) && p b) ≡ some k p
-some_below n k p l = same_answers _ _
+some_below n k p l = same_tests _ _
     (λ t. let b = some_true n (λ b. nat_lt b (k + 1) && p b) t in
     let h = and_parts (nat_lt b.0 (k + 1)) (p b.0) b.2 in
     let j = ltb-true b.0 (k + 1) h.0 in let w = b.1 in

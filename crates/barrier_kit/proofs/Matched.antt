@@ -1,7 +1,7 @@
 -- Small facts on perfect matchings without a set of vertices, and on counts that are tight.
 -- Where each term is at least one and the sum is no more than the number of terms, each term is one.
 use Rattle.std.proofs.Common.{◌≡◌, ℕ, ◌+◌, ◌≤◌, ◌≢◌, Bool, true, false, ◌==◌, refl, sym, ap, ◌∙◌, arith, ◌&&◌, ◌||◌, not, eq-eqb, eqb-true, inl, inr}
-use Rattle.std.proofs.lemmas.Bool.{cases_Bool, true≢false, false_from_ne_true, both_ways}
+use Rattle.std.proofs.lemmas.Bool.{cases_Bool, true≢false, false_from_ne_true, both_ways, not-false, not-true}
 use Rattle.graph_core.proofs.Perfect.{perfect_matching, perfect_misses}
 use Rattle.counting.proofs.Counts.{count_complement}
 use Rattle.counting.proofs.Members.{count_zero}
@@ -11,6 +11,7 @@ use Rattle.counting.proofs.Totals.{at_le_total, total_add, total_congr, total_no
 use Rattle.counting.specs.Counts.{Within, bit, count, is_odd}
 use Rattle.counting.specs.Sets.{Set, complement, none, union}
 use Rattle.counting.specs.Tests.{some}
+use Rattle.counting.proofs.Booleans.{alike_not_apart}
 use Rattle.graph_core.proofs.Edits.{ends_le_degree, ends_of, missed_edges}
 use Rattle.graph_core.proofs.Walks.{parted}
 use Rattle.graph_core.specs.Covered.{IsCovered}
@@ -57,15 +58,11 @@ glue g x y m k is h p q = record {
   away = λ v w o. let d = degree_or g m k apart v in let b = both (x v) (y v) o in let c = p.away v w b.0 in let e = q.away v w b.1 in omega arith;
 }
   where
-    up : (b : Bool) → not b ≡ false → b ≡ true
-    up true e = refl
-    up false e = absurd (true≢false e)
-
     both : (a b : Bool) → not (a || b) ≡ true → (not a ≡ true) × (not b ≡ true)
     both a b e = grind arith
 
     apart : (e : ℕ) → Within (size g) e → m e ≡ true → k e ≡ true → ⊥
-    apart e w me ke = h (first_end g e) (is e w).0 (up (x (first_end g e)) (ends_out g (complement x) m is p e w me).0) (up (y (first_end g e)) (ends_out g (complement y) k is q e w ke).0)
+    apart e w me ke = h (first_end g e) (is e w).0 (not-false (x (first_end g e)) (ends_out g (complement x) m is p e w me).0) (not-false (y (first_end g e)) (ends_out g (complement y) k is q e w ke).0)
 
     met_once : (v : ℕ) → Within g.order v → (a b : Bool) → x v ≡ a → y v ≡ b → not (a || b) ≡ false → degree g (λ e. m e || k e) v ≡ 1
     met_once v w true true e f o = absurd (h v w e f)
@@ -76,17 +73,10 @@ glue g x y m k is h p q = record {
 -- a perfect matching with no edge in the cut of x, inside x
 pub restrict : (g : Graph) (m x : Set) → IsPerfect g none m → edges_in_cut g m x ≡ 0 → IsPerfect g (complement x) (λ e. m e && inside g x e)
 restrict g m x p z = record {
-  once = λ v w o. keep v (up (x v) o) ∙ p.once v w refl;
-  away = λ v w o. drop v (up' (x v) o);
+  once = λ v w o. keep v (not-false (x v) o) ∙ p.once v w refl;
+  away = λ v w o. drop v (not-true (x v) o);
 }
   where
-    up : (b : Bool) → not b ≡ false → b ≡ true
-    up true e = refl
-    up false e = absurd (true≢false e)
-
-    up' : (b : Bool) → not b ≡ true → b ≡ false
-    up' b e = grind arith
-
     no_cross : (e : ℕ) → Within (size g) e → (m e && in_cut g x e) ≡ false
     no_cross e w = count_zero (size g) (λ e. m e && in_cut g x e) z e w
 
@@ -120,10 +110,7 @@ cut_edge g x u v is c wu wv xu xv = elim (cases_Bool (some (size g) (in_cut g x)
 ]
 
 pub crosses_apart : (g : Graph) (x : Set) (e : ℕ) → in_cut g x e ≡ true → first_end g e ≢ second_end g e
-crosses_apart g x e h l = both_ways (in_cut g x e) (alike (x (first_end g e)) (x (second_end g e)) (ap x l)) h
-  where
-    alike : (a b : Bool) → a ≡ b → ((a && not b) || (not a && b)) ≡ false
-    alike a b h = grind arith
+crosses_apart g x e h l = both_ways (in_cut g x e) (alike_not_apart (x (first_end g e)) (x (second_end g e)) (ap x l)) h
 
 -- some perfect matching has an edge in the cut
 pub cut_matching : (g : Graph) (x : Set) (u v : ℕ) → IsGraph g → IsCovered g → Within g.order u → Within g.order v → x u ≡ true → x v ≡ false → (m : Set) × IsPerfect g none m × (1 ≤ edges_in_cut g m x)

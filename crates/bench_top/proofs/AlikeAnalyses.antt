@@ -2,13 +2,14 @@
 -- determines. A rising list is determined by its members, the number of edges of a maximum matching by there being none with more, and
 -- the kind by the sides and the first candidate.
 use Rattle.std.proofs.Common.{◌≡◌, ◌∙◌, ◌↔◌, ℕ, ◌+◌, ◌*◌, ◌≤◌, List, [], ◌++◌, Bool, true, false, Option, Some, None, ◌⊎◌, inl, inr, refl, sym, ap, arith}
+use Rattle.counting.proofs.Booleans.{same_tests}
 use Rattle.std.specs.Prelude.{codes, IsTrue}
 use Rattle.std.specs.Option.{option_map}
 use Rattle.std.proofs.lemmas.Option.{none-some, same_Some}
 use Rattle.counting.specs.Counts.{Within, count}
 use Rattle.counting.specs.Lists.{Lists, mem}
 use Rattle.counting.specs.Sets.{none}
-use Rattle.counting.proofs.RisingLists.{same_answers, same_rising_list}
+use Rattle.counting.proofs.RisingLists.{same_rising_list}
 use Rattle.graph_core.specs.Graph.{Graph, IsBipartite, IsMultigraph, size}
 use Rattle.graph_core.specs.GallaiEdmonds.{InA, InC, InD}
 use Rattle.graph_core.specs.Matchings.{Allowed, missed_count}
@@ -37,10 +38,10 @@ use Rattle.bench_top.proofs.AlikeTexts.{alike-along, alike-behind}
 lists-once : (n : ℕ) (xs ys : List ℕ) (P : ℕ → Type 0) → Lists n xs P → Lists n ys P → xs ≡ ys
 lists-once n xs ys P one two =
     same_rising_list n xs ys one.rising two.rising
-    (λ v within. same_answers (mem xs v) (mem ys v) (λ is. two.complete v within (one.sound v is)) (λ is. one.complete v within (two.sound v is)))
+    (λ v within. same_tests (mem xs v) (mem ys v) (λ is. two.complete v within (one.sound v is)) (λ is. one.complete v within (two.sound v is)))
 
 answers-once : (a b : Bool) (P : Type 0) → (IsTrue a ↔ P) → (IsTrue b ↔ P) → a ≡ b
-answers-once a b P one two = same_answers a b (λ is. two.1 (one.0 is)) (λ is. one.1 (two.0 is))
+answers-once a b P one two = same_tests a b (λ is. two.1 (one.0 is)) (λ is. one.1 (two.0 is))
 
 -- maximum matchings have one number of edges, and miss one number of vertices
 edges-once : (g : Graph) (edges missed more others : ℕ) → HasMaximum g edges missed → HasMaximum g more others → edges ≡ more

@@ -28,7 +28,8 @@ use Rattle.grow_gen.specs.Growth.{grown}
 use Rattle.bench_top.specs.Checks.{CheckGives, Refuses}
 use Rattle.bench_top.specs.Commands.{Command, command_of}
 use Rattle.bench_top.specs.EarChecks.{EarCheckGives}
-use Rattle.bench_top.specs.Fixed.{DifferAtMostIn, HasChosenText, HasOneOutput, MayBeBerge, MayShow, ShowsNothingFree}
+use Rattle.bench_top.specs.Fixed.{DifferAtMostIn, HasChosenText, HasOneOutput, MayShow, ShowsNothingFree}
+use Rattle.bench_top.specs.Shown.{MayBeBerge}
 use Rattle.bench_top.specs.Growths.{Grown, IsCounted}
 use Rattle.bench_top.specs.Loading.{Loaded, All, Bad, Absent, loaded}
 use Rattle.bench_top.specs.Orders.{NamedPicks, ScriptPicks}

@@ -5,7 +5,7 @@ use Rattle.std.specs.Prelude.{codes, slice_index_or}
 use Rattle.std.specs.List.{AllByRecursion, list_any, position_or_len}
 use Rattle.std.specs.Result.{result_map_both}
 use Rattle.std.specs.Str.{bytes_eq}
-use Rattle.std.proofs.lemmas.Bool.{and_parts, both_ways, eqb-false, ltb-false, ltb-true, or_parts, true≢false}
+use Rattle.std.proofs.lemmas.Bool.{and_parts, both_ways, eqb-false, ltb-false, ltb-true, or_parts, true≢false, not-false}
 use Rattle.std.proofs.lemmas.Bool.Decides.{nat_tests}
 use Rattle.std.proofs.lemmas.Slice.Eq.{bytes_eq-Decides}
 use Rattle.counting.specs.Counts.{Within}
@@ -87,10 +87,6 @@ goes-mapped P Q f (Err k) give goes = tt
 goes-further : {A B Kind : Type 0} (P : A → Type 0) (Q : B → Type 0) (number : ℕ) (r : Result A Kind) (next : A → Result B (ℕ × Kind)) → GoesOn P r → ((a : A) → P a → GoesOn Q (next a)) → GoesOn Q (go_on number r next)
 goes-further P Q number (Ok a) next goes give = give a goes
 goes-further P Q number (Err k) next goes give = tt
-
-not-false : (b : Bool) → not b ≡ false → b ≡ true
-not-false true is = refl
-not-false false is = sym is
 
 -- the place of a name is below their number
 place-among : (names : List (List ℕ)) (word : List ℕ) → is_among names word ≡ true → position_or_len (bytes_eq word) names < length names

@@ -5,7 +5,6 @@ use Rattle.std.specs.Prelude.{◌≡◌, ◌⊎◌, ◌++◌, ℕ, List}
 use Rattle.report_text.specs.Reports.{numbers_text}
 use Rattle.bench_top.specs.Conducts.{Conduct, Writes, Tells, Needs, Chooses, conduct_of}
 use Rattle.bench_top.specs.Tasks.{Task}
-pub use Rattle.bench_top.specs.Shown.{MayBeBerge}
 
 -- the numbers that a report may show by a conduct
 abbrev pub ShownBy : Conduct → List ℕ → Type 0

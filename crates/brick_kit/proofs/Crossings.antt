@@ -1,7 +1,7 @@
 -- Two tight shores that cross: the meet or the union is nontrivial, or the vertex in both and the one in neither separate.
 -- Where the meet is even the complement of the second is taken. No edge joins the two differences.
 use Rattle.std.proofs.Common.{◌≡◌, ℕ, ◌≤◌, Bool, true, false, cond, ◌==◌, ◌&&◌, ◌||◌, not, refl, sym, ap, ◌∙◌, arith, inl, inr, ◌⊎◌, ne_eqb}
-use Rattle.std.proofs.lemmas.Bool.{and_from, and_parts, both_ways, cases_Bool, eqb-false, not-true, or_from, or_parts, true≢false}
+use Rattle.std.proofs.lemmas.Bool.{and_from, and_parts, both_ways, cases_Bool, eqb-false, not-true, or_from, or_parts, true≢false, or_left}
 use Rattle.counting.proofs.Counts.{only_one}
 use Rattle.counting.proofs.Members.{count_member}
 use Rattle.counting.proofs.Odd.{odd-add, odd_three}
@@ -87,13 +87,9 @@ meet_wide g x t a b c wide two = record {
 
 pub union_wide : (g : Graph) (x t : Set) (a b : ℕ) → IsGraph g → IsCovered g → Crossing g x t a b → IsNontrivial g.order x → 2 ≤ count g.order (complement (union x t)) → IsNontrivial g.order (union x t)
 union_wide g x t a b is cov c wide two = record {
-  inside = let o = wide.inside in let m = count_mono g.order x (union x t) (λ v w h. in_first (x v) (t v) h) in omega arith;
+  inside = let o = wide.inside in let m = count_mono g.order x (union x t) (λ v w h. or_left (x v) (t v) h) in omega arith;
   outside = let u = union_tight g is cov x t c.first c.second c.odd in odd_three (count g.order (complement (union x t))) u.odd_complement two;
 }
-  where
-    in_first : (i j : Bool) → i ≡ true → (i || j) ≡ true
-    in_first true j h = refl
-    in_first false j h = absurd (true≢false (sym h))
 
 -- an edge with one end in y and the other in z connects them
 pub joins : (g : Graph) (y z : Set) (e u v : ℕ) → HasEnds g e u v → y u ≡ true → z v ≡ true → connects g y z e ≡ true

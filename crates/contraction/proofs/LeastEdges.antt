@@ -8,12 +8,13 @@ use Rattle.std.proofs.lemmas.List.{take_more}
 use Rattle.std.proofs.lemmas.List.Elements.{All-head, All-tail}
 use Rattle.std.proofs.lemmas.List.Folds.{list_any-append}
 use Rattle.std.proofs.lemmas.Option.{get_or_from_slice_get, slice_get_within}
-use Rattle.counting.proofs.RisingLists.{rising_list-congr, same_answers}
+use Rattle.counting.proofs.RisingLists.{rising_list-congr}
 use Rattle.counting.proofs.Tests.{some_congr, some_true, true_some}
 use Rattle.counting.specs.Counts.{Within}
 use Rattle.counting.specs.Lists.{item, mem, rising_list}
 use Rattle.counting.specs.Sets.{Set}
 use Rattle.counting.specs.Tests.{some}
+use Rattle.counting.proofs.Booleans.{or_false, same_tests}
 use Rattle.graph_core.specs.Graph.{Graph, size}
 use Rattle.graph_core.specs.Quotients.{lifted, quotient, remembered}
 use Rattle.match_core.proofs.MatchingEdges.{edge_of}
@@ -45,15 +46,11 @@ pub any-more : (t : MatchRow → Bool) (rows : List MatchRow) (i : ℕ) (row : M
 any-more t rows i row q =
     ap (list_any t) (take_more rows i row (slice_get_within rows i row q))
     ∙ list_any-append t (take i rows) (get_or rows i row ∷ [])
-    ∙ ap (λ (b : Bool). list_any t (take i rows) || b) (or_no (t (get_or rows i row)) ∙ ap t (get_or_from_slice_get rows i row row q))
-  where
-    or_no : (b : Bool) → (b || false) ≡ b
-    or_no true = refl
-    or_no false = refl
+    ∙ ap (λ (b : Bool). list_any t (take i rows) || b) (or_false (t (get_or rows i row)) ∙ ap t (get_or_from_slice_get rows i row row q))
 
 -- some row passes exactly where some edge of the rows does
 pub any-edge : (n : ℕ) (t : ℕ → Bool) (rows : List MatchRow) → All (λ (row : MatchRow). Within n row.edge) rows → list_any (λ (row : MatchRow). t row.edge) rows ≡ some n (λ k. mem (map edge_of rows) k && t k)
-any-edge n t rows all = same_answers _ _ (there rows all) (λ h. let r = some_true n (λ k. mem (map edge_of rows) k && t k) h in let b = and_parts (mem (map edge_of rows) r.0) (t r.0) r.2 in back rows r.0 b.0 b.1)
+any-edge n t rows all = same_tests _ _ (there rows all) (λ h. let r = some_true n (λ k. mem (map edge_of rows) k && t k) h in let b = and_parts (mem (map edge_of rows) r.0) (t r.0) r.2 in back rows r.0 b.0 b.1)
   where
     wider : (row : MatchRow) (rows : List MatchRow) → some n (λ k. mem (map edge_of rows) k && t k) ≡ true → some n (λ k. mem (map edge_of (row ∷ rows)) k && t k) ≡ true
     wider row rows h = let r = some_true n (λ k. mem (map edge_of rows) k && t k) h in let b = and_parts (mem (map edge_of rows) r.0) (t r.0) r.2 in

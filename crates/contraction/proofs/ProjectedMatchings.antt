@@ -1,11 +1,12 @@
 -- A perfect matching at a partition is projected to a perfect matching of the quotient, each edge to the edge between its two
 -- blocks, of which there is one; the cut of a set of blocks has as many edges of it before and after, down and up.
 use Rattle.std.proofs.Common.{◌≡◌, ◌≢◌, ℕ, ◌-◌, ◌<◌, true, ◌==◌, ◌&&◌, List, get_or, refl, sym, ap, ◌∙◌, arith, inl, inr, ◌⊎◌, subst, eq-eqb, eqb-true}
+use Rattle.counting.proofs.Booleans.{same_tests}
 use Rattle.std.specs.Prelude.{slice_index}
 use Rattle.std.proofs.lemmas.Bool.{and_from, and_parts, cases_order}
 use Rattle.counting.proofs.Counts.{count_congr}
 use Rattle.counting.proofs.Lists.{rising_holds, rising_only}
-use Rattle.counting.proofs.RisingLists.{mem-rising_list, same_answers}
+use Rattle.counting.proofs.RisingLists.{mem-rising_list}
 use Rattle.counting.proofs.Tests.{least_of, least_of_is, some_true, true_some}
 use Rattle.counting.specs.Counts.{Within}
 use Rattle.counting.specs.Lists.{mem}
@@ -107,7 +108,7 @@ module _ (g : Graph) (p : List (List ℕ)) (is : IsGraph g) (pp : AreBlocks g.or
         turned (inr q) = inr (sym q.1, sym q.0)
 
     same : (k : ℕ) → Within (size (quotient g p)) k → carried k ≡ projected g p m k
-    same k w = same_answers (carried k) (projected g p m k) (there k w) (back k w)
+    same k w = same_tests (carried k) (projected g p m k) (there k w) (back k w)
 
     pub projected-perfect : IsPerfect (quotient g p) none (projected g p m)
     unfolding carried

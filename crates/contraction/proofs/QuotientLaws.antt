@@ -6,6 +6,7 @@ use Rattle.counting.proofs.Tests.{some_true, true_some}
 use Rattle.counting.specs.Counts.{Within}
 use Rattle.counting.specs.Sets.{Set}
 use Rattle.counting.specs.Tests.{some}
+use Rattle.counting.proofs.Booleans.{same_tests}
 use Rattle.graph_core.proofs.Adjacency.{Alike, covered_over, has_ends-from}
 use Rattle.graph_core.proofs.Blocks.{contracted-graph, contracted-order, contracted-size}
 use Rattle.graph_core.proofs.Quotients.{edge_of_pair, quotient-order, quotient_edge}
@@ -41,18 +42,13 @@ module _ (g : Graph) (p : List (List ℕ)) (is : IsGraph g) (pp : AreBlocks g.or
   turned h a b t = let r = some_true (size h) (has_ends h a b) t in true_some (size h) (has_ends h b a) r.0 r.1 (has_ends-back h a b r.0 r.2)
 
   pub same_pairs : (a b : ℕ) → Within (length p) a → Within (length p) b → a ≢ b → some (size (contracted g p)) (has_ends (contracted g p) a b) ≡ some (size (quotient g p)) (has_ends (quotient g p) a b)
-  same_pairs a b wa wb d = both (some (size (contracted g p)) (has_ends (contracted g p) a b)) (some (size (quotient g p)) (has_ends (quotient g p) a b)) there (down a b)
+  same_pairs a b wa wb d = same_tests (some (size (contracted g p)) (has_ends (contracted g p) a b)) (some (size (quotient g p)) (has_ends (quotient g p) a b)) there (down a b)
     where
       there : some (size (contracted g p)) (has_ends (contracted g p) a b) ≡ true → some (size (quotient g p)) (has_ends (quotient g p) a b) ≡ true
       there h = elim (cases_order a b) [
         | inl e ↦ absurd (d e)
         | inr o ↦ elim o [ inl l ↦ up a b wa wb l h | inr l ↦ turned (quotient g p) b a (up b a wb wa l (turned (contracted g p) a b h)) ]
       ]
-
-      both : (s t : Bool) → (s ≡ true → t ≡ true) → (t ≡ true → s ≡ true) → s ≡ t
-      both true t f h = sym (f refl)
-      both false true f h = h refl
-      both false false f h = refl
 
   alike_q : Alike (contracted g p) (quotient g p) (λ v. v)
   alike_q = record {

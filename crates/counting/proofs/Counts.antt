@@ -6,6 +6,7 @@ use Rattle.counting.proofs.Totals.{at_le_total, total_add, total_at, total_congr
 use Rattle.counting.specs.Counts.{Within, bit, count, total}
 use Rattle.counting.specs.Sets.{Set, complement, meet, union}
 use Rattle.counting.specs.Tests.{some}
+use Rattle.counting.proofs.Booleans.{bit_and_false, bit_and_true, bit_le_one}
 
 pub bit-and : (x y : Bool) → bit (x && y) ≡ bit x * bit y
 bit-and true y = omega arith
@@ -13,26 +14,14 @@ bit-and false y = omega arith
 
 -- the vertices of x that are a
 pub count_of_one : (n : ℕ) (x : Set) (a : ℕ) → Within n a → total n (λ v. bit (x v && (a == v))) ≡ bit (x a)
-count_of_one n x a w = total_at n (λ v. bit (x v && (a == v))) a w (λ v u d. rw (ne_eqb a v (λ e. d (sym e))) (and_no (x v))) ∙ rw (eq-eqb a a refl) (and_yes (x a))
-  where
-    and_no : (b : Bool) → bit (b && false) ≡ 0
-    and_no true = refl
-    and_no false = refl
-
-    and_yes : (b : Bool) → bit (b && true) ≡ bit b
-    and_yes true = refl
-    and_yes false = refl
+count_of_one n x a w = total_at n (λ v. bit (x v && (a == v))) a w (λ v u d. rw (ne_eqb a v (λ e. d (sym e))) (bit_and_false (x v))) ∙ rw (eq-eqb a a refl) (bit_and_true (x a))
 
 pub count_congr : (n : ℕ) (p q : ℕ → Bool) → ((v : ℕ) → Within n v → p v ≡ q v) → count n p ≡ count n q
 count_congr n p q h = total_congr n _ _ (λ v w. ap bit (h v w))
 
 pub count_le : (n : ℕ) (p : ℕ → Bool) → count n p ≤ n
 count_le zero p = omega arith
-count_le (suc n) p = omega (arith, count_le n p, bit_le (p (suc n)))
-  where
-    bit_le : (b : Bool) → bit b ≤ 1
-    bit_le true = omega arith
-    bit_le false = omega arith
+count_le (suc n) p = omega (arith, count_le n p, bit_le_one (p (suc n)))
 
 pub count_more : (n : ℕ) (p q : ℕ → Bool) → ((v : ℕ) → p v ≡ true → q v ≡ true) → (a : ℕ) → Within n a → p a ≡ false → q a ≡ true → count n p + 1 ≤ count n q
 count_more n p q h a w pa qa = omega (arith, component_count, one)

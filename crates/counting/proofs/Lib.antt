@@ -1,3 +1,4 @@
+pub mod Booleans
 pub mod Choice
 pub mod Counts
 pub mod Lists

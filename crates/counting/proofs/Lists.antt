@@ -9,6 +9,7 @@ use Rattle.counting.proofs.Totals.{total_add, total_at, total_congr, total_none,
 use Rattle.counting.specs.Counts.{Within, bit, count, total}
 use Rattle.counting.specs.Lists.{IsRisingIn, mem, rising_list, times}
 use Rattle.counting.specs.Sets.{Set}
+use Rattle.counting.proofs.Booleans.{and_false}
 
 -- rising numbers from low to n
 abbrev pub Rises : ℕ → ℕ → List ℕ → Type 0
@@ -50,17 +51,13 @@ pub mem-filter : (p : ℕ → Bool) (xs : List ℕ) (v : ℕ) → mem (filter p 
 mem-filter p [] v = refl
 mem-filter p (x ∷ xs) v = go (mem-filter p xs v) (p x) refl
   where
-    and_no : (b : Bool) → (b && false) ≡ false
-    and_no true = refl
-    and_no false = refl
-
     go : mem (filter p xs) v ≡ (mem xs v && p v) → (b : Bool) → p x ≡ b → mem (cond b (x ∷ filter p xs) (filter p xs)) v ≡ (((x == v) || mem xs v) && p v)
     go ih true e = elim (cases_eq x v) [
       | inl q ↦ rw (eq-eqb x v q) (sym e ∙ ap p q)
       | inr q ↦ rw (ne_eqb x v q) ih
     ]
     go ih false e = elim (cases_eq x v) [
-      | inl q ↦ let f : p v ≡ false = ap p (sym q) ∙ e in ih ∙ rw f (and_no (mem xs v) ∙ sym (and_no ((x == v) || mem xs v)))
+      | inl q ↦ let f : p v ≡ false = ap p (sym q) ∙ e in ih ∙ rw f (and_false (mem xs v) ∙ sym (and_false ((x == v) || mem xs v)))
       | inr q ↦ rw (ne_eqb x v q) ih
     ]
 

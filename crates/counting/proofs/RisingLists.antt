@@ -9,6 +9,7 @@ use Rattle.counting.proofs.Lists.{Rises, count_mem_length, mem-within, mem_low, 
 use Rattle.counting.specs.Counts.{Within, count}
 use Rattle.counting.specs.Lists.{IsGreatestOf, IsLeastOf, IsRisingIn, all_in, last_of, mem, rising_list}
 use Rattle.counting.specs.Sets.{Set, everything}
+use Rattle.counting.proofs.Booleans.{and_true, same_tests}
 
 -- a number of the list is at least its lowest bound
 rises_first : (low n : ℕ) (xs : List ℕ) → Rises low n xs → 0 < length xs → low ≤ slice_index_or xs 0 0
@@ -59,15 +60,9 @@ rises-rising_list (suc n) x = step (rises-rising_list n x) (x (suc n))
 pub rising_list-rises : (n : ℕ) (x : Set) → IsRisingIn n (rising_list n x)
 rising_list-rises n x = set-from_rises n (rising_list n x) (rises-rising_list n x)
 
--- two answers that are true together
-pub same_answers : (a b : Bool) → (a ≡ true → b ≡ true) → (b ≡ true → a ≡ true) → a ≡ b
-same_answers true b f g = sym (f refl)
-same_answers false true f g = g refl
-same_answers false false f g = refl
-
 -- within 1 to n the list of a test has its numbers
 pub mem-rising_list : (n : ℕ) (x : Set) (v : ℕ) → Within n v → mem (rising_list n x) v ≡ x v
-mem-rising_list n x v w = same_answers (mem (rising_list n x) v) (x v) (λ h. (rising_only n x v h).1) (rising_holds n x v w)
+mem-rising_list n x v w = same_tests (mem (rising_list n x) v) (x v) (λ h. (rising_only n x v h).1) (rising_holds n x v w)
 
 -- past 1 to n it has nothing
 pub mem-outside : (n : ℕ) (xs : List ℕ) → IsRisingIn n xs → (v : ℕ) → (Within n v → ⊥) → mem xs v ≡ false
@@ -76,7 +71,7 @@ mem-outside n xs r v h = false_from_ne_true (mem xs v) (λ m. h (mem-within n xs
 -- two sets as lists with the same numbers of 1 to n are equal
 pub same_rising_list : (n : ℕ) (xs ys : List ℕ) → IsRisingIn n xs → IsRisingIn n ys → ((v : ℕ) → Within n v → mem xs v ≡ mem ys v) → xs ≡ ys
 same_rising_list n xs ys r s h =
-    same_list 1 n xs ys (rises-from_set n xs r) (rises-from_set n ys s) (λ v. same_answers (mem xs v) (mem ys v) (λ m. sym (h v (mem-within n xs r v m)) ∙ m) (λ m. h v (mem-within n ys s v m) ∙ m))
+    same_list 1 n xs ys (rises-from_set n xs r) (rises-from_set n ys s) (λ v. same_tests (mem xs v) (mem ys v) (λ m. sym (h v (mem-within n xs r v m)) ∙ m) (λ m. h v (mem-within n ys s v m) ∙ m))
 
 -- a set as a list is the list of its own test
 pub rising_list-mem : (n : ℕ) (xs : List ℕ) → IsRisingIn n xs → rising_list n (mem xs) ≡ xs
@@ -179,12 +174,8 @@ split_least n xs ys v r s m least others = same_rising_list n xs (v ∷ ys) r wh
     same : (a b : Bool) (w : ℕ) → mem xs w ≡ a → b ≡ (mem xs w && not (v == w)) → a ≡ ((v == w) || b)
     same a b w e f = elim (cases_eq v w) [
       | inl q ↦ rw (eq-eqb v w q) (sym e ∙ ap (mem xs) (sym q) ∙ m)
-      | inr d ↦ let g = ne_eqb v w d in rw g (sym (f ∙ rw (g, e) (keeps a)))
+      | inr d ↦ let g = ne_eqb v w d in rw g (sym (f ∙ rw (g, e) (and_true a)))
     ]
-      where
-        keeps : (c : Bool) → (c && true) ≡ c
-        keeps true = refl
-        keeps false = refl
 
 -- where not all are in x, one is outside
 pub false_all_in : (xs : List ℕ) (x : Set) → all_in xs x ≡ false → (v : ℕ) × (mem xs v ≡ true) × (x v ≡ false)

@@ -9,24 +9,15 @@ use Rattle.counting.proofs.Totals.{total_add, total_congr, total_le}
 use Rattle.counting.specs.Counts.{Within, bit, count}
 use Rattle.counting.specs.Lists.{IsRisingIn, is_subset, mem}
 use Rattle.counting.specs.Sets.{Set, meet, minus, singleton, union}
+use Rattle.counting.proofs.Booleans.{bit_le, bit_parted}
 
 -- a smaller test counts fewer
 pub count_mono : (n : ℕ) (x y : Set) → ((v : ℕ) → Within n v → x v ≡ true → y v ≡ true) → count n x ≤ count n y
-count_mono n x y h = total_le n _ _ (λ v w. bits (x v) (y v) (h v w))
-  where
-    bits : (s t : Bool) → (s ≡ true → t ≡ true) → bit s ≤ bit t
-    bits true true f = omega arith
-    bits true false f = absurd (true≢false (sym (f refl)))
-    bits false t f = omega arith
+count_mono n x y h = total_le n _ _ (λ v w. bit_le (x v) (y v) (h v w))
 
 -- x splits at y
 pub count_split : (n : ℕ) (x y : Set) → count n x ≡ count n (meet x y) + count n (minus x y)
-count_split n x y = total_congr n _ _ (λ v w. bits (x v) (y v)) ∙ total_add n (λ v. bit (meet x y v)) (λ v. bit (minus x y v))
-  where
-    bits : (s t : Bool) → bit s ≡ bit (s && t) + bit (s && not t)
-    bits true true = refl
-    bits true false = refl
-    bits false t = refl
+count_split n x y = total_congr n _ _ (λ v w. bit_parted (x v) (y v)) ∙ total_add n (λ v. bit (meet x y v)) (λ v. bit (minus x y v))
 
 -- v is counted once
 pub count_singleton : (n v : ℕ) → Within n v → count n (singleton v) ≡ 1

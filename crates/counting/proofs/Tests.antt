@@ -4,6 +4,7 @@ use Rattle.std.proofs.Common.{◌≡◌, ℕ, suc, zero, Bool, true, false, cond
 use Rattle.std.proofs.lemmas.Bool.{cases_eq, cases_Bool, or_cases, and_parts, and_from, both_ways, or_left, or_right, true≢false, false_from_ne_true, cases_order}
 use Rattle.counting.specs.Counts.{Within}
 use Rattle.counting.specs.Tests.{IsLeastWithout, every, some}
+use Rattle.counting.proofs.Booleans.{or_second}
 
 pub every_true : (n : ℕ) (p : ℕ → Bool) → every n p ≡ true → (v : ℕ) → Within n v → p v ≡ true
 every_true zero p h v w = absurd (omega arith)
@@ -44,11 +45,8 @@ pub least_true : (n : ℕ) (p : ℕ → Bool) → some n p ≡ true → (u : ℕ
 least_true zero p h = absurd (true≢false (sym h))
 least_true (suc n) p h = elim (cases_Bool (some n p)) [
   | inl t ↦ let r = least_true n p t in (r.0, omega arith, r.2, λ w ww l. r.3 w (let a = r.1 in omega arith) l)
-  | inr f ↦ (suc n, omega arith, last (some n p) (p (suc n)) f h, λ w ww l. some_none n p f w (omega arith))
+  | inr f ↦ (suc n, omega arith, or_second (some n p) (p (suc n)) f h, λ w ww l. some_none n p f w (omega arith))
 ]
-  where
-    last : (a b : Bool) → a ≡ false → (a || b) ≡ true → b ≡ true
-    last a b p q = grind arith
 
 -- one of two for each of 1 to n: the first somewhere, or the second everywhere
 pub scan : (n : ℕ) (P Q : ℕ → Type 0) → ((v : ℕ) → Within n v → P v ⊎ Q v) → ((v : ℕ) × Within n v × P v) ⊎ ((v : ℕ) → Within n v → Q v)
@@ -71,12 +69,9 @@ unfolding least_of
 least_of_is zero p h = absurd (true≢false (sym h))
 least_of_is (suc n) p h = go (least_of_is n p) (some n p) refl
   where
-    last : (a b : Bool) → a ≡ false → (a || b) ≡ true → b ≡ true
-    last a b x y = grind arith
-
     go : (some n p ≡ true → Within n (least_of n p) × (p (least_of n p) ≡ true)) → (b : Bool) → some n p ≡ b → Within (suc n) (cond b (least_of n p) (suc n)) × (p (cond b (least_of n p) (suc n)) ≡ true)
     go ih true e = let r = ih e in ((let a = r.0 in omega arith), r.1)
-    go ih false e = (omega arith, last (some n p) (p (suc n)) e h)
+    go ih false e = (omega arith, or_second (some n p) (p (suc n)) e h)
 
 pub some_congr : (n : ℕ) (p q : ℕ → Bool) → ((v : ℕ) → Within n v → p v ≡ q v) → some n p ≡ some n q
 some_congr zero p q h = refl

@@ -4,11 +4,11 @@ use Rattle.std.proofs.lemmas.Bool.{cases_eq, cases_Bool, and_parts, and_from, tr
 use Rattle.barrier_kit.proofs.Matched.{perfect_congr}
 use Rattle.barrier_kit.specs.BarrierCuts.{IsSide}
 use Rattle.counting.proofs.Ranks.{rank_once}
-use Rattle.counting.proofs.RisingLists.{same_answers}
 use Rattle.counting.proofs.Tests.{some_true, true_some}
 use Rattle.counting.specs.Counts.{Within, count, is_odd}
 use Rattle.counting.specs.Sets.{Set, pair_set}
 use Rattle.counting.specs.Tests.{some}
+use Rattle.counting.proofs.Booleans.{not_not, or_comm, same_tests}
 use Rattle.ear_core.proofs.EngineGraphs.{ends-met}
 use Rattle.ear_core.proofs.TraceEdges.{two_less_odd}
 use Rattle.ear_core.proofs.NextStages.{met-within}
@@ -48,11 +48,7 @@ last_vertex-side g a sides v (e ∷ []) t o = other_end-side g a e v (sides e t.
 last_vertex-side g a sides v (e ∷ d ∷ es) t o =
     last_vertex-side g a sides (other_end g d (other_end g e v)) es t.1.1 (two_less_odd (length es) o)
     ∙ ap not (other_end-side g a d (other_end g e v) (sides d t.1.0.0) t.1.0.1 ∙ ap not (other_end-side g a e v (sides e t.0.0) t.0.1))
-    ∙ ap not (twice (a v))
-  where
-    twice : (x : Bool) → not (not x) ≡ x
-    twice true = refl
-    twice false = refl
+    ∙ ap not (not_not (a v))
 
 module _ (g : Graph) (is : IsGraph g) (a : Set) (sides : (e : ℕ) → Within (size g) e → in_cut g a e ≡ true) (f : Set) where
   abbrev t : Set
@@ -64,7 +60,7 @@ module _ (g : Graph) (is : IsGraph g) (a : Set) (sides : (e : ℕ) → Within (s
 
   rank_side : (v : ℕ) → Within g.order v → t v ≡ true → by_rank (count v t) ≡ a v
   unfolding by_rank
-  rank_side v w tv = same_answers (by_rank (count v t)) (a v)
+  rank_side v w tv = same_tests (by_rank (count v t)) (a v)
       (λ h. let u = some_true g.order (λ u. (t u && a u) && (count u t == count v t)) h in
       let b = and_parts (t u.0 && a u.0) (count u.0 t == count v t) u.2 in
       let c = and_parts (t u.0) (a u.0) b.0 in ap a (sym (rank_once t u.0 v c.0 tv (eqb-true (count u.0 t) (count v t) b.1))) ∙ c.1)
@@ -92,9 +88,6 @@ module _ (g : Graph) (is : IsGraph g) (a : Set) (sides : (e : ℕ) → Within (s
       let m = served v z wv wz ear.start ear.end (last_vertex-side g a sides v es ear.follow ear.odd) (a v) refl in
       (m.0, ranked-off g is f (pair_set v z) (pair_set (count v t) (count z t)) (λ w ww tw. ap₂ ◌||◌ (rank-test t v w ear.start tw) (rank-test t z w ear.end tw)) (ranked-graph g is f s) m.0 m.1)
     where
-      turn : (x y : Bool) → (x || y) ≡ (y || x)
-      turn x y = grind arith
-
       served : (v z : ℕ) → Within g.order v → Within g.order z → t v ≡ true → t z ≡ true → a z ≡ not (a v) → (b : Bool) → a v ≡ b → HasPerfect (stage_graph g f) (pair_set (count v t) (count z t))
       served v z wv wz tv tz e true h =
           opposite (stage_graph g f) (ranked-graph g is f s) (ranked-covered g is f s) by_rank stage_sides (count v t) (count z t) (rank-within g.order t v wv tv) (rank-within g.order t z wz tz)
@@ -102,7 +95,7 @@ module _ (g : Graph) (is : IsGraph g) (a : Set) (sides : (e : ℕ) → Within (s
       served v z wv wz tv tz e false h =
           let m = opposite (stage_graph g f) (ranked-graph g is f s) (ranked-covered g is f s) by_rank stage_sides (count z t) (count v t) (rank-within g.order t z wz tz) (rank-within g.order t v wv tv)
           (rank_side z wz tz ∙ e ∙ ap not h) (rank_side v wv tv ∙ h) in
-          (m.0, perfect_congr (stage_graph g f) (pair_set (count z t) (count v t)) (pair_set (count v t) (count z t)) m.0 (λ w ww. turn (count z t == w) (count v t == w)) m.1)
+          (m.0, perfect_congr (stage_graph g f) (pair_set (count z t) (count v t)) (pair_set (count v t) (count z t)) m.0 (λ w ww. or_comm (count z t == w) (count v t == w)) m.1)
 
 -- so among candidates one serves
 pub bipartite-found : (g : Graph) → IsGraph g → IsBipartite g → (f : Set) → IsStage g f → (ears : List PlainEar) → AreCandidates g f ears → NoneServes g f ears → ⊥

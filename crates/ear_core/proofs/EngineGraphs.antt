@@ -1,9 +1,9 @@
 -- The edges of a stage in a graph of their own. The degree by rank is the degree in g, so a perfect matching of the listed edges is one of
 -- the graph of the stage; and an edge lies in one where its two ends may be left out.
 use Rattle.std.proofs.Common.{◌≡◌, ℕ, suc, zero, ◌+◌, ◌*◌, ◌≢◌, Bool, true, false, cond, ◌==◌, refl, sym, ap, ◌∙◌, arith, ◌&&◌, not, eq-eqb, ne_eqb, eqb-true, inl, inr, [], ◌∷◌, ◌++◌, length, ◌↔◌}
+use Rattle.counting.proofs.Booleans.{same_tests}
 use Rattle.std.proofs.lemmas.Bool.{cases_eq, or_right, cases_Bool, and_parts, true_from_ne_false, and_from, both_ways, false_from_ne_true, not-true, or_left, or_cases, or_parts, or_from}
 use Rattle.counting.proofs.Ranks.{rank_once}
-use Rattle.counting.proofs.RisingLists.{same_answers}
 use Rattle.counting.proofs.Tests.{some_true, true_some}
 use Rattle.counting.specs.Counts.{bit, count, Within}
 use Rattle.counting.specs.Sets.{Set, union, put, pair_set, complement}
@@ -78,7 +78,7 @@ module _ (g : Graph) (f r : Set) where
 
   same_rank : (m : Set) → ((e : ℕ) → Within (size g) e → m e ≡ true → f e ≡ true) → (e : ℕ) → Within (size g) e → by_rank f (rank_of m) e ≡ m e
   unfolding rank_of
-  same_rank m part e w = same_answers (f e && rank_of m (count e f)) (m e)
+  same_rank m part e w = same_tests (f e && rank_of m (count e f)) (m e)
       (λ t. let a = and_parts (f e) (rank_of m (count e f)) t in
       let d = some_true (size g) (λ d. (f d && m d) && (count d f == count e f)) a.1 in
       let b = and_parts (f d.0 && m d.0) (count d.0 f == count e f) d.2 in

@@ -1,6 +1,7 @@
 -- What the code's tests of an ear say of the definitions: the first test that fails, the vertices met by marks, and inner vertices
 -- that are free.
 use Rattle.std.proofs.Common.{◌≡◌, ℕ, suc, ◌<◌, true, false, ◌==◌, refl, sym, ap, ap₂, ◌∙◌, arith, ◌&&◌, ◌||◌, not, eq-eqb, ne_eqb, Some, None, [], ◌∷◌, List, length, All, subst, inl, inr}
+use Rattle.counting.proofs.Booleans.{same_tests}
 use Rattle.std.proofs.lemmas.Bool.{and_parts, and_from, both_ways, or_cases, or_left, or_right, false_from_ne_true, true≢false}
 use Rattle.counting.proofs.Tests.{some_true, true_some}
 use Rattle.counting.specs.Counts.{bit}
@@ -8,7 +9,6 @@ use Rattle.counting.specs.Lists.{mem}
 use Rattle.counting.specs.Sets.{Set}
 use Rattle.counting.specs.Tests.{some}
 use Rattle.graph_core.proofs.Edits.{ends_of, edge_at, ends_le_degree}
-use Rattle.counting.proofs.RisingLists.{same_answers}
 use Rattle.graph_core.specs.Graph.{Graph, size, first_end, second_end}
 use Rattle.ear_core.specs.Ears.{last_vertex}
 use Rattle.ear_core.specs.Stages.{is_met}
@@ -19,7 +19,7 @@ use Rattle.ear_core.proofs.EarTests.{no_member_at, at_no_member}
 -- the vertices that f meets are the ends of its edges
 pub met-ends : (g : Graph) (f : Set) (v : ℕ) → some (size g) (λ e. f e && (first_end g e == v || second_end g e == v)) ≡ is_met g f v
 unfolding ends_of
-met-ends g f v = same_answers (some (size g) (λ e. f e && (first_end g e == v || second_end g e == v))) (is_met g f v)
+met-ends g f v = same_tests (some (size g) (λ e. f e && (first_end g e == v || second_end g e == v))) (is_met g f v)
     (λ h. let e = some_true (size g) (λ e. f e && (first_end g e == v || second_end g e == v)) h in
     let b = and_parts (f e.0) (first_end g e.0 == v || second_end g e.0 == v) e.2 in
     let d = ends_le_degree g f e.0 v e.1 b.0 in
@@ -56,7 +56,7 @@ module _ (g : Graph) (f : Set) (xs ds : List ℕ) (v : ℕ) (es : List ℕ) wher
   ends-same met last are is = ap₂ (λ a b. a && (b && not (v == last))) (are v) (are last) ∙ ap (λ y. is_met g f v && (is_met g f y && not (v == y))) is
 
   pub free-same : (inner met taken : List ℕ) → ((w : ℕ) → mem inner w ≡ mem (inner_vertices g v es) w) → ((w : ℕ) → mem met w ≡ is_met g f w) → ((w : ℕ) → mem taken w ≡ (mem met w || mem xs w)) → no_member (mem taken) inner ≡ has_free_inner g f xs v es
-  free-same inner met taken is_inner are_met are_taken = same_answers (no_member (mem taken) inner) (has_free_inner g f xs v es)
+  free-same inner met taken is_inner are_met are_taken = same_tests (no_member (mem taken) inner) (has_free_inner g f xs v es)
       (λ h. at_no_member (λ w. is_met g f w || mem xs w) (inner_vertices g v es) (λ w m. sym (is w) ∙ no_member_at (mem taken) inner h w (is_inner w ∙ m)))
       (λ h. at_no_member (mem taken) inner (λ w m. is w ∙ no_member_at (λ w. is_met g f w || mem xs w) (inner_vertices g v es) h w (sym (is_inner w) ∙ m)))
     where

@@ -8,6 +8,7 @@ use Rattle.counting.proofs.Counts.{count_more}
 use Rattle.counting.specs.Counts.{Within, count}
 use Rattle.counting.specs.Lists.{mem}
 use Rattle.counting.specs.Sets.{Set, complement}
+use Rattle.counting.proofs.Booleans.{or_false_back}
 use Rattle.graph_core.specs.Graph.{Graph, IsGraph}
 use Rattle.match_core.specs.declared.matching.MatchRow.{MatchRow}
 use Rattle.ear_core.specs.AlternatingEars.{row_edge, mate, KeepsMates, IsAlternating, IsClear, IsTraced, HoldsMates, IsMatedEar, AreMatedEars, is_left}
@@ -45,12 +46,8 @@ module _ (g : Graph) (is : IsGraph g) (met : Set) (m : ℕ → ℕ) (pm : AreMat
     m v ∷ [],
     appended ∙ ap (λ d. old ++ d ∷ []) edge,
     path_ends g is met m pm n pn keeps z v wv clear (ap met (sym other) ∙ t),
-    λ u. joined u ∙ ap (λ x. z u || (v == u || x == u)) other ∙ ap (λ b. z u || (v == u || b)) (no_more (mate g m v == u)),
+    λ u. joined u ∙ ap (λ x. z u || (v == u || x == u)) other ∙ ap (λ b. z u || (v == u || b)) (or_false_back (mate g m v == u)),
   )
-    where
-      no_more : (b : Bool) → b ≡ (b || false)
-      no_more true = refl
-      no_more false = refl
 
   module _ (off : met w ≡ false) where
     out : met (mate g m v) ≡ false

@@ -6,6 +6,7 @@ use Rattle.counting.proofs.RisingLists.{mem-item}
 use Rattle.counting.specs.Counts.{bit, Within}
 use Rattle.counting.specs.Lists.{mem, IsIn}
 use Rattle.counting.specs.Sets.{Set, union, complement}
+use Rattle.counting.proofs.Booleans.{or_comm}
 use Rattle.barrier_kit.proofs.Matched.{perfect_congr}
 use Rattle.graph_core.specs.Graph.{Graph, size, IsGraph, with_ends}
 use Rattle.graph_core.specs.Matchings.{HasPerfect}
@@ -134,13 +135,7 @@ module _ (g : Graph) (is : IsGraph g) (f : Set) (stage : IsStage g f) (ears : Li
       (r, apart-pair g is f stage a b ea eb d, serving-two g is f stage a b ea eb d found.4)
 
   turned : (a b : PlainEar) → Serves g f (union (ends_of_ear g a) (ends_of_ear g b)) → Serves g f (union (ends_of_ear g b) (ends_of_ear g a))
-  turned a b q = serves-same g f (union (ends_of_ear g a) (ends_of_ear g b)) (union (ends_of_ear g b) (ends_of_ear g a)) (λ v. swap (ends_of_ear g a v) (ends_of_ear g b v)) q
-    where
-      swap : (x y : Bool) → (x || y) ≡ (y || x)
-      swap true true = refl
-      swap true false = refl
-      swap false true = refl
-      swap false false = refl
+  turned a b q = serves-same g f (union (ends_of_ear g a) (ends_of_ear g b)) (union (ends_of_ear g b) (ends_of_ear g a)) (λ v. or_comm (ends_of_ear g a v) (ends_of_ear g b v)) q
 
   -- one serves, or two do
   pub never-none : NoneServes g f ears → NoTwoServe g f ears → ⊥

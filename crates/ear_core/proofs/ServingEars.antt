@@ -4,6 +4,7 @@ use Rattle.std.proofs.Common.{◌≡◌, ℕ, Bool, true, false, ◌==◌, refl,
 use Rattle.std.proofs.lemmas.Bool.{cases_Bool, true≢false, or_left, or_right, or_cases}
 use Rattle.counting.specs.Lists.{mem}
 use Rattle.counting.specs.Sets.{Set, none, union, pair_set}
+use Rattle.counting.proofs.Booleans.{or_false_back}
 use Rattle.graph_core.specs.Graph.{Graph, IsGraph}
 use Rattle.ear_core.specs.Stages.{is_met, IsPerfectOf, IsPerfectOff, IsStage, with_edges}
 use Rattle.ear_core.specs.Ears.{last_vertex, IsEar, IsEarPair}
@@ -22,16 +23,12 @@ with-perfect g f o m near perfect holds = record {
 pub off-same : (g : Graph) (f r k m : Set) → ((v : ℕ) → r v ≡ k v) → IsPerfectOff g f r m → IsPerfectOff g f k m
 off-same g f r k m e p = record { part = p.part; once = λ v w t o. p.once v w t (e v ∙ o); away = λ v w o. p.away v w (e v ∙ o) }
 
-add_none : (b : Bool) → b ≡ (b || false)
-add_none true = refl
-add_none false = refl
-
 -- an ear whose ends serve may be added
 pub one-serves : (g : Graph) → IsGraph g → (f : Set) (v : ℕ) (es : List ℕ) → IsStage g f → IsEar g f v es → (q : Set) → IsPerfectOff g f (pair_set v (last_vertex g v es)) q → IsStage g (with_edges f es)
 one-serves g is f v es stage ear q p =
     with-perfect g (with_edges f es) (λ e. none e || mem (odds es) e) (with_edges q (odds es)) (grow g is f none v es ear (met-within g is f v ear.start) (nearly g f stage))
     (none_but g (with_edges f es) (with_edges q (odds es)) (odd_on g f v es ear none q (λ w ww t. absurd (true≢false (sym t))) refl refl
-    (off-same g f (pair_set v (last_vertex g v es)) (union (pair_set v (last_vertex g v es)) none) q (λ w. add_none (pair_set v (last_vertex g v es) w)) p)))
+    (off-same g f (pair_set v (last_vertex g v es)) (union (pair_set v (last_vertex g v es)) none) q (λ w. or_false_back (pair_set v (last_vertex g v es) w)) p)))
     (λ e t. or_right (q e) (mem (odds es) e) t)
 
 -- two ears whose ends differ and serve together may be added
@@ -60,4 +57,4 @@ two-serve g is f v es w ds stage pair d0 d1 q p =
 
     both_odd : IsPerfectOff g (with_edges (with_edges f es) ds) none (with_edges (with_edges q (odds es)) (odds ds))
     both_odd = odd_on g (with_edges f es) w ds second none (with_edges q (odds es)) (λ x wx t. absurd (true≢false (sym t))) refl refl
-        (off-same g (with_edges f es) (pair_set w (last_vertex g w ds)) (union (pair_set w (last_vertex g w ds)) none) (with_edges q (odds es)) (λ x. add_none (pair_set w (last_vertex g w ds) x)) first_odd)
+        (off-same g (with_edges f es) (pair_set w (last_vertex g w ds)) (union (pair_set w (last_vertex g w ds)) none) (with_edges q (odds es)) (λ x. or_false_back (pair_set w (last_vertex g w ds) x)) first_odd)

@@ -4,6 +4,7 @@ use Rattle.std.proofs.lemmas.Bool.{true≢false}
 use Rattle.counting.specs.Counts.{Within}
 use Rattle.counting.specs.Lists.{mem}
 use Rattle.counting.specs.Sets.{Set, union, complement, pair_set, none}
+use Rattle.counting.proofs.Booleans.{or_assoc}
 use Rattle.graph_core.specs.Graph.{Graph, size, IsGraph, first_end, second_end, with_ends}
 use Rattle.graph_core.specs.Matchings.{HasPerfect}
 use Rattle.ear_core.specs.Stages.{is_met, AllowedBy, with_edges}
@@ -29,11 +30,7 @@ pub removed-is : (g : Graph) (f : Set) (n a b e : ℕ) (full met outside first r
     ((v : ℕ) → mem met v ≡ is_met g f v) → a ≡ first_end g e → b ≡ second_end g e → (v : ℕ) → Within g.order v → mem removed v ≡ (not (is_met g f v) || ((first_end g e == v) || (second_end g e == v)))
 removed-is g f n a b e full met outside first removed order is_full is_outside is_first is_removed are_met is_a is_b v within =
     is_removed v ∙ ap (λ x. x || b == v) (is_first v ∙ ap (λ x. x || a == v) (is_outside v ∙ ap₂ (λ x y. x && not y) ((is_full v).1 (subst (λ k. Within k v) (sym order) within)) (are_met v)))
-    ∙ joined (not (is_met g f v)) (a == v) (b == v) ∙ ap₂ (λ x y. not (is_met g f v) || ((x == v) || (y == v))) is_a is_b
-  where
-    joined : (x y z : Bool) → ((x || y) || z) ≡ (x || (y || z))
-    joined true y z = refl
-    joined false y z = refl
+    ∙ or_assoc (not (is_met g f v)) (a == v) (b == v) ∙ ap₂ (λ x y. not (is_met g f v) || ((x == v) || (y == v))) is_a is_b
 
 module _ (g : Graph) (is : IsGraph g) (f r : Set) (e : ℕ) (within : Within (size g) e) (differ : first_end g e ≢ second_end g e) (marked : f e ≡ true)
     (same : (v : ℕ) → Within g.order v → r v ≡ (not (is_met g f v) || ((first_end g e == v) || (second_end g e == v)))) (stage : Graph) (listed_edges : stage ≡ with_ends g (listed g f (size g))) where

@@ -6,6 +6,7 @@ use Rattle.counting.proofs.Totals.{total_congr, total_add, total_le, total_none}
 use Rattle.counting.specs.Counts.{bit, Within, is_odd}
 use Rattle.counting.specs.Lists.{mem, times}
 use Rattle.counting.specs.Sets.{Set, none, put}
+use Rattle.counting.proofs.Booleans.{or_second}
 use Rattle.ear_core.specs.Ears.{other_end, Follow, trail, last_vertex}
 use Rattle.ear_core.specs.NearlyStages.{odds, evens}
 use Rattle.ear_core.specs.Stages.{is_met}
@@ -26,12 +27,9 @@ ends_of-other_end g e v w h = elim (cases_eq (first_end g e) v) [
       let b = ap (λ k. bit (k == w)) i in let c = ap (λ k. bit (k == w)) a in omega arith
   | inr d ↦
       let a : other_end g e v ≡ first_end g e = ap (λ b. cond b (second_end g e) (first_end g e)) (ne_eqb (first_end g e) v d) in
-      let f : second_end g e ≡ v = eqb-true (second_end g e) v (second (first_end g e == v) (second_end g e == v) (ne_eqb (first_end g e) v d) h) in
+      let f : second_end g e ≡ v = eqb-true (second_end g e) v (or_second (first_end g e == v) (second_end g e == v) (ne_eqb (first_end g e) v d) h) in
       let b = ap (λ k. bit (k == w)) f in let c = ap (λ k. bit (k == w)) a in omega arith
 ]
-  where
-    second : (a b : Bool) → a ≡ false → (a || b) ≡ true → b ≡ true
-    second a b p q = grind arith
 
 pub two_less_odd : (k : ℕ) → is_odd (suc (suc k)) ≡ true → is_odd k ≡ true
 two_less_odd k h = twice (is_odd k) h

@@ -4,6 +4,7 @@ use Rattle.std.proofs.lemmas.Bool.{cases_eq, and_parts, and_from, true≢false, 
 use Rattle.counting.proofs.Tests.{true_some, some_true}
 use Rattle.counting.specs.Lists.{mem}
 use Rattle.counting.specs.Sets.{Set}
+use Rattle.counting.proofs.Booleans.{or_second}
 use Rattle.ear_core.specs.Ears.{other_end, Follow, trail}
 use Rattle.ear_core.specs.Stages.{adjacent_by}
 use Rattle.graph_core.proofs.Walks.{has_ends-own, has_ends-back}
@@ -33,12 +34,9 @@ other_end-has_ends g e v h = elim (cases_eq (first_end g e) v) [
       ap₂ (λ c d. has_ends g c d e) (sym i) a ∙ has_ends-own g e
   | inr d ↦
       let a : other_end g e v ≡ first_end g e = ap (λ b. cond b (second_end g e) (first_end g e)) (ne_eqb (first_end g e) v d) in
-      let i : second_end g e ≡ v = eqb-true (second_end g e) v (second (first_end g e == v) (second_end g e == v) (ne_eqb (first_end g e) v d) h) in
+      let i : second_end g e ≡ v = eqb-true (second_end g e) v (or_second (first_end g e == v) (second_end g e == v) (ne_eqb (first_end g e) v d) h) in
       ap₂ (λ c d. has_ends g c d e) (sym i) a ∙ has_ends-back g (first_end g e) (second_end g e) e (has_ends-own g e)
 ]
-  where
-    second : (a b : Bool) → a ≡ false → (a || b) ≡ true → b ≡ true
-    second a b p q = grind arith
 
 -- the trace as a walk
 pub trail_walk : (g : Graph) (k : Set) (v : ℕ) (es : List ℕ) → Follow g v es → ((e : ℕ) → mem es e ≡ true → k e ≡ true) → (w : ℕ) → mem (trail g v es) w ≡ true → (ws : List ℕ) × Walk (adjacent_by g k) v ws w

@@ -6,6 +6,7 @@ use Rattle.std.proofs.Math.Path.{fun_ext}
 use Rattle.counting.specs.Counts.{Within}
 use Rattle.counting.specs.Lists.{mem}
 use Rattle.counting.specs.Sets.{Set, none}
+use Rattle.counting.proofs.Booleans.{and_false, or_assoc_back}
 use Rattle.graph_core.specs.Graph.{Graph, size, first_end, second_end}
 use Rattle.ear_core.specs.Ears.{other_end, trail, last_vertex}
 use Rattle.ear_core.specs.EarTests.{is_path, follows, front, inner_vertices, repeats, no_member}
@@ -124,15 +125,11 @@ unfolding goes_on
 not_joined g u x v e rest [] begins h = ap (goes_on g u x v) begins ∙ ap (λ b. b && not (x (other_end g e v))) h
 not_joined g u x v e rest (d ∷ es) begins h = ap (goes_on g u x v) begins ∙ ap (λ b. b && (not (x (other_end g e v)) && (not (other_end g e v == u) && goes_on g u (with_one x (other_end g e v)) (other_end g e v) (d ∷ es)))) h
 
-with-false : (a : Bool) → (a && false) ≡ false
-with-false true = refl
-with-false false = refl
-
 pub passed_before : (g : Graph) (u : ℕ) (x : Set) (v e w : ℕ) (rest others : List ℕ) → rest ≡ e ∷ others → w ≡ other_end g e v → x w ≡ true → goes_on g u x v rest ≡ false
 unfolding goes_on
-passed_before g u x v e w rest [] begins is h = ap (goes_on g u x v) begins ∙ ap (λ b. joins g e v && not b) (ap x (sym is) ∙ h) ∙ with-false (joins g e v)
+passed_before g u x v e w rest [] begins is h = ap (goes_on g u x v) begins ∙ ap (λ b. joins g e v && not b) (ap x (sym is) ∙ h) ∙ and_false (joins g e v)
 passed_before g u x v e w rest (d ∷ es) begins is h =
-    ap (goes_on g u x v) begins ∙ ap (λ b. joins g e v && (not b && (not (other_end g e v == u) && goes_on g u (with_one x (other_end g e v)) (other_end g e v) (d ∷ es)))) (ap x (sym is) ∙ h) ∙ with-false (joins g e v)
+    ap (goes_on g u x v) begins ∙ ap (λ b. joins g e v && (not b && (not (other_end g e v == u) && goes_on g u (with_one x (other_end g e v)) (other_end g e v) (d ∷ es)))) (ap x (sym is) ∙ h) ∙ and_false (joins g e v)
 
 pub first_again : (g : Graph) (u : ℕ) (x : Set) (v e w : ℕ) (rest others : List ℕ) → rest ≡ e ∷ others → w ≡ other_end g e v → (length others == 0) ≡ false → w ≡ u → goes_on g u x v rest ≡ false
 unfolding goes_on
@@ -140,7 +137,7 @@ first_again g u x v e w rest [] begins is long same = absurd (true≢false long)
 first_again g u x v e w rest (d ∷ es) begins is long same =
     ap (goes_on g u x v) begins
     ∙ ap (λ b. joins g e v && (not (x (other_end g e v)) && (not b && goes_on g u (with_one x (other_end g e v)) (other_end g e v) (d ∷ es)))) (eq-eqb (other_end g e v) u (sym is ∙ same))
-    ∙ ap (λ b. joins g e v && b) (with-false (not (x (other_end g e v)))) ∙ with-false (joins g e v)
+    ∙ ap (λ b. joins g e v && b) (and_false (not (x (other_end g e v)))) ∙ and_false (joins g e v)
 
 pub walk_ends : (g : Graph) (u : ℕ) (x : Set) (v e w : ℕ) (rest others : List ℕ) → rest ≡ e ∷ others → joins g e v ≡ true → w ≡ other_end g e v → (length others == 0) ≡ true → x w ≡ false →
     (goes_on g u x v rest ≡ true) × (last_vertex g v rest ≡ w) × ((y : ℕ) → mem (inner_vertices g v rest) y ≡ false)
@@ -161,12 +158,8 @@ walk_on g u x next v e w rest (d ∷ es) begins h is long new other gains = (
   ap (goes_on g u x v) begins ∙ rw (sym is) (rw (h, new, other) (ap (λ y. goes_on g u y w (d ∷ es)) (fun_ext (λ y. sym (gains y))))),
   ap (last_vertex g v) begins ∙ ap (λ y. last_vertex g y (d ∷ es)) (sym is),
   λ y. ap (λ es. x y || mem (inner_vertices g v es) y) begins ∙ ap (λ i. x y || mem i y) (inner-more g v e d es)
-      ∙ ap (λ z. x y || ((z == y) || mem (inner_vertices g z (d ∷ es)) y)) (sym is) ∙ joined (x y) (w == y) (mem (inner_vertices g w (d ∷ es)) y) ∙ ap (λ b. b || mem (inner_vertices g w (d ∷ es)) y) (sym (gains y)),
+      ∙ ap (λ z. x y || ((z == y) || mem (inner_vertices g z (d ∷ es)) y)) (sym is) ∙ or_assoc_back (x y) (w == y) (mem (inner_vertices g w (d ∷ es)) y) ∙ ap (λ b. b || mem (inner_vertices g w (d ∷ es)) y) (sym (gains y)),
 )
-  where
-    joined : (a b c : Bool) → (a || (b || c)) ≡ ((a || b) || c)
-    joined true b c = refl
-    joined false b c = refl
 
 pub nothing_left : (g : Graph) (u : ℕ) (x : Set) (v : ℕ) (rest : List ℕ) → length rest ≡ 0 → goes_on g u x v rest ≡ false
 unfolding goes_on

@@ -12,6 +12,7 @@ use Rattle.counting.specs.Sets.{Set, put, everything}
 use Rattle.counting.specs.Lists.{mem, IsRisingIn}
 use Rattle.counting.proofs.Counts.{count_of_one, count_congr, count_le}
 use Rattle.counting.proofs.Choice.{count_put}
+use Rattle.counting.proofs.Booleans.{or_false, or_true}
 use Rattle.flow_core.specs.Nets.{Arc, Net}
 use Rattle.flow_core.specs.Residual.{arc_at, Joins, HasRoom, IsReached, IsScanned, IsReachedSet}
 use Rattle.flow_core.specs.Search.{visit_at, node_at, IsStep, IsVisit, IsTree, IsSeen, IsSearch}
@@ -60,24 +61,16 @@ count-with n x y v w f h =
     let p = count_put n x v true w in
     let z : bit (x v) ≡ 0 = ap bit f in omega arith
   where
-    pick : (b : Bool) → (b || true) ≡ true
-    pick true = refl
-    pick false = refl
-
-    drop_false : (b : Bool) → (b || false) ≡ b
-    drop_false true = refl
-    drop_false false = refl
-
     same : (u : ℕ) → (x u || v == u) ≡ put x v true u
     same u = elim (cases_eq u v) [
       | inl e ↦
           let a : (v == u) ≡ true = eq-eqb v u (sym e) in
           let b : (u == v) ≡ true = eq-eqb u v e in
-          ap (λ t. x u || t) a ∙ pick (x u) ∙ sym (ap (λ t. cond t true (x u)) b)
+          ap (λ t. x u || t) a ∙ or_true (x u) ∙ sym (ap (λ t. cond t true (x u)) b)
       | inr d ↦
           let a : (v == u) ≡ false = ne_eqb v u (λ e. d (sym e)) in
           let b : (u == v) ≡ false = ne_eqb u v d in
-          ap (λ t. x u || t) a ∙ drop_false (x u) ∙ sym (ap (λ t. cond t true (x u)) b)
+          ap (λ t. x u || t) a ∙ or_false (x u) ∙ sym (ap (λ t. cond t true (x u)) b)
     ]
 
 -- one visit, at the root

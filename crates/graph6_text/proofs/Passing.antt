@@ -1,5 +1,6 @@
 -- What the checks of a body tell of it. Idea: where no fault of a list of tests is first, each test fails; and the first
 -- fault of two lists of tests is that of the one, or else that of the other.
+use Rattle.counting.proofs.Booleans.{and_fails_second}
 use Rattle.std.proofs.Common.{◌≡◌, ℕ, ◌+◌, ◌*◌, ◌/◌, ◌<◌, ◌≤◌, ◌==◌, ◌&&◌, Bool, true, false, cond, List, [], ◌∷◌, ◌++◌, length, take, drop, Option, Some, None, Ok, Err, refl, sym, ap, ap₂, ◌∙◌, arith, ltb, leb, nat_lt}
 use Rattle.std.proofs.lemmas.Bool.{and_parts, not-false, eqb-false, ltb-false, leb-false}
 use Rattle.std.proofs.lemmas.List.{take-append-drop}
@@ -72,14 +73,11 @@ formed body h =
       some = omega arith;
       one_line = r.1.0;
       digits = not-false (list_all is_digit body) r.1.1.0;
-      whole = λ l. ltb-false (length body) 4 (rest (is_long body) (ltb (length body) 4) l r3.0);
-      due_form = λ l. leb-false (order_of body) 62 (rest (is_long body) (leb (order_of body) 62) l r3.1.1.0);
+      whole = λ l. ltb-false (length body) 4 (and_fails_second (is_long body) (ltb (length body) 4) l r3.0);
+      due_form = λ l. leb-false (order_of body) 62 (and_fails_second (is_long body) (leb (order_of body) 62) l r3.1.1.0);
       limit = ltb-false 128 (order_of body) r6.0;
       due = omega arith;
     }
-  where
-    rest : (x y : Bool) → x ≡ true → (x && y) ≡ false → y ≡ false
-    rest x y t f = grind arith
 
 -- the data of such a body are digits, with a bit for each pair
 pub digits-data : (body : List ℕ) → IsFormed body → list_all is_digit (data_of body) ≡ true

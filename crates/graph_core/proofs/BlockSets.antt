@@ -10,6 +10,7 @@ use Rattle.counting.specs.Counts.{Within, bit, count, is_odd, total}
 use Rattle.counting.specs.Lists.{mem}
 use Rattle.counting.specs.Sets.{Set, complement, meet, minus, none, union}
 use Rattle.counting.specs.Tests.{some}
+use Rattle.counting.proofs.Booleans.{apart_denied, bit_parted, not_not}
 use Rattle.graph_core.proofs.Blocks.{contracted-graph, contracted-size, first, in_union, place_in, place_is}
 use Rattle.graph_core.proofs.Carrying.{image, total_image}
 use Rattle.graph_core.proofs.Contraction.{tight_from_cut}
@@ -95,13 +96,8 @@ module _ (n : ℕ) (p : List (List ℕ)) (pp : AreBlocks n p) where
   -- two parts
   pub block_count_parts : (x y : Set) → IsUnion n p x → IsUnion n p y → block_count p x ≡ block_count p (meet x y) + block_count p (minus x y)
   block_count_parts x y u t =
-      total_congr (length p) _ _ (λ i w. ap bit (at_rep n p pp x u i w) ∙ component_count (x (rep p i)) (y (rep p i)) ∙ ap₂ (λ a b. bit a + bit b) (sym (at_rep n p pp (meet x y) (union_meet n p pp x y u t) i w)) (sym (at_rep n p pp (minus x y) (union_minus n p pp x y u t) i w)))
+      total_congr (length p) _ _ (λ i w. ap bit (at_rep n p pp x u i w) ∙ bit_parted (x (rep p i)) (y (rep p i)) ∙ ap₂ (λ a b. bit a + bit b) (sym (at_rep n p pp (meet x y) (union_meet n p pp x y u t) i w)) (sym (at_rep n p pp (minus x y) (union_minus n p pp x y u t) i w)))
       ∙ total_add (length p) (λ i. bit (blocks_in p (meet x y) i)) (λ i. bit (blocks_in p (minus x y) i))
-    where
-      component_count : (a b : Bool) → bit a ≡ bit (a && b) + bit (a && not b)
-      component_count true true = refl
-      component_count true false = refl
-      component_count false b = refl
 
   pub block_count_some : (x : Set) → IsUnion n p x → (v : ℕ) → Within n v → x v ≡ true → 1 ≤ block_count p x
   block_count_some x u v w h = let a = at_le_number in let b : bit (blocks_in p x (place p v)) ≡ 1 = ap bit (at_place n p pp x u v w ∙ h) in omega arith
@@ -141,21 +137,10 @@ module _ (g : Graph) (is : IsGraph g) (p : List (List ℕ)) (pp : AreBlocks g.or
         union = u;
         tight = record {
           odd = ap is_odd (sym (count_congr (length p) _ _ s)) ∙ t.tight.odd_complement;
-          odd_complement = ap is_odd (count_congr (length p) _ _ (λ i w. ap not (sym (s i w)) ∙ twice (blocks_in p x i))) ∙ t.tight.odd;
-          cut = cut_congr (contracted g p) (complement (blocks_in p x)) (blocks_in p (complement x)) (contracted-graph g p is pp) s (λ m k. count_congr (size (contracted g p)) _ _ (λ e w. turn (m e) (blocks_in p x (first_end (contracted g p) e)) (blocks_in p x (second_end (contracted g p) e))) ∙ t.tight.cut m k);
+          odd_complement = ap is_odd (count_congr (length p) _ _ (λ i w. ap not (sym (s i w)) ∙ not_not (blocks_in p x i))) ∙ t.tight.odd;
+          cut = cut_congr (contracted g p) (complement (blocks_in p x)) (blocks_in p (complement x)) (contracted-graph g p is pp) s (λ m k. count_congr (size (contracted g p)) _ _ (λ e w. apart_denied (m e) (blocks_in p x (first_end (contracted g p) e)) (blocks_in p x (second_end (contracted g p) e))) ∙ t.tight.cut m k);
         };
       }
-    where
-      twice : (b : Bool) → not (not b) ≡ b
-      twice true = refl
-      twice false = refl
-
-      turn : (m a b : Bool) → (m && ((not a && not (not b)) || (not (not a) && not b))) ≡ (m && ((a && not b) || (not a && b)))
-      turn false a b = refl
-      turn true true true = refl
-      turn true true false = refl
-      turn true false true = refl
-      turn true false false = refl
 
   -- uncrossing at the partition p
   module _ (cov : IsCovered (contracted g p)) (x y : Set) (tx : IsTightAt g p x) (ty : IsTightAt g p y) (odd : is_odd (block_count p (meet x y)) ≡ true) where

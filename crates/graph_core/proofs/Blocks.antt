@@ -1,7 +1,7 @@
 -- Merging a union of blocks contracts it in the contracted graph, so the law of contraction applies.
 -- Each vertex has one block, and the block of a place in the one partition goes to a place in the other.
 use Rattle.std.proofs.Common.{◌≡◌, ℕ, suc, zero, ◌+◌, ◌-◌, ◌≤◌, ◌<◌, ◌≢◌, Bool, true, false, cond, ◌==◌, refl, sym, ap, ◌∙◌, arith, ◌&&◌, ◌||◌, eq-eqb, eqb-true, inl, inr, List, [], ◌∷◌, length, get_or, subst}
-use Rattle.std.proofs.lemmas.Bool.{cases_Bool, both_ways, true≢false, or_cases}
+use Rattle.std.proofs.lemmas.Bool.{cases_Bool, both_ways, true≢false, or_cases, and_from, and_left}
 use Rattle.std.proofs.lemmas.List.{get_or-map, length-map}
 use Rattle.counting.proofs.Counts.{bit_true, only_one}
 use Rattle.counting.proofs.Totals.{some_term}
@@ -65,11 +65,8 @@ in_union n p x is union i v wi h = go (x v) refl
 
     all_yes : (vs : List ℕ) → ((u : ℕ) → mem vs u ≡ true → x u ≡ true) → all_in vs x ≡ true
     all_yes [] f = refl
-    all_yes (u ∷ vs) f = both (x u) (all_in vs x) (f u (own u vs)) (all_yes vs (λ w q. f w (later u vs w q)))
+    all_yes (u ∷ vs) f = and_from (x u) (all_in vs x) (f u (own u vs)) (all_yes vs (λ w q. f w (later u vs w q)))
       where
-        both : (a b : Bool) → a ≡ true → b ≡ true → (a && b) ≡ true
-        both a b p q = grind arith
-
         own : (u : ℕ) (vs : List ℕ) → mem (u ∷ vs) u ≡ true
         own u vs = ap (λ b. b || mem vs u) (eq-eqb u u refl)
 
@@ -82,13 +79,10 @@ in_union n p x is union i v wi h = go (x v) refl
     one_no : (vs : List ℕ) (u : ℕ) → mem vs u ≡ true → x u ≡ false → all_in vs x ≡ false
     one_no [] u q f = absurd (true≢false (sym q))
     one_no (w ∷ vs) u q f = elim (or_cases (w == u) (mem vs u) q) [
-      | inl t ↦ left (x w) (all_in vs x) (ap x (eqb-true w u t) ∙ f)
+      | inl t ↦ and_left (x w) (all_in vs x) (ap x (eqb-true w u t) ∙ f)
       | inr t ↦ right (x w) (all_in vs x) (one_no vs u t f)
     ]
       where
-        left : (a b : Bool) → a ≡ false → (a && b) ≡ false
-        left a b q = grind arith
-
         right : (a b : Bool) → b ≡ false → (a && b) ≡ false
         right a b q = grind arith
 

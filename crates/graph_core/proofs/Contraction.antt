@@ -1,13 +1,14 @@
 -- Contracting a tight shore of a covered graph: perfect matchings go down, tight cuts go both ways, covered goes down.
 -- A perfect matching has one edge in the cut, so each vertex outside keeps its one edge and the new vertex gets one.
 use Rattle.std.proofs.Common.{◌≡◌, ℕ, suc, ◌+◌, ◌*◌, ◌≤◌, ◌<◌, ◌≢◌, Bool, true, false, cond, ◌==◌, refl, sym, ap, ap₂, ◌∙◌, arith, ◌&&◌, ◌||◌, not, eq-eqb, ne_eqb, eqb-true, ◌⊎◌, inl, inr, List, [], ◌∷◌, subst₂}
-use Rattle.std.proofs.lemmas.Bool.{cases_eq, and_parts, and_from, true≢false, false_from_ne_true, both_ways}
+use Rattle.std.proofs.lemmas.Bool.{cases_eq, and_parts, and_from, true≢false, false_from_ne_true, both_ways, not-true}
 use Rattle.std.proofs.lemmas.Bool.Decides.{nat_tests}
 use Rattle.counting.proofs.Counts.{bit_true, count_congr, only_one}
 use Rattle.counting.proofs.Odd.{odd-double, odd_pos}
 use Rattle.counting.proofs.Totals.{at_le_total, some_term, total_add, total_congr}
 use Rattle.counting.specs.Counts.{Within, bit, count, is_odd}
 use Rattle.counting.specs.Sets.{Set, complement, none}
+use Rattle.counting.proofs.Booleans.{alike_not_apart, apart_denied}
 use Rattle.graph_core.proofs.Decide.{degree_congr}
 use Rattle.graph_core.proofs.Parity.{parity}
 use Rattle.graph_core.proofs.Walks.{adjacent-edge, adjacent_from, has_ends-cases}
@@ -21,7 +22,7 @@ use Rattle.graph_core.specs.Walks.{Joined, Walk, adjacent}
 pub tight_from_cut : (g : Graph) (x m : Set) → IsGraph g → IsPerfect g none m → CutIsTight g x → IsTight g x
 tight_from_cut g x m is p h = record {
   odd = once x (h m p);
-  odd_complement = once (complement x) (count_congr (size g) _ _ (λ e w. swap (m e) (x (first_end g e)) (x (second_end g e))) ∙ h m p);
+  odd_complement = once (complement x) (count_congr (size g) _ _ (λ e w. apart_denied (m e) (x (first_end g e)) (x (second_end g e))) ∙ h m p);
   cut = h;
 }
   where
@@ -29,13 +30,6 @@ tight_from_cut g x m is p h = record {
     once y e = let k = count (size g) (λ e. m e && inside g y e) in
         let s : count g.order y ≡ suc (k + k) = omega (arith, parity g is m y p) in
         ap is_odd s ∙ ap not (odd-double k)
-
-    swap : (k a b : Bool) → (k && ((not a && not (not b)) || (not (not a) && not b))) ≡ (k && ((a && not b) || (not a && b)))
-    swap false a b = refl
-    swap true true true = refl
-    swap true true false = refl
-    swap true false true = refl
-    swap true false false = refl
 
 module _ (g : Graph) (is : IsGraph g) (x : Set) (h : Graph) (f : ℕ → ℕ) (c : ℕ) (merge : Merges g x h f c) where
   in_g : (e : ℕ) → Within (size h) e → Within (size g) e
@@ -134,10 +128,7 @@ module _ (g : Graph) (is : IsGraph g) (x : Set) (h : Graph) (f : ℕ → ℕ) (c
       out_x = let r = some_term g.order (λ v. bit (complement x v)) (odd_pos (count g.order (complement x)) tight.odd_complement) in (r.0, r.1, bit_true (complement x r.0) r.2)
 
       two_down : 2 ≤ h.order
-      two_down = let r = merge.outside out_x.0 out_x.1 (flip (x out_x.0) out_x.2) in let n = merge.new in omega arith
-        where
-          flip : (b : Bool) → not b ≡ true → b ≡ false
-          flip b q = grind arith
+      two_down = let r = merge.outside out_x.0 out_x.1 (not-true (x out_x.0) out_x.2) in let n = merge.new in omega arith
 
       back : (w : ℕ) → Within h.order w → (v : ℕ) × Within g.order v × (f v ≡ w)
       back w ww = elim (cases_eq w c) [
@@ -203,10 +194,7 @@ module _ (g : Graph) (is : IsGraph g) (x : Set) (h : Graph) (f : ℕ → ℕ) (c
       meets_parts = and_parts (k meets.0) (in_cut g x meets.0) (bit_true (k meets.0 && in_cut g x meets.0) meets.2)
 
       no_loop : first_end g meets.0 ≢ second_end g meets.0
-      no_loop l = both_ways (in_cut g x meets.0) (loop (x (first_end g meets.0)) (x (second_end g meets.0)) (ap x l)) meets_parts.1
-        where
-          loop : (a b : Bool) → a ≡ b → ((a && not b) || (not a && b)) ≡ false
-          loop a b q = grind arith
+      no_loop l = both_ways (in_cut g x meets.0) (alike_not_apart (x (first_end g meets.0)) (x (second_end g meets.0)) (ap x l)) meets_parts.1
 
       other : Allowed g meets.0
       other = cov.allowed meets.0 meets.1 no_loop

@@ -6,6 +6,7 @@ use Rattle.counting.proofs.Choice.{count_put, total_put}
 use Rattle.counting.proofs.Totals.{at_le_total, some_term, total_add, total_congr, total_zero, two_le_total}
 use Rattle.counting.specs.Counts.{Within, bit, count, total}
 use Rattle.counting.specs.Sets.{Set, put}
+use Rattle.counting.proofs.Booleans.{bit_and_false, bit_and_true}
 use Rattle.graph_core.proofs.Parity.{degrees}
 use Rattle.graph_core.proofs.Walks.{adjacent-edge, has_ends-cases}
 pub use Rattle.graph_core.specs.Graph.{HasEnds}
@@ -54,17 +55,9 @@ pub sum_degrees : (g : Graph) (m : Set) → IsGraph g → total g.order (λ v. d
 sum_degrees g m is =
     let a = degrees g is m (λ v. true) in
     let b : total g.order (λ v. bit true * degree g m v) ≡ total g.order (λ v. degree g m v) = total_congr g.order _ _ (λ v w. omega arith) in
-    let c : count (size g) (λ e. m e && in_cut g (λ v. true) e) ≡ total (size g) (λ e. 0) = total_congr (size g) _ _ (λ e w. no (m e)) in
-    let d : count (size g) (λ e. m e && inside g (λ v. true) e) ≡ count (size g) m = total_congr (size g) _ _ (λ e w. yes (m e)) in
+    let c : count (size g) (λ e. m e && in_cut g (λ v. true) e) ≡ total (size g) (λ e. 0) = total_congr (size g) _ _ (λ e w. bit_and_false (m e)) in
+    let d : count (size g) (λ e. m e && inside g (λ v. true) e) ≡ count (size g) m = total_congr (size g) _ _ (λ e w. bit_and_true (m e)) in
     omega (arith, total_zero (size g))
-  where
-    no : (b : Bool) → bit (b && false) ≡ 0
-    no true = refl
-    no false = refl
-
-    yes : (b : Bool) → bit (b && true) ≡ bit b
-    yes true = refl
-    yes false = refl
 
 -- what a matching misses, and twice its edges, are the vertices outside r
 pub missed_edges : (g : Graph) (r m : Set) → IsGraph g → IsMatching g r m → missed_count g r m + 2 * count (size g) m ≡ count g.order (λ v. not (r v))

@@ -1,13 +1,14 @@
 -- A search takes one component after another, each from the least vertex that is left. What does the list hold at the end?
 -- The components, in the order of their least vertices, and the trees of the searches are one forest.
 use Rattle.std.proofs.Common.{◌≡◌, ℕ, suc, zero, ◌+◌, ◌<◌, Bool, true, false, ◌==◌, refl, sym, ap, ap₂, ◌∙◌, arith, ◌&&◌, ◌||◌, not, ◌⊎◌, inl, inr, List, [], ◌∷◌, ◌++◌, subst, eq-eqb, eqb-true, ne_eqb, cond, map, append_assoc, append-nil, nat_lt, ltb-true}
-use Rattle.std.proofs.lemmas.Bool.{and_from, and_parts, both_ways, cases_Bool, cases_eq, false_from_ne_true, not-true, not-false, not_from_false, true≢false}
+use Rattle.std.proofs.lemmas.Bool.{and_from, and_parts, both_ways, cases_Bool, cases_eq, false_from_ne_true, not-true, not-false, not_from_false, true≢false, or_parts}
 use Rattle.counting.specs.Counts.{Within}
 use Rattle.counting.specs.Lists.{IsRisingIn, mem, rising_list}
 use Rattle.counting.specs.Sets.{Set, complement, meet, minus, union}
 use Rattle.counting.specs.Tests.{some}
-use Rattle.counting.proofs.RisingLists.{rising_list-congr, rising_list-rises, mem-rising_list, same_rising_list, same_answers}
+use Rattle.counting.proofs.RisingLists.{rising_list-congr, rising_list-rises, mem-rising_list, same_rising_list}
 use Rattle.counting.proofs.Tests.{some_true}
+use Rattle.counting.proofs.Booleans.{not_but_parts, or_fails_first, same_tests, and_false, and_true}
 use Rattle.graph_core.specs.Components.{components, is_least}
 use Rattle.graph_core.specs.Graph.{Graph, IsGraph}
 use Rattle.graph_core.specs.FoundVertices.{IsStage}
@@ -16,7 +17,6 @@ use Rattle.graph_core.specs.Walks.{Joined, Walk, adjacent, joined}
 use Rattle.graph_core.proofs.Components.{joined_walk, walk_joined}
 use Rattle.graph_core.proofs.Trees.{adjacent_more, hangs_more, joined_more, least_same}
 use Rattle.graph_core.proofs.Walks.{adjacent-edge, adjacent_from, adjacent_within, adjacent_back, joined_self, joined_on}
-use Rattle.graph_core.proofs.OneVertexLess.{and_false, and_true}
 
 -- nothing passes
 rising_list-nothing : (n : ℕ) (x : Set) → ((v : ℕ) → Within n v → x v ≡ false) → rising_list n x ≡ []
@@ -61,7 +61,7 @@ module _ (g : Graph) (s : Set) (is : IsGraph g) where
   -- the vertices of the component of u, which is the first that is left, are those that a walk in what is left leads to
   joined_in_left : (left : Set) → ((v : ℕ) → left v ≡ true → Within g.order v × (s v ≡ false)) → ((u v : ℕ) → adjacent g s u v ≡ true → left u ≡ left v) → (u v : ℕ) → left u ≡ true → joined g (complement left) u v ≡ joined g s u v
   unfolding Joined
-  joined_in_left left vertices closed u v lu = same_answers (joined g (complement left) u v) (joined g s u v)
+  joined_in_left left vertices closed u v lu = same_tests (joined g (complement left) u v) (joined g s u v)
       (λ h. walk_joined g s is u v wu (joined_more g (complement left) s (λ w o. (vertices w (not-false (left w) o)).1) u v (joined_walk g (complement left) u v h)))
       (λ h. let j = joined_walk g s u v h in walk_joined g (complement left) is u v wu (j.0, inside u j.0 lu j.1))
     where
@@ -84,7 +84,7 @@ module _ (g : Graph) (s : Set) (is : IsGraph g) where
   stage_step left left' parts part parent parent' depth depth' u old lu low smaller takes tree same rising is_part = record {
     vertices = λ v h. old.vertices v (smaller v h);
     closed = closed';
-    tree = record { stands = λ v w out. stand v w (both_out (s v) (left' v) out) };
+    tree = record { stands = λ v w out. stand v w (or_parts (s v) (left' v) out) };
     rest = append_assoc parts (part ∷ []) (map f (rising_list g.order (meet left' (is_least g s)))) ∙ ap (λ xs. parts ++ xs ∷ map f (rising_list g.order (meet left' (is_least g s)))) part_is ∙ ap (λ us. parts ++ map f us) (sym first) ∙ old.rest;
   }
     where
@@ -110,10 +110,6 @@ module _ (g : Graph) (s : Set) (is : IsGraph g) where
             absurd (both_ways (left q.0) (low q.0 (ltb-true q.0 u b.1)) l)
       ])
 
-      both_out : (a b : Bool) → (a || b) ≡ false → (a ≡ false) × (b ≡ false)
-      both_out false b h = (refl, h)
-      both_out true b h = absurd (true≢false h)
-
       u_gone : left' u ≡ false
       u_gone = not-true (left' u) (and_parts (left u) (not (left' u)) (taken u wu ∙ walk_joined g s is u u wu (joined_self g s u))).1
 
@@ -121,7 +117,7 @@ module _ (g : Graph) (s : Set) (is : IsGraph g) where
       closed' a b ab =
           let w = adjacent_within g s is a b ab in
           rest_same (left a) (left b) (left' a) (left' b) (old.closed a b ab) (smaller a) (smaller b)
-          (taken a w.0 ∙ same_answers (joined g s u a) (joined g s u b)
+          (taken a w.0 ∙ same_tests (joined g s u a) (joined g s u b)
           (λ h. walk_joined g s is u b wu (joined_on g s u a b (joined_walk g s u a h) (b ∷ [], (ab, refl))))
           (λ h. walk_joined g s is u a wu (joined_on g s u b a (joined_walk g s u b h) (a ∷ [], (adjacent_back g s a b ab, refl))))
           ∙ sym (taken b w.1))
@@ -151,20 +147,15 @@ module _ (g : Graph) (s : Set) (is : IsGraph g) where
       ]
         where
           now : (w : ℕ) → complement (minus left left') w ≡ false → union s left' w ≡ false
-          now w h = let p = split (left w) (left' w) h in rw ((old.vertices w p.0).1, p.1) refl
-            where
-              split : (a b : Bool) → not (a && not b) ≡ false → (a ≡ true) × (b ≡ false)
-              split true true h = absurd (true≢false h)
-              split true false h = (refl, refl)
-              split false b h = absurd (true≢false h)
+          now w h = let p = not_but_parts (left w) (left' w) h in rw ((old.vertices w p.0).1, p.1) refl
 
           later : (w : ℕ) → union s left w ≡ false → union s left' w ≡ false
-          later w h = let p = both_out (s w) (left w) h in rw (p.0, false_from_ne_true (left' w) (λ t. both_ways (left w) p.1 (smaller w t))) refl
+          later w h = let p = or_parts (s w) (left w) h in rw (p.0, false_from_ne_true (left' w) (λ t. both_ways (left w) p.1 (smaller w t))) refl
 
           before : Hangs g (union s left) parent depth v → Hangs g (union s left') parent' depth' v
           before k =
-              let l = (both_out (s v) (left v) (adjacent-edge g (union s left) (parent v) v k.joins).1).1 in
-              let lp = (both_out (s (parent v)) (left (parent v)) (adjacent-edge g (union s left) (parent v) v k.joins).0).1 in
+              let l = (or_parts (s v) (left v) (adjacent-edge g (union s left) (parent v) v k.joins).1).1 in
+              let lp = (or_parts (s (parent v)) (left (parent v)) (adjacent-edge g (union s left) (parent v) v k.joins).0).1 in
               let wp = (adjacent_within g (union s left) is (parent v) v k.joins).0 in
               let q = same v w l in
               record {
@@ -194,11 +185,7 @@ module _ (g : Graph) (s : Set) (is : IsGraph g) where
     record {
       stands = λ v w out. elim (old.tree.stands v w (rw (out, none_left v) refl)) [
         | inl k ↦ inl k
-        | inr k ↦ inr (hangs_more g (union s left) s parent depth v (λ u h. first_out (s u) (left u) h) k)
+        | inr k ↦ inr (hangs_more g (union s left) s parent depth v (λ u h. or_fails_first (s u) (left u) h) k)
       ];
     },
   )
-    where
-      first_out : (a b : Bool) → (a || b) ≡ false → a ≡ false
-      first_out false b h = refl
-      first_out true b h = h

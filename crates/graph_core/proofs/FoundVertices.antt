@@ -6,7 +6,7 @@ use Rattle.std.proofs.lemmas.Bool.{and_from, and_parts, both_ways, cases_eq, or_
 use Rattle.counting.specs.Counts.{Within, count}
 use Rattle.counting.specs.Sets.{Set, complement, minus}
 use Rattle.counting.proofs.Counts.{count_le, count_more}
-use Rattle.counting.proofs.RisingLists.{same_answers}
+use Rattle.counting.proofs.Booleans.{not_but_parts, same_tests, or_false}
 use Rattle.graph_core.specs.Graph.{Graph, IsGraph}
 use Rattle.graph_core.specs.FoundVertices.{IsGrowth, IsGrown}
 use Rattle.graph_core.specs.Trees.{Hangs}
@@ -14,7 +14,7 @@ use Rattle.graph_core.specs.Walks.{Joined, adjacent, joined}
 use Rattle.graph_core.proofs.Components.{joined_walk, walk_joined}
 use Rattle.graph_core.proofs.Trees.{StandsAt, above_joined, above_root, adjacent_more, joined_more}
 use Rattle.graph_core.proofs.Walks.{IsClosed, Walk-stays, adjacent-edge, adjacent_from, adjacent_within, joined_back, joined_self}
-use Rattle.graph_core.proofs.OneVertexLess.{or_false, Loses, Loses-own, Loses-others, Loses-smaller, Loses-out, count_lost, Gains}
+use Rattle.graph_core.proofs.OneVertexLess.{Loses, Loses-own, Loses-others, Loses-smaller, Loses-out, count_lost, Gains}
 
 module _ (g : Graph) (x : Set) (r : ℕ) (is : IsGraph g) where
   -- a found vertex is one of x that is not left
@@ -22,12 +22,7 @@ module _ (g : Graph) (x : Set) (r : ℕ) (is : IsGraph g) where
   Found left v = (x v ≡ true) × (left v ≡ false)
 
   found_of : (left : Set) (v : ℕ) → complement (minus x left) v ≡ false → Found left v
-  found_of left v h = parts (x v) (left v) h
-    where
-      parts : (a b : Bool) → not (a && not b) ≡ false → (a ≡ true) × (b ≡ false)
-      parts true true h = absurd (true≢false h)
-      parts true false h = (refl, refl)
-      parts false b h = absurd (true≢false h)
+  found_of left v h = not_but_parts (x v) (left v) h
 
   of_found : (left : Set) (v : ℕ) → Found left v → complement (minus x left) v ≡ false
   of_found left v f = rw (f.0, f.1) refl
@@ -140,7 +135,7 @@ module _ (g : Graph) (x : Set) (r : ℕ) (is : IsGraph g) where
   -- with no open vertex, what was found is the component of r
   pub growth_end : (left open_set : Set) (parent depth : ℕ → ℕ) → IsGrowth g x r left open_set parent depth → ((v : ℕ) → open_set v ≡ false) → Within g.order r → (v : ℕ) → Within g.order v → (x v && not (left v)) ≡ joined g (complement x) r v
   unfolding Joined IsClosed
-  growth_end left open_set parent depth old none_open wr v wv = same_answers (x v && not (left v)) (joined g (complement x) r v) there back
+  growth_end left open_set parent depth old none_open wr v wv = same_tests (x v && not (left v)) (joined g (complement x) r v) there back
     where
       there : (x v && not (left v)) ≡ true → joined g (complement x) r v ≡ true
       there h =

@@ -6,6 +6,7 @@ use Rattle.counting.proofs.Totals.{total_at}
 use Rattle.counting.specs.Counts.{Within, bit}
 use Rattle.counting.specs.Lists.{mem}
 use Rattle.counting.specs.Sets.{Set, meet, minus}
+use Rattle.counting.proofs.Booleans.{and_implied, but_not}
 use Rattle.graph_core.proofs.BlockSets.{at_place, at_rep, block_count_congr, block_count_parts, count_over, place_rep, rep, rep_in, rep_place, union_meet, union_minus}
 use Rattle.graph_core.proofs.Blocks.{carried, contracted-graph, merges, place_in, place_is}
 use Rattle.graph_core.proofs.Contraction.{covered_down}
@@ -122,17 +123,11 @@ module _ (n : ℕ) (p q : List (List ℕ)) (x : Set) (pp : AreBlocks n p) (ux : 
       let uyp = closed_up y uy in
       let a = block_count_parts n q merge.partition y x uy same_side in
       let c = block_count_parts n p pp y x uyp ux in
-      let d = block_count_outside (minus y x) (union_minus n q merge.partition y x uy same_side) (λ v w h. gone (y v) (x v) h) in
-      let e = block_count_congr n q merge.partition (meet y x) x (λ v w. both (y v) (x v) (b v w)) (union_meet n q merge.partition y x uy same_side) in
-      let f = block_count_congr n p pp (meet y x) x (λ v w. both (y v) (x v) (b v w)) (union_meet n p pp y x uyp ux) in
+      let d = block_count_outside (minus y x) (union_minus n q merge.partition y x uy same_side) (λ v w h. but_not (y v) (x v) h) in
+      let e = block_count_congr n q merge.partition (meet y x) x (λ v w. and_implied (y v) (x v) (b v w)) (union_meet n q merge.partition y x uy same_side) in
+      let f = block_count_congr n p pp (meet y x) x (λ v w. and_implied (y v) (x v) (b v w)) (union_meet n p pp y x uyp ux) in
       let k = block_count_new s in
       omega arith
-    where
-      gone : (a b : Bool) → b ≡ true → (a && not b) ≡ false
-      gone a b h = grind arith
-
-      both : (a b : Bool) → (b ≡ true → a ≡ true) → (a && b) ≡ b
-      both a b h = grind arith
 
 -- the contraction law at p, with the merged list
 module _ (g : Graph) (is : IsGraph g) (p : List (List ℕ)) (x : List ℕ) (pp : AreBlocks g.order p) (tx : IsTightAt g p (mem x)) (some : Some g.order (mem x)) (low : (v : ℕ) → mem x v ≡ true → Within g.order v) where

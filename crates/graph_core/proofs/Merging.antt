@@ -1,7 +1,7 @@
 -- The list that merging gives is the partition with the union made one block.
 -- Each vertex is in exactly one of the kept blocks or in the new one.
 use Rattle.std.proofs.Common.{◌≡◌, ℕ, suc, zero, ◌+◌, ◌-◌, ◌*◌, ◌≤◌, Bool, true, false, not, cond, ◌||◌, ◌==◌, List, [], ◌∷◌, length, refl, sym, ap, ◌∙◌, arith, ◌⊎◌, inl, inr, eq-eqb, subst, get_or, filter, nat_lt}
-use Rattle.std.proofs.lemmas.Bool.{both_ways}
+use Rattle.std.proofs.lemmas.Bool.{both_ways, or_left}
 use Rattle.counting.proofs.Totals.{total_congr, total-first}
 use Rattle.counting.specs.Counts.{Within, bit, count}
 use Rattle.counting.specs.Lists.{last_of, mem}
@@ -100,11 +100,8 @@ held_filter x (b ∷ p) v h = go (held_filter x p v (λ c k m. h c (inr k) m)) (
 pub mem_last : (b : List ℕ) (v : ℕ) → mem b v ≡ true → mem b (last_of b) ≡ true
 mem_last [] v h = h
 mem_last (w ∷ []) v h = ap (λ t. t || false) (eq-eqb w w refl)
-mem_last (w ∷ y ∷ ys) v h = back (w == last_of (y ∷ ys)) (mem (y ∷ ys) (last_of (y ∷ ys))) (mem_last (y ∷ ys) y (front (y == y) (mem ys y) (eq-eqb y y refl)))
+mem_last (w ∷ y ∷ ys) v h = back (w == last_of (y ∷ ys)) (mem (y ∷ ys) (last_of (y ∷ ys))) (mem_last (y ∷ ys) y (or_left (y == y) (mem ys y) (eq-eqb y y refl)))
   where
-    front : (a b : Bool) → a ≡ true → (a || b) ≡ true
-    front a b h = grind arith
-
     back : (a b : Bool) → b ≡ true → (a || b) ≡ true
     back a b h = grind arith
 

@@ -1,22 +1,11 @@
 -- A set loses one vertex, or gains one: what does it answer for each, and how does its size change?
 use Rattle.std.proofs.Common.{◌≡◌, ℕ, ◌+◌, Bool, true, false, ◌==◌, refl, sym, ap, ◌∙◌, arith, ◌&&◌, ◌||◌, not, inl, inr, eq-eqb, ne_eqb}
+use Rattle.counting.proofs.Booleans.{and_false, and_true, or_false}
 use Rattle.std.proofs.lemmas.Bool.{and_parts, cases_eq, or_right}
 use Rattle.counting.specs.Counts.{Within, bit, count}
 use Rattle.counting.specs.Sets.{Set, put}
 use Rattle.counting.proofs.Choice.{count_put}
 use Rattle.counting.proofs.Counts.{count_congr}
-
-pub and_false : (b : Bool) → (b && false) ≡ false
-and_false true = refl
-and_false false = refl
-
-pub and_true : (b : Bool) → (b && true) ≡ b
-and_true true = refl
-and_true false = refl
-
-pub or_false : (b : Bool) → (b || false) ≡ b
-or_false true = refl
-or_false false = refl
 
 -- left' is left without w
 abbrev pub Loses : Set → ℕ → Set → Type 0

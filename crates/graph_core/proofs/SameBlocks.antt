@@ -1,9 +1,10 @@
 -- A partition is fixed by its relation "in the same block": two partitions with the same relation are equal as lists.
 -- They have the same blocks, and names that rise leave one order.
 use Rattle.std.proofs.Common.{List, [], ap, ap₂, arith, inl, inr, refl, subst, suc, sym, true, ℕ, ◌+◌, ◌-◌, ◌<◌, ◌∙◌, ◌∷◌, ◌≡◌}
+use Rattle.counting.proofs.Booleans.{same_tests}
 use Rattle.std.specs.List.Sorted.{IsStrictlyIncreasing}
 use Rattle.std.specs.Prelude.{slice_index, slice_index_or}
-use Rattle.counting.proofs.RisingLists.{mem-item, same_answers, same_rising_list}
+use Rattle.counting.proofs.RisingLists.{mem-item, same_rising_list}
 use Rattle.counting.specs.Counts.{Within}
 use Rattle.counting.specs.Lists.{IsRisingIn, last_of, mem}
 use Rattle.graph_core.proofs.Blocks.{place_in, place_is}
@@ -77,4 +78,4 @@ same_blocks n p q lp lq f b = ordered_same p q (rising_ordered p lp.order) (risi
         let ww = lq.partition.within (place q v.0) w m.0 t in
         let e = b w v.0 ww v.1 (sym (place_is n q lq.partition w (place q v.0) ww m.0 t)) in
         ap (λ z. mem z w) (sym r.2) ∙ ap (λ i. mem (block p i) w) (pv ∙ sym e) ∙ (place_in n p lp.partition w ww).1 in
-        subst (Has q) (sym (same_rising_list n c d (block_rises n p c lp h) (block_rises n q d lq hd) (λ w _. same_answers (mem c w) (mem d w) (there w) (back w)))) hd
+        subst (Has q) (sym (same_rising_list n c d (block_rises n p c lp h) (block_rises n q d lq hd) (λ w _. same_tests (mem c w) (mem d w) (there w) (back w)))) hd

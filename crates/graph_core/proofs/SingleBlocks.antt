@@ -6,6 +6,7 @@ use Rattle.counting.proofs.Counts.{count_congr}
 use Rattle.counting.specs.Counts.{Within, count}
 use Rattle.counting.specs.Lists.{all_in}
 use Rattle.counting.specs.Sets.{Set}
+use Rattle.counting.proofs.Booleans.{and_true}
 use Rattle.graph_core.proofs.BlockSets.{at_place}
 use Rattle.graph_core.proofs.Blocks.{contracted-size}
 use Rattle.graph_core.proofs.SameSets.{tight-same}
@@ -36,11 +37,7 @@ pub union-singles : (n : ℕ) (x : Set) → IsUnion n (singles n) x
 union-singles n x u v wu wv e = ap x (sym (own-place n u wu) ∙ e ∙ own-place n v wv)
 
 pub blocks-singles : (n : ℕ) (x : Set) (v : ℕ) → Within n v → blocks_in (singles n) x v ≡ x v
-blocks-singles n x v w = ap (λ (b : List ℕ). all_in b x) (block-singles n v w) ∙ and_yes (x v)
-  where
-    and_yes : (b : Bool) → (b && true) ≡ b
-    and_yes true = refl
-    and_yes false = refl
+blocks-singles n x v w = ap (λ (b : List ℕ). all_in b x) (block-singles n v w) ∙ and_true (x v)
 
 pub tight-singles : (g : Graph) (x : Set) → IsGraph g → IsTightAt g (singles g.order) x → IsTight g x
 tight-singles g x is t = tight-same g (blocks_in (singles g.order) x) x is (blocks-singles g.order x) (subst (λ h. IsTight h (blocks_in (singles g.order) x)) (contracted-singles g is) t.tight)

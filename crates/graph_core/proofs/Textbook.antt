@@ -5,6 +5,7 @@ use Rattle.std.proofs.lemmas.Bool.{cases_eq, true≢false}
 use Rattle.counting.proofs.Totals.{total_none}
 use Rattle.counting.specs.Counts.{Within, bit, total}
 use Rattle.counting.specs.Sets.{Set, none}
+use Rattle.counting.proofs.Booleans.{bit_le_one}
 use Rattle.graph_core.proofs.Edits.{degree_sum, ends_of, ends_of_is, two_ends_le_degree}
 use Rattle.graph_core.specs.Graph.{Graph, HasNoLoop, IsGraph, degree, first_end, second_end, size}
 use Rattle.graph_core.specs.Matchings.{IsEnd, IsMatching, ShareNoEnd}
@@ -29,13 +30,9 @@ ends_one g e v d = let a = ends_of_is g e (first_end g e) (second_end g e) (inl 
   where
     sum_one : (x y v : ℕ) → x ≢ y → bit (x == v) + bit (y == v) ≤ 1
     sum_one x y v d = elim (cases_eq x v) [
-      | inl p ↦ let a = ap bit (ne_eqb y v (λ q. d (p ∙ sym q))) in let b = le_one (x == v) in omega arith
-      | inr p ↦ let a = ap bit (ne_eqb x v p) in let b = le_one (y == v) in omega arith
+      | inl p ↦ let a = ap bit (ne_eqb y v (λ q. d (p ∙ sym q))) in let b = bit_le_one (x == v) in omega arith
+      | inr p ↦ let a = ap bit (ne_eqb x v p) in let b = bit_le_one (y == v) in omega arith
     ]
-      where
-        le_one : (b : Bool) → bit b ≤ 1
-        le_one true = omega arith
-        le_one false = omega arith
 
 -- and where no edge is a loop, such a set is a matching
 pub apart_matching : (g : Graph) (m : Set) → IsGraph g → HasNoLoop g → ShareNoEnd g m → IsMatching g none m

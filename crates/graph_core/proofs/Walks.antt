@@ -9,6 +9,7 @@ use Rattle.counting.proofs.Totals.{at_le_total}
 use Rattle.counting.specs.Counts.{Within, bit, count}
 use Rattle.counting.specs.Sets.{Set, none}
 use Rattle.counting.specs.Tests.{some}
+use Rattle.counting.proofs.Booleans.{but_fails_second}
 use Rattle.graph_core.specs.Graph.{Graph, IsGraph, first_end, has_ends, in_cut, second_end, size}
 use Rattle.graph_core.specs.Walks.{Joined, Walk, adjacent, reaches}
 
@@ -51,13 +52,8 @@ module _ (n : ℕ) (adj : ℕ → ℕ → Bool) where
     | inr f ↦ inl (λ u v wu wv a b.
         let z = some_none n (λ v. spread x v && not (x v)) f v wv in
         let sp : spread x v ≡ true = or_right (x v) (some n (λ w. x w && adj w v)) (true_some n (λ w. x w && adj w v) u wu (and_from (x u) (adj u v) a b)) in
-        out (spread x v) (x v) sp z)
+        but_fails_second (spread x v) (x v) sp z)
   ]
-    where
-      out : (s t : Bool) → s ≡ true → (s && not t) ≡ false → t ≡ true
-      out true true a b = refl
-      out true false a b = absurd (true≢false b)
-      out false t a b = absurd (true≢false (sym a))
 
   closed_spread : (x : Set) → IsClosed n adj x → IsClosed n adj (spread x)
   unfolding spread IsClosed

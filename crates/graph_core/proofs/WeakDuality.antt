@@ -10,6 +10,7 @@ use Rattle.counting.proofs.Totals.{at_le_total, total_add, total_congr, total_le
 use Rattle.counting.specs.Counts.{Within, bit, count, is_odd, total}
 use Rattle.counting.specs.Sets.{Set, union}
 use Rattle.counting.specs.Tests.{some}
+use Rattle.counting.proofs.Booleans.{and_fails_second, and_true}
 use Rattle.graph_core.proofs.Components.{joined_outside, joined_walk, one_leader, walk_joined}
 use Rattle.graph_core.proofs.Parity.{degrees, ends_in}
 use Rattle.graph_core.proofs.Walks.{adjacent_from, has_ends-back, has_ends-own, joined_on}
@@ -59,12 +60,8 @@ loose_few g s m is =
     into f h fw hw =
         total_congr g.order _ _ (λ v w. omega arith)
         ∙ ends_in g.order (size g) (λ e. m e && s (h e)) (λ v. true) f fw
-        ∙ total_congr (size g) _ _ (λ e w. ap bit (and_yes (m e && s (h e))))
+        ∙ total_congr (size g) _ _ (λ e w. ap bit (and_true (m e && s (h e))))
         ∙ sym (ends_in g.order (size g) m s h hw)
-      where
-        and_yes : (b : Bool) → (b && true) ≡ b
-        and_yes true = refl
-        and_yes false = refl
 
 -- each odd component has one
 loose_in : (g : Graph) (s m : Set) → IsGraph g → ((v : ℕ) → Within g.order v → degree g m v ≤ 1) → (u : ℕ) → Within g.order u → s u ≡ false → is_odd (count g.order (joined g s u)) ≡ true → (v : ℕ) × Within g.order v × (joined g s u v ≡ true) × (loose g s m v ≡ true)
@@ -79,10 +76,7 @@ loose_in g s m is mm u w o odd = elim (cases_Bool (some g.order (λ v. joined g 
     k = joined g s u
 
     tight : some g.order (λ v. joined g s u v && loose g s m v) ≡ false → (v : ℕ) → Within g.order v → k v ≡ true → loose g s m v ≡ false
-    tight f v wv kv = right (k v) (loose g s m v) kv (some_none g.order (λ v. joined g s u v && loose g s m v) f v wv)
-      where
-        right : (a b : Bool) → a ≡ true → (a && b) ≡ false → b ≡ false
-        right a b p q = grind arith
+    tight f v wv kv = and_fails_second (k v) (loose g s m v) kv (some_none g.order (λ v. joined g s u v && loose g s m v) f v wv)
 
     component_count : some g.order (λ v. joined g s u v && loose g s m v) ≡ false → (v : ℕ) → Within g.order v → k v ≡ true →
         (degree g m v ≡ 1) × (some (size g) (λ e. (m e && s (second_end g e)) && (first_end g e == v)) ≡ false) × (some (size g) (λ e. (m e && s (first_end g e)) && (second_end g e == v)) ≡ false)

@@ -5,6 +5,7 @@ use Rattle.std.proofs.Common.{◌≡◌, ℕ, suc, ◌+◌, ◌≤◌, ◌≢◌
 use Rattle.counting.specs.Counts.{Within, bit}
 use Rattle.counting.specs.Sets.{Set, none}
 use Rattle.counting.specs.Lists.{mem}
+use Rattle.counting.proofs.Booleans.{same_tests}
 use Rattle.graph_core.specs.Graph.{Graph, size, first_end, second_end, IsGraph, has_ends}
 use Rattle.graph_core.specs.Walks.{Joined, Walk, adjacent, joined}
 use Rattle.graph_core.specs.Components.{IsConnected}
@@ -43,12 +44,7 @@ connected-steady g is h u v wu wv = joined_walk g none u v (sym (h (joined g non
     step a b e w k j = walk_joined g none is u b wu (joined_on g none u a b (joined_walk g none u a j) (b ∷ [], (adjacent_from g none a b e refl refl w k, refl)))
 
     same : (e : ℕ) → Within (size g) e → joined g none u (first_end g e) ≡ joined g none u (second_end g e)
-    same e w = both (joined g none u (first_end g e)) (joined g none u (second_end g e)) (step (first_end g e) (second_end g e) e w (has_ends-own g e)) (step (second_end g e) (first_end g e) e w (has_ends-back g (first_end g e) (second_end g e) e (has_ends-own g e)))
-      where
-        both : (s t : Bool) → (s ≡ true → t ≡ true) → (t ≡ true → s ≡ true) → s ≡ t
-        both true t a b = sym (a refl)
-        both false true a b = b refl
-        both false false a b = refl
+    same e w = same_tests (joined g none u (first_end g e)) (joined g none u (second_end g e)) (step (first_end g e) (second_end g e) e w (has_ends-own g e)) (step (second_end g e) (first_end g e) e w (has_ends-back g (first_end g e) (second_end g e) e (has_ends-own g e)))
 
 -- x without w
 abbrev pub without : ℕ → Set → Set

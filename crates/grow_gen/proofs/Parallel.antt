@@ -7,6 +7,7 @@ use Rattle.counting.specs.Counts.{Within, bit, total}
 use Rattle.counting.specs.Lists.{mem}
 use Rattle.counting.proofs.Counts.{count_le_one, only_one}
 use Rattle.counting.proofs.Totals.{total_congr, at_le_total, total-first}
+use Rattle.counting.proofs.Booleans.{bit_le}
 use Rattle.graph_core.specs.Graph.{Graph, size, first_end, second_end, has_ends, IsMultigraph}
 use Rattle.graph_core.proofs.Walks.{has_ends-own, has_ends-cases, has_ends-back}
 use Rattle.graph_core.specs.Simple.{IsSimple}
@@ -124,17 +125,13 @@ links-rehung_new w y v (t ∷ ts) (e ∷ es) c l = by_test (is_at w e)
     (λ a k. let z = ap bit (clear_away w y v e c.0 a) in let h = links-rehung_new w y v (t ∷ ts) es c.1 k in omega (arith, z, h))
     l
   where
-    le_one : (s b : Bool) → (s ≡ true → b ≡ true) → bit s ≤ bit b
-    le_one true b h = omega (arith, ap bit (h refl))
-    le_one false b h = omega arith
-
     by_target : is_at w e ≡ true → bit (joins y v (edge_with_end w t e)) ≤ bit (t == y)
     by_target a = let o = clear_end w y t e c.0 a in elim o.2 [
-      | inl q ↦ le_one (joins y v (edge_with_end w t e)) (t == y) (λ j. elim (or_cases (t == y && o.0 == v) (t == v && o.0 == y) (ap (joins y v) (sym q) ∙ j)) [
+      | inl q ↦ bit_le (joins y v (edge_with_end w t e)) (t == y) (λ j. elim (or_cases (t == y && o.0 == v) (t == v && o.0 == y) (ap (joins y v) (sym q) ∙ j)) [
         | inl k ↦ (and_parts (t == y) (o.0 == v) k).0
         | inr k ↦ absurd (o.1 (eqb-true o.0 y (and_parts (t == v) (o.0 == y) k).1))
       ])
-      | inr q ↦ le_one (joins y v (edge_with_end w t e)) (t == y) (λ j. elim (or_cases (o.0 == y && t == v) (o.0 == v && t == y) (ap (joins y v) (sym q) ∙ j)) [
+      | inr q ↦ bit_le (joins y v (edge_with_end w t e)) (t == y) (λ j. elim (or_cases (o.0 == y && t == v) (o.0 == v && t == y) (ap (joins y v) (sym q) ∙ j)) [
         | inl k ↦ absurd (o.1 (eqb-true o.0 y (and_parts (o.0 == y) (t == v) k).0))
         | inr k ↦ (and_parts (o.0 == v) (t == y) k).1
       ])

@@ -5,6 +5,7 @@ use Rattle.std.proofs.lemmas.Bool.{cases_eq, or_cases, or_parts, both_ways, or_l
 use Rattle.counting.specs.Counts.{Within, bit}
 use Rattle.counting.specs.Sets.{Set}
 use Rattle.counting.specs.Lists.{mem}
+use Rattle.counting.proofs.Booleans.{bit_and_false}
 use Rattle.grow_gen.specs.Splices.{is_at, other_end, edge_with_end, rehung_edges}
 use Rattle.grow_gen.proofs.EdgeSums.{Each, sum_edges, ends_at, by_test, marks_where}
 
@@ -55,11 +56,7 @@ member-later u t ts h = or_right (t == u) (mem ts u) h
 
 -- an end elsewhere does not count
 pub no_end : (b : Bool) (x y : ℕ) → x ≢ y → bit (b && (x == y)) ≡ 0
-no_end b x y d = ap (λ k. bit (b && k)) (ne_eqb x y d) ∙ zero_bit b
-  where
-    zero_bit : (b : Bool) → bit (b && false) ≡ 0
-    zero_bit true = refl
-    zero_bit false = refl
+no_end b x y d = ap (λ k. bit (b && k)) (ne_eqb x y d) ∙ bit_and_false b
 
 -- away from w and the targets nothing changes
 pub sum_edges-rehung_elsewhere : (w v : ℕ) (ts : List ℕ) (bs : List Bool) (es : List (ℕ × ℕ)) → v ≢ w → ((t : ℕ) → mem ts t ≡ true → t ≢ v) → length bs ≡ length es → sum_edges (ends_at v) bs (rehung_edges w ts es) ≡ sum_edges (ends_at v) bs es

@@ -5,6 +5,7 @@ use Rattle.std.specs.Prelude.{slice_index_or}
 use Rattle.std.proofs.lemmas.Bool.{true≢false}
 use Rattle.counting.specs.Counts.{Within, bit}
 use Rattle.counting.specs.Sets.{Set, everything, none}
+use Rattle.counting.proofs.Booleans.{bit_and_true, bit_le_one}
 use Rattle.graph_core.specs.Graph.{Graph, size, degree, IsMultigraph}
 use Rattle.graph_core.specs.Matchings.{IsPerfect}
 use Rattle.graph_core.specs.Covered.{IsCovered}
@@ -32,11 +33,7 @@ true_count-flags n w (b ∷ bs) (e ∷ es) c l = by_test (is_at w e) (λ s. true
     (λ s. let h = true_count-flags n w bs es c.1 (omega arith) in let d = not_at-ends w e s in let x = no_end b e.0 w d.0 in let y = no_end b e.1 w d.1 in omega (arith, h, x, y))
   where
     here : (v : ℕ) → v ≡ w → bit (b && (v == w)) ≡ bit b
-    here v q = ap (λ t. bit (b && t)) (eq-eqb v w q) ∙ and_true b
-      where
-        and_true : (b : Bool) → bit (b && true) ≡ bit b
-        and_true true = refl
-        and_true false = refl
+    here v q = ap (λ t. bit (b && t)) (eq-eqb v w q) ∙ bit_and_true b
 
     one_end : is_at w e ≡ true → ends_at w b e ≡ bit b
     one_end s = elim (at-cases w 0 e s) [
@@ -91,16 +88,8 @@ unit-at false false true (suc (suc (suc i))) h k = absurd (true≢false (sym k))
 pub three-true : (a b c : Bool) → true_count (a ∷ b ∷ c ∷ []) ≡ 3 → (a ∷ b ∷ c ∷ []) ≡ true ∷ true ∷ true ∷ []
 three-true true true true h = refl
 three-true true true false h = absurd (omega arith)
-three-true true false c h = absurd (omega (arith, h, at_most c))
-  where
-    at_most : (c : Bool) → bit c ≤ 1
-    at_most true = omega arith
-    at_most false = omega arith
-three-true false b c h = absurd (omega (arith, h, at_most b, at_most c))
-  where
-    at_most : (c : Bool) → bit c ≤ 1
-    at_most true = omega arith
-    at_most false = omega arith
+three-true true false c h = absurd (omega (arith, h, bit_le_one c))
+three-true false b c h = absurd (omega (arith, h, bit_le_one b, bit_le_one c))
 
 -- the edges of a multigraph as pairs
 pub each-edge_of : (g : Graph) → IsMultigraph g → Each (IsEdge g.order) g.ends

@@ -1,7 +1,7 @@
 -- An odd labelling of G - R - S with enough classes shows that no matching of G - R is larger.
 -- Each class has a vertex that the matching misses or an edge to S; summed over the classes and compared term by term.
 use Rattle.std.proofs.Common.{◌≡◌, ℕ, suc, zero, ◌+◌, ◌*◌, ◌≤◌, ◌≢◌, Bool, true, false, ◌==◌, refl, sym, ap, ap₂, ◌∙◌, arith, ◌&&◌, ◌||◌, not, eq-eqb, ne_eqb, eqb-true, inl, inr, nat_lt, mul-add, lt-ltb}
-use Rattle.std.proofs.lemmas.Bool.{cases_eq, both_ways, true≢false, false_from_ne_true}
+use Rattle.std.proofs.lemmas.Bool.{cases_eq, both_ways, true≢false, false_from_ne_true, or_from}
 use Rattle.counting.proofs.Counts.{count_le_one}
 use Rattle.counting.proofs.Odd.{odd-double}
 use Rattle.counting.proofs.Totals.{total_add, total_at, total_congr, total_le, total_none, total_swap, total_tight, total_ones}
@@ -87,15 +87,12 @@ module _ (g : Graph) (is : IsGraph g) (r s : Set) (label : ℕ → ℕ) (p : ℕ
       in_s : (v : ℕ) → s v ≡ true → union r s v ≡ true
       in_s v t = Rattle.std.proofs.lemmas.Bool.or_right (r v) (s v) t
 
-      neither : (a b : Bool) → a ≡ false → b ≡ false → (a || b) ≡ false
-      neither a b q t = grind arith
-
       go : (b : Bool) → m e ≡ b → total p (λ j. bit (b && in_cut g (class j) e)) ≤ bit (b && s (first_end g e)) + bit (b && s (second_end g e))
       go false q = let z = total_none p (λ j. 0) (λ j w. refl) in omega arith
       go true q = cross_sum p (label (first_end g e)) (label (second_end g e)) (s (first_end g e)) (s (second_end g e))
           (λ t. labels.away (first_end g e) (is e w).0 (in_s (first_end g e) t))
           (λ t. labels.away (second_end g e) (is e w).1 (in_s (second_end g e) t))
-          (λ a b. labels.along e w (neither (r (first_end g e)) (s (first_end g e)) (out_of_r e (first_end g e) w (is e w).0 q (ends_near e)) a) (neither (r (second_end g e)) (s (second_end g e)) (out_of_r e (second_end g e) w (is e w).1 q (ends_far e)) b))
+          (λ a b. labels.along e w (or_from (r (first_end g e)) (s (first_end g e)) (out_of_r e (first_end g e) w (is e w).0 q (ends_near e)) a) (or_from (r (second_end g e)) (s (second_end g e)) (out_of_r e (second_end g e) w (is e w).1 q (ends_far e)) b))
 
   -- the classes are at most the missed vertices in them and the vertices of s that m meets
   pub classes_few : p ≤ total g.order (λ v. bit (nat_lt 0 (label v)) * bit (degree g m v == 0) + bit (s v) * degree g m v)

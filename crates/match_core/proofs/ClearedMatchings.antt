@@ -3,7 +3,7 @@
 -- one more edge, then at most one edge more is taken out than there are such edges, since that one has two ends.
 use Rattle.std.proofs.Common.{◌≡◌, ℕ, suc, zero, ◌+◌, ◌*◌, ◌≤◌, ◌<◌, ◌≢◌, Bool, true, false, ◌==◌, ◌&&◌, ◌||◌, ◌⊎◌, not, refl, sym, ap, ap₂, ◌∙◌, arith, List, [], ◌∷◌, length, map, filter, cond, inl, inr, eqb-true, eq-eqb, subst}
 use Rattle.std.specs.Prelude.{All}
-use Rattle.std.proofs.lemmas.Bool.{both_ways, cases_Bool, cases_eq, true≢false, and_parts, or_cases, or_left, or_right}
+use Rattle.std.proofs.lemmas.Bool.{both_ways, cases_Bool, cases_eq, true≢false, and_parts, or_cases, or_left, or_right, not-true}
 use Rattle.std.proofs.lemmas.List.{length-map}
 use Rattle.std.proofs.lemmas.List.Elements.{All-filter}
 use Rattle.counting.specs.Counts.{Within, bit, count, total}
@@ -14,6 +14,7 @@ use Rattle.counting.proofs.Counts.{count_complement}
 use Rattle.counting.proofs.Lists.{count_mem_length}
 use Rattle.counting.proofs.SetSizes.{count_split}
 use Rattle.counting.proofs.Totals.{total_add, total_congr, total_le, total_none}
+use Rattle.counting.proofs.Booleans.{bit_le_one}
 use Rattle.graph_core.specs.Graph.{Graph, IsGraph, degree, first_end, second_end, size}
 use Rattle.graph_core.specs.Matchings.{IsMatching, IsPerfect, missed_count}
 use Rattle.graph_core.proofs.Edits.{edge_at, ends_of, missed_edges, sum_degrees, two_ends_le_degree}
@@ -80,7 +81,7 @@ left_matching g x m mm = record {
   away = λ v w t. none_there (degree g (left_over g x m) v) (λ p.
       let d = edge_at g (left_over g x m) v p in
       let l = and_parts (m d.0) (not (has_end_in g x d.0)) d.2 in
-      let out : has_end_in g x d.0 ≡ false = not_true (has_end_in g x d.0) l.1 in
+      let out : has_end_in g x d.0 ≡ false = not-true (has_end_in g x d.0) l.1 in
       elim d.3.1 [
         | inl q ↦ both_ways (has_end_in g x d.0) out (or_left (x (first_end g d.0)) (x (second_end g d.0)) (ap x q.0 ∙ t))
         | inr q ↦ both_ways (has_end_in g x d.0) out (or_right (x (first_end g d.0)) (x (second_end g d.0)) (ap x q.1 ∙ t))
@@ -95,10 +96,6 @@ left_matching g x m mm = record {
     none_there : (d : ℕ) → (0 < d → ⊥) → d ≡ 0
     none_there zero h = refl
     none_there (suc d) h = absurd (h (omega arith))
-
-    not_true : (b : Bool) → not b ≡ true → b ≡ false
-    not_true true h = absurd (true≢false (sym h))
-    not_true false h = refl
 
 pub cleared_matching : (g : Graph) (x : Set) (m : MatchingValue) → IsOf g m → KeepsMatching m → IsMatching g x (mem (edges_of (cleared x m)))
 cleared_matching g x m of keeps = matching_alike g x (left_over g x (mem (edges_of m))) (mem (edges_of (cleared x m))) (λ e w. cleared_edges g x m of e) (left_matching g x (mem (edges_of m)) (rows-matching g m of keeps))
@@ -145,7 +142,7 @@ module _ (g : Graph) (is : IsGraph g) (p c met : Set) (e : ℕ) (perfect : IsPer
           let o = once v wv in
           let q = ap bit m in
           let d = edge_at g c v (omega arith) in
-          let few : bit (taken i) ≤ 1 = le_one (taken i) in
+          let few : bit (taken i) ≤ 1 = bit_le_one (taken i) in
           elim (cases_eq d.0 e) [
             | inl same ↦
                 let ends : (first_end g e ≡ v) ⊎ (second_end g e ≡ v) = subst (λ k. (first_end g k ≡ v) ⊎ (second_end g k ≡ v)) same (end_of (first_end g d.0) (second_end g d.0) v d.3.0 d.3.1) in
@@ -171,10 +168,6 @@ module _ (g : Graph) (is : IsGraph g) (p c met : Set) (e : ℕ) (perfect : IsPer
             ]
           ]
         where
-          le_one : (b : Bool) → bit b ≤ 1
-          le_one true = omega arith
-          le_one false = omega arith
-
           hit : (b : Bool) (x y : ℕ) → b ≡ true → x ≡ y → bit (b && (x == y)) ≡ 1
           hit b x y h q = ap₂ (λ s t. bit (s && t)) h (eq-eqb x y q)
 

@@ -8,6 +8,7 @@ use Rattle.counting.proofs.Counts.{bit_true, count_congr, count_le_one}
 use Rattle.counting.proofs.Totals.{some_term, total_add, total_congr, total_le, two_le_total}
 use Rattle.counting.specs.Counts.{Within, bit, count, total}
 use Rattle.counting.specs.Sets.{Set, put}
+use Rattle.counting.proofs.Booleans.{and_comm}
 use Rattle.graph_core.proofs.Edits.{add_edge, bit_other, bit_same, degree_put, edge_at, edge_of, ends_le_degree, ends_of, ends_of_is, missed_edges, shared, shared_le, shared_put, two_ends_le_degree}
 use Rattle.graph_core.proofs.Walks.{adjacent-edge, adjacent_within}
 use Rattle.graph_core.specs.Graph.{Graph, IsGraph, degree, size, HasEnds}
@@ -57,10 +58,7 @@ module _ (g : Graph) (is : IsGraph g) (r m n : Set) (mm : IsMaximum g r m) (nn :
       split_a = halves a_set b_set
 
       split_b : count g.order b_set ≡ count g.order (λ v. a_set v && b_set v) + count g.order q
-      split_b = halves b_set a_set ∙ ap (λ k. k + count g.order q) (count_congr g.order _ _ (λ v w. swap (b_set v) (a_set v)))
-        where
-          swap : (s t : Bool) → (s && t) ≡ (t && s)
-          swap s t = grind arith
+      split_b = halves b_set a_set ∙ ap (λ k. k + count g.order q) (count_congr g.order _ _ (λ v w. and_comm (b_set v) (a_set v)))
 
       two : 2 ≤ count g.order p
       two = let pu : bit (p u) ≡ 1 = rw (au, bu) refl in let pv : bit (p v) ≡ 1 = rw (av, bv) refl in elim (cases_order u v) [

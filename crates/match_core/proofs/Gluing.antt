@@ -8,12 +8,12 @@ use Rattle.counting.specs.Counts.{Within, bit}
 use Rattle.counting.specs.Sets.{Set, none, put, union, minus}
 use Rattle.counting.specs.Lists.{mem}
 use Rattle.counting.proofs.Lists.{mem-append}
+use Rattle.counting.proofs.Booleans.{or_false, or_true}
 use Rattle.graph_core.proofs.Edits.{degree_put, edge_at, ends_le_degree, ends_of, ends_of_is, two_ends_le_degree, bit_same}
 use Rattle.graph_core.specs.Graph.{Graph, HasEnds, IsGraph, degree, size, first_end, second_end}
 use Rattle.graph_core.specs.Matchings.{IsMatching, IsPerfect}
 use Rattle.match_core.specs.Questions.{MeetOnce}
 use Rattle.match_core.proofs.Forests.{met as met_ends}
-use Rattle.match_core.proofs.GrownRows.{or-false, or-true}
 use Rattle.match_core.proofs.NearPerfectSets.{degree_split, bit_minus, bit_union}
 
 -- an edge outside c with two free ends is added
@@ -105,10 +105,6 @@ cut_off g c met m once perfect holds = record {
 -- the first items of a list, one more of them, and an item of it
 pub mem-more : (xs : List ℕ) (k v : ℕ) → k < length xs → mem (take (k + 1) xs) v ≡ (mem (take k xs) v || (get_or xs k 0 == v))
 mem-more xs k v l = ap (λ ys. mem ys v) (take_more xs k 0 l) ∙ mem-append (take k xs) (get_or xs k 0 ∷ []) v ∙ ap (λ b. mem (take k xs) v || b) (or_false (get_or xs k 0 == v))
-  where
-    or_false : (b : Bool) → (b || false) ≡ b
-    or_false true = refl
-    or_false false = refl
 
 pub mem-take : (xs : List ℕ) (k v : ℕ) → mem (take k xs) v ≡ true → mem xs v ≡ true
 mem-take [] zero v h = h
@@ -122,8 +118,8 @@ mem-take (x ∷ xs) (suc k) v h = elim (Rattle.std.proofs.lemmas.Bool.or_cases (
 -- an item that is there already changes nothing
 pub mem-again : (x : Set) (v w : ℕ) → x v ≡ true → (x w || (v == w)) ≡ x w
 mem-again x v w h = elim (cases_Bool (v == w)) [
-  | inl q ↦ ap (λ b. x w || b) q ∙ or-true (x w) ∙ sym (ap x (sym (eqb-true v w q)) ∙ h)
-  | inr q ↦ ap (λ b. x w || b) q ∙ or-false (x w)
+  | inl q ↦ ap (λ b. x w || b) q ∙ or_true (x w) ∙ sym (ap x (sym (eqb-true v w q)) ∙ h)
+  | inr q ↦ ap (λ b. x w || b) q ∙ or_false (x w)
 ]
 
 -- all items of a list

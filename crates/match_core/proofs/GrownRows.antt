@@ -1,19 +1,12 @@
 -- A set with one member more.
 use Rattle.std.proofs.Common.{◌≡◌, ℕ, Bool, true, false, cond, ◌==◌, refl, sym, ap, ◌∙◌, eq-eqb, ne_eqb, inl, inr, ◌||◌}
+use Rattle.counting.proofs.Booleans.{or_true, or_false}
 use Rattle.std.proofs.lemmas.Bool.{cases_eq}
 use Rattle.counting.specs.Sets.{Set, put}
-
-pub or-true : (b : Bool) → (b || true) ≡ true
-or-true true = refl
-or-true false = refl
-
-pub or-false : (b : Bool) → (b || false) ≡ b
-or-false true = refl
-or-false false = refl
 
 -- a set with v added is the set put true at v
 pub with_put : (x : Set) (v w : ℕ) → (x w || (v == w)) ≡ put x v true w
 with_put x v w = elim (cases_eq v w) [
-  | inl q ↦ ap (λ b. x w || b) (eq-eqb v w q) ∙ or-true (x w) ∙ sym (ap (λ b. cond b true (x w)) (eq-eqb w v (sym q)))
-  | inr n ↦ ap (λ b. x w || b) (ne_eqb v w n) ∙ or-false (x w) ∙ sym (ap (λ b. cond b true (x w)) (ne_eqb w v (λ q. n (sym q))))
+  | inl q ↦ ap (λ b. x w || b) (eq-eqb v w q) ∙ or_true (x w) ∙ sym (ap (λ b. cond b true (x w)) (eq-eqb w v (sym q)))
+  | inr n ↦ ap (λ b. x w || b) (ne_eqb v w n) ∙ or_false (x w) ∙ sym (ap (λ b. cond b true (x w)) (ne_eqb w v (λ q. n (sym q))))
 ]

@@ -1,11 +1,12 @@
 -- A certificate has as many classes as there are odd components, and a frame gives the Gallai-Edmonds sets.
 -- A class is a union of components, one of them odd; a matching of the certified size is tight at each vertex.
 use Rattle.std.proofs.Common.{◌≡◌, ℕ, suc, zero, ◌+◌, ◌*◌, ◌≤◌, ◌<◌, Bool, true, false, ◌==◌, refl, sym, ap, ◌∙◌, arith, ◌&&◌, ◌||◌, eqb-true, ◌⊎◌, inl, inr, subst, nat_lt, List, [], ◌∷◌, ltb-true}
-use Rattle.std.proofs.lemmas.Bool.{cases_Bool, both_ways, true≢false, false_from_ne_true, or_parts}
+use Rattle.std.proofs.lemmas.Bool.{cases_Bool, both_ways, true≢false, false_from_ne_true, or_parts, or_from}
 use Rattle.counting.proofs.Odd.{odd_pos, odd_total}
 use Rattle.counting.proofs.Totals.{total_congr, total_le, total_mul, total_swap, total_ones}
 use Rattle.counting.specs.Counts.{Within, bit, count, is_odd, total}
 use Rattle.counting.specs.Sets.{Set, complement, none, union}
+use Rattle.counting.proofs.Booleans.{bit_times_le}
 use Rattle.graph_core.proofs.Components.{joined_walk, one_leader, some_leader}
 use Rattle.graph_core.proofs.Decide.{none_matching}
 use Rattle.graph_core.proofs.Edits.{missed_edges}
@@ -106,12 +107,8 @@ module _ (g : Graph) (is : IsGraph g) (x : Set) (label : ℕ → ℕ) (p : ℕ) 
   unfolding odd_component_count
   classes_components =
       let a = classes_leaders in
-      let d = total_le g.order (λ u. bit (nat_lt 0 (label u)) * bit (is_least g x u && is_odd (count g.order (joined g x u)))) (λ u. bit (is_least g x u && is_odd (count g.order (joined g x u)))) (λ u w. less (nat_lt 0 (label u)) (bit (is_least g x u && is_odd (count g.order (joined g x u))))) in
+      let d = total_le g.order (λ u. bit (nat_lt 0 (label u)) * bit (is_least g x u && is_odd (count g.order (joined g x u)))) (λ u. bit (is_least g x u && is_odd (count g.order (joined g x u)))) (λ u w. bit_times_le (nat_lt 0 (label u)) (bit (is_least g x u && is_odd (count g.order (joined g x u))))) in
       omega arith
-    where
-      less : (a : Bool) (k : ℕ) → bit a * k ≤ k
-      less true k = omega arith
-      less false k = omega arith
 
 -- a certificate that a matching of k edges meets: its classes are as many as the odd components, and the matching is maximum
 pub certificate_components : (g : Graph) (r s : Set) (k : ℕ) (label : ℕ → ℕ) (p : ℕ) → IsGraph g → IsCertificate g r k s label p → (m : Set) → IsMatching g r m → count (size g) m ≡ k → (odd_component_count g (union r s) ≡ p) × (missed_count g r m + count g.order s ≡ odd_component_count g (union r s))
@@ -169,7 +166,7 @@ module _ (g : Graph) (is : IsGraph g) (r : Set) (k : ℕ) (outer inner : Set) (f
     | inl t ↦ t
     | inr f ↦
         let wo : Within g.order o = elim ends [ inl q ↦ subst (λ z. Within g.order z) q.1 (is e we).1 | inr q ↦ subst (λ z. Within g.order z) q.0 (is e we).0 ] in
-        let uv = neither (r v) (inner v) rv f in
+        let uv = or_from (r v) (inner v) rv f in
         let uo = outer_free o wo oo in
         let same : frame.label v ≡ frame.label o = elim ends [
           | inl q ↦ ap frame.label (sym q.0) ∙ frame.certificate.labels.along e we (ap (union r inner) q.0 ∙ uv) (ap (union r inner) q.1 ∙ uo) ∙ ap frame.label q.1
@@ -177,6 +174,3 @@ module _ (g : Graph) (is : IsGraph g) (r : Set) (k : ℕ) (outer inner : Set) (f
         ] in
         absurd (both_ways (outer v) ov (frame.labelled v w ∙ ap (nat_lt 0) same ∙ sym (frame.labelled o wo) ∙ oo))
   ]
-    where
-      neither : (a b : Bool) → a ≡ false → b ≡ false → (a || b) ≡ false
-      neither a b q t = grind arith

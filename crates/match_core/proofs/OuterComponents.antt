@@ -9,6 +9,7 @@ use Rattle.counting.proofs.Totals.{some_term, total_add, total_at, total_congr, 
 use Rattle.counting.specs.Counts.{Within, bit, count, is_odd, total}
 use Rattle.counting.specs.Sets.{Set, union}
 use Rattle.counting.specs.Tests.{some}
+use Rattle.counting.proofs.Booleans.{bit_times_le}
 use Rattle.graph_core.proofs.Components.{joined_outside, joined_walk, one_leader, some_leader, walk_joined}
 use Rattle.graph_core.proofs.Walks.{adjacent_from, has_ends-back, has_ends-own, joined_back, joined_on, joined_self}
 use Rattle.graph_core.specs.Components.{is_least, odd_component_count}
@@ -70,7 +71,7 @@ module _ (g : Graph) (is : IsGraph g) (x : Set) where
       | inr o ↦ let u = leader v w o in
           let a = label_at u.0 v u.1 w u.2 u.3 in
           let b = count_up is_odd_least u.0 g.order u.1.1 in
-          let c = less (is_odd (count g.order (joined g x u.0))) (count u.0 is_odd_least) in omega arith
+          let c = bit_times_le (is_odd (count g.order (joined g x u.0))) (count u.0 is_odd_least) in omega arith
     ];
     away = λ v w t. label_out v t;
     along = λ e w a b. let u = leader (first_end g e) (is e w).0 a in
@@ -80,10 +81,6 @@ module _ (g : Graph) (is : IsGraph g) (x : Set) where
         ap is_odd (count_congr g.order _ _ (λ v wv. same j w u.0 u.1 q.0 q.1 u.3 v wv)) ∙ q.1;
   }
     where
-      less : (a : Bool) (k : ℕ) → bit a * k ≤ k
-      less true k = omega arith
-      less false k = omega arith
-
       same : (j : ℕ) → Within (count g.order is_odd_least) j → (u : ℕ) → Within g.order u → is_least g x u ≡ true → is_odd (count g.order (joined g x u)) ≡ true → count u is_odd_least ≡ j → (v : ℕ) → Within g.order v → (component_label v == j) ≡ joined g x u v
       same j wj u wu lu ou cu v wv = elim (cases_Bool (joined g x u v)) [
         | inl t ↦ eq-eqb (component_label v) j (label_at u v wu wv lu t ∙ ap (λ b. bit b * count u is_odd_least) ou ∙ one-mul (count u is_odd_least) ∙ cu) ∙ sym t
@@ -180,14 +177,10 @@ module _ (g : Graph) (is : IsGraph g) (r : Set) (k : ℕ) (outer inner : Set) (f
       let u = leader g is (union r inner) v w free in
       let a = classes_leaders g is (union r inner) frame.label frame.classes frame.certificate.labels in
       let b = (certificate_components g r inner k frame.label frame.classes is frame.certificate m mm full).0 in
-      let same = sym (total_tight g.order (λ y. bit (is_odd_least g is (union r inner) y)) (λ y. bit (nat_lt 0 (frame.label y)) * bit (is_odd_least g is (union r inner) y)) (λ y wy. less (nat_lt 0 (frame.label y)) (bit (is_odd_least g is (union r inner) y))) (omega arith) u.0 u.1) in
+      let same = sym (total_tight g.order (λ y. bit (is_odd_least g is (union r inner) y)) (λ y. bit (nat_lt 0 (frame.label y)) * bit (is_odd_least g is (union r inner) y)) (λ y wy. bit_times_le (nat_lt 0 (frame.label y)) (bit (is_odd_least g is (union r inner) y))) (omega arith) u.0 u.1) in
       let sizes : count g.order (joined g (union r inner) u.0) ≡ count g.order (joined g (union r inner) v) = count_congr g.order _ _ (λ y wy. part_same u.0 v y u.1 w u.3) in
       frame.labelled v w ∙ ap (nat_lt 0) (sym (same_class g is (union r inner) frame.label frame.classes frame.certificate.labels u.0 v u.3)) ∙ pos (nat_lt 0 (frame.label u.0)) (is_odd_least g is (union r inner) u.0) (and_from (is_least g (union r inner) u.0) (is_odd (count g.order (joined g (union r inner) u.0))) u.2 (ap is_odd sizes ∙ odd)) same
     where
-      less : (a : Bool) (k : ℕ) → bit a * k ≤ k
-      less true k = omega arith
-      less false k = omega arith
-
       pos : (a b : Bool) → b ≡ true → bit a * bit b ≡ bit b → a ≡ true
       pos true b p q = refl
       pos false true p q = absurd (omega arith)

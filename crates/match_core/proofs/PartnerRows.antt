@@ -3,6 +3,7 @@
 -- both leave one vertex of an odd number. Where more than one vertex is missed, no matching misses one alone. A perfect matching
 -- without two vertices misses just these, so where there are partners, a maximum matching misses none or two.
 use Rattle.std.proofs.Common.{◌≡◌, ◌≢◌, ℕ, zero, suc, ◌+◌, ◌-◌, ◌*◌, ◌≤◌, ◌↔◌, List, length, Bool, true, false, ◌==◌, ◌&&◌, ◌||◌, not, refl, sym, ap, ◌∙◌, arith, inl, inr, eq-eqb, eqb-true, ne_eqb}
+use Rattle.counting.proofs.Booleans.{or_false}
 use Rattle.std.proofs.lemmas.Bool.{both_ways, cases_Bool, cases_eq, false_from_ne_true, and_from, and_parts, not-true, or_left, or_right}
 use Rattle.counting.specs.Counts.{Within, count}
 use Rattle.counting.specs.Sets.{Set, complement, pair_set, singleton, union}
@@ -21,7 +22,6 @@ use Rattle.match_core.specs.Optimal.{IsBest}
 use Rattle.match_core.specs.Partners.{AreEmptyRows, ArePartners, are_partners}
 use Rattle.match_core.specs.Rows.{marks}
 use Rattle.match_core.specs.declared.best.Best.{Best}
-use Rattle.match_core.proofs.GrownRows.{or-false}
 use Rattle.match_core.proofs.OddComponents.{certificate_maximum, missable_outer, outer_missable}
 
 or_none : (a b : Bool) → (a || b) ≡ false → (a ≡ false) × (b ≡ false)
@@ -33,7 +33,7 @@ module _ (r : Set) (v : ℕ) where
   with_own = or_right (r v) (v == v) (eq-eqb v v refl)
 
   with_other : (w : ℕ) → v ≢ w → union r (singleton v) w ≡ r w
-  with_other w d = rw (ne_eqb v w d) (or-false (r w))
+  with_other w d = rw (ne_eqb v w d) (or_false (r w))
 
 -- a matching that misses one vertex, v, is perfect without v
 pub alone-perfect : (g : Graph) (r m : Set) (v : ℕ) → IsMatching g r m → missed_count g r m ≡ 1 → Within g.order v → r v ≡ false → degree g m v ≡ 0 → IsPerfect g (union r (singleton v)) m

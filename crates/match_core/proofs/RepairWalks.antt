@@ -2,7 +2,7 @@
 -- it go on, and where does it end? Each turn makes the path longer by two edges; where the given matching ends, the path is
 -- whole and repairs it.
 use Rattle.std.proofs.Common.{◌≡◌, ℕ, suc, zero, ◌+◌, ◌-◌, ◌<◌, ◌≢◌, Bool, true, false, ◌==◌, ◌&&◌, not, refl, sym, ap, ap₂, ◌∙◌, arith, List, [], ◌∷◌, ◌++◌, length, inl, inr, ◌⊎◌, subst}
-use Rattle.std.proofs.lemmas.Bool.{cases_eq, cases_lt, cases_order, false_from_ne_true}
+use Rattle.std.proofs.lemmas.Bool.{cases_eq, cases_lt, cases_order, false_from_ne_true, and_right}
 use Rattle.std.proofs.Math.ListN.{get_or-append}
 use Rattle.std.proofs.lemmas.List.{get_or-append_right, length-append}
 use Rattle.counting.specs.Counts.{Within, bit, count, total}
@@ -41,11 +41,7 @@ no_third_passes n p a b two wa wb ab pa pb u wu pu = elim (cases_eq u a) [
         parts false t = refl
 
     one : total n (λ v. bit (p v && (a == v))) ≡ 1
-    one = total_at n (λ v. bit (p v && (a == v))) a wa (λ v w d. ap bit (none (p v) (a == v) (Rattle.std.proofs.Common.ne_eqb a v (λ q. d (sym q))))) ∙ ap₂ (λ s t. bit (s && t)) pa (Rattle.std.proofs.Common.eq-eqb a a refl)
-      where
-        none : (s t : Bool) → t ≡ false → (s && t) ≡ false
-        none true t q = q
-        none false t q = refl
+    one = total_at n (λ v. bit (p v && (a == v))) a wa (λ v w d. ap bit (and_right (p v) (a == v) (Rattle.std.proofs.Common.ne_eqb a v (λ q. d (sym q))))) ∙ ap₂ (λ s t. bit (s && t)) pa (Rattle.std.proofs.Common.eq-eqb a a refl)
 
     in_rest : (v : ℕ) → v ≢ a → p v ≡ true → bit (p v && not (a == v)) ≡ 1
     in_rest v d q = ap₂ (λ s t. bit (s && not t)) q (Rattle.std.proofs.Common.ne_eqb a v (λ h. d (sym h)))

@@ -6,6 +6,7 @@ use Rattle.counting.proofs.Counts.{count_congr}
 use Rattle.counting.proofs.Totals.{at_le_total, some_term, total_add, total_congr, total_none, two_le_total}
 use Rattle.counting.specs.Counts.{Within, bit, count, total}
 use Rattle.counting.specs.Sets.{Set}
+use Rattle.counting.proofs.Booleans.{and_false}
 use Rattle.graph_core.proofs.Parity.{ends_in}
 use Rattle.graph_core.specs.Graph.{Graph, IsGraph, degree, first_end, second_end, size, with_ends}
 use Rattle.match_core.specs.Frames.{IsShrunk, shrunk_vertex, shrunk_removed}
@@ -64,12 +65,8 @@ module _ (g : Graph) (is : IsGraph g) (r c : Set) (z : ℕ) (es : List (ℕ × �
 
   pub degree_in : (m : Set) (v : ℕ) → c v ≡ true → v ≢ z → degree h m v ≡ 0
   degree_in m v cv d = ap₂ ◌+◌
-      (over _ (λ e. false) (λ e w. ap (λ k. m e && k) (ap (λ k. k == v) (pulls.first_ends e w) ∙ pull_in (first_end g e) v cv d) ∙ and_no (m e)) ∙ total_none (size g) _ (λ e w. refl))
-      (over _ (λ e. false) (λ e w. ap (λ k. m e && k) (ap (λ k. k == v) (pulls.second_ends e w) ∙ pull_in (second_end g e) v cv d) ∙ and_no (m e)) ∙ total_none (size g) _ (λ e w. refl))
-    where
-      and_no : (b : Bool) → (b && false) ≡ false
-      and_no true = refl
-      and_no false = refl
+      (over _ (λ e. false) (λ e w. ap (λ k. m e && k) (ap (λ k. k == v) (pulls.first_ends e w) ∙ pull_in (first_end g e) v cv d) ∙ and_false (m e)) ∙ total_none (size g) _ (λ e w. refl))
+      (over _ (λ e. false) (λ e w. ap (λ k. m e && k) (ap (λ k. k == v) (pulls.second_ends e w) ∙ pull_in (second_end g e) v cv d) ∙ and_false (m e)) ∙ total_none (size g) _ (λ e w. refl))
 
   pub degree_z : (m : Set) → degree h m z ≡ total g.order (λ d. bit (c d) * degree g m d)
   degree_z m = ap₂ ◌+◌

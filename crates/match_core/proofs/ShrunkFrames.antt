@@ -1,11 +1,12 @@
 -- A set C is shrunk to one vertex z of it. Do labellings and frames of the shrunk graph go up? Yes: each vertex of C gets the label
 -- of z, and is outer.
 use Rattle.std.proofs.Common.{◌≡◌, ℕ, suc, ◌+◌, ◌*◌, ◌≤◌, Bool, true, false, cond, ◌==◌, refl, sym, ap, ap₂, ◌∙◌, arith, ◌||◌, not, eq-eqb, ne_eqb, inl, inr, nat_lt, List}
-use Rattle.std.proofs.lemmas.Bool.{cases_eq, cases_Bool, both_ways, false_from_ne_true}
+use Rattle.std.proofs.lemmas.Bool.{cases_eq, cases_Bool, both_ways, false_from_ne_true, or_from}
 use Rattle.counting.proofs.Odd.{odd-add, odd-double}
 use Rattle.counting.proofs.Totals.{total_add, total_at, total_congr}
 use Rattle.counting.specs.Counts.{Within, bit, count, is_odd, total}
 use Rattle.counting.specs.Sets.{Set, complement, union}
+use Rattle.counting.proofs.Booleans.{or_false, or_true}
 use Rattle.graph_core.specs.Graph.{Graph, IsGraph, degree, first_end, second_end, size, HasEnds, with_ends}
 use Rattle.graph_core.specs.Matchings.{IsMatching}
 use Rattle.match_core.specs.Frames.{Frame, IsCertificate, IsOddLabelling, IsNearPerfect, IsShrunk, shrunk_vertex, shrunk_removed}
@@ -66,11 +67,8 @@ module _ (g : Graph) (is : IsGraph g) (r c : Set) (z : ℕ) (es : List (ℕ × �
     pulled_free : (a : ℕ) → union r s a ≡ false → union r' s (shrunk_vertex c z a) ≡ false
     pulled_free a q = go (c a) refl
       where
-        neither : (a b : Bool) → a ≡ false → b ≡ false → (a || b) ≡ false
-        neither a b q t = grind arith
-
         go : (b : Bool) → c a ≡ b → union r' s (cond b z a) ≡ false
-        go true t = neither (r' z) (s z) (shut_z g is r c z es pulls cr wz cz) sz
+        go true t = or_from (r' z) (s z) (shut_z g is r c z es pulls cr wz cz) sz
         go false t = ap (λ k. k || s a) (shut_out g is r c z es pulls cr wz cz a t) ∙ q
 
     class_size : (j : ℕ) → 1 ≤ j → count g.order (λ v. lifted label v == j) + bit (label z == j) ≡ count g.order (λ v. label v == j) + bit (label z == j) * count g.order c
@@ -149,15 +147,7 @@ module _ (g : Graph) (is : IsGraph g) (r c : Set) (z : ℕ) (es : List (ℕ × �
         where
           go : (b : Bool) → (outer v || b) ≡ nat_lt 0 (cond b (frame.label z) (frame.label v))
           go true = or_true (outer v) ∙ sym tight.0
-            where
-              or_true : (a : Bool) → (a || true) ≡ true
-              or_true true = refl
-              or_true false = refl
           go false = or_false (outer v) ∙ frame.labelled v w
-            where
-              or_false : (a : Bool) → (a || false) ≡ a
-              or_false true = refl
-              or_false false = refl
 
       missable : (v : ℕ) → Within g.order v → union outer c v ≡ true → (n : Set) × IsMatching g r n × (count (size g) n ≡ l + k) × (degree g n v ≡ 0)
       missable v w t = elim (cases_Bool (c v)) [

@@ -8,6 +8,7 @@ use Rattle.counting.proofs.Odd.{odd-double}
 use Rattle.counting.proofs.Totals.{total_congr}
 use Rattle.counting.specs.Counts.{Within, bit, count, is_odd, total}
 use Rattle.counting.specs.Sets.{Set, put}
+use Rattle.counting.proofs.Booleans.{not_not}
 use Rattle.graph_core.proofs.Edits.{degree_put, edge_at, ends_le_degree, ends_of, ends_of_is, bit_same}
 use Rattle.graph_core.specs.Graph.{Graph, IsGraph, degree, size, HasEnds}
 use Rattle.graph_core.specs.Matchings.{IsMatching, IsPerfect}
@@ -110,10 +111,6 @@ module _ (g : Graph) (is : IsGraph g) (r m n : Set) (mm : IsMatching g r m) (per
         where
           below : (x y : ℕ) → x ≤ y → x ≢ y → x < y
           below x y l n = elim (cases_order x y) [ inl s ↦ absurd (n s) | inr s ↦ elim s [ inl t ↦ t | inr t ↦ absurd (omega arith) ] ]
-
-          not_not : (b : Bool) → not (not b) ≡ b
-          not_not true = refl
-          not_not false = refl
 
           hit : (i j c : ℕ) → i ≤ k + k → j ≤ k + k → Within (size g) c → m c ≡ true → HasEnds g c (v i) (v j) → v i ≡ x → ⊥
           hit i j c li lj wc mc en q =

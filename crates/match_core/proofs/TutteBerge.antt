@@ -9,6 +9,7 @@ use Rattle.counting.proofs.Tests.{scan}
 use Rattle.counting.proofs.Totals.{at_le_total, total_add, total_at, total_congr, total_mul, total_none, total_swap}
 use Rattle.counting.specs.Counts.{Within, bit, count, is_odd}
 use Rattle.counting.specs.Sets.{Outside, Set, none, singleton, union}
+use Rattle.counting.proofs.Booleans.{or_fails_first, or_false}
 use Rattle.graph_core.proofs.Components.{joined_outside, joined_walk, one_leader, some_leader, walk_joined}
 use Rattle.graph_core.proofs.Decide.{maximum_exists, missed_or_met}
 use Rattle.graph_core.proofs.Edits.{ends_le_degree, ends_of, ends_of_is, missed_edges}
@@ -20,7 +21,6 @@ use Rattle.graph_core.specs.Graph.{Graph, IsGraph, degree, first_end, has_ends, 
 use Rattle.graph_core.specs.Matchings.{IsMatching, IsMaximum, missed_count}
 use Rattle.graph_core.specs.Walks.{Joined, adjacent, joined}
 use Rattle.match_core.proofs.Gallai.{no_two}
-use Rattle.match_core.proofs.GrownRows.{or-false}
 
 module _ (g : Graph) (is : IsGraph g) (r m : Set) (mm : IsMaximum g r m)
     (no_pair : (u v : ℕ) → Joined g r u v → u ≢ v → degree g m u ≡ 0 → degree g m v ≡ 0 → ⊥) where
@@ -122,7 +122,7 @@ pub record TutteBerge (g : Graph) (r : Set) : Type 0 where
   pub equal : missed_count g r m + count g.order s ≡ odd_component_count g (union r s)
 
 union_none : (r : Set) → union r none ≡ r
-union_none r = fun_ext (λ v. or-false (r v))
+union_none r = fun_ext (λ v. or_false (r v))
 
 -- where each vertex is missed by some maximum matching
 all_missed : (g : Graph) (r : Set) → IsGraph g → ((v : ℕ) → Within g.order v → r v ≡ false → (m : Set) × IsMaximum g r m × (degree g m v ≡ 0)) → TutteBerge g r
@@ -147,12 +147,9 @@ one_met g r is v w o met ih = record { s = union ih.s (singleton v); outside = o
 
     out : Outside r (union ih.s (singleton v))
     out u e = elim (or_cases (ih.s u) (v == u) e) [
-      | inl t ↦ first (r u) (v == u) (ih.outside u t)
+      | inl t ↦ or_fails_first (r u) (v == u) (ih.outside u t)
       | inr t ↦ ap r (sym (eqb-true v u t)) ∙ o
     ]
-      where
-        first : (a b : Bool) → (a || b) ≡ false → a ≡ false
-        first a b h = grind arith
 
     also : IsMatching g r ih.m
     also = record { once = ih.is.once; away = λ u wu e. ih.is.away u wu (ap (λ b. b || (v == u)) e) }

@@ -8,6 +8,7 @@ use Rattle.counting.proofs.Members.{count_zero}
 use Rattle.counting.proofs.Totals.{total_congr, total_add, total_none}
 use Rattle.counting.specs.Counts.{bit, count, Within}
 use Rattle.counting.specs.Sets.{Set, none, minus, meet, complement}
+use Rattle.counting.proofs.Booleans.{and_fails_second}
 use Rattle.graph_core.proofs.Decide.{covered_perfect}
 use Rattle.graph_core.proofs.Parity.{parity}
 use Rattle.graph_core.specs.Covered.{IsCovered}
@@ -58,7 +59,7 @@ module _ (g : Graph) (is : IsGraph g) where
     equal_sides cov = let m = covered_perfect g is cov in
         let a = side_count x x m.0 two (λ v h. h) m.1 in let b = side_count (complement x) (complement x) m.0 (other_side x two) (λ v h. h) m.1 in let c = same_cut x m.0 in omega arith
 
-    -- edges that leave y from the left, from the right
+    -- edges that leave y from the left, from the and_fails_second
     abbrev pub leaves_left : Set → Set
     leaves_left y = connects g (meet y x) (minus (complement y) x)
 
@@ -106,7 +107,7 @@ module _ (g : Graph) (is : IsGraph g) where
         second true false true false true h = refl
         second true false true false false h = refl
 
-    -- where each perfect matching leaves y by one edge and y has one vertex more on the left, no edge leaves it from the right
+    -- where each perfect matching leaves y by one edge and y has one vertex more on the left, no edge leaves it from the and_fails_second
     pub none_right : IsCovered g → (y : Set) → CutIsTight g y → count g.order (meet y x) ≡ count g.order (minus y x) + 1 → (e : ℕ) → Within (size g) e → leaves_right y e ≡ false
     none_right cov y tight more e w = elim (cases_eq (first_end g e) (second_end g e)) [
       | inl l ↦ loop (x (first_end g e)) (x (second_end g e)) (y (first_end g e)) (y (second_end g e)) (ap x l) (ap y l)
@@ -114,11 +115,8 @@ module _ (g : Graph) (is : IsGraph g) where
           let a = cov.allowed e w d in
           let b = balance y a.0 a.1 in
           let c = tight a.0 a.1 in
-          let z = count_zero (size g) (λ e. a.0 e && leaves_right y e) (let k = b.0 in let l = b.1 in omega arith) e w in right (a.0 e) (leaves_right y e) a.2 z
+          let z = count_zero (size g) (λ e. a.0 e && leaves_right y e) (let k = b.0 in let l = b.1 in omega arith) e w in and_fails_second (a.0 e) (leaves_right y e) a.2 z
     ]
       where
         loop : (a b c d : Bool) → a ≡ b → c ≡ d → (((c && not a) && (not d && b)) || ((not c && a) && (d && not b))) ≡ false
         loop a b c d h k = grind arith
-
-        right : (a b : Bool) → a ≡ true → (a && b) ≡ false → b ≡ false
-        right a b p q = grind arith

@@ -1,7 +1,7 @@
 -- Tight shores of a bipartite covered graph are the vertex sets that no arc of the digraph of a perfect matching leaves, but from
 -- one vertex a of the side: then only the edge of the matching at a leaves the set from the side, and none from the other.
 use Rattle.std.proofs.Common.{◌≡◌, ◌≢◌, ℕ, ◌+◌, ◌≤◌, Bool, true, false, cond, ◌==◌, refl, sym, ap, ◌∙◌, arith, ◌&&◌, ◌||◌, not, eq-eqb, ne_eqb, inl, inr, ◌⊎◌, subst}
-use Rattle.std.proofs.lemmas.Bool.{cases_eq, cases_Bool, true≢false, both_ways, and_parts, and_from, false_from_ne_true, not-true}
+use Rattle.std.proofs.lemmas.Bool.{cases_eq, cases_Bool, true≢false, both_ways, and_parts, and_from, false_from_ne_true, not-true, and_right}
 use Rattle.barrier_kit.specs.BarrierCuts.{IsSide}
 use Rattle.counting.proofs.Members.{member_count, two_members}
 use Rattle.counting.proofs.Tests.{some_true, true_some}
@@ -147,10 +147,7 @@ module _ (g : Graph) (is : IsGraph g) (x m : Set) (two : IsSide g x) (perfect : 
           both_ways (y r.1) r.5 (closed r.0 r.1 n.0 n.1 r.3 (step_adjacent r.0 r.1 r.4 (adjacent_from g none r.0 r.1 e refl refl w r.2))))
 
       rights_none : (k : Set) → rights k ≡ 0
-      rights_none k = total_none (size g) (λ e. bit (k e && leaves_right g is x two y e)) (λ e w. ap bit (out (k e) (leaves_right g is x two y e) (no_right e w)))
-        where
-          out : (s t : Bool) → t ≡ false → (s && t) ≡ false
-          out s t h = grind arith
+      rights_none k = total_none (size g) (λ e. bit (k e && leaves_right g is x two y e)) (λ e w. ap bit (and_right (k e) (leaves_right g is x two y e) (no_right e w)))
 
       lefts_one : lefts m ≤ 1
       lefts_one =

@@ -5,6 +5,7 @@ use Rattle.std.proofs.lemmas.Bool.{both_ways, cases_Bool}
 use Rattle.counting.proofs.RisingLists.{same_rising_list}
 use Rattle.counting.specs.Lists.{IsRisingIn, mem}
 use Rattle.counting.specs.Sets.{Set, complement, meet, minus}
+use Rattle.counting.proofs.Booleans.{and_implied, not_not}
 use Rattle.graph_core.proofs.BlockSets.{block_count_congr, block_count_parts, block_count_rest, tight_congr, tight_rest, union_congr, union_meet, union_minus, union_rest}
 use Rattle.graph_core.proofs.Complements.{complement_of-rises, mem-complement_of}
 use Rattle.graph_core.proofs.MergeOrder.{merged_blocks}
@@ -34,11 +35,7 @@ pub record Big (g : Graph) (p : List (List ℕ)) (x : List ℕ) : Type 0 where
 
 pub rest_rest : (n : ℕ) (x : List ℕ) → IsRisingIn n x → complement_of n (complement_of n x) ≡ x
 rest_rest n x s = same_rising_list n (complement_of n (complement_of n x)) x (complement_of-rises n (complement_of n x)) s
-    (λ v w. mem-complement_of n (complement_of n x) v w ∙ ap not (mem-complement_of n x v w) ∙ twice (mem x v))
-  where
-    twice : (b : Bool) → not (not b) ≡ b
-    twice true = refl
-    twice false = refl
+    (λ v w. mem-complement_of n (complement_of n x) v w ∙ ap not (mem-complement_of n x v w) ∙ not_not (mem x v))
 
 -- how many blocks are outside both
 unfoldable pub gap : ℕ → List (List ℕ) → (x y : List ℕ) → ℕ
@@ -86,12 +83,9 @@ module _ (g : Graph) (p : List (List ℕ)) (stage : Stage g p) where
   pub number_gap : (x y : Set) → IsUnion g.order p x → IsUnion g.order p y → Below g.order x y → block_count p y ≡ block_count p x + block_count p (minus y x)
   number_gap x y ux uy b =
       let a = block_count_parts g.order p pp y x uy ux in
-      let c = block_count_congr g.order p pp (meet y x) x (λ v w. both (y v) (x v) (b v w)) (union_meet g.order p pp y x uy ux) in omega arith
-    where
-      both : (a b : Bool) → (b ≡ true → a ≡ true) → (a && b) ≡ b
-      both a b h = grind arith
+      let c = block_count_congr g.order p pp (meet y x) x (λ v w. and_implied (y v) (x v) (b v w)) (union_meet g.order p pp y x uy ux) in omega arith
 
-  -- x and y apart, both closed at p: the numbers of blocks after merging x
+  -- x and y apart, and_implied closed at p: the numbers of blocks after merging x
   module _ (x y : List ℕ) (bx : Big g p x) (uy : IsUnion g.order p (mem y)) (apart : Apart g.order (mem x) (mem y)) where
     below_rest : Below g.order (mem x) (mem (complement_of g.order y))
     below_rest v w h = mem-complement_of g.order y v w ∙ ap not (apart v w h)

@@ -5,6 +5,7 @@ use Rattle.counting.proofs.Lists.{mem-within, member-of_set}
 use Rattle.counting.proofs.RisingLists.{mem-outside, mem-rising_list, rising_list-rises, same_rising_list}
 use Rattle.counting.specs.Counts.{Within}
 use Rattle.counting.specs.Lists.{IsRisingIn, mem, rising_list}
+use Rattle.counting.proofs.Booleans.{not_not}
 use Rattle.graph_core.proofs.Complements.{complement_of-rises, union-complement_of}
 use Rattle.graph_core.proofs.MergedShores.{closed_up}
 use Rattle.graph_core.proofs.Merging.{merged_merges}
@@ -64,10 +65,6 @@ module _ (g : Graph) (p q : List (List ℕ)) (h k : ℕ → ℕ) (iso : Isomorph
       z-mem : (v : ℕ) → Within g.order v → mem z (h v) ≡ not (mem x v)
       z-mem v w = mem-rising_list g.order (λ v. not (mem x (k v))) (h v) (iso.there.within v w) ∙ ap not (same_side x union v w)
 
-      twice_not : (b : Bool) → not (not b) ≡ b
-      twice_not true = refl
-      twice_not false = refl
-
       go : (s : Bool) → carry g.order h (carry_cut g.order k x s (carry g.order k a) (carry g.order k b)) ≡ cut x a b
       go false =
           ap (λ s. carry_cut g.order h y s (carry g.order h (carry g.order k a)) (carry g.order h (carry g.order k b))) (y-mem g.order last ∙ canonical)
@@ -76,7 +73,7 @@ module _ (g : Graph) (p q : List (List ℕ)) (h k : ℕ → ℕ) (iso : Isomorph
       go true =
           ap (λ s. carry_cut g.order h z s (carry g.order h (carry g.order k b)) (carry g.order h (carry g.order k a))) (z-mem g.order last ∙ ap not canonical)
           ∙ same_cut (same_rising_list g.order (rising_list g.order (λ v. not (mem z (h v)))) x (rising_list-rises g.order (λ v. not (mem z (h v)))) rises
-          (λ v w. mem-rising_list g.order (λ v. not (mem z (h v))) v w ∙ ap not (z-mem v w) ∙ twice_not (mem x v)))
+          (λ v w. mem-rising_list g.order (λ v. not (mem z (h v))) v w ∙ ap not (z-mem v w) ∙ not_not (mem x v)))
           same_a same_b
 
   twice_at : (t : Shape) → AreRising g.order t → Each g.order p t → carry g.order h (carry g.order k t) ≡ t

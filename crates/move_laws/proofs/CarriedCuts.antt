@@ -7,6 +7,7 @@ use Rattle.counting.proofs.Totals.{some_term}
 use Rattle.counting.specs.Counts.{Within, bit}
 use Rattle.counting.specs.Lists.{IsRisingIn, mem, rising_list}
 use Rattle.counting.specs.Sets.{Set, complement}
+use Rattle.counting.proofs.Booleans.{not_not, not_not_back}
 use Rattle.graph_core.proofs.BlockSets.{at_rep, block_count_congr, block_count_rest, rep, rep_in, tight_congr, tight_rest, union_congr, union_rest}
 use Rattle.graph_core.proofs.Complements.{complement_of-rises, mem-complement_of}
 use Rattle.graph_core.proofs.MergedShores.{Some, alike_down, alike_in, alike_up, covered_merged, merge_of, same_side}
@@ -92,13 +93,9 @@ module _ (g : Graph) (is : IsGraph g) (p : List (List ℕ)) (pp : AreBlocks g.or
 pub nontrivial_rest : (n : ℕ) (p : List (List ℕ)) → AreBlocks n p → (x : Set) → IsUnion n p x → IsNontrivial (length p) (blocks_in p x) → IsNontrivial (length p) (blocks_in p (complement x))
 nontrivial_rest n p pp x u nt =
     let a = block_count_rest n p pp x u in let b = block_count_rest n p pp (complement x) (union_rest n p pp x u) in
-    let c = block_count_congr n p pp x (complement (complement x)) (λ v w. twice (x v)) u in
+    let c = block_count_congr n p pp x (complement (complement x)) (λ v w. not_not_back (x v)) u in
     let i = nt.inside in let o = nt.outside in
     record { inside = omega arith; outside = omega arith }
-  where
-    twice : (b : Bool) → b ≡ not (not b)
-    twice true = refl
-    twice false = refl
 
 pub nontrivial_congr : (n : ℕ) (p : List (List ℕ)) → AreBlocks n p → (x y : Set) → IsUnion n p x → ((v : ℕ) → Within n v → x v ≡ y v) → IsNontrivial (length p) (blocks_in p x) → IsNontrivial (length p) (blocks_in p y)
 nontrivial_congr n p pp x y u h t =
@@ -206,12 +203,8 @@ module _ (g : Graph) (is : IsGraph g) (h k : ℕ → ℕ) (p q : List (List ℕ)
       image_rises = complement_of-rises g.order rest;
       nonempty = inner g is p pp x rises tight nontrivial;
       image_nonempty = outer g is q qp rest rest-rises rest_is_tight rest_is_nontrivial;
-      same = λ v w. mem-complement_of g.order rest v w ∙ ap not (rest-mem v w) ∙ twice (mem x (k v));
+      same = λ v w. mem-complement_of g.order rest v w ∙ ap not (rest-mem v w) ∙ not_not (mem x (k v));
     }
-      where
-        twice : (b : Bool) → not (not b) ≡ b
-        twice true = refl
-        twice false = refl
 
     pub rest-outside : IsImage g p q k (complement_of g.order x) rest
     rest-outside = record {

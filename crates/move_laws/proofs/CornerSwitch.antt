@@ -4,6 +4,7 @@ use Rattle.counting.proofs.RisingLists.{mem-rising_list, rising_list-rises, same
 use Rattle.counting.specs.Counts.{Within}
 use Rattle.counting.specs.Lists.{IsRisingIn, is_subset, mem}
 use Rattle.counting.specs.Sets.{complement, meet, union}
+use Rattle.counting.proofs.Booleans.{nor_right, not_not}
 use Rattle.graph_core.proofs.Complements.{complement_of-rises, mem-complement_of}
 use Rattle.graph_core.specs.Graph.{Graph}
 use Rattle.graph_core.specs.Partitions.{complement_of}
@@ -30,12 +31,8 @@ module _ (g : Graph) (p : List (List ℕ)) (x z y : List ℕ) (c : Corners g p x
   y_big : Big g p y
   y_big = elim kind [
     | inl h ↦ subst (Big g p) (same_rising_list g.order z y c.second.shore sy h) c.second
-    | inr h ↦ subst (Big g p) (same_rising_list g.order (complement_of g.order z) y (complement_of-rises g.order z) sy (λ v w. mem-complement_of g.order z v w ∙ ap not (h v w) ∙ twice (mem y v))) (big_rest g p c.stage z c.second)
+    | inr h ↦ subst (Big g p) (same_rising_list g.order (complement_of g.order z) y (complement_of-rises g.order z) sy (λ v w. mem-complement_of g.order z v w ∙ ap not (h v w) ∙ not_not (mem y v))) (big_rest g p c.stage z c.second)
   ]
-    where
-      twice : (b : Bool) → not (not b) ≡ b
-      twice true = refl
-      twice false = refl
 
   module _ (a b : Shape) (f : AreRising g.order (cut x a b)) (d : IsDerivationAt g p (cut x a b)) (s t : ℕ) (inner_block : IsBlockOf g.order p (mem (meet_list g.order x z)) s) (outer_block : IsBlockOf g.order p (mem (outer_of g.order x z)) t) where
     abbrev inner_corner : List ℕ
@@ -108,9 +105,9 @@ module _ (g : Graph) (p : List (List ℕ)) (x z y : List ℕ) (c : Corners g p x
           ∙ ap (λ k. Some (cut k a' b')) shore_is in
           (a', b', e, (cut y a' b', e, ((inner-rises, outer-rises), (s, inner_block), (t, outer_block)), subst (λ k. IsDerivationAt g p (cut k a' b')) shore_is derives, (sy, merged_fits.0, kept_fits.0), omega (arith, kept_fits.1, merged_fits.1), refl))
       | inr h ↦
-          let greatest : mem outer_corner g.order ≡ false = outer_mem g p x z c g.order last ∙ within (mem x g.order) (mem z g.order) (h g.order last ∙ ap not ny) in
+          let greatest : mem outer_corner g.order ≡ false = outer_mem g p x z c g.order last ∙ nor_right (mem x g.order) (mem z g.order) (h g.order last ∙ ap not ny) in
           let shore_is : union_list g.order (inner_rest g.order x inner_corner) outer_corner ≡ y = same_rising_list g.order (union_list g.order (inner_rest g.order x inner_corner) outer_corner) y (rising_list-rises g.order (union (mem (inner_rest g.order x inner_corner)) (mem outer_corner))) sy
-          (λ w ww. mem-rising_list g.order (union (mem (inner_rest g.order x inner_corner)) (mem outer_corner)) w ww ∙ ap₂ ◌||◌ (inner_rest-mem g p c.stage x inner_corner outer_corner s t c.first nx inner-rises outer-rises corner w ww ∙ ap (λ k. mem x w && not k) (inner_mem g p x z c w ww)) (outer_mem g p x z c w ww) ∙ not_z (mem x w) (mem z w) ∙ ap not (h w ww) ∙ twice (mem y w)) in
+          (λ w ww. mem-rising_list g.order (union (mem (inner_rest g.order x inner_corner)) (mem outer_corner)) w ww ∙ ap₂ ◌||◌ (inner_rest-mem g p c.stage x inner_corner outer_corner s t c.first nx inner-rises outer-rises corner w ww ∙ ap (λ k. mem x w && not k) (inner_mem g p x z c w ww)) (outer_mem g p x z c w ww) ∙ not_z (mem x w) (mem z w) ∙ ap not (h w ww) ∙ not_not (mem y w)) in
           let derives = switch_greatest_stays g p c.stage x inner_corner outer_corner s t c.first nx inner-rises outer-rises corner a b f d greatest (subst (Big g p) (sym shore_is) y_big) in
           let kept_carried = kept_greatest_stays g p c.stage x inner_corner outer_corner s t c.first nx inner-rises outer-rises corner greatest a f.1 (each_of g (kept_at g.order p x) a kept_stage f.1 d.1) in
           let merged_carried = merged_greatest_stays g p c.stage x inner_corner outer_corner s t c.first nx inner-rises outer-rises corner greatest b f.2 (each_of g (merged_at g.order p x) b merged_stage f.2 d.2) in
@@ -127,15 +124,8 @@ module _ (g : Graph) (p : List (List ℕ)) (x z y : List ℕ) (c : Corners g p x
         outside : (a b : Bool) → a ≡ false → b ≡ false → not (a || b) ≡ true
         outside a b h k = grind arith
 
-        within : (a b : Bool) → b ≡ true → not (a || b) ≡ false
-        within a b h = grind arith
-
         is_z : (a b : Bool) → ((not a && not (not (a || b))) || (a && b)) ≡ b
         is_z a b = grind arith
 
         not_z : (a b : Bool) → ((a && not (a && b)) || not (a || b)) ≡ not b
         not_z a b = grind arith
-
-        twice : (b : Bool) → not (not b) ≡ b
-        twice true = refl
-        twice false = refl

@@ -1,12 +1,13 @@
 -- The corners of two crossing shores x and y. In one form for both cases: z is y or its complement, such that x and z share an odd
 -- number of blocks; the inner corner is what they share and the outer corner is what is outside both.
 use Rattle.std.proofs.Common.{Bool, List, ap, ap₂, arith, false, inl, inr, length, not, subst, suc, sym, true, zero, ℕ, ◌&&◌, ◌||◌, ◌∙◌, ◌≡◌, ◌≤◌, ◌⊎◌}
-use Rattle.std.proofs.lemmas.Bool.{true≢false}
+use Rattle.std.proofs.lemmas.Bool.{true≢false, and_left, and_right}
 use Rattle.counting.proofs.Counts.{only_one}
 use Rattle.counting.proofs.RisingLists.{mem-rising_list, rising_list-rises}
 use Rattle.counting.specs.Counts.{Within, is_odd}
 use Rattle.counting.specs.Lists.{IsRisingIn, mem}
 use Rattle.counting.specs.Sets.{complement, meet, minus, union}
+use Rattle.counting.proofs.Booleans.{and_implied}
 use Rattle.graph_core.proofs.BlockSets.{at_place, block_count_congr, block_count_parts, meet_tight_at, tight_congr, tight_rest, union_congr, union_meet, union_rest, union_tight_at}
 use Rattle.graph_core.proofs.Blocks.{place_in}
 use Rattle.graph_core.proofs.Complements.{mem-complement_of}
@@ -72,13 +73,10 @@ module _ (g : Graph) (p : List (List ℕ)) (x z : List ℕ) (c : Corners g p x z
     | inr more ↦
         let ur : IsUnion g.order p (mem (complement_of g.order s)) = union_congr g.order p pp (complement (mem s)) (mem (complement_of g.order s)) (λ v wv. sym (mem-complement_of g.order s v wv)) (union_rest g.order p pp (mem s) t.union) in
         let a = block_count_parts g.order p pp (mem (complement_of g.order s)) (mem w) ur bw.tight.union in
-        let e = block_count_congr g.order p pp (meet (mem (complement_of g.order s)) (mem w)) (mem w) (λ v wv. both (mem (complement_of g.order s) v) (mem w v) (b v wv)) (union_meet g.order p pp (mem (complement_of g.order s)) (mem w) ur bw.tight.union) in
+        let e = block_count_congr g.order p pp (meet (mem (complement_of g.order s)) (mem w)) (mem w) (λ v wv. and_implied (mem (complement_of g.order s) v) (mem w v) (b v wv)) (union_meet g.order p pp (mem (complement_of g.order s)) (mem w) ur bw.tight.union) in
         let i = bw.inside in
         inr (record { shore = shore; tight = t; inside = more; outside = omega arith })
   ]
-    where
-      both : (a b : Bool) → (b ≡ true → a ≡ true) → (a && b) ≡ b
-      both a b h = grind arith
 
   pub inner_single_or_big : ((t : ℕ) × IsBlockOf g.order p (mem (meet_list g.order x z)) t) ⊎ Big g p (meet_list g.order x z)
   inner_single_or_big = single_or_big (meet_list g.order x z) (complement_of g.order x) (rising_list-rises g.order (meet (mem x) (mem z))) i_tight (big_rest g p c.stage x c.first)
@@ -109,8 +107,8 @@ module _ (g : Graph) (p : List (List ℕ)) (x z : List ℕ) (c : Corners g p x z
       let side = same_side g.order p r (mem i) pp bi.tight.union mm in (
         record {
           stage = st;
-          first = stays x c.first (λ v wv h. in_x (mem x v) (mem z v) (sym (inner_mem v wv) ∙ h)) (l.0, l.1, inner_mem l.0 l.1 ∙ and_no (mem x l.0) (mem z l.0) l.3, l.2);
-          second = stays z c.second (λ v wv h. in_z (mem x v) (mem z v) (sym (inner_mem v wv) ∙ h)) (ri.0, ri.1, inner_mem ri.0 ri.1 ∙ no_and (mem x ri.0) (mem z ri.0) ri.2, ri.3);
+          first = stays x c.first (λ v wv h. in_x (mem x v) (mem z v) (sym (inner_mem v wv) ∙ h)) (l.0, l.1, inner_mem l.0 l.1 ∙ and_right (mem x l.0) (mem z l.0) l.3, l.2);
+          second = stays z c.second (λ v wv h. in_z (mem x v) (mem z v) (sym (inner_mem v wv) ∙ h)) (ri.0, ri.1, inner_mem ri.0 ri.1 ∙ and_left (mem x ri.0) (mem z ri.0) ri.2, ri.3);
           odd = ap is_odd (block_count_congr g.order r mm.partition (meet (mem x) (mem z)) (mem i) (λ v wv. sym (inner_mem v wv)) (union_congr g.order r mm.partition (mem i) (meet (mem x) (mem z)) inner_mem side) ∙ block_count_new g.order p r (mem i) pp bi.tight.union mm so);
           left = l;
           right = ri;
@@ -123,12 +121,6 @@ module _ (g : Graph) (p : List (List ℕ)) (x z : List ℕ) (c : Corners g p x z
 
       in_z : (a b : Bool) → (a && b) ≡ true → b ≡ true
       in_z a b h = grind arith
-
-      and_no : (a b : Bool) → b ≡ false → (a && b) ≡ false
-      and_no a b h = grind arith
-
-      no_and : (a b : Bool) → a ≡ false → (a && b) ≡ false
-      no_and a b h = grind arith
 
   -- the outer corner merged; a block stays one
   pub merged_outer : Big g p (outer_of g.order x z) → (s : ℕ) → IsBlockOf g.order p (mem (meet_list g.order x z)) s →
@@ -174,7 +166,7 @@ module _ (g : Graph) (p : List (List ℕ)) (x z : List ℕ) (c : Corners g p x z
       in_z : (a b : Bool) → b ≡ true → not (a || b) ≡ false
       in_z a b h = grind arith
 
-  -- with both corners single blocks the exchange law applies
+  -- with and_implied corners single blocks the exchange law applies
   pub corner_of : (s t : ℕ) → IsBlockOf g.order p (mem (meet_list g.order x z)) s → IsBlockOf g.order p (mem (outer_of g.order x z)) t → Corner g p (mem x) (mem (meet_list g.order x z)) (mem (outer_of g.order x z)) s t
   corner_of s t bi bo = record {
     shore = c.first.tight;

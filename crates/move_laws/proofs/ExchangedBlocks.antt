@@ -4,6 +4,7 @@ use Rattle.std.proofs.Common.{Bool, List, ap, ap₂, arith, cond, false, inl, in
 use Rattle.std.proofs.lemmas.Bool.{and_parts, both_ways, cases_Bool, or_cases}
 use Rattle.counting.specs.Counts.{Within, bit, is_odd}
 use Rattle.counting.specs.Sets.{Set, union}
+use Rattle.counting.proofs.Booleans.{or_fails_first}
 use Rattle.graph_core.proofs.BlockSets.{union_join}
 use Rattle.graph_core.proofs.MergedShores.{alike_down, alike_in, alike_up, same_side}
 use Rattle.graph_core.specs.Covered.{IsCovered}
@@ -59,10 +60,7 @@ exchange_over g is p r q a u b v s t pp four mr mq link = record {
         alike_up g.order p q (union b u) pp uq mq (cond (b w) t w) (cond (b x) t x) (pick w ww (b w)) (pick x wx (b x)) (lands w ww h (b w) refl ∙ sym (lands x wx hx (b x) refl))
     alike w x ww wx e false h =
         let hx = sym (same_side g.order p r (union b v) pp ur mr w x ww wx e) ∙ h in
-        ap (λ k. place q (cond k t w)) (none_b (b w) (v w) h) ∙ alike_up g.order p q (union b u) pp uq mq w x ww wx (alike_down g.order p r (union b v) pp ur mr w x ww wx h e) ∙ sym (ap (λ k. place q (cond k t x)) (none_b (b x) (v x) hx))
-      where
-        none_b : (a c : Bool) → (a || c) ≡ false → a ≡ false
-        none_b a c h = grind arith
+        ap (λ k. place q (cond k t w)) (or_fails_first (b w) (v w) h) ∙ alike_up g.order p q (union b u) pp uq mq w x ww wx (alike_down g.order p r (union b v) pp ur mr w x ww wx h e) ∙ sym (ap (λ k. place q (cond k t x)) (or_fails_first (b x) (v x) hx))
 
     returns : (w : ℕ) → Within g.order w → (k : Bool) → b w ≡ k → place r (cond (b (cond (b w) t w)) s (cond (b w) t w)) ≡ place r w
     returns w ww true e =

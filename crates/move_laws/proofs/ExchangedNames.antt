@@ -1,5 +1,6 @@
 -- The exchange law by names: the two pairs of partitions are the same leaves by the names of the images.
 use Rattle.std.proofs.Common.{◌≡◌, ℕ, Bool, true, false, ◌||◌, ◌&&◌, not, List, map, sym, ap, ◌∙◌, arith}
+use Rattle.std.proofs.lemmas.Bool.{or_right}
 use Rattle.counting.proofs.RisingLists.{mem-rising_list, rising_list-rises}
 use Rattle.counting.specs.Counts.{Within}
 use Rattle.counting.specs.Lists.{IsRisingIn, last_of, mem}
@@ -50,14 +51,11 @@ module _ (g : Graph) (p : List (List ℕ)) (x u v : List ℕ) (s t : ℕ) (is : 
       turned : (x u v : Bool) → (u ≡ true → x ≡ true) → (v ≡ true → x ≡ false) → not ((not x && not v) || u) ≡ ((x && not u) || v)
       turned x u v h k = grind arith
 
-  right : (a b : Bool) → b ≡ true → (a || b) ≡ true
-  right a b h = grind arith
-
   shore_some : Some g.order (mem shore)
-  shore_some = (s, corner.left.within, shore_mem s corner.left.within ∙ right _ (mem u s) corner.left.holds)
+  shore_some = (s, corner.left.within, shore_mem s corner.left.within ∙ or_right _ (mem u s) corner.left.holds)
 
   other_some : Some g.order (mem other)
-  other_some = (t, corner.right.within, other_mem t corner.right.within ∙ right _ (mem v t) corner.right.holds)
+  other_some = (t, corner.right.within, other_mem t corner.right.within ∙ or_right _ (mem v t) corner.right.holds)
 
   shore_rises : IsRisingIn g.order shore
   unfolding shore

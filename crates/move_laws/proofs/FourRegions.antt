@@ -9,6 +9,7 @@ use Rattle.counting.proofs.Totals.{at_le_total, total_add, total_le}
 use Rattle.counting.specs.Counts.{Within, bit, count, is_odd}
 use Rattle.counting.specs.Sets.{Set}
 use Rattle.counting.specs.Tests.{some}
+use Rattle.counting.proofs.Booleans.{bit_le_one, or_true}
 use Rattle.graph_core.proofs.BlockSets.{at_place}
 use Rattle.graph_core.proofs.Blocks.{contracted-ends, contracted-graph, contracted-size, place_in}
 use Rattle.graph_core.proofs.Parity.{parity}
@@ -77,11 +78,7 @@ module _ (g : Graph) (is : IsGraph g) (p : List (List ℕ)) (pp : AreBlocks g.or
           same_b = four.second (first_end g l.0) (second_end g l.0) (is l.0 l.1).0 (is l.0 l.1).1 pe
 
           apart : (a u b v : Bool) → bit a + bit u + bit b + bit v ≡ 1 → (u && b) ≡ false
-          apart a true true v k = absurd (let z = bit_pos a in omega arith)
-            where
-              bit_pos : (c : Bool) → bit c ≤ 1
-              bit_pos true = omega arith
-              bit_pos false = omega arith
+          apart a true true v k = absurd (let z = bit_le_one a in omega arith)
           apart a true false v k = refl
           apart a false b v k = refl
 
@@ -144,16 +141,8 @@ module _ (g : Graph) (is : IsGraph g) (p : List (List ℕ)) (pp : AreBlocks g.or
                   go true a u true v a' u' true v' k q y z = omega arith
                   go true a u false v a' u' false v' k q y z = omega arith
                   go true a u true v a' true false v' k q y z = omega arith
-                  go true a u true v true false false v' k q y z = absurd (both_ways true (sym (or_right (a && false)) ∙ y) refl)
-                    where
-                      or_right : (x : Bool) → (x || true) ≡ true
-                      or_right true = refl
-                      or_right false = refl
-                  go true a u true v false false false true k q y z = absurd (both_ways true (sym (or_right (v && false)) ∙ z) refl)
-                    where
-                      or_right : (x : Bool) → (x || true) ≡ true
-                      or_right true = refl
-                      or_right false = refl
+                  go true a u true v true false false v' k q y z = absurd (both_ways true (sym (or_true (a && false)) ∙ y) refl)
+                  go true a u true v false false false true k q y z = absurd (both_ways true (sym (or_true (v && false)) ∙ z) refl)
                   go true a u true v false false false false k q y z = absurd (omega arith)
                   go true a true false v a' u' true v' k q y z = omega arith
                   go true true false false v a' u' true v' k q y z = absurd (both_ways true y refl)

@@ -2,7 +2,7 @@
 -- over the root shore.
 use Rattle.move_laws.specs.Scripts.{AreRising, IsProperScript}
 use Rattle.std.proofs.Common.{Bool, List, None, Some, [], ap, arith, cond, false, if◌then◌else◌, inl, inr, length, map, not, refl, subst, suc, sym, true, zero, ℕ, ◌&&◌, ◌*◌, ◌++◌, ◌+◌, ◌∙◌, ◌∷◌, ◌≡◌, ◌≤◌, ◌⊎◌}
-use Rattle.std.proofs.lemmas.Bool.{and_parts, both_ways, cases_Bool}
+use Rattle.std.proofs.lemmas.Bool.{and_parts, both_ways, cases_Bool, not-true}
 use Rattle.counting.proofs.Odd.{odd-add}
 use Rattle.counting.proofs.RisingLists.{same_rising_list, true_all_in, all_in_true}
 use Rattle.counting.proofs.Tests.{some_none, some_true}
@@ -10,6 +10,7 @@ use Rattle.counting.specs.Counts.{Within, is_odd}
 use Rattle.counting.specs.Lists.{is_apart, is_subset, mem}
 use Rattle.counting.specs.Sets.{Set, everything, meet, minus}
 use Rattle.counting.specs.Tests.{some}
+use Rattle.counting.proofs.Booleans.{same_tests}
 use Rattle.graph_core.proofs.BlockSets.{block_count_some, union_minus}
 use Rattle.graph_core.proofs.Complements.{mem-complement_of}
 use Rattle.graph_core.proofs.MergedShores.{Apart, Below, tight_down_merged}
@@ -121,16 +122,10 @@ expose_node g crossed x a b ia ib p y st f d by ny =
     ry = big_rest g p st y by
 
     left : some g.order (minus (mem x) (mem y)) ≡ true → (w : ℕ) × Within g.order w × (mem x w ≡ true) × (mem y w ≡ false)
-    left h = let r = some_true g.order (minus (mem x) (mem y)) h in let q = and_parts (mem x r.0) (not (mem y r.0)) r.2 in (r.0, r.1, q.0, negated (mem y r.0) q.1)
-      where
-        negated : (b : Bool) → not b ≡ true → b ≡ false
-        negated b h = grind arith
+    left h = let r = some_true g.order (minus (mem x) (mem y)) h in let q = and_parts (mem x r.0) (not (mem y r.0)) r.2 in (r.0, r.1, q.0, not-true (mem y r.0) q.1)
 
     right : some g.order (minus (mem y) (mem x)) ≡ true → (w : ℕ) × Within g.order w × (mem x w ≡ false) × (mem y w ≡ true)
-    right h = let r = some_true g.order (minus (mem y) (mem x)) h in let q = and_parts (mem y r.0) (not (mem x r.0)) r.2 in (r.0, r.1, negated (mem x r.0) q.1, q.0)
-      where
-        negated : (b : Bool) → not b ≡ true → b ≡ false
-        negated b h = grind arith
+    right h = let r = some_true g.order (minus (mem y) (mem x)) h in let q = and_parts (mem y r.0) (not (mem x r.0)) r.2 in (r.0, r.1, not-true (mem x r.0) q.1, q.0)
 
     no_left : some g.order (minus (mem x) (mem y)) ≡ false → Below g.order (mem x) (mem y)
     no_left h w ww t = implied (mem x w) (mem y w) (some_none g.order (minus (mem x) (mem y)) h w ww) t
@@ -150,19 +145,13 @@ expose_node g crossed x a b ia ib p y st f d by ny =
     false_and : (a b : Bool) → (a && b) ≡ false → a ≡ true → b ≡ false
     false_and a b h k = grind arith
 
-    same : (a b : Bool) → (a ≡ true → b ≡ true) → (b ≡ true → a ≡ true) → a ≡ b
-    same a b h k = grind arith
-
     go : (l : Bool) → some g.order (minus (mem x) (mem y)) ≡ l → (r : Bool) → some g.order (minus (mem y) (mem x)) ≡ r → Exposed g p (cut x a b) y
-    go false hl false hr = ([], a, b, ap (λ z. cut z a b) (same_rising_list g.order x y f.0 by.shore (λ w ww. same (mem x w) (mem y w) (no_left hl w ww) (no_right hr w ww))), omega arith)
+    go false hl false hr = ([], a, b, ap (λ z. cut z a b) (same_rising_list g.order x y f.0 by.shore (λ w ww. same_tests (mem x w) (mem y w) (no_left hl w ww) (no_right hr w ww))), omega arith)
     go true hl false hr =
         let o = left hl in
         in_kept g p st x a b f d y ny ia (stays_big g p st (complement_of g.order x) y rx by
-        (λ w ww h. false_of (mem x w) (mem y w) (no_right hr w ww) (outside (mem x w) (sym (mem-complement_of g.order x w ww) ∙ h)))
+        (λ w ww h. false_of (mem x w) (mem y w) (no_right hr w ww) (not-true (mem x w) (sym (mem-complement_of g.order x w ww) ∙ h)))
         (o.0, o.1, mem-complement_of g.order x o.0 o.1 ∙ ap not o.2, o.3))
-      where
-        outside : (b : Bool) → not b ≡ true → b ≡ false
-        outside b h = grind arith
     go false hl true hr =
         let o = right hr in
         let big = stays_big g p st x (complement_of g.order y) bx ry (λ w ww h. mem-complement_of g.order y w ww ∙ ap not (no_left hl w ww h)) (o.0, o.1, o.2, mem-complement_of g.order y o.0 o.1 ∙ ap not o.3) in

@@ -1,10 +1,12 @@
 -- A crossing shore is brought over both corners: after the inner one was brought to the root of `kept`, over the outer one below it,
 -- and back.
 use Rattle.std.proofs.Common.{Bool, List, None, Some, [], ap, arith, false, if◌then◌else◌, inl, inr, length, map, not, refl, subst, sym, true, ℕ, ◌&&◌, ◌*◌, ◌++◌, ◌+◌, ◌||◌, ◌∙◌, ◌∷◌, ◌≡◌, ◌≤◌, Option, option_and_then}
+use Rattle.std.proofs.lemmas.Bool.{and_left, and_right, not-true}
 use Rattle.counting.proofs.RisingLists.{rising_list-rises, true_all_in, all_in_false}
 use Rattle.counting.specs.Counts.{Within}
 use Rattle.counting.specs.Lists.{IsRisingIn, mem}
 use Rattle.counting.specs.Sets.{meet}
+use Rattle.counting.proofs.Booleans.{and_second, nor_left, nor_right}
 use Rattle.graph_core.proofs.Complements.{mem-complement_of}
 use Rattle.graph_core.proofs.MergedShores.{Apart}
 use Rattle.graph_core.specs.Graph.{Graph}
@@ -39,34 +41,16 @@ module _ (g : Graph) (p : List (List ℕ)) (x z : List ℕ) (c : Corners g p x z
   pub inner_below : Big g p (meet_list g.order x z) → Big g (kept_at g.order p x) (meet_list g.order x z)
   inner_below inner_big =
       let l = c.left in
-      stays_big g p c.stage (complement_of g.order x) (meet_list g.order x z) (big_rest g p c.stage x c.first) inner_big (λ v wv h. inner_mem g p x z c v wv ∙ no_and (mem x v) (mem z v) (negated (mem x v) (sym (mem-complement_of g.order x v wv) ∙ h)))
-      (l.0, l.1, mem-complement_of g.order x l.0 l.1 ∙ ap not l.2, inner_mem g p x z c l.0 l.1 ∙ and_no (mem x l.0) (mem z l.0) l.3)
-    where
-      negated : (b : Bool) → not b ≡ true → b ≡ false
-      negated b h = grind arith
-
-      no_and : (a b : Bool) → a ≡ false → (a && b) ≡ false
-      no_and a b h = grind arith
-
-      and_no : (a b : Bool) → b ≡ false → (a && b) ≡ false
-      and_no a b h = grind arith
+      stays_big g p c.stage (complement_of g.order x) (meet_list g.order x z) (big_rest g p c.stage x c.first) inner_big (λ v wv h. inner_mem g p x z c v wv ∙ and_left (mem x v) (mem z v) (not-true (mem x v) (sym (mem-complement_of g.order x v wv) ∙ h)))
+      (l.0, l.1, mem-complement_of g.order x l.0 l.1 ∙ ap not l.2, inner_mem g p x z c l.0 l.1 ∙ and_right (mem x l.0) (mem z l.0) l.3)
 
   pub inner_canonical : mem (meet_list g.order x z) g.order ≡ false
-  inner_canonical = inner_mem g p x z c g.order greatest ∙ no_and (mem x g.order) (mem z g.order) nx
-    where
-      no_and : (a b : Bool) → a ≡ false → (a && b) ≡ false
-      no_and a b h = grind arith
+  inner_canonical = inner_mem g p x z c g.order greatest ∙ and_left (mem x g.order) (mem z g.order) nx
 
   pub outer_below_x : Big g p (outer_of g.order x z) → Big g (merged_at g.order p x) (outer_of g.order x z)
   outer_below_x outer_big =
       let r = c.right in
-      stays_big g p c.stage x (outer_of g.order x z) c.first outer_big (λ v wv h. outer_mem g p x z c v wv ∙ bits (mem x v) (mem z v) h) (r.0, r.1, r.2, outer_mem g p x z c r.0 r.1 ∙ other (mem x r.0) (mem z r.0) r.3)
-    where
-      bits : (a b : Bool) → a ≡ true → not (a || b) ≡ false
-      bits a b h = grind arith
-
-      other : (a b : Bool) → b ≡ true → not (a || b) ≡ false
-      other a b h = grind arith
+      stays_big g p c.stage x (outer_of g.order x z) c.first outer_big (λ v wv h. outer_mem g p x z c v wv ∙ nor_left (mem x v) (mem z v) h) (r.0, r.1, r.2, outer_mem g p x z c r.0 r.1 ∙ nor_right (mem x r.0) (mem z r.0) r.3)
 
   pub outer_shore_big : Big g p (outer_of g.order x z) → Big g (merged_at g.order p x) (outer_shore g.order (outer_of g.order x z)) × (mem (outer_shore g.order (outer_of g.order x z)) g.order ≡ false)
   outer_shore_big outer_big = go (mem (outer_of g.order x z) g.order) refl
@@ -123,7 +107,7 @@ over_inner_to g p x z y c sy nx ny kind a b a' b' f d (Some ms) mo inner outer =
         )
     outer_moved inner_big (Some mo) out =
         let l = c.left in (
-          stays_big g p c.stage (meet_list g.order x z) (outer_of g.order x z) inner_big out.0 apart (l.0, l.1, inner_mem g p x z c l.0 l.1 ∙ no_z (mem x l.0) (mem z l.0) l.3, outer_mem g p x z c l.0 l.1 ∙ in_x (mem x l.0) (mem z l.0) l.2),
+          stays_big g p c.stage (meet_list g.order x z) (outer_of g.order x z) inner_big out.0 apart (l.0, l.1, inner_mem g p x z c l.0 l.1 ∙ and_right (mem x l.0) (mem z l.0) l.3, outer_mem g p x z c l.0 l.1 ∙ in_x (mem x l.0) (mem z l.0) l.2),
           out.1,
           out.2,
           out.3,
@@ -131,24 +115,18 @@ over_inner_to g p x z y c sy nx ny kind a b a' b' f d (Some ms) mo inner outer =
           out.5,
         )
       where
-        no_z : (a b : Bool) → b ≡ false → (a && b) ≡ false
-        no_z a b h = grind arith
-
         in_x : (a b : Bool) → a ≡ true → not (a || b) ≡ false
         in_x a b h = grind arith
 
     returned : (a' b' c' : Shape) → Big g p (meet_list g.order x z) → (k : Shape) × (l : Shape) × (rotate_result_at Merged (cut (meet_list g.order x z) a' (cut y b' c')) ≡ Some (cut y k l))
     returned a' b' c' inner_big = elim kind [
-      | inl h ↦ (cut (meet_list g.order x z) a' b', c', rotate-inside (meet_list g.order x z) y a' b' c' (true_all_in (meet_list g.order x z) (mem y) (λ v k. let wv = (bounds inner-rises) v k in sym (h v wv) ∙ in_z (mem x v) (mem z v) (sym (inner_mem g p x z c v wv) ∙ k))))
+      | inl h ↦ (cut (meet_list g.order x z) a' b', c', rotate-inside (meet_list g.order x z) y a' b' c' (true_all_in (meet_list g.order x z) (mem y) (λ v k. let wv = (bounds inner-rises) v k in sym (h v wv) ∙ and_second (mem x v) (mem z v) (sym (inner_mem g p x z c v wv) ∙ k))))
       | inr h ↦
           let some = big_some g p c.stage (meet_list g.order x z) inner_big in
           let off : Apart g.order (mem (meet_list g.order x z)) (mem y) = λ v wv k. not_y (mem x v) (mem z v) (mem y v) (h v wv) (sym (inner_mem g p x z c v wv) ∙ k) in
           (b', cut (meet_list g.order x z) a' c', rotate-apart (meet_list g.order x z) y a' b' c' (all_in_false (meet_list g.order x z) (mem y) some.0 some.2 (off some.0 some.1 some.2)) (apart_test g.order (meet_list g.order x z) y inner-rises off))
     ]
       where
-        in_z : (a b : Bool) → (a && b) ≡ true → b ≡ true
-        in_z a b h = grind arith
-
         not_y : (a b y : Bool) → b ≡ not y → (a && b) ≡ true → y ≡ false
         not_y a b y h k = grind arith
 

@@ -5,6 +5,7 @@ use Rattle.counting.proofs.RisingLists.{rising_list-rises, true_all_in, all_in_f
 use Rattle.counting.specs.Counts.{Within}
 use Rattle.counting.specs.Lists.{IsRisingIn, is_subset, mem}
 use Rattle.counting.specs.Sets.{complement, union}
+use Rattle.counting.proofs.Booleans.{nor_left, nor_right}
 use Rattle.graph_core.proofs.Complements.{mem-complement_of}
 use Rattle.graph_core.proofs.MergedShores.{Apart}
 use Rattle.graph_core.specs.Graph.{Graph}
@@ -64,10 +65,7 @@ over_outer_to g p x z y c sy nx ny kind s inner_block a b made f d (Some ms) out
     lastn = let r = big_some g p c.stage x c.first in let w = r.1 in (omega arith, omega arith)
 
     off : Apart g.order (mem x) (mem (outer_of g.order x z))
-    off v wv h = outer_mem g p x z c v wv ∙ bits (mem x v) (mem z v) h
-      where
-        bits : (a b : Bool) → a ≡ true → not (a || b) ≡ false
-        bits a b h = grind arith
+    off v wv h = outer_mem g p x z c v wv ∙ nor_left (mem x v) (mem z v) h
 
     greatest_outside : Big g p (outer_of g.order x z) → ((v : ℕ) → Within g.order v → mem z v ≡ mem y v) → TurnedTo g p (cut x a b) y (3 * cut_count b + 1) (over_outer g.order x (meet_list g.order x z) (outer_of g.order x z) a made (Some ms))
     greatest_outside outer_big h =
@@ -110,7 +108,7 @@ over_outer_to g p x z y c sy nx ny kind s inner_block a b made f d (Some ms) out
     greatest_inside outer_big h =
         let inner_corner = meet_list g.order x z in let outer_corner = outer_of g.order x z in
         let switch_moves = switch_at [] (meet_list g.order x z) (outer_of g.order x z) ∷ [] in
-        let no : mem outer_corner g.order ≡ false = outer_mem g p x z c g.order lastn ∙ within (mem x g.order) (mem z g.order) (h g.order lastn ∙ ap not ny) in
+        let no : mem outer_corner g.order ≡ false = outer_mem g p x z c g.order lastn ∙ nor_right (mem x g.order) (mem z g.order) (h g.order lastn ∙ ap not ny) in
         let shore : outer_shore g.order (outer_of g.order x z) ≡ outer_corner = ap (λ k. if k then complement_of g.order (outer_of g.order x z) else outer_of g.order x z) no in
         let e1 = out.1 in let e2 = out.2 in
         let is_made : made ≡ cut outer_corner e1 e2 = out.3 ∙ ap (λ k. cut k e1 e2) shore in
@@ -143,8 +141,5 @@ over_outer_to g p x z y c sy nx ny kind s inner_block a b made f d (Some ms) out
           omega arith,
         )
       where
-        within : (a b : Bool) → b ≡ true → not (a || b) ≡ false
-        within a b h = grind arith
-
         in_y : (a b y : Bool) → b ≡ not y → not (a || b) ≡ true → y ≡ true
         in_y a b y h k = grind arith

@@ -1,7 +1,9 @@
 -- The images of blocks under a Switch: the lists that the table of the maps gives are the blocks that the exchange of blocks takes
 -- them to, so their last numbers are the names of the images.
 use Rattle.std.proofs.Common.{◌≡◌, ℕ, Bool, true, false, cond, ◌||◌, ◌&&◌, not, List, length, refl, sym, ap, ap₂, ◌∙◌, arith}
-use Rattle.counting.proofs.RisingLists.{mem-rising_list, rising_list-rises, same_answers, same_rising_list}
+use Rattle.counting.proofs.Booleans.{same_tests}
+use Rattle.std.proofs.lemmas.Bool.{or_right}
+use Rattle.counting.proofs.RisingLists.{mem-rising_list, rising_list-rises, same_rising_list}
 use Rattle.counting.specs.Counts.{Within}
 use Rattle.counting.specs.Lists.{IsRisingIn, is_subset, last_of, mem}
 use Rattle.counting.specs.Sets.{complement, meet, minus, union}
@@ -28,7 +30,7 @@ use Rattle.move_laws.specs.Isomorphisms.{Isomorphism}
 -- the image of a block has the vertices that the map back takes into the block
 image_block : (g : Graph) → IsGraph g → (r s : List (List ℕ)) (h f : ℕ → ℕ) → AreBlocks g.order r → AreBlocks g.order s → Isomorphism g r s h f → (i w : ℕ) → Within (length r) i → Within g.order w →
     mem (block s (place s (h (rep r i)))) w ≡ mem (block r i) (f w)
-image_block g is r s h f rp sp iso i w wi ww = same_answers (mem (block s (place s (h (rep r i)))) w) (mem (block r i) (f w)) there back
+image_block g is r s h f rp sp iso i w wi ww = same_tests (mem (block s (place s (h (rep r i)))) w) (mem (block r i) (f w)) there back
   where
     wr : Within g.order (rep r i)
     wr = (rep_in g.order r rp i wi).0
@@ -53,7 +55,7 @@ image_block g is r s h f rp sp iso i w wi ww = same_answers (mem (block s (place
 
 -- a block is a union of blocks
 block_closed : (n : ℕ) (r : List (List ℕ)) → AreBlocks n r → (i : ℕ) → Within (length r) i → IsUnion n r (mem (block r i))
-block_closed n r rp i wi u v wu wv e = same_answers (mem (block r i) u) (mem (block r i) v) (goes_over u v wu wv e) (goes_over v u wv wu (sym e))
+block_closed n r rp i wi u v wu wv e = same_tests (mem (block r i) u) (mem (block r i) v) (goes_over u v wu wv e) (goes_over v u wv wu (sym e))
   where
     goes_over : (u v : ℕ) → Within n u → Within n v → place r u ≡ place r v → mem (block r i) u ≡ true → mem (block r i) v ≡ true
     goes_over u v wu wv e m = ap (λ z. mem (block r z) v) (place_is n r rp u i wu wi m ∙ e) ∙ (place_in n r rp v wv).1
@@ -122,10 +124,7 @@ module _ (g : Graph) (p : List (List ℕ)) (stage : Stage g p) (x u v : List ℕ
           off x v h k = grind arith
 
       t_in : mem (union_list g.order (outer_rest g.order x v) v) t ≡ true
-      t_in = mem-rising_list g.order (union (mem (outer_rest g.order x v)) (mem v)) t corner.right.within ∙ right (mem (outer_rest g.order x v) t) (mem v t) corner.right.holds
-        where
-          right : (a b : Bool) → b ≡ true → (a || b) ≡ true
-          right a b h = grind arith
+      t_in = mem-rising_list g.order (union (mem (outer_rest g.order x v)) (mem v)) t corner.right.within ∙ or_right (mem (outer_rest g.order x v) t) (mem v t) corner.right.holds
 
       with_outer : is_subset (union_list g.order (outer_rest g.order x v) v) b ≡ mem b t
       with_outer = subset_test (union_list g.order (outer_rest g.order x v) v) (mem b) t t_in (λ z m. let wz = bounds (rising_list-rises g.order (union (mem (outer_rest g.order x v)) (mem v))) z m in whole z t wz corner.right.within (outside_alike z t wz corner.right.within (out z m) t_outside))

@@ -1,7 +1,7 @@
 -- The leaves under a Switch, at its node: those of the two trees, in the order and by the names that the maps give.
 use Rattle.move_laws.specs.Scripts.{AreRising}
 use Rattle.std.proofs.Common.{◌≡◌, ℕ, ◌+◌, Bool, true, false, cond, ◌||◌, ◌&&◌, not, List, [], ◌++◌, map, if◌then◌else◌, refl, sym, ap, ap₂, ◌∙◌, arith, subst}
-use Rattle.std.proofs.lemmas.Bool.{and_parts}
+use Rattle.std.proofs.lemmas.Bool.{and_parts, not-true}
 use Rattle.counting.proofs.RisingLists.{mem-rising_list, all_in_true}
 use Rattle.counting.specs.Counts.{Within}
 use Rattle.counting.specs.Lists.{IsRisingIn, is_subset, last_of, mem}
@@ -153,10 +153,7 @@ module _ (g : Graph) (p : List (List ℕ)) (stage : Stage g p) (x u v : List ℕ
   outside w ww m =
       let q = (and_parts (is_proper u x) (is_proper v (complement_of g.order x)) proper).1 in
       let h = all_in_true v (mem (complement_of g.order x)) (and_parts (not (is_subset v [])) (is_subset v (complement_of g.order x)) (and_parts (not (is_subset v []) && is_subset v (complement_of g.order x)) (not (is_subset (complement_of g.order x) v)) q).0).1 w m in
-      off (mem x w) (sym (mem-complement_of g.order x w ww) ∙ h)
-    where
-      off : (x : Bool) → not x ≡ true → x ≡ false
-      off x h = grind arith
+      not-true (mem x w) (sym (mem-complement_of g.order x w ww) ∙ h)
 
   outer_in : (w : ℕ) → Within g.order w → mem (outer_rest g.order x v) w ≡ (not (mem x w) && not (mem v w))
   outer_in w ww = mem-rising_list g.order (minus (mem (complement_of g.order x)) (mem v)) w ww ∙ ap (λ k. k && not (mem v w)) (mem-complement_of g.order x w ww)

@@ -9,11 +9,8 @@ use Rattle.counting.specs.Lists.{IsRisingIn, mem, rising_list}
 use Rattle.counting.specs.Sets.{Set}
 use Rattle.counting.proofs.RisingLists.{rising_list-congr, rising_list-mem, rising_list-rises, same_rising_list, set-none, set-wider}
 use Rattle.counting.proofs.Lists.{mem-append}
+use Rattle.counting.proofs.Booleans.{or_false}
 use Rattle.plain_graph.specs.Subsets.{subsets}
-
-or_false : (b : Bool) → (b || false) ≡ b
-or_false true = refl
-or_false false = refl
 
 -- the next number at the end of a rising list is the next number in its set
 push-rising_list : (n : ℕ) (xs : List ℕ) → IsRisingIn n xs → rising_list (suc n) (λ v. mem xs v || (suc n == v)) ≡ xs ++ suc n ∷ []

@@ -1,6 +1,7 @@
 -- What a trial of all sets of edges tells of the tests that quantify over sets: a matching is on the list as its rising list, and
 -- a test of a set of edges sees nothing but the edges.
 use Rattle.std.proofs.Common.{◌≡◌, ℕ, ◌+◌, ◌≤◌, ◌<◌, ◌==◌, ◌&&◌, true, false, not, refl, sym, ap, ap₂, ◌∙◌, arith, List, [], length, get_or, eq-eqb, eqb-true, ne_eqb, subst, inl, inr, max}
+use Rattle.counting.proofs.Booleans.{same_tests}
 use Rattle.std.specs.List.{list_all, list_any}
 use Rattle.std.specs.Prelude.{All, Contains}
 use Rattle.std.proofs.lemmas.Bool.{and_from, and_left, and_parts, both_ways, cases_Bool, cases_eq, cases_lt, false_from_ne_true}
@@ -15,7 +16,7 @@ use Rattle.counting.specs.Sets.{Set, complement, none}
 use Rattle.counting.specs.Tests.{every}
 use Rattle.counting.proofs.Choice.{set_found}
 use Rattle.counting.proofs.Counts.{count_congr}
-use Rattle.counting.proofs.RisingLists.{length-rising_list, mem-rising_list, same_answers}
+use Rattle.counting.proofs.RisingLists.{length-rising_list, mem-rising_list}
 use Rattle.counting.proofs.Tests.{every_true}
 use Rattle.counting.proofs.Totals.{total_none}
 use Rattle.graph_core.specs.Graph.{Graph, edges_in_cut, in_cut, size}
@@ -59,7 +60,7 @@ has_perfect-list g r = elim (cases_Bool (has_perfect g r)) [
 
 -- an edge is allowed where an item of the list contains it
 pub is_allowed-list : (g : Graph) (e : ℕ) → Within (size g) e → list_any (λ m. mem m e) (perfect_matchings_of g none) ≡ is_allowed g e
-is_allowed-list g e w = same_answers (list_any (λ m. mem m e) (perfect_matchings_of g none)) (is_allowed g e)
+is_allowed-list g e w = same_tests (list_any (λ m. mem m e) (perfect_matchings_of g none)) (is_allowed g e)
     (λ t. let a = Any-from_list_any (λ m. mem m e) (perfect_matchings_of g none) t in
     is_allowed_found g e w (mem a.1, subst (λ m. IsPerfect g none (mem m)) a.3 (perfect_matchings-perfect g none a.0 a.1 a.2).1, a.4))
     (λ t. let a = is_allowed_says g e t in let c = perfect_matchings-all g none a.0 a.1 in
@@ -69,7 +70,7 @@ is_allowed-list g e w = same_answers (list_any (λ m. mem m e) (perfect_matching
 pub is_tight-list : (g : Graph) (x : Set) → (has_odd_sides g x && list_all (λ m. edges_in_cut g (mem m) x == 1) (perfect_matchings_of g none)) ≡ is_tight g x
 is_tight-list g x = elim (cases_Bool (has_odd_sides g x)) [
   | inr f ↦ and_left (has_odd_sides g x) (list_all (λ m. edges_in_cut g (mem m) x == 1) (perfect_matchings_of g none)) f ∙ sym (and_left (has_odd_sides g x) _ f)
-  | inl t ↦ ap (λ b. b && list_all (λ m. edges_in_cut g (mem m) x == 1) (perfect_matchings_of g none)) t ∙ same_answers (list_all (λ m. edges_in_cut g (mem m) x == 1) (perfect_matchings_of g none)) (is_tight g x)
+  | inl t ↦ ap (λ b. b && list_all (λ m. edges_in_cut g (mem m) x == 1) (perfect_matchings_of g none)) t ∙ same_tests (list_all (λ m. edges_in_cut g (mem m) x == 1) (perfect_matchings_of g none)) (is_tight g x)
       (λ h. let odd = and_parts (is_odd (count g.order x)) (is_odd (count g.order (complement x))) t in
       is_tight_found g x (record { odd = odd.0; odd_complement = odd.1; cut = λ m p. one h m p }))
       (λ h. list_all-from_AllPass (λ m. edges_in_cut g (mem m) x == 1) (perfect_matchings_of g none) (λ k d l. eq-eqb _ _ ((is_tight_says g x h).cut _ (perfect_matchings-perfect g none k d l).1)))

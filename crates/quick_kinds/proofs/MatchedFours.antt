@@ -2,7 +2,7 @@
 -- No: a tight set has one vertex more of one side, and no edge leaves it from the other; so two of the larger side in it, and two
 -- of the other side outside it, leave no perfect matching.
 use Rattle.std.proofs.Common.{◌≡◌, ℕ, suc, zero, ◌+◌, ◌*◌, ◌≤◌, ◌≢◌, Bool, true, false, ◌==◌, refl, sym, ap, ◌∙◌, arith, ◌&&◌, ◌||◌, not, ne_eqb, eqb-true}
-use Rattle.std.proofs.lemmas.Bool.{true≢false, and_parts}
+use Rattle.std.proofs.lemmas.Bool.{true≢false, and_parts, not-false, not-true}
 use Rattle.barrier_kit.proofs.Matched.{perfect_congr}
 use Rattle.barrier_kit.specs.BarrierCuts.{IsSide}
 use Rattle.counting.proofs.Counts.{count_congr}
@@ -11,6 +11,7 @@ use Rattle.counting.proofs.SetSizes.{count_split}
 use Rattle.counting.proofs.Totals.{total_congr, total_le}
 use Rattle.counting.specs.Counts.{bit, count, Within}
 use Rattle.counting.specs.Sets.{Set, minus, meet, complement, singleton}
+use Rattle.counting.proofs.Booleans.{and_comm}
 use Rattle.matching_digraph.proofs.Balance.{balance, crossing, equal_sides, leaves_left, leaves_right, left_of, no_inner, none_right, other_side, right_of}
 use Rattle.quick_kinds.specs.Braces.{AreFoursMatched, four_set}
 use Rattle.graph_core.proofs.Decide.{covered_perfect}
@@ -32,10 +33,10 @@ module _ (g : Graph) (is : IsGraph g) (cov : IsCovered g) where
         let c = count_split g.order x y in
         let d = count_split g.order (complement x) y in
         let e = equal_sides g is x two cov in
-        let f : count g.order (meet x y) ≡ count g.order (meet y x) = count_congr g.order _ _ (λ v w. turn (x v) (y v)) in
-        let h : count g.order (minus x y) ≡ count g.order (meet (complement y) x) = count_congr g.order _ _ (λ v w. turn (x v) (not (y v))) in
-        let i : count g.order (meet (complement x) y) ≡ count g.order (minus y x) = count_congr g.order _ _ (λ v w. turn (not (x v)) (y v)) in
-        let j : count g.order (minus (complement x) y) ≡ count g.order (minus (complement y) x) = count_congr g.order _ _ (λ v w. turn (not (x v)) (not (y v))) in
+        let f : count g.order (meet x y) ≡ count g.order (meet y x) = count_congr g.order _ _ (λ v w. and_comm (x v) (y v)) in
+        let h : count g.order (minus x y) ≡ count g.order (meet (complement y) x) = count_congr g.order _ _ (λ v w. and_comm (x v) (not (y v))) in
+        let i : count g.order (meet (complement x) y) ≡ count g.order (minus y x) = count_congr g.order _ _ (λ v w. and_comm (not (x v)) (y v)) in
+        let j : count g.order (minus (complement x) y) ≡ count g.order (minus (complement y) x) = count_congr g.order _ _ (λ v w. and_comm (not (x v)) (not (y v))) in
         let inside = n.inside in
         let outside = n.outside in
         let p = two_of g.order (meet y x) (omega arith) in
@@ -44,15 +45,9 @@ module _ (g : Graph) (is : IsGraph g) (cov : IsCovered g) where
         let pc = and_parts (y p.1) (x p.1) p.6 in
         let qb = and_parts (not (y q.0)) (not (x q.0)) q.5 in
         let qd = and_parts (not (y q.1)) (not (x q.1)) q.6 in
-        let m = match p.0 p.1 q.0 q.1 p.2 p.3 q.2 q.3 p.4 q.4 pa.1 pc.1 (flip (x q.0) qb.1) (flip (x q.1) qd.1) in
-        few p.0 p.1 q.0 q.1 p.2 p.3 p.4 p.5 p.6 (flip (y q.0) qb.0) (flip (y q.1) qd.0) (flip (x q.0) qb.1) (flip (x q.1) qd.1) m.0 m.1
+        let m = match p.0 p.1 q.0 q.1 p.2 p.3 q.2 q.3 p.4 q.4 pa.1 pc.1 (not-true (x q.0) qb.1) (not-true (x q.1) qd.1) in
+        few p.0 p.1 q.0 q.1 p.2 p.3 p.4 p.5 p.6 (not-true (y q.0) qb.0) (not-true (y q.1) qd.0) (not-true (x q.0) qb.1) (not-true (x q.1) qd.1) m.0 m.1
       where
-        turn : (a b : Bool) → (a && b) ≡ (b && a)
-        turn a b = grind arith
-
-        flip : (a : Bool) → not a ≡ true → a ≡ false
-        flip a h = grind arith
-
         few : (a c b d : ℕ) → Within g.order a → Within g.order c → a ≢ c → meet y x a ≡ true → meet y x c ≡ true → y b ≡ false → y d ≡ false → x b ≡ false → x d ≡ false → (m : Set) → IsPerfect g (four_set a c b d) m → ⊥
         few a c b d wa wc ac ha hc yb yd xb xd m p =
             let e = degrees g is m (minus y x) in
@@ -105,12 +100,6 @@ module _ (g : Graph) (is : IsGraph g) (cov : IsCovered g) where
       let c = t.cut m.0 m.1 in
       go (count (size g) (λ e. m.0 e && leaves_left g is x two y e)) (count (size g) (λ e. m.0 e && leaves_right g is x two y e)) b.0 (b.1 ∙ c)
     where
-      flip : (a : Bool) → not a ≡ true → a ≡ false
-      flip a h = grind arith
-
-      unflip : (a : Bool) → not a ≡ false → a ≡ true
-      unflip a h = grind arith
-
       swap : (i j k l : Bool) → ((i || j) || (k || l)) ≡ ((k || l) || (i || j))
       swap i j k l = grind arith
 
@@ -119,7 +108,7 @@ module _ (g : Graph) (is : IsGraph g) (cov : IsCovered g) where
       go zero r e f =
           more_left (complement x) (other_side g is x two) y t n
           (let s : count g.order (minus y (complement x)) ≡ count g.order (meet y x) = count_congr g.order _ _ (λ v w. double (y v) (x v)) in omega arith)
-          (λ a c b d wa wc wb wd ac bd xa xc xb xd. let k = match b d a c wb wd wa wc bd ac (unflip (x b) xb) (unflip (x d) xd) (flip (x a) xa) (flip (x c) xc) in
+          (λ a c b d wa wc wb wd ac bd xa xc xb xd. let k = match b d a c wb wd wa wc bd ac (not-false (x b) xb) (not-false (x d) xd) (not-true (x a) xa) (not-true (x c) xc) in
           (k.0, perfect_congr g (four_set b d a c) (four_set a c b d) k.0 (λ v w. swap (b == v) (d == v) (a == v) (c == v)) k.1))
         where
           double : (a b : Bool) → (a && not (not b)) ≡ (a && b)

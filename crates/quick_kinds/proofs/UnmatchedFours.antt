@@ -12,13 +12,13 @@ use Rattle.counting.proofs.Choice.{Respects, choose_set}
 use Rattle.counting.proofs.Counts.{count_congr}
 use Rattle.counting.proofs.Members.{count_minus, count_member, two_members}
 use Rattle.counting.proofs.Odd.{odd_three}
-use Rattle.counting.proofs.RisingLists.{same_answers}
 use Rattle.counting.proofs.SetSizes.{count_singleton}
 use Rattle.counting.proofs.Tests.{some_true, true_some, some_congr}
 use Rattle.counting.proofs.Totals.{total_congr, total_add, total_le, total_at}
 use Rattle.counting.specs.Counts.{bit, count, Within}
 use Rattle.counting.specs.Sets.{Set, none, union, minus, meet, complement, singleton}
 use Rattle.counting.specs.Tests.{some}
+use Rattle.counting.proofs.Booleans.{bit_le_one, not_not, same_tests}
 use Rattle.matching_digraph.proofs.Balance.{equal_sides, other_side, side_count}
 use Rattle.quick_kinds.specs.Braces.{four_set}
 use Rattle.graph_core.proofs.Contraction.{tight_from_cut}
@@ -117,7 +117,7 @@ module _ (g : Graph) (is : IsGraph g) (cov : IsCovered g) where
             let s = count_minus g.order (minus (complement x) (singleton b)) d wd (rw (xd, ne_eqb b d bd) refl) in omega arith
 
         cover : (v : ℕ) → Within g.order v → some g.order (λ z. lefts z && star z v) ≡ not (four_set a c b d v)
-        cover v w = same_answers _ _ there back
+        cover v w = same_tests _ _ there back
           where
             out : (i j k l s : Bool) → i ≡ false → j ≡ false → (k ≡ true → s ≡ false) → (l ≡ true → s ≡ false) → s ≡ true → not ((i || j) || (k || l)) ≡ true
             out i j k l s h1 h2 h3 h4 h5 = grind arith
@@ -157,10 +157,6 @@ module _ (g : Graph) (is : IsGraph g) (cov : IsCovered g) where
 
         all : (v : ℕ) → Within g.order v → complement (λ v. some g.order (λ z. lefts z && star z v)) v ≡ four_set a c b d v
         all v w = ap not (cover v w) ∙ not_not (four_set a c b d v)
-          where
-            not_not : (i : Bool) → not (not i) ≡ i
-            not_not true = refl
-            not_not false = refl
 
     -- and where it does not, a tight set
     module _ (z : Set) (few : count g.order (neighbours g.order beside rights (meet z lefts)) < count g.order (meet z lefts)) where
@@ -211,16 +207,8 @@ module _ (g : Graph) (is : IsGraph g) (cov : IsCovered g) where
         where
           bits : (i j k l : Bool) → bit (i && l) ≤ bit (((i && not j) && not k) && l) + (bit j + bit k)
           bits false j k l = omega arith
-          bits true true k l = omega (arith, le_one l)
-            where
-              le_one : (l : Bool) → bit l ≤ 1
-              le_one true = omega arith
-              le_one false = omega arith
-          bits true false true l = omega (arith, le_one l)
-            where
-              le_one : (l : Bool) → bit l ≤ 1
-              le_one true = omega arith
-              le_one false = omega arith
+          bits true true k l = omega (arith, bit_le_one l)
+          bits true false true l = omega (arith, bit_le_one l)
           bits true false false l = omega arith
 
       a_out : union some_left near_set a ≡ false

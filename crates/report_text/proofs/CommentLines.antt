@@ -4,7 +4,7 @@ use Rattle.std.proofs.Common.{◌≡◌, ◌∙◌, ℕ, zero, suc, ◌-◌, ◌
 use Rattle.std.specs.Prelude.{codes}
 use Rattle.std.specs.Fmt.{decimal}
 use Rattle.std.specs.List.{AllByRecursion}
-use Rattle.std.proofs.lemmas.Bool.{cases_lt, eq-eqb}
+use Rattle.std.proofs.lemmas.Bool.{cases_lt, eq-eqb, or_left, or_right}
 use Rattle.std.proofs.lemmas.List.Elements.{All-get_or, All-from_get_or, All-nil}
 use Rattle.std.proofs.lemmas.List.Sums.{count_by-le-length}
 use Rattle.std.proofs.Math.ListN.{get_or-eq_default}
@@ -99,14 +99,8 @@ last-small (x ∷ y ∷ xs) small = last-small (y ∷ xs) (λ k d less. small (s
 -- a list of numbers of 1 to n
 listed-small : (n : ℕ) (xs : List ℕ) → n < 10 ^ 9 → ((v : ℕ) → mem xs v ≡ true → Within n v) → All (λ v. v < 10 ^ 9) xs
 listed-small n [] few within k d less = absurd (omega arith)
-listed-small n (x ∷ xs) few within zero d less = let first = within x (front (x == x) (mem xs x) (eq-eqb x x refl)) in omega arith
-  where
-    front : (a b : Bool) → a ≡ true → (a || b) ≡ true
-    front a b h = grind arith
-listed-small n (x ∷ xs) few within (suc k) d less = listed-small n xs few (λ v is. within v (back (x == v) (mem xs v) is)) k d (omega arith)
-  where
-    back : (a b : Bool) → b ≡ true → (a || b) ≡ true
-    back a b h = grind arith
+listed-small n (x ∷ xs) few within zero d less = let first = within x (or_left (x == x) (mem xs x) (eq-eqb x x refl)) in omega arith
+listed-small n (x ∷ xs) few within (suc k) d less = listed-small n xs few (λ v is. within v (or_right (x == v) (mem xs v) is)) k d (omega arith)
 
 -- the vertices of the blocks of a partition
 blocks-small : (n : ℕ) (p : List (List ℕ)) → n < 10 ^ 9 → IsPartition n p → All (λ (b : List ℕ). All (λ v. v < 10 ^ 9) b) p

@@ -2,7 +2,7 @@
 -- has none. What holds of each component at each cut pair holds of each item of the list.
 use Rattle.std.proofs.Common.{◌≡◌, ◌≢◌, ◌↔◌, ℕ, ◌≤◌, ◌<◌, Bool, true, false, ◌==◌, ◌&&◌, ◌||◌, not, refl, sym, ap, arith, inl, inr, List, [], map, filter, flat_map, nat_le, nat_lt, lt-ltb, leb-true, subst, ap₂, get_or, Option, Some, None}
 use Rattle.std.specs.Prelude.{All, find, is_none, if◌then◌else◌}
-use Rattle.std.proofs.lemmas.Bool.{both_ways, cases_lt, false_from_ne_true, le-leb, true≢false}
+use Rattle.std.proofs.lemmas.Bool.{both_ways, cases_lt, false_from_ne_true, le-leb, true≢false, not-false}
 use Rattle.std.proofs.lemmas.List.Elements.{All-map, All-nil}
 use Rattle.counting.proofs.Members.{count_member}
 use Rattle.counting.specs.Counts.{Within, count, is_odd}
@@ -53,14 +53,11 @@ unlike-none g = (
       let w = pairs_rise g.order i d l in let r = w.2 in ap not (has_perfect_found g _ (bi _ _ w.0 w.1 (λ e. omega arith))))),
 )
   where
-    not_false : (b : Bool) → not b ≡ false → b ≡ true
-    not_false b h = grind arith
-
     less : (a b : ℕ) → b ≤ a → a ≢ b → b < a
     less a b l d = omega (arith, d)
 
     matched : find (λ k. not (has_perfect g (pair_set k.0 k.1))) (rising_pairs g.order) ≡ None → (a b : ℕ) → Within g.order a → Within g.order b → a < b → HasPerfect g (pair_set a b)
-    matched e a b wa wb l = has_perfect_says g (pair_set a b) (not_false (has_perfect g (pair_set a b))
+    matched e a b wa wb l = has_perfect_says g (pair_set a b) (not-false (has_perfect g (pair_set a b))
         (pair_holds g.order (λ k. not (has_perfect g (pair_set k.0 k.1)) ≡ false) (all_unfound (λ k. not (has_perfect g (pair_set k.0 k.1))) (rising_pairs g.order) e) a b wa wb l))
 
 -- the first cut pair is there exactly where there is one

@@ -2,8 +2,8 @@
 -- Idea: the least tight shore with an end of the edge and x, and without the other end, is the intersection of all; and a pair is
 -- parted by a nontrivial one alone.
 use Rattle.std.proofs.Common.{IfOk, Result, Ok, Err, ◌≡◌, ℕ, true, ◌==◌, sym, ap, ◌∙◌, List, Some, None, eq-eqb}
+use Rattle.counting.proofs.Booleans.{same_tests}
 use Rattle.std.proofs.lemmas.Bool.{both_ways, false_from_ne_true, or_left, or_right}
-use Rattle.counting.proofs.RisingLists.{same_answers}
 use Rattle.counting.specs.Counts.{Within}
 use Rattle.counting.specs.Lists.{mem}
 use Rattle.counting.specs.Sets.{pair_set}
@@ -36,7 +36,7 @@ module _ (g : Graph) (lim : IsWithinLimits g) (cov : IsCovered g) (e : ℕ) (we 
   least_common x wx z least = record {
     some = λ s q. let same : z ≡ s = cc in (
       (mem z, parts),
-      λ v w. ap (λ k. mem k v) (sym same) ∙ same_answers (mem z v) (common_shore g a b (x, b) v)
+      λ v w. ap (λ k. mem k v) (sym same) ∙ same_tests (mem z v) (common_shore g a b (x, b) v)
           (λ t. common_from g lim.multigraph.ends a b (x, b) wa wb wx wb v (λ y p. least.least y p.tight p.has_a p.has_x p.lacks_b v w t))
           (λ t. common_in g lim.multigraph.ends a b (x, b) wa wb wx wb v w t (mem z) parts),
     );

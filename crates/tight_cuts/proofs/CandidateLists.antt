@@ -12,6 +12,7 @@ use Rattle.counting.proofs.RisingLists.{mem-rising_list}
 use Rattle.counting.specs.Counts.{count}
 use Rattle.counting.specs.Lists.{mem, is_subset, rising_list, IsRisingIn}
 use Rattle.counting.specs.Sets.{Set, complement}
+use Rattle.counting.proofs.Booleans.{but_from}
 use Rattle.graph_core.specs.Graph.{Graph, in_cut}
 use Rattle.graph_core.specs.Tight.{is_nontrivial, canonical_shore}
 use Rattle.tight_cuts.specs.Candidates.{Candidate, Origin, candidate, candidate_at, cuts, shores_of, with_list}
@@ -57,10 +58,7 @@ module _ (n : ℕ) (o : Origin) (list : List Candidate) (s t : List ℕ) (is : t
   shore-taken after w l q =
       q ∙ ap (λ c. list ++ c ∷ []) (ap (candidate_at n o) is ∙ candidate-list n o (canonical_shore n (mem s)))
       ∙ sym (choose-true (is_nontrivial n (canonical_shore n (mem s)) && not (is_listed (shores_of list) (canonical_list n s))) (list ++ candidate n o (canonical_shore n (mem s)) ∷ []) list
-      (both (is_nontrivial n (canonical_shore n (mem s))) (is_listed (shores_of list) (canonical_list n s)) (sym (canonical-nontrivial n s t is) ∙ w) (ap (is_listed (shores_of list)) (sym is) ∙ l)))
-    where
-      both : (a b : Bool) → a ≡ true → b ≡ false → (a && not b) ≡ true
-      both a b p q = grind arith
+      (but_from (is_nontrivial n (canonical_shore n (mem s))) (is_listed (shores_of list) (canonical_list n s)) (sym (canonical-nontrivial n s t is) ∙ w) (ap (is_listed (shores_of list)) (sym is) ∙ l)))
 
   -- a trivial cut
   pub shore-narrow : is_nontrivial n (mem t) ≡ false → list ≡ with_list n o list s

@@ -1,6 +1,6 @@
 -- The candidates: none twice, each tight where the shores of the first two parts are, and each edge of a nontrivial tight cut in a candidate's cut.
 use Rattle.std.proofs.Common.{◌≡◌, ℕ, Bool, true, false, refl, sym, ap, not, ◌∙◌, arith, List, [], ◌∷◌, ◌↔◌, subst}
-use Rattle.std.proofs.lemmas.Bool.{true≢false}
+use Rattle.std.proofs.lemmas.Bool.{true≢false, not-true}
 use Rattle.std.proofs.lemmas.List.Elements.{All-map, All-nil, All-head, All-tail}
 use Rattle.std.specs.List.{AllPairs, list_any}
 use Rattle.std.specs.Prelude.{All, fold}
@@ -64,10 +64,7 @@ shore_edge g x is cov nt =
     let i = nt.inside in let j = nt.outside in
     let u = count_member g.order x (omega arith) in
     let v = count_member g.order (complement x) (omega arith) in
-    cut_edge g x u.0 v.0 is cov u.1 v.1 u.2 (flip (x v.0) v.2)
-  where
-    flip : (b : Bool) → not b ≡ true → b ≡ false
-    flip b h = grind arith
+    cut_edge g x u.0 v.0 is cov u.1 v.1 u.2 (not-true (x v.0) v.2)
 
 -- there is no candidate exactly where no nontrivial shore is tight
 pub candidates_none : (g : Graph) → IsGraph g → IsCovered g → (candidates g ≡ []) ↔ ((x : Set) → IsTight g x → IsNontrivial g.order x → ⊥)

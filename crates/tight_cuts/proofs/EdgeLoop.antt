@@ -13,6 +13,7 @@ use Rattle.counting.specs.Counts.{Within}
 use Rattle.counting.specs.Lists.{rising_list, ordered_pairs, pair_with}
 use Rattle.counting.specs.Sets.{Set, complement, minus, singleton, everything, pair_set}
 use Rattle.counting.specs.Tests.{some}
+use Rattle.counting.proofs.Booleans.{or_false}
 use Rattle.graph_core.proofs.Walks.{has_ends-cases}
 use Rattle.graph_core.specs.Covered.{IsCovered}
 use Rattle.graph_core.specs.Graph.{Graph, size, first_end, second_end, IsGraph, in_cut, has_ends}
@@ -55,11 +56,7 @@ any_with p a (x ∷ xs) = ap (λ b. p (a, x) || b) (any_with p a xs)
 
 any_rising : (n : ℕ) (p : ℕ → Bool) → list_any p (rising_list n everything) ≡ some n p
 any_rising zero p = refl
-any_rising (suc n) p = list_any-append p (rising_list n everything) (suc n ∷ []) ∙ ap₂ ◌||◌ (any_rising n p) (plain (p (suc n)))
-  where
-    plain : (b : Bool) → (b || false) ≡ b
-    plain true = refl
-    plain false = refl
+any_rising (suc n) p = list_any-append p (rising_list n everything) (suc n ∷ []) ∙ ap₂ ◌||◌ (any_rising n p) (or_false (p (suc n)))
 
 pub any_pair : (n : ℕ) (p : ℕ × ℕ → Bool) → list_any p (ordered_pairs n) ≡ some n (λ a. some n (λ b. p (a, b)))
 any_pair n p =

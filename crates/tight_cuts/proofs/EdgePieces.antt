@@ -1,8 +1,8 @@
 -- What the pairs with one first vertex x give, by one set: the intersection of all tight sets that have x and an end of the edge, not the other.
 -- Idea: that intersection is one of these sets, so a pair (x, y) is parted exactly where it lacks y, and then it is the common shore.
 use Rattle.std.proofs.Common.{◌≡◌, ◌≢◌, ℕ, ◌+◌, true, false, ◌==◌, refl, sym, ap, ◌∙◌, arith, inl, inr, List, Option, Some, None, eq-eqb, ne_eqb}
+use Rattle.counting.proofs.Booleans.{same_tests}
 use Rattle.std.proofs.lemmas.Bool.{cases_lt, true≢false, both_ways, false_from_ne_true, or_from, or_right}
-use Rattle.counting.proofs.RisingLists.{same_answers}
 use Rattle.counting.specs.Counts.{Within}
 use Rattle.counting.specs.Lists.{mem}
 use Rattle.counting.specs.Sets.{Set, pair_set}
@@ -59,7 +59,7 @@ module _ (g : Graph) (lim : IsWithinLimits g) (cov : IsCovered g) (e : ℕ) (we 
 
   -- where it lacks y it is the common shore of x and y
   shore_common : (y : ℕ) → Within g.order y → PartsTightly g a b (x, b) shore → shore y ≡ false → (v : ℕ) → Within g.order v → shore v ≡ common_shore g a b (x, y) v
-  shore_common y wy p l v w = same_answers (shore v) (common_shore g a b (x, y) v)
+  shore_common y wy p l v w = same_tests (shore v) (common_shore g a b (x, y) v)
       (λ t. common_from g is a b (x, y) wa wb wx wy v (λ z q. shore_in z (narrower g a b x y z q) v w t))
       (λ t. common_in g is a b (x, y) wa wb wx wy v w t shore (wider g a b x y shore p l))
 

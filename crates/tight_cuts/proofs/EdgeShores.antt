@@ -6,6 +6,7 @@ use Rattle.std.proofs.lemmas.List.Sums.{sum_by-cons}
 use Rattle.counting.specs.Counts.{bit, Within, total}
 use Rattle.counting.specs.Lists.{mem}
 use Rattle.counting.specs.Sets.{Set, pair_set}
+use Rattle.counting.proofs.Booleans.{bit_le_one}
 use Rattle.flow_core.specs.Cuts.{IfCut, IsCut}
 use Rattle.flow_core.specs.Nets.{Net, HasCutWithin, IsLeastCut}
 use Rattle.flow_core.specs.declared.cut.CutAnswer.{CutAnswer}
@@ -43,11 +44,7 @@ weight_within : (ms : List (List ℕ)) (e : ℕ) → weight ms e ≤ length ms
 weight_within [] e = omega arith
 weight_within (m ∷ ms) e =
     let s = sum_by-cons (λ m. bit (mem m e)) m ms in
-    let i = weight_within ms e in let b = at_most (mem m e) in omega arith
-  where
-    at_most : (b : Bool) → bit b ≤ 1
-    at_most true = omega arith
-    at_most false = omega arith
+    let i = weight_within ms e in let b = bit_le_one (mem m e) in omega arith
 
 -- the sum of all weights
 pub weights_small : (g : Graph) (weights : List ℕ) (bound : ℕ) → IsWithinLimits g → AreWeights g weights bound → total (size g) (at_place weights) < 2 ^ 63

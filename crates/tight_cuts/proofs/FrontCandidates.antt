@@ -4,7 +4,7 @@ use Rattle.std.proofs.Common.{◌≡◌, ℕ, suc, ◌+◌, ◌<◌, Bool, true,
 use Rattle.std.specs.Prelude.{All, fold, if◌then◌else◌, is_none}
 use Rattle.std.specs.List.{list_any}
 use Rattle.std.specs.Option.{option_map}
-use Rattle.std.proofs.lemmas.Bool.{true≢false, lt-leb}
+use Rattle.std.proofs.lemmas.Bool.{true≢false, lt-leb, and_right}
 use Rattle.std.proofs.lemmas.List.Elements.{All-head}
 use Rattle.barrier_kit.specs.BarrierShores.{barrier_cuts, barrier_shores}
 use Rattle.barrier_kit.specs.CanonicalCuts.{IsCanonicalCut, is_listed, with_cut}
@@ -72,10 +72,7 @@ pub unlike-some : (g : Graph) (k : ℕ × ℕ) → Some k ≡ unlike_pair g → 
 unlike-some g k q = ap (λ o. is_none o && nat_le 4 g.order) (sym q)
 
 pub order-small : (g : Graph) → g.order < 4 → (is_bicritical g && nat_le 4 g.order) ≡ false
-order-small g l = none (is_bicritical g) (nat_le 4 g.order) (lt-leb 4 g.order l)
-  where
-    none : (a b : Bool) → b ≡ false → (a && b) ≡ false
-    none a b p = grind arith
+order-small g l = and_right (is_bicritical g) (nat_le 4 g.order) (lt-leb 4 g.order l)
 
 -- sets that agree on 1 to n add the same candidate
 pub shore-congr : (n : ℕ) (o : Origin) (list : List Candidate) (x y : Set) → Within n n → ((v : ℕ) → Within n v → x v ≡ y v) → with_shore n o list x ≡ with_shore n o list y

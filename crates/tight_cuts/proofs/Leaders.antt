@@ -2,7 +2,7 @@
 -- Idea: in the list of components one alone holds the vertex, and a component's list begins with its least vertex.
 use Rattle.std.proofs.Common.{◌≡◌, ℕ, ◌≤◌, Bool, true, false, cond, ◌==◌, refl, sym, ap, ◌∙◌, arith, ◌&&◌, not, inl, inr, ◌⊎◌, List, [], ◌∷◌, map, subst, eq-eqb, eqb-true, nat_lt}
 use Rattle.std.specs.Prelude.{All}
-use Rattle.std.proofs.lemmas.Bool.{cases_lt, cases_Bool, and_parts, or_cases, or_left, or_right, true≢false, both_ways, lt-ltb, false_from_ne_true}
+use Rattle.std.proofs.lemmas.Bool.{cases_lt, cases_Bool, and_parts, or_cases, or_left, or_right, true≢false, both_ways, lt-ltb, false_from_ne_true, not-true}
 use Rattle.std.proofs.lemmas.List.Elements.{All-head, All-tail, All-nil, All-cons}
 use Rattle.counting.proofs.Tests.{some_none}
 use Rattle.counting.proofs.Lists.{rising_holds, rising_only}
@@ -40,13 +40,10 @@ module _ (h : Graph) (s : Set) (is : IsGraph h) where
   list-head u d wu l = head-least h.order (joined h s u) d u wu (walk_joined h s is u u wu (joined_self h s u)) (λ w ww j.
       let p = and_parts (not (s u)) (not (some h.order (λ v. joined h s u v && nat_lt v u))) l in
       elim (cases_lt w u) [
-        | inl q ↦ absurd (both_ways (joined h s u w && nat_lt w u) (some_none h.order (λ v. joined h s u v && nat_lt v u) (off (some h.order (λ v. joined h s u v && nat_lt v u)) p.1) w ww) (both j (lt-ltb w u q)))
+        | inl q ↦ absurd (both_ways (joined h s u w && nat_lt w u) (some_none h.order (λ v. joined h s u v && nat_lt v u) (not-true (some h.order (λ v. joined h s u v && nat_lt v u)) p.1) w ww) (both j (lt-ltb w u q)))
         | inr q ↦ q
       ])
     where
-      off : (b : Bool) → not b ≡ true → b ≡ false
-      off b q = grind arith
-
       both : {a b : Bool} → a ≡ true → b ≡ true → (a && b) ≡ true
       both p q = grind arith
 

@@ -1,12 +1,12 @@
 -- The intersection of all tight sets that part two pairs is one of them.
 -- Idea: the meet of two of them is odd by one matching with the edge, so a least one lies in each.
 use Rattle.std.proofs.Common.{◌≡◌, ℕ, suc, zero, ◌≤◌, ◌≢◌, Bool, true, false, refl, sym, ap, ap₂, ◌∙◌, arith, ◌&&◌, ◌||◌, not, inl, inr, nat_lt, lt-ltb}
+use Rattle.counting.proofs.Booleans.{same_tests}
 use Rattle.std.proofs.lemmas.Bool.{cases_lt, and_parts, and_from, or_parts, or_from, true≢false, both_ways, ltb-true, not-true}
 use Rattle.counting.proofs.Choice.{Respects, choose_set, some_set_found, each_passes, none_fails, set_found}
 use Rattle.counting.proofs.Counts.{count_congr}
 use Rattle.counting.proofs.Members.{two_members}
 use Rattle.counting.proofs.Odd.{odd_three}
-use Rattle.counting.proofs.RisingLists.{same_answers}
 use Rattle.counting.proofs.Totals.{total_tight}
 use Rattle.counting.specs.Counts.{bit, count, Within}
 use Rattle.counting.specs.Sets.{Set, meet, complement, pair_set}
@@ -48,7 +48,7 @@ module _ (g : Graph) (is : IsGraph g) (a b : ℕ) (k : ℕ × ℕ) (wa : Within 
   }
 
   pub parts_same : (z w : Set) → ((v : ℕ) → Within g.order v → z v ≡ w v) → parts_tightly g a b k z ≡ parts_tightly g a b k w
-  parts_same z w h = same_answers (parts_tightly g a b k z) (parts_tightly g a b k w)
+  parts_same z w h = same_tests (parts_tightly g a b k z) (parts_tightly g a b k w)
       (λ t. parts_found g a b k w (parts_congr z w h (parts_says g a b k z t)))
       (λ t. parts_found g a b k z (parts_congr w z (λ v u. sym (h v u)) (parts_says g a b k w t)))
 
@@ -129,7 +129,7 @@ module _ (g : Graph) (is : IsGraph g) (a b : ℕ) (k : ℕ × ℕ) (wa : Within 
     pub common_least : (z : Set) → PartsTightly g a b k z → (w : Set) × PartsTightly g a b k w × ((v : ℕ) → Within g.order v → common_shore g a b k v ≡ w v)
     common_least z p =
         let l = least_parts (count g.order z) z p (omega arith) in
-        (l.0, l.1, λ v u. same_answers (common_shore g a b k v) (l.0 v) (λ t. common_in v u t l.0 l.1) (λ t. common_from v (λ s q. least_in l.0 l.1 l.2 s q v u t)))
+        (l.0, l.1, λ v u. same_tests (common_shore g a b k v) (l.0 v) (λ t. common_in v u t l.0 l.1) (λ t. common_from v (λ s q. least_in l.0 l.1 l.2 s q v u t)))
 
     -- the common shore is tight and parts the pairs
     pub common_parts : (z : Set) → PartsTightly g a b k z → PartsTightly g a b k (common_shore g a b k)

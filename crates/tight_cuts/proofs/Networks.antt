@@ -1,9 +1,9 @@
 -- The contracted network.
 -- Idea: the value of a set of nodes is the sum over the pair list of the cut of its vertices.
 use Rattle.std.proofs.Common.{◌≡◌, ℕ, suc, zero, ◌+◌, ◌*◌, ◌≤◌, Bool, true, false, cond, ◌==◌, refl, sym, ap, ap₂, ◌∙◌, arith, ◌&&◌, ◌||◌, not, inl, inr, eq-eqb, ne_eqb, eqb-true, List, [], ◌∷◌, length, sum_by, ◌↔◌}
+use Rattle.counting.proofs.Booleans.{same_tests}
 use Rattle.std.proofs.lemmas.Bool.{cases_eq, and_parts, and_from, or_cases, or_left, or_right, true≢false}
 use Rattle.std.proofs.lemmas.List.Sums.{sum_by-cons, sum_by-append}
-use Rattle.counting.proofs.RisingLists.{same_answers}
 use Rattle.counting.proofs.Tests.{some_true, true_some}
 use Rattle.counting.proofs.Totals.{total_congr, total_add, total_none}
 use Rattle.counting.specs.Counts.{bit, total, count, Within, is_odd}
@@ -134,7 +134,7 @@ module _ (g h : Graph) (is : IsGraph g) (a b e : ℕ) (wa : Within g.order a) (w
   nodes_of x w = some g.order (λ v. (group v == w) && x v)
 
   nodes_back : (x : Set) → PartsTightly g a b k x → (v : ℕ) → Within g.order v → nodes_of x (group v) ≡ x v
-  nodes_back x p v w = same_answers (nodes_of x (group v)) (x v)
+  nodes_back x p v w = same_tests (nodes_of x (group v)) (x v)
       (λ t. let q = some_true g.order (λ i. (group i == group v) && x i) t in
       let s = and_parts (group q.0 == group v) (x q.0) q.2 in
       sym (parts_group x p q.0 v q.1 w (eqb-true (group q.0) (group v) s.0)) ∙ s.1)
@@ -161,6 +161,6 @@ module _ (g h : Graph) (is : IsGraph g) (a b e : ℕ) (wa : Within g.order a) (w
 
     -- so they are the common shore
     pub least_common : value ≤ length ms → (v : ℕ) → Within g.order v → mem set (group v) ≡ common_shore g a b k v
-    least_common l v w = same_answers (mem set (group v)) (common_shore g a b k v)
+    least_common l v w = same_tests (mem set (group v)) (common_shore g a b k v)
         (λ t. common_from g is a b k wa wb wx wy v (λ z p. least_inside l z p v w t))
         (λ t. common_in g is a b k wa wb wx wy v w t (back (mem set)) (least_back l))

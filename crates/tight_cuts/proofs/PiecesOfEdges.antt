@@ -1,11 +1,11 @@
 -- The pieces of an edge.
 -- Idea: an edge that lies together with it meets neither of its ends, so it stays in one piece, and a tight set has it on one side.
 use Rattle.std.proofs.Common.{◌≡◌, ℕ, ◌≤◌, ◌≢◌, Bool, true, false, ◌==◌, refl, sym, ap, ap₂, ◌∙◌, arith, ◌&&◌, ◌||◌, not, inl, inr, ne_eqb}
-use Rattle.std.proofs.lemmas.Bool.{or_from, both_ways}
+use Rattle.std.proofs.lemmas.Bool.{or_from, both_ways, not-true}
 use Rattle.barrier_kit.proofs.BarrierCuts.{part_step}
-use Rattle.counting.proofs.RisingLists.{same_answers}
 use Rattle.counting.specs.Counts.{count, Within, is_odd}
 use Rattle.counting.specs.Sets.{Set, none, complement, pair_set}
+use Rattle.counting.proofs.Booleans.{alike_not_apart, same_tests}
 use Rattle.graph_core.proofs.Components.{joined_walk, walk_joined}
 use Rattle.graph_core.proofs.Edits.{ends_of, two_ends_le_degree}
 use Rattle.graph_core.proofs.Walks.{has_ends-cases, adjacent-edge, adjacent_within, Walk-stays, IsClosed, joined_self}
@@ -20,13 +20,10 @@ use Rattle.match_core.proofs.NearPerfectSets.{ends_far, ends_near}
 -- a set that no edge of h leaves holds all of a component or nothing
 pub uncrossed_joined : (h : Graph) (s z : Set) → IsGraph h → ((f : ℕ) → Within (size h) f → in_cut h z f ≡ false) → (u v : ℕ) → joined h s u v ≡ true → z u ≡ z v
 unfolding Joined IsClosed
-uncrossed_joined h s z is c u v j = same_answers (z u) (z v)
+uncrossed_joined h s z is c u v j = same_tests (z u) (z v)
     (λ t. let w = joined_walk h s u v j in Walk-stays h.order (adjacent h s) z (adjacent_within h s is) (λ p q wp wq zp a. step z c p q zp a) u v w.0 t w.1)
-    (λ t. true_back (z u) (λ f. let w = joined_walk h s u v j in both_ways (z v) (flip (z v) (Walk-stays h.order (adjacent h s) (λ p. not (z p)) (adjacent_within h s is) (λ p q wp wq zp a. step (λ p. not (z p)) (λ f wf. negated (z (first_end h f)) (z (second_end h f)) (c f wf)) p q zp a) u v w.0 (ap not f) w.1)) t))
+    (λ t. true_back (z u) (λ f. let w = joined_walk h s u v j in both_ways (z v) (not-true (z v) (Walk-stays h.order (adjacent h s) (λ p. not (z p)) (adjacent_within h s is) (λ p q wp wq zp a. step (λ p. not (z p)) (λ f wf. negated (z (first_end h f)) (z (second_end h f)) (c f wf)) p q zp a) u v w.0 (ap not f) w.1)) t))
   where
-    flip : (b : Bool) → not b ≡ true → b ≡ false
-    flip b h = grind arith
-
     true_back : (b : Bool) → (b ≡ false → ⊥) → b ≡ true
     true_back true h = refl
     true_back false h = absurd (h refl)
@@ -100,7 +97,4 @@ module _ (g h : Graph) (is : IsGraph g) (a b e : ℕ) (wa : Within g.order a) (w
 
   -- a set with a, without b, that is a union of pieces otherwise is odd on both sides
   pub pieces_odd : Allowed g e → (x : Set) → x a ≡ true → x b ≡ false → ((u v : ℕ) → Within g.order u → Within g.order v → joined h (pair_set a b) u v ≡ true → x u ≡ x v) → (is_odd (count g.order x) ≡ true) × (is_odd (count g.order (complement x)) ≡ true)
-  pieces_odd al x xa xb c = odd_sides g x e is we al (cut_between g x a b e ends xa xb) (λ f wf d t. alike (x (first_end g f)) (x (second_end g f)) (c (first_end g f) (second_end g f) (is f wf).0 (is f wf).1 (beside_joined f wf d t)))
-    where
-      alike : (s t : Bool) → s ≡ t → ((s && not t) || (not s && t)) ≡ false
-      alike s t h = grind arith
+  pieces_odd al x xa xb c = odd_sides g x e is we al (cut_between g x a b e ends xa xb) (λ f wf d t. alike_not_apart (x (first_end g f)) (x (second_end g f)) (c (first_end g f) (second_end g f) (is f wf).0 (is f wf).1 (beside_joined f wf d t)))

@@ -1,5 +1,6 @@
 -- Canonical shores, shores as rising lists, and what one more shore does to a list of candidates.
 use Rattle.std.proofs.Common.{◌≡◌, ℕ, Bool, true, false, refl, sym, ap, ap₂, ◌∙◌, ◌&&◌, ◌||◌, not, inl, inr, ◌⊎◌, List, [], ◌∷◌, ◌++◌, subst}
+use Rattle.counting.proofs.Booleans.{same_tests}
 use Rattle.std.proofs.lemmas.Bool.{cases_Bool, and_parts, and_from, or_left, or_right, true≢false, both_ways, false_from_ne_true}
 use Rattle.std.proofs.lemmas.List.Elements.{All-push}
 use Rattle.std.proofs.lemmas.List.Folds.{list_any-append, list_any_at, Any-from_list_any}
@@ -10,7 +11,7 @@ use Rattle.barrier_kit.proofs.CutFacts.{canonical-tight, canonical-wide, nontriv
 use Rattle.barrier_kit.specs.CanonicalCuts.{is_listed}
 use Rattle.counting.proofs.Counts.{count_congr}
 use Rattle.counting.proofs.Lists.{rising_only}
-use Rattle.counting.proofs.RisingLists.{same_answers, mem-rising_list, rising_list-rises, true_all_in, all_in_true}
+use Rattle.counting.proofs.RisingLists.{mem-rising_list, rising_list-rises, true_all_in, all_in_true}
 use Rattle.counting.specs.Counts.{Within}
 use Rattle.counting.specs.Lists.{mem, rising_list, is_subset}
 use Rattle.counting.specs.Sets.{Set, complement}
@@ -65,7 +66,7 @@ subset_own : (xs : List ℕ) → is_subset xs xs ≡ true
 subset_own xs = true_all_in xs (mem xs) (λ v m. m)
 
 same_sets : (s t : List ℕ) → (is_subset s t && is_subset t s) ≡ true → (v : ℕ) → mem s v ≡ mem t v
-same_sets s t h v = let p = and_parts (is_subset s t) (is_subset t s) h in same_answers (mem s v) (mem t v) (all_in_true s (mem t) p.0 v) (all_in_true t (mem s) p.1 v)
+same_sets s t h v = let p = and_parts (is_subset s t) (is_subset t s) h in same_tests (mem s v) (mem t v) (all_in_true s (mem t) p.0 v) (all_in_true t (mem s) p.1 v)
 
 -- the candidate has the vertices of s for its shore
 abbrev pub has_shore : List ℕ → Candidate → Bool

@@ -1,10 +1,11 @@
 -- Names of blocks. The greatest vertex is in the last block; a partition with as many blocks as vertices is the one into single
 -- vertices: its names are all vertices, so each vertex names its own block, and no block has a second one.
 use Rattle.std.proofs.Common.{◌≡◌, ℕ, suc, ◌+◌, ◌-◌, ◌≤◌, ◌<◌, true, false, ◌==◌, ◌||◌, List, [], ◌∷◌, ◌++◌, length, get_or, refl, sym, ap, ◌∙◌, arith, subst, zero, eq-eqb, eqb-true, inl, inr}
+use Rattle.counting.proofs.Booleans.{same_tests}
 use Rattle.std.proofs.lemmas.Bool.{or_cases}
 use Rattle.std.proofs.lemmas.List.{get_or-map, length-map, ext_get_or, map-append}
 use Rattle.counting.proofs.Counts.{only_one}
-use Rattle.counting.proofs.RisingLists.{last_is_greatest, mem-all, rising_list-rises, length-rising_list, same_answers, same_rising_list, set-one, true_all_in, mem-item}
+use Rattle.counting.proofs.RisingLists.{last_is_greatest, mem-all, rising_list-rises, length-rising_list, same_rising_list, set-one, true_all_in, mem-item}
 use Rattle.counting.proofs.SetSizes.{same_set-from_size}
 use Rattle.counting.proofs.Lists.{mem-within}
 use Rattle.counting.specs.Counts.{Within, count}
@@ -100,7 +101,7 @@ module _ (n : ℕ) (p : List (List ℕ)) (is : IsPartition n p) where
         let wi : Within (length p) i = (omega arith, omega arith) in
         let holds : mem (block p i) i ≡ true = subst (λ v. mem (block p i) v ≡ true) (own-name i w) (named i wi).1 in
         same_rising_list n (block p i) (i ∷ []) (block-rises i wi) (set-one n i w) (λ v wv.
-        same_answers (mem (block p i) v) (mem (i ∷ []) v) (λ m. only i v w wv wi m) (λ m. subst (λ u. mem (block p i) u ≡ true) (one i v m) holds))
+        same_tests (mem (block p i) v) (mem (i ∷ []) v) (λ m. only i v w wv wi m) (λ m. subst (λ u. mem (block p i) u ≡ true) (one i v m) holds))
       where
         one : (i v : ℕ) → mem (i ∷ []) v ≡ true → i ≡ v
         one i v m = elim (or_cases (i == v) false m) [ inl e ↦ eqb-true i v e | inr e ↦ absurd (both e) ]

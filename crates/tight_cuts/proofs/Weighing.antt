@@ -9,6 +9,7 @@ use Rattle.allowed_edges.specs.PairTables.{PairsValue, edge_lists}
 use Rattle.counting.proofs.Lists.{Rises, mem_low, rises-from_set}
 use Rattle.counting.specs.Counts.{bit}
 use Rattle.counting.specs.Lists.{mem}
+use Rattle.counting.proofs.Booleans.{bit_le_one, or_false}
 use Rattle.graph_core.specs.Graph.{Graph, size}
 use Rattle.graph_core.specs.PairLists.{IsPairList, IsLean}
 use Rattle.graph_core.specs.View.{IsWithinLimits}
@@ -55,12 +56,8 @@ module _ (old now : List ℕ) (m : MatchingValue) (keeps : KeepsMatching m) (i :
         | inr d ↦
             let a = get_or-set_other now row.edge e (at_place now row.edge + 1) 0 (λ s. d (sym s)) in
             let b = h e in
-            let c = ap bit (more ∙ ap (λ t. mem (map edge_of (take i m.rows)) e || t) (ne_eqb row.edge e d) ∙ or_no (mem (map edge_of (take i m.rows)) e)) in omega arith
+            let c = ap bit (more ∙ ap (λ t. mem (map edge_of (take i m.rows)) e || t) (ne_eqb row.edge e d) ∙ or_false (mem (map edge_of (take i m.rows)) e)) in omega arith
       ]
-    where
-      or_no : (b : Bool) → (b || false) ≡ b
-      or_no true = refl
-      or_no false = refl
 
 -- one matching more
 pub weight-more : (list : List MatchingValue) (i : ℕ) (m : MatchingValue) (e : ℕ) → slice_get list i ≡ Some m → weight (map edges_of (take (suc i) list)) e ≡ weight (map edges_of (take i list)) e + bit (mem (edges_of m) e)
@@ -77,11 +74,7 @@ weight-taken list zero e = omega arith
 weight-taken [] (suc i) e = omega arith
 weight-taken (k ∷ list) (suc i) e =
     let t = sum_by-cons (λ es. bit (mem es e)) (edges_of k) (map edges_of (take i list)) in
-    let r = weight-taken list i e in let b = at_most (mem (edges_of k) e) in omega arith
-  where
-    at_most : (b : Bool) → bit b ≤ 1
-    at_most true = omega arith
-    at_most false = omega arith
+    let r = weight-taken list i e in let b = bit_le_one (mem (edges_of k) e) in omega arith
 
 pub take-whole : (list : List MatchingValue) (i : ℕ) → length list ≤ i → take i list ≡ list
 take-whole [] zero l = refl

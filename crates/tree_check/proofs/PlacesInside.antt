@@ -5,6 +5,7 @@ use Rattle.std.proofs.lemmas.Option.{get_or_from_slice_get}
 use Rattle.counting.proofs.RisingLists.{list-from_test, set-narrower}
 use Rattle.counting.specs.Counts.{Within}
 use Rattle.counting.specs.Lists.{IsRisingIn, is_subset, mem, rising_list}
+use Rattle.counting.proofs.Booleans.{or_false}
 use Rattle.contraction.proofs.BlockLists.{length-partition}
 use Rattle.graph_core.specs.Partitions.{IsPartition}
 use Rattle.graph_core.specs.Shores.{blocks_in}
@@ -12,10 +13,6 @@ use Rattle.graph_core.specs.Shores.{blocks_in}
 -- the next place is that of a vertex
 pub room : (n : ℕ) (p : List (List ℕ)) (i all : ℕ) → IsPartition n p → n ≤ 128 → all ≡ length p → i < all → i < 128
 room n p i all is few sized less = let listed = length-partition n p is in omega arith
-
-or-false : (b : Bool) → (b || false) ≡ b
-or-false true = refl
-or-false false = refl
 
 module _ (p : List (List ℕ)) (shore old : List ℕ) (i : ℕ) (within : (j : ℕ) → mem old j ≡ true → Within i j) (members : (j : ℕ) → Within i j → mem old j ≡ blocks_in p (mem shore) j) (b : List ℕ) (found : slice_get p i ≡ Some b) where
   -- whether the block at the next place is in the shore
@@ -35,7 +32,7 @@ module _ (p : List (List ℕ)) (shore old : List ℕ) (i : ℕ) (within : (j : �
     pub added-members : is_subset b shore ≡ true → (j : ℕ) → Within (i + 1) j → mem new j ≡ blocks_in p (mem shore) j
     added-members holds j w = elim (cases_eq j (i + 1)) [
       | inl e ↦ tells j ∙ or_right (mem old j) (i + 1 == j) (eq-eqb (i + 1) j (sym e)) ∙ sym (ap (blocks_in p (mem shore)) e ∙ at-next ∙ holds)
-      | inr d ↦ tells j ∙ ap (λ t. mem old j || t) (ne_eqb (i + 1) j (λ e. d (sym e))) ∙ or-false (mem old j) ∙ members j (earlier j w d)
+      | inr d ↦ tells j ∙ ap (λ t. mem old j || t) (ne_eqb (i + 1) j (λ e. d (sym e))) ∙ or_false (mem old j) ∙ members j (earlier j w d)
     ]
       where
         earlier : (j : ℕ) → Within (i + 1) j → j ≢ i + 1 → Within i j

@@ -1,7 +1,8 @@
 -- Rotate at the end of a path, and the test of two sets with no common vertex.
 use Rattle.std.proofs.Common.{◌≡◌, ℕ, not, ◌&&◌, List, [], ◌∷◌, ◌++◌, length, None, refl, sym, ap, ap₂, ◌∙◌, arith}
+use Rattle.counting.proofs.Booleans.{same_tests}
 use Rattle.std.proofs.lemmas.Bool.{and_from, and_parts}
-use Rattle.counting.proofs.RisingLists.{all_in_true, true_all_in, same_answers}
+use Rattle.counting.proofs.RisingLists.{all_in_true, true_all_in}
 use Rattle.counting.specs.Lists.{mem, is_apart, is_subset}
 use Rattle.counting.specs.Sets.{everything, minus}
 use Rattle.tree_core.specs.Moves.{last_step, parent_path, result_at, rotate_result, rotate_result_at}
@@ -13,7 +14,7 @@ use Rattle.tree_core.specs.declared.turns.Turn.TheVariants.{Rotate, Switch}
 
 -- x lies in what it keeps without y exactly where the two have no common vertex
 pub apart-test : (x y z : List ℕ) → ((v : ℕ) → mem z v ≡ (mem x v && not (mem y v))) → is_subset x z ≡ is_apart x y
-apart-test x y z e = same_answers (is_subset x z) (is_apart x y)
+apart-test x y z e = same_tests (is_subset x z) (is_apart x y)
     (λ h. true_all_in x (minus everything (mem y)) (λ v m. (and_parts (mem x v) (not (mem y v)) (sym (e v) ∙ all_in_true x (mem z) h v m)).1))
     (λ h. true_all_in x (mem z) (λ v m. e v ∙ and_from (mem x v) (not (mem y v)) m (all_in_true x (minus everything (mem y)) h v m)))
 

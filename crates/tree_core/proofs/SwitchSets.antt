@@ -1,9 +1,10 @@
 -- Sets of vertices 1 to n as the lists of their tests: unions, differences and complements, also where n is greater than any vertex
 -- that a set can hold.
 use Rattle.std.proofs.Common.{◌≡◌, ℕ, ◌-◌, ◌≤◌, ◌<◌, Bool, true, false, not, ◌&&◌, ◌||◌, List, [], ◌∷◌, All, min, refl, sym, ap, ◌∙◌, arith, inl, inr, ◌⊎◌, subst, get_or, suc, ◌==◌, eqb-true}
+use Rattle.counting.proofs.Booleans.{same_tests}
 use Rattle.std.proofs.lemmas.Bool.{and_from, and_parts, both_ways, or_cases}
 use Rattle.counting.proofs.Lists.{mem-within}
-use Rattle.counting.proofs.RisingLists.{all_in_false, all_in_true, list-from_test, mem-all, mem-item, mem-outside, same_answers, set-narrower, true_all_in}
+use Rattle.counting.proofs.RisingLists.{all_in_false, all_in_true, list-from_test, mem-all, mem-item, mem-outside, set-narrower, true_all_in}
 use Rattle.counting.specs.Counts.{Within}
 use Rattle.counting.specs.Lists.{IsRisingIn, is_subset, mem, rising_list}
 use Rattle.counting.specs.Sets.{Set, everything, minus, union}
@@ -73,7 +74,7 @@ in_outside n x r tells w small m =
     tells w ∙ and_from (mem (rising_list (min n 128) everything) w) (not (mem x w)) ((mem-all (min n 128) w).1 (omega arith, omega arith)) (sym (mem-complement_of n x w z) ∙ m)
 
 pub outside-test : (n : ℕ) (v x r : List ℕ) → IsRisingIn 128 v → IsOutside n x r → is_subset v r ≡ is_subset v (complement_of n x)
-outside-test n v x r rises tells = same_answers (is_subset v r) (is_subset v (complement_of n x))
+outside-test n v x r rises tells = same_tests (is_subset v r) (is_subset v (complement_of n x))
     (λ h. true_all_in v (mem (complement_of n x)) (λ w m. outside_in n x r tells w (all_in_true v (mem r) h w m)))
     (λ h. true_all_in v (mem r) (λ w m. let z = mem-within 128 v rises w m in in_outside n x r tells w z.1 (all_in_true v (mem (complement_of n x)) h w m)))
 

@@ -8,6 +8,7 @@ use Rattle.counting.specs.Counts.{Within}
 use Rattle.counting.specs.Lists.{mem, IsRisingIn}
 use Rattle.counting.proofs.Lists.{Rises}
 use Rattle.counting.proofs.RisingLists.{same_rising_list, set-from_rises, set-wider}
+use Rattle.counting.proofs.Booleans.{or_false}
 use Rattle.text_faults.specs.Ranges.{is_out_of_range}
 use Rattle.text_faults.proofs.InRange.{in_range}
 use Rattle.tree_text.specs.TreeFormat.{is_rising}
@@ -24,13 +25,9 @@ moved vertices shore next behind rest v front gains same w =
 pub all-behind : (n : ℕ) (rest behind : List ℕ) (v : ℕ) → rest ≡ v ∷ behind → All (Within n) rest → All (Within n) behind
 all-behind n rest behind v front all k d less = subst (All (Within n)) front all (suc k) d (omega arith)
 
-or-none : (a : Bool) → (a || false) ≡ a
-or-none true = refl
-or-none false = refl
-
 pub all_moved : (vertices shore rest : List ℕ) → length rest ≡ 0 → IsRisingIn 128 shore → IsRisingIn 128 vertices → ((w : ℕ) → mem vertices w ≡ (mem shore w || mem rest w)) → shore ≡ vertices
 all_moved vertices shore [] none rises in_order same =
-    same_rising_list 128 shore vertices rises in_order (λ w within. sym (same w ∙ or-none (mem shore w)))
+    same_rising_list 128 shore vertices rises in_order (λ w within. sym (same w ∙ or_false (mem shore w)))
 all_moved vertices shore (v ∷ rest) none rises in_order same = absurd (omega arith)
 
 less-from_test : (v w : ℕ) → nat_lt v w ≡ true → v < w

@@ -1,9 +1,9 @@
 -- A barrier of a covered graph without further edges: each component is odd, and each perfect matching has one edge that leaves it. A
 -- part of a barrier leaves no more components than it has vertices, and parts that leave as many have such a meet.
 use Rattle.std.proofs.Common.{◌≡◌, ℕ, suc, zero, ◌+◌, ◌*◌, ◌≤◌, ◌≢◌, Bool, true, false, refl, sym, ap, ◌∙◌, arith, ◌&&◌, ◌||◌, not, inl, inr, nat_lt, lt-ltb, List}
+use Rattle.counting.proofs.Booleans.{same_tests}
 use Rattle.std.proofs.lemmas.Bool.{cases_Bool, and_parts, and_from, both_ways, true≢false, false_from_ne_true, not-true}
 use Rattle.counting.proofs.Counts.{count_meet_union, bit_true, count_congr, count_le_one}
-use Rattle.counting.proofs.RisingLists.{same_answers}
 use Rattle.counting.proofs.Tests.{some_none, some_true}
 use Rattle.barrier_kit.proofs.Matched.{cut_edge, crosses_apart, loop_free}
 use Rattle.counting.proofs.Totals.{at_le_total, total_add, total_congr, total_le, total_mul, total_none, total_tight}
@@ -82,7 +82,7 @@ module _ (g : Graph) (is : IsGraph g) (cov : IsCovered g) where
     all_components = count_congr g.order _ _ (λ u w. each u w) ∙ bar
       where
         each : (u : ℕ) → Within g.order u → is_least (with_ends g xs) b u ≡ (is_least (with_ends g xs) b u && is_odd (count g.order (joined (with_ends g xs) b u)))
-        each u w = same_answers (is_least (with_ends g xs) b u) _ (λ t. and_from (is_least (with_ends g xs) b u) _ t (all_odd u w t)) (λ t. (and_parts (is_least (with_ends g xs) b u) _ t).0)
+        each u w = same_tests (is_least (with_ends g xs) b u) _ (λ t. and_from (is_least (with_ends g xs) b u) _ t (all_odd u w t)) (λ t. (and_parts (is_least (with_ends g xs) b u) _ t).0)
 
   module _ (s : Set) (bar : IsBarrier g s) (xs : List (ℕ × ℕ)) (h : KeepsEdges g xs) (a : Set) (less : (v : ℕ) → Within g.order v → a v ≡ true → s v ≡ true)
       (a0 : ℕ) (w0 : Within g.order a0) (in0 : a a0 ≡ true) where
@@ -100,7 +100,7 @@ module _ (g : Graph) (is : IsGraph g) (cov : IsCovered g) where
         k = joined (with_ends g xs) a u
 
         eq : (v t : ℕ) → Within g.order v → Within g.order t → joined (with_ends g xs) a v t ≡ true → k v ≡ k t
-        eq v t wv wt j = let q = joined_equivalence (with_ends g xs) a h.graph in same_answers (k v) (k t) (λ i. q.on u v t wu wv wt i j) (λ i. q.on u t v wu wt wv i (q.back v t wv wt j))
+        eq v t wv wt j = let q = joined_equivalence (with_ends g xs) a h.graph in same_tests (k v) (k t) (λ i. q.on u v t wu wv wt i j) (λ i. q.on u t v wu wt wv i (q.back v t wv wt j))
 
         closed : (v t : ℕ) → Within g.order v → Within g.order t → joined g s v t ≡ true → k v ≡ k t
         closed v t wv wt j = eq v t wv wt (joined_more g xs s a is h less v t wv wt j)

@@ -3,10 +3,10 @@
 use Rattle.std.proofs.Common.{◌≡◌, ℕ, suc, zero, ◌+◌, ◌≤◌, ◌≢◌, Bool, true, false, cond, ◌==◌, refl, sym, ap, ap₂, ◌∙◌, arith, ◌&&◌, ◌||◌, not, eq-eqb, eqb-true, inl, inr, nat_lt, ltb-true, lt-ltb}
 use Rattle.std.proofs.lemmas.Bool.{cases_eq, cases_Bool, cases_lt, and_parts, and_from, both_ways, true≢false, false_from_ne_true, not-true}
 use Rattle.counting.proofs.Counts.{count_congr}
-use Rattle.counting.proofs.RisingLists.{same_answers}
 use Rattle.counting.proofs.Tests.{some_congr, some_none, some_true, true_some}
 use Rattle.counting.specs.Counts.{Within, count}
 use Rattle.counting.specs.Tests.{some}
+use Rattle.counting.proofs.Booleans.{or_second, same_tests}
 use Rattle.two_ears.specs.Equivalences.{IsEquivalence, class_count}
 use Rattle.two_ears.proofs.Labels.{used, IsLabel, finer_used, merge, merge_in, merge_label, merge_used}
 use Rattle.two_ears.proofs.FourPartitions.{four_labels}
@@ -32,16 +32,13 @@ least_passer-is (suc n) p h = elim (cases_Bool (some n p)) [
   | inr f ↦
       let e : least_passer (suc n) p ≡ suc n = ap (λ b. cond b (least_passer n p) (suc n)) f in (
         omega (arith, e),
-        ap p e ∙ last (some n p) (p (suc n)) f h,
+        ap p e ∙ or_second (some n p) (p (suc n)) f h,
         λ w ww pw. elim (cases_eq w (suc n)) [
           | inl i ↦ omega (arith, e)
           | inr i ↦ absurd (both_ways (p w) (some_none n p f w (omega arith)) pw)
         ],
       )
 ]
-  where
-    last : (a b : Bool) → a ≡ false → (a || b) ≡ true → b ≡ true
-    last a b p q = grind arith
 
 least_passer-congr : (n : ℕ) (p q : ℕ → Bool) → ((v : ℕ) → Within n v → p v ≡ q v) → least_passer n p ≡ least_passer n q
 least_passer-congr zero p q h = refl
@@ -61,7 +58,7 @@ module _ (n : ℕ) (p : ℕ → ℕ → Bool) (eq : IsEquivalence n p) where
 
   pub label_same : (a b : ℕ) → Within n a → Within n b → p a b ≡ true → label a ≡ label b
   unfolding label
-  label_same a b wa wb h = least_passer-congr n (p a) (p b) (λ v w. same_answers (p a v) (p b v) (λ t. eq.on b a v wb wa w (eq.back a b wa wb h) t) (λ t. eq.on a b v wa wb w h t))
+  label_same a b wa wb h = least_passer-congr n (p a) (p b) (λ v w. same_tests (p a v) (p b v) (λ t. eq.on b a v wb wa w (eq.back a b wa wb h) t) (λ t. eq.on a b v wa wb w h t))
 
   pub same_label : (a b : ℕ) → Within n a → Within n b → label a ≡ label b → p a b ≡ true
   same_label a b wa wb e =
@@ -69,7 +66,7 @@ module _ (n : ℕ) (p : ℕ → ℕ → Bool) (eq : IsEquivalence n p) where
       eq.on a (label a) b wa x.0 wb x.1 (eq.back b (label a) wb x.0 (ap (p b) e ∙ y.1))
 
   pub label_classes : count n (used n label) ≡ class_count n p
-  label_classes = count_congr n _ _ (λ l w. same_answers (used n label l) (not (some n (λ v. p l v && nat_lt v l))) (there l w) (back l w))
+  label_classes = count_congr n _ _ (λ l w. same_tests (used n label l) (not (some n (λ v. p l v && nat_lt v l))) (there l w) (back l w))
     where
       there : (l : ℕ) → Within n l → used n label l ≡ true → not (some n (λ v. p l v && nat_lt v l)) ≡ true
       there l w t =

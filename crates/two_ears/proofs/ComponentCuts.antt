@@ -1,9 +1,9 @@
 -- The edges of a matching that leave the components without b, component by component: together they are those that leave b, and an odd
 -- component has one.
 use Rattle.std.proofs.Common.{◌≡◌, ℕ, ◌+◌, ◌*◌, ◌≤◌, Bool, true, false, cond, refl, sym, ap, ◌∙◌, arith, ◌&&◌, ◌||◌, not, nat_lt, le_trans, le_of_eq, List}
+use Rattle.counting.proofs.Booleans.{same_tests}
 use Rattle.std.proofs.lemmas.Bool.{and_parts, and_from, both_ways, true≢false, false_from_ne_true, not-true}
 use Rattle.counting.proofs.Odd.{odd-add, odd-double, odd_pos}
-use Rattle.counting.proofs.RisingLists.{same_answers}
 use Rattle.counting.proofs.Totals.{total_add, total_congr, total_le, total_mul, total_none, total_swap}
 use Rattle.counting.specs.Counts.{Within, bit, count, is_odd, total}
 use Rattle.counting.specs.Sets.{Set}
@@ -73,7 +73,7 @@ weighted_cut g xs b w m is h same =
     each e we true = go (b (first_end g e)) (b (second_end g e)) refl refl
       where
         eq : (u v t : ℕ) → Within g.order u → Within g.order v → Within g.order t → j v t ≡ true → j u v ≡ j u t
-        eq u v t wu wv wt k = let q = joined_equivalence (with_ends g xs) b h.graph in same_answers (j u v) (j u t) (λ a. q.on u v t wu wv wt a k) (λ a. q.on u t v wu wt wv a (q.back v t wv wt k))
+        eq u v t wu wv wt k = let q = joined_equivalence (with_ends g xs) b h.graph in same_tests (j u v) (j u t) (λ a. q.on u v t wu wv wt a k) (λ a. q.on u t v wu wt wv a (q.back v t wv wt k))
 
         term : (u : ℕ) → ℕ
         term u = bit (l u && w u) * bit ((j u (first_end g e) && not (j u (second_end g e))) || (not (j u (first_end g e)) && j u (second_end g e)))

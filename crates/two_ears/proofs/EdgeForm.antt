@@ -15,6 +15,7 @@ use Rattle.two_ears.proofs.JoinedClasses.{keeps-itself, joined_more}
 use Rattle.two_ears.proofs.TwoEars.{ends_of_one, two_ears}
 use Rattle.two_ears.specs.AddedEdges.{with_pairs}
 use Rattle.counting.specs.Lists.{IsIn}
+use Rattle.counting.proofs.Booleans.{but_not}
 use Rattle.two_ears.specs.VertexPairs.{AreDisjoint, pairs_at, vertices_of}
 
 ends-with_pairs : (g : Graph) (ps : List (ℕ × ℕ)) (e : ℕ) → Within (size g) e → (first_end (with_ends g (with_pairs g.ends ps)) e ≡ first_end g e) × (second_end (with_ends g (with_pairs g.ends ps)) e ≡ second_end g e)
@@ -36,11 +37,8 @@ degree_without g m [] v = degree_congr g (without_new g m) m v (λ e w. old (m e
 degree_without g m (p ∷ ps) v =
     let d = degree-added g (with_pairs g.ends ps) p (without_new g m) v in
     let i = degree_without g m ps v in
-    let n : bit (without_new g m (suc (length (with_pairs g.ends ps)))) ≡ 0 = ap bit (off (m (suc (length (with_pairs g.ends ps)))) (nat_lt (size g) (suc (length (with_pairs g.ends ps)))) (lt-ltb (size g) (suc (length (with_pairs g.ends ps))) (let a = with_pairs-longer g.ends ps in omega arith))) in
+    let n : bit (without_new g m (suc (length (with_pairs g.ends ps)))) ≡ 0 = ap bit (but_not (m (suc (length (with_pairs g.ends ps)))) (nat_lt (size g) (suc (length (with_pairs g.ends ps)))) (lt-ltb (size g) (suc (length (with_pairs g.ends ps))) (let a = with_pairs-longer g.ends ps in omega arith))) in
     let q = ap (λ k. k * (bit (p.0 == v) + bit (p.1 == v))) n in omega arith
-  where
-    off : (a b : Bool) → b ≡ true → (a && not b) ≡ false
-    off a b h = grind arith
 
 -- further edges that complete some set to a perfect matching keep a covered graph covered
 pub covered-with_pairs : (g : Graph) → IsGraph g → IsCovered g → (ps : List (ℕ × ℕ)) → ((p : ℕ × ℕ) → IsIn p ps → Within g.order p.0 × Within g.order p.1) →

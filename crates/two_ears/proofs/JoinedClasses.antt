@@ -8,6 +8,7 @@ use Rattle.counting.proofs.Totals.{total_add, total_congr}
 use Rattle.counting.specs.Counts.{Within, bit, count}
 use Rattle.counting.specs.Sets.{Set, meet, union}
 use Rattle.counting.specs.Tests.{some}
+use Rattle.counting.proofs.Booleans.{and_comm}
 use Rattle.graph_core.proofs.Components.{joined_walk, walk_joined}
 use Rattle.graph_core.proofs.Walks.{IsClosed, Walk-stays, adjacent-edge, adjacent_from, adjacent_within, has_ends-back, has_ends-cases, has_ends-own, joined_back, joined_on, joined_self}
 use Rattle.graph_core.specs.Components.{component_count, is_least}
@@ -107,13 +108,10 @@ submodular g s a b is apart in_a in_b =
     which : (ac ad bc bd sc sd : Bool) → (ac ≡ true → sc ≡ true) → (ad ≡ true → sd ≡ true) → (bc ≡ true → sc ≡ true) → (bd ≡ true → sd ≡ true) → (ac && bc) ≡ false → (ad && bd) ≡ false → (sc && sd) ≡ false → ((ac ≡ false) × (ad ≡ false)) ⊎ ((bc ≡ false) × (bd ≡ false))
     which ac ad bc bd sc sd h1 h2 h3 h4 h5 h6 h7 = grind arith
 
-    comm : (x y : Bool) → (x && y) ≡ (y && x)
-    comm x y = grind arith
-
     apart_at : (c d e : ℕ) → Within (size g) e → has_ends g c d e ≡ true → c ≢ d → (s c && s d) ≡ false
     apart_at c d e w t n = elim (has_ends-cases g c d e t) [
       | inl k ↦ ap₂ (λ x y. s x && s y) (sym k.0) (sym k.1) ∙ apart e w (λ i. n (sym k.0 ∙ i ∙ k.1))
-      | inr k ↦ comm (s c) (s d) ∙ ap₂ (λ x y. s x && s y) (sym k.0) (sym k.1) ∙ apart e w (λ i. n (sym k.1 ∙ sym i ∙ k.0))
+      | inr k ↦ and_comm (s c) (s d) ∙ ap₂ (λ x y. s x && s y) (sym k.0) (sym k.1) ∙ apart e w (λ i. n (sym k.1 ∙ sym i ∙ k.0))
     ]
 
     above : (z : ℕ → ℕ) → ((c d : ℕ) → Within g.order c → Within g.order d → joined g a c d ≡ true → z c ≡ z d) → ((c d : ℕ) → Within g.order c → Within g.order d → joined g b c d ≡ true → z c ≡ z d) → (u v : ℕ) → Within g.order u → Within g.order v → joined g (meet a b) u v ≡ true → z u ≡ z v

@@ -1,9 +1,9 @@
 -- Partitions of 1 to n as labels: how many labels are in use? A coarser partition has no more of them, and one that joins
 -- two classes of the other has one less.
 use Rattle.std.proofs.Common.{◌≡◌, ℕ, ◌+◌, ◌≤◌, ◌≢◌, Bool, true, false, cond, ◌==◌, refl, sym, ap, ◌∙◌, arith, ◌&&◌, not, eq-eqb, ne_eqb, eqb-true, ◌⊎◌, inl, inr, le_trans, le_of_eq}
+use Rattle.counting.proofs.Booleans.{same_tests}
 use Rattle.std.proofs.lemmas.Bool.{cases_eq, cases_Bool, and_parts, and_from, both_ways, false_from_ne_true, not-true}
 use Rattle.counting.proofs.Counts.{count_le_one}
-use Rattle.counting.proofs.RisingLists.{same_answers}
 use Rattle.counting.proofs.Tests.{some_none, some_true, true_some}
 use Rattle.counting.proofs.Totals.{at_le_total, total_add, total_at, total_congr, total_le, total_none, total_swap}
 use Rattle.counting.specs.Counts.{Within, bit, count, total}
@@ -109,7 +109,7 @@ merge_used n f x y wx wy lf d =
         ])
 
     kept : (l : ℕ) → (f x ≡ l → ⊥) → used n f l ≡ used n (merge f x y) l
-    kept l q = same_answers (used n f l) (used n (merge f x y) l)
+    kept l q = same_tests (used n f l) (used n (merge f x y) l)
         (λ t. let v = some_true n (λ v. f v == l) t in let e = eqb-true (f v.0) l v.2 in
         true_some n (λ v. merge f x y v == l) v.0 v.1 (eq-eqb (merge f x y v.0) l (miss v.0 (λ p. q (sym p ∙ e)) ∙ e)))
         (λ t. let v = some_true n (λ v. merge f x y v == l) t in let e = eqb-true (merge f x y v.0) l v.2 in

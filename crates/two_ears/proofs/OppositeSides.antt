@@ -7,10 +7,10 @@ use Rattle.barrier_kit.proofs.ClassLaw.{perfect_or_not}
 use Rattle.barrier_kit.proofs.Matched.{crosses_apart, cut_edge, loop_free}
 use Rattle.barrier_kit.specs.BarrierCuts.{IsSide}
 use Rattle.counting.proofs.Counts.{bit_true, count_congr}
-use Rattle.counting.proofs.RisingLists.{same_answers}
 use Rattle.counting.proofs.Totals.{at_le_total, some_term, total_add, total_congr, total_none}
 use Rattle.counting.specs.Counts.{Within, bit, count}
 use Rattle.counting.specs.Sets.{Set, complement, meet, none}
+use Rattle.counting.proofs.Booleans.{not_not, same_tests}
 use Rattle.graph_core.proofs.Components.{joined_outside, some_leader}
 use Rattle.graph_core.proofs.Walks.{adjacent_from, has_ends-own}
 use Rattle.graph_core.specs.Components.{is_least}
@@ -89,7 +89,7 @@ module _ (g : Graph) (is : IsGraph g) (cov : IsCovered g) (a : Set) (sides : IsS
         let u = some_term g.order (λ u. bit (is_least g s u && joined g s u p)) (omega arith) in
         let b = and_parts (is_least g s u.0) (joined g s u.0 p) (bit_true (is_least g s u.0 && joined g s u.0 p) u.2) in
         let q = joined_equivalence g s is in
-        let same : (v : ℕ) → Within g.order v → joined g s p v ≡ joined g s u.0 v = λ v wv. same_answers (joined g s p v) (joined g s u.0 v) (λ t. q.on u.0 p v u.1 wp wv b.1 t) (λ t. q.on p u.0 v wp u.1 wv (q.back u.0 p u.1 wp b.1) t) in
+        let same : (v : ℕ) → Within g.order v → joined g s p v ≡ joined g s u.0 v = λ v wv. same_tests (joined g s p v) (joined g s u.0 v) (λ t. q.on u.0 p v u.1 wp wv b.1 t) (λ t. q.on p u.0 v wp u.1 wv (q.back u.0 p u.1 wp b.1) t) in
         count_congr (size g) _ _ (λ e w. ap₂ (λ c d. m e && ((c && not d) || (not c && d))) (same (first_end g e) (is e w).0) (same (second_end g e) (is e w).1)) ∙ one_leaves g is cov g.ends (keeps-itself g is) s bar s0 w0 in0 m pm u.0 u.1 b.0
 
     abbrev is_heavy : Set
@@ -168,7 +168,7 @@ module _ (g : Graph) (is : IsGraph g) (cov : IsCovered g) (a : Set) (sides : IsS
             let eq = joined_equivalence g s is in
             let wn = (is e we).0 in
             let wf = (is e we).1 in
-            let same : (v : ℕ) → Within g.order v → joined g s (first_end g e) v ≡ joined g s (second_end g e) v = λ v wv. same_answers (joined g s (first_end g e) v) (joined g s (second_end g e) v) (λ i. eq.on (second_end g e) (first_end g e) v wf wn wv (eq.back (first_end g e) (second_end g e) wn wf j) i) (λ i. eq.on (first_end g e) (second_end g e) v wn wf wv j i) in
+            let same : (v : ℕ) → Within g.order v → joined g s (first_end g e) v ≡ joined g s (second_end g e) v = λ v wv. same_tests (joined g s (first_end g e) v) (joined g s (second_end g e) v) (λ i. eq.on (second_end g e) (first_end g e) v wf wn wv (eq.back (first_end g e) (second_end g e) wn wf j) i) (λ i. eq.on (first_end g e) (second_end g e) v wn wf wv j i) in
             let x = count_congr g.order (meet (joined g s (first_end g e)) a) (meet (joined g s (second_end g e)) a) (λ v wv. ap (λ c. c && a v) (same v wv)) in
             let y = count_congr g.order (meet (joined g s (first_end g e)) (complement a)) (meet (joined g s (second_end g e)) (complement a)) (λ v wv. ap (λ c. c && not (a v)) (same v wv)) in
             same_cross (w (first_end g e)) (w (second_end g e)) (w_out (first_end g e) p ∙ ap₂ (λ c d. c == d + 1) x y ∙ sym (w_out (second_end g e) q)) t
@@ -180,11 +180,7 @@ module _ (g : Graph) (is : IsGraph g) (cov : IsCovered g) (a : Set) (sides : IsS
             let h = by_side (a (first_end g e)) (is_heavy (first_end g e)) (λ i. r.0 (out_near (joined g s (first_end g e) (first_end g e)) (joined g s (first_end g e) (second_end g e)) (a (first_end g e)) (a (second_end g e)) k l ∙ i))
             (λ i. r.1 (out_near (joined g s (first_end g e) (first_end g e)) (joined g s (first_end g e) (second_end g e)) (not (a (first_end g e))) (not (a (second_end g e))) k l ∙ i)) in
             let o = apart_sides (a (first_end g e)) (a (second_end g e)) (sides e we d) in
-            same_cross (w (first_end g e)) (w (second_end g e)) (w_out (first_end g e) p ∙ h ∙ sym (twice (a (first_end g e))) ∙ ap not (sym o) ∙ sym (w_in (second_end g e) q)) t
-          where
-            twice : (x : Bool) → not (not x) ≡ x
-            twice true = refl
-            twice false = refl
+            same_cross (w (first_end g e)) (w (second_end g e)) (w_out (first_end g e) p ∙ h ∙ sym (not_not (a (first_end g e))) ∙ ap not (sym o) ∙ sym (w_in (second_end g e) q)) t
         go t d true false p q =
             let wf = (is e we).1 in
             let k = own (second_end g e) wf in

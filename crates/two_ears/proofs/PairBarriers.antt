@@ -21,6 +21,7 @@ use Rattle.two_ears.proofs.JoinedClasses.{adjacent_joined, class_count-component
 use Rattle.two_ears.proofs.ClassCounts.{coarser, strictly}
 use Rattle.two_ears.specs.AddedEdges.{KeepsEdges, with_pairs}
 use Rattle.counting.specs.Lists.{IsIn}
+use Rattle.counting.proofs.Booleans.{but_not}
 use Rattle.two_ears.specs.VertexPairs.{vertices_of}
 
 -- a part b of s that holds u and v, leaves as many components as it has vertices, and keeps x and y together
@@ -48,9 +49,6 @@ module _ (g : Graph) (is : IsGraph g) (cov : IsCovered g) (s : Set) (bar : IsBar
     above : (m : Set) → IsPerfect g none m → IsPerfect (with_ends g ys) none (λ e. m e && not (nat_lt (size g) e))
     above m q = record { once = λ w ww o. same w ∙ q.once w ww o; away = λ w ww o. absurd (true≢false (sym o)) }
       where
-        and_no : (a b : Bool) → b ≡ true → (a && not b) ≡ false
-        and_no a b h = grind arith
-
         and_yes : (a b : Bool) → b ≡ false → (a && not b) ≡ a
         and_yes a b h = grind arith
 
@@ -58,7 +56,7 @@ module _ (g : Graph) (is : IsGraph g) (cov : IsCovered g) (s : Set) (bar : IsBar
         same w =
             let a = degree-added g g.ends p (λ e. m e && not (nat_lt (size g) e)) w in
             let b = degree_congr g (λ e. m e && not (nat_lt (size g) e)) m w (λ e we. and_yes (m e) (nat_lt (size g) e) (le-ltb (size g) e (omega arith))) in
-            let c : bit (m (suc (size g)) && not (nat_lt (size g) (suc (size g)))) ≡ 0 = ap bit (and_no (m (suc (size g))) (nat_lt (size g) (suc (size g))) (lt-ltb (size g) (suc (size g)) (omega arith))) in
+            let c : bit (m (suc (size g)) && not (nat_lt (size g) (suc (size g)))) ≡ 0 = ap bit (but_not (m (suc (size g))) (nat_lt (size g) (suc (size g))) (lt-ltb (size g) (suc (size g)) (omega arith))) in
             let i = ap (λ k. k * (bit (p.0 == w) + bit (p.1 == w))) c in omega arith
 
     in_s : (w : ℕ) → vertices_of (u, v) w ≡ true → s w ≡ true

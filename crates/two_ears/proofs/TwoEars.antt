@@ -1,8 +1,8 @@
 -- The two-ear theorem. If no pair serves alone and no two do together, each pair lies in a class or outside it; the parts of a class that
 -- keep the pairs outside joined are united, and the union leaves too many components.
 use Rattle.std.proofs.Common.{◌≡◌, ℕ, suc, zero, ◌+◌, ◌*◌, ◌≤◌, ◌≢◌, Bool, true, false, cond, ◌==◌, refl, sym, ap, ◌∙◌, arith, ◌&&◌, ◌||◌, not, eq-eqb, ne_eqb, eqb-true, ◌⊎◌, inl, inr, subst, [], ◌∷◌, List, length}
+use Rattle.counting.proofs.Booleans.{same_tests}
 use Rattle.std.proofs.lemmas.Bool.{cases_eq, and_left, true≢false, not-true, not-false, or_left, or_right, or_cases}
-use Rattle.counting.proofs.RisingLists.{same_answers}
 use Rattle.counting.proofs.Totals.{total_add, total_at, total_congr, total_zero}
 use Rattle.counting.specs.Counts.{Within, bit, count, total}
 use Rattle.counting.specs.Sets.{Set, union}
@@ -133,7 +133,7 @@ module _ (g : Graph) (is : IsGraph g) (cov : IsCovered g) (p0 : ℕ × ℕ) (res
   follows p i =
       let w = dis.within p i in
       let e : Equivalent g p.0 p.1 = inr (λ k. alone p i k.0 k.1) in
-      same_answers (s p.0) (s p.1)
+      same_tests (s p.0) (s p.1)
       (λ t. in_s p.1 w.1 (equivalent_on g p0.0 p.0 p.1 is cov w0 w.0 w.1 (of_s p.0 w.0 t) e))
       (λ t. in_s p.0 w.0 (equivalent_on g p0.0 p.1 p.0 is cov w0 w.1 w.0 (of_s p.1 w.1 t) (equivalent_back g p.0 p.1 e)))
 

@@ -6,15 +6,11 @@ use Rattle.std.proofs.lemmas.Option.{get_or_from_slice_get}
 use Rattle.counting.proofs.RisingLists.{list-from_test, set-narrower}
 use Rattle.counting.specs.Counts.{Within}
 use Rattle.counting.specs.Lists.{IsRisingIn, is_subset, last_of, mem, rising_list}
+use Rattle.counting.proofs.Booleans.{and_true}
 use Rattle.tree_core.specs.Moves.{inner_rest, list_if, meet_list, outer_rest, union_list}
 use Rattle.uncross.specs.declared.block_images.Images.{Images}
 use Rattle.uncross.specs.declared.block_images.Images.TheVariants.{Moved}
 use Rattle.uncross.specs.MapView.{image_name, kept_images}
-
--- true beside a test changes nothing
-and_true : (b : Bool) → (b && true) ≡ b
-and_true true = refl
-and_true false = refl
 
 -- what a set shares with 1 to n
 pub part-is : (n : ℕ) (x full part : List ℕ) → ((v : ℕ) → (mem full v ≡ true) ↔ Within n v) → IsRisingIn 128 part → ((v : ℕ) → mem part v ≡ (mem x v && mem full v)) → part ≡ rising_list n (mem x)

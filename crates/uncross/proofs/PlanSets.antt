@@ -1,8 +1,9 @@
 -- The sets of a plan as lists: corners, complements, and equal shores.
 use Rattle.std.proofs.Common.{◌≡◌, ◌↔◌, ℕ, true, ◌&&◌, ◌||◌, not, List, sym, ap₂, ◌∙◌}
+use Rattle.counting.proofs.Booleans.{same_tests}
 use Rattle.std.proofs.lemmas.Bool.{and_parts}
 use Rattle.counting.proofs.Lists.{mem-within}
-use Rattle.counting.proofs.RisingLists.{all_in_true, list-from_test, same_answers, same_rising_list, set-narrower}
+use Rattle.counting.proofs.RisingLists.{all_in_true, list-from_test, same_rising_list, set-narrower}
 use Rattle.counting.specs.Counts.{Within}
 use Rattle.counting.specs.Lists.{IsRisingIn, is_subset, mem}
 use Rattle.counting.specs.Sets.{complement, meet, union}
@@ -20,4 +21,4 @@ outer-is n x y full u r whole both rr tells =
 
 -- two shores, each inside the other
 pub same-shores : (n : ℕ) (x y : List ℕ) → IsRisingIn n x → IsRisingIn n y → is_subset y x ≡ true → is_subset x y ≡ true → x ≡ y
-same-shores n x y rx ry h k = same_rising_list n x y rx ry (λ v w. same_answers (mem x v) (mem y v) (all_in_true x (mem y) k v) (all_in_true y (mem x) h v))
+same-shores n x y rx ry h k = same_rising_list n x y rx ry (λ v w. same_tests (mem x v) (mem y v) (all_in_true x (mem y) k v) (all_in_true y (mem x) h v))

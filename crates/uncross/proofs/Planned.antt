@@ -1,6 +1,7 @@
 -- The plan for exposing a shore is carried out: what is exposed first in the two trees is a cut there, and then the root is the shore.
 use Rattle.std.proofs.Common.{◌≡◌, ℕ, ◌≤◌, ◌<◌, Bool, true, false, not, ◌&&◌, List, [], ◌∷◌, ◌++◌, map, Option, Some, None, ◌⊎◌, inl, inr, if◌then◌else◌, nat_lt, refl, sym, ap, ap₂, ◌∙◌, arith, subst}
 use Rattle.std.proofs.lemmas.Bool.Decides.{nat_tests}
+use Rattle.std.proofs.lemmas.Bool.{not-true}
 use Rattle.counting.specs.Counts.{Within}
 use Rattle.counting.specs.Lists.{is_apart, is_subset, mem}
 use Rattle.counting.specs.Sets.{everything, minus}
@@ -35,22 +36,19 @@ module _ (g : Graph) (p : List (List ℕ)) (st : Stage g p) (x y : List ℕ) (bx
   greatest : Within g.order g.order
   greatest = let z = big_some g p st x bx in let w = z.1 in (omega arith, omega arith)
 
-  negated : (b : Bool) → not b ≡ true → b ≡ false
-  negated b h = grind arith
-
   -- y inside x is a cut in `kept`
   pub cut_in_kept : is_subset y x ≡ true → is_subset x y ≡ false → IsCutAt g (kept_at g.order p x) y
   cut_in_kept h k =
       let rx = big_rest g p st x bx in
       let o = false_all_in x (mem y) k in let wo = bounds bx.shore o.0 o.1 in
       big_cut g (kept_at g.order p x) (stage_merged g p st (complement_of g.order x) rx) y
-      (stays_big g p st (complement_of g.order x) y rx by (λ w ww m. out (mem x w) (mem y w) (all_in_true y (mem x) h w) (negated (mem x w) (sym (mem-complement_of g.order x w ww) ∙ m))) (o.0, wo, mem-complement_of g.order x o.0 wo ∙ ap not o.1, o.2)) ny
+      (stays_big g p st (complement_of g.order x) y rx by (λ w ww m. out (mem x w) (mem y w) (all_in_true y (mem x) h w) (not-true (mem x w) (sym (mem-complement_of g.order x w ww) ∙ m))) (o.0, wo, mem-complement_of g.order x o.0 wo ∙ ap not o.1, o.2)) ny
     where
       out : (a b : Bool) → (b ≡ true → a ≡ true) → a ≡ false → b ≡ false
       out a b h k = grind arith
 
   apart_says : is_apart x y ≡ true → Apart g.order (mem x) (mem y)
-  apart_says h w ww m = negated (mem y w) (all_in_true x (minus everything (mem y)) h w m)
+  apart_says h w ww m = not-true (mem y w) (all_in_true x (minus everything (mem y)) h w m)
 
   -- x inside y, or the two apart: y is a cut in `merged`
   pub cut_in_merged : is_subset y x ≡ false → (is_subset x y ≡ true) ⊎ (is_apart x y ≡ true) → IsCutAt g (merged_at g.order p x) y

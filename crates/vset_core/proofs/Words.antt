@@ -12,6 +12,7 @@ use Rattle.std.proofs.lemmas.Nat.Bits.{bit_at-lt, bit_at_and, bit_at_or, bit_at_
 use Rattle.std.proofs.lemmas.Nat.{or_lt, one_shl, and_le_l}
 use Rattle.counting.specs.Lists.{is_subset, mem}
 use Rattle.counting.proofs.RisingLists.{all_in_false, false_all_in, no_members, same_rising_list, set-one}
+use Rattle.counting.proofs.Booleans.{and_false}
 use Rattle.vset_core.specs.Words.{in_word, members, word_of_list}
 use Rattle.vset_core.specs.WordLaws.{word_of_list-members, in_word_above, mem-members, members-rise}
 
@@ -45,10 +46,6 @@ in_word-or a b (suc i) = ap (λ k. k == 1) (bit_at_or a b i) ∙ bit_or_test (bi
 pub in_word-and : (a b v : ℕ) → in_word (bit_and a b) v ≡ (in_word a v && in_word b v)
 in_word-and a b zero = refl
 in_word-and a b (suc i) = ap (λ k. k == 1) (bit_at_and a b i) ∙ bit_and_test (bit_at a i) (bit_at b i) (bit_at-lt a i) (bit_at-lt b i)
-
-and_no : (b : Bool) → (b && false) ≡ false
-and_no true = refl
-and_no false = refl
 
 -- the difference's bits
 pub in_word-minus : (a b v : ℕ) → a < 2 ^ 128 → b < 2 ^ 128 → in_word (bit_and a (bit_not w128 b)) v ≡ (in_word a v && not (in_word b v))

@@ -4,6 +4,7 @@ use Rattle.std.proofs.Common.{◌≡◌, ℕ, Bool, true, false, ◌&&◌, ◌||
 use Rattle.std.proofs.lemmas.Bool.{true≢false}
 use Rattle.counting.specs.Counts.{Within}
 use Rattle.counting.specs.Sets.{Set}
+use Rattle.counting.proofs.Booleans.{and_comm}
 use Rattle.graph_core.specs.Graph.{Graph, HasEnds, IsGraph, first_end, in_cut, inside, second_end, size}
 
 -- an edge of the cut has one end in x and the other outside
@@ -33,14 +34,8 @@ same_side g x e u v ends h = elim ends [
 pub ends_inside : (g : Graph) (x : Set) (e u v : ℕ) → HasEnds g e u v → inside g x e ≡ (x u && x v)
 ends_inside g x e u v ends = elim ends [
   | inl p ↦ ap₂ (λ a b. x a && x b) p.0 p.1
-  | inr p ↦ ap₂ (λ a b. x a && x b) p.0 p.1 ∙ turn (x v) (x u)
+  | inr p ↦ ap₂ (λ a b. x a && x b) p.0 p.1 ∙ and_comm (x v) (x u)
 ]
-  where
-    turn : (a b : Bool) → (a && b) ≡ (b && a)
-    turn true true = refl
-    turn true false = refl
-    turn false true = refl
-    turn false false = refl
 
 -- the ends of an edge are vertices of the graph
 pub ends_within : (g : Graph) → IsGraph g → (e u v : ℕ) → Within (size g) e → HasEnds g e u v → Within g.order u × Within g.order v

@@ -7,6 +7,7 @@ use Rattle.counting.proofs.Choice.{total_put}
 use Rattle.counting.proofs.Totals.{total_add, total_congr, total_le, total_mul, total_none, total_tight}
 use Rattle.counting.specs.Counts.{Within, bit, count, total}
 use Rattle.counting.specs.Sets.{Set, put}
+use Rattle.counting.proofs.Booleans.{bit_times_le}
 use Rattle.graph_core.specs.Graph.{Graph, size}
 use Rattle.weight_kit.specs.Weights.{sum_over, weight_of}
 
@@ -55,11 +56,7 @@ pub weight_congr : (g : Graph) (w : ℕ → ℕ) (m k : Set) → ((e : ℕ) → 
 weight_congr g w m k h = total_congr (size g) _ _ (λ e i. ap (λ b. bit b * w e) (h e i))
 
 pub weight_most : (g : Graph) (w : ℕ → ℕ) (m : Set) → weight_of g w m ≤ total (size g) w
-weight_most g w m = total_le (size g) (λ e. bit (m e) * w e) w (λ e i. few (m e) (w e))
-  where
-    few : (b : Bool) (k : ℕ) → bit b * k ≤ k
-    few true k = omega arith
-    few false k = omega arith
+weight_most g w m = total_le (size g) (λ e. bit (m e) * w e) w (λ e i. bit_times_le (m e) (w e))
 
 pub weight_put : (g : Graph) (w : ℕ → ℕ) (m : Set) (e : ℕ) → Within (size g) e → m e ≡ false → weight_of g w (put m e true) ≡ weight_of g w m + w e
 weight_put g w m e i h = settle (weight_of g w (put m e true)) (weight_of g w m) (m e) (w e) h (total_put (size g) m e true w i)

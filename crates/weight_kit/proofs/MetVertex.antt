@@ -2,7 +2,7 @@
 -- The cover's value rises by one. The heaviest weight does too: else a matching that is heaviest for the lowered weight would be
 -- heaviest for the weight, and have an edge at the vertex where the two differ.
 use Rattle.std.proofs.Common.{◌≡◌, ℕ, ◌+◌, ◌/◌, ◌≤◌, ◌<◌, Bool, true, false, ◌==◌, ◌&&◌, ◌||◌, sym, arith, nat_lt, inl, inr, eq-eqb}
-use Rattle.std.proofs.lemmas.Bool.{cases_lt}
+use Rattle.std.proofs.lemmas.Bool.{cases_lt, or_left, or_right}
 use Rattle.counting.proofs.SetSizes.{count_singleton}
 use Rattle.counting.proofs.Totals.{total_add}
 use Rattle.counting.specs.Counts.{Within, bit, count, total}
@@ -29,17 +29,11 @@ met_edge g w u met m best =
       r.1,
       p.0,
       elim r.3.1 [
-        | inl k ↦ at_first (u == first_end g r.0) (u == second_end g r.0) (eq-eqb u (first_end g r.0) (sym k.0))
-        | inr k ↦ at_second (u == first_end g r.0) (u == second_end g r.0) (eq-eqb u (second_end g r.0) (sym k.1))
+        | inl k ↦ or_left (u == first_end g r.0) (u == second_end g r.0) (eq-eqb u (first_end g r.0) (sym k.0))
+        | inr k ↦ or_right (u == first_end g r.0) (u == second_end g r.0) (eq-eqb u (second_end g r.0) (sym k.1))
       ],
       p.1,
     )
-  where
-    at_first : (a b : Bool) → a ≡ true → (a || b) ≡ true
-    at_first a b h = grind arith
-
-    at_second : (a b : Bool) → b ≡ true → (a || b) ≡ true
-    at_second a b h = grind arith
 
 module _ (g : Graph) (w : ℕ → ℕ) (u : ℕ) (is : IsGraph g) (wu : Within g.order u) (met : (m : Set) → IsHeaviest g w m → 0 < degree g m u) (d : Dual g (lowered w (is_at g u))) where
   -- one more at u

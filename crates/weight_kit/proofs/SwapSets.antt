@@ -1,7 +1,7 @@
 -- A set that no edge of two matchings leaves, grown vertex by vertex.
 -- Each vertex that comes brings at least one edge inside.
 use Rattle.std.proofs.Common.{◌≡◌, ℕ, suc, zero, ◌+◌, ◌≤◌, ◌<◌, Bool, true, false, ◌==◌, ◌&&◌, ◌||◌, refl, sym, ap, ◌∙◌, arith, inl, inr, eqb-true, eq-eqb}
-use Rattle.std.proofs.lemmas.Bool.{and_from, and_parts, cases_Bool, or_cases}
+use Rattle.std.proofs.lemmas.Bool.{and_from, and_parts, cases_Bool, or_cases, or_left}
 use Rattle.counting.proofs.Counts.{count_le, count_more}
 use Rattle.counting.proofs.Members.{count_plus}
 use Rattle.counting.proofs.SetSizes.{count_mono, count_singleton}
@@ -64,10 +64,10 @@ module _ (g : Graph) (k m n : Set) (t : ℕ) (is : IsGraph g) (ms : (e : ℕ) �
         let um = held_more g m d q.1 in
         let un = held_more g n d q.1 in
         elim (or_cases (m r.0) (n r.0) b.0) [
-          | inl me ↦ grow fuel (union d (singleton q.1)) (λ v h. in_k d inside_k q.1 (sym (same_side g k r.0 q.0 q.1 q.2 (ms r.0 r.1 me)) ∙ inside_k q.0 q.3) v h) (in_first (d t) (q.1 == t) holds)
+          | inl me ↦ grow fuel (union d (singleton q.1)) (λ v h. in_k d inside_k q.1 (sym (same_side g k r.0 q.0 q.1 q.2 (ms r.0 r.1 me)) ∙ inside_k q.0 q.3) v h) (or_left (d t) (q.1 == t) holds)
               (let a = held_new g m d q.1 r.0 q.0 r.1 me q.2 q.3 q.4 in more (count g.order d) (count g.order (union d (singleton q.1))) (held g m d) (held g n d) (held g m (union d (singleton q.1))) (held g n (union d (singleton q.1))) plus many (omega arith))
               (less g.order (count g.order d) (count g.order (union d (singleton q.1))) fuel plus l)
-          | inr ne ↦ grow fuel (union d (singleton q.1)) (λ v h. in_k d inside_k q.1 (sym (same_side g k r.0 q.0 q.1 q.2 (ns r.0 r.1 ne)) ∙ inside_k q.0 q.3) v h) (in_first (d t) (q.1 == t) holds)
+          | inr ne ↦ grow fuel (union d (singleton q.1)) (λ v h. in_k d inside_k q.1 (sym (same_side g k r.0 q.0 q.1 q.2 (ns r.0 r.1 ne)) ∙ inside_k q.0 q.3) v h) (or_left (d t) (q.1 == t) holds)
               (let a = held_new g n d q.1 r.0 q.0 r.1 ne q.2 q.3 q.4 in more (count g.order d) (count g.order (union d (singleton q.1))) (held g m d) (held g n d) (held g m (union d (singleton q.1))) (held g n (union d (singleton q.1))) plus many (omega arith))
               (less g.order (count g.order d) (count g.order (union d (singleton q.1))) fuel plus l)
         ]
@@ -78,9 +78,6 @@ module _ (g : Graph) (k m n : Set) (t : ℕ) (is : IsGraph g) (ms : (e : ℕ) �
 
       second : (a b c : Bool) → ((a || b) && c) ≡ false → b ≡ true → c ≡ false
       second a b c h i = grind arith
-
-      in_first : (a b : Bool) → a ≡ true → (a || b) ≡ true
-      in_first a b h = grind arith
 
       in_k : (d : Set) → ((v : ℕ) → d v ≡ true → k v ≡ true) → (z : ℕ) → k z ≡ true → (v : ℕ) → (d v || (z == v)) ≡ true → k v ≡ true
       in_k d h z kz v o = elim (or_cases (d v) (z == v) o) [

@@ -1,7 +1,7 @@
 -- Two matchings exchanged inside a set that no edge of either leaves.
 -- The set has nearly as many edges inside as vertices, so that the matching that misses one of its vertices has no more edges there.
 use Rattle.std.proofs.Common.{◌≡◌, ℕ, suc, zero, ◌+◌, ◌*◌, ◌≤◌, ◌≢◌, Bool, true, false, cond, ◌==◌, ◌&&◌, ◌||◌, not, ◌⊎◌, refl, sym, ap, ap₂, ◌∙◌, arith, inl, inr, add_comm, eqb-true, eq-eqb}
-use Rattle.std.proofs.lemmas.Bool.{and_from, and_parts, cases_Bool, true≢false}
+use Rattle.std.proofs.lemmas.Bool.{and_from, and_parts, cases_Bool, true≢false, and_left, and_right}
 use Rattle.counting.proofs.Counts.{count_congr}
 use Rattle.counting.proofs.Members.{member_count, two_members}
 use Rattle.counting.proofs.Totals.{total_add, total_congr, total_none}
@@ -127,19 +127,13 @@ swapped_degree g c m n v ms ns = go (c v) refl
     out true a b true h = absurd (true≢false (h refl))
     out true a b false h = none_of b a
 
-    left : (p q : Bool) → p ≡ false → (p && q) ≡ false
-    left p q h = grind arith
-
-    right : (p q : Bool) → q ≡ false → (p && q) ≡ false
-    right p q h = grind arith
-
     go : (b : Bool) → c v ≡ b → degree g (swapped g c m n) v ≡ cond b (degree g n v) (degree g m v)
     go true h = ap₂ ◌+◌
         (count_congr (size g) _ _ (λ e w. first_in (c (first_end g e)) (c (second_end g e)) (m e) (n e) (first_end g e == v) (λ t. ap c (eqb-true (first_end g e) v t) ∙ h) (ms e w) (ns e w)))
         (count_congr (size g) _ _ (λ e w. second_in (c (first_end g e)) (c (second_end g e)) (m e) (n e) (second_end g e == v) (λ t. ap c (eqb-true (second_end g e) v t) ∙ h) (ms e w) (ns e w)))
     go false h = ap₂ ◌+◌
-        (count_congr (size g) _ _ (λ e w. out (inside g c e) (m e) (n e) (first_end g e == v) (λ t. left (c (first_end g e)) (c (second_end g e)) (ap c (eqb-true (first_end g e) v t) ∙ h))))
-        (count_congr (size g) _ _ (λ e w. out (inside g c e) (m e) (n e) (second_end g e == v) (λ t. right (c (first_end g e)) (c (second_end g e)) (ap c (eqb-true (second_end g e) v t) ∙ h))))
+        (count_congr (size g) _ _ (λ e w. out (inside g c e) (m e) (n e) (first_end g e == v) (λ t. and_left (c (first_end g e)) (c (second_end g e)) (ap c (eqb-true (first_end g e) v t) ∙ h))))
+        (count_congr (size g) _ _ (λ e w. out (inside g c e) (m e) (n e) (second_end g e == v) (λ t. and_right (c (first_end g e)) (c (second_end g e)) (ap c (eqb-true (second_end g e) v t) ∙ h))))
 
 pub swapped_matching : (g : Graph) (c m n : Set) → IsMatching g none m → IsMatching g none n → ((e : ℕ) → Within (size g) e → m e ≡ true → in_cut g c e ≡ false) →
     ((e : ℕ) → Within (size g) e → n e ≡ true → in_cut g c e ≡ false) → IsMatching g none (swapped g c m n)

@@ -1,4 +1,5 @@
 use Rattle.std.proofs.Common.{◌≡◌, ℕ, Bool, true, false, ◌||◌, ◌==◌, refl, sym, ap, ◌∙◌, take}
+use Rattle.counting.proofs.Booleans.{or_assoc}
 use Rattle.std.specs.List.{list_any}
 use Rattle.match_core.specs.Rows.{marks}
 use Rattle.match_core.specs.declared.matching.MatchRow.{MatchRow}
@@ -6,10 +7,6 @@ use Rattle.match_core.proofs.GrownRows.{with_put}
 use Rattle.contraction.specs.LeastEdges.{least_at}
 use Rattle.contraction.proofs.LeastEdges.{any-more}
 use Rattle.contraction.proofs.lifting.mark_least.Goals as goal
-
-assoc : (a b d : Bool) → ((a || b) || d) ≡ (a || (b || d))
-assoc true b d = refl
-assoc false b d = refl
 
 pub loop-i-preserved : goal.loop-i-preserved
 loop-i-preserved c =
@@ -21,7 +18,7 @@ loop-i-preserved c =
       each = λ e.
           let passes = λ (row : MatchRow). least_at c.args.q.now row.edge == e in
           c.mark_place.ensures.each e ∙ sym (with_put (marks c.loop-i.mark.items) least e) ∙ ap (λ b. b || (least == e)) (c.loop-i.invariant.each e)
-          ∙ assoc (marks c.args.mark.now.items e) (list_any passes (take i rows)) (least == e)
+          ∙ or_assoc (marks c.args.mark.now.items e) (list_any passes (take i rows)) (least == e)
           ∙ ap (λ (f : ℕ). marks c.args.mark.now.items e || (list_any passes (take i rows) || (f == e))) c.least-least.ensures.value
           ∙ ap (λ b. marks c.args.mark.now.items e || b) (sym (any-more passes rows i c.row-row.result c.row-row.ensures));
     }

@@ -2,6 +2,7 @@ use Rattle.std.proofs.Common.{◌≡◌, ℕ, length, true, false, ◌==◌, ◌
 use Rattle.std.proofs.lemmas.Bool.{both_ways, false_from_ne_true}
 use Rattle.counting.specs.Counts.{Within}
 use Rattle.counting.specs.Lists.{mem}
+use Rattle.counting.proofs.Booleans.{or_false}
 use Rattle.graph_core.specs.Graph.{Graph}
 use Rattle.graph_core.specs.FoundVertices.{IsGrowth}
 use Rattle.graph_core.specs.Nodes.{parent_at, depth_at}
@@ -10,10 +11,6 @@ use Rattle.graph_core.proofs.OneVertexLess.{count_lost, count_gained}
 use Rattle.graph_core.proofs.FoundVertices.{growth_start, growth_step, growth_drop, growth_end}
 use Rattle.graph_core.proofs.Rows.{none_left, one_left}
 use Rattle.graph_core.proofs.search.grow.Goals as goal
-
-or_false : (b : Bool) → (b || false) ≡ b
-or_false true = refl
-or_false false = refl
 
 -- a vertex that is open, or that is left, is a vertex of the graph
 open_within : (n r : ℕ) (x left open_set : List ℕ) (g : Graph) (parent depth : ℕ → ℕ) → ((v : ℕ) → mem x v ≡ true → Within n v) → IsGrowth g (mem x) r (mem left) (mem open_set) parent depth → (v : ℕ) → mem open_set v ≡ true → Within n v

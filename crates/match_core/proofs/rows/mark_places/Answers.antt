@@ -1,13 +1,10 @@
 use Rattle.std.proofs.Common.{◌≡◌, Bool, true, false, ◌||◌, ◌==◌, sym, ap, ◌∙◌, refl, get_or, take}
 use Rattle.counting.specs.Lists.{mem}
+use Rattle.counting.proofs.Booleans.{or_assoc}
 use Rattle.match_core.specs.Rows.{marks}
 use Rattle.match_core.proofs.GrownRows.{with_put}
 use Rattle.match_core.proofs.Gluing.{mem-more}
 use Rattle.match_core.proofs.rows.mark_places.Goals as goal
-
-or_assoc : (a b d : Bool) → ((a || b) || d) ≡ (a || (b || d))
-or_assoc true b d = refl
-or_assoc false b d = refl
 
 pub loop-place-preserved : goal.loop-place-preserved
 loop-place-preserved c = record {
