@@ -1,18 +1,17 @@
 -- Two right analyses of a multigraph have one text, but for the Berge set: each line but that of the verdict tells a value that the graph
 -- determines. A rising list is determined by its members, the number of edges of a maximum matching by there being none with more, and
 -- the kind by the sides and the first candidate.
-use Rattle.std.proofs.Common.{◌≡◌, ◌∙◌, ◌↔◌, ℕ, ◌+◌, ◌*◌, ◌≤◌, List, [], ◌++◌, Bool, true, false, Option, Some, None, ◌⊎◌, inl, inr, refl, sym, ap, arith}
+use Rattle.std.proofs.Common.{◌≡◌, ◌∙◌, ◌↔◌, ℕ, List, ◌++◌, Bool, Option, Some, None, inl, refl, sym, ap, arith}
 use Rattle.counting.proofs.Booleans.{same_tests}
 use Rattle.std.specs.Prelude.{codes, IsTrue}
 use Rattle.std.specs.Option.{option_map}
 use Rattle.std.proofs.lemmas.Option.{none-some, same_Some}
-use Rattle.counting.specs.Counts.{Within, count}
 use Rattle.counting.specs.Lists.{Lists, mem}
 use Rattle.counting.specs.Sets.{none}
 use Rattle.counting.proofs.RisingLists.{same_rising_list}
 use Rattle.graph_core.specs.Graph.{Graph, IsBipartite, IsMultigraph, size}
 use Rattle.graph_core.specs.GallaiEdmonds.{InA, InC, InD}
-use Rattle.graph_core.specs.Matchings.{Allowed, missed_count}
+use Rattle.graph_core.specs.Matchings.{Allowed}
 use Rattle.graph_core.specs.Verdicts.{IsVerdict, reason_of}
 use Rattle.graph_core.specs.View.{pair_of}
 use Rattle.graph_core.specs.declared.ends.Ends.{Ends}

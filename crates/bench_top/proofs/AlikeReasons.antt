@@ -1,5 +1,5 @@
 -- Two reasons why a graph is not covered are told by one line, but for the Berge set.
-use Rattle.std.proofs.Common.{◌≡◌, ◌∙◌, ℕ, List, [], ◌++◌, inl, refl, ap, subst}
+use Rattle.std.proofs.Common.{◌≡◌, ℕ, List, ◌++◌, inl, refl, ap, subst}
 use Rattle.std.specs.Prelude.{codes}
 use Rattle.graph_core.specs.Covered.{IsReason}
 use Rattle.graph_core.specs.Graph.{Graph}

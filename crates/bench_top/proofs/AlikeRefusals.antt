@@ -1,6 +1,6 @@
 -- Two refusals of one task have one text, but for the list of numbers that they show: the first node that breaks a rule is one, and so is
 -- the rule, and the first step or move that fails.
-use Rattle.std.proofs.Common.{◌≡◌, ◌∙◌, ℕ, List, [], ◌++◌, ◌⊎◌, inl, inr, refl, sym, ap, ap₂, subst, arith}
+use Rattle.std.proofs.Common.{◌≡◌, ◌∙◌, ℕ, List, ◌++◌, inl, inr, refl, sym, ap, ap₂, subst, arith}
 use Rattle.std.specs.Prelude.{codes}
 use Rattle.counting.specs.Sets.{singleton}
 use Rattle.graph_core.specs.Graph.{Graph, IsGraph}
@@ -19,7 +19,6 @@ use Rattle.report_text.specs.Judgements.{ear_judgement_text, judgement_text, num
 use Rattle.report_text.specs.Reports.{numbers_text}
 use Rattle.report_text.specs.Scripts.{refused_move_text, stuck_text}
 use Rattle.report_text.specs.declared.ear_judgements.EarLine.TheVariants as ear_line
-use Rattle.report_text.specs.declared.judgements.TreeLine.TheVariants as line
 use Rattle.bench_top.specs.Checks.{CheckGives, RefusedTree, Refuses, shown_of}
 use Rattle.bench_top.specs.Comparisons.{CompareGives, RefusesPair, ScriptGives}
 use Rattle.bench_top.specs.EarChecks.{EarCheckGives, EarsGives, RefusedEars, named_edge}
@@ -30,7 +29,6 @@ use Rattle.bench_top.specs.Outcome.{DecomposeGives, ResultOf}
 use Rattle.bench_top.specs.Replays.{MovesGive, RefusedMove, ReplayGives, StuckMove}
 use Rattle.bench_top.specs.Tasks.{Task}
 use Rattle.bench_top.specs.Tasks as task
-use Rattle.bench_top.specs.Uncovered.{Uncovered}
 use Rattle.bench_top.specs.declared.status.Status.TheVariants.{Negative}
 use Rattle.graph_text.specs.EitherVersion.{NamedGraph}
 use Rattle.tight_cuts.specs.Candidates.{Candidate}

@@ -1,8 +1,7 @@
 -- What is read of a file that is held and within the limit of bytes is what its text is read as.
 -- Each lemma looks the file up, leaves the test of its length behind, and computes.
-use Rattle.std.proofs.Common.{◌≡◌, ℕ, ◌≤◌, List, length, Ok, Err, Result, false, ap, ◌∙◌, arith, Some, Option, Bool, cond, nat_lt}
+use Rattle.std.proofs.Common.{◌≡◌, ℕ, ◌≤◌, List, length, Ok, Result, false, ap, ◌∙◌, arith, Some, Option, Bool, cond, nat_lt}
 use Rattle.std.proofs.lemmas.Bool.Decides.{nat_tests}
-use Rattle.graph_core.specs.Kinds.{kind_number}
 use Rattle.graph_core.specs.declared.faults.FaultKind.{FaultKind}
 use Rattle.bench_top.specs.Loading.{Loaded, All, Bad, file_read, from_reading}
 

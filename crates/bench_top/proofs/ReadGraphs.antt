@@ -1,6 +1,6 @@
 -- The graph that a text stands for is a multigraph within the limits: the ends of each edge are vertices, and differ. What has been read
 -- so far keeps this from line to line, and has no more names than vertices, so that the vertex of a name is one of the graph.
-use Rattle.std.proofs.Common.{◌≡◌, ◌≢◌, ◌∙◌, ℕ, zero, suc, ◌+◌, ◌-◌, ◌<◌, ◌≤◌, ◌==◌, ◌&&◌, ◌||◌, not, nat_lt, Bool, true, false, cond, if◌then◌else◌, List, [], ◌∷◌, ◌++◌, length, Option, Some, None, Result, Ok, Err, refl, sym, subst, arith, length-append}
+use Rattle.std.proofs.Common.{◌≡◌, ◌≢◌, ◌∙◌, ℕ, zero, suc, ◌+◌, ◌-◌, ◌<◌, ◌≤◌, ◌==◌, ◌&&◌, ◌||◌, not, nat_lt, Bool, true, false, cond, List, [], ◌∷◌, ◌++◌, length, Option, Some, None, Result, Ok, Err, refl, sym, arith, length-append}
 use Rattle.std.specs.Prelude.{codes, slice_index_or}
 use Rattle.std.specs.List.{AllByRecursion, list_any, position_or_len}
 use Rattle.std.specs.Result.{result_map_both}
@@ -10,7 +10,6 @@ use Rattle.std.proofs.lemmas.Bool.Decides.{nat_tests}
 use Rattle.std.proofs.lemmas.Slice.Eq.{bytes_eq-Decides}
 use Rattle.counting.specs.Counts.{Within}
 use Rattle.graph_core.specs.Graph.{Graph, HasNoLoop, IsGraph, IsMultigraph, size}
-use Rattle.graph_core.specs.declared.faults.FaultKind.{FaultKind}
 use Rattle.graph_core.specs.declared.faults.FaultKind.TheVariants as kind
 use Rattle.line_text.specs.Format.{checked, finish, step}
 use Rattle.line_text.specs.Numerals.{is_number, value_of}
@@ -19,7 +18,7 @@ use Rattle.line_text.specs.Words.{SignificantLine, has_form, significant_lines_o
 use Rattle.line_text.specs.Lines.{lines_of}
 use Rattle.text_faults.specs.Ranges.{is_out_of_range}
 use Rattle.text_faults.proofs.InRange.{in_range}
-use Rattle.graph_text.specs.EitherVersion.{EitherSoFar, NamedGraph, either_header, either_version, end_behind, is_named_header, is_over, is_plain_header, line_behind, named_edge_line, named_line, vertex_line}
+use Rattle.graph_text.specs.EitherVersion.{EitherSoFar, NamedGraph, either_header, either_version, end_behind, is_named_header, is_over, is_plain_header, line_behind, named_edge_line, vertex_line}
 use Rattle.graph_text.specs.GraphLines.{GraphSoFar, edge_line, graph_end, graph_line}
 use Rattle.graph_text.specs.Names.{is_among, is_name, vertex_of}
 

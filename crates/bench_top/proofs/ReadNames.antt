@@ -1,8 +1,8 @@
 -- Reads in turn, put together: one read more behind those that were made, and a stop at it. A stop names its file by a number, and the
 -- names up to it stay the same where further names stand behind.
-use Rattle.std.proofs.Common.{◌≡◌, ◌∙◌, ℕ, ◌+◌, ◌≤◌, List, [], ◌∷◌, ◌++◌, length, take, refl, sym, subst, ap, arith, length-append}
+use Rattle.std.proofs.Common.{◌≡◌, ℕ, ◌+◌, ◌≤◌, List, [], ◌∷◌, ◌++◌, length, take, refl, sym, subst, arith, length-append}
 use Rattle.std.proofs.lemmas.List.{take-append-le, take_all}
-use Rattle.outside.specs.Shelf.{ReadsInTurn, ReadsFirst}
+use Rattle.outside.specs.Shelf.{ReadsInTurn}
 use Rattle.bench_top.specs.Reads.{ReadsUntil, StopsAt}
 use Rattle.bench_top.specs.declared.stop.Stop.{Stop}
 use Rattle.bench_top.specs.declared.stop.Stop.TheVariants.{ReadFault, Bad, Memory}

@@ -1,11 +1,11 @@
 -- What a task gives is settled by whether it succeeds: it is done where it succeeds, and refused where not. A refused tree is no
 -- derivation, a refused list no ear list, and moves that fail lead through no derivations to a last tree.
-use Rattle.std.proofs.Common.{◌≡◌, ◌∙◌, ℕ, List, [], ◌∷◌, Option, Some, None, ◌⊎◌, inl, inr, refl, sym, subst}
+use Rattle.std.proofs.Common.{◌≡◌, ◌∙◌, ℕ, List, [], ◌∷◌, ◌⊎◌, inl, inr, sym, subst}
 use Rattle.std.proofs.lemmas.Option.{none-some, same_Some}
 use Rattle.graph_core.specs.Graph.{Graph, IsGraph, IsMultigraph}
 use Rattle.counting.specs.Sets.{singleton}
 use Rattle.tree_core.specs.Derivations.{IsDerivation}
-use Rattle.tree_core.specs.Moves.{PlainMove, TurnsThrough, move_result}
+use Rattle.tree_core.specs.Moves.{PlainMove, TurnsThrough}
 use Rattle.tree_core.specs.Shapes.{Shape}
 use Rattle.tree_check.specs.Refusals.{Why, IsRefused}
 use Rattle.tree_check.specs.Replays.{IsStuckAt, IsRefusedMoveAt}
@@ -18,7 +18,6 @@ use Rattle.bench_top.specs.Outcome.{DecomposeGives, ResultOf}
 use Rattle.bench_top.specs.Success.{Succeeds}
 use Rattle.bench_top.specs.Tasks.{Task}
 use Rattle.bench_top.specs.Tasks as task
-use Rattle.bench_top.specs.Uncovered.{Uncovered}
 use Rattle.tight_cuts.specs.Candidates.{Candidate}
 use Rattle.graph_core.specs.Covered.{IsCovered}
 use Rattle.bench_top.specs.declared.status.Status.{Status}

@@ -1,6 +1,6 @@
 -- The reports of `ears`, `replay` and `grow` are texts with comments behind them, and so they stand for what the texts stand for: an ear
 -- list, a derivation, a graph. The limits of the graph make all numbers of the comments small.
-use Rattle.std.proofs.Common.{◌≡◌, ◌∙◌, ℕ, suc, ◌+◌, ◌-◌, ◌*◌, ◌<◌, ◌≤◌, ◌^◌, List, [], ◌∷◌, ◌++◌, length, map, true, Option, Some, None, refl, sym, subst, ap, arith, append_assoc, count_by, not}
+use Rattle.std.proofs.Common.{◌≡◌, ℕ, ◌<◌, ◌≤◌, ◌^◌, List, [], ◌∷◌, ◌++◌, length, map, true, None, refl, ap, arith, append_assoc, not}
 use Rattle.std.specs.Prelude.{codes}
 use Rattle.std.specs.Fmt.{decimal}
 use Rattle.std.proofs.lemmas.List.Sums.{count_by-le-length}
@@ -11,7 +11,7 @@ use Rattle.line_text.proofs.Decimals.{is_word-decimal}
 use Rattle.line_text.proofs.ReadBack.{is_closed-unlines}
 use Rattle.graph_core.specs.Graph.{Graph, IsGraph, size}
 use Rattle.graph_core.specs.Partitions.{singles}
-use Rattle.graph_text.specs.EitherVersion.{NamedGraph, either_version}
+use Rattle.graph_text.specs.EitherVersion.{either_version}
 use Rattle.graph_text.specs.VersionOne.{FitsVersionOne, version_one}
 use Rattle.graph_text.specs.Writing.{graph_text, graph_words}
 use Rattle.graph_text.proofs.VersionOneReadBack.{Stands-graph_text}

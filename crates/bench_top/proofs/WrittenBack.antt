@@ -1,6 +1,6 @@
 -- What is written is read back. An output that stands for a value is read as this value by a file that holds it, and the value is one with
 -- which a further command succeeds: a derivation, an ear list, a matching covered graph.
-use Rattle.std.proofs.Common.{◌≡◌, ◌∙◌, ℕ, ◌≤◌, ◌<◌, ◌^◌, ◌&&◌, nat_le, Bool, true, false, cond, List, [], ◌∷◌, length, Option, Some, None, Result, Ok, Err, ◌⊎◌, inl, inr, refl, sym, subst, ap, arith, option_map, nat_lt}
+use Rattle.std.proofs.Common.{◌≡◌, ◌∙◌, ℕ, ◌≤◌, ◌<◌, ◌^◌, ◌&&◌, nat_le, Bool, true, false, cond, List, [], ◌∷◌, length, Option, Some, None, Result, Ok, Err, inl, inr, refl, sym, subst, ap, arith, option_map, nat_lt}
 use Rattle.std.specs.Prelude.{codes}
 use Rattle.std.proofs.lemmas.Bool.{and_parts, leb-true}
 use Rattle.outside.specs.Shelf.{Named, file_named}
@@ -23,19 +23,17 @@ use Rattle.move_text.specs.MoveFormat.{move_format}
 use Rattle.move_text.proofs.MovesRead.{writable-read}
 use Rattle.ear_text.specs.EarFormat.{ear_format}
 use Rattle.bench_top.specs.Commands.{Command, Check, CheckEars, Decompose, Ears, Grow, command_of, most_pieces, order_named}
-use Rattle.bench_top.specs.EarChecks.{BuiltEars, EarsGives}
+use Rattle.bench_top.specs.EarChecks.{EarsGives}
 use Rattle.bench_top.specs.Growths.{Grown}
 use Rattle.bench_top.specs.Loading.{Loaded, All, Bad, Absent, and_then, ear_file, file_read, from_reading, graph_file, loaded, loaded_as, most_bytes, move_file, moves_given, pick_file, tree_file, tree_given}
 use Rattle.bench_top.specs.Outcome.{CommandGives, DecomposeGives, LoadedGives, Outcome, ResultOf}
 use Rattle.bench_top.specs.Replays.{ReplayGives}
 use Rattle.bench_top.specs.RoundTrips.{AsksDone}
-use Rattle.bench_top.specs.Success.{Succeeds}
 use Rattle.bench_top.specs.Tasks.{Task}
 use Rattle.bench_top.specs.Tasks as task
 use Rattle.bench_top.specs.declared.command.NamedOrder.{NamedOrder}
 use Rattle.bench_top.specs.declared.command.NamedOrder.TheVariants.{First}
-use Rattle.bench_top.specs.declared.status.Status.{Status}
-use Rattle.bench_top.specs.declared.status.Status.TheVariants.{Done, Negative}
+use Rattle.bench_top.specs.declared.status.Status.TheVariants.{Done}
 use Rattle.bench_top.proofs.FileReads.{file_read-value}
 use Rattle.bench_top.proofs.GrownSizes.{few-edges, few-vertices, grown-multigraph}
 use Rattle.bench_top.proofs.LoadedGraphs.{Holds, graph-holds, loaded-graph}

@@ -1,9 +1,8 @@
 -- Each two derivations of a graph have as many leaves, as many bricks and as many braces, since their leaves are paired (Lovász 1987).
-use Rattle.std.proofs.Common.{List, [], ap, arith, cond, get_or, inl, inr, length, not, subst, subst₂, sym, ℕ, ◌-◌, ◌<◌, ◌==◌, ◌∙◌, ◌≡◌}
+use Rattle.std.proofs.Common.{List, [], ap, arith, get_or, inl, inr, length, not, subst, sym, ℕ, ◌-◌, ◌==◌, ◌∙◌, ◌≡◌}
 use Rattle.std.specs.Prelude.{count_by}
 use Rattle.counting.specs.Counts.{Within, count}
 use Rattle.graph_core.specs.Graph.{Graph, IsGraph}
-use Rattle.graph_core.specs.Partitions.{IsPartition}
 use Rattle.tree_core.proofs.DerivationLeaves.{partitions-leaves}
 use Rattle.tree_core.specs.Derivations.{IsDerivation}
 use Rattle.tree_core.specs.LeafMaps.{PlainLeafMap, leaf_at, map_at}
@@ -11,7 +10,7 @@ use Rattle.tree_core.specs.Leaves.{leaves}
 use Rattle.tree_core.specs.Shapes.{Shape}
 use Rattle.move_laws.proofs.Uniqueness.{pairing_law}
 use Rattle.move_laws.specs.Pairings.{IsPairing}
-use Rattle.report_text.specs.Tallies.{AreLeafKinds, IsTally, is_brick, kind_at, tally_of}
+use Rattle.report_text.specs.Tallies.{AreLeafKinds, is_brick, kind_at, tally_of}
 use Rattle.report_text.specs.declared.tallies.LeafKind.{LeafKind}
 use Rattle.report_text.specs.declared.tallies.LeafKind.TheVariants.{Brick}
 use Rattle.report_text.specs.declared.tallies.Tally.{Tally}

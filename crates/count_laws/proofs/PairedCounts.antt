@@ -1,11 +1,11 @@
 -- Where the items of two lists are paired one to one so that partners are equal, as many items of each pass a test.
-use Rattle.std.proofs.Common.{Bool, List, [], ◌∷◌, ap, arith, cond, eq-eqb, eqb-true, false, get_or, length, refl, suc, sym, true, zero, ℕ, ◌+◌, ◌-◌, ◌<◌, ◌==◌, ◌∙◌, ◌≡◌}
+use Rattle.std.proofs.Common.{Bool, List, ◌∷◌, ap, arith, cond, eq-eqb, eqb-true, false, get_or, length, refl, suc, sym, true, ℕ, ◌+◌, ◌-◌, ◌==◌, ◌∙◌, ◌≡◌}
 use Rattle.std.specs.Prelude.{count_by}
 use Rattle.std.proofs.lemmas.List.Recursion.{is_count_by}
 use Rattle.counting.proofs.Counts.{bit_true, only_one}
 use Rattle.counting.proofs.Tests.{least_of, least_of_is, true_some}
 use Rattle.counting.proofs.Totals.{some_term, total-first, total_congr, total_ones}
-use Rattle.counting.specs.Counts.{Within, bit, count, total}
+use Rattle.counting.specs.Counts.{Within, bit, count}
 use Rattle.counting.specs.Sets.{Set}
 use Rattle.graph_core.proofs.BlockSets.{count_over}
 

@@ -1,14 +1,13 @@
 -- Sizes of sets given as rising lists, after a number comes or goes, and of two sets' union, common part and difference: each
 -- length is the count of a test, and the counts add up number by number.
-use Rattle.std.proofs.Common.{◌≡◌, ℕ, ◌+◌, ◌≤◌, Bool, true, false, ◌==◌, ◌||◌, ◌&&◌, not, List, length, refl, sym, ◌∙◌, arith}
-use Rattle.std.proofs.lemmas.Bool.{true≢false}
-use Rattle.counting.proofs.Counts.{count_congr, count_le, count_meet_union, count_more, count_of_one}
+use Rattle.std.proofs.Common.{◌≡◌, ℕ, ◌+◌, ◌≤◌, Bool, true, false, List, length, refl, sym, ◌∙◌, arith}
+use Rattle.counting.proofs.Counts.{count_le, count_more, count_of_one}
 use Rattle.counting.proofs.Lists.{count_mem_length}
 use Rattle.counting.proofs.RisingLists.{all_in_true, same_rising_list}
 use Rattle.counting.proofs.Totals.{total_add, total_congr, total_le}
 use Rattle.counting.specs.Counts.{Within, bit, count}
 use Rattle.counting.specs.Lists.{IsRisingIn, is_subset, mem}
-use Rattle.counting.specs.Sets.{Set, meet, minus, singleton, union}
+use Rattle.counting.specs.Sets.{Set, meet, minus, singleton}
 use Rattle.counting.proofs.Booleans.{bit_le, bit_parted}
 
 -- a smaller test counts fewer

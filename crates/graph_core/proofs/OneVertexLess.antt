@@ -1,5 +1,5 @@
 -- A set loses one vertex, or gains one: what does it answer for each, and how does its size change?
-use Rattle.std.proofs.Common.{◌≡◌, ℕ, ◌+◌, Bool, true, false, ◌==◌, refl, sym, ap, ◌∙◌, arith, ◌&&◌, ◌||◌, not, inl, inr, eq-eqb, ne_eqb}
+use Rattle.std.proofs.Common.{◌≡◌, ℕ, ◌+◌, true, false, ◌==◌, refl, sym, ap, ◌∙◌, arith, ◌&&◌, ◌||◌, not, inl, inr, eq-eqb, ne_eqb}
 use Rattle.counting.proofs.Booleans.{and_false, and_true, or_false}
 use Rattle.std.proofs.lemmas.Bool.{and_parts, cases_eq, or_right}
 use Rattle.counting.specs.Counts.{Within, bit, count}

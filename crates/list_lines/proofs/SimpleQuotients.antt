@@ -1,5 +1,5 @@
 -- A quotient is a simple graph: its edges are pairs in rising order, and none of them stands twice.
-use Rattle.std.proofs.Common.{List, ap₂, arith, get_or, inl, inr, length, sym, subst, ℕ, ◌-◌, ◌<◌, ◌≡◌}
+use Rattle.std.proofs.Common.{List, ap₂, arith, inl, inr, sym, subst, ℕ, ◌-◌, ◌≡◌}
 use Rattle.std.proofs.lemmas.Bool.{cases_order}
 use Rattle.counting.specs.Counts.{Within}
 use Rattle.graph_core.proofs.Quotients.{quotient_edge}

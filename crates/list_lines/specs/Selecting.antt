@@ -7,7 +7,6 @@ use Rattle.std.specs.declared.option.Option.{Option}
 use Rattle.std.specs.declared.option.Option.TheVariants.{Some, None}
 use Rattle.graph_core.specs.declared.verdict.Kind.{Kind}
 use Rattle.graph_core.specs.declared.verdict.Kind.TheVariants as kind
-use Rattle.graph_core.specs.Tight.{HasNoTightCut}
 use Rattle.leaf_kinds.specs.LeafKinds.{IsKind}
 use Rattle.report_text.specs.declared.tallies.Tally.{Tally}
 use Rattle.list_lines.specs.Standings.{IsCounted}

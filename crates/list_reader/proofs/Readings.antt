@@ -9,10 +9,10 @@ use Rattle.outside.specs.Source.{prepended, IsEnd}
 use Rattle.outside.proofs.Pieces.{appended-nil, appended-appended}
 use Rattle.graph_core.specs.declared.faults.FaultKind.{FaultKind}
 use Rattle.list_reader.specs.declared.ending.Ending.{Ending}
-use Rattle.list_reader.specs.declared.ending.Ending.TheVariants.{ReadFault, Memory}
+use Rattle.list_reader.specs.declared.ending.Ending.TheVariants.{Memory}
 use Rattle.list_reader.specs.Lines.{lines_of, HasNoFeed, IsClosed}
 use Rattle.list_reader.specs.Lists.{AllTold, BeginningTold}
-use Rattle.list_reader.specs.Endings.{Gives, Appended, ToldThrough, StopsWith, IsLeft, TellsList, ReadsTold}
+use Rattle.list_reader.specs.Endings.{Gives, Appended, ToldThrough, StopsWith, IsLeft, TellsList}
 use Rattle.list_reader.proofs.LineCuts.{lines_of-nil, lines_of-closed, IsClosed-append}
 use Rattle.list_reader.proofs.Joins.{AllTold-append, BeginningTold-none, Gives-behind}
 

@@ -1,5 +1,5 @@
 -- A set with one member more.
-use Rattle.std.proofs.Common.{◌≡◌, ℕ, Bool, true, false, cond, ◌==◌, refl, sym, ap, ◌∙◌, eq-eqb, ne_eqb, inl, inr, ◌||◌}
+use Rattle.std.proofs.Common.{◌≡◌, ℕ, true, cond, ◌==◌, sym, ap, ◌∙◌, eq-eqb, ne_eqb, inl, inr, ◌||◌}
 use Rattle.counting.proofs.Booleans.{or_true, or_false}
 use Rattle.std.proofs.lemmas.Bool.{cases_eq}
 use Rattle.counting.specs.Sets.{Set, put}

@@ -1,6 +1,6 @@
 -- A certificate has as many classes as there are odd components, and a frame gives the Gallai-Edmonds sets.
 -- A class is a union of components, one of them odd; a matching of the certified size is tight at each vertex.
-use Rattle.std.proofs.Common.{◌≡◌, ℕ, suc, zero, ◌+◌, ◌*◌, ◌≤◌, ◌<◌, Bool, true, false, ◌==◌, refl, sym, ap, ◌∙◌, arith, ◌&&◌, ◌||◌, eqb-true, ◌⊎◌, inl, inr, subst, nat_lt, List, [], ◌∷◌, ltb-true}
+use Rattle.std.proofs.Common.{◌≡◌, ℕ, suc, zero, ◌+◌, ◌*◌, ◌≤◌, ◌<◌, Bool, true, false, ◌==◌, refl, sym, ap, ◌∙◌, arith, ◌&&◌, eqb-true, ◌⊎◌, inl, inr, subst, nat_lt, List, [], ◌∷◌, ltb-true}
 use Rattle.std.proofs.lemmas.Bool.{cases_Bool, both_ways, true≢false, false_from_ne_true, or_parts, or_from}
 use Rattle.counting.proofs.Odd.{odd_pos, odd_total}
 use Rattle.counting.proofs.Totals.{total_congr, total_le, total_mul, total_swap, total_ones}

@@ -1,7 +1,7 @@
 -- A matching that misses two vertices becomes perfect along one path, where a perfect matching exists.
 -- The path goes on by the perfect matching's edge and the given one's in turn until it meets the other missed vertex.
 use Rattle.graph_core.proofs.Perfect.{perfect_matching}
-use Rattle.std.proofs.Common.{◌≡◌, ℕ, suc, zero, ◌+◌, ◌*◌, ◌≤◌, ◌<◌, ◌≢◌, Bool, true, false, ◌==◌, refl, sym, ap, ◌∙◌, arith, not, eq-eqb, ne_eqb, ◌⊎◌, inl, inr, subst, ◌-◌}
+use Rattle.std.proofs.Common.{◌≡◌, ℕ, suc, zero, ◌+◌, ◌*◌, ◌≤◌, ◌<◌, ◌≢◌, true, false, ◌==◌, refl, sym, ap, ◌∙◌, arith, not, eq-eqb, ne_eqb, ◌⊎◌, inl, inr, subst, ◌-◌}
 use Rattle.std.proofs.lemmas.Bool.{cases_eq, cases_Bool, cases_order, both_ways, true≢false, false_from_ne_true}
 use Rattle.counting.proofs.Counts.{count_le}
 use Rattle.counting.proofs.Odd.{odd-double}

@@ -1,12 +1,10 @@
 -- What a shelf that tells its files says of a name: the first file of that name counts, so what is put behind it
 -- changes nothing, and a name not yet held is looked up there. By induction on the files.
-use Rattle.std.proofs.Common.{◌≡◌, ℕ, ◌≤◌, List, [], ◌∷◌, ◌++◌, length, refl, arith, subst, true, false, cond}
-use Rattle.std.specs.declared.option.Option.{Option}
-use Rattle.std.specs.declared.option.Option.TheVariants.{Some, None}
+use Rattle.std.proofs.Common.{◌≡◌, ℕ, List, [], ◌∷◌, ◌++◌, refl, true, false, cond}
+use Rattle.std.specs.declared.option.Option.TheVariants.{Some}
 use Rattle.std.specs.Option.{option_or}
 use Rattle.std.specs.Str.{bytes_eq}
-use Rattle.std.proofs.lemmas.Slice.Eq.{bytes_eq-Decides}
-use Rattle.outside.specs.Shelf.{Named, file_named, HoldsLonger, TellsFile, IsLonger}
+use Rattle.outside.specs.Shelf.{Named, file_named}
 
 -- a name is looked up in the first files, and where they do not hold it, in the others
 pub file_named-append :

@@ -1,5 +1,5 @@
 -- The places of the blocks in a shore, found block by block.
-use Rattle.std.proofs.Common.{◌≡◌, ◌≢◌, ◌<◌, ◌≤◌, ℕ, ◌+◌, ◌-◌, Bool, true, false, ◌||◌, ◌==◌, List, [], get_or, length, refl, sym, ap, ◌∙◌, arith, inl, inr, eq-eqb, eqb-true, ne_eqb, slice_get, Some}
+use Rattle.std.proofs.Common.{◌≡◌, ◌≢◌, ◌<◌, ◌≤◌, ℕ, ◌+◌, ◌-◌, true, false, ◌||◌, ◌==◌, List, [], get_or, length, sym, ap, ◌∙◌, arith, inl, inr, eq-eqb, eqb-true, ne_eqb, slice_get, Some}
 use Rattle.std.proofs.lemmas.Bool.{cases_eq, false_from_ne_true, or_cases, or_right}
 use Rattle.std.proofs.lemmas.Option.{get_or_from_slice_get}
 use Rattle.counting.proofs.RisingLists.{list-from_test, set-narrower}

@@ -12,7 +12,6 @@ use Rattle.std.proofs.lemmas.Nat.Bits.{bit_at-lt, bit_at_and, bit_at_or, bit_at_
 use Rattle.std.proofs.lemmas.Nat.{or_lt, one_shl, and_le_l}
 use Rattle.counting.specs.Lists.{is_subset, mem}
 use Rattle.counting.proofs.RisingLists.{all_in_false, false_all_in, no_members, same_rising_list, set-one}
-use Rattle.counting.proofs.Booleans.{and_false}
 use Rattle.vset_core.specs.Words.{in_word, members, word_of_list}
 use Rattle.vset_core.specs.WordLaws.{word_of_list-members, in_word_above, mem-members, members-rise}
 

@@ -1,4 +1,4 @@
-use Rattle.std.proofs.Common.{◌≡◌, ℕ, Bool, true, false, ◌||◌, ◌==◌, refl, sym, ap, ◌∙◌, take}
+use Rattle.std.proofs.Common.{ℕ, ◌||◌, ◌==◌, sym, ap, ◌∙◌, take}
 use Rattle.counting.proofs.Booleans.{or_assoc}
 use Rattle.std.specs.List.{list_any}
 use Rattle.match_core.specs.Rows.{marks}

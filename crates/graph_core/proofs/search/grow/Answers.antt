@@ -1,4 +1,4 @@
-use Rattle.std.proofs.Common.{◌≡◌, ℕ, length, true, false, ◌==◌, ◌||◌, ap, sym, ◌∙◌, arith, List, refl, Bool}
+use Rattle.std.proofs.Common.{◌≡◌, ℕ, length, true, ◌==◌, ap, sym, ◌∙◌, arith, List}
 use Rattle.std.proofs.lemmas.Bool.{both_ways, false_from_ne_true}
 use Rattle.counting.specs.Counts.{Within}
 use Rattle.counting.specs.Lists.{mem}

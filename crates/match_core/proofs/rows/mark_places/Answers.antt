@@ -1,4 +1,4 @@
-use Rattle.std.proofs.Common.{◌≡◌, Bool, true, false, ◌||◌, ◌==◌, sym, ap, ◌∙◌, refl, get_or, take}
+use Rattle.std.proofs.Common.{◌||◌, ◌==◌, sym, ap, ◌∙◌, get_or, take}
 use Rattle.counting.specs.Lists.{mem}
 use Rattle.counting.proofs.Booleans.{or_assoc}
 use Rattle.match_core.specs.Rows.{marks}

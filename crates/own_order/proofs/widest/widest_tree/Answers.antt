@@ -1,7 +1,7 @@
 use Rattle.std.proofs.Common.{◌≡◌, refl, rules, subst}
 use Rattle.graph_core.specs.Graph.{Graph}
 use Rattle.tree_core.specs.View.{shape_of}
-use Rattle.own_order.specs.WidestCuts.{IsWidest, PicksWidest}
+use Rattle.own_order.specs.WidestCuts.{IsWidest}
 use Rattle.own_order.proofs.WidestPicks.{picked-widest}
 use Rattle.own_order.proofs.widest.widest_tree.Goals as goal
 

@@ -1,4 +1,4 @@
-use Rattle.std.proofs.Common.{List, Option, Some, [], ℕ, ap, refl, sym, subst, ◌∙◌, unwrap_or}
+use Rattle.std.proofs.Common.{List, Option, [], ℕ, ap, refl, sym, subst, ◌∙◌, unwrap_or}
 use Rattle.std.specs.Option.{option_map}
 use Rattle.tight_cuts.specs.CandidatesAt.{candidates_at}
 use Rattle.tight_cuts.specs.View.{candidate_of}
