@@ -1,15 +1,17 @@
-//! Decompositions in the orders that have names, for the tests that need a derivation.
-ghost use Rattle.std.specs.Prelude.{◌≡◌, ◌<◌, ◌-◌, length, IfOk};
+//! Decompositions in the orders that have names, and the graphs of their leaves, for the tests that need a derivation.
+ghost use Rattle.std.specs.Prelude.{◌≡◌, ◌<◌, ◌-◌, length, IfOk, Some};
 ghost use Rattle.tree_core.specs.Derivations.{IsDerivation};
 ghost use Rattle.tree_core.specs.View.{shape_of};
 
+use contraction::{Contracted, quotient};
 use decomposer::{
     Order, Refused, balanced_place, decompose, decompose_first, first_place, last_place,
 };
 use graph_core::MultiGraph;
-use std::alloc::Global;
+use std::alloc::{AllocError as Memory, Global};
 use tight_cuts::Candidate;
-use tree_core::Tree;
+use tree_core::laws::derivation_stands;
+use tree_core::{Tree, leaves};
 
 /// An order of choice.
 #[derive(Clone, Copy)]
@@ -54,4 +56,35 @@ pub fn decomposed(alloc: Global, g: &MultiGraph, choice: Choice) -> Result<Tree,
         Choice::Last => decompose(alloc, g, &Order::new(last_of)),
         Choice::Balanced => decompose(alloc, g, &Order::new(balanced_of)),
     }
+}
+
+/// The derivation in an order; none where the graph is refused.
+pub fn derived(alloc: Global, g: &MultiGraph, choice: Choice) -> Result<Option<Tree>, Memory>
+    ensures { IfOk result (λ o. (t : _) → o ≡ Some t → IsDerivation g.now (shape_of t)) }
+{
+    match decomposed(alloc, g, choice) {
+        Ok(tree) => Ok(Some(tree)),
+        Err(Refused::NotCovered(_)) => Ok(None),
+        Err(Refused::Memory) => Err(Memory),
+    }
+}
+
+/// The graphs of the leaves of a decomposition; none where the graph is refused.
+pub fn leaf_graphs(
+    alloc: Global,
+    g: &MultiGraph,
+    choice: Choice,
+) -> Result<Vec<Contracted>, Memory> {
+    derivation_stands();
+    let mut graphs = Vec::new(alloc);
+    if let Some(tree) = derived(alloc, g, choice)? {
+        let partitions = leaves(alloc, &tree, g.order())?;
+        for i in 0..partitions.len() {
+            let leaf = partitions.get(i);
+            if leaf.order() == g.order() {
+                graphs.push(quotient(alloc, g, leaf)?)?;
+            }
+        }
+    }
+    Ok(graphs)
 }

@@ -1,11 +1,9 @@
 //! Two derivations of the cycle of eight vertices: compared, their moves made again, and a shore exposed.
-ghost use Rattle.std.specs.Prelude.{◌≡◌, IfOk};
 ghost use Rattle.tree_core.specs.Derivations.{IsDerivation};
 ghost use Rattle.tree_core.specs.View.{shape_of};
 
-use crate::choices::{Choice, decomposed};
+use crate::choices::{Choice, derived};
 use crate::made::made;
-use decomposer::Refused;
 use graph_core::MultiGraph;
 use std::alloc::{AllocError as Memory, Global};
 use std::test::Fail;
@@ -13,17 +11,6 @@ use tree_core::laws::derivation_stands;
 use tree_core::{Moves, Tree, apply, fits};
 use uncross::{compare, expose};
 use worked_graphs::CYCLE_OF_8;
-
-// The derivation in an order; none where the graph is refused, which the cycle is not.
-fn derived(alloc: Global, g: &MultiGraph, choice: Choice) -> Result<Option<Tree>, Memory>
-    ensures { IfOk result (λ o. (t : _) → o ≡ Some t → IsDerivation g.now (shape_of t)) }
-{
-    match decomposed(alloc, g, choice) {
-        Ok(tree) => Ok(Some(tree)),
-        Err(Refused::NotCovered(_)) => Ok(None),
-        Err(Refused::Memory) => Err(Memory),
-    }
-}
 
 // Whether two trees say the same.
 fn same_tree(first: &Tree, second: &Tree) -> bool {

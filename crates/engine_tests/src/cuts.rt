@@ -4,7 +4,6 @@ ghost use Rattle.counting.specs.Counts.{is_odd};
 ghost use Rattle.counting.specs.Lists.{IsRisingIn};
 ghost use Rattle.plain_graph.specs.Small.{IsSmall};
 
-use crate::asked::is_covered;
 use crate::made::made;
 use graph_core::MultiGraph;
 use plain_graph::{edges_in_cut, is_perfect, is_small};
@@ -13,7 +12,7 @@ use std::test::Fail;
 use tight_cuts::{CandidateList, Origin, Tightness, candidates, find_any, is_tight};
 use vset_core::{MOST_VERTICES, VSet};
 use worked_graphs::{
-    CYCLE_OF_8, DOUBLED_SQUARE, HEXAGON, K4, PETERSEN, PRISM, TRIANGLE_IN_K33, TWO_K4,
+    CYCLE_OF_8, DOUBLED_SQUARE, HEXAGON, K4, PETERSEN, PRISM, TRIANGLE_IN_K33, TWO_K4, is_covered,
 };
 
 const TWO_PARALLEL: [(u32, u32); 2] = [(1, 2), (1, 2)];

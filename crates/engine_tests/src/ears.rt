@@ -1,12 +1,11 @@
 //! Ear lists of worked graphs, built and checked.
 
-use crate::asked::is_covered;
 use crate::made::made;
 use ear_core::{EarJudgement, build_ears, check_ears};
 use graph_core::MultiGraph;
 use std::alloc::Global;
 use std::test::Fail;
-use worked_graphs::{CUBE, HEXAGON, K4, PATH, PETERSEN, TRIANGLE_IN_K33};
+use worked_graphs::{CUBE, HEXAGON, K4, PATH, PETERSEN, TRIANGLE_IN_K33, is_covered};
 
 const TWINS: [(u32, u32); 2] = [(1, 2), (2, 1)];
 

@@ -1,23 +1,13 @@
 //! Generated graphs edge by edge, the sizes of larger ones, and the reference words of the random generator.
 
+use crate::made::made;
 use graph_core::Ends;
 use grow_gen::grow;
 use rand_core::utils::NextWord;
 use rand_pcg::Lcg64Xsh32;
 use std::alloc::AllocError;
-
-// The edges of one piece: the complete bipartite graph of three and three vertices.
-static ONE_PIECE: [Ends; 9] = [
-    Ends { a: 1, b: 4 },
-    Ends { a: 1, b: 5 },
-    Ends { a: 1, b: 6 },
-    Ends { a: 2, b: 4 },
-    Ends { a: 2, b: 5 },
-    Ends { a: 2, b: 6 },
-    Ends { a: 3, b: 4 },
-    Ends { a: 3, b: 5 },
-    Ends { a: 3, b: 6 },
-];
+use std::test::Fail;
+use worked_graphs::K33;
 
 // The edges of five pieces from the seed 7, which a second program, written from the definition of the generator, gives: the complete
 // bipartite graph, the complete graph of four vertices, the complete bipartite graph, the prism and the cube.
@@ -58,10 +48,10 @@ static FIVE_PIECES: [Ends; 33] = [
 ];
 
 #[test]
-fn graphs_edge_by_edge(rt: HostRuntime) -> Result<(), AllocError> {
+fn graphs_edge_by_edge(rt: HostRuntime) -> Result<(), Fail> {
     let g = grow(rt.alloc(), 5, 1)?;
     assert!(rt; g.order() == 6);
-    assert!(rt; g.edges() == ONE_PIECE.as_slice());
+    assert!(rt; g.edges() == made(rt.alloc(), 6, &K33)?.edges());
     let g = grow(rt.alloc(), 7, 5)?;
     assert!(rt; g.order() == 22);
     assert!(rt; g.edges() == FIVE_PIECES.as_slice());

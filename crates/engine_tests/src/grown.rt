@@ -1,19 +1,13 @@
 //! Generated graphs and the leaves of their decomposition: the quick tests beside the complete finder, and their ear lists.
-ghost use Rattle.graph_core.specs.Covered.{IsCovered};
-
-use crate::asked::{is_bipartite, is_covered};
-use crate::choices::{Choice, decomposed};
+use crate::choices::{Choice, leaf_graphs};
 use allowed_edges::together;
-use contraction::{Partition, quotient};
-use decomposer::Refused;
 use ear_core::{EarJudgement, build_ears, check_ears};
 use graph_core::MultiGraph;
 use grow_gen::grow;
 use quick_kinds::{quick_brace, quick_brick};
 use std::alloc::{AllocError as Memory, Global};
 use tight_cuts::find_any;
-use tree_core::laws::derivation_stands;
-use tree_core::leaves;
+use worked_graphs::{is_bipartite, is_covered};
 
 // Whether the graph is covered, and the quick test for its sort finds a nontrivial tight cut exactly where the finder does.
 fn agrees(alloc: Global, g: &MultiGraph) -> Result<bool, Memory> {
@@ -30,31 +24,15 @@ fn agrees(alloc: Global, g: &MultiGraph) -> Result<bool, Memory> {
     Ok(quick_brick(alloc, g)?.is_none() == is_whole)
 }
 
-// Whether the graph and each of the leaves of its decomposition, as many as wanted, agree.
-fn leaves_agree(alloc: Global, g: &MultiGraph, many: usize) -> Result<bool, Memory>
-    requires { IsCovered g.now }
-{
-    derivation_stands();
-    let tree = match decomposed(alloc, g, Choice::First) {
-        Ok(tree) => tree,
-        Err(Refused::NotCovered(_)) => return Ok(false),
-        Err(Refused::Memory) => return Err(Memory),
-    };
-    let partitions = leaves(alloc, &tree, g.order())?;
-    for i in 0..partitions.len() {
-        if !leaf_agrees(alloc, g, partitions.get(i))? {
+// Whether each of the leaves of the graph's decomposition, as many as wanted, agrees.
+fn leaves_agree(alloc: Global, g: &MultiGraph, many: usize) -> Result<bool, Memory> {
+    let pieces = leaf_graphs(alloc, g, Choice::First)?;
+    for piece in &pieces {
+        if !agrees(alloc, piece.graph())? {
             return Ok(false);
         }
     }
-    Ok(partitions.len() == many)
-}
-
-fn leaf_agrees(alloc: Global, g: &MultiGraph, leaf: &Partition) -> Result<bool, Memory> {
-    if leaf.order() != g.order() {
-        return Ok(false);
-    }
-    let piece = quotient(alloc, g, leaf)?;
-    agrees(alloc, piece.graph())
+    Ok(pieces.len() == many)
 }
 
 fn number_agrees(alloc: Global, number: u64) -> Result<bool, Memory> {

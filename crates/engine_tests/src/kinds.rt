@@ -1,12 +1,11 @@
 //! The kinds of graphs of the literature.
 
-use crate::asked::is_covered;
 use crate::made::{made, set_of};
 use graph_core::{Kind, MultiGraph};
 use leaf_kinds::kind;
 use std::alloc::Global;
 use std::test::Fail;
-use worked_graphs::{FOUR_CYCLE, HEXAGON, K4, PATH, PRISM, TWO_K4};
+use worked_graphs::{FOUR_CYCLE, HEXAGON, K4, PATH, PRISM, TWO_K4, is_covered};
 
 // The kind of a graph, if it is covered.
 fn kind_if_covered(alloc: Global, graph: &MultiGraph) -> Result<Option<Kind>, Fail> {

@@ -5,7 +5,7 @@
 //! so that no crate of the engine is proved a second time with its tests, and most calls ask for a covered graph, which `allowed_edges`
 //! decides.
 //!
-//! `made`, `asked` and `choices` have what the tests share. `sets`, `nets`, `graphs`, `matchings`, `pairs`, `quotients`, `trees`, `kinds`, `orders`, `judgements`, `ears` and `growing` ask the calls of one
+//! `made` and `choices` have what the tests share. `sets`, `nets`, `graphs`, `matchings`, `pairs`, `quotients`, `trees`, `kinds`, `orders`, `judgements`, `ears` and `growing` ask the calls of one
 //! crate each; `definitions` asks the plain program itself.
 //!
 //! `cuts`: `tight_cuts::is_tight` is compared with the plain program, which goes through all perfect matchings, on a table of small
@@ -28,8 +28,6 @@
 //! the graphs: Lovász and Plummer, "Matching Theory".
 #![tactic(auto)]
 
-#[cfg(test)]
-mod asked;
 #[cfg(test)]
 mod choices;
 #[cfg(test)]

@@ -11,21 +11,7 @@ use match_core::{Matching, frame, maximum, perfect_with, perfect_without, repair
 use std::alloc::Global;
 use std::test::Fail;
 use vset_core::VSet;
-use worked_graphs::{K4, PATH, PETERSEN, STAR, TRIANGLE, TWO_EDGES};
-
-// Three odd cycles, each around the one before: 1 2 3, then 4 5 with it, then 6 7 with these; and a stem at 7.
-const FLOWER: [(u32, u32); 10] = [
-    (1, 2),
-    (4, 5),
-    (6, 7),
-    (1, 3),
-    (2, 3),
-    (1, 4),
-    (5, 2),
-    (4, 6),
-    (7, 3),
-    (8, 7),
-];
+use worked_graphs::{FLOWER, K4, PATH, PETERSEN, STAR, TRIANGLE, TWO_EDGES};
 
 // A square 3 4 5 6 beside an edge.
 const SQUARE: [(u32, u32); 5] = [(1, 2), (3, 4), (4, 5), (5, 6), (3, 6)];

@@ -10,7 +10,7 @@ use plain_graph::{greatest_matching, is_small, perfect_matchings};
 use std::alloc::Global;
 use std::test::Fail;
 use vset_core::{MOST_VERTICES, VSet};
-use worked_graphs::{K4, K33, PATH, PRISM, STAR, TRIANGLE, TWO_EDGES};
+use worked_graphs::{FLOWER, K4, K33, PATH, PRISM, STAR, TRIANGLE, TWO_EDGES};
 
 const TWINS: [(u32, u32); 3] = [(1, 2), (2, 1), (1, 2)];
 
@@ -32,28 +32,15 @@ const WHEEL: [(u32, u32); 10] = [
 // A square with a diagonal and a tail of two edges.
 const KITE: [(u32, u32); 7] = [(1, 2), (2, 3), (3, 4), (4, 1), (1, 3), (4, 5), (5, 6)];
 
-// Two triangles around one before them: 1 2 3, then 4 5 with it, then 6 7 with these.
-const FLOWER: [(u32, u32); 9] = [
-    (1, 2),
-    (4, 5),
-    (6, 7),
-    (1, 3),
-    (2, 3),
-    (1, 4),
-    (5, 2),
-    (4, 6),
-    (7, 3),
-];
-
 const HEPTAGON: [(u32, u32); 8] = [
-    (1, 2),
-    (2, 3),
+    (2, 6),
     (3, 4),
     (4, 5),
     (5, 6),
     (6, 7),
     (7, 1),
-    (2, 6),
+    (1, 2),
+    (2, 3),
 ];
 
 static SMALL_GRAPHS: [(u32, &[(u32, u32)]); 15] = [
@@ -70,7 +57,7 @@ static SMALL_GRAPHS: [(u32, &[(u32, u32)]); 15] = [
     (6, &PRISM),
     (6, &WHEEL),
     (6, &KITE),
-    (7, &FLOWER),
+    (8, &FLOWER),
     (7, &HEPTAGON),
 ];
 

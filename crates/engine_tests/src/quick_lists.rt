@@ -1,49 +1,16 @@
 //! The candidates beside those of the plain way by pairs: the same list in the same order, and its first.
 ghost use Rattle.std.specs.Prelude.{◌≤◌};
 
-use crate::asked::is_covered;
-use contraction::{Partition, quotient};
-use decomposer::{Refused, decompose_first};
+use crate::choices::{Choice, leaf_graphs};
 use graph_core::MultiGraph;
 use grow_gen::grow;
 use std::alloc::{AllocError as Memory, Global};
 use std::test::Fail;
-use tight_cuts::{
-    Candidate, CandidateList, candidates, candidates_by_pairs, find_any, first_candidate,
-};
-use tree_core::laws::derivation_stands;
-use tree_core::leaves;
+use tight_cuts::{candidates, candidates_by_pairs, find_any, first_candidate};
 use worked_graphs::{
     CUBE, CYCLE_OF_8, DOUBLED_SQUARE, HEXAGON, K4, K33, PETERSEN, PRISM, TRIANGLE_IN_K33, TWO_K4,
-    graph_with,
+    graph_with, is_covered,
 };
-
-fn is_same(first: &Candidate, second: &Candidate) -> bool {
-    first.shore == second.shore
-        && first.inside == second.inside
-        && first.outside == second.outside
-        && first.origin == second.origin
-}
-
-fn are_same(first: &CandidateList, second: &CandidateList) -> bool {
-    if first.len() != second.len() {
-        return false;
-    }
-    for i in 0..first.len() {
-        if !is_same(&first.get(i), &second.get(i)) {
-            return false;
-        }
-    }
-    true
-}
-
-// Whether the answer is the first of the list.
-fn is_first(found: Option<Candidate>, list: &CandidateList) -> bool {
-    match found {
-        Some(candidate) => !list.is_empty() && is_same(&candidate, &list.get(0)),
-        None => list.is_empty(),
-    }
-}
 
 // Whether the graph is covered, and its candidates, the first of them and its shore are those of the plain way.
 fn agrees(alloc: Global, g: &MultiGraph) -> Result<bool, Memory> {
@@ -55,36 +22,21 @@ fn agrees(alloc: Global, g: &MultiGraph) -> Result<bool, Memory> {
     let first = first_candidate(alloc, g)?;
     let shore = find_any(alloc, g)?;
     Ok(
-        are_same(&quick, &plain)
-            && is_first(first, &plain)
+        quick.as_slice() == plain.as_slice()
+            && first == plain.as_slice().first().copied()
             && shore == first.map(|candidate| candidate.shore),
     )
 }
 
-fn leaf_agrees(alloc: Global, g: &MultiGraph, leaf: &Partition) -> Result<bool, Memory> {
-    if leaf.order() != g.order() {
-        return Ok(false);
-    }
-    let piece = quotient(alloc, g, leaf)?;
-    agrees(alloc, piece.graph())
-}
-
 // Whether the grown graph of the number and each of the leaves of its decomposition agree.
 fn number_agrees(alloc: Global, number: u64) -> Result<bool, Memory> {
-    derivation_stands();
     let g = grow(alloc, number, 5)?;
-    let tree = match decompose_first(alloc, &g) {
-        Ok(tree) => tree,
-        Err(Refused::NotCovered(_)) => return Ok(false),
-        Err(Refused::Memory) => return Err(Memory),
-    };
-    let partitions = leaves(alloc, &tree, g.order())?;
-    for i in 0..partitions.len() {
-        if !leaf_agrees(alloc, &g, partitions.get(i))? {
-            return Ok(false);
-        }
+    let pieces = leaf_graphs(alloc, &g, Choice::FirstAlone)?;
+    let mut agree = pieces.len() == 5 && agrees(alloc, &g)?;
+    for piece in &pieces {
+        agree = agree && agrees(alloc, piece.graph())?;
     }
-    Ok(partitions.len() == 5 && agrees(alloc, &g)?)
+    Ok(agree)
 }
 
 #[test]
@@ -110,32 +62,27 @@ fn wheel(alloc: Global, rim: u32) -> Result<MultiGraph, Fail>
     Ok(graph_with(alloc, rim + 1, &edges)?)
 }
 
-// Two cycles of so many vertices, each vertex of the first joined to its partner in the second.
-fn prism(alloc: Global, side: u32) -> Result<MultiGraph, Fail>
-    requires three { 3 ≤ side }
-    requires few { side ≤ 50 }
+// Two paths of so many vertices, each vertex of the first joined to its partner in the second. The ends of each path are joined, which
+// makes a prism; or, where it is twisted, each to the start of the other path, which makes a Möbius ladder.
+fn ladder(alloc: Global, rungs: u32, is_twisted: bool) -> Result<MultiGraph, Fail>
+    requires three { 3 ≤ rungs }
+    requires few { rungs ≤ 50 }
 {
     let mut edges = Vec::new(alloc);
-    for k in 0..side {
-        edges.push((k + 1, (k + 1) % side + 1))?;
-        edges.push((side + k + 1, side + (k + 1) % side + 1))?;
-        edges.push((k + 1, side + k + 1))?;
+    for k in 1..rungs {
+        edges.push((k, k + 1))?;
+        edges.push((rungs + k, rungs + k + 1))?;
+        edges.push((k, rungs + k))?;
     }
-    Ok(graph_with(alloc, side + side, &edges)?)
-}
-
-// A cycle of an even number of vertices, each joined to the opposite one.
-fn moebius_ladder(alloc: Global, half: u32) -> Result<MultiGraph, Fail>
-    requires three { 3 ≤ half }
-    requires few { half ≤ 50 }
-{
-    let mut edges = Vec::new(alloc);
-    for k in 0..half {
-        edges.push((k + 1, k + 2))?;
-        edges.push((half + k + 1, (half + k + 1) % (half + half) + 1))?;
-        edges.push((k + 1, half + k + 1))?;
-    }
-    Ok(graph_with(alloc, half + half, &edges)?)
+    edges.push((rungs, rungs + rungs))?;
+    let (first, second) = if is_twisted {
+        (rungs + 1, 1)
+    } else {
+        (1, rungs + 1)
+    };
+    edges.push((rungs, first))?;
+    edges.push((rungs + rungs, second))?;
+    Ok(graph_with(alloc, rungs + rungs, &edges)?)
 }
 
 #[test]
@@ -144,8 +91,8 @@ fn wheels_prisms_and_moebius_ladders(rt: HostRuntime) -> Result<(), Fail> {
     for size in 3..8u32 {
         let found = [
             wheel(rt.alloc(), size + size - 1)?,
-            prism(rt.alloc(), size)?,
-            moebius_ladder(rt.alloc(), size)?,
+            ladder(rt.alloc(), size, false)?,
+            ladder(rt.alloc(), size, true)?,
         ];
         for g in &found {
             agree = agree && agrees(rt.alloc(), g)?;

@@ -3,7 +3,6 @@ ghost use Rattle.std.specs.Prelude.{IsTrue, IfOk, IfSome};
 ghost use Rattle.counting.specs.Lists.{IsRisingIn};
 ghost use Rattle.graph_core.specs.Structure.{IsBicritical};
 
-use crate::asked::{is_bipartite, is_covered};
 use crate::made::{made, set_of};
 use barrier_kit::{barrier_cuts, classes, is_barrier};
 use graph_core::MultiGraph;
@@ -12,7 +11,10 @@ use separation_kit::{Pair, cut_pair, first_pairs_law, not_bicritical, separation
 use std::alloc::{AllocError as Memory, Global};
 use std::test::Fail;
 use vset_core::VSet;
-use worked_graphs::{CUBE, FOUR_CYCLE, HEXAGON, K4, K33, PETERSEN, PRISM, TRIANGLE_IN_K33, TWO_K4};
+use worked_graphs::{
+    CUBE, FOUR_CYCLE, HEXAGON, K4, K33, PETERSEN, PRISM, TRIANGLE_IN_K33, TWO_K4, is_bipartite,
+    is_covered,
+};
 
 fn is_bicritical(alloc: Global, g: &MultiGraph) -> Result<bool, Memory>
     ensures { IfOk result (λ yes. IsTrue yes → IsBicritical g.now) }
