@@ -16,7 +16,7 @@ use Rattle.report_text.specs.declared.tallies.LeafKind.{LeafKind}
 use Rattle.report_text.specs.declared.tallies.LeafKind.TheVariants.{Brick}
 
 -- one more line behind those that are written
-one-more : (start lines line now next : List ℕ) → now ≡ start ++ lines → next ≡ now ++ line → next ≡ start ++ (lines ++ line)
+pub one-more : (start lines line now next : List ℕ) → now ≡ start ++ lines → next ≡ now ++ line → next ≡ start ++ (lines ++ line)
 one-more start lines line now next first second = second ∙ ap (λ (t : List ℕ). t ++ line) first ∙ append_assoc start lines line
 
 -- the line of the next block

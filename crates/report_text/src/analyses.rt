@@ -1,6 +1,6 @@
 //! The report of `analyse`.
 ghost use Rattle.std.specs.Prelude.{◌≡◌, ◌++◌, [], codes, OnOk, IfOk, string_bytes};
-ghost use Rattle.report_text.specs.Analyses.{analysis_text, verdict_lines, with_structure};
+ghost use Rattle.report_text.specs.Analyses.{analysis_text, numbers_told, verdict_lines, with_structure, with_three_sets};
 ghost use Rattle.report_text.specs.Reports.{bipartite_line, count_line, graph_line, yes_or_no};
 
 use crate::numbers::{push_numbers_line, push_set_line};
@@ -67,20 +67,36 @@ fn push_bipartite(text: &mut String, holds: bool) -> Result<(), Memory>
     write!(text, "bipartite {answer}\n")
 }
 
+// The lines from that of the graph to that of the deficiency, in a text that is empty.
+fn push_numbers_told(text: &mut String, lines: &AnalysisLines) -> Result<(), Memory>
+    requires { string_bytes text.old ≡ [] }
+    ensures { OnOk result (string_bytes text.new ≡ numbers_told lines.now) }
+{
+    push_graph(text, lines.order, lines.size)?;
+    push_count(text, "components", lines.components)?;
+    push_bipartite(text, lines.bipartite)?;
+    push_count(text, "matching", lines.matching)?;
+    push_count(text, "deficiency", lines.deficiency)
+}
+
+// The lines of the Gallai-Edmonds sets.
+fn push_three_sets(text: &mut String, lines: &AnalysisLines) -> Result<(), Memory>
+    ensures { OnOk result
+        (string_bytes text.new ≡ with_three_sets (string_bytes text.old) lines.now) }
+{
+    push_set_line(text, "D", lines.d)?;
+    push_set_line(text, "A", lines.a)?;
+    push_set_line(text, "C", lines.c)
+}
+
 // The lines from that of the graph to that of the verdict, in a text that is empty.
 #[tactic(auto, unfolding(crate::specs::Analyses::verdict_lines))]
 fn push_to_verdict(text: &mut String, lines: &AnalysisLines) -> Result<(), Memory>
     requires { string_bytes text.old ≡ [] }
     ensures { OnOk result (string_bytes text.new ≡ verdict_lines lines.now) }
 {
-    push_graph(text, lines.order, lines.size)?;
-    push_count(text, "components", lines.components)?;
-    push_bipartite(text, lines.bipartite)?;
-    push_count(text, "matching", lines.matching)?;
-    push_count(text, "deficiency", lines.deficiency)?;
-    push_set_line(text, "D", lines.d)?;
-    push_set_line(text, "A", lines.a)?;
-    push_set_line(text, "C", lines.c)?;
+    push_numbers_told(text, lines)?;
+    push_three_sets(text, lines)?;
     push_numbers_line(text, "allowed", &lines.allowed)?;
     push_verdict(text, &lines.verdict)
 }

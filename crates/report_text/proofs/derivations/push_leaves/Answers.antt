@@ -1,8 +1,8 @@
-use Rattle.std.proofs.Common.{List, map, string_bytes, subst, sym, ℕ, ◌+◌, ◌++◌, ◌≡◌, add-one}
+use Rattle.std.proofs.Common.{List, map, string_bytes, subst, sym, arith, ℕ, ◌+◌, ◌++◌, ◌≡◌, add-one}
 use Rattle.contraction.specs.Partition.{PartitionValue}
 use Rattle.report_text.specs.Derivations.{leaf_lines}
 use Rattle.report_text.specs.declared.tallies.LeafKind.{LeafKind}
-use Rattle.report_text.proofs.LeafLines.{kinds-next, lines-more}
+use Rattle.report_text.proofs.LeafLines.{kinds-all, kinds-next, lines-more}
 use Rattle.report_text.proofs.derivations.push_leaves.Goals as goal
 
 pub loop-i-preserved : goal.loop-i-preserved
@@ -18,3 +18,6 @@ loop-i-preserved c =
           (rw add-one (lines-more c.args.g.now c.args.leaves.now c.loop-i.kinds.items i c.get.result.now c.in_ok-kind.kind (string_bytes c.args.text.now) (string_bytes c.loop-i.text) (string_bytes c.push_leaf.new.text) c.get.ensures c.loop-i.invariant.so_many c.loop-i.invariant.lines
           (rw add-one at c.in_ok-kind.ensures.lines)));
     }
+
+pub returns-clause-kinds : goal.returns-clause-kinds
+returns-clause-kinds c = kinds-all c.args.g.now c.args.leaves.now c.loop-i.i c.loop-i.kinds.items (omega arith) c.loop-i.invariant.so_many c.loop-i.invariant.right
