@@ -1,3 +1,4 @@
+pub mod EarLines
 pub mod TextSoFar
 pub mod EarsReadBack
 pub mod EarsRead

@@ -63,14 +63,27 @@ start_line m words =
     ∷ [])
     (started (value_of (word_at words 1)) [] None)
 
+-- the words of a step's first ear, or of a second one where an ear stands apart
+abbrev pub is_either_ear_line : (stands_apart : Bool) → List (List ℕ) → Bool
+is_either_ear_line stands_apart words = is_ear_line words || (stands_apart && is_with_line words)
+
+-- the tests of the numbers of an ear
+abbrev pub ear_tests : ℕ → ℕ → List (List ℕ) → List (Bool × FaultKind)
+ear_tests n m words =
+    (not (is_number (word_at words 1) && list_all is_number (behind_two words)), kind.Number)
+    ∷ (is_out_of_range n (value_of (word_at words 1)) || list_any (is_out_of_range m) (map value_of (behind_two words)), kind.Range)
+    ∷ []
+
+-- what is read with one ear more, which is a step's first one or else its second one
+abbrev pub with_ear : ℕ → List PlainStep → Option PlainEar → (is_first : Bool) → PlainEar → EarsSoFar
+with_ear start steps last is_first ear =
+    if is_first then started start (closed steps last) (Some ear) else started start (paired steps last ear) None
+
 -- a later line
 abbrev pub ear_line : ℕ → ℕ → ℕ → List PlainStep → Option PlainEar → List (List ℕ) → Result EarsSoFar FaultKind
 ear_line n m start steps last words =
-    checked ((not (is_ear_line words || (is_some last && is_with_line words)), kind.Word)
-    ∷ (not (is_number (word_at words 1) && list_all is_number (behind_two words)), kind.Number)
-    ∷ (is_out_of_range n (value_of (word_at words 1)) || list_any (is_out_of_range m) (map value_of (behind_two words)), kind.Range)
-    ∷ [])
-    (if is_ear_line words then started start (closed steps last) (Some (ear_at words)) else started start (paired steps last (ear_at words)) None)
+    checked ((not (is_either_ear_line (is_some last) words), kind.Word) ∷ ear_tests n m words)
+    (with_ear start steps last (is_ear_line words) (ear_at words))
 
 -- a significant line behind the header
 abbrev pub line_behind : ℕ → ℕ → EarsSoFar → List (List ℕ) → Result EarsSoFar FaultKind

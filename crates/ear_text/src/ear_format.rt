@@ -2,14 +2,14 @@
 ghost use Rattle.std.specs.Prelude.{◌≡◌, ◌<◌, ◌-◌, ◌^◌, ℕ, length, map, option_map, IfOk, IfErr, Ok, Err};
 ghost use Rattle.std.specs.List.{AllByRecursion, list_any};
 ghost use Rattle.line_text.specs.Reading.{Gives};
-ghost use Rattle.line_text.specs.Format.{Stands, FirstFault};
+ghost use Rattle.line_text.specs.Format.{Stands, FirstFault, checked};
 ghost use Rattle.line_text.specs.Words.{texts_of};
 ghost use Rattle.text_faults.specs.Readings.{IsFirstFault, ReadsText};
 ghost use Rattle.graph_core.specs.declared.faults.FaultKind.{FaultKind};
 ghost use Rattle.ear_core.specs.EarLists.{PlainEars, FitsEars, HasEdges};
 ghost use Rattle.ear_core.specs.View.{ear_of, step_of, ears_of};
 ghost use Rattle.text_faults.specs.Ranges.{is_out_of_range};
-ghost use Rattle.ear_text.specs.EarFormat.{EarsSoFar, ears_header, start_line, ear_line, ear_format, behind_two, is_ear_line, is_with_line};
+ghost use Rattle.ear_text.specs.EarFormat.{EarsSoFar, ears_header, start_line, ear_at, ear_line, ear_tests, ear_format, behind_two, is_ear_line, is_either_ear_line, is_with_line, with_ear};
 ghost use Rattle.ear_text.specs.SoFar.{ears_so_far};
 
 use crate::ears_read::{EarsRead, close_last, pair_last};
@@ -96,6 +96,55 @@ fn copied(alloc: Global, items: &[u32]) -> Result<Numbers, Memory>
     Ok(list)
 }
 
+// Whether these are the words of an ear: a step's first one, or a second one behind an ear that stands apart.
+fn is_either_ear(stands_apart: bool, words: &[&[u8]]) -> bool
+    ensures { result ≡ is_either_ear_line stands_apart (texts_of words.now) }
+{
+    is_ear(words) || (stands_apart && is_with(words))
+}
+
+// The ear that a line tells behind its first word.
+fn ear_told(format: &EarFormat, words: &[&[u8]]) -> Result<Ear, Refusal<FaultKind>>
+    ensures ear { IfOk result (λ ear. ear_of ear ≡ ear_at (texts_of words.now)) }
+    ensures tests { (so_far : EarsSoFar) → Gives (λ _. so_far) result
+        (checked (ear_tests format.now.order format.now.size (texts_of words.now)) so_far) }
+{
+    let read = numbers(format.alloc, behind_two(words))?;
+    let (Some(from), Some(edges)) = (number(word(words, 1)), read) else {
+        return Err(Refusal::Fault(FaultKind::Number));
+    };
+    if is_out_of_range(format.order, from) || has_out_of_range(format.size, &edges) {
+        return Err(Refusal::Fault(FaultKind::Range));
+    }
+    let edges = copied(format.alloc, &edges)?;
+    Ok(Ear { from, edges })
+}
+
+// What has been read with one ear more, which is a step's first one or else its second one.
+fn with_ear(
+    start: u32,
+    steps: Steps,
+    last: Option<Ear>,
+    is_first: bool,
+    ear: Ear,
+) -> Result<EarsRead, Memory>
+    ensures { IfOk result
+        (λ read. ears_so_far read ≡
+        with_ear start (map step_of steps) (option_map ear_of last) is_first (ear_of ear)) }
+{
+    if is_first {
+        let steps = close_last(steps, last)?;
+        let last = Some(ear);
+        return Ok(EarsRead::Started { start, steps, last });
+    }
+    let steps = pair_last(steps, last, ear)?;
+    Ok(EarsRead::Started {
+        start,
+        steps,
+        last: None,
+    })
+}
+
 // A line behind that of the first stage.
 fn read_ear(
     format: &EarFormat,
@@ -108,34 +157,15 @@ fn read_ear(
         (ear_line format.now.order format.now.size start (map step_of steps)
         (option_map ear_of last) (texts_of words.now)) }
 {
-    let is_first = is_ear(words);
-    if !is_first && !(last.is_some() && is_with(words)) {
+    if !is_either_ear(last.is_some(), words) {
         return Err(Refusal::Fault(FaultKind::Word));
     }
-    let read = numbers(format.alloc, behind_two(words))?;
-    let (Some(from), Some(edges)) = (number(word(words, 1)), read) else {
-        return Err(Refusal::Fault(FaultKind::Number));
+    let ear = match ear_told(format, words) {
+        Ok(ear) => ear,
+        Err(refusal) => return Err(refusal),
     };
-    if is_out_of_range(format.order, from) || has_out_of_range(format.size, &edges) {
-        return Err(Refusal::Fault(FaultKind::Range));
-    }
-    let edges = copied(format.alloc, &edges)?;
-    let ear = Ear { from, edges };
-    if is_first {
-        let steps = close_last(steps, last)?;
-        Ok(EarsRead::Started {
-            start,
-            steps,
-            last: Some(ear),
-        })
-    } else {
-        let steps = pair_last(steps, last, ear)?;
-        Ok(EarsRead::Started {
-            start,
-            steps,
-            last: None,
-        })
-    }
+    let read = with_ear(start, steps, last, is_ear(words), ear)?;
+    Ok(read)
 }
 
 impl LineFormat for EarFormat {

@@ -1,20 +1,49 @@
--- The text of the first edges of a graph grows by the line of the next edge: a written list of lines with one line more is
--- the text of the list and then the text of that line.
-use Rattle.std.proofs.Common.{◌≡◌, ◌≤◌, ℕ, List, ◌∷◌, ◌++◌, map, take, take_all, ◌∙◌, ap, ap₂, arith}
+-- The text of the first items of a list grows by the line of the next item: a written list of lines with one line more is the text of
+-- the list and then the text of that line. The text of a graph is its header and then the lines of its parts.
+use Rattle.std.proofs.Common.{◌≡◌, ◌≤◌, ◌<◌, ◌+◌, ◌-◌, ℕ, List, [], ◌∷◌, ◌++◌, length, get_or, map, take, take_all, append_assoc, sym, ◌∙◌, ap, ap₂, arith}
+use Rattle.std.specs.Prelude.{codes}
+use Rattle.std.specs.Fmt.{decimal}
 use Rattle.line_text.specs.Words.{written}
-use Rattle.graph_core.specs.Graph.{Graph, size}
+use Rattle.line_text.proofs.WrittenLines.{written-append, written-more}
+use Rattle.graph_core.specs.Graph.{Graph, size, first_end, second_end}
 use Rattle.graph_text.specs.Writing.{edge_words, header_words, graph_text, name_words, named_edge_words, named_header_words, named_text}
 
--- all edges
-pub graph_text-by_edges : (g : Graph) (order edges i : ℕ) → order ≡ g.order → edges ≡ size g → edges ≤ i → written (header_words order edges ∷ map edge_words (take i g.ends)) ≡ graph_text g
-unfolding graph_text
-graph_text-by_edges g order edges i vertices all done =
-    ap₂ (λ n m. written (header_words n m ∷ map edge_words (take i g.ends))) vertices all
-    ∙ ap (λ ends. written (header_words g.order (size g) ∷ map edge_words ends)) (take_all i g.ends (omega arith))
+module _ {X : Type 0} (words_of : X → List (List ℕ)) (start : List ℕ) (xs : List X) (i : ℕ) where
+  -- the line of the next item
+  pub lines-more : (d : X) (now next : List ℕ) → i < length xs → now ≡ start ++ written (map words_of (take i xs)) → next ≡ now ++ written (words_of (get_or xs i d) ∷ []) → next ≡ start ++ written (map words_of (take (i + 1) xs))
+  lines-more d now next less first second =
+      second ∙ ap (λ (t : List ℕ). t ++ written (words_of (get_or xs i d) ∷ [])) first
+      ∙ append_assoc start (written (map words_of (take i xs))) (written (words_of (get_or xs i d) ∷ []))
+      ∙ ap (λ (t : List ℕ). start ++ t) (sym (written-more words_of [] xs i d less))
 
--- all edges between named vertices
-pub named_text-by_edges : (g : Graph) (names : List (List ℕ)) (order edges i : ℕ) → order ≡ g.order → edges ≡ size g → edges ≤ i → written (named_header_words order edges ∷ map name_words names ++ map (named_edge_words names) (take i g.ends)) ≡ named_text g names
+  -- the lines of all items
+  pub lines-all : (now : List ℕ) → length xs ≤ i → now ≡ start ++ written (map words_of (take i xs)) → now ≡ start ++ written (map words_of xs)
+  lines-all now done is = is ∙ ap (λ (ys : List X). start ++ written (map words_of ys)) (take_all i xs done)
+
+-- the ends of the next edge
+pub ends-next : (g : Graph) (i a b : ℕ) → a ≡ first_end g (i + 1) → b ≡ second_end g (i + 1) → (a, b) ≡ get_or g.ends i (0, 0)
+ends-next g i a b first second =
+    let same : i + 1 - 1 ≡ i = omega arith in
+    ap₂ (λ (a b : ℕ). (a, b)) (first ∙ ap (λ k. (get_or g.ends k (0, 0)).0) same) (second ∙ ap (λ k. (get_or g.ends k (0, 0)).1) same)
+
+-- the line of a header, and then other lines
+header-first : (header : List (List ℕ)) (lines : List (List (List ℕ))) (text : List ℕ) → text ≡ written (header ∷ []) → text ++ written lines ≡ written (header ∷ lines)
+header-first header lines text is = ap (λ (t : List ℕ). t ++ written lines) is ∙ sym (written-append (header ∷ []) lines)
+
+-- the header and the lines of the edges
+pub graph_text-lines : (g : Graph) (order edges : ℕ) (text next : List ℕ) → order ≡ g.order → edges ≡ size g → text ≡ codes "p mcg " ++ (decimal order ++ (codes " " ++ (decimal edges ++ codes "\n"))) → next ≡ text ++ written (map edge_words g.ends) → next ≡ graph_text g
+unfolding graph_text
+graph_text-lines g order edges text next vertices all first second =
+    second ∙ header-first (header_words order edges) (map edge_words g.ends) text (first ∙ simp append_assoc)
+    ∙ ap₂ (λ n m. written (header_words n m ∷ map edge_words g.ends)) vertices all
+
+-- the header, the lines of the names and those of the edges between named vertices
+pub named_text-lines : (g : Graph) (names : List (List ℕ)) (order edges : ℕ) (text middle next : List ℕ) → order ≡ g.order → edges ≡ size g → text ≡ codes "p mcg2 " ++ (decimal order ++ (codes " " ++ (decimal edges ++ codes "\n"))) → middle ≡ text ++ written (map name_words names) → next ≡ middle ++ written (map (named_edge_words names) g.ends) → next ≡ named_text g names
 unfolding named_text
-named_text-by_edges g names order edges i vertices all done =
-    ap₂ (λ n m. written (named_header_words n m ∷ map name_words names ++ map (named_edge_words names) (take i g.ends))) vertices all
-    ∙ ap (λ ends. written (named_header_words g.order (size g) ∷ map name_words names ++ map (named_edge_words names) ends)) (take_all i g.ends (omega arith))
+named_text-lines g names order edges text middle next vertices all first second third =
+    let vertex_lines : List (List (List ℕ)) = map name_words names in
+    let edge_lines : List (List (List ℕ)) = map (named_edge_words names) g.ends in
+    third ∙ ap (λ (t : List ℕ). t ++ written edge_lines) second ∙ append_assoc text (written vertex_lines) (written edge_lines)
+    ∙ ap (λ (t : List ℕ). text ++ t) (sym (written-append vertex_lines edge_lines))
+    ∙ header-first (named_header_words order edges) (vertex_lines ++ edge_lines) text (first ∙ simp append_assoc)
+    ∙ ap₂ (λ n m. written (named_header_words n m ∷ vertex_lines ++ edge_lines)) vertices all

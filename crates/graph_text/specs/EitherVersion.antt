@@ -18,6 +18,10 @@ pub record EitherSoFar : Type 0 where
   pub so_far : GraphSoFar
   pub names : Option (List (List ℕ))
 
+-- the graph as far as it has been read, in version 2
+abbrev pub named_so_far : GraphSoFar → List (List ℕ) → EitherSoFar
+named_so_far body names = record { so_far = body; names = Some names }
+
 -- a graph, and the names of its vertices where it has names
 pub record NamedGraph : Type 0 where
   pub graph : Graph
@@ -64,7 +68,7 @@ vertex_line body names words =
     ∷ (not (is_name name), kind.BadName)
     ∷ (is_among names name, kind.SameName)
     ∷ [])
-    (record { so_far = body; names = Some (names ++ name ∷ []) })
+    (named_so_far body (names ++ name ∷ []))
 
 -- a line `e X Y` adds an edge between the vertices with these names
 abbrev pub named_edge_line : GraphSoFar → List (List ℕ) → List (List ℕ) → Result EitherSoFar FaultKind
@@ -75,10 +79,7 @@ named_edge_line body names words =
     ∷ (not (is_among names x && is_among names y), kind.Unnamed)
     ∷ (bytes_eq x y, kind.Loop)
     ∷ [])
-    (record {
-      so_far = record body { graph = with_edge body.graph (vertex_of names x) (vertex_of names y) };
-      names = Some names;
-    })
+    (named_so_far (record body { graph = with_edge body.graph (vertex_of names x) (vertex_of names y) }) names)
 
 -- a line behind the header in version 2: the names of all vertices come first, then the edges, then nothing
 abbrev pub named_line : GraphSoFar → List (List ℕ) → List (List ℕ) → Result EitherSoFar FaultKind

@@ -6,7 +6,7 @@ ghost use Rattle.line_text.specs.Words.{texts_of};
 ghost use Rattle.text_faults.specs.Readings.{IsFirstFault, ReadsText};
 ghost use Rattle.graph_core.specs.declared.faults.FaultKind.{FaultKind};
 ghost use Rattle.graph_core.specs.Graph.{size};
-ghost use Rattle.graph_text.specs.EitherVersion.{EitherSoFar, NamedGraph, is_over, either_header, vertex_line, named_edge_line, named_line, line_behind, end_behind, either_version};
+ghost use Rattle.graph_text.specs.EitherVersion.{EitherSoFar, NamedGraph, named_so_far, is_over, either_header, vertex_line, named_edge_line, named_line, line_behind, end_behind, either_version};
 ghost use Rattle.graph_text.specs.SoFar.{so_far, either_so_far, named_graph};
 
 use crate::body::{Body, EitherBody};
@@ -63,14 +63,15 @@ fn read_header(alloc: Global, words: &[&[u8]]) -> Result<EitherBody, Refusal<Fau
 }
 
 // A line that names the next vertex.
-fn read_name(
+fn add_name(
     alloc: Global,
-    body: Body,
-    names: Names,
+    body: &Body,
+    names: &mut Names,
     words: &[&[u8]],
-) -> Result<EitherBody, Refusal<FaultKind>>
-    requires { length names < body.graph.order }
-    ensures { Gives either_so_far result (vertex_line (so_far body) names (texts_of words.now)) }
+) -> Result<(), Refusal<FaultKind>>
+    requires { length names.old < body.now.graph.order }
+    ensures { Gives (λ _. named_so_far (so_far body.now) names.new) result
+        (vertex_line (so_far body.now) names.old (texts_of words.now)) }
 {
     if !has_form(words, 2, &["v"]) {
         return Err(Refusal::Fault(FaultKind::Word));
@@ -82,22 +83,18 @@ fn read_name(
         return Err(Refusal::Fault(FaultKind::SameName));
     }
     body.graph.keeps_limits();
-    let mut names = names;
     names.push(alloc, name)?;
-    Ok(EitherBody {
-        body,
-        names: Some(names),
-    })
+    Ok(())
 }
 
 // A line of an edge between named vertices.
-fn read_named_edge(
-    body: Body,
-    names: Names,
+fn add_named_edge(
+    body: &mut Body,
+    names: &Names,
     words: &[&[u8]],
-) -> Result<EitherBody, Refusal<FaultKind>>
-    ensures { Gives either_so_far result
-        (named_edge_line (so_far body) names (texts_of words.now)) }
+) -> Result<(), Refusal<FaultKind>>
+    ensures { Gives (λ _. named_so_far (so_far body.new) names.now) result
+        (named_edge_line (so_far body.old) names.now (texts_of words.now)) }
 {
     if !has_form(words, 3, &["e"]) {
         return Err(Refusal::Fault(FaultKind::Word));
@@ -108,12 +105,8 @@ fn read_named_edge(
     if word(words, 1) == word(words, 2) {
         return Err(Refusal::Fault(FaultKind::Loop));
     }
-    let mut body = body;
     match body.graph.add_edge(a, b) {
-        Ok(_) => Ok(EitherBody {
-            body,
-            names: Some(names),
-        }),
+        Ok(_) => Ok(()),
         Err(_) => Err(Refusal::Memory),
     }
 }
@@ -121,19 +114,20 @@ fn read_named_edge(
 // A line behind the header in version 2.
 fn read_named_line(
     alloc: Global,
-    body: Body,
-    names: Names,
+    body: &mut Body,
+    names: &mut Names,
     words: &[&[u8]],
-) -> Result<EitherBody, Refusal<FaultKind>>
-    ensures { Gives either_so_far result (named_line (so_far body) names (texts_of words.now)) }
+) -> Result<(), Refusal<FaultKind>>
+    ensures { Gives (λ _. named_so_far (so_far body.new) names.new) result
+        (named_line (so_far body.old) names.old (texts_of words.now)) }
 {
     if names.len() < body.graph.order() as usize {
-        return read_name(alloc, body, names, words);
+        return add_name(alloc, body, names, words);
     }
     if body.graph.size() == body.edges {
         return Err(Refusal::Fault(FaultKind::Extra));
     }
-    read_named_edge(body, names, words)
+    add_named_edge(body, names, words)
 }
 
 // The end of a text of version 2.
@@ -173,13 +167,17 @@ impl LineFormat for EitherVersion {
     }
 
     fn line(&self, either: EitherBody, words: &[&[u8]]) -> Result<EitherBody, Refusal<FaultKind>> {
-        let EitherBody { body, names } = either;
+        let EitherBody { mut body, names } = either;
         match names {
-            Some(names) => read_named_line(self.alloc, body, names, words),
-            None => match read_edge(body, words) {
-                Ok(body) => Ok(EitherBody { body, names: None }),
-                Err(refusal) => Err(refusal),
-            },
+            Some(mut names) => {
+                read_named_line(self.alloc, &mut body, &mut names, words)?;
+                let names = Some(names);
+                Ok(EitherBody { body, names })
+            }
+            None => {
+                read_edge(&mut body, words)?;
+                Ok(EitherBody { body, names: None })
+            }
         }
     }
 

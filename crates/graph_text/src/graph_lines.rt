@@ -10,9 +10,10 @@ use crate::body::Body;
 use graph_core::{FaultKind, MultiGraph};
 use line_text::{Refusal, has_form, number, word};
 
-// The body with one edge more.
-fn with_edge(body: Body, words: &[&[u8]]) -> Result<Body, Refusal<FaultKind>>
-    ensures { Gives so_far result (edge_line (so_far body) (texts_of words.now)) }
+// A line of an edge between numbered vertices.
+fn add_edge(body: &mut Body, words: &[&[u8]]) -> Result<(), Refusal<FaultKind>>
+    ensures { Gives (λ _. so_far body.new) result
+        (edge_line (so_far body.old) (texts_of words.now)) }
 {
     if !has_form(words, 3, &["e"]) {
         return Err(Refusal::Fault(FaultKind::Word));
@@ -20,7 +21,6 @@ fn with_edge(body: Body, words: &[&[u8]]) -> Result<Body, Refusal<FaultKind>>
     let (Some(a), Some(b)) = (number(word(words, 1)), number(word(words, 2))) else {
         return Err(Refusal::Fault(FaultKind::Number));
     };
-    let mut body = body;
     let n = body.graph.order();
     if a == 0 || a > n || b == 0 || b > n {
         return Err(Refusal::Fault(FaultKind::Range));
@@ -29,19 +29,20 @@ fn with_edge(body: Body, words: &[&[u8]]) -> Result<Body, Refusal<FaultKind>>
         return Err(Refusal::Fault(FaultKind::Loop));
     }
     match body.graph.add_edge(a, b) {
-        Ok(_) => Ok(body),
+        Ok(_) => Ok(()),
         Err(_) => Err(Refusal::Memory),
     }
 }
 
 /// A significant line behind the header.
-pub fn read_edge(body: Body, words: &[&[u8]]) -> Result<Body, Refusal<FaultKind>>
-    ensures { Gives so_far result (graph_line (so_far body) (texts_of words.now)) }
+pub fn read_edge(body: &mut Body, words: &[&[u8]]) -> Result<(), Refusal<FaultKind>>
+    ensures { Gives (λ _. so_far body.new) result
+        (graph_line (so_far body.old) (texts_of words.now)) }
 {
     if body.graph.size() == body.edges {
         return Err(Refusal::Fault(FaultKind::Extra));
     }
-    with_edge(body, words)
+    add_edge(body, words)
 }
 
 /// The end of the text.

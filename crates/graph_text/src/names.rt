@@ -1,8 +1,8 @@
 //! The names of vertices.
-ghost use Rattle.std.specs.Prelude.{◌≡◌, ◌<◌, ◌≤◌, ◌++◌, ◌∷◌, [], List, ℕ, true, false, is_some, length, position, slice_index_or, IfSome, IfOk, OnOk, OnErr};
+ghost use Rattle.std.specs.Prelude.{◌≡◌, ◌<◌, ◌≤◌, ◌^◌, ◌++◌, ◌∷◌, [], List, ℕ, true, false, is_some, length, position, slice_index_or, IfSome, IfOk, OnOk, OnErr};
 ghost use Rattle.std.specs.List.{list_all};
 ghost use Rattle.std.specs.Str.{bytes_eq};
-ghost use Rattle.graph_text.specs.Names.{is_name, is_name_byte, is_among, vertex_of, plain_names};
+ghost use Rattle.graph_text.specs.Names.{is_name, is_name_byte, is_among, vertex_of, plain_name, plain_names};
 ghost use Rattle.counting.specs.Counts.{Within};
 
 use indexmap::IndexSet;
@@ -146,6 +146,17 @@ impl Names {
     }
 }
 
+// Puts the plain name of a vertex behind the others.
+fn push_plain(alloc: Global, names: &mut Names, vertex: u32) -> Result<(), Memory>
+    requires new { is_among names.old (plain_name vertex) ≡ false }
+    requires few { length names.old < MOST_VERTICES }
+    requires number { vertex < 10 ^ 9 }
+    ensures { OnOk result (names.new ≡ names.old ++ plain_name vertex ∷ []) }
+{
+    let name = format!(in alloc; "v{vertex}")?;
+    names.push(alloc, &name)
+}
+
 /// The plain names of `n` vertices: `v1`, `v2` and so on, that of vertex k being `v` and k in decimal.
 pub fn plain_names(alloc: Global, n: u32) -> Result<Names, Memory>
     requires { n ≤ MOST_VERTICES }
@@ -154,9 +165,7 @@ pub fn plain_names(alloc: Global, n: u32) -> Result<Names, Memory>
 {
     let mut names = Names::new(alloc);
     for k in 0..n {
-        let number = k + 1;
-        let name = format!(in alloc; "v{number}")?;
-        names.push(alloc, &name)?;
+        push_plain(alloc, &mut names, k + 1)?;
     }
     Ok(names)
 }

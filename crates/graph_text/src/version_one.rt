@@ -67,7 +67,9 @@ impl LineFormat for VersionOne {
     }
 
     fn line(&self, body: Body, words: &[&[u8]]) -> Result<Body, Refusal<FaultKind>> {
-        read_edge(body, words)
+        let mut body = body;
+        read_edge(&mut body, words)?;
+        Ok(body)
     }
 
     fn close(&self, body: Body) -> Result<MultiGraph, Refusal<FaultKind>> {

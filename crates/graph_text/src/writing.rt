@@ -1,5 +1,5 @@
 //! Writing a graph.
-ghost use Rattle.std.specs.Prelude.{◌≡◌, ◌≤◌, ◌++◌, [], ◌∷◌, length, Some, OnOk, IfOk, string_bytes};
+ghost use Rattle.std.specs.Prelude.{◌≡◌, ◌≤◌, ◌++◌, [], ◌∷◌, length, map, Some, OnOk, IfOk, string_bytes};
 ghost use Rattle.counting.specs.Counts.{Within};
 ghost use Rattle.graph_text.specs.EitherVersion.{either_version};
 ghost use Rattle.line_text.specs.Format.{Stands, StandsAlone};
@@ -23,6 +23,18 @@ fn push_edge(text: &mut String, ends: Ends) -> Result<(), Memory>
     write!(text, "e {a} {b}\n")
 }
 
+// The lines of the edges.
+fn push_edges(text: &mut String, g: &MultiGraph) -> Result<(), Memory>
+    ensures { OnOk result
+        (string_bytes text.new ≡ string_bytes text.old ++ written (map edge_words g.now.ends)) }
+{
+    let size = g.size();
+    for i in 0..size {
+        push_edge(text, g.ends(i + 1))?;
+    }
+    Ok(())
+}
+
 /// Writes a graph of at most 64 vertices and 512 edges in version 1 of the format: a header `p mcg N M` with the numbers of
 /// vertices and edges, and a line `e A B` for each edge, in the order of their numbers, with its ends in their order.
 ///
@@ -38,9 +50,7 @@ pub fn write_graph(alloc: Global, g: &MultiGraph) -> Result<Vec<u8>, Memory>
     let order = g.order();
     let size = g.size();
     let mut text = format!(in alloc; "p mcg {order} {size}\n")?;
-    for i in 0..size {
-        push_edge(&mut text, g.ends(i + 1))?;
-    }
+    push_edges(&mut text, g)?;
     Ok(text.into_bytes())
 }
 
@@ -50,6 +60,18 @@ fn push_name(text: &mut String, name: &str) -> Result<(), Memory>
         (string_bytes text.new ≡ string_bytes text.old ++ written (name_words name.now ∷ [])) }
 {
     write!(text, "v {name}\n")
+}
+
+// The lines of the names.
+fn push_names(text: &mut String, names: &Names) -> Result<(), Memory>
+    ensures { OnOk result
+        (string_bytes text.new ≡ string_bytes text.old ++ written (map name_words names.now)) }
+{
+    let count = names.len();
+    for k in 0..count {
+        push_name(text, names.get(k))?;
+    }
+    Ok(())
 }
 
 // The line of an edge between named vertices.
@@ -63,6 +85,20 @@ fn push_named_edge(text: &mut String, names: &Names, ends: Ends) -> Result<(), M
     let a = names.get(ends.a as usize - 1);
     let b = names.get(ends.b as usize - 1);
     write!(text, "e {a} {b}\n")
+}
+
+// The lines of the edges between named vertices.
+fn push_named_edges(text: &mut String, g: &MultiGraph, names: &Names) -> Result<(), Memory>
+    requires { length names.now ≡ g.now.order }
+    ensures { OnOk result
+        (string_bytes text.new ≡ string_bytes text.old ++
+        written (map (named_edge_words names.now) g.now.ends)) }
+{
+    let size = g.size();
+    for i in 0..size {
+        push_named_edge(text, names, g.ends(i + 1))?;
+    }
+    Ok(())
 }
 
 /// Writes a graph with the names of its vertices, one for each, in version 2 of the format: a header `p mcg2 N M`, a line `v NAME`
@@ -81,13 +117,8 @@ pub fn write_named(alloc: Global, g: &MultiGraph, names: &Names) -> Result<Vec<u
     names.are_names();
     let order = g.order();
     let size = g.size();
-    let count = names.len();
     let mut text = format!(in alloc; "p mcg2 {order} {size}\n")?;
-    for k in 0..count {
-        push_name(&mut text, names.get(k))?;
-    }
-    for i in 0..size {
-        push_named_edge(&mut text, names, g.ends(i + 1))?;
-    }
+    push_names(&mut text, names)?;
+    push_named_edges(&mut text, g, names)?;
     Ok(text.into_bytes())
 }

@@ -3,6 +3,7 @@ use Rattle.std.proofs.Common.{◌≡◌, ◌≤◌, ℕ, zero, suc, ◌+◌, ◌
 use Rattle.std.proofs.Math.ListN.{get_or-append}
 use Rattle.std.proofs.Math.Seq.{get_or-append_seam}
 use Rattle.std.proofs.lemmas.Bool.{cases_lt}
+use Rattle.std.proofs.lemmas.List.{length-append, length-map}
 use Rattle.std.proofs.lemmas.Option.{get_or_from_slice_get, slice_get-map}
 use Rattle.std.specs.Option.{option_map}
 use Rattle.counting.specs.Counts.{Within}
@@ -10,7 +11,7 @@ use Rattle.contraction.specs.Partition.{PartitionValue}
 use Rattle.graph_core.specs.Graph.{Graph}
 use Rattle.tree_core.specs.LeafMaps.{leaf_at}
 use Rattle.report_text.specs.Derivations.{leaf_lines, leaf_text}
-use Rattle.report_text.specs.Tallies.{IsLeafKind, kind_at}
+use Rattle.report_text.specs.Tallies.{AreLeafKinds, IsLeafKind, kind_at}
 use Rattle.report_text.specs.declared.tallies.LeafKind.{LeafKind}
 use Rattle.report_text.specs.declared.tallies.LeafKind.TheVariants.{Brick}
 use Rattle.report_text.proofs.WrittenLines.{leaf-written}
@@ -33,6 +34,23 @@ pub blocks-at : (found : List PartitionValue) (i : ℕ) (p : PartitionValue) →
 blocks-at found i p is =
     get_or_from_slice_get (map (λ (q : PartitionValue). q.blocks) found) i p.blocks []
     (slice_get-map (λ (q : PartitionValue). q.blocks) found i ∙ ap (option_map (λ (q : PartitionValue). q.blocks)) is)
+
+-- the same of a list of kinds that has one more
+pub kinds-next : (g : Graph) (leaves : List PartitionValue) (i : ℕ) (p : PartitionValue) (kinds more : List LeafKind) (kind : LeafKind) → slice_get leaves i ≡ Some p → more ≡ kinds ++ kind ∷ [] → length kinds ≡ i →
+    ((j : ℕ) → Within i j → IsLeafKind g (leaf_at (map (λ (q : PartitionValue). q.blocks) leaves) j) (kind_at kinds j)) → IsLeafKind g p.blocks kind →
+    (length more ≡ i + 1) × ((j : ℕ) → Within (i + 1) j → IsLeafKind g (leaf_at (map (λ (q : PartitionValue). q.blocks) leaves) j) (kind_at more j))
+kinds-next g leaves i p kinds more kind is one e before here =
+    let ps : List (List (List ℕ)) = map (λ (q : PartitionValue). q.blocks) leaves in
+    (ap length one ∙ length-append kinds (kind ∷ []) ∙ ap (λ (n : ℕ). n + 1) e,
+    λ j w. subst (λ (ks : List LeafKind). IsLeafKind g (leaf_at ps j) (kind_at ks j)) (sym one)
+    (kinds-more g ps i kinds kind e before (subst (λ (b : List (List ℕ)). IsLeafKind g b kind) (sym (blocks-at leaves i p is)) here) j w))
+
+-- the kinds of all leaves
+pub kinds-all : (g : Graph) (leaves : List PartitionValue) (i : ℕ) (kinds : List LeafKind) → i ≡ length leaves → length kinds ≡ i →
+    ((j : ℕ) → Within i j → IsLeafKind g (leaf_at (map (λ (q : PartitionValue). q.blocks) leaves) j) (kind_at kinds j)) → AreLeafKinds g (map (λ (q : PartitionValue). q.blocks) leaves) kinds
+kinds-all g leaves i kinds all e right =
+    let count : i ≡ length (map (λ (q : PartitionValue). q.blocks) leaves) = all ∙ sym (length-map leaves (λ (q : PartitionValue). q.blocks)) in
+    record { each_one = e ∙ count; right = λ j w. right j (subst (λ (n : ℕ). Within n j) (sym count) w) }
 
 -- the lines of the first leaves don't tell the kinds of later ones
 lines-before : (g : Graph) (ps : List (List (List ℕ))) (kinds more : List LeafKind) (i : ℕ) → i ≤ length kinds → leaf_lines g ps kinds i ≡ leaf_lines g ps (kinds ++ more) i

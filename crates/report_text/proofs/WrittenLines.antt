@@ -16,7 +16,7 @@ use Rattle.report_text.specs.declared.tallies.LeafKind.{LeafKind}
 use Rattle.report_text.specs.declared.tallies.LeafKind.TheVariants.{Brick}
 
 -- one more line behind those that are written
-one-more : (start lines line now next : List ℕ) → now ≡ start ++ lines → next ≡ now ++ line → next ≡ start ++ (lines ++ line)
+pub one-more : (start lines line now next : List ℕ) → now ≡ start ++ lines → next ≡ now ++ line → next ≡ start ++ (lines ++ line)
 one-more start lines line now next first second = second ∙ ap (λ (t : List ℕ). t ++ line) first ∙ append_assoc start lines line
 
 -- the line of the next block
@@ -42,15 +42,12 @@ adjacent-written g p q h i a b x y edges start now next is same first_is second_
     (second ∙ ap (λ (l : List ℕ). now ++ l) (ap (λ (v : ℕ). adjacent_line v y edges) xs ∙ ap (λ (v : ℕ). adjacent_line (name_at p (first_end (quotient g p) (suc i))) v edges) ys ∙ ap (λ (es : List ℕ). adjacent_line (name_at p (first_end (quotient g p) (suc i))) (name_at p (second_end (quotient g p) (suc i))) es) edges_are))
 
 -- the lines of a leaf: its own, those of its blocks, and those of the pairs of adjacent blocks, which are the edges of its quotient
-pub leaf_text-written : (g : Graph) (p : List (List ℕ)) (number : ℕ) (kind : LeafKind) (q : ContractedValue) (h : Graph) (i count : ℕ) (start first second end : List ℕ) →
-    q ≡ contraction g p → h ≡ q.graph → count ≡ size h → i ≡ count → first ≡ start ++ leaf_line number kind → second ≡ first ++ block_lines p (length p) → end ≡ second ++ adjacent_lines g p i →
-    end ≡ start ++ leaf_text g number p kind
+pub leaf_text-written : (g : Graph) (p : List (List ℕ)) (number : ℕ) (kind : LeafKind) (start first second end : List ℕ) →
+    first ≡ start ++ leaf_line number kind → second ≡ first ++ block_lines p (length p) → end ≡ second ++ adjacent_lines g p (size (quotient g p)) → end ≡ start ++ leaf_text g number p kind
 unfolding leaf_text
-leaf_text-written g p number kind q h i count start first second end is same counted last line blocks pairs =
+leaf_text-written g p number kind start first second end line blocks pairs =
     let adjacent : List ℕ = adjacent_lines g p (size (quotient g p)) in
-    let all : i ≡ size (quotient g p) = last ∙ counted ∙ ap size (same ∙ ap (λ (q : ContractedValue). q.graph) is) in
     pairs
-    ∙ ap (λ (k : ℕ). second ++ adjacent_lines g p k) all
     ∙ ap (λ (t : List ℕ). t ++ adjacent) (one-more start (leaf_line number kind) (block_lines p (length p)) first second line blocks)
     ∙ append_assoc start (leaf_line number kind ++ block_lines p (length p)) adjacent
 

@@ -11,6 +11,10 @@ use Rattle.report_text.specs.declared.structures.Structure.{Structure}
 abbrev pub graph_lines : AnalysisLines → List ℕ
 graph_lines lines = (graph_line lines.order lines.size ++ components_line lines.components) ++ bipartite_line lines.bipartite
 
+-- the lines on the graph, and on the numbers of its maximum matchings
+abbrev pub numbers_told : AnalysisLines → List ℕ
+numbers_told lines = (graph_lines lines ++ matching_line lines.matching) ++ deficiency_line lines.deficiency
+
 -- the lines of the Gallai-Edmonds sets behind others
 abbrev pub with_three_sets : List ℕ → AnalysisLines → List ℕ
 with_three_sets before lines = ((before ++ list_line (codes "D") lines.d) ++ list_line (codes "A") lines.a) ++ list_line (codes "C") lines.c
@@ -26,7 +30,7 @@ with_structure before (Some structure) = before ++ structure_text structure
 
 -- the lines from that of the graph to that of the verdict
 unfoldable pub verdict_lines : AnalysisLines → List ℕ
-verdict_lines lines = with_verdict (with_three_sets ((graph_lines lines ++ matching_line lines.matching) ++ deficiency_line lines.deficiency) lines) lines
+verdict_lines lines = with_verdict (with_three_sets (numbers_told lines) lines) lines
 
 -- the report of `analyse`
 unfoldable pub analysis_text : AnalysisLines → List ℕ

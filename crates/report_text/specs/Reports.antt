@@ -35,10 +35,14 @@ numbers_text (n ∷ ns) = codes " " ++ (decimal n ++ numbers_text ns)
 abbrev pub list_line : List ℕ → List ℕ → List ℕ
 list_line word ns = word ++ (numbers_text ns ++ codes "\n")
 
+-- what is told of two vertices that no walk joins
+abbrev pub parts_text : (a b : ℕ) → List ℕ
+parts_text a b = codes " parts " ++ decimal a ++ codes " " ++ decimal b
+
 -- what a reason adds to the line of a graph that is not covered
 abbrev pub reason_text : Reason → List ℕ
 reason_text Small = codes " order"
-reason_text (Parted a b) = codes " parts " ++ decimal a ++ codes " " ++ decimal b
+reason_text (Parted a b) = parts_text a b
 reason_text (Unmatched berge) = codes " berge" ++ numbers_text berge
 reason_text (Unallowed edge) = codes " edge " ++ decimal edge
 

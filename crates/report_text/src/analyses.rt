@@ -1,6 +1,6 @@
 //! The report of `analyse`.
-ghost use Rattle.std.specs.Prelude.{◌≡◌, ◌++◌, codes, OnOk, IfOk, string_bytes};
-ghost use Rattle.report_text.specs.Analyses.{analysis_text, verdict_lines, with_structure};
+ghost use Rattle.std.specs.Prelude.{◌≡◌, ◌++◌, [], codes, OnOk, IfOk, string_bytes};
+ghost use Rattle.report_text.specs.Analyses.{analysis_text, numbers_told, verdict_lines, with_structure, with_three_sets};
 ghost use Rattle.report_text.specs.Reports.{bipartite_line, count_line, graph_line, yes_or_no};
 
 use crate::numbers::{push_numbers_line, push_set_line};
@@ -67,37 +67,48 @@ fn push_bipartite(text: &mut String, holds: bool) -> Result<(), Memory>
     write!(text, "bipartite {answer}\n")
 }
 
-// The lines from that of the graph to that of the verdict.
-#[tactic(auto, unfolding(crate::specs::Analyses::verdict_lines))]
-fn text_to_verdict(alloc: Global, lines: &AnalysisLines) -> Result<String, Memory>
-    ensures { IfOk result (λ text. string_bytes text ≡ verdict_lines lines.now) }
+// The lines from that of the graph to that of the deficiency, in a text that is empty.
+fn push_numbers_told(text: &mut String, lines: &AnalysisLines) -> Result<(), Memory>
+    requires { string_bytes text.old ≡ [] }
+    ensures { OnOk result (string_bytes text.new ≡ numbers_told lines.now) }
 {
-    let mut text = String::new(alloc);
-    push_graph(&mut text, lines.order, lines.size)?;
-    push_count(&mut text, "components", lines.components)?;
-    push_bipartite(&mut text, lines.bipartite)?;
-    push_count(&mut text, "matching", lines.matching)?;
-    push_count(&mut text, "deficiency", lines.deficiency)?;
-    push_set_line(&mut text, "D", lines.d)?;
-    push_set_line(&mut text, "A", lines.a)?;
-    push_set_line(&mut text, "C", lines.c)?;
-    push_numbers_line(&mut text, "allowed", &lines.allowed)?;
-    push_verdict(&mut text, &lines.verdict)?;
-    Ok(text)
+    push_graph(text, lines.order, lines.size)?;
+    push_count(text, "components", lines.components)?;
+    push_bipartite(text, lines.bipartite)?;
+    push_count(text, "matching", lines.matching)?;
+    push_count(text, "deficiency", lines.deficiency)
 }
 
-// The text, and then the lines on the structure where there is one.
-fn with_structure(text: String, structure: &Option<Structure>) -> Result<String, Memory>
-    ensures { IfOk result
-        (λ all. string_bytes all ≡ with_structure (string_bytes text) structure.now) }
+// The lines of the Gallai-Edmonds sets.
+fn push_three_sets(text: &mut String, lines: &AnalysisLines) -> Result<(), Memory>
+    ensures { OnOk result
+        (string_bytes text.new ≡ with_three_sets (string_bytes text.old) lines.now) }
+{
+    push_set_line(text, "D", lines.d)?;
+    push_set_line(text, "A", lines.a)?;
+    push_set_line(text, "C", lines.c)
+}
+
+// The lines from that of the graph to that of the verdict, in a text that is empty.
+#[tactic(auto, unfolding(crate::specs::Analyses::verdict_lines))]
+fn push_to_verdict(text: &mut String, lines: &AnalysisLines) -> Result<(), Memory>
+    requires { string_bytes text.old ≡ [] }
+    ensures { OnOk result (string_bytes text.new ≡ verdict_lines lines.now) }
+{
+    push_numbers_told(text, lines)?;
+    push_three_sets(text, lines)?;
+    push_numbers_line(text, "allowed", &lines.allowed)?;
+    push_verdict(text, &lines.verdict)
+}
+
+// The lines on the structure, where there is one.
+fn push_any_structure(text: &mut String, structure: &Option<Structure>) -> Result<(), Memory>
+    ensures { OnOk result
+        (string_bytes text.new ≡ with_structure (string_bytes text.old) structure.now) }
 {
     match structure {
-        Some(structure) => {
-            let mut text = text;
-            push_structure(&mut text, structure)?;
-            Ok(text)
-        }
-        None => Ok(text),
+        Some(structure) => push_structure(text, structure),
+        None => Ok(()),
     }
 }
 
@@ -106,7 +117,8 @@ fn with_structure(text: String, structure: &Option<Structure>) -> Result<String,
 pub fn analysis(alloc: Global, lines: &AnalysisLines) -> Result<Vec<u8>, Memory>
     ensures { IfOk result (λ text. text.items ≡ analysis_text lines.now) }
 {
-    let text = text_to_verdict(alloc, lines)?;
-    let text = with_structure(text, &lines.structure)?;
+    let mut text = String::new(alloc);
+    push_to_verdict(&mut text, lines)?;
+    push_any_structure(&mut text, &lines.structure)?;
     Ok(text.into_bytes())
 }

@@ -131,7 +131,8 @@ fn push_partner(text: &mut String, leaf: u32, partner: u32) -> Result<(), Memory
     ensures { OnOk result
         (string_bytes text.new ≡ string_bytes text.old ++ partner_line leaf partner) }
 {
-    write!(text, "leaf {leaf} with {partner}\n")
+    write!(text, "leaf {leaf} with {partner}\n")?;
+    Ok(())
 }
 
 fn push_image(text: &mut String, name: u32, image: u32) -> Result<(), Memory>

@@ -2,16 +2,17 @@
 ghost use Rattle.std.specs.Prelude.{◌≡◌, ◌<◌, ◌≤◌, ◌++◌, ◌^◌, List, length, map, codes, OnOk, IfOk, All, string_bytes};
 ghost use Rattle.counting.specs.Counts.{Within};
 ghost use Rattle.counting.specs.Lists.{last_of};
-ghost use Rattle.graph_core.specs.Graph.{size};
+ghost use Rattle.contraction.specs.Contracted.{contraction};
+ghost use Rattle.graph_core.specs.Graph.{Graph, size};
 ghost use Rattle.graph_core.specs.Quotients.{quotient};
-ghost use Rattle.report_text.specs.Tallies.{AreLeafKinds, IsLeafKind, tally_of};
+ghost use Rattle.report_text.specs.Tallies.{AreLeafKinds, IsKindOf, IsLeafKind, tally_of};
 ghost use Rattle.report_text.specs.Derivations.{adjacent_line, adjacent_lines, block_lines, derivation_text, kind_word, leaf_line, leaf_lines, leaf_text, name_at, tally_line};
 ghost use Rattle.report_text.specs.declared.tallies.LeafKind.{LeafKind};
 
 use crate::commenting::commented;
 use crate::numbers::{push_numbers, push_set_line};
 use crate::tallies::{LeafKind, Tally, kind_of, tallied};
-use contraction::{Partition, quotient};
+use contraction::{Contracted, Partition, quotient};
 use graph_core::MultiGraph;
 use std::alloc::{AllocError as Memory, Global};
 use tree_core::Partitions;
@@ -70,8 +71,49 @@ fn push_adjacent(text: &mut String, a: u32, b: u32, edges: &[u32]) -> Result<(),
     write!(text, "\n")
 }
 
+// The lines of the pairs of adjacent blocks, which are the edges of the quotient at the partition.
+fn push_pairs(text: &mut String, p: &Partition, q: &Contracted) -> Result<(), Memory>
+    requires { (g : Graph) × (q.now ≡ contraction g p.now.blocks) }
+    ensures { (g : Graph) → q.now ≡ contraction g p.now.blocks →
+        OnOk result (string_bytes text.new ≡ string_bytes text.old ++
+        adjacent_lines g p.now.blocks (size (quotient g p.now.blocks))) }
+{
+    let graph = q.graph();
+    for i in 0..graph.size() {
+        let edge = i + 1;
+        let ends = graph.ends(edge);
+        push_adjacent(
+            text,
+            name_at(p, ends.a),
+            name_at(p, ends.b),
+            q.remembered(edge),
+        )?;
+    }
+    Ok(())
+}
+
+// The lines of the leaf at a partition with this quotient, and its kind.
+fn push_quotient(
+    alloc: Global,
+    text: &mut String,
+    number: usize,
+    p: &Partition,
+    q: &Contracted,
+) -> Result<LeafKind, Memory>
+    requires { (g : Graph) × (q.now ≡ contraction g p.now.blocks) }
+    ensures kind { IfOk result (IsKindOf q.now.graph) }
+    ensures lines { (g : Graph) → q.now ≡ contraction g p.now.blocks →
+        IfOk result (λ kind. string_bytes text.new ≡ string_bytes text.old ++
+        leaf_text g number p.now.blocks kind) }
+{
+    let kind = kind_of(alloc, q.graph())?;
+    push_leaf_line(text, number, kind)?;
+    push_blocks(text, p)?;
+    push_pairs(text, p, q)?;
+    Ok(kind)
+}
+
 // The lines of the leaf at a partition, and its kind. Its quotient is made once for both.
-#[tactic(auto, unfolding(crate::specs::Derivations::leaf_text))]
 fn push_leaf(
     alloc: Global,
     text: &mut String,
@@ -86,21 +128,7 @@ fn push_leaf(
         leaf_text g.now number p.now.blocks kind) }
 {
     let q = quotient(alloc, g, p)?;
-    let graph = q.graph();
-    let kind = kind_of(alloc, graph)?;
-    push_leaf_line(text, number, kind)?;
-    push_blocks(text, p)?;
-    for i in 0..graph.size() {
-        let edge = i + 1;
-        let ends = graph.ends(edge);
-        push_adjacent(
-            text,
-            name_at(p, ends.a),
-            name_at(p, ends.b),
-            q.remembered(edge),
-        )?;
-    }
-    Ok(kind)
+    push_quotient(alloc, text, number, p, &q)
 }
 
 // The lines of the leaves, and their kinds.

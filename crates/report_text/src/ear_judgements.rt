@@ -44,7 +44,8 @@ fn push_refused(text: &mut String, step: u32, why: u32, edge: Option<u32>) -> Re
 {
     push_refusal(text, step, why)?;
     push_edge(text, edge)?;
-    write!(text, "\n")
+    write!(text, "\n")?;
+    Ok(())
 }
 
 #[tactic(auto, unfolding(crate::specs::Judgements::ear_judgement_text))]

@@ -1,6 +1,6 @@
 //! The line that judges a tree of cuts.
 ghost use Rattle.std.specs.Prelude.{◌≡◌, ◌++◌, OnOk, IfOk, string_bytes};
-ghost use Rattle.report_text.specs.Judgements.{judgement_text, numbered, refused_line, shown_text};
+ghost use Rattle.report_text.specs.Judgements.{accepted_line, judgement_text, numbered, refused_line, shown_text};
 
 use crate::numbers::{push_numbers, push_set};
 use crate::tallies::Tally;
@@ -79,23 +79,29 @@ pub fn push_refused(
     Ok(())
 }
 
+// The line on a tree that is accepted.
+fn push_accepted(text: &mut String, tally: Tally) -> Result<(), Memory>
+    ensures { OnOk result (string_bytes text.new ≡ string_bytes text.old ++ accepted_line tally) }
+{
+    let Tally {
+        leaves,
+        bricks,
+        braces,
+    } = tally;
+    write!(
+        text,
+        "accepted leaves {leaves} bricks {bricks} braces {braces}\n"
+    )?;
+    Ok(())
+}
+
 #[tactic(auto, unfolding(crate::specs::Judgements::judgement_text))]
 fn push_judgement(text: &mut String, line: &TreeLine) -> Result<(), Memory>
     ensures { OnOk result
         (string_bytes text.new ≡ string_bytes text.old ++ judgement_text line.now) }
 {
     match line {
-        TreeLine::Accepted { tally } => {
-            let Tally {
-                leaves,
-                bricks,
-                braces,
-            } = *tally;
-            write!(
-                text,
-                "accepted leaves {leaves} bricks {bricks} braces {braces}\n"
-            )
-        }
+        TreeLine::Accepted { tally } => push_accepted(text, *tally),
         TreeLine::Refused {
             tree,
             node,

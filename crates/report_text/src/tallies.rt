@@ -57,7 +57,8 @@ fn leaf_kinds(alloc: Global, g: &MultiGraph, leaves: &Partitions) -> Result<Vec<
 {
     let mut kinds = Vec::new(alloc);
     for i in 0..leaves.len() {
-        kinds.push(leaf_kind(alloc, g, leaves.get(i))?)?;
+        let kind = leaf_kind(alloc, g, leaves.get(i))?;
+        kinds.push(kind)?;
     }
     Ok(kinds)
 }

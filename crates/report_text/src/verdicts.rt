@@ -1,10 +1,18 @@
 //! The line of a verdict.
 ghost use Rattle.std.specs.Prelude.{◌≡◌, ◌++◌, codes, OnOk, IfOk, string_bytes};
-ghost use Rattle.report_text.specs.Reports.{verdict_text, reason_text};
+ghost use Rattle.report_text.specs.Reports.{parts_text, reason_text, verdict_text};
 
 use crate::numbers::push_set;
 use graph_core::{Reason, Verdict};
 use std::alloc::{AllocError as Memory, Global};
+
+// What is told of two vertices that no walk joins.
+fn push_parts(text: &mut String, a: u32, b: u32) -> Result<(), Memory>
+    ensures { OnOk result (string_bytes text.new ≡ string_bytes text.old ++ parts_text a b) }
+{
+    write!(text, " parts {a} {b}")?;
+    Ok(())
+}
 
 fn push_reason(text: &mut String, reason: &Reason) -> Result<(), Memory>
     ensures { OnOk result
@@ -12,7 +20,7 @@ fn push_reason(text: &mut String, reason: &Reason) -> Result<(), Memory>
 {
     match reason {
         Reason::Small => write!(text, " order"),
-        Reason::Parted { a, b } => write!(text, " parts {a} {b}"),
+        Reason::Parted { a, b } => push_parts(text, *a, *b),
         Reason::Unmatched { berge } => {
             write!(text, " berge")?;
             push_set(text, *berge)

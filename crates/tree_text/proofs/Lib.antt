@@ -1,3 +1,4 @@
+pub mod NodeLines
 pub mod ShoreLists
 pub mod TextSoFar
 pub mod TreeReadBack

@@ -49,21 +49,32 @@ tree_header n words =
     ∷ [])
     (record { nodes = 0; reading = wanted root })
 
+-- the words of a node
+abbrev pub is_node_line : List (List ℕ) → Bool
+is_node_line words = is_leaf_line words || is_cut_line words
+
+-- the vertices that a line names behind its first word
+abbrev pub shore_told : List (List ℕ) → List ℕ
+shore_told words = map value_of (behind_first words)
+
+-- the tests of these vertices
+abbrev pub shore_tests : ℕ → List (List ℕ) → List (Bool × FaultKind)
+shore_tests n words =
+    (not (list_all is_number (behind_first words)), kind.Number)
+    ∷ (list_any (is_out_of_range n) (shore_told words), kind.Range)
+    ∷ (not (is_rising (shore_told words)), kind.NotRising)
+    ∷ (mem (shore_told words) n, kind.HasGreatest)
+    ∷ []
+
+-- what is read behind a node at a place
+abbrev pub with_node : Place → (is_leaf : Bool) → List ℕ → Reading
+with_node place is_leaf shore = if is_leaf then put place leaf else wanted (in_kept shore place)
+
 -- the line of a node at a place, behind so many nodes
 abbrev pub node_line : ℕ → ℕ → Place → List (List ℕ) → Result TreeSoFar FaultKind
 node_line n nodes place words =
-    let vertices = map value_of (behind_first words) in
-    checked ((nat_le most_nodes nodes, kind.Limit)
-    ∷ (not (is_leaf_line words || is_cut_line words), kind.Word)
-    ∷ (not (list_all is_number (behind_first words)), kind.Number)
-    ∷ (list_any (is_out_of_range n) vertices, kind.Range)
-    ∷ (not (is_rising vertices), kind.NotRising)
-    ∷ (mem vertices n, kind.HasGreatest)
-    ∷ [])
-    (record {
-      nodes = nodes + 1;
-      reading = if is_leaf_line words then put place leaf else wanted (in_kept vertices place);
-    })
+    checked ((nat_le most_nodes nodes, kind.Limit) ∷ (not (is_node_line words), kind.Word) ∷ shore_tests n words)
+    (record { nodes = nodes + 1; reading = with_node place (is_leaf_line words) (shore_told words) })
 
 -- a significant line behind the header is a node, or too much where the tree is whole
 abbrev pub line_behind : ℕ → ℕ → Reading → List (List ℕ) → Result TreeSoFar FaultKind

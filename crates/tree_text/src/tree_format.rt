@@ -1,13 +1,13 @@
 //! The derivation format.
 ghost use Rattle.std.specs.Prelude.{◌≡◌, ◌<◌, ◌≤◌, ◌-◌, ◌^◌, ℕ, length, map, IfOk, IfErr, Ok, Err};
 ghost use Rattle.line_text.specs.Reading.{Gives};
-ghost use Rattle.line_text.specs.Format.{Stands, FirstFault};
+ghost use Rattle.line_text.specs.Format.{Stands, FirstFault, checked};
 ghost use Rattle.line_text.specs.Words.{texts_of};
 ghost use Rattle.text_faults.specs.Readings.{IsFirstFault, ReadsText};
 ghost use Rattle.graph_core.specs.declared.faults.FaultKind.{FaultKind};
 ghost use Rattle.tree_core.specs.Shapes.{Shape};
 ghost use Rattle.tree_core.specs.View.{shape_of};
-ghost use Rattle.tree_text.specs.TreeFormat.{TreeSoFar, tree_header, node_line, line_behind, tree_end, tree_format, behind_first, is_cut_line};
+ghost use Rattle.tree_text.specs.TreeFormat.{TreeSoFar, tree_header, node_line, line_behind, tree_end, tree_format, behind_first, is_cut_line, is_node_line, shore_told, shore_tests, with_node};
 ghost use Rattle.tree_text.specs.Writing.{IsWritable};
 ghost use Rattle.tree_text.specs.SoFar.{place_of, progress_of, tree_so_far};
 
@@ -16,10 +16,10 @@ use crate::place::{Above, Progress, put};
 use crate::shores::{holds, rise, shore_of};
 use graph_core::{FaultKind, TextFault};
 use line_text::{LineFormat, Refusal, has_form, number, numbers, word};
-use std::alloc::Global;
+use std::alloc::{AllocError as Memory, Global};
 use text_faults::{has_out_of_range, read_text};
 use tree_core::Tree;
-use vset_core::MOST_VERTICES;
+use vset_core::{MOST_VERTICES, VSet};
 
 const MOST_NODES: u32 = 127;
 
@@ -55,8 +55,50 @@ fn behind_first<'a, 'b>(words: &'a [&'b [u8]]) -> &'a [&'b [u8]]
     &words[words.len().min(1)..]
 }
 
-// The line of a node that stands below these cuts, behind so many nodes.
+// Whether these are the words of a node.
+fn is_node(words: &[&[u8]]) -> bool
+    ensures { result ≡ is_node_line (texts_of words.now) }
+{
+    has_form(words, 1, &["leaf"]) || is_cut(words)
+}
+
+// The vertices that a line names behind its first word.
 #[tactic(auto, using(crate::proofs::ShoreLists::rising_shore))]
+fn read_shore(alloc: Global, n: u32, words: &[&[u8]]) -> Result<VSet, Refusal<FaultKind>>
+    requires { n ≤ MOST_VERTICES }
+    ensures shore { IfOk result (λ shore. shore ≡ shore_told (texts_of words.now)) }
+    ensures tests { (so_far : TreeSoFar) →
+        Gives (λ _. so_far) result (checked (shore_tests n (texts_of words.now)) so_far) }
+{
+    let Some(read) = numbers(alloc, behind_first(words))? else {
+        return Err(Refusal::Fault(FaultKind::Number));
+    };
+    let vertices = read.as_slice();
+    if has_out_of_range(n, vertices) {
+        return Err(Refusal::Fault(FaultKind::Range));
+    }
+    if !rise(vertices) {
+        return Err(Refusal::Fault(FaultKind::NotRising));
+    }
+    if holds(vertices, n) {
+        return Err(Refusal::Fault(FaultKind::HasGreatest));
+    }
+    Ok(shore_of(vertices))
+}
+
+// The tree with a node more below these cuts: a leaf, or a cut with this shore.
+fn with_node(alloc: Global, above: Above, is_leaf: bool, shore: VSet) -> Result<Progress, Memory>
+    ensures { IfOk result
+        (λ progress. progress_of progress ≡ with_node (place_of above) is_leaf shore) }
+{
+    if is_leaf {
+        return put(alloc, above, Tree::Leaf);
+    }
+    let above = Box::new(alloc, above)?;
+    Ok(Progress::Wanted(Above::InKept { shore, above }))
+}
+
+// The line of a node that stands below these cuts, behind so many nodes.
 fn read_node(
     alloc: Global,
     n: u32,
@@ -71,30 +113,14 @@ fn read_node(
     if nodes >= MOST_NODES {
         return Err(Refusal::Fault(FaultKind::Limit));
     }
-    let is_leaf = has_form(words, 1, &["leaf"]);
-    if !is_leaf && !is_cut(words) {
+    if !is_node(words) {
         return Err(Refusal::Fault(FaultKind::Word));
     }
-    let Some(read) = numbers(alloc, behind_first(words))? else {
-        return Err(Refusal::Fault(FaultKind::Number));
+    let shore = match read_shore(alloc, n, words) {
+        Ok(shore) => shore,
+        Err(refusal) => return Err(refusal),
     };
-    let vertices = read.as_slice();
-    if has_out_of_range(n, vertices) {
-        return Err(Refusal::Fault(FaultKind::Range));
-    }
-    if !rise(vertices) {
-        return Err(Refusal::Fault(FaultKind::NotRising));
-    }
-    if holds(vertices, n) {
-        return Err(Refusal::Fault(FaultKind::HasGreatest));
-    }
-    let progress = if is_leaf {
-        put(alloc, above, Tree::Leaf)?
-    } else {
-        let shore = shore_of(vertices);
-        let above = Box::new(alloc, above)?;
-        Progress::Wanted(Above::InKept { shore, above })
-    };
+    let progress = with_node(alloc, above, has_form(words, 1, &["leaf"]), shore)?;
     Ok(NodesRead {
         nodes: nodes + 1,
         progress,

@@ -1,7 +1,0 @@
-use Rattle.std.proofs.Common.{◌≡◌, ◌++◌, string_bytes}
-use Rattle.report_text.specs.Derivations.{adjacent_lines}
-use Rattle.report_text.proofs.derivations.push_leaf.Given as goal
-
--- the lines of the first edges of the quotient are written behind those of the blocks
-abbrev pub invariant-loop-i : goal.invariant-loop-i
-invariant-loop-i l = string_bytes l.text ≡ string_bytes l.initial.text ++ adjacent_lines l.g l.p.blocks l.i
