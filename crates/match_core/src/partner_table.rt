@@ -102,10 +102,7 @@ fn rows_from(
 fn empty_rows(alloc: Global, n: u32) -> Result<PartnerTable, Memory>
     ensures { IfOk result (AreEmptyRows n) }
 {
-    let mut rows = Vec::with_capacity(alloc, n as usize)?;
-    for _ in 0..n {
-        rows.push(VSet::empty())?;
-    }
+    let rows = vec![in alloc; VSet::empty(); n as usize]?;
     Ok(PartnerTable { rows })
 }
 

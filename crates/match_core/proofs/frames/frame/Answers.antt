@@ -1,9 +1,6 @@
 use Rattle.match_core.proofs.FrameFacts.{best_maximum, best_attains, best_odd, best_missed, best_next, outer_rises, inner_rises, best_whole}
 use Rattle.match_core.proofs.frames.frame.Goals as goal
 
-pub matching_of-requires-clause-matching : goal.matching_of-requires-clause-matching
-matching_of-requires-clause-matching c = best_whole c.args.g.now c.keeps_limits.ensures.multigraph.ends c.empty.result c.in_ok-mark.field-0 c.empty.ensures c.in_ok-mark.ensures c.deref.result.now c.deref.ensures.value
-
 pub returns-clause-maximum : goal.returns-clause-maximum
 returns-clause-maximum c = best_maximum c.args.g.now c.keeps_limits.ensures.multigraph.ends c.empty.result c.in_ok-mark.field-0 c.empty.ensures c.in_ok-mark.ensures c.deref.result.now c.deref.ensures.value _ c.in_ok-matching.ensures.edges
 
@@ -24,3 +21,6 @@ returns-clause-missed c = best_missed c.args.g.now c.keeps_limits.ensures.multig
 
 pub returns-clause-next : goal.returns-clause-next
 returns-clause-next c = best_next c.args.g.now c.keeps_limits.ensures.multigraph.ends c.empty.result c.in_ok-mark.field-0 c.empty.ensures c.in_ok-mark.ensures c.deref.result.now c.deref.ensures.value _ c.in_ok-matching.ensures.edges
+
+pub matching_of-requires-clause-matching : goal.matching_of-requires-clause-matching
+matching_of-requires-clause-matching c = best_whole c.args.g.now c.keeps_limits.ensures.multigraph.ends c.empty.result c.in_ok-mark.field-0 c.empty.ensures c.in_ok-mark.ensures c.deref.result.now c.deref.ensures.value

@@ -1,10 +1,12 @@
-use Rattle.std.proofs.Common.{◌≡◌, ap, sym, ◌∙◌, subst₂, arith}
+use Rattle.std.proofs.Common.{◌≡◌, ap, sym, ◌∙◌, subst, subst₂, arith}
+use Rattle.std.specs.Prelude.{IfOk}
 use mathlib.Core.Path.{fun_ext}
 use Rattle.counting.specs.Lists.{mem}
 use Rattle.counting.specs.Sets.{Set}
 use Rattle.graph_core.specs.Graph.{Graph}
 use Rattle.graph_core.specs.Matchings.{IsMatching}
 use Rattle.match_core.specs.MatchingRows.{edges_of}
+use Rattle.match_core.specs.Optimal.{IsBest}
 use Rattle.match_core.specs.Rows.{marks}
 use Rattle.match_core.proofs.WholeGraphs.{ends_rows, limits_row, whole_graph}
 use Rattle.match_core.proofs.partner_table.enlarged.Goals as goal
@@ -23,3 +25,8 @@ best_from-requires-clause-matching c =
     let marked : marks c.deref.result.now ≡ mem (edges_of c.in_ok-cleared.field-0) = ap marks c.deref.ensures.value ∙ fun_ext c.in_ok-mark.ensures.each in
     subst₂ (λ (g : Graph) (s : Set). IsMatching g (mem c.args.removed) s) (sym (whole_graph c.args.g.now c.order-n.result c.edges-ends.result.now c.order-n.ensures.is c.edges-ends.ensures.edges)) (sym marked)
     (c.in_ok-cleared.ensures.matching c.args.g.now c.requires)
+
+pub returns : goal.returns
+returns c =
+    subst (λ (g : Graph). IfOk c.best_from.result (λ b. IsBest g (mem c.args.removed) b)) (whole_graph c.args.g.now c.order-n.result c.edges-ends.result.now c.order-n.ensures.is c.edges-ends.ensures.edges)
+    c.best_from.ensures

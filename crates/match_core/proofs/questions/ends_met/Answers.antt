@@ -23,6 +23,63 @@ loop-edge-init c = record {
   once = λ v w. empty_degree c.args.g.now (marks c.in_ok-mark.mark.items) c.in_ok-mark.ensures.each v ∙ sym (ap (λ s. bit (mem s v)) c.empty-met.ensures);
 }
 
+pub is_marked-requires : goal.is_marked-requires
+is_marked-requires c =
+    let we = c.requires c.loop-edge.edge-index 0 c.loop-edge-test.true in
+    let size = whole_size c.args.g.now c.args.g.now.order c.edges-ends.result.now refl c.edges-ends.ensures.edges in
+    let long = c.loop-edge.invariant.long in
+    let row = ap length c.deref.ensures.value in
+    omega arith
+
+pub bounds-ends-edge : goal.bounds-ends-edge
+bounds-ends-edge c =
+    let we = c.requires c.loop-edge.edge-index 0 c.loop-edge-test.true in
+    let size = whole_size c.args.g.now c.args.g.now.order c.edges-ends.result.now refl c.edges-ends.ensures.edges in
+    omega arith
+
+pub is_addable-requires-clause-a : goal.is_addable-requires-clause-a
+is_addable-requires-clause-a c =
+    let we = c.requires c.loop-edge.edge-index 0 c.loop-edge-test.true in
+    let size = whole_size c.args.g.now c.args.g.now.order c.edges-ends.result.now refl c.edges-ends.ensures.edges in
+    let limits = c.edges-ends.ensures.limits in
+    let within = (whole_within c.args.g.now c.args.g.now.order c.edges-ends.result.now refl c.edges-ends.ensures.edges limits.multigraph.ends).a (get_or c.args.edges.now c.loop-edge.edge-index 0 - 1) (omega arith) in
+    let few = limits.vertices in
+    omega arith
+
+pub is_addable-requires-clause-b : goal.is_addable-requires-clause-b
+is_addable-requires-clause-b c =
+    let we = c.requires c.loop-edge.edge-index 0 c.loop-edge-test.true in
+    let size = whole_size c.args.g.now c.args.g.now.order c.edges-ends.result.now refl c.edges-ends.ensures.edges in
+    let limits = c.edges-ends.ensures.limits in
+    let within = (whole_within c.args.g.now c.args.g.now.order c.edges-ends.result.now refl c.edges-ends.ensures.edges limits.multigraph.ends).b (get_or c.args.edges.now c.loop-edge.edge-index 0 - 1) (omega arith) in
+    let few = limits.vertices in
+    omega arith
+
+pub mark_place-requires : goal.mark_place-requires
+mark_place-requires c =
+    let we = c.requires c.loop-edge.edge-index 0 c.loop-edge-test.true in
+    let size = whole_size c.args.g.now c.args.g.now.order c.edges-ends.result.now refl c.edges-ends.ensures.edges in
+    let long = c.loop-edge.invariant.long in
+    omega arith
+
+pub with-requires : goal.with-requires
+with-requires c =
+    let we = c.requires c.loop-edge.edge-index 0 c.loop-edge-test.true in
+    let size = whole_size c.args.g.now c.args.g.now.order c.edges-ends.result.now refl c.edges-ends.ensures.edges in
+    let limits = c.edges-ends.ensures.limits in
+    let within = (whole_within c.args.g.now c.args.g.now.order c.edges-ends.result.now refl c.edges-ends.ensures.edges limits.multigraph.ends).a (get_or c.args.edges.now c.loop-edge.edge-index 0 - 1) (omega arith) in
+    let few = limits.vertices in
+    omega arith
+
+pub with-met-requires : goal.with-met-requires
+with-met-requires c =
+    let we = c.requires c.loop-edge.edge-index 0 c.loop-edge-test.true in
+    let size = whole_size c.args.g.now c.args.g.now.order c.edges-ends.result.now refl c.edges-ends.ensures.edges in
+    let limits = c.edges-ends.ensures.limits in
+    let within = (whole_within c.args.g.now c.args.g.now.order c.edges-ends.result.now refl c.edges-ends.ensures.edges limits.multigraph.ends).b (get_or c.args.edges.now c.loop-edge.edge-index 0 - 1) (omega arith) in
+    let few = limits.vertices in
+    omega arith
+
 pub returns-then-not-is_addable-clause-none : goal.returns-then-not-is_addable-clause-none
 returns-then-not-is_addable-clause-none c = λ q p.
     let k = c.loop-edge.edge-index in

@@ -1,16 +1,22 @@
-use Rattle.std.proofs.Common.{◌≡◌, sym, ap, ◌∙◌, subst, subst₂}
+use Rattle.std.proofs.Common.{◌≡◌, sym, ap, ◌∙◌, subst, subst₂, refl, arith}
 use mathlib.Core.Path.{fun_ext}
 use Rattle.counting.specs.Lists.{mem}
 use Rattle.counting.specs.Sets.{Set}
 use Rattle.graph_core.specs.Graph.{Graph}
-use Rattle.graph_core.specs.Matchings.{IsMatching, IsPerfect}
+use Rattle.graph_core.specs.Matchings.{HasPerfect, IsMatching, IsPerfect, missed_count}
 use Rattle.match_core.specs.Rows.{marks}
 use Rattle.match_core.specs.MatchingRows.{edges_of, MatchingValue}
 use Rattle.match_core.specs.RepairPaths.{DiffersByPath}
 use Rattle.match_core.proofs.FrameFacts.{listed_marks, listed_perfect, passed_matching}
 use Rattle.match_core.proofs.RepairedPaths.{differs_alike}
-use Rattle.match_core.proofs.WholeGraphs.{ends_rows, limits_row, whole_graph}
+use Rattle.match_core.proofs.WholeGraphs.{ends_rows, limits_row, whole_graph, whole_size}
 use Rattle.match_core.proofs.repairs.repair.Goals as goal
+
+pub marks-requires-clause-within : goal.marks-requires-clause-within
+marks-requires-clause-within c = λ k d l.
+    let edge = (c.requires.of.rows k d l).edge in
+    let size = whole_size c.args.g.now c.order-n.result c.edges-ends.result.now c.order-n.ensures.is c.edges-ends.ensures.edges in
+    (edge.0, omega arith)
 
 pub repaired_marks-requires-clause-row : goal.repaired_marks-requires-clause-row
 repaired_marks-requires-clause-row c = limits_row c.args.g.now c.order-n.result c.edges-ends.result.now c.order-n.ensures.is c.edges-ends.ensures.edges c.edges-ends.ensures.limits
@@ -24,11 +30,30 @@ repaired_marks-requires-clause-matching c =
     let given : marks c.in_ok-given.given.items ≡ mem (edges_of c.args.m.now) = fun_ext c.in_ok-given.ensures.each in
     subst₂ (λ (g : Graph) (s : Set). IsMatching g (mem c.args.removed) s) (sym there) (sym given) c.requires.matching
 
+pub repaired_marks-requires-clause-two : goal.repaired_marks-requires-clause-two
+repaired_marks-requires-clause-two c =
+    let there = whole_graph c.args.g.now c.order-n.result c.edges-ends.result.now c.order-n.ensures.is c.edges-ends.ensures.edges in
+    let given : marks c.in_ok-given.given.items ≡ mem (edges_of c.args.m.now) = fun_ext c.in_ok-given.ensures.each in
+    subst₂ (λ (g : Graph) (s : Set). missed_count g (mem c.args.removed) s ≡ 2) (sym there) (sym given) c.requires.two
+
 pub matching_of-requires-clause-matching : goal.matching_of-requires-clause-matching
 matching_of-requires-clause-matching c =
     let there = whole_graph c.args.g.now c.order-n.result c.edges-ends.result.now c.order-n.ensures.is c.edges-ends.ensures.edges in
     let perfect = subst (λ (g : Graph). IsPerfect g (mem c.args.removed) (marks c.in-Some.mark.items)) there (c.in_ok-mark.ensures.perfect c.in-Some.mark c.in-Some.is) in
     passed_matching c.args.g.now (mem c.args.removed) c.in-Some.mark.items c.deref.result.now c.deref.ensures.value perfect
+
+pub returns-in_ok-matching_of-in-Some-clause-none : goal.returns-in_ok-matching_of-in-Some-clause-none
+returns-in_ok-matching_of-in-Some-clause-none c =
+    let there = whole_graph c.args.g.now c.order-n.result c.edges-ends.result.now c.order-n.ensures.is c.edges-ends.ensures.edges in
+    let perfect = subst (λ (g : Graph). IsPerfect g (mem c.args.removed) (marks c.in-Some.mark.items)) there (c.in_ok-mark.ensures.perfect c.in-Some.mark c.in-Some.is) in (
+      (λ q. cc),
+      (λ h. absurd (h (marks c.in-Some.mark.items, perfect))),
+    )
+
+pub returns-in-None-clause-none : goal.returns-in-None-clause-none
+returns-in-None-clause-none c =
+    let there = whole_graph c.args.g.now c.order-n.result c.edges-ends.result.now c.order-n.ensures.is c.edges-ends.ensures.edges in
+    ((λ q. subst (λ (g : Graph). HasPerfect g (mem c.args.removed) → ⊥) there (c.in_ok-mark.ensures.none.0 c.in-None.is)), (λ h. refl))
 
 pub returns-in_ok-matching_of-in-Some-clause-perfect : goal.returns-in_ok-matching_of-in-Some-clause-perfect
 returns-in_ok-matching_of-in-Some-clause-perfect c = λ m q.

@@ -1,7 +1,7 @@
-use Rattle.std.proofs.Common.{rules, ◌≡◌, ◌<◌, ◌∙◌, ◌++◌, ◌∷◌, [], ℕ, List, length, map, drop, take, ap, arith, subst, sym}
+use Rattle.std.proofs.Common.{rules, ◌≡◌, ◌<◌, ◌∙◌, refl, ◌++◌, ◌∷◌, [], ℕ, List, length, map, drop, take, ap, arith, subst, sym}
 use Rattle.std.proofs.lemmas.List.{map-append}
 use Rattle.std.proofs.Math.Seq.{take-append_seam}
-use Rattle.graph_core.specs.Graph.{with_edge}
+use Rattle.graph_core.specs.Graph.{Graph, with_edge}
 use Rattle.graph_core.specs.Rows.{AreRows}
 use Rattle.graph_core.specs.View.{graph_of, pair_of, IsWithinLimits}
 use Rattle.graph_core.specs.declared.ends.Ends.{Ends}
@@ -31,3 +31,6 @@ invariant_of-self-2 c =
           (subst (λ g. AreRows g c.join.new.rows) more
           (c.join.ensures g (subst (AreRows g) (sym c.deref_mut.ensures.value) c.self.invariant.neighbours)));
     }
+
+pub returns-then-a-b-clause-equal : goal.returns-then-a-b-clause-equal
+returns-then-a-b-clause-equal c = let order = ap (λ (g : Graph). g.order) c.self.view_is in ((λ e. ((omega arith, omega arith), c.if-a-b.true)), (λ w. refl))
