@@ -1,10 +1,9 @@
-use Rattle.std.proofs.Common.{◌≡◌, ap, sym, ◌∙◌, arith, List, subst, length}
+use Rattle.std.proofs.Common.{◌≡◌, ap, ◌∙◌, arith, List, subst, length}
 use Rattle.graph_core.specs.Graph.{Graph}
 use Rattle.graph_core.specs.Partitions.{IsPartition, contracted}
 use Rattle.graph_core.specs.View.{graph_of}
 use Rattle.graph_core.specs.declared.ends.Ends.{Ends}
 use Rattle.contraction.specs.Partition.{PartitionValue}
-use Rattle.contraction.specs.Pairs.{joined_pairs}
 use Rattle.contraction.proofs.QuotientValues.{ends-graph, few-blocks}
 use Rattle.contraction.proofs.contracted.quotient.Goals as goal
 

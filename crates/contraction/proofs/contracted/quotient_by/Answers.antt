@@ -1,12 +1,9 @@
-use Rattle.std.proofs.Common.{◌≡◌, ap, sym, ◌∙◌, map, arith, List, subst, length}
-use Rattle.counting.specs.Lists.{rising_list}
-use Rattle.graph_core.specs.Graph.{Graph, has_ends, size}
-use Rattle.graph_core.specs.Partitions.{IsPartition, contracted}
-use Rattle.graph_core.specs.View.{IsWithinLimits, graph_of, pair_of}
-use Rattle.graph_core.specs.declared.ends.Ends.{Ends}
+use Rattle.std.proofs.Common.{◌≡◌, ap, sym, ◌∙◌, arith, subst}
+use Rattle.graph_core.specs.Graph.{Graph}
+use Rattle.graph_core.specs.Partitions.{IsPartition}
+use Rattle.graph_core.specs.View.{IsWithinLimits}
 use Rattle.contraction.specs.Contracted.{ContractedValue, KeepsContraction, contraction}
 use Rattle.contraction.specs.Partition.{KeepsPartition, PartitionValue}
-use Rattle.contraction.specs.Pairs.{joined_pairs}
 use Rattle.contraction.proofs.QuotientValues.{contraction-same, few-blocks, length-ends, pairs-limits, pairs-once}
 use Rattle.contraction.proofs.contracted.quotient_by.Goals as goal
 
