@@ -13,9 +13,11 @@ use Rattle.graph_core.specs.Partitions.{AreBlocks, contracted}
 use Rattle.graph_core.specs.Quotients.{blocks_adjacent, edges_between, quotient}
 use Rattle.graph_core.specs.View.{IsWithinLimits, graph_of, pair_of}
 use Rattle.graph_core.specs.declared.ends.Ends.{Ends}
+use Rattle.contraction.proofs.BlockLists.{length-partition}
 use Rattle.contraction.proofs.JoinedPairs.{joined-limits, joined-once}
 use Rattle.contraction.specs.Contracted.{ContractedValue, contraction}
 use Rattle.contraction.specs.Pairs.{EachOnce, joined_pairs}
+use Rattle.contraction.specs.Partition.{KeepsPartition, PartitionValue}
 
 -- tests that agree on the pairs keep the same pairs
 filter-pairs : (t u : ℕ → ℕ → Bool) (ks : List (ℕ × ℕ)) → ((a b : ℕ) → HasPair ks a b → t a b ≡ u a b) → filter (λ k. t k.0 k.1) ks ≡ filter (λ k. u k.0 k.1) ks
@@ -35,6 +37,9 @@ joined-quotient g p = ap (λ (ks : List (ℕ × ℕ)). record { order = length p
     same : (a b : ℕ) → nat_lt a b ≡ true → some (size (contracted g p)) (has_ends (contracted g p) a b) ≡ blocks_adjacent g p a b
     same a b l = ap (λ k. some k (has_ends (contracted g p) a b)) (contracted-size g p) ∙ ap (λ t. not t && some (size g) (has_ends (contracted g p) a b)) (sym (differ a b l))
 
+pub few-blocks : (p : PartitionValue) (n : ℕ) → KeepsPartition p → n ≡ length p.blocks → n ≤ 128
+few-blocks p n keeps e = let l = length-partition p.order p.blocks keeps.partition in let f = keeps.few in omega arith
+
 module _ (g : Graph) (p : List (List ℕ)) (n : ℕ) (ends : List Ends) (is : n ≡ length p) (at : graph_of (length p) ends ≡ contracted g p) where
   here : graph_of n ends ≡ contracted g p
   here = ap (λ k. graph_of k ends) is ∙ at
@@ -45,15 +50,18 @@ module _ (g : Graph) (p : List (List ℕ)) (n : ℕ) (ends : List Ends) (is : n 
   pub length-ends : length ends ≡ size g
   length-ends = sym (size-graph_of n ends) ∙ ap size here ∙ contracted-size g p
 
-  module _ (pairs : List Ends) (joined : map pair_of pairs ≡ joined_pairs (graph_of n ends)) where
+  module _ (pairs : List Ends) (joined : map pair_of pairs ≡ joined_pairs (contracted g p)) where
+    joined-here : map pair_of pairs ≡ joined_pairs (graph_of n ends)
+    joined-here = joined ∙ ap joined_pairs (sym here)
+
     pub pairs-limits : n ≤ 128 → size g ≤ 2048 → IsWithinLimits (graph_of n pairs)
-    pairs-limits few edges = subst (λ (ks : List (ℕ × ℕ)). IsWithinLimits (record { order = n; ends = ks })) (sym joined) (joined-limits (graph_of n ends) few (let s = ap size here in let t = contracted-size g p in omega arith))
+    pairs-limits few edges = subst (λ (ks : List (ℕ × ℕ)). IsWithinLimits (record { order = n; ends = ks })) (sym joined-here) (joined-limits (graph_of n ends) few (let s = ap size here in let t = contracted-size g p in omega arith))
 
     pub pairs-once : EachOnce (map pair_of pairs)
-    pairs-once = subst EachOnce (sym joined) (joined-once (graph_of n ends))
+    pairs-once = subst EachOnce (sym joined-here) (joined-once (graph_of n ends))
 
     pairs-quotient : graph_of n pairs ≡ quotient g p
-    pairs-quotient = ap₂ (λ k (ks : List (ℕ × ℕ)). record { order = k; ends = ks }) is (joined ∙ ap joined_pairs here) ∙ joined-quotient g p
+    pairs-quotient = ap₂ (λ k (ks : List (ℕ × ℕ)). record { order = k; ends = ks }) is joined ∙ joined-quotient g p
 
     pub contraction-same : (q : ContractedValue) → q.order ≡ g.order → q.size ≡ size g → q.blocks ≡ p → q.graph ≡ graph_of n pairs →
         q.edges ≡ map (λ k. rising_list (length ends) (has_ends (graph_of 0 ends) k.0 k.1)) (map pair_of pairs) → q ≡ contraction g p

@@ -134,11 +134,28 @@ pub fn quotient(alloc: Global, g: &MultiGraph, p: &Partition) -> Result<Contract
     ensures { IfOk result (λ q. q ≡ contraction g.now p.now.blocks) }
 {
     p.keeps_partition();
-    let n = p.len() as u32;
     let ends = ends_at(alloc, g.edges(), p)?;
-    let pairs = pairs_joined(alloc, n, &ends)?;
-    let graph = graph_with(alloc, n, &pairs)?;
-    let remembered = remember(alloc, &ends, &pairs)?;
+    let pairs = pairs_joined(alloc, p.len() as u32, &ends)?;
+    quotient_by(alloc, g, p, &ends, &pairs)
+}
+
+// The quotient, from the ends of the edges as places of blocks, and the pairs of places that they join.
+fn quotient_by(
+    alloc: Global,
+    g: &MultiGraph,
+    p: &Partition,
+    ends: &[Ends],
+    pairs: &[Ends],
+) -> Result<Contracted, Memory>
+    requires order { p.now.order ≡ g.now.order }
+    requires ends { graph_of (length p.now.blocks) ends.now ≡ contracted g.now p.now.blocks }
+    requires pairs { map pair_of pairs.now ≡ joined_pairs (contracted g.now p.now.blocks) }
+    ensures { IfOk result (λ q. q ≡ contraction g.now p.now.blocks) }
+{
+    g.keeps_limits();
+    p.keeps_partition();
+    let graph = graph_with(alloc, p.len() as u32, pairs)?;
+    let remembered = remember(alloc, ends, pairs)?;
     let blocks = p.copy_blocks(alloc)?;
     Ok(Contracted {
         order: g.order(),

@@ -1,6 +1,5 @@
 //! Partitions of the vertices into blocks.
 ghost use Rattle.std.specs.Prelude.{◌≡◌, ◌<◌, ◌≤◌, ◌+◌, ◌↔◌, ◌==◌, ◌||◌, not, length, slice_get, Some, IfOk, IsTrue, filter, insert, count_by, nat_lt, position};
-ghost use Rattle.std.specs.Option.{option_map};
 ghost use Rattle.itertools.specs.Consumer.{find_at};
 ghost use Rattle.std.specs.List.{list_all, position_or_len};
 ghost use Rattle.counting.specs.Counts.{Within};
@@ -134,21 +133,18 @@ fn place_of(blocks: &[VSet], v: u32) -> usize
     ensures { result ≡ place blocks.now v }
 {
     match first_holding(blocks, v) {
-        Some(i) => i + 1,
+        Some(found) => found.0 + 1,
         None => blocks.len() + 1,
     }
 }
 
-// The place of the first block that holds v, counted from 0.
-fn first_holding(blocks: &[VSet], v: u32) -> Option<usize>
+// The first block that holds v, with its place, counted from 0.
+fn first_holding(blocks: &[VSet], v: u32) -> Option<(usize, VSet)>
     requires { Within MOST_VERTICES v }
-    ensures { result ≡ option_map (λ found. found.0) (find_at (λ block. mem block v) 0 blocks.now) }
+    ensures { result ≡ find_at (λ block. mem block v) 0 blocks.now }
 {
     let mut items = blocks.iter().copied();
-    match items.find_position(|block| block.contains(v)) {
-        Some((i, _)) => Some(i),
-        None => None,
-    }
+    items.find_position(|block| block.contains(v))
 }
 
 // The single vertices 1 to n.

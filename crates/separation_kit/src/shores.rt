@@ -8,7 +8,7 @@ ghost use Rattle.graph_core.specs.Covered.{IsCovered};
 ghost use Rattle.graph_core.specs.Structure.{IsBicritical, cut_pair};
 ghost use Rattle.barrier_kit.specs.CanonicalCuts.{with_cut};
 ghost use Rattle.separation_kit.specs.Pairs.{pair_of};
-ghost use Rattle.separation_kit.specs.SeparationShores.{separation_cuts};
+ghost use Rattle.separation_kit.specs.SeparationShores.{separation_cuts, shores_at_pair};
 
 use crate::critical::{is_cut_pair, parts_without};
 use crate::dominators::suspects;
@@ -45,6 +45,24 @@ fn add_with_vertex(cuts: &mut SetList, n: u32, parts: &SetList, a: u32) -> Resul
     Ok(())
 }
 
+// Appends the cuts that a pair gives: its first vertex with each component of the graph without the two.
+fn add_pair_cuts(
+    alloc: Global,
+    g: &MultiGraph,
+    cuts: &mut SetList,
+    pair: Pair,
+) -> Result<(), Memory>
+    requires first { Within g.now.order pair.a }
+    requires second { Within g.now.order pair.b }
+    ensures { OnOk result
+        (cuts.new ≡ fold (with_cut g.now.order) cuts.old (shores_at_pair g.now (pair_of pair))) }
+{
+    g.keeps_limits();
+    let parts = parts_without(alloc, g, pair.a, pair.b)?;
+    add_with_vertex(cuts, g.order(), &parts, pair.a)?;
+    Ok(())
+}
+
 /// The nontrivial cuts that the cut pairs u < v of a bicritical covered graph give: u with each component of the graph without
 /// the two. Each cut is given once, by its canonical shore, and is tight (Edmonds, Lovász and Pulleyblank 1982).
 pub fn separation_cuts(alloc: Global, g: &MultiGraph) -> Result<SetList, Memory>
@@ -54,13 +72,12 @@ pub fn separation_cuts(alloc: Global, g: &MultiGraph) -> Result<SetList, Memory>
     ensures { IfOk result (λ cuts. cuts ≡ separation_cuts g.now) }
 {
     g.keeps_limits();
-    let mut cuts = SetList::new(alloc);
     let sets = suspects(alloc, g)?;
     let pairs = all_pairs(alloc, g.order())?;
+    let mut cuts = SetList::new(alloc);
     for pair in &pairs {
         if is_cut_pair(g, &sets, *pair) {
-            let parts = parts_without(alloc, g, pair.a, pair.b)?;
-            add_with_vertex(&mut cuts, g.order(), &parts, pair.a)?;
+            add_pair_cuts(alloc, g, &mut cuts, *pair)?;
         }
     }
     Ok(cuts)
@@ -81,9 +98,8 @@ pub fn first_separation_cut(
     match pair {
         None => Ok(None),
         Some(pair) => {
-            let parts = parts_without(alloc, g, pair.a, pair.b)?;
             let mut cuts = SetList::new(alloc);
-            add_with_vertex(&mut cuts, g.order(), &parts, pair.a)?;
+            add_pair_cuts(alloc, g, &mut cuts, pair)?;
             if cuts.is_empty() {
                 return Ok(None);
             }

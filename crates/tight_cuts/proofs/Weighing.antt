@@ -1,6 +1,8 @@
 -- Counting how often the matchings of a list hold each edge, row by row.
 -- Idea: the edges of a matching rise, so the edge of a row is in no earlier row.
-use Rattle.std.proofs.Common.{◌≡◌, ℕ, suc, zero, ◌+◌, ◌≤◌, ◌<◌, true, false, ◌||◌, ◌==◌, List, [], ◌∷◌, length, map, take, refl, sym, ap, ◌∙◌, arith, inl, inr, eq-eqb, ne_eqb, get_or-set_same, get_or-set_other, rules}
+use Rattle.std.proofs.Common.{◌≡◌, ℕ, suc, zero, ◌+◌, ◌≤◌, ◌<◌, true, false, ◌||◌, ◌==◌, List, [], ◌∷◌, length, map, take, refl, sym, ap, ◌∙◌, arith, inl, inr, eq-eqb, ne_eqb, get_or, get_or-set_same, get_or-set_other, rules}
+use Rattle.std.proofs.Math.ListN.{replicate}
+use Rattle.std.proofs.lemmas.Option.{slice_get_read}
 use Rattle.std.specs.Prelude.{Some, slice_get, slice_set}
 use Rattle.std.proofs.lemmas.Bool.{cases_eq, or_left, or_right, or_from, both_ways}
 use Rattle.std.proofs.lemmas.List.Sums.{sum_by-cons}
@@ -68,6 +70,17 @@ weight-more (k ∷ list) (suc i) m e q =
     let t = sum_by-cons (λ es. bit (mem es e)) (edges_of k) (map edges_of (take i list)) in
     let r = weight-more list i m e q in omega arith
 
+pub weight-next : (list : List MatchingValue) (i : ℕ) (m : MatchingValue) (e : ℕ) → i < length list → m ≡ get_or list i m → weight (map edges_of (take (i + 1) list)) e ≡ weight (map edges_of (take i list)) e + bit (mem (edges_of m) e)
+weight-next list i m e l is =
+    let next : suc i ≡ i + 1 = omega arith in
+    ap (λ k. weight (map edges_of (take k list)) e) (sym next) ∙ weight-more list i m e (slice_get_read list (length list) i m refl l is)
+
+-- nothing is counted yet
+pub zeros : (n e : ℕ) → at_place (replicate n 0) e ≡ 0
+zeros zero e = refl
+zeros (suc n) zero = refl
+zeros (suc n) (suc e) = zeros n e
+
 -- at most one a matching
 pub weight-taken : (list : List MatchingValue) (i e : ℕ) → weight (map edges_of (take i list)) e ≤ i
 weight-taken list zero e = omega arith
@@ -82,7 +95,7 @@ take-whole [] (suc i) l = refl
 take-whole (k ∷ list) zero l = absurd (omega arith)
 take-whole (k ∷ list) (suc i) l = ap (λ ys. k ∷ ys) (take-whole list i (omega arith))
 
-map-length : (list : List MatchingValue) → length (map edges_of list) ≡ length list
+pub map-length : (list : List MatchingValue) → length (map edges_of list) ≡ length list
 map-length [] = refl
 map-length (k ∷ list) = let i = map-length list in omega arith
 

@@ -6,22 +6,11 @@ use Rattle.itertools.proofs.ConsumerLemmas.{find_at-of-run}
 use Rattle.counting.specs.Lists.{mem}
 use Rattle.contraction.proofs.partition.first_holding.Goals as goal
 
-pub returns-in-Some : goal.returns-in-Some
-returns-in-Some c =
+pub returns : goal.returns
+returns c =
     let r = c.find_position.ensures.runs in
     let h : List ℕ → Bool = λ b. mem b c.args.v in
     let slice = YieldsList-from_slice {s = c.iter.result} c.args.blocks.now (search rules) in
     let road = YieldsList-from_copied {steps = fronts} {s = c.copied-items.result} {ys = c.args.blocks.now} (rw c.copied-items.ensures.source slice) in
     let b = r.2 h (search rules) in
-    let found = find_at-of-run road r.0 r.1 h _ b.0 b.1 in
-    search (rules, found)
-
-pub returns-in-None : goal.returns-in-None
-returns-in-None c =
-    let r = c.find_position.ensures.runs in
-    let h : List ℕ → Bool = λ b. mem b c.args.v in
-    let slice = YieldsList-from_slice {s = c.iter.result} c.args.blocks.now (search rules) in
-    let road = YieldsList-from_copied {steps = fronts} {s = c.copied-items.result} {ys = c.args.blocks.now} (rw c.copied-items.ensures.source slice) in
-    let b = r.2 h (search rules) in
-    let found = find_at-of-run road r.0 r.1 h _ b.0 b.1 in
-    search (rules, found)
+    find_at-of-run road r.0 r.1 h _ b.0 b.1

@@ -1,8 +1,11 @@
-use Rattle.std.proofs.Common.{sym, subst}
+use Rattle.std.proofs.Common.{◌≡◌, ◌∙◌, ap, sym, subst, List, map}
 use Rattle.std.specs.Prelude.{All}
+use Rattle.std.proofs.lemmas.Result.{IfOk-weaker}
 use Rattle.separation_kit.proofs.SeparationFacts.{separation_cuts-canonical}
 use Rattle.barrier_kit.specs.CanonicalCuts.{IsCanonicalCut}
 use Rattle.counting.specs.Lists.{IsRisingIn}
+use Rattle.separation_kit.specs.SeparationShores.{separation_cuts}
+use Rattle.tight_cuts.specs.Candidates.{Candidate, Separation, candidate_at}
 use Rattle.tight_cuts.proofs.FrontCandidates.{canonical-rising}
 use Rattle.tight_cuts.proofs.front.separation_candidates.Goals as goal
 
@@ -10,3 +13,8 @@ pub candidates_of-requires-clause-shores : goal.candidates_of-requires-clause-sh
 candidates_of-requires-clause-shores c =
     subst (λ n. All (IsRisingIn n) c.in_ok-shores.shores) (sym c.order.ensures.is)
     (canonical-rising c.args.g.now c.in_ok-shores.shores (subst (All (IsCanonicalCut c.args.g.now)) (sym c.in_ok-shores.ensures) (separation_cuts-canonical c.args.g.now c.keeps_limits.ensures.multigraph.ends c.requires.covered)))
+
+pub returns : goal.returns
+returns c = IfOk-weaker c.candidates_of.result (λ (list : List Candidate). list ≡ map (candidate_at c.order.result Separation) c.in_ok-shores.shores) (λ (list : List Candidate). list ≡ map (candidate_at c.args.g.now.order Separation) (separation_cuts c.args.g.now))
+    (λ list q. q ∙ ap (λ n. map (candidate_at n Separation) c.in_ok-shores.shores) c.order.ensures.is ∙ ap (map (candidate_at c.args.g.now.order Separation)) c.in_ok-shores.ensures)
+    c.candidates_of.ensures

@@ -1,0 +1,20 @@
+use Rattle.std.proofs.Common.{◌≡◌, ◌+◌, ◌++◌, ◌∷◌, [], ℕ, List, ap, sym, ◌∙◌, map, flat_map, arith, suc, append-nil, nat_lt}
+use Rattle.std.proofs.lemmas.Grind.{flat_map-append}
+use Rattle.counting.specs.Lists.{pair_with, rising_list}
+use Rattle.counting.specs.Sets.{everything}
+use Rattle.separation_kit.proofs.pair.all_pairs.Goals as goal
+
+-- one row more
+row-more : (f : ℕ → List (ℕ × ℕ)) (i : ℕ) → flat_map f (rising_list i everything) ++ f (i + 1) ≡ flat_map f (rising_list (i + 1) everything)
+row-more f i =
+    let e : suc i ≡ i + 1 = omega arith in
+    ap (λ k. flat_map f (rising_list i everything) ++ f k) (sym e)
+    ∙ ap (λ zs. flat_map f (rising_list i everything) ++ zs) (sym (append-nil (f (suc i))))
+    ∙ sym (flat_map-append f (rising_list i everything) (suc i ∷ []))
+    ∙ ap (λ k. flat_map f (rising_list k everything)) e
+
+pub loop-i-preserved : goal.loop-i-preserved
+loop-i-preserved c =
+    c.in_ok-push_pairs.ensures
+    ∙ ap (λ before. before ++ map (pair_with (c.loop-i.i + 1)) (rising_list c.args.n (nat_lt (c.loop-i.i + 1)))) c.loop-i.invariant
+    ∙ row-more (λ a. map (pair_with a) (rising_list c.args.n (nat_lt a))) c.loop-i.i
