@@ -5,6 +5,7 @@ ghost use Rattle.counting.specs.Lists.{mem};
 ghost use Rattle.tree_core.specs.Exchanges.{IsExchange, cut_after, is_turned, shore_after, tree_after};
 ghost use Rattle.tree_core.specs.Moves.{merged_shore_if_greatest_stays, switch_result, switch_result_at};
 ghost use Rattle.tree_core.specs.Shapes.{Fits};
+ghost use Rattle.tree_core.specs.Turns.{IsAnswer};
 ghost use Rattle.tree_core.specs.View.{shape_of};
 
 use crate::moves::Stuck;
@@ -162,10 +163,7 @@ fn exchanged(mut kept: Box<Tree>, mut merged: Box<Tree>, e: &Exchange) -> Tree
 /// Exchanges `u` and `v` at the root of the tree.
 pub(crate) fn switch_here(tree: Tree, n: u32, u: VSet, v: VSet) -> Result<Tree, Tree>
     requires { Fits n (shape_of tree) }
-    ensures ok { IfOk result
-        (λ made. switch_result_at n u v (shape_of tree) ≡ Some (shape_of made)) }
-    ensures stuck { IfErr result (λ back. switch_result_at n u v (shape_of tree) ≡ None) }
-    ensures same { IfErr result (λ back. shape_of back ≡ shape_of tree) }
+    ensures { IsAnswer (switch_result_at n u v (shape_of tree)) (shape_of tree) result }
 {
     match tree {
         Tree::Leaf => Err(Tree::Leaf),
