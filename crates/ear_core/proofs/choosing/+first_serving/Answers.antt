@@ -30,6 +30,3 @@ returns-clause-none t c = λ f x is same.
     none-carried c.first_serving.result (NoneServesBeside g f x (map ear_of c.in-Some.others.now)) (NoneServesBeside g f x (map ear_of c.args.ears.now))
     (none-beside-later g f a (map ear_of c.args.ears.now) (map ear_of c.in-Some.others.now) (ap (map ear_of) c.in-Some.ensures.cases.0) x
     (λ q. c.in_ok-serves.ensures.no g f is (search rules) (serves-same g f (union x (ends_of_ear g a)) (mem c.union.result) (λ v. sym (joined v)) q))) (c.first_serving.ensures.none f x is same)
-
-pub returns-then-branch-clause-none : goal.returns-then-branch-clause-none
-returns-then-branch-clause-none t c = λ f x is same. tt
