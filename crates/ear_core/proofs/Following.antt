@@ -38,6 +38,18 @@ passed-by used first passed v w is_first is_passed u = is_passed u ∙ ap (λ b.
     joined true b c = refl
     joined false b c = refl
 
+-- the walk goes on from x, with fewer vertices that are not used, by the edges e and d
+pub record GoesOn (g : Graph) (met : Set) (m n : ℕ → ℕ) (z : Set) (v : ℕ) (passed : Set) (x e d : ℕ) : Type 0 where
+  pub clear : IsClear g met m n passed x
+  pub fewer : count g.order (complement passed) + 1 ≤ count g.order (complement z)
+  pub longer : (old mid new : List ℕ) → mid ≡ (old ++ e ∷ []) ++ d ∷ [] → (after : Set) → IsTraced g met m n passed x mid new after → IsTraced g met m n z v old new after
+
+-- an ear was made off z; what it leaves has further ears
+pub record IsMade (g : Graph) (f : Set) (m n : ℕ → ℕ) (met z after : Set) (ear : PlainEar) : Type 0 where
+  pub holds : HoldsMates g met m n after
+  pub fewer : count g.order (complement after) + 1 ≤ count g.order (complement z)
+  pub more : (ears : List PlainEar) → AreMatedEars g f m n after ears → AreMatedEars g f m n z (ear ∷ ears)
+
 module _ (g : Graph) (is : IsGraph g) (met : Set) (m : ℕ → ℕ) (pm : AreMates g m) (n : ℕ → ℕ) (pn : AreMates g n) (keeps : KeepsMates g n met) (z : Set) (v : ℕ) (wv : Within g.order v) (clear : IsClear g met m n z v)
     (e w : ℕ) (edge : e ≡ m v) (other : w ≡ mate g m v) (passed : Set) (joined : (u : ℕ) → passed u ≡ (z u || (v == u || w == u))) where
   -- the path ends
@@ -61,14 +73,13 @@ module _ (g : Graph) (is : IsGraph g) (met : Set) (m : ℕ → ℕ) (pm : AreMat
       next-is : x ≡ mate g n (mate g m v)
       next-is = next ∙ ap (mate g n) other
 
-      -- it goes on from the next vertex, with fewer vertices that are not used
-      pub next-clear : IsClear g met m n passed x
+      next-clear : IsClear g met m n passed x
       next-clear = subst (λ (y : Set). IsClear g met m n y x) (sym passed-is) (subst (λ u. IsClear g met m n (passed_too g is met m pm n pn keeps z v wv clear out) u) (sym next-is) (next_is_clear g is met m pm n pn keeps z v wv clear out))
 
-      pub next-fewer : count g.order (complement passed) + 1 ≤ count g.order (complement z)
+      next-fewer : count g.order (complement passed) + 1 ≤ count g.order (complement z)
       next-fewer = subst (λ (y : Set). count g.order (complement y) + 1 ≤ count g.order (complement z)) (sym passed-is) (fewer_left g is met m pm n pn keeps z v wv clear out)
 
-      pub traced-longer : (old mid new : List ℕ) → mid ≡ (old ++ e ∷ []) ++ d ∷ [] → (after : Set) → IsTraced g met m n passed x mid new after → IsTraced g met m n z v old new after
+      traced-longer : (old mid new : List ℕ) → mid ≡ (old ++ e ∷ []) ++ d ∷ [] → (after : Set) → IsTraced g met m n passed x mid new after → IsTraced g met m n z v old new after
       traced-longer old mid new appended after traced =
           let es = traced.0 in
           let p : IsAlternating g met m n (passed_too g is met m pm n pn keeps z v wv clear out) (mate g n (mate g m v)) es =
@@ -83,6 +94,9 @@ module _ (g : Graph) (is : IsGraph g) (met : Set) (m : ℕ → ℕ) (pm : AreMat
           three true b c d = refl
           three false true c d = refl
           three false false c d = refl
+
+      pub goes-on : GoesOn g met m n z v passed x e d
+      goes-on = record { clear = next-clear; fewer = next-fewer; longer = traced-longer }
 
 module _ (g : Graph) (is : IsGraph g) (f : Set) (m n : ℕ → ℕ) (met : Set) (same : (v : ℕ) → met v ≡ is_met g f v) where
   met-is : met ≡ is_met g f
@@ -112,10 +126,10 @@ module _ (g : Graph) (is : IsGraph g) (f : Set) (m n : ℕ → ℕ) (met : Set) 
       after-is : after ≡ with_trail g z (record { begin = v; edges = edges })
       after-is = fun_ext (λ u. traced.3 u ∙ ap (λ (es : List ℕ). z u || mem (trail g v es) u) (sym traced.1))
 
-      pub after-holds : HoldsMates g met m n after
+      after-holds : HoldsMates g met m n after
       after-holds = subst (λ (t : Set). HoldsMates g t m n after) (sym met-is) (subst (λ (y : Set). HoldsMates g (is_met g f) m n y) (sym after-is) (passed-too g f m n z (record { begin = v; edges = edges }) holds-there mated))
 
-      pub after-fewer : count g.order (complement after) + 1 ≤ count g.order (complement z)
+      after-fewer : count g.order (complement after) + 1 ≤ count g.order (complement z)
       after-fewer =
           let fresh = start-clear.fresh in
           count_more g.order (complement after) (complement z) (λ u h. ap not (none_of (z u) (after u) _ (traced.3 u) h)) v (met-within g is f v (and_parts (is_met g f v) _ left-there).0) (ap not (in_after (traced.3 v))) (ap not fresh)
@@ -126,8 +140,11 @@ module _ (g : Graph) (is : IsGraph g) (f : Set) (m n : ℕ → ℕ) (met : Set) 
           in_after : after v ≡ (z v || mem (trail g v traced.0) v) → after v ≡ true
           in_after p = p ∙ or_right (z v) _ (start_mem g v traced.0)
 
-      pub collected-more : (ears : List PlainEar) → AreMatedEars g f m n after ears → AreMatedEars g f m n z (record { begin = v; edges = edges } ∷ ears)
+      collected-more : (ears : List PlainEar) → AreMatedEars g f m n after ears → AreMatedEars g f m n z (record { begin = v; edges = edges } ∷ ears)
       collected-more ears more = one-more g f m n z (record { begin = v; edges = edges }) ears mated path.avoid (subst (λ (y : Set). AreMatedEars g f m n y ears) after-is more)
+
+      pub ear-made : IsMade g f m n met z after (record { begin = v; edges = edges })
+      ear-made = record { holds = after-holds; fewer = after-fewer; more = collected-more }
 
 -- the list with one ear more and the further ones
 pub ears-more : (old mid new : List PlainEar) (a : PlainEar) (more : List PlainEar) → mid ≡ old ++ a ∷ [] → new ≡ mid ++ more → new ≡ old ++ a ∷ more

@@ -1,5 +1,5 @@
 -- Marks set at the places of further edges, and the tests of a step of two ears.
-use Rattle.std.proofs.Common.{◌≡◌, ℕ, ◌+◌, ◌<◌, Bool, true, false, ◌||◌, ◌==◌, if◌then◌else◌, List, [], ◌∷◌, length, All, Option, Some, None, refl, sym, ap, ◌∙◌, arith, subst}
+use Rattle.std.proofs.Common.{◌≡◌, ℕ, ◌+◌, ◌<◌, Bool, true, false, ◌||◌, ◌==◌, if◌then◌else◌, List, [], ◌∷◌, length, All, Option, Some, None, refl, sym, ap, ◌∙◌, arith}
 use Rattle.std.specs.Prelude.{slice_set}
 use Rattle.std.proofs.Math.Path.{fun_ext}
 use Rattle.counting.specs.Counts.{Within}
@@ -12,9 +12,6 @@ use Rattle.ear_core.specs.EarLists.{PlainEar, two}
 use Rattle.ear_core.specs.EarTests.{Why, not_path, even_length, bad_ends, inner_on_stage, edge_used, is_path, has_odd_length, has_good_ends, has_new_edges, ear_fault, inner_vertices, no_member}
 use Rattle.ear_core.specs.Refusals.{first_of, step_fault}
 use Rattle.ear_core.specs.Stages.{is_met}
-
-pub first-below : (n e : ℕ) (rest others : List ℕ) → rest ≡ e ∷ others → All (λ d. d < n) rest → e < n
-first-below n e rest others begins all = subst (All (λ d. d < n)) begins all 0 0 (omega arith)
 
 -- one more is marked, and one less is left
 pub marked-more : (items : List Bool) (old every : Set) (e : ℕ) (rest others : List ℕ) → rest ≡ e ∷ others → e < length items → ((i : ℕ) → (marks items i || mem rest i) ≡ (old i || every i)) → (i : ℕ) → (marks (slice_set items e true) i || mem others i) ≡ (old i || every i)

@@ -1,6 +1,6 @@
 -- The edges of the ears of a step, asked one by one: what an answer of the engine says of an edge, and what is known behind it.
-use Rattle.std.proofs.Common.{◌≡◌, ◌≢◌, ℕ, ◌<◌, Bool, true, false, ◌==◌, refl, sym, ap, ap₂, ◌∙◌, ◌&&◌, ◌||◌, not, Some, None, Option, Result, Ok, Err, IfOk, ◌∷◌, List, subst, ◌↔◌}
-use Rattle.std.proofs.lemmas.Bool.{true≢false}
+use Rattle.std.proofs.Common.{◌≡◌, ◌≢◌, ℕ, ◌<◌, ◌≤◌, arith, eqb-true, inl, inr, Bool, true, false, ◌==◌, refl, sym, ap, ap₂, ◌∙◌, ◌&&◌, ◌||◌, not, Some, None, Option, Result, Ok, Err, IfOk, ◌∷◌, List, subst, ◌↔◌}
+use Rattle.std.proofs.lemmas.Bool.{or_cases, true≢false}
 use Rattle.counting.specs.Counts.{Within}
 use Rattle.counting.specs.Lists.{mem}
 use Rattle.counting.specs.Sets.{Set, union, complement, pair_set, none}
@@ -8,7 +8,7 @@ use Rattle.counting.proofs.Booleans.{or_assoc}
 use Rattle.graph_core.specs.Graph.{Graph, size, IsGraph, first_end, second_end, with_ends}
 use Rattle.graph_core.specs.Matchings.{HasPerfect}
 use Rattle.ear_core.specs.Stages.{is_met, AllowedBy, with_edges}
-use Rattle.ear_core.specs.StageGraphs.{listed, Settled, asked_too}
+use Rattle.ear_core.specs.StageGraphs.{listed, IsBehind, IsUpTo, Settled, asked_too}
 use Rattle.ear_core.proofs.EngineGraphs.{served_listed, edge_serves}
 
 -- sets that agree on the vertices leave the same perfect matchings
@@ -41,10 +41,31 @@ module _ (g : Graph) (is : IsGraph g) (f r : Set) (e : ℕ) (within : Within (si
   pub none-refused : (HasPerfect stage r → ⊥) → AllowedBy g f e → ⊥
   none-refused nothing allowed = nothing (subst (λ h. HasPerfect h r) (sym listed_edges) ((engine-asked g is f r e within differ marked same).1 allowed))
 
--- below what is known
-abbrev pub Below : ℕ → Option ℕ → Type 0
-Below e None = Unit {0}
-Below e (Some d) = e < d
+-- an edge that is asked too: one that was asked, or e
+one-too : (asked : Set) (e w : ℕ) (P : Type 0) → asked_too asked e w ≡ true → (asked w ≡ true → P) → (e ≡ w → P) → P
+one-too asked e w P t before here = elim (or_cases (asked w) (e == w) t) [ inl a ↦ before a | inr same ↦ here (eqb-true e w same) ]
+
+-- an edge up to e is known
+pub settled-known : (g : Graph) (f asked : Set) (known : Option ℕ) (e : ℕ) → IsUpTo e known → Settled g f asked known → Settled g f (asked_too asked e) known
+settled-known g f asked None e up is = absurd up
+settled-known g f asked (Some d) e up is =
+    let low : d ≤ e = up in
+    (is.0, is.1, is.2, λ w i t less. one-too asked e w (AllowedBy g f w) t (λ a. is.3 w i a less) (λ same. absurd (omega arith)))
+
+-- e is allowed
+pub settled-allowed : (g : Graph) (f asked : Set) (known : Option ℕ) (e : ℕ) → AllowedBy g f e → Settled g f asked known → Settled g f (asked_too asked e) known
+settled-allowed g f asked None e allowed is = λ w i t. one-too asked e w (AllowedBy g f w) t (λ a. is w i a) (λ same. subst (AllowedBy g f) same allowed)
+settled-allowed g f asked (Some d) e allowed is =
+    (is.0, is.1, is.2, λ w i t less. one-too asked e w (AllowedBy g f w) t (λ a. is.3 w i a less) (λ same. subst (AllowedBy g f) same allowed))
+
+-- e is not, and no edge up to it is known
+pub settled-refused : (g : Graph) (f asked : Set) (known : Option ℕ) (e : ℕ) → Within (size g) e → f e ≡ true → (AllowedBy g f e → ⊥) → IsBehind e known → Settled g f asked known → Settled g f (asked_too asked e) (Some e)
+settled-refused g f asked known e within marked refused behind is =
+    (within, marked, refused, λ w i t less. one-too asked e w (AllowedBy g f w) t (λ a. earlier known behind is w i a less) (λ same. absurd (omega arith)))
+  where
+    earlier : (known : Option ℕ) → IsBehind e known → Settled g f asked known → (w : ℕ) → Within (size g) w → asked w ≡ true → w < e → AllowedBy g f w
+    earlier None behind is w i a less = is w i a
+    earlier (Some d) behind is w i a less = let far : e < d = behind in is.3 w i a (omega arith)
 
 -- the same edges asked
 pub settled-same : (g : Graph) (f asked others : Set) (known : Option ℕ) → ((e : ℕ) → others e ≡ asked e) → Settled g f asked known → Settled g f others known

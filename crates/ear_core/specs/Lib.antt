@@ -8,3 +8,4 @@ pub mod Refusals
 pub mod StageGraphs
 pub mod AlternatingEars
 pub mod Asking
+pub mod TakenSteps

@@ -1,6 +1,6 @@
 -- The graph that the engine is asked about: the vertices of g with the edges of a stage alone, which get numbers of their own in the
 -- order of those in g.
-use Rattle.std.specs.Prelude.{◌≡◌, ◌<◌, ℕ, zero, suc, true, List, [], ◌∷◌, ◌++◌, ◌||◌, ◌==◌, cond, Option, Some, None}
+use Rattle.std.specs.Prelude.{◌≡◌, ◌<◌, ◌≤◌, ℕ, zero, suc, true, List, [], ◌∷◌, ◌++◌, ◌||◌, ◌==◌, cond, Option, Some, None}
 use Rattle.counting.specs.Counts.{Within}
 use Rattle.counting.specs.Sets.{Set}
 use Rattle.graph_core.specs.Graph.{Graph, size, first_end, second_end}
@@ -20,3 +20,13 @@ Settled g f asked (Some d) =
 -- e as well
 abbrev pub asked_too : Set → ℕ → Set
 asked_too asked e w = asked w || (e == w)
+
+-- an edge up to e is known
+abbrev pub IsUpTo : ℕ → Option ℕ → Type 0
+IsUpTo e None = ⊥
+IsUpTo e (Some d) = d ≤ e
+
+-- no edge up to e is known
+abbrev pub IsBehind : ℕ → Option ℕ → Type 0
+IsBehind e None = Unit {0}
+IsBehind e (Some d) = e < d

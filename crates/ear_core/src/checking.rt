@@ -1,6 +1,8 @@
 //! The check of an ear list, step by step on a row of marks.
-ghost use Rattle.std.specs.Prelude.{◌≡◌, ◌↔◌, ◌+◌, ℕ, length, map, [], Some, None, IfOk};
+ghost use Rattle.std.specs.Prelude.{◌≡◌, ◌↔◌, ◌+◌, ℕ, length, map, [], true, Some, None, IfNone, IfOk, IfSome};
 ghost use Rattle.std.specs.List.{AllByRecursion};
+ghost use Rattle.counting.specs.Counts.{Within};
+ghost use Rattle.counting.specs.Tests.{IsLeastWithout};
 ghost use Rattle.graph_core.specs.Graph.{size};
 ghost use Rattle.match_core.specs.Rows.{marks};
 ghost use Rattle.ear_core.specs.EarLists.{FitsEars, FitsStep, IsEarList};
@@ -59,19 +61,30 @@ fn check_steps(
     Ok(judge_end(g, mark, number))
 }
 
+// The least edge that is not marked.
+fn least_left(g: &MultiGraph, mark: &[bool]) -> Option<u32>
+    requires { length mark.now ≡ size g.now + 1 }
+    ensures some { IfSome result (IsLeastWithout (size g.now) (λ e. marks mark.now e ≡ true)) }
+    ensures none { IfNone result
+        ((e : ℕ) → Within (size g.now) e → marks mark.now e ≡ true) }
+{
+    for k in 0..g.size() {
+        let edge = k + 1;
+        if !mark[edge as usize] {
+            return Some(edge);
+        }
+    }
+    None
+}
+
 // What is answered behind the last step, from the stage of the marked edges.
 fn judge_end(g: &MultiGraph, mark: &[bool], number: u32) -> EarJudgement
     requires { length mark.now ≡ size g.now + 1 }
     ensures { IsJudged g.now (marks mark.now) number [] (refusal_of result) }
 {
-    for k in 0..g.size() {
-        let edge = k + 1;
-        if !mark[edge as usize] {
-            return EarJudgement::Refused {
-                step: number,
-                why: EarWhy::EndsEarly { edge },
-            };
-        }
-    }
-    EarJudgement::Accepted
+    let Some(edge) = least_left(g, mark) else {
+        return EarJudgement::Accepted;
+    };
+    let why = EarWhy::EndsEarly { edge };
+    EarJudgement::Refused { step: number, why }
 }

@@ -75,6 +75,13 @@ fn is_free(inner: VSet, taken: VSet) -> bool
     inner.meet(taken).len() == 0
 }
 
+// Whether a number is odd.
+fn is_odd(n: usize) -> bool
+    ensures { result ≡ is_odd n }
+{
+    n % 2 == 1
+}
+
 /// The path that an ear is, or the first test that it fails on the stage of the marked edges, which meets the vertices `met`,
 /// beside the inner vertices and the edges of the first ear of its step.
 pub fn tested(
@@ -101,7 +108,7 @@ pub fn tested(
     let Some(path) = path_of(g, ear) else {
         return Err(EarWhy::NotPath);
     };
-    if ear.edges.len() % 2 != 1 {
+    if !is_odd(ear.edges.len()) {
         return Err(EarWhy::EvenLength);
     }
     if !are_good_ends(met, ear.from, path.last) {

@@ -1,7 +1,7 @@
 //! What a check of an ear list answers.
 
 /// Why a step is refused: the first of these that applies, the tests of the step's first ear coming before those of its second.
-#[derive(Clone, Copy, Debug, PartialEq, Eq)]
+#[derive(Clone, Copy)]
 pub enum EarWhy {
     /// An ear has no edges, or its edges do not follow one another from its first vertex, or a vertex comes twice other than the
     /// last equal to the first.
@@ -21,7 +21,7 @@ pub enum EarWhy {
 }
 
 /// The answer to an ear list.
-#[derive(Clone, Copy, Debug, PartialEq, Eq)]
+#[derive(Clone, Copy)]
 pub enum EarJudgement {
     /// It is an ear list of the graph.
     Accepted,

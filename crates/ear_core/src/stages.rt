@@ -6,7 +6,7 @@ ghost use Rattle.counting.specs.Lists.{mem};
 ghost use Rattle.graph_core.specs.Graph.{size, with_ends};
 ghost use Rattle.match_core.specs.Rows.{marks};
 ghost use Rattle.ear_core.specs.Stages.{is_met, AllowedBy, with_edges};
-ghost use Rattle.ear_core.specs.StageGraphs.{listed, Settled, asked_too};
+ghost use Rattle.ear_core.specs.StageGraphs.{listed, IsBehind, IsUpTo, Settled, asked_too};
 
 use graph_core::MultiGraph;
 use match_core::perfect_without;
@@ -53,6 +53,17 @@ fn is_allowed_by(
     }
 }
 
+// Whether the known edge is not behind `e`.
+fn is_up_to(known: Option<u32>, e: u32) -> bool
+    ensures yes { result ≡ true → IsUpTo e known }
+    ensures no { result ≡ false → IsBehind e known }
+{
+    match known {
+        Some(d) => d <= e,
+        None => false,
+    }
+}
+
 // The least edge in no perfect matching of the stage, of those that were asked and `e`.
 fn settle(
     alloc: Global,
@@ -69,10 +80,8 @@ fn settle(
     ensures { (asked : Set) → Settled g.now (marks mark.now) asked known →
         IfOk result (Settled g.now (marks mark.now) (asked_too asked e)) }
 {
-    if let Some(d) = known {
-        if d <= e {
-            return Ok(known);
-        }
+    if is_up_to(known, e) {
+        return Ok(known);
     }
     if is_allowed_by(alloc, g, mark, met, e)? {
         Ok(known)

@@ -6,9 +6,10 @@ ghost use Rattle.counting.specs.Sets.{none};
 ghost use Rattle.graph_core.specs.Graph.{size};
 ghost use Rattle.match_core.specs.Rows.{marks};
 ghost use Rattle.ear_core.specs.EarLists.{FitsStep, next_stage, IsStep};
-ghost use Rattle.ear_core.specs.Refusals.{step_fault, IsStepRefused};
+ghost use Rattle.ear_core.specs.Refusals.{step_fault};
 ghost use Rattle.ear_core.specs.StageGraphs.{Settled};
 ghost use Rattle.ear_core.specs.Stages.{IsStage};
+ghost use Rattle.ear_core.specs.TakenSteps.{IsTaken};
 ghost use Rattle.ear_core.specs.View.{step_of, why_of};
 
 use crate::ears::Step;
@@ -97,7 +98,6 @@ fn refused_edge(
 }
 
 /// Takes a step on the stage of the marked edges: then its edges are marked too, or it is refused, with the reason.
-#[tactic(auto, using(crate::proofs::Taking::first_fits, crate::proofs::Taking::second_fits, crate::proofs::Taking::first_marked, crate::proofs::Taking::second_marked))]
 pub fn take_step(
     alloc: Global,
     g: &MultiGraph,
@@ -108,16 +108,8 @@ pub fn take_step(
     requires fits { FitsStep g.now.order (size g.now) (step_of step.now) }
     requires stage { IsStage g.now (marks mark.old.items) }
     ensures length { length mark.new.items ≡ length mark.old.items }
-    ensures refused { IfOk result
-        (λ o. IfSome o (λ why. IsStepRefused g.now (marks mark.old.items) (step_of step.now)
-        (why_of why))) }
-    ensures passes { IfOk result
-        (λ o. IfNone o (step_fault g.now (marks mark.old.items) (step_of step.now) ≡ None)) }
-    ensures stage { IfOk result
-        (λ o. IfNone o (IsStage g.now (next_stage (marks mark.old.items) (step_of step.now)))) }
-    ensures next { IfOk result
-        (λ o. IfNone o ((i : ℕ) →
-        marks mark.new.items i ≡ next_stage (marks mark.old.items) (step_of step.now) i)) }
+    ensures taken { IfOk result
+        (IsTaken g.now (marks mark.old.items) (step_of step.now) (marks mark.new.items)) }
 {
     g.keeps_limits();
     if let Some(why) = fault_of(g, mark, step) {

@@ -35,7 +35,7 @@ fn built(alloc: Global, graph: &MultiGraph) -> Result<Option<(u32, u32)>, Fail> 
             Some(_) => double = double.saturating_add(1),
         }
     }
-    if check_ears(alloc, graph, &list)? == EarJudgement::Accepted {
+    if matches!(check_ears(alloc, graph, &list)?, EarJudgement::Accepted) {
         return Ok(Some((single, double)));
     }
     Err("a list that is built is refused".into())

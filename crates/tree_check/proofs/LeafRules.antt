@@ -1,5 +1,6 @@
 -- What the rule of a leaf shows: there is no candidate at a partition exactly where no nontrivial shore is tight at it.
 use Rattle.std.proofs.Common.{◌≡◌, ◌⊎◌, ℕ, List, [], ◌∷◌, length, Option, Some, None, unwrap_or, refl, sym, ap, ◌∙◌, arith, inl, inr}
+use Rattle.std.proofs.lemmas.Option.{none-some, same_Some}
 use Rattle.counting.specs.Sets.{Set}
 use Rattle.graph_core.specs.Covered.{IsCovered}
 use Rattle.graph_core.specs.Graph.{Graph, IsGraph}
@@ -8,7 +9,7 @@ use Rattle.graph_core.specs.Quotients.{quotient}
 use Rattle.graph_core.specs.Shores.{IsTightAt, blocks_in}
 use Rattle.graph_core.specs.Tight.{IsNontrivial}
 use Rattle.tight_cuts.proofs.PartitionCandidates.{none-at}
-use Rattle.tight_cuts.specs.Candidates.{Candidate, first_shore}
+use Rattle.tight_cuts.specs.Candidates.{Candidate, first_of, first_shore}
 use Rattle.tight_cuts.specs.CandidatesAt.{candidates_at}
 use Rattle.tree_core.specs.Derivations.{IsLeafAt}
 use Rattle.tree_check.specs.Refusals.{BreaksLeaf, Why, not_blocks, even, trivial, not_tight, not_leaf, without_matching}
@@ -49,3 +50,8 @@ leaf-once g p (not_leaf c) (not_leaf d) s t = ap not_leaf (same c d (sym s ∙ t
   where
     same : (c d : List ℕ) → Some c ≡ Some d → c ≡ d
     same c d e = ap (λ (o : Option (List ℕ)). unwrap_or o []) e
+
+-- the shore of the first candidate
+pub shore-first : (c : Candidate) (list : List Candidate) → Some c ≡ first_of list → Some c.shore ≡ first_shore list
+shore-first c [] e = absurd (none-some _ (sym e))
+shore-first c (d ∷ list) e = ap (λ (c : Candidate). Some c.shore) (same_Some _ _ e)

@@ -6,7 +6,8 @@ use Rattle.counting.specs.Counts.{count}
 use Rattle.counting.specs.Lists.{mem}
 use Rattle.counting.specs.Sets.{complement}
 use Rattle.graph_core.specs.Graph.{Graph, IsGraph}
-use Rattle.graph_core.specs.Partitions.{IsPartition}
+use Rattle.graph_core.specs.Covered.{IsCovered}
+use Rattle.graph_core.specs.Partitions.{IsPartition, singles}
 use Rattle.graph_core.specs.Shores.{blocks_in}
 use Rattle.tree_core.proofs.CutsBelow.{few-cuts_at, kept-partition}
 use Rattle.tree_core.proofs.Sizes.{node_count-cuts}
@@ -14,7 +15,7 @@ use Rattle.tree_core.specs.Derivations.{IsCutAt, IsDerivationAt, kept_at, merged
 use Rattle.tree_core.specs.Shapes.{Shape, cut, node_count}
 use Rattle.tree_check.specs.Judgements.{why_of}
 use Rattle.tree_check.specs.Scans.{IsScanned}
-use Rattle.tree_check.specs.Refusals.{BreaksCut, IsRefusedAt}
+use Rattle.tree_check.specs.Refusals.{BreaksCut, IsRefused, IsRefusedAt}
 use Rattle.tree_check.specs.declared.judgement.Why.{Why as StoredWhy}
 use Rattle.tree_check.specs.declared.scan.Scanned.{Scanned}
 use Rattle.tree_check.specs.declared.scan.Scanned.TheVariants as scanned
@@ -66,3 +67,9 @@ module _ (g : Graph) (p : List (List ℕ)) (x : List ℕ) (t k m : Shape) (is_t 
         (found.0, refl, subst (λ (s : List (List ℕ)). IsRefusedAt g s m found.0 (why_of why)) is_r found.2),
       )),
     )
+
+-- what a scan from the root refuses
+pub refused-first : (g : Graph) (t : Shape) (node : ℕ) (why : StoredWhy) → IsCovered g → IsScanned g (singles g.order) t 1 (scanned.Refused node why) → IsRefused g t node (why_of why)
+refused-first g t node why covered found =
+    let same : found.0 ≡ node = omega (arith, found.1) in
+    record { covered = covered; refused = subst (λ j. IsRefusedAt g (singles g.order) t j (why_of why)) same found.2 }

@@ -7,3 +7,4 @@ pub mod TreePaths
 pub mod CutsBelow
 pub mod RotateSteps
 pub mod SwitchSets
+pub mod SwitchWalks

@@ -6,3 +6,4 @@ pub mod Moves
 pub mod LeafMaps
 pub mod MoveView
 pub mod Turns
+pub mod Exchanges

@@ -3,6 +3,7 @@ ghost use Rattle.std.specs.Prelude.{◌≡◌, Some, None, IfOk, IfErr};
 ghost use Rattle.counting.specs.Lists.{is_apart};
 ghost use Rattle.tree_core.specs.Moves.{rotate_result, rotate_result_at, rotate_result_kept, rotate_result_merged};
 ghost use Rattle.tree_core.specs.Shapes.{cut};
+ghost use Rattle.tree_core.specs.Turns.{IsAnswer};
 ghost use Rattle.tree_core.specs.View.{shape_of};
 
 use crate::moves::Stuck;
@@ -21,13 +22,9 @@ pub fn are_apart(x: VSet, y: VSet) -> bool
 
 // Brings the root of `kept` over the cut.
 fn rotate_kept(shore: VSet, mut kept: Box<Tree>, merged: Box<Tree>) -> Result<Tree, Tree>
-    ensures ok { IfOk result
-        (λ tree. rotate_result_kept shore (shape_of kept.value) (shape_of merged.value) ≡
-        Some (shape_of tree)) }
-    ensures stuck { IfErr result
-        (λ tree. rotate_result_kept shore (shape_of kept.value) (shape_of merged.value) ≡ None) }
-    ensures same { IfErr result
-        (λ tree. shape_of tree ≡ cut shore (shape_of kept.value) (shape_of merged.value)) }
+    ensures { IsAnswer
+        (rotate_result_kept shore (shape_of kept.value) (shape_of merged.value))
+        (cut shore (shape_of kept.value) (shape_of merged.value)) result }
 {
     match mem::replace(&mut *kept, Tree::Leaf) {
         Tree::Leaf => Err(Tree::Cut {
@@ -56,13 +53,9 @@ fn rotate_kept(shore: VSet, mut kept: Box<Tree>, merged: Box<Tree>) -> Result<Tr
 
 // Brings the root of `merged` over the cut.
 fn rotate_merged(shore: VSet, kept: Box<Tree>, mut merged: Box<Tree>) -> Result<Tree, Tree>
-    ensures ok { IfOk result
-        (λ tree. rotate_result_merged shore (shape_of kept.value) (shape_of merged.value) ≡
-        Some (shape_of tree)) }
-    ensures stuck { IfErr result
-        (λ tree. rotate_result_merged shore (shape_of kept.value) (shape_of merged.value) ≡ None) }
-    ensures same { IfErr result
-        (λ tree. shape_of tree ≡ cut shore (shape_of kept.value) (shape_of merged.value)) }
+    ensures { IsAnswer
+        (rotate_result_merged shore (shape_of kept.value) (shape_of merged.value))
+        (cut shore (shape_of kept.value) (shape_of merged.value)) result }
 {
     match mem::replace(&mut *merged, Tree::Leaf) {
         Tree::Leaf => Err(Tree::Cut {
@@ -115,10 +108,7 @@ fn rotate_merged(shore: VSet, kept: Box<Tree>, mut merged: Box<Tree>) -> Result<
 
 /// Brings the root of the child on the side over the root of the tree.
 pub(crate) fn rotate_here(tree: Tree, side: Side) -> Result<Tree, Tree>
-    ensures ok { IfOk result
-        (λ made. rotate_result_at side (shape_of tree) ≡ Some (shape_of made)) }
-    ensures stuck { IfErr result (λ back. rotate_result_at side (shape_of tree) ≡ None) }
-    ensures same { IfErr result (λ back. shape_of back ≡ shape_of tree) }
+    ensures { IsAnswer (rotate_result_at side (shape_of tree)) (shape_of tree) result }
 {
     match tree {
         Tree::Leaf => Err(Tree::Leaf),

@@ -1,13 +1,15 @@
 //! Switch: two sets are exchanged between a shore and its complement, and the shores below follow.
-ghost use Rattle.std.specs.Prelude.{◌≡◌, ◌-◌, Some, None, IfOk, IfErr, All, true, if◌then◌else◌};
+ghost use Rattle.std.specs.Prelude.{◌≡◌, ◌-◌, Some, None, IfOk, IfErr, All, true, false};
 ghost use Rattle.counting.specs.Counts.{Within};
-ghost use Rattle.counting.specs.Lists.{mem, is_subset};
-ghost use Rattle.tree_core.specs.Moves.{inner_rest, kept_if_greatest_stays, kept_if_greatest_comes, merged_if_greatest_stays, merged_if_greatest_comes, merged_shore_if_greatest_stays, minus_list, outer_rest, switch_result, switch_result_at, union_list};
-ghost use Rattle.tree_core.specs.Shapes.{Fits, cut};
+ghost use Rattle.counting.specs.Lists.{mem};
+ghost use Rattle.tree_core.specs.Exchanges.{IsExchange, cut_after, is_turned, shore_after, tree_after};
+ghost use Rattle.tree_core.specs.Moves.{merged_shore_if_greatest_stays, switch_result, switch_result_at};
+ghost use Rattle.tree_core.specs.Shapes.{Fits};
+ghost use Rattle.tree_core.specs.Turns.{IsAnswer};
 ghost use Rattle.tree_core.specs.View.{shape_of};
 
 use crate::moves::Stuck;
-use crate::path::Path;
+use crate::path::{Path, Side};
 use crate::switched_shores::{
     holds_greatest, is_proper_outside, is_proper_part, minus_of, outer_rest_of, set_if, union_of,
 };
@@ -24,19 +26,18 @@ struct Exchange {
     x: VSet,
     u: VSet,
     v: VSet,
+    greatest_comes: bool,
 }
 
 // A shore below `kept` where the greatest vertex comes: one that contains u gains the rest of the outer side.
 #[tactic(auto, using(crate::proofs::SwitchSets::all_wider))]
-fn kept_shore_greatest_comes(e: &Exchange, rest: VSet, s: VSet) -> VSet
-    requires rest { rest ≡ outer_rest e.now.n e.now.x e.now.v }
-    requires within { All (Within e.now.n) rest }
+fn kept_shore_greatest_comes(e: &Exchange, s: VSet) -> VSet
+    requires greatest { mem e.now.v e.now.n ≡ true }
     requires shore { All (Within (e.now.n - 1)) s }
-    ensures { result ≡ (if is_subset e.now.u s then union_list e.now.n s
-        (outer_rest e.now.n e.now.x e.now.v) else s) }
+    ensures { result ≡ shore_after true Side.Kept e.now.n e.now.x e.now.u e.now.v s }
 {
     if e.u.is_subset(s) {
-        union_of(s, rest, e.n)
+        union_of(s, outer_rest_of(e.x, e.v, e.n), e.n)
     } else {
         s
     }
@@ -47,11 +48,23 @@ fn kept_shore_greatest_comes(e: &Exchange, rest: VSet, s: VSet) -> VSet
 fn merged_shore_greatest_comes(e: &Exchange, s: VSet) -> VSet
     requires part { All (Within e.now.n) e.now.u }
     requires shore { All (Within (e.now.n - 1)) s }
-    ensures { result ≡ (if is_subset e.now.x s then union_list e.now.n
-        (minus_list e.now.n s e.now.x) e.now.u else s) }
+    ensures { result ≡ shore_after true Side.Merged e.now.n e.now.x e.now.u e.now.v s }
 {
     if e.x.is_subset(s) {
         union_of(minus_of(s, e.x, e.n), e.u, e.n)
+    } else {
+        s
+    }
+}
+
+// A shore below `kept` where the greatest vertex stays: one that contains u becomes x without it, with v.
+fn kept_shore_greatest_stays(e: &Exchange, s: VSet) -> VSet
+    requires whole { All (Within e.now.n) e.now.x }
+    requires other { All (Within e.now.n) e.now.v }
+    ensures { result ≡ shore_after false Side.Kept e.now.n e.now.x e.now.u e.now.v s }
+{
+    if e.u.is_subset(s) {
+        union_of(minus_of(e.x, s, e.n), e.v, e.n)
     } else {
         s
     }
@@ -73,51 +86,38 @@ fn merged_shore_greatest_stays(e: &Exchange, s: VSet) -> VSet
     union_of(outer, union_of(inner, further, e.n), e.n)
 }
 
-// Carries the tree below `kept` along, where the greatest vertex comes.
-fn kept_greatest_comes(tree: &mut Tree, e: &Exchange, rest: VSet)
-    requires rest { rest ≡ outer_rest e.now.n e.now.x e.now.v }
-    requires within { All (Within e.now.n) rest }
-    requires fits { Fits e.now.n (shape_of tree.old) }
-    ensures { shape_of tree.new ≡
-        kept_if_greatest_comes e.now.n e.now.x e.now.u e.now.v (shape_of tree.old) }
+// What a shore of the tree on the side becomes.
+fn shore_after(e: &Exchange, side: Side, s: VSet) -> VSet
+    requires exchange { IsExchange e.now.greatest_comes e.now.n e.now.x e.now.u e.now.v }
+    requires shore { All (Within (e.now.n - 1)) s }
+    ensures { result ≡
+        shore_after e.now.greatest_comes side e.now.n e.now.x e.now.u e.now.v s }
 {
-    if let Tree::Cut {
-        shore,
-        kept,
-        merged,
-    } = tree
-    {
-        kept_greatest_comes(kept, e, rest);
-        kept_greatest_comes(merged, e, rest);
-        *shore = kept_shore_greatest_comes(e, rest, *shore);
+    match (e.greatest_comes, side) {
+        (true, Side::Kept) => kept_shore_greatest_comes(e, s),
+        (true, Side::Merged) => merged_shore_greatest_comes(e, s),
+        (false, Side::Kept) => kept_shore_greatest_stays(e, s),
+        (false, Side::Merged) => merged_shore_greatest_stays(e, s),
     }
 }
 
-// Carries the tree below `merged` along, where the greatest vertex comes.
-fn merged_greatest_comes(tree: &mut Tree, e: &Exchange)
-    requires part { All (Within e.now.n) e.now.u }
-    requires fits { Fits e.now.n (shape_of tree.old) }
-    ensures { shape_of tree.new ≡
-        merged_if_greatest_comes e.now.n e.now.x e.now.u (shape_of tree.old) }
+// Whether the trees below a shore of the tree on the side change places: the shore becomes a part of what was its complement.
+fn is_turned(e: &Exchange, side: Side, s: VSet) -> bool
+    ensures { result ≡ is_turned e.now.greatest_comes side e.now.u s }
 {
-    if let Tree::Cut {
-        shore,
-        kept,
-        merged,
-    } = tree
-    {
-        merged_greatest_comes(kept, e);
-        merged_greatest_comes(merged, e);
-        *shore = merged_shore_greatest_comes(e, *shore);
+    match side {
+        Side::Kept => !e.greatest_comes && e.u.is_subset(s),
+        Side::Merged => false,
     }
 }
 
-// Carries the tree below `kept` along, where the greatest vertex stays: where a shore contains u the two trees change places.
-fn kept_greatest_stays(tree: &mut Tree, e: &Exchange)
-    requires whole { All (Within e.now.n) e.now.x }
-    requires second { All (Within e.now.n) e.now.v }
+// Carries the tree on the side along.
+fn carry(tree: &mut Tree, e: &Exchange, side: Side)
+    requires exchange { IsExchange e.now.greatest_comes e.now.n e.now.x e.now.u e.now.v }
+    requires fits { Fits e.now.n (shape_of tree.old) }
     ensures { shape_of tree.new ≡
-        kept_if_greatest_stays e.now.n e.now.x e.now.u e.now.v (shape_of tree.old) }
+        tree_after e.now.greatest_comes side e.now.n e.now.x e.now.u e.now.v
+        (shape_of tree.old) }
 {
     if let Tree::Cut {
         shore,
@@ -125,84 +125,45 @@ fn kept_greatest_stays(tree: &mut Tree, e: &Exchange)
         merged,
     } = tree
     {
-        kept_greatest_stays(kept, e);
-        kept_greatest_stays(merged, e);
-        if e.u.is_subset(*shore) {
-            *shore = union_of(minus_of(e.x, *shore, e.n), e.v, e.n);
+        carry(kept, e, side);
+        carry(merged, e, side);
+        if is_turned(e, side, *shore) {
             mem::swap(kept, merged);
         }
+        *shore = shore_after(e, side, *shore);
     }
 }
 
-// Carries the tree below `merged` along, where the greatest vertex stays.
-fn merged_greatest_stays(tree: &mut Tree, e: &Exchange)
-    requires first { All (Within e.now.n) e.now.u }
-    requires second { All (Within e.now.n) e.now.v }
-    requires whole { All (Within e.now.n) e.now.x }
-    requires fits { Fits e.now.n (shape_of tree.old) }
-    ensures { shape_of tree.new ≡
-        merged_if_greatest_stays e.now.n e.now.x e.now.u e.now.v (shape_of tree.old) }
-{
-    if let Tree::Cut {
-        shore,
-        kept,
-        merged,
-    } = tree
-    {
-        merged_greatest_stays(kept, e);
-        merged_greatest_stays(merged, e);
-        *shore = merged_shore_greatest_stays(e, *shore);
-    }
-}
-
-// The cut after the exchange, where the greatest vertex comes: the two trees change places.
-fn exchanged_greatest_comes(mut kept: Box<Tree>, mut merged: Box<Tree>, e: &Exchange) -> Tree
-    requires greatest { mem e.now.v e.now.n ≡ true }
-    requires part { All (Within e.now.n) e.now.u }
+// The cut after the exchange. Where the greatest vertex comes, the two trees change places.
+fn exchanged(mut kept: Box<Tree>, mut merged: Box<Tree>, e: &Exchange) -> Tree
+    requires exchange { IsExchange e.now.greatest_comes e.now.n e.now.x e.now.u e.now.v }
     requires first { Fits e.now.n (shape_of kept.value) }
     requires second { Fits e.now.n (shape_of merged.value) }
     ensures { shape_of result ≡
-        cut (union_list e.now.n (outer_rest e.now.n e.now.x e.now.v) e.now.u)
-        (merged_if_greatest_comes e.now.n e.now.x e.now.u (shape_of merged.value))
-        (kept_if_greatest_comes e.now.n e.now.x e.now.u e.now.v (shape_of kept.value)) }
+        cut_after e.now.greatest_comes e.now.n e.now.x e.now.u e.now.v (shape_of kept.value)
+        (shape_of merged.value) }
 {
-    let rest = outer_rest_of(e.x, e.v, e.n);
-    kept_greatest_comes(&mut *kept, e, rest);
-    merged_greatest_comes(&mut *merged, e);
-    Tree::Cut {
-        shore: union_of(rest, e.u, e.n),
-        kept: merged,
-        merged: kept,
-    }
-}
-
-// The cut after the exchange, where the greatest vertex stays.
-fn exchanged_greatest_stays(mut kept: Box<Tree>, mut merged: Box<Tree>, e: &Exchange) -> Tree
-    requires part { All (Within e.now.n) e.now.u }
-    requires other { All (Within e.now.n) e.now.v }
-    requires whole { All (Within e.now.n) e.now.x }
-    requires second { Fits e.now.n (shape_of merged.value) }
-    ensures { shape_of result ≡
-        cut (union_list e.now.n (inner_rest e.now.n e.now.x e.now.u) e.now.v)
-        (kept_if_greatest_stays e.now.n e.now.x e.now.u e.now.v (shape_of kept.value))
-        (merged_if_greatest_stays e.now.n e.now.x e.now.u e.now.v (shape_of merged.value)) }
-{
-    kept_greatest_stays(&mut *kept, e);
-    merged_greatest_stays(&mut *merged, e);
-    Tree::Cut {
-        shore: union_of(minus_of(e.x, e.u, e.n), e.v, e.n),
-        kept,
-        merged,
+    carry(&mut *kept, e, Side::Kept);
+    carry(&mut *merged, e, Side::Merged);
+    if e.greatest_comes {
+        Tree::Cut {
+            shore: union_of(outer_rest_of(e.x, e.v, e.n), e.u, e.n),
+            kept: merged,
+            merged: kept,
+        }
+    } else {
+        Tree::Cut {
+            shore: union_of(minus_of(e.x, e.u, e.n), e.v, e.n),
+            kept,
+            merged,
+        }
     }
 }
 
 /// Exchanges `u` and `v` at the root of the tree.
 pub(crate) fn switch_here(tree: Tree, n: u32, u: VSet, v: VSet) -> Result<Tree, Tree>
     requires { Fits n (shape_of tree) }
-    ensures ok { IfOk result
-        (λ made. switch_result_at n u v (shape_of tree) ≡ Some (shape_of made)) }
-    ensures stuck { IfErr result (λ back. switch_result_at n u v (shape_of tree) ≡ None) }
-    ensures same { IfErr result (λ back. shape_of back ≡ shape_of tree) }
+    ensures { IsAnswer (switch_result_at n u v (shape_of tree)) (shape_of tree) result }
 {
     match tree {
         Tree::Leaf => Err(Tree::Leaf),
@@ -218,12 +179,14 @@ pub(crate) fn switch_here(tree: Tree, n: u32, u: VSet, v: VSet) -> Result<Tree, 
                     merged,
                 });
             }
-            let e = Exchange { n, x: shore, u, v };
-            if holds_greatest(v, n) {
-                Ok(exchanged_greatest_comes(kept, merged, &e))
-            } else {
-                Ok(exchanged_greatest_stays(kept, merged, &e))
-            }
+            let e = Exchange {
+                n,
+                x: shore,
+                u,
+                v,
+                greatest_comes: holds_greatest(v, n),
+            };
+            Ok(exchanged(kept, merged, &e))
         }
     }
 }

@@ -1,7 +1,6 @@
 //! What a move does at the end of its path.
-ghost use Rattle.std.specs.Prelude.{◌≡◌, Some, None, IfOk, IfErr};
 ghost use Rattle.tree_core.specs.Moves.{result_at};
-ghost use Rattle.tree_core.specs.Turns.{MayTurn, turn_result};
+ghost use Rattle.tree_core.specs.Turns.{IsAnswer, MayTurn, turn_result};
 ghost use Rattle.tree_core.specs.View.{shape_of};
 
 use crate::opened::open;
@@ -30,12 +29,8 @@ pub enum Turn {
 /// Makes the turn at the end of the path. The same tree is handed back where it has no result.
 pub(crate) fn turn_along(tree: Tree, path: &[Side], turn: &Turn) -> Result<Tree, Tree>
     requires { MayTurn turn.now (shape_of tree) }
-    ensures ok { IfOk result
-        (λ made. result_at (turn_result turn.now) path.now (shape_of tree) ≡
-        Some (shape_of made)) }
-    ensures stuck { IfErr result
-        (λ back. result_at (turn_result turn.now) path.now (shape_of tree) ≡ None) }
-    ensures same { IfErr result (λ back. shape_of back ≡ shape_of tree) }
+    ensures { IsAnswer (result_at (turn_result turn.now) path.now (shape_of tree)) (shape_of tree)
+        result }
 {
     let Some((side, rest)) = path.split_first() else {
         return match turn {

@@ -25,6 +25,15 @@ both_leaves g n p (cut x a b) t is e list cov l ds dt =
     let st = stage_of g n p is e list cov in
     absurd (leaf_not g p x st (subst (IsDerivationAt g p) l dt) (cut_big g p st x ds.0.set ds.0) ds.0.canonical)
 
+-- where the shore y of t was exposed in s: what may be asked of the two pairs of trees below it, and that the moves that turn the one
+-- into the other make a script of few moves from s to t
+pub record IsCompared (g : Graph) (p : List (List ℕ)) (s t : Shape) (y : List ℕ) (k1 r1 k2 r2 : Shape) (ms : List PlainMove) : Type 0 where
+  pub kept : (q : List (List ℕ)) (a b : Shape) → q ≡ kept_at g.order p y → a ≡ k1 → b ≡ k2 → IsDerivationAt g q a × IsDerivationAt g q b
+  pub merged : (q : List (List ℕ)) (a b : Shape) → q ≡ merged_at g.order p y → a ≡ r1 → b ≡ r2 → IsDerivationAt g q a × IsDerivationAt g q b
+  pub whole : (q r : List (List ℕ)) (ks ns : List PlainMove) (k1' k2' r1' r2' : Shape) → q ≡ kept_at g.order p y → r ≡ merged_at g.order p y → k1' ≡ k1 → k2' ≡ k2 → r1' ≡ r1 → r2' ≡ r2 →
+      IsProperScript g q k1' ks k2' → IsProperScript g r r1' ns r2' → length ks ≤ 5 * (cut_count k1' * cut_count k1') → length ns ≤ 5 * (cut_count r1' * cut_count r1') →
+      (all : List PlainMove) → all ≡ (ms ++ map (below Kept) ks) ++ map (below Merged) ns → IsProperScript g p s all t × (length all ≤ 5 * (cut_count s * cut_count s))
+
 module _ (g : Graph) (n : ℕ) (p : List (List ℕ)) (s t : Shape) (y : List ℕ) (k2 r2 : Shape) (is : IsGraph g) (e : n ≡ g.order) (list : IsPartition n p) (cov : IsCovered (quotient g p)) (w : t ≡ cut y k2 r2) (ds : IsDerivationAt g p s) (dt : IsDerivationAt g p t) where
   second : IsDerivationAt g p (cut y k2 r2)
   second = subst (IsDerivationAt g p) w dt
@@ -56,13 +65,13 @@ module _ (g : Graph) (n : ℕ) (p : List (List ℕ)) (s t : Shape) (y : List ℕ
     ended : IsDerivationAt g p (cut y k1 r1) × AreRising g.order (cut y k1 r1) × (cut_count (cut y k1 r1) ≡ cut_count s)
     ended = script_end g p s ms (cut y k1 r1) ds (rising-derivation_at g p s ds) script
 
-    pub asks_kept_both : (q : List (List ℕ)) (a b : Shape) → q ≡ kept_at g.order p y → a ≡ k1 → b ≡ k2 → IsDerivationAt g q a × IsDerivationAt g q b
+    asks_kept_both : (q : List (List ℕ)) (a b : Shape) → q ≡ kept_at g.order p y → a ≡ k1 → b ≡ k2 → IsDerivationAt g q a × IsDerivationAt g q b
     asks_kept_both q a b eq ea eb = (
       subst (λ q. IsDerivationAt g q a) (sym eq) (subst (IsDerivationAt g (kept_at g.order p y)) (sym ea) ended.0.1),
       subst (λ q. IsDerivationAt g q b) (sym eq) (subst (IsDerivationAt g (kept_at g.order p y)) (sym eb) second.1),
     )
 
-    pub asks_merged_both : (q : List (List ℕ)) (a b : Shape) → q ≡ merged_at g.order p y → a ≡ r1 → b ≡ r2 → IsDerivationAt g q a × IsDerivationAt g q b
+    asks_merged_both : (q : List (List ℕ)) (a b : Shape) → q ≡ merged_at g.order p y → a ≡ r1 → b ≡ r2 → IsDerivationAt g q a × IsDerivationAt g q b
     asks_merged_both q a b eq ea eb = (
       subst (λ q. IsDerivationAt g q a) (sym eq) (subst (IsDerivationAt g (merged_at g.order p y)) (sym ea) ended.0.2),
       subst (λ q. IsDerivationAt g q b) (sym eq) (subst (IsDerivationAt g (merged_at g.order p y)) (sym eb) second.2),
@@ -79,7 +88,7 @@ module _ (g : Graph) (n : ℕ) (p : List (List ℕ)) (s t : Shape) (y : List ℕ
       whole : List PlainMove
       whole = (ms ++ map (below Kept) ks) ++ map (below Merged) ns
 
-      pub whole_script : IsProperScript g p s ((ms ++ map (below Kept) ks) ++ map (below Merged) ns) t
+      whole_script : IsProperScript g p s ((ms ++ map (below Kept) ks) ++ map (below Merged) ns) t
       whole_script =
           let w1 = script_kept g p y k1 r1 ks k2 ended.0 ended.1 at_kept in
           let w2 = script_join g p s ms (map (below Kept) ks) (cut y k1 r1) (cut y k2 r1) script w1 in
@@ -87,7 +96,7 @@ module _ (g : Graph) (n : ℕ) (p : List (List ℕ)) (s t : Shape) (y : List ℕ
           let w3 = script_merged g p y k2 r1 ns r2 q2.0 q2.1 at_merged in
           subst (IsProperScript g p s ((ms ++ map (below Kept) ks) ++ map (below Merged) ns)) (sym w) (script_join g p s (ms ++ map (below Kept) ks) (map (below Merged) ns) (cut y k2 r1) (cut y k2 r2) w2 w3)
 
-      pub whole_few : length ((ms ++ map (below Kept) ks) ++ map (below Merged) ns) ≤ 5 * (cut_count s * cut_count s)
+      whole_few : length ((ms ++ map (below Kept) ks) ++ map (below Merged) ns) ≤ 5 * (cut_count s * cut_count s)
       whole_few =
           let l1 = length_join (ms ++ map (below Kept) ks) (map (below Merged) ns) in let l2 = length_join ms (map (below Kept) ks) in
           let l3 = length_below Kept ks in let l4 = length_below Merged ns in
@@ -97,3 +106,11 @@ module _ (g : Graph) (n : ℕ) (p : List (List ℕ)) (s t : Shape) (y : List ℕ
           let b1 : length ks ≤ 5 * (cut_count k1 * cut_count k1) = subst (λ a. length ks ≤ 5 * (cut_count a * cut_count a)) e1 bk in
           let b2 : length ns ≤ 5 * (cut_count r1 * cut_count r1) = subst (λ a. length ns ≤ 5 * (cut_count a * cut_count a)) e3 br in
           omega arith
+
+    pub compared : IsCompared g p s t y k1 r1 k2 r2 ms
+    compared = record {
+      kept = asks_kept_both;
+      merged = asks_merged_both;
+      whole = λ q r ks ns k1' k2' r1' r2' eq er e1 e2 e3 e4 wk wr bk br all is_all. subst (λ (xs : List PlainMove). IsProperScript g p s xs t × (length xs ≤ 5 * (cut_count s * cut_count s))) (sym is_all)
+          (whole_script q r ks ns k1' k2' r1' r2' eq er e1 e2 e3 e4 wk wr bk br, whole_few q r ks ns k1' k2' r1' r2' eq er e1 e2 e3 e4 wk wr bk br);
+    }

@@ -1,30 +1,29 @@
-use Rattle.std.proofs.Common.{rules, ◌<◌, ap, map, length}
+use Rattle.std.proofs.Common.{rules, ◌≡◌, ◌<◌, ap, map, length, true, ℕ}
+use Rattle.std.specs.Prelude.{slice_set}
+use Rattle.counting.specs.Sets.{singleton}
+use Rattle.match_core.specs.Rows.{marks}
 use Rattle.ear_core.specs.View.{step_of, ears_of}
 use Rattle.ear_core.proofs.Judging.{one-marked, one-stage, judged-accepted, judged-refused}
 use Rattle.ear_core.proofs.checking.check_ears.Goals as goal
+use Rattle.ear_core.proofs.checking.check_ears.Goals.{After-as_slice}
+
+-- the first edge alone is marked
+one_mark : (c : After-as_slice) → (i : ℕ) → marks (slice_set c.in_ok-mark.mark.items c.args.list.now.start true) i ≡ singleton c.args.list.now.start i
+one_mark c =
+    let items = c.in_ok-mark.mark.items in
+    let less : c.args.list.now.start < length items = search rules in
+    one-marked items _ c.args.list.now.start (c.in_ok-mark.ensures.items_if_clones_equal (λ y q. q)) less
 
 pub check_steps-requires-clause-stage : goal.check_steps-requires-clause-stage
 check_steps-requires-clause-stage c =
-    let g = c.args.g.now in
-    let e = c.args.list.now.start in
-    let items = c.in_ok-mark.mark.items in
-    let less : e < length items = search rules in
-    one-stage g c.keeps_limits.ensures.multigraph _ e c.requires.start (one-marked items _ e (c.in_ok-mark.ensures.items_if_clones_equal (λ y q. q)) less)
+    one-stage c.args.g.now c.keeps_limits.ensures.multigraph _ c.args.list.now.start c.requires.start (one_mark (goal.at.check_steps-requires-clause-stage c).After-as_slice)
 
 pub returns-clause-accepted : goal.returns-clause-accepted
 returns-clause-accepted c =
-    let g = c.args.g.now in
-    let e = c.args.list.now.start in
-    let items = c.in_ok-mark.mark.items in
-    let less : e < length items = search rules in
-    judged-accepted g c.keeps_limits.ensures.multigraph _ (ears_of c.args.list.now) c.requires.start (one-marked items _ e (c.in_ok-mark.ensures.items_if_clones_equal (λ y q. q)) less) (map step_of c.as_slice.result.now) (ap (map step_of) c.as_slice.ensures)
+    judged-accepted c.args.g.now c.keeps_limits.ensures.multigraph _ (ears_of c.args.list.now) c.requires.start (one_mark (goal.at.returns-clause-accepted c).After-as_slice) (map step_of c.as_slice.result.now) (ap (map step_of) c.as_slice.ensures)
     c.check_steps.result c.check_steps.ensures
 
 pub returns-clause-refused : goal.returns-clause-refused
 returns-clause-refused c =
-    let g = c.args.g.now in
-    let e = c.args.list.now.start in
-    let items = c.in_ok-mark.mark.items in
-    let less : e < length items = search rules in
-    judged-refused g c.keeps_limits.ensures.multigraph _ (ears_of c.args.list.now) c.requires.start (one-marked items _ e (c.in_ok-mark.ensures.items_if_clones_equal (λ y q. q)) less) (map step_of c.as_slice.result.now) (ap (map step_of) c.as_slice.ensures)
+    judged-refused c.args.g.now c.keeps_limits.ensures.multigraph _ (ears_of c.args.list.now) c.requires.start (one_mark (goal.at.returns-clause-refused c).After-as_slice) (map step_of c.as_slice.result.now) (ap (map step_of) c.as_slice.ensures)
     c.check_steps.result c.check_steps.ensures

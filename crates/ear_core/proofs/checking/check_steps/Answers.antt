@@ -1,12 +1,12 @@
-use Rattle.std.proofs.Common.{rules, ◌≡◌, ◌∙◌, ◌∷◌, ap, arith, subst, map, None, ℕ}
+use Rattle.std.proofs.Common.{rules, ◌≡◌, ◌+◌, ◌∙◌, ◌∷◌, List, ap, arith, inl, refl, subst, sym, map, Some, None}
 use Rattle.std.specs.List.{AllByRecursion}
 use Rattle.counting.proofs.Counts.{count_le}
 use Rattle.graph_core.specs.Graph.{size}
 use Rattle.match_core.specs.Rows.{marks}
-use Rattle.ear_core.specs.EarLists.{FitsStep, next_stage}
-use Rattle.ear_core.specs.Refusals.{step_fault}
-use Rattle.ear_core.specs.Stages.{IsStage}
-use Rattle.ear_core.specs.View.{step_of}
+use Rattle.ear_core.specs.EarLists.{FitsStep, PlainStep}
+use Rattle.ear_core.specs.Refusals.{IsJudged}
+use Rattle.ear_core.specs.TakenSteps.{IsTaken}
+use Rattle.ear_core.specs.View.{step_of, why_of}
 use Rattle.ear_core.proofs.FirstStage.{stage-counts}
 use Rattle.ear_core.proofs.Judging.{taken-stage, taken-adds, judged-behind}
 use Rattle.ear_core.proofs.checking.check_steps.Goals as goal
@@ -32,9 +32,11 @@ steps-preserved c =
     let f = marks c.steps.mark.items in
     let s = step_of c.in-Some.step.now in
     let begins : map step_of c.steps.rest.now ≡ s ∷ map step_of c.in-Some.others.now = ap (map step_of) c.in-Some.ensures.cases.0 in
-    let passes : step_fault g f s ≡ None = search rules in
-    let stage : IsStage g (next_stage f s) = search rules in
-    let same : (i : ℕ) → marks c.take_step.new.mark.items i ≡ next_stage f s i = search rules in
+    let none : c.in_ok-why.field-0 ≡ None = search rules in
+    let taken = subst (IsTaken g f s (marks c.take_step.new.mark.items)) none c.in_ok-why.ensures.taken in
+    let passes = taken.0 in
+    let stage = taken.1 in
+    let same = taken.2 in
     let new = marks c.take_step.new.mark.items in
     let more = taken-adds g f new s passes stage same in
     let few = c.steps.invariant.few in
@@ -45,3 +47,13 @@ steps-preserved c =
       few = omega arith;
       answer = λ answer judged. c.steps.invariant.answer answer (judged-behind g f new s passes stage same c.steps.number (map step_of c.steps.rest.now) (map step_of c.in-Some.others.now) begins answer judged);
     }
+
+pub returns-in-Some-2 : goal.returns-in-Some-2
+returns-in-Some-2 c =
+    let g = c.args.g.now in
+    let f = marks c.steps.mark.items in
+    let s = step_of c.in-Some.step.now in
+    let answer = Some (c.steps.number + 1, why_of c.in-Some-2.why) in
+    c.steps.invariant.answer answer
+    (subst (λ (steps : List PlainStep). IsJudged g f c.steps.number steps answer) (sym (ap (map step_of) c.in-Some.ensures.cases.0))
+    (inl (refl, subst (IsTaken g f s (marks c.take_step.new.mark.items)) c.in-Some-2.is c.in_ok-why.ensures.taken)))

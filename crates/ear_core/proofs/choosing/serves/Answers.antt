@@ -1,4 +1,5 @@
 use Rattle.std.proofs.Common.{rules}
+use Rattle.std.proofs.lemmas.Bool.{true≢false}
 use Rattle.counting.specs.Lists.{mem}
 use Rattle.match_core.specs.MatchingRows.{edges_of}
 use Rattle.ear_core.proofs.Searching.{asked-serves}
@@ -9,3 +10,6 @@ returns-in_default-clause-no c = λ g f is no q. c.in_ok-perfect_without.ensures
 
 pub returns-clause-yes : goal.returns-clause-yes
 returns-clause-yes c = λ g f is yes. (asked-serves g f c.args.asked.now is c.args.ends c.union.result c.union.ensures).0 (mem (edges_of c.in-Some.field-0), c.in_ok-perfect_without.ensures.perfect c.in-Some.field-0 c.in-Some.is)
+
+pub returns-clause-no : goal.returns-clause-no
+returns-clause-no c = λ g f is no q. true≢false no

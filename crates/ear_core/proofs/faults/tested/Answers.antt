@@ -1,44 +1,49 @@
-use Rattle.std.proofs.Common.{rules, ◌≡◌, ◌∙◌, sym, ap, true, false, length}
-use Rattle.counting.proofs.Odd.{is_odd_remainder}
+use Rattle.std.proofs.Common.{rules, ◌≡◌, ◌∙◌, sym, ap}
+use Rattle.counting.specs.Counts.{is_odd}
 use Rattle.match_core.specs.Rows.{marks}
 use Rattle.ear_core.specs.EarTests.{has_odd_length, has_good_ends, has_free_inner, has_new_edges}
 use Rattle.ear_core.proofs.FirstFaults.{fault-length, fault-ends, fault-inner, fault-edge, fault-none, ends-same, free-same}
 use Rattle.ear_core.proofs.faults.tested.Goals as goal
+use Rattle.ear_core.proofs.faults.tested.Goals.{After-is_odd, After-are_good_ends, After-is_free, After-are_new}
 
-pub returns-then-len-ne1-clause-fault : goal.returns-then-len-ne1-clause-fault
-returns-then-len-ne1-clause-fault c =
-    let es = c.args.ear.now.edges in
-    fault-length c.args.g.now (marks c.args.mark.now) c.args.inner c.args.used.now c.args.ear.now.«from» es c.in-Some.ensures.path (is_odd_remainder (length es) ∙ search rules)
+-- what each test answers
+odd : (c : After-is_odd) → has_odd_length c.args.ear.now.edges ≡ c.is_odd.result
+odd c = sym (c.is_odd.ensures ∙ ap is_odd c.len.ensures)
+
+ends : (c : After-are_good_ends) → has_good_ends c.args.g.now (marks c.args.mark.now) c.args.ear.now.«from» c.args.ear.now.edges ≡ c.are_good_ends.result
+ends c = sym (ends-same c.args.g.now (marks c.args.mark.now) c.args.inner c.args.used.now c.args.ear.now.«from» c.args.ear.now.edges c.args.met c.in-Some.path.last c.requires.met c.in-Some.ensures.last) ∙ sym c.are_good_ends.ensures
+
+free : (c : After-is_free) → has_free_inner c.args.g.now (marks c.args.mark.now) c.args.inner c.args.ear.now.«from» c.args.ear.now.edges ≡ c.is_free.result
+free c = sym (free-same c.args.g.now (marks c.args.mark.now) c.args.inner c.args.used.now c.args.ear.now.«from» c.args.ear.now.edges c.in-Some.path.inner c.args.met c.union.result c.in-Some.ensures.inner c.requires.met c.union.ensures) ∙ sym c.is_free.ensures
+
+new : (c : After-are_new) → has_new_edges (marks c.args.mark.now) c.args.used.now c.args.ear.now.edges ≡ c.are_new.result
+new c = ap (has_new_edges (marks c.args.mark.now) c.args.used.now) (sym c.as_slice.ensures) ∙ sym c.are_new.ensures
+
+pub returns-then-not-is_odd-clause-fault : goal.returns-then-not-is_odd-clause-fault
+returns-then-not-is_odd-clause-fault c =
+    let at = goal.at.returns-then-not-is_odd-clause-fault c in
+    fault-length c.args.g.now (marks c.args.mark.now) c.args.inner c.args.used.now c.args.ear.now.«from» c.args.ear.now.edges c.in-Some.ensures.path (odd at.After-is_odd ∙ search rules)
 
 pub returns-then-not-are_good_ends-clause-fault : goal.returns-then-not-are_good_ends-clause-fault
 returns-then-not-are_good_ends-clause-fault c =
-    let g = c.args.g.now in let f = marks c.args.mark.now in let xs = c.args.inner in let ds = c.args.used.now in let v = c.args.ear.now.«from» in let es = c.args.ear.now.edges in
-    let odd : has_odd_length es ≡ true = is_odd_remainder (length es) ∙ search rules in
-    let ends : has_good_ends g f v es ≡ false = sym (ends-same g f xs ds v es c.args.met c.in-Some.path.last c.requires.met c.in-Some.ensures.last) ∙ sym c.are_good_ends.ensures ∙ search rules in
-    fault-ends g f xs ds v es c.in-Some.ensures.path odd ends
+    let at = goal.at.returns-then-not-are_good_ends-clause-fault c in
+    fault-ends c.args.g.now (marks c.args.mark.now) c.args.inner c.args.used.now c.args.ear.now.«from» c.args.ear.now.edges c.in-Some.ensures.path (odd at.After-is_odd ∙ search rules)
+    (ends at.After-are_good_ends ∙ search rules)
 
 pub returns-then-not-is_free-clause-fault : goal.returns-then-not-is_free-clause-fault
 returns-then-not-is_free-clause-fault c =
-    let g = c.args.g.now in let f = marks c.args.mark.now in let xs = c.args.inner in let ds = c.args.used.now in let v = c.args.ear.now.«from» in let es = c.args.ear.now.edges in
-    let odd : has_odd_length es ≡ true = is_odd_remainder (length es) ∙ search rules in
-    let ends : has_good_ends g f v es ≡ true = sym (ends-same g f xs ds v es c.args.met c.in-Some.path.last c.requires.met c.in-Some.ensures.last) ∙ sym c.are_good_ends.ensures ∙ search rules in
-    let free : has_free_inner g f xs v es ≡ false = sym (free-same g f xs ds v es c.in-Some.path.inner c.args.met c.union.result c.in-Some.ensures.inner c.requires.met c.union.ensures) ∙ sym c.is_free.ensures ∙ search rules in
-    fault-inner g f xs ds v es c.in-Some.ensures.path odd ends free
+    let at = goal.at.returns-then-not-is_free-clause-fault c in
+    fault-inner c.args.g.now (marks c.args.mark.now) c.args.inner c.args.used.now c.args.ear.now.«from» c.args.ear.now.edges c.in-Some.ensures.path (odd at.After-is_odd ∙ search rules)
+    (ends at.After-are_good_ends ∙ search rules) (free at.After-is_free ∙ search rules)
 
 pub returns-then-not-are_new-clause-fault : goal.returns-then-not-are_new-clause-fault
 returns-then-not-are_new-clause-fault c =
-    let g = c.args.g.now in let f = marks c.args.mark.now in let xs = c.args.inner in let ds = c.args.used.now in let v = c.args.ear.now.«from» in let es = c.args.ear.now.edges in
-    let odd : has_odd_length es ≡ true = is_odd_remainder (length es) ∙ search rules in
-    let ends : has_good_ends g f v es ≡ true = sym (ends-same g f xs ds v es c.args.met c.in-Some.path.last c.requires.met c.in-Some.ensures.last) ∙ sym c.are_good_ends.ensures ∙ search rules in
-    let free : has_free_inner g f xs v es ≡ true = sym (free-same g f xs ds v es c.in-Some.path.inner c.args.met c.union.result c.in-Some.ensures.inner c.requires.met c.union.ensures) ∙ sym c.is_free.ensures ∙ search rules in
-    let new : has_new_edges f ds es ≡ false = ap (has_new_edges f ds) (sym c.as_slice.ensures) ∙ sym c.are_new.ensures ∙ search rules in
-    fault-edge g f xs ds v es c.in-Some.ensures.path odd ends free new
+    let at = goal.at.returns-then-not-are_new-clause-fault c in
+    fault-edge c.args.g.now (marks c.args.mark.now) c.args.inner c.args.used.now c.args.ear.now.«from» c.args.ear.now.edges c.in-Some.ensures.path (odd at.After-is_odd ∙ search rules)
+    (ends at.After-are_good_ends ∙ search rules) (free at.After-is_free ∙ search rules) (new at.After-are_new ∙ search rules)
 
 pub returns-clause-passes : goal.returns-clause-passes
 returns-clause-passes c =
-    let g = c.args.g.now in let f = marks c.args.mark.now in let xs = c.args.inner in let ds = c.args.used.now in let v = c.args.ear.now.«from» in let es = c.args.ear.now.edges in
-    let odd : has_odd_length es ≡ true = is_odd_remainder (length es) ∙ search rules in
-    let ends : has_good_ends g f v es ≡ true = sym (ends-same g f xs ds v es c.args.met c.in-Some.path.last c.requires.met c.in-Some.ensures.last) ∙ sym c.are_good_ends.ensures ∙ search rules in
-    let free : has_free_inner g f xs v es ≡ true = sym (free-same g f xs ds v es c.in-Some.path.inner c.args.met c.union.result c.in-Some.ensures.inner c.requires.met c.union.ensures) ∙ sym c.is_free.ensures ∙ search rules in
-    let new : has_new_edges f ds es ≡ true = ap (has_new_edges f ds) (sym c.as_slice.ensures) ∙ sym c.are_new.ensures ∙ search rules in
-    fault-none g f xs ds v es c.in-Some.ensures.path odd ends free new
+    let at = goal.at.returns-clause-passes c in
+    fault-none c.args.g.now (marks c.args.mark.now) c.args.inner c.args.used.now c.args.ear.now.«from» c.args.ear.now.edges c.in-Some.ensures.path (odd at.After-is_odd ∙ search rules)
+    (ends at.After-are_good_ends ∙ search rules) (free at.After-is_free ∙ search rules) (new at.After-are_new ∙ search rules)

@@ -1,25 +1,25 @@
-use Rattle.std.proofs.Common.{rules, ◌≡◌, ◌∙◌, ap, [], Some, None}
+use Rattle.std.proofs.Common.{rules, ◌≡◌, ◌∙◌, ap, [], Option, Some, None}
 use Rattle.match_core.specs.Rows.{marks}
-use Rattle.ear_core.specs.EarTests.{ear_fault}
+use Rattle.ear_core.specs.EarTests.{Why, ear_fault}
 use Rattle.ear_core.specs.Refusals.{step_fault}
-use Rattle.ear_core.specs.View.{ear_of, plain_step, why_of}
+use Rattle.ear_core.specs.View.{ear_of, plain_step, step_of, why_of}
 use Rattle.ear_core.proofs.Marking.{pair-fault}
 use Rattle.ear_core.proofs.steps.fault_of.Goals as goal
+use Rattle.ear_core.proofs.steps.fault_of.Goals.{After-as_slice-used}
+
+-- the fault of the second ear is that of the step
+second_fault : (c : After-as_slice-used) (fault : Option Why) → ear_fault c.args.g.now (marks c.args.mark.now) c.in-Ok.path.inner c.as_slice-used.result.now c.in-Some.second.«from» c.in-Some.second.edges ≡ fault →
+    step_fault c.args.g.now (marks c.args.mark.now) (step_of c.args.step.now) ≡ fault
+second_fault c fault is =
+    let g = c.args.g.now in
+    let f = marks c.args.mark.now in
+    let first = c.args.step.now.first in
+    let passes : ear_fault g f [] [] first.«from» first.edges ≡ None = search rules in
+    ap (λ second. step_fault g f (plain_step (ear_of first) second)) c.in-Some.is
+    ∙ pair-fault g f (ear_of first) (ear_of c.in-Some.second) c.in-Ok.path.inner c.as_slice-used.result.now fault passes c.in-Ok.ensures.inner c.as_slice-used.ensures is
 
 pub returns-in-Err-tested-clause-some : goal.returns-in-Err-tested-clause-some
-returns-in-Err-tested-clause-some c =
-    let g = c.args.g.now in
-    let f = marks c.args.mark.now in
-    let first = c.args.step.now.first in
-    let passes : ear_fault g f [] [] first.«from» first.edges ≡ None = search rules in
-    ap (λ second. step_fault g f (plain_step (ear_of first) second)) c.in-Some.is
-    ∙ pair-fault g f (ear_of first) (ear_of c.in-Some.second) c.in-Ok.path.inner c.as_slice-used.result.now (Some (why_of c.in-Err-tested.why)) passes c.in-Ok.ensures.inner c.as_slice-used.ensures c.in-Err-tested.ensures.fault
+returns-in-Err-tested-clause-some c = second_fault (goal.at.returns-in-Err-tested-clause-some c).After-as_slice-used (Some (why_of c.in-Err-tested.why)) c.in-Err-tested.ensures.fault
 
 pub returns-in-Ok-tested-clause-none : goal.returns-in-Ok-tested-clause-none
-returns-in-Ok-tested-clause-none c =
-    let g = c.args.g.now in
-    let f = marks c.args.mark.now in
-    let first = c.args.step.now.first in
-    let passes : ear_fault g f [] [] first.«from» first.edges ≡ None = search rules in
-    ap (λ second. step_fault g f (plain_step (ear_of first) second)) c.in-Some.is
-    ∙ pair-fault g f (ear_of first) (ear_of c.in-Some.second) c.in-Ok.path.inner c.as_slice-used.result.now None passes c.in-Ok.ensures.inner c.as_slice-used.ensures c.in-Ok-tested.ensures.passes
+returns-in-Ok-tested-clause-none c = second_fault (goal.at.returns-in-Ok-tested-clause-none c).After-as_slice-used None c.in-Ok-tested.ensures.passes

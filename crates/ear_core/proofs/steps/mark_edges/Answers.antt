@@ -2,8 +2,8 @@ use Rattle.std.proofs.Common.{◌∙◌, ◌<◌, length, subst, sym}
 use Rattle.counting.specs.Lists.{mem}
 use Rattle.match_core.specs.Rows.{marks}
 use Rattle.allowed_edges.proofs.Marking.{length-marked}
-use Rattle.ear_core.proofs.FirstFaults.{below-behind}
-use Rattle.ear_core.proofs.Marking.{first-below, marked-more}
+use Rattle.ear_core.proofs.FirstFaults.{first-item, items-behind}
+use Rattle.ear_core.proofs.Marking.{marked-more}
 use Rattle.ear_core.proofs.steps.mark_edges.Goals as goal
 
 pub edges-preserved : goal.edges-preserved
@@ -12,9 +12,9 @@ edges-preserved c =
     let e = c.in-Some.e.now in
     let others = c.in-Some.others.now in
     let begins = c.in-Some.ensures.cases.0 in
-    let below = first-below (length c.args.mark.now.items) e c.edges.rest.now others begins c.edges.invariant.below in
+    let below = first-item (λ d. d < length c.args.mark.now.items) e c.edges.rest.now others begins c.edges.invariant.below in
     record {
       same = length-marked items e ∙ c.edges.invariant.same;
       each = marked-more items (marks c.args.mark.now.items) (mem c.args.edges.now) e c.edges.rest.now others begins (subst (λ n. e < n) (sym c.edges.invariant.same) below) c.edges.invariant.each;
-      below = below-behind (length c.args.mark.now.items) e c.edges.rest.now others begins c.edges.invariant.below;
+      below = items-behind (λ d. d < length c.args.mark.now.items) e c.edges.rest.now others begins c.edges.invariant.below;
     }

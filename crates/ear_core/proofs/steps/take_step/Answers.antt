@@ -1,48 +1,77 @@
-use Rattle.std.proofs.Common.{rules, ◌≡◌, ◌∙◌, ap, subst, refl, List, Bool, ℕ, Option, None, inr}
-use Rattle.match_core.specs.Rows.{marks}
+use Rattle.std.proofs.Common.{rules, ◌≡◌, ◌∙◌, ap, subst, refl, sym, List, Bool, ℕ, All, IfSome, Option, Some, None, inl, inr}
+use Rattle.counting.specs.Counts.{Within}
 use Rattle.counting.specs.Sets.{none}
+use Rattle.graph_core.specs.Graph.{size}
+use Rattle.match_core.specs.Rows.{marks}
 use Rattle.ear_core.specs.EarLists.{next_stage}
 use Rattle.ear_core.specs.Refusals.{step_fault}
 use Rattle.ear_core.specs.StageGraphs.{Settled}
-use Rattle.ear_core.specs.View.{step_of}
-use Rattle.ear_core.proofs.Taking.{first_marked, second_marked, step-taken, step-refused}
+use Rattle.ear_core.specs.View.{step_of, why_of}
+use Rattle.ear_core.proofs.Taking.{first_fits, second_fits, first_marked, second_marked, step-taken, step-refused}
 use Rattle.ear_core.proofs.steps.take_step.Goals as goal
+use Rattle.ear_core.proofs.steps.take_step.Goals.{After-deref-2}
+
+-- the marks behind the step, where its tests pass
+marked : (c : After-deref-2) → (i : ℕ) → marks c.deref-2.result.now i ≡ next_stage (marks c.args.mark.now.items) (step_of c.args.step.now) i
+marked c i = ap (λ (items : List Bool). marks items i) c.deref-2.ensures.value ∙ c.mark_step.ensures.each i
+
+passes : (c : After-deref-2) → step_fault c.args.g.now (marks c.args.mark.now.items) (step_of c.args.step.now) ≡ None
+passes c = search rules
+
+pub mark_step-requires-clause-first : goal.mark_step-requires-clause-first
+mark_step-requires-clause-first c =
+    let step = c.args.step.now in
+    subst (λ n. All (Within n) step.first.edges) (sym c.size.ensures.is) (first_fits c.args.g.now.order (size c.args.g.now) step.first step.second c.requires.fits)
+
+pub mark_step-requires-clause-second : goal.mark_step-requires-clause-second
+mark_step-requires-clause-second c =
+    let step = c.args.step.now in
+    subst (λ n. IfSome step.second (λ ear. All (Within n) ear.edges)) (sym c.size.ensures.is) (second_fits c.args.g.now.order (size c.args.g.now) step.first step.second c.requires.fits)
+
+pub refused_edge-requires-clause-first : goal.refused_edge-requires-clause-first
+refused_edge-requires-clause-first c = let step = c.args.step.now in first_fits c.args.g.now.order (size c.args.g.now) step.first step.second c.requires.fits
+
+pub refused_edge-requires-clause-second : goal.refused_edge-requires-clause-second
+refused_edge-requires-clause-second c = let step = c.args.step.now in second_fits c.args.g.now.order (size c.args.g.now) step.first step.second c.requires.fits
 
 pub refused_edge-requires-clause-marked_first : goal.refused_edge-requires-clause-marked_first
 refused_edge-requires-clause-marked_first c =
     let step = c.args.step.now in
-    first_marked (marks c.args.mark.now.items) (marks c.deref-2.result.now) step.first step.second
-    (λ i. ap (λ (items : List Bool). marks items i) c.deref-2.ensures.value ∙ c.mark_step.ensures.each i)
+    first_marked (marks c.args.mark.now.items) (marks c.deref-2.result.now) step.first step.second (marked (goal.at.refused_edge-requires-clause-marked_first c).After-deref-2)
 
 pub refused_edge-requires-clause-marked_second : goal.refused_edge-requires-clause-marked_second
 refused_edge-requires-clause-marked_second c =
     let step = c.args.step.now in
-    second_marked (marks c.args.mark.now.items) (marks c.deref-2.result.now) step.first step.second
-    (λ i. ap (λ (items : List Bool). marks items i) c.deref-2.ensures.value ∙ c.mark_step.ensures.each i)
+    second_marked (marks c.args.mark.now.items) (marks c.deref-2.result.now) step.first step.second (marked (goal.at.refused_edge-requires-clause-marked_second c).After-deref-2)
 
-pub returns-in-Some-2-clause-refused : goal.returns-in-Some-2-clause-refused
-returns-in-Some-2-clause-refused c =
+pub returns-in-Some-clause-taken : goal.returns-in-Some-clause-taken
+returns-in-Some-clause-taken c =
+    inl (subst (λ (items : List Bool). step_fault c.args.g.now (marks items) (step_of c.args.step.now) ≡ Some (why_of c.in-Some.why)) c.deref.ensures.value c.in-Some.ensures.some)
+
+pub returns-in-Some-2-clause-taken : goal.returns-in-Some-2-clause-taken
+returns-in-Some-2-clause-taken c =
     let g = c.args.g.now in
-    let f = marks c.args.mark.now.items in
     let s = step_of c.args.step.now in
     let new = marks c.deref-2.result.now in
-    let passes : step_fault g f s ≡ None = search rules in
+    let there = (goal.at.returns-in-Some-2-clause-taken c).After-deref-2 in
     inr (
-      passes,
+      passes there,
       (
         c.in-Some-2.edge,
-        step-refused g c.keeps_limits.ensures.multigraph.ends f s new (λ i. ap (λ (items : List Bool). marks items i) c.deref-2.ensures.value ∙ c.mark_step.ensures.each i) c.requires.stage passes c.in-Some-2.edge
+        step-refused g c.keeps_limits.ensures.multigraph.ends (marks c.args.mark.now.items) s new (marked there) c.requires.stage (passes there) c.in-Some-2.edge
             (subst (λ (least : Option ℕ). Settled g new (next_stage none s) least) c.in-Some-2.is c.in_ok-edge.ensures),
         refl,
       ),
     )
 
-pub returns-in-None-clause-stage : goal.returns-in-None-clause-stage
-returns-in-None-clause-stage c =
+pub returns-in-None-clause-taken : goal.returns-in-None-clause-taken
+returns-in-None-clause-taken c =
     let g = c.args.g.now in
-    let f = marks c.args.mark.now.items in
     let s = step_of c.args.step.now in
     let new = marks c.deref-2.result.now in
-    let passes : step_fault g f s ≡ None = search rules in
-    step-taken g c.keeps_limits.ensures.multigraph.ends f s new (λ i. ap (λ (items : List Bool). marks items i) c.deref-2.ensures.value ∙ c.mark_step.ensures.each i) c.requires.stage passes
-    (subst (λ (least : Option ℕ). Settled g new (next_stage none s) least) c.in-None.is c.in_ok-edge.ensures)
+    let there = (goal.at.returns-in-None-clause-taken c).After-deref-2 in (
+      passes there,
+      step-taken g c.keeps_limits.ensures.multigraph.ends (marks c.args.mark.now.items) s new (marked there) c.requires.stage (passes there)
+          (subst (λ (least : Option ℕ). Settled g new (next_stage none s) least) c.in-None.is c.in_ok-edge.ensures),
+      c.mark_step.ensures.each,
+    )

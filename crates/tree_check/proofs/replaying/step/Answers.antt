@@ -1,4 +1,4 @@
-use Rattle.std.proofs.Common.{◌≡◌, Some, sym, subst, arith}
+use Rattle.std.proofs.Common.{◌≡◌, Some, sym, subst}
 use Rattle.graph_core.specs.Partitions.{singles}
 use Rattle.tree_core.proofs.DerivationStands.{fits-derivation}
 use Rattle.tree_core.specs.Moves.{move_result}
@@ -6,8 +6,7 @@ use Rattle.tree_core.specs.MoveView.{move_of}
 use Rattle.tree_core.specs.Shapes.{Fits}
 use Rattle.tree_core.specs.View.{shape_of}
 use Rattle.tree_check.proofs.MovesFit.{move-fits}
-use Rattle.tree_check.specs.Judgements.{why_of}
-use Rattle.tree_check.specs.Refusals.{IsRefusedAt}
+use Rattle.tree_check.proofs.Scanning.{refused-first}
 use Rattle.tree_check.specs.Scans.{IsScanned}
 use Rattle.tree_check.proofs.replaying.step.Goals as goal
 
@@ -21,13 +20,9 @@ scan_covered-requires-clause-fits c =
     (subst (λ k. move_result k (shape_of c.args.tree) (move_of c.args.item.now) ≡ Some (shape_of c.in-Ok.made)) c.order.ensures.is c.in-Ok.ensures.ok)
 
 pub returns-in-Refused : goal.returns-in-Refused
-returns-in-Refused c =
-    let scanned = subst (IsScanned c.args.g.now (singles c.args.g.now.order) (shape_of c.in-Ok.made) 1) c.in-Refused.is c.in_ok-scan_covered.ensures in
-    let same : scanned.0 ≡ c.in-Refused.node = omega (arith, scanned.1) in (
-      shape_of c.in-Ok.made,
-      subst (λ k. move_result k (shape_of c.args.tree) (move_of c.args.item.now) ≡ Some (shape_of c.in-Ok.made)) c.order.ensures.is c.in-Ok.ensures.ok,
-      record {
-        covered = c.requires.covered;
-        refused = subst (λ j. IsRefusedAt c.args.g.now (singles c.args.g.now.order) (shape_of c.in-Ok.made) j (why_of c.in-Refused.why)) same scanned.2;
-      },
-    )
+returns-in-Refused c = (
+  shape_of c.in-Ok.made,
+  subst (λ k. move_result k (shape_of c.args.tree) (move_of c.args.item.now) ≡ Some (shape_of c.in-Ok.made)) c.order.ensures.is c.in-Ok.ensures.ok,
+  refused-first c.args.g.now (shape_of c.in-Ok.made) c.in-Refused.node c.in-Refused.why c.requires.covered
+      (subst (IsScanned c.args.g.now (singles c.args.g.now.order) (shape_of c.in-Ok.made) 1) c.in-Refused.is c.in_ok-scan_covered.ensures),
+)

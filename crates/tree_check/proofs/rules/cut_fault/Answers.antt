@@ -1,4 +1,5 @@
-use Rattle.std.proofs.Common.{length, arith}
+use Rattle.std.proofs.Common.{length, arith, sym}
+use Rattle.std.proofs.lemmas.Option.{none-some}
 use Rattle.counting.proofs.Counts.{count_complement}
 use Rattle.counting.specs.Lists.{mem}
 use Rattle.graph_core.specs.Shores.{blocks_in}
@@ -40,3 +41,6 @@ returns-in-Some-clause-some c why is = breaks-some c.args.g.now c.args.p.now.blo
 pub returns-in-None-clause-none : goal.returns-in-None-clause-none
 returns-in-None-clause-none c none = is-cut c.args.g.now c.args.p.now.blocks c.args.shore (record { rising = c.rises.ensures.rising; within = c.requires.fits }) (c.in_ok-matching.ensures.none c.in-None.is)
     (nontrivial-shown c.args.p.now.blocks (mem c.args.shore) c.blocks_in-inside.result c.len.result c.blocks_in-inside.ensures c.len.ensures (omega (arith, c.if-inside-lt3.false)) (omega (arith, c.if-len-inside.false)))
+
+pub returns-in-Some-clause-none : goal.returns-in-Some-clause-none
+returns-in-Some-clause-none c none = absurd (none-some _ (sym none))

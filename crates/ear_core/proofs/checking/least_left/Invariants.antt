@@ -1,7 +1,7 @@
 use Rattle.std.proofs.Common.{◌≡◌, ℕ, true}
 use Rattle.counting.specs.Counts.{Within}
 use Rattle.match_core.specs.Rows.{marks}
-use Rattle.ear_core.proofs.checking.judge_end.Given as goal
+use Rattle.ear_core.proofs.checking.least_left.Given as goal
 
 -- the edges so far are marked
 abbrev pub invariant-loop-k : goal.invariant-loop-k

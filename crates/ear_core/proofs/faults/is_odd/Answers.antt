@@ -1,0 +1,6 @@
+use Rattle.std.proofs.Common.{sym}
+use Rattle.counting.proofs.Odd.{is_odd_remainder}
+use Rattle.ear_core.proofs.faults.is_odd.Goals as goal
+
+pub returns : goal.returns
+returns c = sym (is_odd_remainder c.args.n)

@@ -1,0 +1,11 @@
+use Rattle.std.proofs.Common.{subst}
+use Rattle.graph_core.specs.Partitions.{singles}
+use Rattle.tree_core.specs.View.{shape_of}
+use Rattle.tree_check.specs.Scans.{IsScanned}
+use Rattle.tree_check.proofs.Scanning.{refused-first}
+use Rattle.tree_check.proofs.scan.check_covered.Goals as goal
+
+pub returns-in-Refused : goal.returns-in-Refused
+returns-in-Refused c =
+    refused-first c.args.g.now (shape_of c.args.tree.now) c.in-Refused.node c.in-Refused.why c.requires.covered
+    (subst (IsScanned c.args.g.now (singles c.args.g.now.order) (shape_of c.args.tree.now) 1) c.in-Refused.is c.in_ok-scan_covered.ensures)

@@ -1,0 +1,13 @@
+use Rattle.std.proofs.Common.{ℕ, ◌+◌, ap, ap₂, sym, ◌∙◌}
+use Rattle.tree_core.specs.Shapes.{node_count}
+use Rattle.tree_core.specs.View.{shape_of}
+use Rattle.tree_core.specs.declared.tree.Tree.{Tree}
+use Rattle.tree_core.proofs.tree.+nodes.Goals as goal
+
+abbrev nodes_of : Tree → ℕ
+nodes_of tree = node_count (shape_of tree)
+
+pub returns-in-Cut : goal.returns-in-Cut
+returns-in-Cut t c =
+    ap₂ (λ (a b : ℕ). 1 + a + b) (c.nodes.ensures ∙ ap nodes_of c.deref.ensures) (c.nodes-in-Cut.ensures ∙ ap nodes_of c.deref-in-Cut.ensures)
+    ∙ ap nodes_of (sym c.in-Cut.is)
