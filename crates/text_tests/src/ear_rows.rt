@@ -1,13 +1,13 @@
 //! Texts of ear lists.
 
-use crate::formats::{Format, Row, first_wrong};
+use crate::formats::Row;
 use graph_core::FaultKind;
 
-// Ear lists for 2 vertices and 1 edge.
-static EARS_OF_2: [Row; 1] = [("r mcg 2 1\nstart 1", Ok("r mcg 2 1\nstart 1\n"))];
+/// Ear lists for 2 vertices and 1 edge.
+pub const EARS_OF_2: [Row; 1] = [("r mcg 2 1\nstart 1", Ok("r mcg 2 1\nstart 1\n"))];
 
-// Ear lists for 4 vertices and 6 edges.
-static EARS_OF_4: [Row; 29] = [
+/// Ear lists for 4 vertices and 6 edges.
+pub const EARS_OF_4: [Row; 29] = [
     (
         "r mcg 4 6\nstart 1\near 2 4 6 3\near 1 2\nwith 2 5\n",
         Ok("r mcg 4 6\nstart 1\near 2 4 6 3\near 1 2\nwith 2 5\n"),
@@ -57,24 +57,8 @@ static EARS_OF_4: [Row; 29] = [
     ),
 ];
 
-// Ear lists for 8 vertices and 12 edges.
-static EARS_OF_8: [Row; 1] = [(
+/// Ear lists for 8 vertices and 12 edges.
+pub const EARS_OF_8: [Row; 1] = [(
     "r mcg 8 12\nstart 1\near 2 2 3 4\near 1 9 5 10\near 3 11 7 12\near 6 6\near 5 8\n",
     Ok("r mcg 8 12\nstart 1\near 2 2 3 4\near 1 9 5 10\near 3 11 7 12\near 6 6\near 5 8\n"),
 )];
-
-#[test]
-fn ear_lists(rt: HostRuntime) {
-    assert_eq!(rt;
-        first_wrong(rt.alloc(), Format::Ears { n: 2, m: 1 }, &EARS_OF_2),
-        None
-    );
-    assert_eq!(rt;
-        first_wrong(rt.alloc(), Format::Ears { n: 4, m: 6 }, &EARS_OF_4),
-        None
-    );
-    assert_eq!(rt;
-        first_wrong(rt.alloc(), Format::Ears { n: 8, m: 12 }, &EARS_OF_8),
-        None
-    );
-}

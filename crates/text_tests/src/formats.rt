@@ -1,9 +1,9 @@
 //! The runner of all formats: a text is read and written again, and that is what the row of a table says.
-ghost use Rattle.std.specs.Prelude.{◌<◌, ◌-◌, ◌^◌, length};
+ghost use Rattle.std.specs.Prelude.{◌<◌, ◌≤◌, ◌-◌, ◌^◌, length};
 
 use ear_text::{read_ears, write_ears};
 use graph_core::{FaultKind, MultiGraph, TextFault};
-use graph_text::{read_any, read_graph, write_graph, write_named};
+use graph_text::{Names, read_any, read_graph, write_graph, write_named};
 use graph6_text::{read_graph6, write_graph6};
 use move_text::{read_moves, write_moves};
 use std::alloc::{AllocError as Memory, Global};
@@ -34,17 +34,22 @@ fn plain(alloc: Global, graph: &MultiGraph) -> Result<Vec<u8>, TextFault> {
     Ok(write_graph(alloc, graph)?)
 }
 
+// A graph in version 2, whose names are as many as its vertices.
+fn named(alloc: Global, graph: &MultiGraph, names: &Names) -> Result<Vec<u8>, TextFault> {
+    if names.len() != graph.order() as usize {
+        return Err(TextFault::Memory);
+    }
+    Ok(write_named(alloc, graph, names)?)
+}
+
 // A graph in the version that it was read in.
 fn again(alloc: Global, text: &[u8]) -> Result<Vec<u8>, TextFault>
     requires { length text.now < 2 ^ 32 - 1 }
 {
-    let named = read_any(alloc, text)?;
-    match &named.names {
-        Some(names) if names.len() == named.graph.order() as usize => {
-            Ok(write_named(alloc, &named.graph, names)?)
-        }
-        Some(_) => Err(TextFault::Memory),
-        None => plain(alloc, &named.graph),
+    let read = read_any(alloc, text)?;
+    match &read.names {
+        Some(names) => named(alloc, &read.graph, names),
+        None => plain(alloc, &read.graph),
     }
 }
 
@@ -58,6 +63,34 @@ fn picks_again(alloc: Global, picks: &[u32]) -> Result<Vec<u8>, Memory> {
     Ok(text.into_bytes())
 }
 
+// A derivation over 1 to `n`.
+fn tree_again(alloc: Global, text: &[u8], n: u32) -> Result<Vec<u8>, TextFault>
+    requires text { length text.now < 2 ^ 32 - 1 }
+    requires order { n ≤ MOST_VERTICES }
+{
+    let tree = read_tree(alloc, text, n)?;
+    Ok(write_tree(alloc, &tree, n)?)
+}
+
+// Moves on trees over 1 to `n`.
+fn moves_again(alloc: Global, text: &[u8], n: u32) -> Result<Vec<u8>, TextFault>
+    requires text { length text.now < 2 ^ 32 - 1 }
+    requires order { n ≤ MOST_VERTICES }
+{
+    let moves = read_moves(alloc, text, n)?;
+    Ok(write_moves(alloc, &moves, n)?)
+}
+
+// An ear list for `n` vertices and `m` edges.
+fn ears_again(alloc: Global, text: &[u8], n: u32, m: u32) -> Result<Vec<u8>, TextFault>
+    requires text { length text.now < 2 ^ 32 - 1 }
+    requires order { n ≤ MOST_VERTICES }
+    requires size { m ≤ 2048 }
+{
+    let ears = read_ears(alloc, text, n, m)?;
+    Ok(write_ears(alloc, &ears, n, m)?)
+}
+
 /// What is written of the value that a text stands for, or the first fault of the text.
 pub fn rewritten(alloc: Global, format: Format, text: &[u8]) -> Result<Vec<u8>, TextFault>
     requires { length text.now < 2 ^ 32 - 1 }
@@ -66,20 +99,10 @@ pub fn rewritten(alloc: Global, format: Format, text: &[u8]) -> Result<Vec<u8>, 
         Format::VersionOne => plain(alloc, &read_graph(alloc, text)?),
         Format::EitherVersion => again(alloc, text),
         Format::Graph6 => Ok(write_graph6(alloc, &read_graph6(alloc, text)?)?),
-        Format::Tree { n } => {
-            let n = n.min(MOST_VERTICES);
-            Ok(write_tree(alloc, &read_tree(alloc, text, n)?, n)?)
-        }
+        Format::Tree { n } => tree_again(alloc, text, n.min(MOST_VERTICES)),
         Format::Picks => Ok(picks_again(alloc, read_picks(alloc, text)?.as_slice())?),
-        Format::Moves { n } => {
-            let n = n.min(MOST_VERTICES);
-            Ok(write_moves(alloc, &read_moves(alloc, text, n)?, n)?)
-        }
-        Format::Ears { n, m } => {
-            let n = n.min(MOST_VERTICES);
-            let m = m.min(2048);
-            Ok(write_ears(alloc, &read_ears(alloc, text, n, m)?, n, m)?)
-        }
+        Format::Moves { n } => moves_again(alloc, text, n.min(MOST_VERTICES)),
+        Format::Ears { n, m } => ears_again(alloc, text, n.min(MOST_VERTICES), m.min(2048)),
     }
 }
 
@@ -108,4 +131,32 @@ pub fn first_wrong(alloc: Global, format: Format, rows: &[Row]) -> Option<&'stat
         }
     }
     None
+}
+
+/// A beginning, a piece with the number of its copies, and an end.
+pub type LongText = (&'static str, &'static str, usize, &'static str);
+
+/// The whole of a long text.
+pub fn long_text(alloc: Global, (front, piece, many, end): &LongText) -> Result<String, Memory> {
+    let mut text = String::from_str(alloc, front)?;
+    for _ in 0..*many {
+        text.push_str(piece)?;
+    }
+    text.push_str(end)?;
+    Ok(text)
+}
+
+/// Whether the long text is written again as it is, or where a fault is wanted, has this fault.
+pub fn long_has_answer(
+    alloc: Global,
+    format: Format,
+    parts: &LongText,
+    fault: Option<(u32, FaultKind)>,
+) -> Result<bool, Memory> {
+    let text = long_text(alloc, parts)?;
+    let answer = match fault {
+        Some(fault) => Err(fault),
+        None => Ok(text.as_str()),
+    };
+    Ok(has_answer(alloc, format, text.as_bytes(), answer))
 }

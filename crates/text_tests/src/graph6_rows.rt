@@ -1,13 +1,13 @@
 //! Texts of graph6: known texts with their edges, and texts with each fault.
 
-use crate::formats::{Format, Row, first_wrong, has_answer};
+use crate::formats::{Format, LongText, Row, has_answer, long_has_answer, long_text};
 use graph_core::FaultKind;
 use graph6_text::read_graph6;
-use std::alloc::{AllocError as Memory, Global};
+use std::alloc::Global;
 use std::test::Fail;
 
-// Header and line end are set aside; then each fault of a text.
-static TEXTS: [Row; 21] = [
+/// Header and line end are set aside; then each fault of a text.
+pub const TEXTS: [Row; 21] = [
     ("?", Ok("?")),
     ("Bw", Ok("Bw")),
     (">>graph6<<Bw", Ok("Bw")),
@@ -30,11 +30,6 @@ static TEXTS: [Row; 21] = [
     ("C~~", Err((1, FaultKind::Extra))),
     ("B~", Err((1, FaultKind::Padding))),
 ];
-
-#[test]
-fn texts_of_graph6(rt: HostRuntime) {
-    assert_eq!(rt; first_wrong(rt.alloc(), Format::Graph6, &TEXTS), None);
-}
 
 // Texts, with the number of vertices and the edges, column by column.
 static KNOWN: [(&str, u32, &[(u32, u32)]); 5] = [
@@ -85,39 +80,29 @@ fn known_texts(rt: HostRuntime) -> Result<(), Fail> {
     Ok(())
 }
 
-// A text of this beginning, so many bytes that set no bit, or all, and this end.
-fn long_text(
-    alloc: Global,
-    front: &str,
-    many: usize,
-    byte: &str,
-    end: &str,
-) -> Result<String, Memory> {
-    let mut text = format!(in alloc; "{front}")?;
-    for _ in 0..many {
-        text.push_str(byte)?;
-    }
-    text.push_str(end)?;
-    Ok(text)
-}
+// Long texts, with the number of vertices and the second and last of their edges; the first one joins 1 and 2.
+static LONG_TEXTS: [(LongText, u32, (u32, u32)); 2] = [
+    (("~??~_", "?", 324, "G"), 63, (62, 63)),
+    (("~?A?_", "?", 1353, "C"), 128, (127, 128)),
+];
 
 // Whether the text stands for the graph of `n` vertices with the first edge and this last one, and is the text of this graph.
-fn has_two_edges(alloc: Global, text: &str, n: u32, last: (u32, u32)) -> Result<bool, Fail> {
+fn has_two_edges(alloc: Global, parts: &LongText, n: u32, last: (u32, u32)) -> Result<bool, Fail> {
+    let text = long_text(alloc, parts)?;
     let stands = stands_for(alloc, text.as_bytes(), n, &[(1, 2), last])?;
-    Ok(stands && has_answer(alloc, Format::Graph6, text.as_bytes(), Ok(text)))
+    Ok(stands && long_has_answer(alloc, Format::Graph6, parts, None)?)
 }
 
 #[test]
 fn long_texts(rt: HostRuntime) -> Result<(), Fail> {
-    let text = long_text(rt.alloc(), "~??~_", 324, "?", "G")?;
-    assert!(rt; has_two_edges(rt.alloc(), &text, 63, (62, 63))?);
-    let text = long_text(rt.alloc(), "~?A?_", 1353, "?", "C")?;
-    assert!(rt; has_two_edges(rt.alloc(), &text, 128, (127, 128))?);
-    let full = long_text(rt.alloc(), "~?@@", 346, "~", "{")?;
-    let fault = Err((1, FaultKind::Limit));
-    assert!(rt; has_answer(rt.alloc(), Format::Graph6, full.as_bytes(), fault));
+    for (parts, n, last) in &LONG_TEXTS {
+        assert!(rt; has_two_edges(rt.alloc(), parts, *n, *last)?);
+    }
     Ok(())
 }
+
+/// The text of a graph with more edges than a graph may have.
+pub const FULL: LongText = ("~?@@", "~", 346, "{");
 
 // Whether each shorter beginning of the text is refused for what is missing.
 fn misses_each_end(alloc: Global, text: &[u8]) -> bool {
@@ -133,7 +118,7 @@ fn misses_each_end(alloc: Global, text: &[u8]) -> bool {
 #[test]
 fn each_prefix(rt: HostRuntime) -> Result<(), Fail> {
     assert!(rt; misses_each_end(rt.alloc(), b"IheA@GUAo"));
-    let long = long_text(rt.alloc(), "~??~_", 324, "?", "G")?;
+    let long = long_text(rt.alloc(), &LONG_TEXTS[0].0)?;
     assert!(rt; misses_each_end(rt.alloc(), long.as_bytes()));
     Ok(())
 }

@@ -1,12 +1,12 @@
 //! Texts of graphs in both versions, and the plain names.
 
-use crate::formats::{Format, Row, first_wrong};
+use crate::formats::Row;
 use graph_core::FaultKind;
-use graph_text::plain_names;
+use graph_text::{Names, plain_names};
 use std::test::Fail;
 
-// The graph format in version 1.
-static VERSION_ONE: [Row; 15] = [
+/// The graph format in version 1.
+pub const VERSION_ONE: [Row; 15] = [
     ("p mcg 0 0", Ok("p mcg 0 0\n")),
     ("p mcg 2 2\ne 1 2\ne 1 2\n", Ok("p mcg 2 2\ne 1 2\ne 1 2\n")),
     (
@@ -30,16 +30,8 @@ static VERSION_ONE: [Row; 15] = [
     ("p mcg 0 5\n\n", Err((3, FaultKind::Missing))),
 ];
 
-#[test]
-fn graphs_in_version_one(rt: HostRuntime) {
-    assert_eq!(rt;
-        first_wrong(rt.alloc(), Format::VersionOne, &VERSION_ONE),
-        None
-    );
-}
-
-// The graph format in both versions.
-static EITHER_VERSION: [Row; 11] = [
+/// The graph format in both versions.
+pub const EITHER_VERSION: [Row; 11] = [
     (
         "p mcg2 4 4\nv a\nv b\nv c\nv d\ne a b\ne b c\ne c d\ne d a\n",
         Ok("p mcg2 4 4\nv a\nv b\nv c\nv d\ne a b\ne b c\ne c d\ne d a\n"),
@@ -62,25 +54,23 @@ static EITHER_VERSION: [Row; 11] = [
     ("p mcg3 2 1\n", Err((1, FaultKind::Header))),
 ];
 
-#[test]
-fn graphs_in_either_version(rt: HostRuntime) {
-    assert_eq!(rt;
-        first_wrong(rt.alloc(), Format::EitherVersion, &EITHER_VERSION),
-        None
-    );
-}
-
 // Some names of 128 plain ones, by their places.
 static PLAIN: [(usize, &str); 4] = [(0, "v1"), (1, "v2"), (9, "v10"), (127, "v128")];
 
+// Whether the names have these at these places.
+fn has_names(names: &Names, some: &[(usize, &str)]) -> bool {
+    for (i, name) in some {
+        if *i >= names.len() || names.get(*i) != *name {
+            return false;
+        }
+    }
+    true
+}
+
 #[test]
 fn plain_names_by_number(rt: HostRuntime) -> Result<(), Fail> {
-    assert!(rt; plain_names(rt.alloc(), 0)?.len() == 0);
+    let none = plain_names(rt.alloc(), 0)?;
     let names = plain_names(rt.alloc(), 128)?;
-    assert!(rt; names.len() == 128);
-    for (i, name) in &PLAIN {
-        assert!(rt; *i < names.len());
-        assert!(rt; names.get(*i) == *name);
-    }
+    assert!(rt; none.len() == 0 && names.len() == 128 && has_names(&names, &PLAIN));
     Ok(())
 }

@@ -2,8 +2,9 @@
 //!
 //! A text is read, and what it stands for is written again: `formats` has one runner for all formats, and a row of a table is a text with
 //! how it is written again, or with the line and the kind of its first fault. `graph_rows`, `graph6_rows`, `tree_rows`, `move_rows` and
-//! `ear_rows` have the tables, and the texts that are too long for a row. `words` asks for lines, words and numbers, `reads_and_writes` for the
-//! shelves and the sinks, `sources` for the sources, in memory and real. `lists` has lists that are told line by line.
+//! `ear_rows` have the tables, and the texts that are too long for a row; `tables` walks them. `words` asks for lines, words and numbers,
+//! `reads_and_writes` for the shelves and the sinks, `sources` for the sources, in memory and real. `lists` has lists that are told line
+//! by line.
 //!
 //! The rows come from the tables of the formats. What reports say is tried in `run_tests`, byte by byte.
 #![tactic(auto)]
@@ -24,6 +25,8 @@ mod move_rows;
 mod reads_and_writes;
 #[cfg(test)]
 mod sources;
+#[cfg(test)]
+mod tables;
 #[cfg(test)]
 mod tree_rows;
 #[cfg(test)]

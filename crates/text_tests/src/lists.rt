@@ -62,73 +62,96 @@ fn in_pieces(alloc: Global, list: &str, size: usize) -> Result<MemSource, Memory
     Ok(source)
 }
 
+// Whether what is told of a source ends so, and leaves these bytes in the sink.
+fn is_told(
+    alloc: Global,
+    mut source: MemSource,
+    mut sink: MemSink,
+    ending: Ending,
+    wanted: &[u8],
+) -> bool {
+    let told = tell_all(alloc, &Copyist, &mut source, &mut sink);
+    told == ending && sink.bytes() == wanted
+}
+
+// Whether the list is told so in pieces of each size from 1 to 11.
+fn is_told_in_pieces(alloc: Global, (list, wanted, ending): &Row) -> Result<bool, Memory> {
+    for size in 1..12 {
+        let source = in_pieces(alloc, list, size)?;
+        let sink = MemSink::new(alloc, 100, 7)?;
+        if !is_told(alloc, source, sink, *ending, wanted.as_bytes()) {
+            return Ok(false);
+        }
+    }
+    Ok(true)
+}
+
 #[test]
 fn lists_in_pieces(rt: HostRuntime) -> Result<(), Fail> {
-    let alloc = rt.alloc();
-    for (list, wanted, ending) in ROWS.iter() {
-        for size in 1..12 {
-            let mut source = in_pieces(alloc, list, size)?;
-            let mut sink = MemSink::new(alloc, 100, 7)?;
-            let told = tell_all(alloc, &Copyist, &mut source, &mut sink);
-            assert_eq!(rt; told, *ending, "{list} in {size}");
-            assert_eq!(rt; sink.bytes(), wanted.as_bytes(), "{list} in {size}");
-        }
+    for row in &ROWS {
+        assert!(rt; is_told_in_pieces(rt.alloc(), row)?);
     }
     Ok(())
 }
 
+// The number of the read that fails, and what is told of a list in four pieces.
+static FAILED_READS: [(u32, Ending, &str); 5] = [
+    (1, Ending::ReadFault, ""),
+    (2, Ending::ReadFault, "1 C~\n"),
+    (3, Ending::ReadFault, "1 C~\n2 A_\n"),
+    (4, Ending::ReadFault, "1 C~\n2 A_\n3 D{\n"),
+    (5, Ending::Done, "1 C~\n2 A_\n3 D{\n4 B"),
+];
+
+// Whether the list is told so where a read fails.
+fn is_told_until(alloc: Global, read: u32, ending: Ending, wanted: &str) -> Result<bool, Memory> {
+    let mut source = in_pieces(alloc, "C~\nA_\nD{\nB", 4)?;
+    source.fail_read(read)?;
+    let sink = MemSink::new(alloc, 100, 100)?;
+    Ok(is_told(alloc, source, sink, ending, wanted.as_bytes()))
+}
+
 #[test]
 fn a_read_fails(rt: HostRuntime) -> Result<(), Fail> {
-    let alloc = rt.alloc();
-    let table: [(u32, Ending, &str); 5] = [
-        (1, Ending::ReadFault, ""),
-        (2, Ending::ReadFault, "1 C~\n"),
-        (3, Ending::ReadFault, "1 C~\n2 A_\n"),
-        (4, Ending::ReadFault, "1 C~\n2 A_\n3 D{\n"),
-        (5, Ending::Done, "1 C~\n2 A_\n3 D{\n4 B"),
-    ];
-    for (call, ending, wanted) in table {
-        let mut source = in_pieces(alloc, "C~\nA_\nD{\nB", 4)?;
-        source.fail_read(call)?;
-        let mut sink = MemSink::new(alloc, 100, 100)?;
-        let told = tell_all(alloc, &Copyist, &mut source, &mut sink);
-        assert_eq!(rt; told, ending, "{call}");
-        assert_eq!(rt; sink.bytes(), wanted.as_bytes(), "{call}");
+    for (read, ending, wanted) in &FAILED_READS {
+        assert!(rt; is_told_until(rt.alloc(), *read, *ending, wanted)?);
     }
     Ok(())
 }
 
 #[test]
 fn the_room_is_too_small(rt: HostRuntime) -> Result<(), Fail> {
-    let alloc = rt.alloc();
     let whole = b"1 C~\n2 A_\nline 3 kind 4\n";
     for room in 0..whole.len() {
-        let mut source = in_pieces(alloc, "C~\nA_\n!\n", 4)?;
-        let mut sink = MemSink::new(alloc, room, 100)?;
-        let told = tell_all(alloc, &Copyist, &mut source, &mut sink);
-        assert_eq!(rt; told, Ending::WriteFault, "{room}");
-        assert_eq!(rt; sink.bytes(), &whole[..room], "{room}");
+        let source = in_pieces(rt.alloc(), "C~\nA_\n!\n", 4)?;
+        let sink = MemSink::new(rt.alloc(), room, 100)?;
+        assert!(rt; is_told(rt.alloc(), source, sink, Ending::WriteFault, &whole[..room]));
     }
     Ok(())
 }
 
+// The length of a line, the number of bytes that are written of it, and how its list ends.
+static LONG_LINES: [(usize, usize, Ending); 4] = [
+    (65_535, 65_538, Ending::Done),
+    (65_536, 14, Ending::Bad),
+    (65_537, 14, Ending::Bad),
+    (10_000_000, 14, Ending::Bad),
+];
+
+// Whether so many bytes are written of one line of that length, and its list ends so.
+fn ends_so(alloc: Global, length: usize, written: usize, ending: Ending) -> Result<bool, Memory> {
+    let mut list = vec![in alloc; b'?'; length]?;
+    list.push(b'\n')?;
+    let mut source = MemSource::new(alloc, &list)?;
+    let mut sink = MemSink::new(alloc, 100_000, 100_000)?;
+    let told = tell_all(alloc, &Copyist, &mut source, &mut sink);
+    Ok(told == ending && sink.bytes().len() == written)
+}
+
 #[test]
 fn a_line_is_too_long(rt: HostRuntime) -> Result<(), Fail> {
-    let alloc = rt.alloc();
-    let table: [(usize, usize, Ending); 4] = [
-        (65_535, 65_538, Ending::Done),
-        (65_536, 14, Ending::Bad),
-        (65_537, 14, Ending::Bad),
-        (10_000_000, 14, Ending::Bad),
-    ];
-    for (count, wanted, ending) in table {
-        let mut list = vec![in alloc; b'?'; count]?;
-        list.push(b'\n')?;
-        let mut source = MemSource::new(alloc, &list)?;
-        let mut sink = MemSink::new(alloc, 100_000, 100_000)?;
-        let told = tell_all(alloc, &Copyist, &mut source, &mut sink);
-        assert_eq!(rt; told, ending, "{count}");
-        assert_eq!(rt; sink.bytes().len(), wanted, "{count}");
+    for (length, written, ending) in &LONG_LINES {
+        assert!(rt; ends_so(rt.alloc(), *length, *written, *ending)?);
     }
     Ok(())
 }

@@ -1,13 +1,13 @@
 //! Texts of derivations and of picks.
 
-use crate::formats::{Format, Row, first_wrong};
+use crate::formats::Row;
 use graph_core::FaultKind;
 
-// Derivations over 1 to 2.
-static TREES_OF_2: [Row; 1] = [("t mcg 2\nleaf", Ok("t mcg 2\nleaf\n"))];
+/// Derivations over 1 to 2.
+pub const TREES_OF_2: [Row; 1] = [("t mcg 2\nleaf", Ok("t mcg 2\nleaf\n"))];
 
-// Derivations over 1 to 6.
-static TREES_OF_6: [Row; 21] = [
+/// Derivations over 1 to 6.
+pub const TREES_OF_6: [Row; 21] = [
     (
         "t mcg 6\ncut 1 2 3\nleaf\nleaf\n",
         Ok("t mcg 6\ncut 1 2 3\nleaf\nleaf\n"),
@@ -34,8 +34,8 @@ static TREES_OF_6: [Row; 21] = [
     ("t mcg 6\ncut 2 2\n", Err((2, FaultKind::NotRising))),
 ];
 
-// Derivations over 1 to 8.
-static TREES_OF_8: [Row; 2] = [
+/// Derivations over 1 to 8.
+pub const TREES_OF_8: [Row; 2] = [
     (
         "c one below the other\nt mcg 08\r\n\ncut  3 4 5\ncut 03 4 5 6\t7\nleaf\nc kept\n leaf\nleaf",
         Ok("t mcg 8\ncut 3 4 5\ncut 3 4 5 6 7\nleaf\nleaf\nleaf\n"),
@@ -46,24 +46,8 @@ static TREES_OF_8: [Row; 2] = [
     ),
 ];
 
-#[test]
-fn derivations(rt: HostRuntime) {
-    assert_eq!(rt;
-        first_wrong(rt.alloc(), Format::Tree { n: 2 }, &TREES_OF_2),
-        None
-    );
-    assert_eq!(rt;
-        first_wrong(rt.alloc(), Format::Tree { n: 6 }, &TREES_OF_6),
-        None
-    );
-    assert_eq!(rt;
-        first_wrong(rt.alloc(), Format::Tree { n: 8 }, &TREES_OF_8),
-        None
-    );
-}
-
-// Lists of picks.
-static PICKS: [Row; 26] = [
+/// Lists of picks.
+pub const PICKS: [Row; 26] = [
     ("s mcg 0", Ok("s mcg 0\n")),
     ("s mcg 1\npick 2\n", Ok("s mcg 1\npick 2\n")),
     (
@@ -100,8 +84,3 @@ static PICKS: [Row; 26] = [
     ("s mcg 1\npick 1 1", Err((2, FaultKind::Word))),
     ("s mcg 1\npick 1\ncc", Err((3, FaultKind::Extra))),
 ];
-
-#[test]
-fn picks(rt: HostRuntime) {
-    assert_eq!(rt; first_wrong(rt.alloc(), Format::Picks, &PICKS), None);
-}

@@ -1,6 +1,7 @@
 //! Lines and words of texts.
 
 use line_text::{numbers, split_line, split_words};
+use std::alloc::{AllocError as Memory, Global};
 use std::test::Fail;
 
 // Texts, with their first line and what comes after it; none where nothing is left.
@@ -28,12 +29,26 @@ fn lines(rt: HostRuntime) {
     }
 }
 
+// Words, with their numbers; none where one of them is no number.
+static NUMBERS: [(&[&[u8]], Option<&[u32]>); 2] = [
+    (&[b"e", b"12", b"0003"], None),
+    (&[b"12", b"0003"], Some(&[12, 3])),
+];
+
+fn are_numbers(alloc: Global, words: &[&[u8]], wanted: Option<&[u32]>) -> Result<bool, Memory> {
+    match (numbers(alloc, words)?, wanted) {
+        (Some(values), Some(wanted)) => Ok(values.as_slice() == wanted),
+        (None, None) => Ok(true),
+        _ => Ok(false),
+    }
+}
+
 #[test]
 fn words_and_numbers(rt: HostRuntime) -> Result<(), Fail> {
     let words = split_words(rt.alloc(), b"\t e  12\r0003 ")?;
-    assert!(rt; words.as_slice() == [b"e".as_slice(), b"12", b"0003"].as_slice());
-    assert!(rt; numbers(rt.alloc(), &words)?.is_none());
-    let values = numbers(rt.alloc(), &words[1..])?.ok_or("no numbers")?;
-    assert!(rt; values.as_slice() == [12, 3].as_slice());
+    assert!(rt; words.as_slice() == NUMBERS[0].0);
+    for (words, wanted) in &NUMBERS {
+        assert!(rt; are_numbers(rt.alloc(), words, *wanted)?);
+    }
     Ok(())
 }
