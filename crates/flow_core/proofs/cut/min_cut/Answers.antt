@@ -41,3 +41,6 @@ returns-clause-exactly c = (
       let within = cut.within in
       let above = c.growing-test.false in omega arith,
 )
+
+pub returns-clause-exceeds : goal.returns-clause-exceeds
+returns-clause-exceeds c = (c.growing.invariant, c.growing-test.false)
