@@ -1,10 +1,16 @@
 -- The pairs whose bit is set, in order. Idea: induction on the pairs and their bits together.
-use Rattle.std.proofs.Common.{◌≡◌, ℕ, Bool, true, false, List, [], ◌∷◌, ◌++◌, length, map, refl, sym, ap, ap₂, ◌∙◌, arith, ◌⊎◌, inl, inr}
-use Rattle.std.proofs.lemmas.List.{append-nil, nil_from_length, length-map}
+use Rattle.std.proofs.Common.{◌≡◌, ℕ, Bool, true, false, List, [], ◌∷◌, ◌++◌, length, map, refl, sym, ap, ap₂, ◌∙◌, arith, append_assoc, nat_lt, Option, Some, None, ◌⊎◌, inl, inr}
+use Rattle.std.proofs.lemmas.Bool.{cases_Bool}
+use Rattle.std.proofs.lemmas.Bool.Decides.{nat_tests}
+use Rattle.graph_core.specs.declared.faults.FaultKind.{FaultKind}
+use Rattle.std.proofs.lemmas.List.{append-nil, nil_from_length, length-append, length-map}
 use Rattle.graph_core.specs.Graph.{Graph}
 use Rattle.graph_core.specs.View.{pair_of}
 use Rattle.graph_core.specs.declared.ends.Ends.{Ends}
-use Rattle.graph6_text.specs.Pairs.{chosen}
+use Rattle.graph_core.specs.declared.faults.TextFault.{TextFault}
+use Rattle.graph_core.specs.declared.faults.TextFault.TheVariants as fault
+use Rattle.graph6_text.specs.Checks.{IsFirstFault, limit_row}
+use Rattle.graph6_text.specs.Pairs.{chosen, chosen_one}
 
 chosen-no_bits : (pairs : List (ℕ × ℕ)) → chosen pairs [] ≡ []
 chosen-no_bits [] = refl
@@ -28,3 +34,24 @@ chosen-filled [] bits filling h = refl
 chosen-filled (pair ∷ pairs) [] filling h = absurd (omega arith)
 chosen-filled (pair ∷ pairs) (true ∷ bits) filling h = ap (λ (xs : List (ℕ × ℕ)). pair ∷ xs) (chosen-filled pairs bits filling (omega arith))
 chosen-filled (pair ∷ pairs) (false ∷ bits) filling h = chosen-filled pairs bits filling (omega arith)
+
+-- the first pair, if its bit is set, and then the others
+pub chosen_step : (ends : List (ℕ × ℕ)) (pair : ℕ × ℕ) (bit : Bool) (pairs : List (ℕ × ℕ)) (bits : List Bool) → ends ++ chosen (pair ∷ pairs) (bit ∷ bits) ≡ (ends ++ chosen_one pair bit) ++ chosen pairs bits
+chosen_step ends pair true pairs bits = sym (append_assoc ends (pair ∷ []) (chosen pairs bits))
+chosen_step ends pair false pairs bits = ap (λ (xs : List (ℕ × ℕ)). xs ++ chosen pairs bits) (sym (append-nil ends))
+
+-- the limit of edges is passed by more of them too
+pub longer_limit : (edges more all : List (ℕ × ℕ)) (f : TextFault) → edges ++ more ≡ all → IsFirstFault (limit_row edges) f → IsFirstFault (limit_row all) f
+longer_limit edges more all fault.Memory is first = tt
+longer_limit edges more all (fault.At line kind) is first = elim (cases_Bool (nat_lt 2048 (length edges))) [
+  | inl over ↦
+      let longer : nat_lt 2048 (length all) ≡ true = over_longer edges more all is over in
+      rw longer (rw over at first)
+  | inr within ↦ absurd (no_fault line kind (rw within at first))
+]
+  where
+    no_fault : (line : ℕ) (kind : FaultKind) → ◌≡◌ {A = Option (ℕ × FaultKind)} None (Some (line, kind)) → ⊥
+    no_fault line kind e = cc e
+
+    over_longer : (edges more all : List (ℕ × ℕ)) → edges ++ more ≡ all → nat_lt 2048 (length edges) ≡ true → nat_lt 2048 (length all) ≡ true
+    over_longer edges more all is over = let e = ap length is in let f = length-append edges more in grind (arith, nat_tests)

@@ -16,3 +16,7 @@ abbrev pub chosen : List (ℕ × ℕ) → List Bool → List (ℕ × ℕ)
 chosen [] bits = []
 chosen (pair ∷ pairs) [] = []
 chosen (pair ∷ pairs) (bit ∷ bits) = if bit then pair ∷ chosen pairs bits else chosen pairs bits
+
+-- the pair, if its bit is set
+abbrev pub chosen_one : ℕ × ℕ → Bool → List (ℕ × ℕ)
+chosen_one pair bit = chosen (pair ∷ []) (bit ∷ [])

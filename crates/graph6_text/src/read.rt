@@ -1,10 +1,11 @@
 //! Reading graph6 texts.
-ghost use Rattle.std.specs.Prelude.{◌≡◌, ◌≤◌, [], ◌∷◌, IfOk, IfErr, OnOk, None, length, drop, map, take};
+ghost use Rattle.std.specs.Prelude.{◌≡◌, ◌≤◌, ◌++◌, [], ◌∷◌, IfOk, IfErr, OnOk, None, length, drop, map, take};
 ghost use Rattle.std.specs.List.{list_any};
 ghost use Rattle.graph_core.specs.Faults.{IsFault};
+ghost use Rattle.graph_core.specs.Graph.{size};
 ghost use Rattle.graph_core.specs.Simple.{IsSimple};
 ghost use Rattle.graph_core.specs.View.{pair_of};
-ghost use Rattle.graph6_text.specs.Pairs.{chosen};
+ghost use Rattle.graph6_text.specs.Pairs.{chosen, chosen_one};
 ghost use Rattle.graph6_text.specs.Checks.{limit_row, Checks, IsFirstFault};
 ghost use Rattle.graph6_text.specs.Reading.{outcome_of, graph_of, faults_of, first_fault};
 
@@ -64,7 +65,29 @@ fn is_any_set(bits: &[bool]) -> bool
     bits.iter().any(|bit| *bit)
 }
 
+/// Adds the pair where its bit is set.
+fn add_chosen(graph: &mut MultiGraph, pair: Ends, bit: bool) -> Result<(), TextFault>
+    requires { size graph.old ≤ 2048 }
+    ensures order { OnOk result (graph.new.order ≡ graph.old.order) }
+    ensures ends { OnOk result (graph.new.ends ≡ graph.old.ends ++ chosen_one (pair_of pair) bit) }
+    ensures size { OnOk result (size graph.new ≤ 2048) }
+    ensures limit { IfErr result
+        (IsFirstFault (limit_row (graph.old.ends ++ chosen_one (pair_of pair) bit))) }
+{
+    if !bit {
+        return Ok(());
+    }
+    if graph.size() == MOST_EDGES {
+        return Err(fault(FaultKind::Limit));
+    }
+    match graph.add_edge(pair.a, pair.b) {
+        Ok(_) => Ok(()),
+        Err(_) => Err(TextFault::Memory),
+    }
+}
+
 /// The graph of `n` vertices whose edges are the pairs with a set bit.
+#[tactic(auto, using(crate::proofs::Choosing::chosen_step, crate::proofs::Choosing::longer_limit))]
 fn with_edges(alloc: Global, n: u32, pairs: &[Ends], bits: &[bool]) -> Result<MultiGraph, TextFault>
     requires { n ≤ 128 }
     ensures graph { IfOk result
@@ -76,14 +99,7 @@ fn with_edges(alloc: Global, n: u32, pairs: &[Ends], bits: &[bool]) -> Result<Mu
 {
     let mut graph = MultiGraph::new(alloc, n)?;
     for (pair, bit) in pairs.iter().zip(bits) {
-        if *bit {
-            if graph.size() == MOST_EDGES {
-                return Err(fault(FaultKind::Limit));
-            }
-            graph
-                .add_edge(pair.a, pair.b)
-                .map_err(|_| TextFault::Memory)?;
-        }
+        add_chosen(&mut graph, *pair, *bit)?;
     }
     Ok(graph)
 }

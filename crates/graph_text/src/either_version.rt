@@ -88,11 +88,7 @@ fn add_name(
 }
 
 // A line of an edge between named vertices.
-fn add_named_edge(
-    body: &mut Body,
-    names: &Names,
-    words: &[&[u8]],
-) -> Result<(), Refusal<FaultKind>>
+fn add_named_edge(body: &mut Body, names: &Names, words: &[&[u8]]) -> Result<(), Refusal<FaultKind>>
     ensures { Gives (λ _. named_so_far (so_far body.new) names.now) result
         (named_edge_line (so_far body.old) names.now (texts_of words.now)) }
 {

@@ -1,13 +1,13 @@
 //! The move format.
-ghost use Rattle.std.specs.Prelude.{◌≡◌, ◌<◌, ◌≤◌, ◌-◌, ◌^◌, ℕ, List, length, IfOk, IfErr, Ok, Err};
+ghost use Rattle.std.specs.Prelude.{◌≡◌, ◌<◌, ◌≤◌, ◌-◌, ◌^◌, ◌++◌, ◌∷◌, [], ℕ, List, length, IfOk, IfErr, Ok, Err};
 ghost use Rattle.line_text.specs.Reading.{Gives};
 ghost use Rattle.line_text.specs.Format.{Stands, FirstFault};
 ghost use Rattle.line_text.specs.Words.{texts_of};
 ghost use Rattle.text_faults.specs.Readings.{IsFirstFault, ReadsText};
 ghost use Rattle.graph_core.specs.declared.faults.FaultKind.{FaultKind};
-ghost use Rattle.tree_core.specs.Moves.{PlainMove};
+ghost use Rattle.tree_core.specs.Moves.{PlainMove, switch_at};
 ghost use Rattle.tree_core.specs.MoveView.{moves_of};
-ghost use Rattle.move_text.specs.MoveFormat.{move_format, moves_header, move_line, switch_line};
+ghost use Rattle.move_text.specs.MoveFormat.{move_format, moves_header, move_line, path_of, switch_line};
 ghost use Rattle.move_text.specs.Writing.{IsWritable};
 
 use crate::move_words::{is_rotate, is_switch, read_path, read_vertices};
@@ -17,7 +17,7 @@ use std::alloc::Global;
 use text_faults::{has_out_of_range, read_text};
 use tree_core::{Move, Moves};
 use tree_text::shores::{rise, shore_of};
-use vset_core::MOST_VERTICES;
+use vset_core::{MOST_VERTICES, VSet};
 
 const MOST_MOVES: usize = 20_000;
 
@@ -44,18 +44,13 @@ fn read_header(alloc: Global, n: u32, words: &[&[u8]]) -> Result<Moves, Refusal<
     Ok(Moves::new(alloc))
 }
 
-// The line of a Switch, by the words of its path and of its sets.
+// The sets of a Switch, by their words.
 #[tactic(auto, using(tree_text::proofs::ShoreLists::rising_shore))]
-fn read_switch(
-    format: &MoveFormat,
-    moves: Moves,
-    path: &[u8],
-    u: &[u8],
-    v: &[u8],
-) -> Result<Moves, Refusal<FaultKind>>
+fn read_sets(format: &MoveFormat, u: &[u8], v: &[u8]) -> Result<(VSet, VSet), Refusal<FaultKind>>
     requires { format.now.order ≤ MOST_VERTICES }
-    ensures { Gives moves_of result
-        (switch_line format.now.order (moves_of moves) path.now u.now v.now) }
+    ensures { (moves : List PlainMove) (path : List ℕ) →
+        Gives (λ sets. moves ++ switch_at (path_of path) sets.0 sets.1 ∷ []) result
+        (switch_line format.now.order moves path u.now v.now) }
 {
     let first = read_vertices(format.alloc, u)?;
     let second = read_vertices(format.alloc, v)?;
@@ -68,34 +63,47 @@ fn read_switch(
     if !rise(&u) || !rise(&v) {
         return Err(Refusal::Fault(FaultKind::NotRising));
     }
+    Ok((shore_of(&u), shore_of(&v)))
+}
+
+// The line of a Switch, by the words of its path and of its sets.
+fn read_switch(
+    format: &MoveFormat,
+    moves: &mut Moves,
+    path: &[u8],
+    u: &[u8],
+    v: &[u8],
+) -> Result<(), Refusal<FaultKind>>
+    requires { format.now.order ≤ MOST_VERTICES }
+    ensures { Gives (λ _. moves_of moves.new) result
+        (switch_line format.now.order (moves_of moves.old) path.now u.now v.now) }
+{
+    let (u, v) = match read_sets(format, u, v) {
+        Ok(sets) => sets,
+        Err(refusal) => return Err(refusal),
+    };
     let path = read_path(format.alloc, path)?;
-    let mut longer = moves;
-    longer.push(Move::Switch {
-        path,
-        u: shore_of(&u),
-        v: shore_of(&v),
-    })?;
-    Ok(longer)
+    moves.push(Move::Switch { path, u, v })?;
+    Ok(())
 }
 
 // The line of a move.
 fn read_move(
     format: &MoveFormat,
-    moves: Moves,
+    moves: &mut Moves,
     words: &[&[u8]],
-) -> Result<Moves, Refusal<FaultKind>>
+) -> Result<(), Refusal<FaultKind>>
     requires { format.now.order ≤ MOST_VERTICES }
-    ensures { Gives moves_of result
-        (move_line format.now.order (moves_of moves) (texts_of words.now)) }
+    ensures { Gives (λ _. moves_of moves.new) result
+        (move_line format.now.order (moves_of moves.old) (texts_of words.now)) }
 {
     if moves.len() >= MOST_MOVES {
         return Err(Refusal::Fault(FaultKind::Limit));
     }
     if is_rotate(words) {
         let path = read_path(format.alloc, word(words, 1))?;
-        let mut longer = moves;
-        longer.push(Move::Rotate { path })?;
-        return Ok(longer);
+        moves.push(Move::Rotate { path })?;
+        return Ok(());
     }
     if is_switch(words) {
         let (path, u, v) = (word(words, 1), word(words, 2), word(words, 3));
@@ -126,7 +134,9 @@ impl LineFormat for MoveFormat {
     }
 
     fn line(&self, body: Moves, words: &[&[u8]]) -> Result<Moves, Refusal<FaultKind>> {
-        read_move(self, body, words)
+        let mut moves = body;
+        read_move(self, &mut moves, words)?;
+        Ok(moves)
     }
 
     fn close(&self, body: Moves) -> Result<Moves, Refusal<FaultKind>> {

@@ -4,6 +4,7 @@ ghost use Rattle.std.specs.List.{AllByRecursion};
 ghost use Rattle.line_text.specs.Format.{Stands, StandsAlone};
 ghost use Rattle.line_text.specs.Words.{written};
 ghost use Rattle.tree_core.specs.MoveView.{move_of, moves_of};
+ghost use Rattle.tree_core.specs.Moves.{rotate_at, switch_at};
 ghost use Rattle.move_text.specs.MoveFormat.{move_format, most_moves};
 ghost use Rattle.move_text.specs.Writing.{letter_of, path_word, set_word, move_words, moves_text, HasShortPath, HasSets, SetsRise};
 
@@ -60,6 +61,38 @@ fn push_set(text: &mut String, set: VSet) -> Result<(), Memory>
     Ok(())
 }
 
+// A blank and the word of a set.
+fn push_next_set(text: &mut String, set: VSet) -> Result<(), Memory>
+    ensures { OnOk result (string_bytes text.new ≡ string_bytes text.old ++ 32 ∷ set_word set) }
+{
+    write!(text, " ")?;
+    push_set(text, set)
+}
+
+// The line of a Rotate.
+fn push_rotate(text: &mut String, path: &Path) -> Result<(), Memory>
+    ensures { OnOk result
+        (string_bytes text.new ≡ string_bytes text.old ++
+        written (move_words (rotate_at path.now) ∷ [])) }
+{
+    write!(text, "rotate ")?;
+    push_path(text, path)?;
+    write!(text, "\n")
+}
+
+// The line of a Switch.
+fn push_switch(text: &mut String, path: &Path, u: VSet, v: VSet) -> Result<(), Memory>
+    ensures { OnOk result
+        (string_bytes text.new ≡ string_bytes text.old ++
+        written (move_words (switch_at path.now u v) ∷ [])) }
+{
+    write!(text, "switch ")?;
+    push_path(text, path)?;
+    push_next_set(text, u)?;
+    push_next_set(text, v)?;
+    write!(text, "\n")
+}
+
 /// Appends the line that a text of moves has for a move: `rotate PATH`, or `switch PATH U V` where the sets are those of the move,
 /// whatever they are.
 pub fn push_move(text: &mut String, item: &Move) -> Result<(), Memory>
@@ -69,22 +102,13 @@ pub fn push_move(text: &mut String, item: &Move) -> Result<(), Memory>
     ensures rising { SetsRise (move_of item.now) }
 {
     match item {
-        Move::Rotate { path } => {
-            write!(text, "rotate ")?;
-            push_path(text, path)?;
-        }
+        Move::Rotate { path } => push_rotate(text, path),
         Move::Switch { path, u, v } => {
             u.rises();
             v.rises();
-            write!(text, "switch ")?;
-            push_path(text, path)?;
-            write!(text, " ")?;
-            push_set(text, *u)?;
-            write!(text, " ")?;
-            push_set(text, *v)?;
+            push_switch(text, path, *u, *v)
         }
     }
-    write!(text, "\n")
 }
 
 /// Writes moves on trees of cuts over 1 to `n`: a header `m mcg N`, and a line for each move, `rotate PATH` or `switch PATH U V`. There

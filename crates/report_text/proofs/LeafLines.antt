@@ -40,10 +40,11 @@ pub kinds-next : (g : Graph) (leaves : List PartitionValue) (i : ℕ) (p : Parti
     ((j : ℕ) → Within i j → IsLeafKind g (leaf_at (map (λ (q : PartitionValue). q.blocks) leaves) j) (kind_at kinds j)) → IsLeafKind g p.blocks kind →
     (length more ≡ i + 1) × ((j : ℕ) → Within (i + 1) j → IsLeafKind g (leaf_at (map (λ (q : PartitionValue). q.blocks) leaves) j) (kind_at more j))
 kinds-next g leaves i p kinds more kind is one e before here =
-    let ps : List (List (List ℕ)) = map (λ (q : PartitionValue). q.blocks) leaves in
-    (ap length one ∙ length-append kinds (kind ∷ []) ∙ ap (λ (n : ℕ). n + 1) e,
-    λ j w. subst (λ (ks : List LeafKind). IsLeafKind g (leaf_at ps j) (kind_at ks j)) (sym one)
-    (kinds-more g ps i kinds kind e before (subst (λ (b : List (List ℕ)). IsLeafKind g b kind) (sym (blocks-at leaves i p is)) here) j w))
+    let ps : List (List (List ℕ)) = map (λ (q : PartitionValue). q.blocks) leaves in (
+      ap length one ∙ length-append kinds (kind ∷ []) ∙ ap (λ (n : ℕ). n + 1) e,
+      λ j w. subst (λ (ks : List LeafKind). IsLeafKind g (leaf_at ps j) (kind_at ks j)) (sym one)
+          (kinds-more g ps i kinds kind e before (subst (λ (b : List (List ℕ)). IsLeafKind g b kind) (sym (blocks-at leaves i p is)) here) j w),
+    )
 
 -- the kinds of all leaves
 pub kinds-all : (g : Graph) (leaves : List PartitionValue) (i : ℕ) (kinds : List LeafKind) → i ≡ length leaves → length kinds ≡ i →

@@ -1,9 +1,8 @@
 -- The line of a node that is one of the words of a node, and not one too many, is told by the tests of its vertices.
-use Rattle.std.proofs.Common.{◌≡◌, ◌<◌, ◌+◌, ℕ, Bool, true, false, not, nat_le, List, ap₂, arith, Result, Ok, Err}
+use Rattle.std.proofs.Common.{◌≡◌, ◌<◌, ◌+◌, ℕ, Bool, true, false, not, nat_le, List, ap₂, arith, Err}
 use Rattle.std.specs.Prelude.{if◌then◌else◌}
 use Rattle.std.proofs.lemmas.Bool.Decides.{nat_tests}
 use Rattle.line_text.specs.Format.{checked}
-use Rattle.graph_core.specs.declared.faults.FaultKind.{FaultKind}
 use Rattle.graph_core.specs.declared.faults.FaultKind.TheVariants as kind
 use Rattle.tree_text.specs.Places.{Place}
 use Rattle.tree_text.specs.TreeFormat.{TreeSoFar, is_leaf_line, is_node_line, most_nodes, node_line, shore_tests, shore_told, with_node}
