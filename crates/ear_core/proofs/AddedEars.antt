@@ -80,18 +80,19 @@ module _ (g : Graph) (f : Set) (v : ℕ) (es : List ℕ) (ear : IsEar g f v es) 
   no_old : (q : Set) → ((e : ℕ) → Within (size g) e → q e ≡ true → f e ≡ true) → (w : ℕ) → is_met g f w ≡ false → degree g q w ≡ 0
   no_old q part w o = let a = unmet g f w o in let b = degree_le g q f w part in omega arith
 
+  -- some edges of the ear, beside those of a part of f
+  some_part : (q : Set) (xs : List ℕ) → ((e : ℕ) → mem xs e ≡ true → mem es e ≡ true) → ((e : ℕ) → Within (size g) e → q e ≡ true → f e ≡ true) → (e : ℕ) → Within (size g) e → with_edges q xs e ≡ true → with_edges f es e ≡ true
+  some_part q xs on part e w t = elim (or_cases (q e) (mem xs e) t) [ inl x ↦ or_left (f e) (mem es e) (part e w x) | inr x ↦ or_right (f e) (mem es e) (on e x) ]
+
+  some_degree : (q : Set) (xs : List ℕ) → ((e : ℕ) → mem xs e ≡ true → mem es e ≡ true) → ((e : ℕ) → Within (size g) e → q e ≡ true → f e ≡ true) → (w : ℕ) → degree g (with_edges q xs) w ≡ degree g q w + degree g (mem xs) w
+  some_degree q xs on part w = degree_or g q (mem xs) w (λ e we t. false_from_ne_true (mem xs e) (λ m. both_ways (mem es e) (not_new q part e we t) (on e m)))
+
   -- a perfect matching of f, but for r, with the even edges of the ear
   pub even_on : (r q : Set) → ((w : ℕ) → Within g.order w → r w ≡ true → is_met g f w ≡ true) → IsPerfectOff g f r q → IsPerfectOff g (with_edges f es) r (with_edges q (evens es))
-  even_on r q r_in p = record { part = part; once = once; away = away }
+  even_on r q r_in p = record { part = some_part q (evens es) (mem_evens es) p.part; once = once; away = away }
     where
-      part : (e : ℕ) → Within (size g) e → with_edges q (evens es) e ≡ true → with_edges f es e ≡ true
-      part e w t = elim (or_cases (q e) (mem (evens es) e) t) [
-        | inl x ↦ or_left (f e) (mem es e) (p.part e w x)
-        | inr x ↦ or_right (f e) (mem es e) (mem_evens es e x)
-      ]
-
       sum : (w : ℕ) → degree g (with_edges q (evens es)) w ≡ degree g q w + degree g (mem (evens es)) w
-      sum w = degree_or g q (mem (evens es)) w (λ e we t. false_from_ne_true (mem (evens es) e) (λ m. both_ways (mem es e) (not_new q p.part e we t) (mem_evens es e m)))
+      sum = some_degree q (evens es) (mem_evens es) p.part
 
       none_even : (w : ℕ) → is_met g f w ≡ true → degree g (mem (evens es)) w ≡ 0
       none_even w t =
@@ -113,16 +114,10 @@ module _ (g : Graph) (f : Set) (v : ℕ) (es : List ℕ) (ear : IsEar g f v es) 
 
   -- a perfect matching of f, but for the ends of the ear and r, with the odd edges
   pub odd_on : (r q : Set) → ((w : ℕ) → Within g.order w → r w ≡ true → is_met g f w ≡ true) → r v ≡ false → r (last_vertex g v es) ≡ false → IsPerfectOff g f (union (pair_set v (last_vertex g v es)) r) q → IsPerfectOff g (with_edges f es) r (with_edges q (odds es))
-  odd_on r q r_in r0 r1 p = record { part = part; once = once; away = away }
+  odd_on r q r_in r0 r1 p = record { part = some_part q (odds es) (mem_odds es) p.part; once = once; away = away }
     where
-      part : (e : ℕ) → Within (size g) e → with_edges q (odds es) e ≡ true → with_edges f es e ≡ true
-      part e w t = elim (or_cases (q e) (mem (odds es) e) t) [
-        | inl x ↦ or_left (f e) (mem es e) (p.part e w x)
-        | inr x ↦ or_right (f e) (mem es e) (mem_odds es e x)
-      ]
-
       sum : (w : ℕ) → degree g (with_edges q (odds es)) w ≡ degree g q w + degree g (mem (odds es)) w
-      sum w = degree_or g q (mem (odds es)) w (λ e we t. false_from_ne_true (mem (odds es) e) (λ m. both_ways (mem es e) (not_new q p.part e we t) (mem_odds es e m)))
+      sum = some_degree q (odds es) (mem_odds es) p.part
 
       end_of : (w : ℕ) → Within g.order w → pair_set v (last_vertex g v es) w ≡ true → (degree g q w ≡ 0) × (times (trail g v es) w ≡ 1)
       end_of w ww t = (

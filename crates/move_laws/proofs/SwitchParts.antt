@@ -18,13 +18,12 @@ use Rattle.tree_core.specs.Leaves.{leaves_at}
 use Rattle.tree_core.specs.Moves.{IsBlockOf, inner_rest, is_proper, kept_if_greatest_stays, kept_if_greatest_comes, merged_if_greatest_stays, merged_if_greatest_comes, outer_rest, union_list}
 use Rattle.tree_core.specs.Shapes.{Shape, cut, leaf, leaf_count}
 use Rattle.move_laws.proofs.Alignments.{numbers-split}
-use Rattle.move_laws.proofs.BigShores.{Big, Stage, big_merge, big_rest, cut_big, stage_merged}
+use Rattle.move_laws.proofs.BigShores.{Big, Stage, big_rest, cut_big, stage_merged}
 use Rattle.move_laws.proofs.CarriedLeaves.{carried_parts, carry_order}
 use Rattle.move_laws.proofs.Parts.{Part, part-join, part-turn}
 use Rattle.move_laws.proofs.Rising.{bounds}
 use Rattle.move_laws.proofs.SwitchImages.{kept_names, merged_names, u_alike}
-use Rattle.move_laws.proofs.ExchangedParts.{merge_congr}
-use Rattle.move_laws.proofs.Switches.{Each, each_of, in_inner_rest, in_outer_rest, inner_rest-mem, iso_a, iso_b, kept_greatest_stays, kept_greatest_comes, map_a, map_b, merged_greatest_stays, merged_greatest_comes, outer_rest-mem, subset_test, switch_greatest_stays, switch_greatest_comes}
+use Rattle.move_laws.proofs.Switches.{Each, each_of, in_inner_rest, in_outer_rest, iso_a, iso_b, kept_greatest_stays, kept_greatest_comes, map_a, map_b, merged_greatest_stays, merged_greatest_comes, new_shore_comes, new_shore_stays, subset_test, switch_greatest_stays, switch_greatest_comes}
 use Rattle.move_laws.specs.Exchange.{Corner}
 use Rattle.move_laws.specs.Isomorphisms.{carry}
 
@@ -99,23 +98,18 @@ module _ (g : Graph) (p : List (List ℕ)) (stage : Stage g p) (x u v : List ℕ
       (numbers (k + leaf_count a) (leaf_count b) ++ numbers k (leaf_count a)) (switch_names g.order u v p (cut x a b))
   switch_part_v k a b f d nv bz =
       let z = union_list g.order (outer_rest g.order x v) u in
-      let zm : (w : ℕ) → Within g.order w → mem z w ≡ union (in_outer_rest g p stage x u v s t bx canonical su sv corner) (mem u) w = λ w ww. mem-rising_list g.order (union (mem (outer_rest g.order x v)) (mem u)) w ww ∙ ap (λ k. k || mem u w) (outer_rest-mem g p stage x u v s t bx canonical su sv corner w ww) in
+      let new = new_shore_comes g p stage x u v s t bx canonical su sv corner bz in
       let rz = big_rest g p stage z bz in
-      let ms = merge_congr g.order p (merged_at g.order p z) (mem z) (union (in_outer_rest g p stage x u v s t bx canonical su sv corner) (mem u)) zm (big_merge g p stage z bz) in
-      let mk = merge_congr g.order p (kept_at g.order p z) (mem (complement_of g.order z)) (union (in_inner_rest g p stage x u v s t bx canonical su sv corner) (mem v)) (λ w ww. mem-complement_of g.order z w ww ∙ ap not (zm w ww) ∙ other (mem x w) (mem u w) (mem v w) (corner.inside w ww) (corner.outside w ww)) (big_merge g p stage (complement_of g.order z) rz) in
       let la = leaves_at g.order (kept_at g.order p x) a in let lb = leaves_at g.order (merged_at g.order p x) b in
       let ea = each_of g (kept_at g.order p x) a kept_stage f.1 d.1 in let eb = each_of g (merged_at g.order p x) b merged_stage f.2 d.2 in
       let na = map (λ (r : List (List ℕ)). map (λ b. last_of (kept_image g.order x u v b)) r) la in
       let nb = map (λ (r : List (List ℕ)). map (λ b. last_of (merged_image g.order x u v b)) r) lb in
       part-turn g k la (leaves_at g.order (merged_at g.order p z) (kept_if_greatest_comes g.order x u v a)) lb (leaves_at g.order (kept_at g.order p z) (merged_if_greatest_comes g.order x u b)) (numbers k (leaf_count a)) (numbers (k + leaf_count a) (leaf_count b)) na nb
       (subst (λ (o : List ℕ). Part g k la (leaves_at g.order (merged_at g.order p z) (kept_if_greatest_comes g.order x u v a)) o na) (kept_plain nv a ea k)
-      (below_kept k a (kept_if_greatest_comes g.order x u v a) (merged_at g.order p z) f.1 d.1 (stage_merged g p stage z bz) ms (kept_greatest_comes g p stage x u v s t bx canonical su sv corner nv a f.1 ea)))
+      (below_kept k a (kept_if_greatest_comes g.order x u v a) (merged_at g.order p z) f.1 d.1 (stage_merged g p stage z bz) new.merged (kept_greatest_comes g p stage x u v s t bx canonical su sv corner nv a f.1 ea)))
       (subst (λ i. Part g i lb (leaves_at g.order (kept_at g.order p z) (merged_if_greatest_comes g.order x u b)) (numbers (k + leaf_count a) (leaf_count b)) nb) (ap (λ i. k + i) (sym (length-leaves_at g.order (kept_at g.order p x) a)))
       (subst (λ (o : List ℕ). Part g (k + leaf_count a) lb (leaves_at g.order (kept_at g.order p z) (merged_if_greatest_comes g.order x u b)) o nb) (merged_plain b eb (k + leaf_count a))
-      (below_merged (k + leaf_count a) b (merged_if_greatest_comes g.order x u b) (kept_at g.order p z) f.2 d.2 (stage_merged g p stage (complement_of g.order z) rz) mk (merged_greatest_comes g p stage x u v s t bx canonical su sv corner nv b f.2 eb))))
-    where
-      other : (x u v : Bool) → (u ≡ true → x ≡ true) → (v ≡ true → x ≡ false) → not ((not x && not v) || u) ≡ ((x && not u) || v)
-      other x u v h k = grind arith
+      (below_merged (k + leaf_count a) b (merged_if_greatest_comes g.order x u b) (kept_at g.order p z) f.2 d.2 (stage_merged g p stage (complement_of g.order z) rz) new.kept (merged_greatest_comes g p stage x u v s t bx canonical su sv corner nv b f.2 eb))))
 
   -- and outside v
   pub switch_part_q : (k : ℕ) (a b : Shape) → AreRising g.order (cut x a b) → IsDerivationAt g p (cut x a b) → mem v g.order ≡ false → Big g p (union_list g.order (inner_rest g.order x u) v) →
@@ -123,23 +117,18 @@ module _ (g : Graph) (p : List (List ℕ)) (stage : Stage g p) (x u v : List ℕ
       (kept_order_if_greatest_stays u k a ++ numbers (k + leaf_count a) (leaf_count b)) (switch_names g.order u v p (cut x a b))
   switch_part_q k a b f d nv bz =
       let z = union_list g.order (inner_rest g.order x u) v in
-      let zm : (w : ℕ) → Within g.order w → mem z w ≡ union (in_inner_rest g p stage x u v s t bx canonical su sv corner) (mem v) w = λ w ww. mem-rising_list g.order (union (mem (inner_rest g.order x u)) (mem v)) w ww ∙ ap (λ k. k || mem v w) (inner_rest-mem g p stage x u v s t bx canonical su sv corner w ww) in
+      let new = new_shore_stays g p stage x u v s t bx canonical su sv corner bz in
       let rz = big_rest g p stage z bz in
-      let ms = merge_congr g.order p (merged_at g.order p z) (mem z) (union (in_inner_rest g p stage x u v s t bx canonical su sv corner) (mem v)) zm (big_merge g p stage z bz) in
-      let mk = merge_congr g.order p (kept_at g.order p z) (mem (complement_of g.order z)) (union (in_outer_rest g p stage x u v s t bx canonical su sv corner) (mem u)) (λ w ww. mem-complement_of g.order z w ww ∙ ap not (zm w ww) ∙ other (mem x w) (mem u w) (mem v w) (corner.inside w ww) (corner.outside w ww)) (big_merge g p stage (complement_of g.order z) rz) in
       let la = leaves_at g.order (kept_at g.order p x) a in let lb = leaves_at g.order (merged_at g.order p x) b in
       let ea = each_of g (kept_at g.order p x) a kept_stage f.1 d.1 in let eb = each_of g (merged_at g.order p x) b merged_stage f.2 d.2 in
       let na = map (λ (r : List (List ℕ)). map (λ b. last_of (kept_image g.order x u v b)) r) la in
       let nb = map (λ (r : List (List ℕ)). map (λ b. last_of (merged_image g.order x u v b)) r) lb in
       part-join g k la (leaves_at g.order (kept_at g.order p z) (kept_if_greatest_stays g.order x u v a)) lb (leaves_at g.order (merged_at g.order p z) (merged_if_greatest_stays g.order x u v b)) (kept_order_if_greatest_stays u k a) (numbers (k + leaf_count a) (leaf_count b)) na nb
       (subst (λ (o : List ℕ). Part g k la (leaves_at g.order (kept_at g.order p z) (kept_if_greatest_stays g.order x u v a)) o na) (sym (kept_turned nv a ea k))
-      (below_kept k a (kept_if_greatest_stays g.order x u v a) (kept_at g.order p z) f.1 d.1 (stage_merged g p stage (complement_of g.order z) rz) mk (kept_greatest_stays g p stage x u v s t bx canonical su sv corner nv a f.1 ea)))
+      (below_kept k a (kept_if_greatest_stays g.order x u v a) (kept_at g.order p z) f.1 d.1 (stage_merged g p stage (complement_of g.order z) rz) new.kept (kept_greatest_stays g p stage x u v s t bx canonical su sv corner nv a f.1 ea)))
       (subst (λ i. Part g i lb (leaves_at g.order (merged_at g.order p z) (merged_if_greatest_stays g.order x u v b)) (numbers (k + leaf_count a) (leaf_count b)) nb) (ap (λ i. k + i) (sym (length-leaves_at g.order (kept_at g.order p x) a)))
       (subst (λ (o : List ℕ). Part g (k + leaf_count a) lb (leaves_at g.order (merged_at g.order p z) (merged_if_greatest_stays g.order x u v b)) o nb) (merged_plain b eb (k + leaf_count a))
-      (below_merged (k + leaf_count a) b (merged_if_greatest_stays g.order x u v b) (merged_at g.order p z) f.2 d.2 (stage_merged g p stage z bz) ms (merged_greatest_stays g p stage x u v s t bx canonical su sv corner nv b f.2 eb))))
-    where
-      other : (x u v : Bool) → (u ≡ true → x ≡ true) → (v ≡ true → x ≡ false) → not ((x && not u) || v) ≡ ((not x && not v) || u)
-      other x u v h k = grind arith
+      (below_merged (k + leaf_count a) b (merged_if_greatest_stays g.order x u v b) (merged_at g.order p z) f.2 d.2 (stage_merged g p stage z bz) new.merged (merged_greatest_stays g p stage x u v s t bx canonical su sv corner nv b f.2 eb))))
 
 -- a proper Switch whose result is a derivation
 module _ (g : Graph) (p : List (List ℕ)) (stage : Stage g p) (x u v : List ℕ) (su : IsRisingIn g.order u) (sv : IsRisingIn g.order v) (s t : ℕ) (bu : IsBlockOf g.order p (mem u) s) (bv : IsBlockOf g.order p (mem v) t) (a b : Shape) (f : AreRising g.order (cut x a b)) (d : IsDerivationAt g p (cut x a b))

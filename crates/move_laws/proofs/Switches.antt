@@ -57,6 +57,12 @@ cond_mem y s w false = refl
 pub same_cut : {x y : List ℕ} {c c' d d' : Shape} → x ≡ y → c ≡ c' → d ≡ d' → cut x c d ≡ cut y c' d'
 same_cut e k m = rw e (rw k (rw m refl))
 
+-- the shore z is the set `first`, and its complement is `second`
+pub record IsNewShore (g : Graph) (p : List (List ℕ)) (z : List ℕ) (first second : Set) : Type 0 where
+  pub members : (w : ℕ) → Within g.order w → mem z w ≡ first w
+  pub merged : IsMerge g.order p first (merged_at g.order p z)
+  pub kept : IsMerge g.order p second (kept_at g.order p z)
+
 module _ (g : Graph) (p : List (List ℕ)) (stage : Stage g p) (x u v : List ℕ) (s t : ℕ) (bx : Big g p x) (canonical : mem x g.order ≡ false) (su : IsRisingIn g.order u) (sv : IsRisingIn g.order v) (corner : Corner g p (mem x) (mem u) (mem v) s t) where
   abbrev pub in_inner_rest : Set
   in_inner_rest = ExchangedParts.in_inner_rest g p stage x u v s t bx.shore su sv corner
@@ -231,28 +237,49 @@ module _ (g : Graph) (p : List (List ℕ)) (stage : Stage g p) (x u v : List ℕ
               (((y && not x) && not v) || (cond z u false || cond r ((x && not u) || v) false)) ≡ cond (x && not u) r y
           bits x u v y z r a b c d = grind arith
 
+  new_shore : (z : List ℕ) → Big g p z → (first second : Set) → ((w : ℕ) → Within g.order w → mem z w ≡ first w) → ((w : ℕ) → Within g.order w → not (first w) ≡ second w) → IsNewShore g p z first second
+  new_shore z bz first second is other = record {
+    members = is;
+    merged = merge_congr g.order p (merged_at g.order p z) (mem z) first is (big_merge g p stage z bz);
+    kept = merge_congr g.order p (kept_at g.order p z) (mem (complement_of g.order z)) second (λ w ww. mem-complement_of g.order z w ww ∙ ap not (is w ww) ∙ other w ww) (big_merge g p stage (complement_of g.order z) (big_rest g p stage z bz));
+  }
+
+  -- the new shore with n in v
+  pub new_shore_comes : Big g p (union_list g.order (outer_rest g.order x v) u) → IsNewShore g p (union_list g.order (outer_rest g.order x v) u) (union in_outer_rest (mem u)) (union in_inner_rest (mem v))
+  new_shore_comes bz =
+      new_shore (union_list g.order (outer_rest g.order x v) u) bz (union in_outer_rest (mem u)) (union in_inner_rest (mem v))
+      (λ w ww. mem-rising_list g.order (union (mem (outer_rest g.order x v)) (mem u)) w ww ∙ ap (λ k. k || mem u w) (outer_rest-mem w ww))
+      (λ w ww. other (mem x w) (mem u w) (mem v w) (corner.inside w ww) (corner.outside w ww))
+    where
+      other : (x u v : Bool) → (u ≡ true → x ≡ true) → (v ≡ true → x ≡ false) → not ((not x && not v) || u) ≡ ((x && not u) || v)
+      other x u v h k = grind arith
+
+  -- and with n in Q
+  pub new_shore_stays : Big g p (union_list g.order (inner_rest g.order x u) v) → IsNewShore g p (union_list g.order (inner_rest g.order x u) v) (union in_inner_rest (mem v)) (union in_outer_rest (mem u))
+  new_shore_stays bz =
+      new_shore (union_list g.order (inner_rest g.order x u) v) bz (union in_inner_rest (mem v)) (union in_outer_rest (mem u))
+      (λ w ww. mem-rising_list g.order (union (mem (inner_rest g.order x u)) (mem v)) w ww ∙ ap (λ k. k || mem v w) (inner_rest-mem w ww))
+      (λ w ww. other (mem x w) (mem u w) (mem v w) (corner.inside w ww) (corner.outside w ww))
+    where
+      other : (x u v : Bool) → (u ≡ true → x ≡ true) → (v ≡ true → x ≡ false) → not ((x && not u) || v) ≡ ((not x && not v) || u)
+      other x u v h k = grind arith
+
   -- the Switch with n in v
   pub switch_greatest_comes : (a b : Shape) → AreRising g.order (cut x a b) → IsDerivationAt g p (cut x a b) → mem v g.order ≡ true → Big g p (union_list g.order (outer_rest g.order x v) u) →
       IsDerivationAt g p (cut (union_list g.order (outer_rest g.order x v) u) (merged_if_greatest_comes g.order x u b) (kept_if_greatest_comes g.order x u v a))
   switch_greatest_comes a b f d nv bz =
       let z = union_list g.order (outer_rest g.order x v) u in
-      let zm : (w : ℕ) → Within g.order w → mem z w ≡ union in_outer_rest (mem u) w = λ w ww. mem-rising_list g.order (union (mem (outer_rest g.order x v)) (mem u)) w ww ∙ ap (λ k. k || mem u w) (outer_rest-mem w ww) in
-      let rz = big_rest g p stage z bz in
-      let ms = merge_congr g.order p (merged_at g.order p z) (mem z) (union in_outer_rest (mem u)) zm (big_merge g p stage z bz) in
-      let mk = merge_congr g.order p (kept_at g.order p z) (mem (complement_of g.order z)) (union in_inner_rest (mem v)) (λ w ww. mem-complement_of g.order z w ww ∙ ap not (zm w ww) ∙ other (mem x w) (mem u w) (mem v w) (corner.inside w ww) (corner.outside w ww)) (big_merge g p stage (complement_of g.order z) rz) in
+      let new = new_shore_comes bz in
       let rx = big_rest g p stage x bx in
       let ska = stage_merged g p stage (complement_of g.order x) rx in
       let sma = stage_merged g p stage x bx in (
-        big_cut g p stage z bz (zm g.order last ∙ gone (mem x g.order) (mem u g.order) (mem v g.order) nv canonical (corner.inside g.order last)),
+        big_cut g p stage z bz (new.members g.order last ∙ gone (mem x g.order) (mem u g.order) (mem v g.order) nv canonical (corner.inside g.order last)),
         subst (IsDerivationAt g (kept_at g.order p z)) (sym (merged_greatest_comes nv b f.2 (each_of g (merged_at g.order p x) b sma f.2 d.2)))
-            (carried_derives g stage.graph (λ w. cond (in_inner_rest w) s w) map_b b (merged_at g.order p x) (kept_at g.order p z) sma.list.partition mk.partition (iso_b (kept_at g.order p z) mk) f.2 d.2),
+            (carried_derives g stage.graph (λ w. cond (in_inner_rest w) s w) map_b b (merged_at g.order p x) (kept_at g.order p z) sma.list.partition new.kept.partition (iso_b (kept_at g.order p z) new.kept) f.2 d.2),
         subst (IsDerivationAt g (merged_at g.order p z)) (sym (kept_greatest_comes nv a f.1 (each_of g (kept_at g.order p x) a ska f.1 d.1)))
-            (carried_derives g stage.graph (λ w. cond (in_outer_rest w) t w) map_a a (kept_at g.order p x) (merged_at g.order p z) ska.list.partition ms.partition (iso_a (merged_at g.order p z) ms) f.1 d.1),
+            (carried_derives g stage.graph (λ w. cond (in_outer_rest w) t w) map_a a (kept_at g.order p x) (merged_at g.order p z) ska.list.partition new.merged.partition (iso_a (merged_at g.order p z) new.merged) f.1 d.1),
       )
     where
-      other : (x u v : Bool) → (u ≡ true → x ≡ true) → (v ≡ true → x ≡ false) → not ((not x && not v) || u) ≡ ((x && not u) || v)
-      other x u v h k = grind arith
-
       gone : (x u v : Bool) → v ≡ true → x ≡ false → (u ≡ true → x ≡ true) → ((not x && not v) || u) ≡ false
       gone x u v h k l = grind arith
 
@@ -261,22 +288,16 @@ module _ (g : Graph) (p : List (List ℕ)) (stage : Stage g p) (x u v : List ℕ
       IsDerivationAt g p (cut (union_list g.order (inner_rest g.order x u) v) (kept_if_greatest_stays g.order x u v a) (merged_if_greatest_stays g.order x u v b))
   switch_greatest_stays a b f d nv bz =
       let z = union_list g.order (inner_rest g.order x u) v in
-      let zm : (w : ℕ) → Within g.order w → mem z w ≡ union in_inner_rest (mem v) w = λ w ww. mem-rising_list g.order (union (mem (inner_rest g.order x u)) (mem v)) w ww ∙ ap (λ k. k || mem v w) (inner_rest-mem w ww) in
-      let rz = big_rest g p stage z bz in
-      let ms = merge_congr g.order p (merged_at g.order p z) (mem z) (union in_inner_rest (mem v)) zm (big_merge g p stage z bz) in
-      let mk = merge_congr g.order p (kept_at g.order p z) (mem (complement_of g.order z)) (union in_outer_rest (mem u)) (λ w ww. mem-complement_of g.order z w ww ∙ ap not (zm w ww) ∙ other (mem x w) (mem u w) (mem v w) (corner.inside w ww) (corner.outside w ww)) (big_merge g p stage (complement_of g.order z) rz) in
+      let new = new_shore_stays bz in
       let rx = big_rest g p stage x bx in
       let ska = stage_merged g p stage (complement_of g.order x) rx in
       let sma = stage_merged g p stage x bx in (
-        big_cut g p stage z bz (zm g.order last ∙ gone (mem x g.order) (mem u g.order) (mem v g.order) nv canonical),
+        big_cut g p stage z bz (new.members g.order last ∙ gone (mem x g.order) (mem u g.order) (mem v g.order) nv canonical),
         subst (IsDerivationAt g (kept_at g.order p z)) (sym (kept_greatest_stays nv a f.1 (each_of g (kept_at g.order p x) a ska f.1 d.1)))
-            (carried_derives g stage.graph (λ w. cond (in_outer_rest w) t w) map_a a (kept_at g.order p x) (kept_at g.order p z) ska.list.partition mk.partition (iso_a (kept_at g.order p z) mk) f.1 d.1),
+            (carried_derives g stage.graph (λ w. cond (in_outer_rest w) t w) map_a a (kept_at g.order p x) (kept_at g.order p z) ska.list.partition new.kept.partition (iso_a (kept_at g.order p z) new.kept) f.1 d.1),
         subst (IsDerivationAt g (merged_at g.order p z)) (sym (merged_greatest_stays nv b f.2 (each_of g (merged_at g.order p x) b sma f.2 d.2)))
-            (carried_derives g stage.graph (λ w. cond (in_inner_rest w) s w) map_b b (merged_at g.order p x) (merged_at g.order p z) sma.list.partition ms.partition (iso_b (merged_at g.order p z) ms) f.2 d.2),
+            (carried_derives g stage.graph (λ w. cond (in_inner_rest w) s w) map_b b (merged_at g.order p x) (merged_at g.order p z) sma.list.partition new.merged.partition (iso_b (merged_at g.order p z) new.merged) f.2 d.2),
       )
     where
-      other : (x u v : Bool) → (u ≡ true → x ≡ true) → (v ≡ true → x ≡ false) → not ((x && not u) || v) ≡ ((not x && not v) || u)
-      other x u v h k = grind arith
-
       gone : (x u v : Bool) → v ≡ false → x ≡ false → ((x && not u) || v) ≡ false
       gone x u v h k = grind arith

@@ -68,37 +68,21 @@ fn carry_out(
         (option_map moves_of inner.now) (option_map moves_of outer.now) ≡ Some s →
         turned_of r ≡ s) }
 {
+    if let Plan::Crossing { u, v, .. } = plan {
+        return turn_over_inner(alloc, n, x, kept, merged, *u, *v, inner, outer);
+    }
+    let tree = Tree::Cut {
+        shore: x,
+        kept,
+        merged,
+    };
     match plan {
-        Plan::Here => Ok(Turned {
-            tree: Tree::Cut {
-                shore: x,
-                kept,
-                merged,
-            },
+        Plan::InKept => raise_child(alloc, Side::Kept, tree, inner),
+        Plan::InMerged => raise_child(alloc, Side::Merged, tree, outer),
+        _ => Ok(Turned {
+            tree,
             moves: Moves::new(alloc),
         }),
-        Plan::InKept => {
-            let tree = Tree::Cut {
-                shore: x,
-                kept,
-                merged,
-            };
-            let turned = raise_child(alloc, Side::Kept, tree, inner)?;
-            Ok(turned)
-        }
-        Plan::InMerged => {
-            let tree = Tree::Cut {
-                shore: x,
-                kept,
-                merged,
-            };
-            let turned = raise_child(alloc, Side::Merged, tree, outer)?;
-            Ok(turned)
-        }
-        Plan::Crossing { u, v, .. } => {
-            let turned = turn_over_inner(alloc, n, x, kept, merged, *u, *v, inner, outer)?;
-            Ok(turned)
-        }
     }
 }
 
