@@ -148,13 +148,18 @@ fn small_graphs_in_all_orders(rt: HostRuntime) -> Result<(), Fail> {
     Ok(())
 }
 
+// Whether this is so of the graph that grows from a number in six pieces.
+fn grown_agrees(alloc: Global, seed: &str) -> Result<bool, Fail> {
+    let graph = report(alloc, &["grow", seed, "6"], &[])?;
+    all_orders_agree(alloc, &graph)
+}
+
 #[test]
 fn large_graphs_in_all_orders(rt: HostRuntime) -> Result<(), Fail> {
     let graph = cycle(rt.alloc(), 16)?;
     assert!(rt; all_orders_agree(rt.alloc(), &graph)?);
     for seed in ["1", "2", "3"] {
-        let graph = report(rt.alloc(), &["grow", seed, "6"], &[])?;
-        assert!(rt; all_orders_agree(rt.alloc(), &graph)?);
+        assert!(rt; grown_agrees(rt.alloc(), seed)?);
     }
     Ok(())
 }
@@ -165,13 +170,19 @@ static PICKS: [&str; 3] = [
     "s mcg 1\npick 4\n",
 ];
 
-#[test]
-fn picks_of_the_hexagon(rt: HostRuntime) -> Result<(), Fail> {
-    let mut trees = Vec::new(rt.alloc());
+// The derivations of the hexagon by these picks.
+fn picked(alloc: Global) -> Result<Vec<String>, Fail> {
+    let mut trees = Vec::new(alloc);
     for picks in &PICKS {
         let words = ["decompose", "g", "script", "s"];
-        trees.push(report(rt.alloc(), &words, &[HEXAGON, picks])?)?;
+        trees.push(report(alloc, &words, &[HEXAGON, picks])?)?;
     }
+    Ok(trees)
+}
+
+#[test]
+fn picks_of_the_hexagon(rt: HostRuntime) -> Result<(), Fail> {
+    let trees = picked(rt.alloc())?;
     assert!(rt; all_lead_over(rt.alloc(), HEXAGON, &trees)?);
     Ok(())
 }

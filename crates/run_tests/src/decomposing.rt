@@ -2,6 +2,7 @@
 use crate::graphs::{HEXAGON, TRIANGLE_IN_K33, TWO_K4, cycle};
 use crate::trial::{Row, first_wrong, report};
 use bench_top::Status;
+use std::alloc::Global;
 use std::test::Fail;
 
 static ORDERS: [&str; 3] = ["first", "last", "balanced"];
@@ -136,15 +137,21 @@ fn first_cuts(rt: HostRuntime) -> Result<(), Fail> {
     Ok(())
 }
 
+// Whether the decomposition of the graph in the order ends so.
+fn ends_with(alloc: Global, graph: &str, order: &str, end: &str) -> Result<bool, Fail> {
+    let report = report(alloc, &["decompose", "g", order], &[graph])?;
+    Ok(report.ends_with(end))
+}
+
 #[test]
 fn cycles(rt: HostRuntime) -> Result<(), Fail> {
     let graph = cycle(rt.alloc(), 16)?;
     for order in &ORDERS {
-        let report = report(rt.alloc(), &["decompose", "g", *order], &[&graph])?;
-        assert!(rt; report.ends_with("\nc leaves 7 bricks 0 braces 7\n"));
+        let end = "\nc leaves 7 bricks 0 braces 7\n";
+        assert!(rt; ends_with(rt.alloc(), &graph, order, end)?);
     }
     let graph = cycle(rt.alloc(), 64)?;
-    let report = report(rt.alloc(), &["decompose", "g", "first"], &[&graph])?;
-    assert!(rt; report.ends_with("\nc leaves 31 bricks 0 braces 31\n"));
+    let end = "\nc leaves 31 bricks 0 braces 31\n";
+    assert!(rt; ends_with(rt.alloc(), &graph, "first", end)?);
     Ok(())
 }

@@ -5,7 +5,7 @@ use crate::graphs::{
 };
 use crate::trial::{ran, ran_over, shelf_of, shelf_without, words_of};
 use bench_top::{Status, run};
-use outside::{CountSink, MemSink};
+use outside::{CountSink, MemShelf, MemSink};
 use std::alloc::Global;
 use std::test::Fail;
 
@@ -101,37 +101,33 @@ fn counts_alike(
     Ok(status == wanted && counted == status && sink.count() == written.len() as u64)
 }
 
-#[test]
-fn nothing_fails(rt: HostRuntime) -> Result<(), Fail> {
-    for (words, files, status) in &RUNS {
-        assert!(rt; counts_alike(rt.alloc(), words, files, *status)?);
-    }
-    Ok(())
+// Whether a read fault comes, and nothing is written.
+fn is_read_fault(alloc: Global, words: &[&str], shelf: MemShelf) -> Result<bool, Fail> {
+    let sink = MemSink::new(alloc, 100, 16)?;
+    let (status, written) = ran_over(alloc, words, shelf, sink)?;
+    Ok(status == Status::ReadFault && written.is_empty())
 }
 
-// Whether a read fault comes, and nothing is written, where the read call of each file fails in turn, and where each file is missing in
-// turn.
+// Whether this is so where the read call of that number fails.
+fn needs_read(alloc: Global, words: &[&str], files: &[&str], call: u32) -> Result<bool, Fail> {
+    let mut shelf = shelf_of(alloc, files)?;
+    shelf.fail_read(call)?;
+    is_read_fault(alloc, words, shelf)
+}
+
+// Whether this is so where the file at a place is missing.
+fn needs_file(alloc: Global, words: &[&str], files: &[&str], place: usize) -> Result<bool, Fail> {
+    is_read_fault(alloc, words, shelf_without(alloc, files, place)?)
+}
+
+// Whether this is so where the read call of each file fails in turn, and where each file is missing in turn.
 fn needs_each_file(alloc: Global, words: &[&str], files: &[&str]) -> Result<bool, Fail> {
     for (call, (place, _)) in (1..=3).zip(files.iter().enumerate()) {
-        let mut failing = shelf_of(alloc, files)?;
-        failing.fail_read(call)?;
-        for shelf in [failing, shelf_without(alloc, files, place)?] {
-            let sink = MemSink::new(alloc, 100, 16)?;
-            let (status, written) = ran_over(alloc, words, shelf, sink)?;
-            if status != Status::ReadFault || !written.is_empty() {
-                return Ok(false);
-            }
+        if !needs_read(alloc, words, files, call)? || !needs_file(alloc, words, files, place)? {
+            return Ok(false);
         }
     }
     Ok(true)
-}
-
-#[test]
-fn each_read_fails(rt: HostRuntime) -> Result<(), Fail> {
-    for (words, files, _) in &RUNS {
-        assert!(rt; needs_each_file(rt.alloc(), words, files)?);
-    }
-    Ok(())
 }
 
 // Whether a write fault comes over a sink of this room, which takes 16 bytes a call, and the room is full of the beginning of the report.
@@ -160,14 +156,6 @@ fn fills_rooms(alloc: Global, words: &[&str], files: &[&str]) -> Result<bool, Fa
     Ok(true)
 }
 
-#[test]
-fn rooms_that_are_too_small(rt: HostRuntime) -> Result<(), Fail> {
-    for (words, files, _) in &RUNS {
-        assert!(rt; fills_rooms(rt.alloc(), words, files)?);
-    }
-    Ok(())
-}
-
 // Whether a write fault comes over a sink that takes 16 bytes a call, where each write call fails in turn, and what was written is the
 // pieces of the report before it.
 fn stops_at_each_write(alloc: Global, words: &[&str], files: &[&str]) -> Result<bool, Fail> {
@@ -187,8 +175,11 @@ fn stops_at_each_write(alloc: Global, words: &[&str], files: &[&str]) -> Result<
 }
 
 #[test]
-fn each_write_fails(rt: HostRuntime) -> Result<(), Fail> {
-    for (words, files, _) in &RUNS {
+fn each_command_and_each_fault(rt: HostRuntime) -> Result<(), Fail> {
+    for (words, files, status) in &RUNS {
+        assert!(rt; counts_alike(rt.alloc(), words, files, *status)?);
+        assert!(rt; needs_each_file(rt.alloc(), words, files)?);
+        assert!(rt; fills_rooms(rt.alloc(), words, files)?);
         assert!(rt; stops_at_each_write(rt.alloc(), words, files)?);
     }
     Ok(())
