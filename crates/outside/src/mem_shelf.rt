@@ -1,6 +1,6 @@
 //! A shelf in memory, some of whose reads fail.
 ghost use Rattle.std.specs.Prelude.{◌≡◌, ◌≤◌, ◌<◌, ◌-◌, ◌^◌, ◌==◌, ◌++◌, ◌∷◌, [], ◌↔◌, ◌⊎◌, IfOk, OnOk, OnErr, IsErrOf, Contains, length};
-ghost use Rattle.std.specs.declared.option.Option.TheVariants.{None, Some};
+ghost use Rattle.std.specs.declared.option.Option.TheVariants.{Some};
 ghost use Rattle.std.specs.Option.{option_map};
 ghost use Rattle.std.proofs.Common.{rules};
 ghost use Rattle.outside.specs.Faults.{next_call, next_fault};
@@ -97,28 +97,6 @@ fn find_file<'a>(files: &'a [StoredFile], name: &str) -> Option<&'a Vec<u8>>
     None
 }
 
-// A copy of the bytes of the first file of that name, if they are at most `limit`.
-fn copied_file(
-    alloc: Global,
-    files: &[StoredFile],
-    name: &str,
-    limit: usize,
-) -> Result<Vec<u8>, ShelfFault>
-    ensures missing { IsErrOf result ShelfFault.Failed ↔
-        (file_named name.now (named_files files.now) ≡ None) }
-    ensures too_long { IsErrOf result ShelfFault.TooLong ↔
-        HoldsLonger (named_files files.now) name.now limit }
-    ensures ok { IfOk result
-        (λ bytes. file_named name.now (named_files files.now) ≡ Some bytes.items) }
-    ensures within { IfOk result (λ bytes. length bytes.items ≤ limit) }
-{
-    match find_file(files, name) {
-        None => Err(ShelfFault::Failed),
-        Some(bytes) if bytes.len() > limit => Err(ShelfFault::TooLong),
-        Some(bytes) => bytes.to_vec(alloc).map_err(|_| ShelfFault::Memory),
-    }
-}
-
 impl Shelf for MemShelf {
     ghost files = { λ shelf. Some shelf.files };
 
@@ -158,16 +136,17 @@ impl Shelf for MemShelf {
         if self.plan.fails_next() {
             return Err(ShelfFault::Failed);
         }
-        match copied_file(alloc, &self.files, name, limit) {
-            Ok(bytes) => {
-                self.taken = bytes.len();
-                Ok(bytes)
-            }
-            Err(ShelfFault::Failed) => {
+        match find_file(&self.files, name) {
+            None => {
                 self.plan.count_fault();
                 Err(ShelfFault::Failed)
             }
-            Err(fault) => Err(fault),
+            Some(bytes) if bytes.len() > limit => Err(ShelfFault::TooLong),
+            Some(bytes) => {
+                let bytes = bytes.to_vec(alloc).map_err(|_| ShelfFault::Memory)?;
+                self.taken = bytes.len();
+                Ok(bytes)
+            }
         }
     }
 }

@@ -12,5 +12,5 @@ returns-then-fails_next-clause-failed c = (λ _. kept c, λ _. refl)
 pub returns-then-fails_next-clause-too_long : goal.returns-then-fails_next-clause-too_long
 returns-then-fails_next-clause-too_long c = (λ is. cc, λ longer. absurd (longer.0 (kept c)))
 
-pub returns-in-Ok-clause-taken : goal.returns-in-Ok-clause-taken
-returns-in-Ok-clause-taken c = omega arith
+pub returns-in_ok-bytes-in-Some-2-clause-taken : goal.returns-in_ok-bytes-in-Some-2-clause-taken
+returns-in_ok-bytes-in-Some-2-clause-taken c = omega arith
