@@ -1,5 +1,5 @@
 //! A shelf of the files that a runtime reaches by name.
-ghost use Rattle.std.specs.Prelude.{◌≡◌, ◌≤◌, ◌<◌, ◌-◌, ◌+◌, ◌^◌, ◌⊎◌, length, false, IfOk, IsErrOf};
+ghost use Rattle.std.specs.Prelude.{◌≡◌, ◌≤◌, ◌<◌, ◌-◌, ◌+◌, ◌^◌, ◌⊎◌, length, false, IfOk, OnOk, IsErrOf};
 ghost use Rattle.std.specs.declared.option.Option.TheVariants.{None};
 ghost use Rattle.std.proofs.Common.{rules};
 ghost use Rattle.outside.specs.DirShelf.{IsOpened};
@@ -48,6 +48,37 @@ impl<'a, R: Files> DirShelf<'a, R> {
     }
 }
 
+// Appends the bytes of the file of that name: all of them, if they are at most `limit`, else `limit + 1`. Each turn takes at
+// least one byte or ends the read.
+fn fill<R: Files>(
+    runtime: &R,
+    name: &str,
+    bytes: &mut Vec<u8>,
+    limit: usize,
+) -> Result<(), ShelfFault>
+    requires begun { length bytes.now.items ≤ limit }
+    requires bounded { limit < 2 ^ 64 - 1 }
+    ensures within { OnOk result (length bytes.new.items ≤ limit) }
+    ensures too_long { IsErrOf result ShelfFault.TooLong → length bytes.new.items ≡ limit + 1 }
+    ensures ends { length bytes.new.items ≤ limit + 1 }
+{
+    let Ok(mut file) = fs::open(runtime, name) else {
+        return Err(ShelfFault::Failed);
+    };
+    let mut piece = [0u8; PIECE];
+    'reading: while bytes.len() <= limit {
+        let room = PIECE.min(limit + 1 - bytes.len());
+        match read_some(&mut file, &mut piece[..room]) {
+            Err(_) => return Err(ShelfFault::Failed),
+            Ok(0) => return Ok(()),
+            Ok(count) => bytes
+                .extend_from_slice(&piece[..count])
+                .map_err(|_| ShelfFault::Memory)?,
+        }
+    }
+    Err(ShelfFault::TooLong)
+}
+
 impl<R: Files> Shelf for DirShelf<'_, R> {
     ghost files = { λ shelf. None };
 
@@ -61,8 +92,7 @@ impl<R: Files> Shelf for DirShelf<'_, R> {
 
     ghost steady_tells = { λ shelf is. Prim.search rules };
 
-    /// Each turn takes at least one byte or ends the read, which ends at `limit + 1` bytes at the latest. An error of
-    /// the runtime, at the opening or at any turn, is `Failed`.
+    /// It ends at `limit + 1` bytes at the latest. An error of the runtime, at the opening or at any turn, is `Failed`.
     fn read(&mut self, alloc: Global, name: &str, limit: usize) -> Result<Vec<u8>, ShelfFault>
         requires { limit < 2 ^ 64 - 1 }
 
@@ -77,29 +107,16 @@ impl<R: Files> Shelf for DirShelf<'_, R> {
             self.new.faults ≡ next_fault self.old.faults }
         ensures stays { IsErrOf result ShelfFault.Failed ⊎ (self.new.faults ≡ self.old.faults) }
     {
-        self.taken = 0;
-        let Ok(mut file) = fs::open(self.runtime, name) else {
-            self.faults = self.faults.saturating_add(1);
-            return Err(ShelfFault::Failed);
-        };
-        let mut piece = [0u8; PIECE];
         let mut bytes = Vec::new(alloc);
-        'reading: while bytes.len() <= limit {
-            let room = PIECE.min(limit + 1 - bytes.len());
-            match read_some(&mut file, &mut piece[..room]) {
-                Err(_) => {
-                    self.faults = self.faults.saturating_add(1);
-                    return Err(ShelfFault::Failed);
-                }
-                Ok(0) => return Ok(bytes),
-                Ok(count) => {
-                    self.taken += count;
-                    bytes
-                        .extend_from_slice(&piece[..count])
-                        .map_err(|_| ShelfFault::Memory)?;
-                }
+        let filled = fill(self.runtime, name, &mut bytes, limit);
+        self.taken = bytes.len();
+        match filled {
+            Ok(()) => Ok(bytes),
+            Err(ShelfFault::Failed) => {
+                self.faults = self.faults.saturating_add(1);
+                Err(ShelfFault::Failed)
             }
+            Err(fault) => Err(fault),
         }
-        Err(ShelfFault::TooLong)
     }
 }
