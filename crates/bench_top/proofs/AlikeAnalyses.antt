@@ -27,9 +27,9 @@ use Rattle.report_text.specs.Reports.{deficiency_line, list_line, matching_line,
 use Rattle.report_text.specs.Structures.{structure_text}
 use Rattle.report_text.specs.declared.analyses.AnalysisLines.{AnalysisLines}
 use Rattle.report_text.specs.declared.structures.Structure.{Structure}
-use Rattle.bench_top.specs.Facts.{HasMaximum, IsAnalysis, IsStructure, TellsStructure}
+use Rattle.bench_outcomes.specs.Facts.{HasMaximum, IsAnalysis, IsStructure, TellsStructure}
 use Rattle.bench_top.specs.Fixed.{DifferAtMostIn}
-use Rattle.bench_top.specs.Shown.{MayBeBerge}
+use Rattle.bench_outcomes.specs.Shown.{MayBeBerge}
 use Rattle.bench_top.proofs.AlikeReasons.{reason-alike}
 use Rattle.bench_top.proofs.AlikeTexts.{alike-along, alike-behind}
 

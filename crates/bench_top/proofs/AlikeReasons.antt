@@ -11,9 +11,9 @@ use Rattle.definition_laws.proofs.Reasons.{reason-one}
 use Rattle.definition_laws.specs.Words.{without_berge}
 use Rattle.report_text.specs.Reports.{numbers_text, verdict_text}
 use Rattle.bench_top.specs.Fixed.{DifferAtMostIn}
-use Rattle.bench_top.specs.Shown.{MayBeBerge}
-use Rattle.bench_top.specs.Uncovered.{Uncovered}
-use Rattle.bench_top.specs.declared.status.Status.{Status}
+use Rattle.bench_outcomes.specs.Shown.{MayBeBerge}
+use Rattle.bench_outcomes.specs.Uncovered.{Uncovered}
+use Rattle.bench_outcomes.specs.declared.status.Status.{Status}
 use Rattle.bench_top.proofs.AlikeTexts.{alike-along, alike-before, alike-behind, alike-lists}
 
 -- for reasons that are one but for the Berge set

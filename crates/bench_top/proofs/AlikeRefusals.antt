@@ -19,17 +19,17 @@ use Rattle.report_text.specs.Judgements.{ear_judgement_text, judgement_text, num
 use Rattle.report_text.specs.Reports.{numbers_text}
 use Rattle.report_text.specs.Scripts.{refused_move_text, stuck_text}
 use Rattle.report_text.specs.declared.ear_judgements.EarLine.TheVariants as ear_line
-use Rattle.bench_top.specs.Checks.{CheckGives, RefusedTree, Refuses, shown_of}
-use Rattle.bench_top.specs.Comparisons.{CompareGives, RefusesPair, ScriptGives}
-use Rattle.bench_top.specs.EarChecks.{EarCheckGives, EarsGives, RefusedEars, named_edge}
-use Rattle.bench_top.specs.EarChecks as ears
+use Rattle.bench_outcomes.specs.Checks.{CheckGives, RefusedTree, Refuses, shown_of}
+use Rattle.bench_outcomes.specs.Comparisons.{CompareGives, RefusesPair, ScriptGives}
+use Rattle.bench_outcomes.specs.EarChecks.{EarCheckGives, EarsGives, RefusedEars, named_edge}
+use Rattle.bench_outcomes.specs.EarChecks as ears
 use Rattle.bench_top.specs.Fixed.{DifferAtMostIn, MayShow}
-use Rattle.bench_top.specs.Shown.{MayBeBerge, MayCross, MayCrossBehind, MayShowOfMoves, MayShowOfTree, MayShowOfTwo}
-use Rattle.bench_top.specs.Outcome.{DecomposeGives, ResultOf}
-use Rattle.bench_top.specs.Replays.{MovesGive, RefusedMove, ReplayGives, StuckMove}
-use Rattle.bench_top.specs.Tasks.{Task}
-use Rattle.bench_top.specs.Tasks as task
-use Rattle.bench_top.specs.declared.status.Status.TheVariants.{Negative}
+use Rattle.bench_outcomes.specs.Shown.{MayBeBerge, MayCross, MayCrossBehind, MayShowOfMoves, MayShowOfTree, MayShowOfTwo}
+use Rattle.bench_outcomes.specs.Outcome.{DecomposeGives, ResultOf}
+use Rattle.bench_outcomes.specs.Replays.{MovesGive, RefusedMove, ReplayGives, StuckMove}
+use Rattle.bench_tasks.specs.Tasks.{Task}
+use Rattle.bench_tasks.specs.Tasks as task
+use Rattle.bench_outcomes.specs.declared.status.Status.TheVariants.{Negative}
 use Rattle.graph_text.specs.EitherVersion.{NamedGraph}
 use Rattle.tight_cuts.specs.Candidates.{Candidate}
 use Rattle.bench_top.proofs.AlikeReasons.{uncovered-alike}

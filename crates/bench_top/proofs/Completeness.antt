@@ -1,13 +1,13 @@
 -- Words and files decide the status: of good files by whether the task succeeds, and of a bad one it is BadInput.
 use Rattle.std.proofs.Common.{◌≡◌, ◌∙◌, ◌↔◌, ℕ, List, Option, Some, None, ◌⊎◌, inl, inr, refl, sym, subst}
 use Rattle.outside.specs.Shelf.{Named}
-use Rattle.bench_top.specs.Commands.{Command, command_of}
-use Rattle.bench_top.specs.Loading.{Loaded, All, Bad, Absent, loaded}
-use Rattle.bench_top.specs.Outcome.{CommandGives, IsReported, LoadedGives, Outcome}
-use Rattle.bench_top.specs.Success.{Succeeds}
-use Rattle.bench_top.specs.Tasks.{Task}
-use Rattle.bench_top.specs.declared.status.Status.{Status}
-use Rattle.bench_top.specs.declared.status.Status.TheVariants.{Done, Negative, Usage, ReadFault, BadInput, WriteFault, Memory}
+use Rattle.bench_tasks.specs.Commands.{Command, command_of}
+use Rattle.bench_tasks.specs.Loading.{Loaded, All, Bad, Absent, loaded}
+use Rattle.bench_outcomes.specs.Outcome.{CommandGives, IsReported, LoadedGives, Outcome}
+use Rattle.bench_outcomes.specs.Success.{Succeeds}
+use Rattle.bench_tasks.specs.Tasks.{Task}
+use Rattle.bench_outcomes.specs.declared.status.Status.{Status}
+use Rattle.bench_outcomes.specs.declared.status.Status.TheVariants.{Done, Negative, Usage, ReadFault, BadInput, WriteFault, Memory}
 use Rattle.bench_top.proofs.LoadedGraphs.{Holds, loaded-graph}
 use Rattle.bench_top.proofs.Settled.{KeepsGraph, Settles, settled}
 

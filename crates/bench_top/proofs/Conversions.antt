@@ -6,11 +6,11 @@ use Rattle.outside.specs.Shelf.{Named, file_named}
 use Rattle.line_text.specs.Reading.{reading_of}
 use Rattle.line_text.proofs.ExactlyOne.{Stands-reading_of}
 use Rattle.graph_text.specs.EitherVersion.{NamedGraph, either_version}
-use Rattle.bench_top.specs.Loading.{Loaded, All, Bad, Absent, loaded_as, graph_file, most_bytes}
-use Rattle.bench_top.specs.Outcome.{LoadedGives, Outcome, Converted, given_or_plain}
-use Rattle.bench_top.specs.Tasks as task
-use Rattle.bench_top.specs.declared.status.Status.{Status}
-use Rattle.bench_top.specs.declared.status.Status.TheVariants.{Done}
+use Rattle.bench_tasks.specs.Loading.{Loaded, All, Bad, Absent, loaded_as, graph_file, most_bytes}
+use Rattle.bench_outcomes.specs.Outcome.{LoadedGives, Outcome, Converted, given_or_plain}
+use Rattle.bench_tasks.specs.Tasks as task
+use Rattle.bench_outcomes.specs.declared.status.Status.{Status}
+use Rattle.bench_outcomes.specs.declared.status.Status.TheVariants.{Done}
 use Rattle.bench_top.proofs.Completeness.{status-once}
 use Rattle.bench_top.proofs.FileReads.{file_read-value}
 

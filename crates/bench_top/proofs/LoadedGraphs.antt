@@ -8,10 +8,10 @@ use Rattle.graph_core.specs.declared.faults.FaultKind.{FaultKind}
 use Rattle.graph_text.specs.EitherVersion.{NamedGraph, either_version}
 use Rattle.tree_core.specs.Moves.{PlainMove}
 use Rattle.tree_core.specs.Shapes.{Shape}
-use Rattle.bench_top.specs.Commands.{Command, Analyse, Convert, Analyse6, Decompose, DecomposeBy, Check, CheckEars, Ears, Replay, Compare, Script, Grow}
-use Rattle.bench_top.specs.Loading.{Loaded, All, Bad, Absent, and_then, ear_file, file_read, from_reading, graph6_file, graph_file, loaded, loaded_as, most_bytes, move_file, moves_given, pick_file, tree_file, tree_given, trees_given}
-use Rattle.bench_top.specs.Tasks.{Task}
-use Rattle.bench_top.specs.Tasks as task
+use Rattle.bench_tasks.specs.Commands.{Command, Analyse, Convert, Analyse6, Decompose, DecomposeBy, Check, CheckEars, Ears, Replay, Compare, Script, Grow}
+use Rattle.bench_tasks.specs.Loading.{Loaded, All, Bad, Absent, and_then, ear_file, file_read, from_reading, graph6_file, graph_file, loaded, loaded_as, most_bytes, move_file, moves_given, pick_file, tree_file, tree_given, trees_given}
+use Rattle.bench_tasks.specs.Tasks.{Task}
+use Rattle.bench_tasks.specs.Tasks as task
 use Rattle.bench_top.proofs.ReadGraphs.{GoesOn, HasGraph, IsRead, read-graph}
 use Rattle.bench_top.proofs.ReadSimpleGraphs.{read-simple_graph}
 use Rattle.bench_top.proofs.Settled.{KeepsGraph}

@@ -25,22 +25,22 @@ use Rattle.report_text.specs.declared.tallies.LeafKind.{LeafKind}
 use Rattle.report_text.specs.declared.tallies.Tally.{Tally}
 use Rattle.graph_text.specs.Writing.{graph_text}
 use Rattle.grow_gen.specs.Growth.{grown}
-use Rattle.bench_top.specs.Checks.{CheckGives, Refuses}
-use Rattle.bench_top.specs.Commands.{Command, command_of}
-use Rattle.bench_top.specs.EarChecks.{EarCheckGives}
+use Rattle.bench_outcomes.specs.Checks.{CheckGives, Refuses}
+use Rattle.bench_tasks.specs.Commands.{Command, command_of}
+use Rattle.bench_outcomes.specs.EarChecks.{EarCheckGives}
 use Rattle.bench_top.specs.Fixed.{DifferAtMostIn, HasChosenText, HasOneOutput, MayShow, ShowsNothingFree}
-use Rattle.bench_top.specs.Shown.{MayBeBerge}
-use Rattle.bench_top.specs.Growths.{Grown, IsCounted}
-use Rattle.bench_top.specs.Loading.{Loaded, All, Bad, Absent, loaded}
-use Rattle.bench_top.specs.Orders.{NamedPicks, ScriptPicks}
-use Rattle.bench_top.specs.Outcome.{Analysed, Analysed6, CommandGives, DecomposeGives, LoadedGives, Outcome, ResultOf, TellsDerivation, with_given_names}
-use Rattle.bench_top.specs.Replays.{ReplayGives, ReplayedTree}
-use Rattle.bench_top.specs.Tasks.{Task}
-use Rattle.bench_top.specs.Tasks as task
-use Rattle.bench_top.specs.declared.command.NamedOrder.{NamedOrder}
-use Rattle.bench_top.specs.declared.command.NamedOrder.TheVariants.{First, Last}
-use Rattle.bench_top.specs.declared.status.Status.{Status}
-use Rattle.bench_top.specs.declared.status.Status.TheVariants.{Done, Negative, BadInput}
+use Rattle.bench_outcomes.specs.Shown.{MayBeBerge}
+use Rattle.bench_outcomes.specs.Growths.{Grown, IsCounted}
+use Rattle.bench_tasks.specs.Loading.{Loaded, All, Bad, Absent, loaded}
+use Rattle.bench_outcomes.specs.Orders.{NamedPicks, ScriptPicks}
+use Rattle.bench_outcomes.specs.Outcome.{Analysed, Analysed6, CommandGives, DecomposeGives, LoadedGives, Outcome, ResultOf, TellsDerivation, with_given_names}
+use Rattle.bench_outcomes.specs.Replays.{ReplayGives, ReplayedTree}
+use Rattle.bench_tasks.specs.Tasks.{Task}
+use Rattle.bench_tasks.specs.Tasks as task
+use Rattle.bench_tasks.specs.declared.command.NamedOrder.{NamedOrder}
+use Rattle.bench_tasks.specs.declared.command.NamedOrder.TheVariants.{First, Last}
+use Rattle.bench_outcomes.specs.declared.status.Status.{Status}
+use Rattle.bench_outcomes.specs.declared.status.Status.TheVariants.{Done, Negative, BadInput}
 use Rattle.bench_top.proofs.AlikeAnalyses.{analyses-alike}
 use Rattle.bench_top.proofs.AlikeRefusals.{refused-alike}
 use Rattle.bench_top.proofs.AlikeTexts.{alike-along, alike-none, graph6-alike, named-alike}

@@ -2,10 +2,10 @@
 use Rattle.std.proofs.Common.{◌≡◌, ℕ, List, Bool, IsTrue, Ok, Err, Result, length, sym, subst, arith}
 use Rattle.std.proofs.lemmas.List.{take_all}
 use Rattle.outside.specs.Shelf.{ReadsInTurn, ReadsFirst}
-use Rattle.bench_top.specs.Loading.{Loaded, Absent}
-use Rattle.bench_top.specs.Reads.{FailsAs, IsReadFault, ReadsAs}
-use Rattle.bench_top.specs.declared.stop.Stop.{Stop}
-use Rattle.bench_top.specs.declared.stop.Stop.TheVariants.{ReadFault, Bad, Memory}
+use Rattle.bench_tasks.specs.Loading.{Loaded, Absent}
+use Rattle.bench_tasks.specs.Reads.{FailsAs, IsReadFault, ReadsAs}
+use Rattle.bench_tasks.specs.declared.stop.Stop.{Stop}
+use Rattle.bench_tasks.specs.declared.stop.Stop.TheVariants.{ReadFault, Bad, Memory}
 
 module _ {S X : Type 0} (reads : S → List ℕ → S → Type 0) (names : List (List ℕ)) (first last : S) where
   -- they are the first few

@@ -12,15 +12,15 @@ use Rattle.tree_text.specs.TreeFormat.{tree_format}
 use Rattle.tree_text.specs.Writing.{tree_text}
 use Rattle.move_text.specs.MoveFormat.{move_format}
 use Rattle.report_text.specs.Scripts.{replayed_text}
-use Rattle.bench_top.specs.Comparisons.{ScriptGives, Scripted}
-use Rattle.bench_top.specs.Loading.{Loaded, All, Bad, Absent, and_then, file_read, loaded_as, most_bytes, move_file, moves_given, tree_file, tree_given, trees_given}
-use Rattle.bench_top.specs.Commands.{Replay}
-use Rattle.bench_top.specs.Outcome.{LoadedGives, Outcome}
+use Rattle.bench_outcomes.specs.Comparisons.{ScriptGives, Scripted}
+use Rattle.bench_tasks.specs.Loading.{Loaded, All, Bad, Absent, and_then, file_read, loaded_as, most_bytes, move_file, moves_given, tree_file, tree_given, trees_given}
+use Rattle.bench_tasks.specs.Commands.{Replay}
+use Rattle.bench_outcomes.specs.Outcome.{LoadedGives, Outcome}
 use Rattle.bench_top.specs.RoundTrips.{ReplaysScript}
-use Rattle.bench_top.specs.Tasks.{Task}
-use Rattle.bench_top.specs.Tasks as task
-use Rattle.bench_top.specs.declared.status.Status.{Status}
-use Rattle.bench_top.specs.declared.status.Status.TheVariants.{Done}
+use Rattle.bench_tasks.specs.Tasks.{Task}
+use Rattle.bench_tasks.specs.Tasks as task
+use Rattle.bench_outcomes.specs.declared.status.Status.{Status}
+use Rattle.bench_outcomes.specs.declared.status.Status.TheVariants.{Done}
 use Rattle.bench_top.proofs.Completeness.{status-once}
 use Rattle.bench_top.proofs.OneOutput.{output-once}
 use Rattle.bench_top.proofs.WrittenBack.{done-asks}

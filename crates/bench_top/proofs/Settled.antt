@@ -12,16 +12,16 @@ use Rattle.tree_check.specs.Replays.{IsStuckAt, IsRefusedMoveAt}
 use Rattle.tree_check.proofs.FirstRefusals.{refused-not_derived}
 use Rattle.ear_core.proofs.Refusing.{refusal-none}
 use Rattle.graph_text.specs.EitherVersion.{NamedGraph}
-use Rattle.bench_top.specs.Checks.{Refuses}
-use Rattle.bench_top.specs.Comparisons.{RefusesPair}
-use Rattle.bench_top.specs.Outcome.{DecomposeGives, ResultOf}
-use Rattle.bench_top.specs.Success.{Succeeds}
-use Rattle.bench_top.specs.Tasks.{Task}
-use Rattle.bench_top.specs.Tasks as task
+use Rattle.bench_outcomes.specs.Checks.{Refuses}
+use Rattle.bench_outcomes.specs.Comparisons.{RefusesPair}
+use Rattle.bench_outcomes.specs.Outcome.{DecomposeGives, ResultOf}
+use Rattle.bench_outcomes.specs.Success.{Succeeds}
+use Rattle.bench_tasks.specs.Tasks.{Task}
+use Rattle.bench_tasks.specs.Tasks as task
 use Rattle.tight_cuts.specs.Candidates.{Candidate}
 use Rattle.graph_core.specs.Covered.{IsCovered}
-use Rattle.bench_top.specs.declared.status.Status.{Status}
-use Rattle.bench_top.specs.declared.status.Status.TheVariants.{Done, Negative}
+use Rattle.bench_outcomes.specs.declared.status.Status.{Status}
+use Rattle.bench_outcomes.specs.declared.status.Status.TheVariants.{Done, Negative}
 
 -- done where the fact holds, and refused where not
 abbrev pub Settles : Type 0 → Status → Type 0

@@ -36,10 +36,10 @@ use Rattle.report_text.specs.Scripts.{moves_line, replayed_text}
 use Rattle.report_text.specs.Tallies.{IsTally, is_brick}
 use Rattle.report_text.specs.declared.tallies.Tally.{Tally}
 use Rattle.report_text.proofs.Comments.{commented-both, commented-line, commented-tail, stands-commented}
-use Rattle.bench_top.specs.EarChecks.{double_count, is_single, single_count}
+use Rattle.bench_outcomes.specs.EarChecks.{double_count, is_single, single_count}
 use Rattle.report_text.proofs.FewLeaves.{few-nodes}
-use Rattle.bench_top.proofs.DerivationTexts.{closed-tree_text, has-vertices}
-use Rattle.bench_top.proofs.EarSteps.{few-steps}
+use Rattle.bench_outcomes.proofs.DerivationTexts.{closed-tree_text, has-vertices}
+use Rattle.bench_outcomes.proofs.EarSteps.{few-steps}
 use Rattle.bench_top.proofs.ReadGraphs.{IsRead}
 
 -- the comment behind an ear list

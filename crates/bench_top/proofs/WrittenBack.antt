@@ -22,20 +22,20 @@ use Rattle.tree_check.proofs.ReplaySteps.{reached-derivation}
 use Rattle.move_text.specs.MoveFormat.{move_format}
 use Rattle.move_text.proofs.MovesRead.{writable-read}
 use Rattle.ear_text.specs.EarFormat.{ear_format}
-use Rattle.bench_top.specs.Commands.{Command, Check, CheckEars, Decompose, Ears, Grow, command_of, most_pieces, order_named}
-use Rattle.bench_top.specs.EarChecks.{EarsGives}
-use Rattle.bench_top.specs.Growths.{Grown}
-use Rattle.bench_top.specs.Loading.{Loaded, All, Bad, Absent, and_then, ear_file, file_read, from_reading, graph_file, loaded, loaded_as, most_bytes, move_file, moves_given, pick_file, tree_file, tree_given}
-use Rattle.bench_top.specs.Outcome.{CommandGives, DecomposeGives, LoadedGives, Outcome, ResultOf}
-use Rattle.bench_top.specs.Replays.{ReplayGives}
+use Rattle.bench_tasks.specs.Commands.{Command, Check, CheckEars, Decompose, Ears, Grow, command_of, most_pieces, order_named}
+use Rattle.bench_outcomes.specs.EarChecks.{EarsGives}
+use Rattle.bench_outcomes.specs.Growths.{Grown}
+use Rattle.bench_tasks.specs.Loading.{Loaded, All, Bad, Absent, and_then, ear_file, file_read, from_reading, graph_file, loaded, loaded_as, most_bytes, move_file, moves_given, pick_file, tree_file, tree_given}
+use Rattle.bench_outcomes.specs.Outcome.{CommandGives, DecomposeGives, LoadedGives, Outcome, ResultOf}
+use Rattle.bench_outcomes.specs.Replays.{ReplayGives}
 use Rattle.bench_top.specs.RoundTrips.{AsksDone}
-use Rattle.bench_top.specs.Tasks.{Task}
-use Rattle.bench_top.specs.Tasks as task
-use Rattle.bench_top.specs.declared.command.NamedOrder.{NamedOrder}
-use Rattle.bench_top.specs.declared.command.NamedOrder.TheVariants.{First}
-use Rattle.bench_top.specs.declared.status.Status.TheVariants.{Done}
+use Rattle.bench_tasks.specs.Tasks.{Task}
+use Rattle.bench_tasks.specs.Tasks as task
+use Rattle.bench_tasks.specs.declared.command.NamedOrder.{NamedOrder}
+use Rattle.bench_tasks.specs.declared.command.NamedOrder.TheVariants.{First}
+use Rattle.bench_outcomes.specs.declared.status.Status.TheVariants.{Done}
 use Rattle.bench_top.proofs.FileReads.{file_read-value}
-use Rattle.bench_top.proofs.GrownSizes.{few-edges, few-vertices, grown-multigraph}
+use Rattle.bench_outcomes.proofs.GrownSizes.{few-edges, few-vertices, grown-multigraph}
 use Rattle.bench_top.proofs.LoadedGraphs.{Holds, graph-holds, loaded-graph}
 use Rattle.bench_top.proofs.ReadGraphs.{HasGraph, IsRead}
 use Rattle.bench_top.proofs.Settled.{KeepsGraph, settled}

@@ -3,8 +3,8 @@
 -- without a perfect matching, or the perfect matching that crosses a refused cut.
 use Rattle.std.specs.Prelude.{◌≡◌, ◌⊎◌, ◌++◌, ℕ, List}
 use Rattle.report_text.specs.Reports.{numbers_text}
-use Rattle.bench_top.specs.Conducts.{Conduct, Writes, Tells, Needs, Chooses, conduct_of}
-use Rattle.bench_top.specs.Tasks.{Task}
+use Rattle.bench_outcomes.specs.Conducts.{Conduct, Writes, Tells, Needs, Chooses, conduct_of}
+use Rattle.bench_tasks.specs.Tasks.{Task}
 
 -- the numbers that a report may show by a conduct
 abbrev pub ShownBy : Conduct → List ℕ → Type 0

@@ -8,13 +8,13 @@ use Rattle.tree_core.specs.Shapes.{Shape, leaf_count}
 use Rattle.tree_text.specs.Writing.{tree_text}
 use Rattle.move_text.specs.Writing.{moves_text}
 use Rattle.report_text.specs.Scripts.{replayed_text, script_report_text}
-use Rattle.bench_top.specs.Commands.{Command, command_of}
-use Rattle.bench_top.specs.Loading.{All, loaded, trees_given}
-use Rattle.bench_top.specs.Outcome.{Outcome}
-use Rattle.bench_top.specs.Success.{Succeeds}
-use Rattle.bench_top.specs.Tasks.{Task}
-use Rattle.bench_top.specs.declared.status.Status.{Status}
-use Rattle.bench_top.specs.declared.status.Status.TheVariants.{Done}
+use Rattle.bench_tasks.specs.Commands.{Command, command_of}
+use Rattle.bench_tasks.specs.Loading.{All, loaded, trees_given}
+use Rattle.bench_outcomes.specs.Outcome.{Outcome}
+use Rattle.bench_outcomes.specs.Success.{Succeeds}
+use Rattle.bench_tasks.specs.Tasks.{Task}
+use Rattle.bench_outcomes.specs.declared.status.Status.{Status}
+use Rattle.bench_outcomes.specs.declared.status.Status.TheVariants.{Done}
 
 -- by these files the words ask for a task that succeeds; so `run` does it, where the outside does not fail and memory lasts
 pub record AsksDone (words : List (List ℕ)) (files : List Named) : Type 0 where

@@ -2,15 +2,16 @@
 ghost use Rattle.std.specs.Prelude.{◌≡◌, ◌⊎◌, ◌↔◌, ℕ, List, [], map, string_bytes, Some, None};
 ghost use Rattle.outside.specs.MemShelf.{IsRead};
 ghost use Rattle.outside.specs.Shelf.{ReadsFirst, ReadsInTurn};
-ghost use Rattle.bench_top.specs.Commands.{Command, command_of};
-ghost use Rattle.bench_top.specs.Loading.{All, Bad, Absent, loaded};
-ghost use Rattle.bench_top.specs.Outcome.{IsReported, IsSettled, MayRefuse, Outcome};
-ghost use Rattle.bench_top.specs.Reads.{file_names, names_in, names_until};
-ghost use Rattle.bench_top.specs.Success.{Succeeds};
-ghost use Rattle.bench_top.specs.Tasks.{Task};
+ghost use Rattle.bench_tasks.specs.Commands.{Command, command_of};
+ghost use Rattle.bench_tasks.specs.Loading.{All, Bad, Absent, loaded};
+ghost use Rattle.bench_outcomes.specs.Outcome.{IsReported, IsSettled, Outcome};
+ghost use Rattle.bench_tasks.specs.Refusing.{MayRefuse};
+ghost use Rattle.bench_tasks.specs.Reads.{file_names, names_in, names_until};
+ghost use Rattle.bench_outcomes.specs.Success.{Succeeds};
+ghost use Rattle.bench_tasks.specs.Tasks.{Task};
 
 use crate::running::run;
-use crate::status::Status;
+use bench_outcomes::Status;
 use outside::{CountSink, MemShelf};
 use std::alloc::Global;
 

@@ -1,14 +1,14 @@
 //! Laws of what the commands give.
 ghost use Rattle.std.specs.Prelude.{◌≡◌, ◌↔◌, ℕ, List, Some};
 ghost use Rattle.outside.specs.Shelf.{Named};
-ghost use Rattle.bench_top.specs.Commands.{Command, command_of};
+ghost use Rattle.bench_tasks.specs.Commands.{Command, command_of};
 ghost use Rattle.bench_top.specs.Fixed.{DifferAtMostIn, HasChosenText, HasOneOutput, MayShow, ShowsNothingFree};
-ghost use Rattle.bench_top.specs.Loading.{All, loaded};
-ghost use Rattle.bench_top.specs.Outcome.{Outcome};
-ghost use Rattle.bench_top.specs.Success.{Succeeds};
-ghost use Rattle.bench_top.specs.Tasks.{Task};
-ghost use Rattle.bench_top.specs.declared.status.Status.{Status};
-ghost use Rattle.bench_top.specs.declared.status.Status.TheVariants.{BadInput, Done, Negative};
+ghost use Rattle.bench_tasks.specs.Loading.{All, loaded};
+ghost use Rattle.bench_outcomes.specs.Outcome.{Outcome};
+ghost use Rattle.bench_outcomes.specs.Success.{Succeeds};
+ghost use Rattle.bench_tasks.specs.Tasks.{Task};
+ghost use Rattle.bench_outcomes.specs.declared.status.Status.{Status};
+ghost use Rattle.bench_outcomes.specs.declared.status.Status.TheVariants.{BadInput, Done, Negative};
 
 /// Good files settle the status: it is Done exactly where the task succeeds (`Succeeds`), and Negative exactly where it does not.
 pub fn completeness_law()

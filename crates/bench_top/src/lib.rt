@@ -8,33 +8,16 @@
 //! task succeeds (`Succeeds`), and that words and files decide the status and, where it is not free, the output; `written_back`, that
 //! mcg reads what it writes.
 //!
-//! Stands on all crates below: the texts, the engine, the reports, and `outside` for the shelf and the sink.
+//! Stands on `bench_tasks` for the words and the files, on `bench_outcomes` for what they stand for, on `bench_reports` for the
+//! reports, and on `outside` for the shelf and the sink. The laws also stand on those of the texts and of the engine.
 #![tactic(auto)]
 
-mod checking;
-mod command;
-mod comparing;
-mod decomposing;
-mod ear_checking;
-mod formats;
-mod gather;
-mod growing;
 mod in_memory;
-mod judge;
 pub mod laws;
-mod naming;
 mod performing;
-mod replaying;
-mod report;
 mod running;
-mod status;
-mod stop;
-mod structures;
-mod tasks;
-mod uncovered;
-mod words;
 pub mod written_back;
 
+pub use bench_outcomes::Status;
 pub use in_memory::run_in_memory;
 pub use running::run;
-pub use status::Status;

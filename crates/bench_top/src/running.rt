@@ -2,17 +2,18 @@
 ghost use Rattle.std.specs.Prelude.{◌≡◌, ◌⊎◌, ◌↔◌, ℕ, List, map, string_bytes, IsTrue, Some, None};
 ghost use Rattle.outside.specs.Faults.{Rose};
 ghost use Rattle.outside.specs.Shelf.{Named, ReadsFirst, ReadsInTurn};
-ghost use Rattle.bench_top.specs.Commands.{Command, command_of};
-ghost use Rattle.bench_top.specs.Tasks.{Task};
-ghost use Rattle.bench_top.specs.Loading.{All, Bad, Absent, loaded};
-ghost use Rattle.bench_top.specs.Outcome.{Outcome, Appended, CutShort, IsReported, IsSettled, MayRefuse};
-ghost use Rattle.bench_top.specs.Reads.{HasRead, file_names, names_in, names_until};
-ghost use Rattle.bench_top.specs.Success.{Succeeds};
-ghost use Rattle.bench_top.specs.Calm.{IsCalm};
+ghost use Rattle.bench_tasks.specs.Commands.{Command, command_of};
+ghost use Rattle.bench_tasks.specs.Tasks.{Task};
+ghost use Rattle.bench_tasks.specs.Loading.{All, Bad, Absent, loaded};
+ghost use Rattle.bench_outcomes.specs.Outcome.{Outcome, Appended, CutShort, IsReported, IsSettled};
+ghost use Rattle.bench_tasks.specs.Refusing.{MayRefuse};
+ghost use Rattle.bench_tasks.specs.Reads.{file_names, names_in, names_until};
+ghost use Rattle.bench_outcomes.specs.Success.{Succeeds};
+ghost use Rattle.bench_top.specs.Calm.{HasRead, IsCalm};
 
 use crate::performing::perform;
-use crate::status::Status;
-use crate::words::command_of;
+use bench_outcomes::Status;
+use bench_tasks::command_of;
 use outside::{Shelf, Sink};
 use std::alloc::Global;
 

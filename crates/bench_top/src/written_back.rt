@@ -4,11 +4,11 @@
 //! them asks for a task that succeeds (`AsksDone`), so that `run` answers Done wherever the outside does not fail and memory lasts.
 ghost use Rattle.std.specs.Prelude.{◌≡◌, ◌≤◌, ℕ, List, [], ◌∷◌, codes, length, Some};
 ghost use Rattle.outside.specs.Shelf.{Named, file_named};
-ghost use Rattle.bench_top.specs.Loading.{most_bytes};
-ghost use Rattle.bench_top.specs.Outcome.{Outcome};
+ghost use Rattle.bench_tasks.specs.Loading.{most_bytes};
+ghost use Rattle.bench_outcomes.specs.Outcome.{Outcome};
 ghost use Rattle.bench_top.specs.RoundTrips.{AsksDone, ReplaysScript};
-ghost use Rattle.bench_top.specs.declared.status.Status.{Status};
-ghost use Rattle.bench_top.specs.declared.status.Status.TheVariants.{Done};
+ghost use Rattle.bench_outcomes.specs.declared.status.Status.{Status};
+ghost use Rattle.bench_outcomes.specs.declared.status.Status.TheVariants.{Done};
 
 /// What `decompose` writes of a matching covered graph, by a named order or by picks, `check` accepts.
 pub fn checked_decomposition_law()

@@ -1,8 +1,8 @@
 use Rattle.std.proofs.Common.{List, ℕ, ◌≡◌, length, take, subst, ap, Err, ◌<◌}
 use Rattle.outside.specs.Sink.{appended}
-use Rattle.bench_top.specs.Asked.{asked}
-use Rattle.bench_top.specs.Loading.{loaded}
-use Rattle.bench_top.specs.Reads.{file_names}
+use Rattle.bench_tasks.specs.Asked.{asked}
+use Rattle.bench_tasks.specs.Loading.{loaded}
+use Rattle.bench_tasks.specs.Reads.{file_names}
 use Rattle.bench_top.proofs.ReadsMade.{absent-fault, first-reads}
 use Rattle.bench_top.proofs.performing.perform.Goals as goal
 
@@ -21,11 +21,11 @@ returns-clause-asks g c =
 pub returns-clause-missing : goal.returns-clause-missing
 returns-clause-missing g c = λ files told fault steady.
     absent-fault (g.S.Shelf.steady c.args.shelf.now) c.gather-gathered.result (loaded files (asked c.args.command)) (c.in-Err.ensures.read_fault.0 (ap Err fault)) steady
-    (c.gather-gathered.ensures.absent files told)
+    (c.gather-gathered.ensures.loads.absent files told)
 
 pub returns-in-Ok-clause-cut : goal.returns-in-Ok-clause-cut
 returns-in-Ok-clause-cut g c = λ files told fault.
-    let held = c.gather-gathered.ensures.loads files told in
+    let held = c.gather-gathered.ensures.loads.loads files told in
     let cut = c.in-Err-emit.ensures.err in
     record {
       status = c.in-Ok.report.status;

@@ -1,10 +1,10 @@
 use Rattle.std.proofs.Common.{◌≡◌, ◌∙◌, map, Option, Some, ap, inl, inr, rules, subst, sym}
 use Rattle.std.proofs.lemmas.Option.{same_Some}
 use Rattle.std.specs.Prelude.{string_bytes}
-use Rattle.bench_top.specs.Asked.{asked}
-use Rattle.bench_top.specs.Commands.{Command, command_of}
-use Rattle.bench_top.specs.Loading.{All, Absent, loaded}
-use Rattle.bench_top.specs.Outcome.{CommandGives, CutShort}
+use Rattle.bench_tasks.specs.Asked.{asked}
+use Rattle.bench_tasks.specs.Commands.{Command, command_of}
+use Rattle.bench_tasks.specs.Loading.{All, Absent, loaded}
+use Rattle.bench_outcomes.specs.Outcome.{CommandGives, CutShort}
 use Rattle.bench_top.proofs.Completeness.{done-given, done-or_memory}
 use Rattle.bench_top.proofs.running.run.Goals as goal
 

@@ -1,0 +1,3 @@
+pub mod DerivationTexts
+pub mod EarSteps
+pub mod GrownSizes

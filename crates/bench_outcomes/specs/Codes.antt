@@ -1,0 +1,14 @@
+-- The codes of the statuses.
+use Rattle.std.specs.Prelude.{ℕ}
+use Rattle.bench_outcomes.specs.declared.status.Status.{Status}
+use Rattle.bench_outcomes.specs.declared.status.Status.TheVariants.{Done, Negative, Usage, ReadFault, BadInput, WriteFault, Memory}
+
+-- the code with which the program ends
+abbrev pub code_of : Status → ℕ
+code_of Done = 0
+code_of Negative = 1
+code_of Usage = 2
+code_of ReadFault = 3
+code_of BadInput = 4
+code_of WriteFault = 5
+code_of Memory = 6

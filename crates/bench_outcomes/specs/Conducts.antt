@@ -1,0 +1,46 @@
+-- How each task behaves, said once: whether it may be refused and where it is done, whether its text is chosen, and which lists of numbers
+-- its report may show. Where a task succeeds (`Success`) and what is free in a report (`Fixed` of `bench_top`) are read off this.
+use Rattle.std.specs.Prelude.{ℕ, List}
+use Rattle.graph_core.specs.Covered.{IsCovered}
+use Rattle.graph_core.specs.Graph.{Graph}
+use Rattle.tree_core.specs.Derivations.{IsDerivation}
+use Rattle.tree_core.specs.Moves.{PlainMove, TurnsThrough}
+use Rattle.tree_core.specs.Shapes.{Shape}
+use Rattle.ear_core.specs.EarLists.{IsEarList}
+use Rattle.bench_outcomes.specs.Shown.{MayBeBerge, MayShowOfTree, MayShowOfMoves, MayShowOfTwo}
+use Rattle.bench_tasks.specs.Tasks.{Task}
+use Rattle.bench_tasks.specs.Tasks as task
+
+-- the ways to behave; what may be shown are numbers of which there may be many
+pub data Conduct : Type 1 where
+  -- always done, with one output: to convert a graph, to grow one
+  Writes : Conduct
+  -- always done, with one output but for such numbers: to analyse a graph
+  Tells : (shown : List ℕ → Type 0) → Conduct
+  -- done where the fact holds, with one output, and else refused, for a reason that may show such numbers: to decompose, to check, to replay
+  Needs : (fact : Type 0) (shown : List ℕ → Type 0) → Conduct
+  -- the same, but where it is done any right text may be written: to find an ear list, a script or a pairing
+  Chooses : (fact : Type 0) (shown : List ℕ → Type 0) → Conduct
+
+-- both trees are derivations of the graph
+abbrev pub AreDerivations : Graph → (first second : Shape) → Type 0
+AreDerivations g first second = IsDerivation g first × IsDerivation g second
+
+-- the tree is a derivation of the graph, and the moves lead through derivations to a last one
+abbrev pub LeadsOn : Graph → Shape → List PlainMove → Type 0
+LeadsOn g tree moves = IsDerivation g tree × ((last : Shape) × TurnsThrough g tree moves last)
+
+-- the table of tasks: one line for each command
+abbrev pub conduct_of : Task → Conduct
+conduct_of (task.Analyse named) = Tells (MayBeBerge named.graph)
+conduct_of (task.Convert named) = Writes
+conduct_of (task.Analyse6 g) = Tells (MayBeBerge g)
+conduct_of (task.Decompose named order) = Needs (IsCovered named.graph) (MayBeBerge named.graph)
+conduct_of (task.DecomposeBy named picks) = Needs (IsCovered named.graph) (MayBeBerge named.graph)
+conduct_of (task.Check named tree) = Needs (IsDerivation named.graph tree) (MayShowOfTree named.graph tree)
+conduct_of (task.CheckEars named list) = Needs (IsCovered named.graph × IsEarList named.graph list) (MayBeBerge named.graph)
+conduct_of (task.Ears named) = Chooses (IsCovered named.graph) (MayBeBerge named.graph)
+conduct_of (task.Replay named tree moves) = Needs (LeadsOn named.graph tree moves) (MayShowOfMoves named.graph tree moves)
+conduct_of (task.Compare named first second) = Chooses (AreDerivations named.graph first second) (MayShowOfTwo named.graph first second)
+conduct_of (task.Script named first second) = Chooses (AreDerivations named.graph first second) (MayShowOfTwo named.graph first second)
+conduct_of (task.Grow seed pieces) = Writes

@@ -1,0 +1,82 @@
+-- What is told of ear lists of a graph: of one that is given whether it is an ear list, and of one that is built its text.
+use Rattle.std.specs.Prelude.{◌≡◌, ◌⊎◌, ℕ, List, length, count_by, not, Bool, true, false, Option, Some, None}
+use Rattle.std.specs.List.{AllByRecursion}
+use Rattle.graph_core.specs.Covered.{IsCovered}
+use Rattle.graph_core.specs.Graph.{Graph, size, IsBipartite}
+use Rattle.ear_core.specs.EarLists.{PlainEars, PlainStep, one, two, IsEarList, IsSingle}
+use Rattle.ear_core.specs.EarTests.{Why, not_path, even_length, bad_ends, inner_on_stage, edge_used, stage_not_covered, ends_early}
+use Rattle.ear_core.specs.Refusals.{IsRefused}
+use Rattle.ear_text.specs.Writing.{ears_text}
+use Rattle.report_text.specs.EarReports.{ears_report_text}
+use Rattle.report_text.specs.Judgements.{ear_judgement_text}
+use Rattle.report_text.specs.declared.ear_judgements.EarLine.TheVariants as line
+use Rattle.bench_outcomes.specs.Uncovered.{Uncovered}
+use Rattle.bench_outcomes.specs.declared.status.Status.{Status}
+use Rattle.bench_outcomes.specs.declared.status.Status.TheVariants.{Done, Negative}
+
+-- the step adds one ear
+abbrev pub is_single : PlainStep → Bool
+is_single (one a) = true
+is_single (two a b) = false
+
+-- how many steps add one ear
+abbrev pub single_count : List PlainStep → ℕ
+single_count steps = count_by is_single steps
+
+-- how many add two
+abbrev pub double_count : List PlainStep → ℕ
+double_count steps = count_by (λ step. not (is_single step)) steps
+
+-- the numbers of the reasons
+abbrev pub why_number : Why → ℕ
+why_number not_path = 1
+why_number even_length = 2
+why_number bad_ends = 3
+why_number inner_on_stage = 4
+why_number edge_used = 5
+why_number (stage_not_covered e) = 6
+why_number (ends_early e) = 7
+
+-- the edge that a reason names, if it names one
+abbrev pub named_edge : Why → Option ℕ
+named_edge not_path = None
+named_edge even_length = None
+named_edge bad_ends = None
+named_edge inner_on_stage = None
+named_edge edge_used = None
+named_edge (stage_not_covered e) = Some e
+named_edge (ends_early e) = Some e
+
+-- it is an ear list of the covered graph: the output counts its steps
+pub record AcceptedEars (g : Graph) (list : PlainEars) (status : Status) (output : List ℕ) : Type 0 where
+  pub covered : IsCovered g
+  pub is : IsEarList g list
+  pub done : status ≡ Done
+  pub text : output ≡ ear_judgement_text (line.Accepted (length list.steps) (single_count list.steps) (double_count list.steps))
+
+-- it is none: the output is its first refusal
+pub record RefusedEars (g : Graph) (list : PlainEars) (status : Status) (output : List ℕ) : Type 0 where
+  pub covered : IsCovered g
+  pub step : ℕ
+  pub why : Why
+  pub refused : IsRefused g list step why
+  pub negative : status ≡ Negative
+  pub text : output ≡ ear_judgement_text (line.Refused step (why_number why) (named_edge why))
+
+-- what `checkears` gives
+abbrev pub EarCheckGives : Graph → PlainEars → Status → List ℕ → Type 0
+EarCheckGives g list status output = AcceptedEars g list status output ⊎ (RefusedEars g list status output ⊎ Uncovered g status output)
+
+-- an ear list of the covered graph, of single ears where the graph is bipartite: the output is its text, and then the numbers of its steps as a
+-- comment
+pub record BuiltEars (g : Graph) (status : Status) (output : List ℕ) : Type 0 where
+  pub covered : IsCovered g
+  pub list : PlainEars
+  pub is : IsEarList g list
+  pub single : IsBipartite g → AllByRecursion IsSingle list.steps
+  pub done : status ≡ Done
+  pub text : output ≡ ears_report_text (ears_text g.order (size g) list) (length list.steps) (single_count list.steps) (double_count list.steps)
+
+-- what `ears` gives: of a covered graph an ear list, and of any other the reason
+abbrev pub EarsGives : Graph → Status → List ℕ → Type 0
+EarsGives g status output = BuiltEars g status output ⊎ Uncovered g status output

@@ -1,0 +1,45 @@
+-- What is told of a graph that grows from a seed: its text, the leaves of its decompositions by the first and by the last candidates,
+-- counted, and how many of them are paired.
+use Rattle.std.specs.Prelude.{◌≡◌, ℕ, List, length}
+use Rattle.graph_core.specs.Graph.{Graph}
+use Rattle.graph_text.specs.Writing.{graph_text}
+use Rattle.grow_gen.specs.Growth.{grown}
+use Rattle.tight_cuts.specs.Candidates.{Candidate}
+use Rattle.decomposer.specs.Picked.{IsPicked}
+use Rattle.tree_core.specs.Derivations.{IsDerivation}
+use Rattle.tree_core.specs.LeafMaps.{PlainLeafMap}
+use Rattle.tree_core.specs.Leaves.{leaves}
+use Rattle.tree_core.specs.Shapes.{Shape}
+use Rattle.move_laws.specs.Pairings.{IsPairing}
+use Rattle.report_text.specs.Growths.{grown_text}
+use Rattle.report_text.specs.Tallies.{IsTally}
+use Rattle.report_text.specs.declared.tallies.Tally.{Tally}
+use Rattle.bench_outcomes.specs.Orders.{NamedPicks}
+use Rattle.bench_tasks.specs.declared.command.NamedOrder.TheVariants.{First, Last}
+use Rattle.bench_outcomes.specs.declared.status.Status.{Status}
+use Rattle.bench_outcomes.specs.declared.status.Status.TheVariants.{Done}
+
+-- the tree is the derivation of the graph that an order picks, and the tally counts its leaves
+pub record IsCounted (picks : List Candidate → ℕ → ℕ → Type 0) (g : Graph) (t : Shape) (tally : Tally) : Type 0 where
+  pub derivation : IsDerivation g t
+  pub picked : IsPicked picks g t
+  pub counts : IsTally g (leaves g.order t) tally
+
+-- the leaves of the two derivations are paired, and there are so many pairs
+pub record ArePaired (g : Graph) (s t : Shape) (pairs : ℕ) : Type 0 where
+  pub maps : List PlainLeafMap
+  pub paired : IsPairing g (leaves g.order s) (leaves g.order t) maps
+  pub so_many : pairs ≡ length maps
+
+-- what `grow` gives: the text of the graph, and then as comments the leaves of two decompositions, and how many are paired
+pub record Grown (seed pieces : ℕ) (status : Status) (output : List ℕ) : Type 0 where
+  pub s : Shape
+  pub first : Tally
+  pub by_first : IsCounted (NamedPicks First) (grown seed pieces) s first
+  pub t : Shape
+  pub last : Tally
+  pub by_last : IsCounted (NamedPicks Last) (grown seed pieces) t last
+  pub pairs : ℕ
+  pub paired : ArePaired (grown seed pieces) s t pairs
+  pub done : status ≡ Done
+  pub text : output ≡ grown_text (graph_text (grown seed pieces)) first last pairs

@@ -1,0 +1,13 @@
+pub mod Codes
+pub mod Orders
+pub mod Shown
+pub mod Conducts
+pub mod Facts
+pub mod Uncovered
+pub mod Checks
+pub mod EarChecks
+pub mod Replays
+pub mod Comparisons
+pub mod Growths
+pub mod Outcome
+pub mod Success

@@ -1,0 +1,142 @@
+-- Which status and which output the words and the files stand for. A named file that is not held fits no case.
+use Rattle.std.specs.Prelude.{◌≡◌, ℕ, ◌<◌, ◌⊎◌, List, length, take, Bool, true, false}
+use Rattle.std.specs.declared.option.Option.{Option}
+use Rattle.std.specs.declared.option.Option.TheVariants.{Some, None}
+use Rattle.outside.specs.Shelf.{Named}
+use Rattle.outside.specs.Sink.{appended}
+use Rattle.graph_core.specs.Graph.{Graph}
+use Rattle.line_text.specs.Format.{Stands}
+use Rattle.graph_text.specs.EitherVersion.{NamedGraph, either_version}
+use Rattle.graph_text.specs.Names.{plain_names}
+use Rattle.graph_text.specs.Writing.{named_text}
+use Rattle.graph6_text.specs.Writing.{graph6_of}
+use Rattle.tight_cuts.specs.Candidates.{Candidate}
+use Rattle.tree_core.specs.Derivations.{IsDerivation}
+use Rattle.tree_core.specs.Leaves.{leaves}
+use Rattle.tree_core.specs.Shapes.{Shape}
+use Rattle.tree_text.specs.TreeFormat.{tree_format}
+use Rattle.tree_text.specs.Writing.{tree_text}
+use Rattle.decomposer.specs.Picked.{IsPicked}
+use Rattle.report_text.specs.Analyses.{analysis_text}
+use Rattle.report_text.specs.Derivations.{derivation_text}
+use Rattle.report_text.specs.Reports.{bad_input_text, with_names_text, graph6_line}
+use Rattle.report_text.specs.Tallies.{AreLeafKinds}
+use Rattle.report_text.specs.declared.analyses.AnalysisLines.{AnalysisLines}
+use Rattle.report_text.specs.declared.tallies.LeafKind.{LeafKind}
+use Rattle.bench_tasks.specs.Commands.{Command, command_of}
+use Rattle.bench_outcomes.specs.Orders.{NamedPicks, ScriptPicks}
+use Rattle.bench_outcomes.specs.Uncovered.{Uncovered}
+use Rattle.bench_outcomes.specs.Checks.{CheckGives}
+use Rattle.bench_outcomes.specs.EarChecks.{EarCheckGives, EarsGives}
+use Rattle.bench_outcomes.specs.Replays.{ReplayGives}
+use Rattle.bench_outcomes.specs.Comparisons.{CompareGives, ScriptGives}
+use Rattle.bench_outcomes.specs.Growths.{Grown}
+use Rattle.bench_tasks.specs.Tasks.{Task}
+use Rattle.bench_tasks.specs.Tasks as task
+use Rattle.bench_tasks.specs.Loading.{Loaded, All, Bad, Absent, loaded}
+use Rattle.bench_outcomes.specs.Facts.{IsAnalysis}
+use Rattle.bench_outcomes.specs.declared.status.Status.{Status}
+use Rattle.bench_outcomes.specs.declared.status.Status.TheVariants.{Done, Negative, BadInput}
+
+-- a report, and then the names of the vertices where the graph has names; each may be a comment
+abbrev pub with_given_names : List ℕ → Option (List (List ℕ)) → (comments : Bool) → List ℕ
+with_given_names report None comments = report
+with_given_names report (Some names) comments = with_names_text report names comments
+
+-- the names of the vertices of a graph of that order, or the plain ones where it has none
+abbrev pub given_or_plain : ℕ → Option (List (List ℕ)) → List (List ℕ)
+given_or_plain order None = plain_names order
+given_or_plain order (Some names) = names
+
+-- the structure of a graph: the output is the text of lines that are right, and then the names
+pub record Analysed (named : NamedGraph) (status : Status) (output : List ℕ) : Type 0 where
+  pub lines : AnalysisLines
+  pub right : IsAnalysis named.graph lines
+  pub done : status ≡ Done
+  pub text : output ≡ with_given_names (analysis_text lines) named.names false
+
+-- the canonical text of a graph with its names or the plain ones; it stands for the graph with these names
+pub record Converted (named : NamedGraph) (status : Status) (output : List ℕ) : Type 0 where
+  pub done : status ≡ Done
+  pub text : output ≡ named_text named.graph (given_or_plain named.graph.order named.names)
+  pub stands : Stands either_version output (record { graph = named.graph; names = Some (given_or_plain named.graph.order named.names) })
+
+-- the structure of a simple graph, and then its graph6 text
+pub record Analysed6 (g : Graph) (status : Status) (output : List ℕ) : Type 0 where
+  pub lines : AnalysisLines
+  pub right : IsAnalysis g lines
+  pub done : status ≡ Done
+  pub text : output ≡ graph6_line (analysis_text lines) (graph6_of g)
+
+-- the tree is a derivation of the graph, and the output is its text, and then as comments its leaves, each with its right kind, and the
+-- names of the vertices where the graph has names; as a text of a derivation it stands for the tree
+pub record TellsDerivation (named : NamedGraph) (tree : Shape) (status : Status) (output : List ℕ) : Type 0 where
+  pub derivation : IsDerivation named.graph tree
+  pub kinds : List LeafKind
+  pub right : AreLeafKinds named.graph (leaves named.graph.order tree) kinds
+  pub done : status ≡ Done
+  pub text : output ≡ with_given_names (derivation_text (tree_text named.graph.order tree) named.graph (leaves named.graph.order tree) kinds) named.names true
+  pub stands : Stands (tree_format named.graph.order) output tree
+
+-- the decomposition of a covered graph by tight cuts: a derivation of it is told, which is the tree that the order picks
+pub record Decomposed (picks : List Candidate → ℕ → ℕ → Type 0) (named : NamedGraph) (status : Status) (output : List ℕ) : Type 0 where
+  pub tree : Shape
+  pub picked : IsPicked picks named.graph tree
+  pub told : TellsDerivation named tree status output
+
+-- what `decompose` gives by an order that picks so: of a covered graph a derivation, and of any other the reason
+abbrev pub DecomposeGives : (List Candidate → ℕ → ℕ → Type 0) → NamedGraph → Status → List ℕ → Type 0
+DecomposeGives picks named status output = Decomposed picks named status output ⊎ Uncovered named.graph status output
+
+-- what a command gives for what it works on: one case for each row of the table of words
+abbrev pub ResultOf : Task → Status → List ℕ → Type 0
+ResultOf (task.Analyse named) status output = Analysed named status output
+ResultOf (task.Convert named) status output = Converted named status output
+ResultOf (task.Analyse6 g) status output = Analysed6 g status output
+ResultOf (task.Decompose named order) status output = DecomposeGives (NamedPicks order) named status output
+ResultOf (task.DecomposeBy named picks) status output = DecomposeGives (ScriptPicks picks) named status output
+ResultOf (task.Check named tree) status output = CheckGives named.graph tree status output
+ResultOf (task.CheckEars named list) status output = EarCheckGives named.graph list status output
+ResultOf (task.Ears named) status output = EarsGives named.graph status output
+ResultOf (task.Replay named tree moves) status output = ReplayGives named.graph tree moves status output
+ResultOf (task.Compare named first second) status output = CompareGives named.graph first second status output
+ResultOf (task.Script named first second) status output = ScriptGives named.graph first second status output
+ResultOf (task.Grow seed pieces) status output = Grown seed pieces status output
+
+-- what a command gives for what its files hold
+abbrev pub LoadedGives : Loaded Task → Status → List ℕ → Type 0
+LoadedGives (All given) status output = ResultOf given status output
+LoadedGives (Bad file line kind) status output = (status ≡ BadInput) × (output ≡ bad_input_text file line kind)
+LoadedGives (Absent file) status output = ⊥
+
+-- the same for the words, which may match no row
+abbrev pub CommandGives : List Named → Option Command → Status → List ℕ → Type 0
+CommandGives files None status output = ⊥
+CommandGives files (Some command) status output = LoadedGives (loaded files command) status output
+
+-- the words and the files stand for this status and this output
+abbrev pub Outcome : List (List ℕ) → List Named → Status → List ℕ → Type 0
+Outcome words files status output = CommandGives files (command_of words) status output
+
+-- the output of some outcome of this status was appended to what the sink had
+pub record Appended (gives : Status → List ℕ → Type 0) (status : Status) (before now : Option (List ℕ)) : Type 0 where
+  pub output : List ℕ
+  pub outcome : gives status output
+  pub written : now ≡ appended before output
+
+-- a proper prefix of the output of some outcome was appended to what the sink had
+pub record CutShort (gives : Status → List ℕ → Type 0) (before now : Option (List ℕ)) : Type 0 where
+  pub status : Status
+  pub output : List ℕ
+  pub count : ℕ
+  pub outcome : gives status output
+  pub less : count < length output
+  pub written : now ≡ appended before (take count output)
+
+-- a run that wrote its report: done, refused, or with a bad file named
+abbrev pub IsReported : Status → Type 0
+IsReported status = (status ≡ Done) ⊎ ((status ≡ Negative) ⊎ (status ≡ BadInput))
+
+-- a run that wrote its report on good files: done or refused
+abbrev pub IsSettled : Status → Type 0
+IsSettled status = (status ≡ Done) ⊎ (status ≡ Negative)

@@ -1,0 +1,31 @@
+//! The statuses of a run.
+ghost use Rattle.std.specs.Prelude.{◌≡◌};
+ghost use Rattle.bench_outcomes.specs.Codes.{code_of};
+
+/// How a run ended.
+#[derive(Clone, Copy, Debug, PartialEq, Eq)]
+pub enum Status {
+    /// The whole report was written, and no other status applies.
+    Done,
+    /// The report says that the graph is not matching covered, that a tree or a list is not what it claims to be, or that a move fails.
+    Negative,
+    /// The words match no command; nothing was read or written.
+    Usage,
+    /// A file could not be read; nothing was written.
+    ReadFault,
+    /// A file is too long or outside its format; the report is one line.
+    BadInput,
+    /// The output could not be written whole; a part of it may have been.
+    WriteFault,
+    /// Memory ran out; nothing was written.
+    Memory,
+}
+
+impl Status {
+    /// The code with which the program ends. Takes no memory.
+    pub fn code(self) -> u8
+        ensures { result ≡ code_of self }
+    {
+        self as u8
+    }
+}

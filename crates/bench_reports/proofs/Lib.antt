@@ -1,0 +1,7 @@
+pub mod Sizes
+pub mod PickedTrees
+pub mod GivenFacts
+pub mod ScriptMoves
+pub mod ScriptTexts
+pub mod PairLines
+pub mod Reported

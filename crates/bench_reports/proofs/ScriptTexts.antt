@@ -1,0 +1,57 @@
+-- A text that stands for a value stands for it with comments behind it, and so the report on a script stands for the script.
+use Rattle.std.proofs.Common.{◌≡◌, ◌∙◌, ℕ, ◌<◌, ◌^◌, List, [], ◌∷◌, ◌++◌, map, true, length, ap, ap₂, refl, sym, subst, append_assoc}
+use Rattle.std.specs.Prelude.{codes}
+use Rattle.std.specs.Fmt.{decimal}
+use Rattle.line_text.specs.Format.{Stands}
+use Rattle.line_text.specs.Lines.{is_closed}
+use Rattle.line_text.specs.Words.{written, unwords}
+use Rattle.line_text.proofs.Decimals.{is_word-decimal}
+use Rattle.line_text.proofs.ReadBack.{AreSkipped-written, Stands-comments, is_closed-unlines}
+use Rattle.graph_core.specs.Graph.{Graph}
+use Rattle.tree_core.specs.Moves.{PlainMove}
+use Rattle.tree_core.specs.Shapes.{Shape, leaf_count}
+use Rattle.move_text.specs.MoveFormat.{move_format}
+use Rattle.move_text.specs.Writing.{header_words, move_words, moves_text}
+use Rattle.report_text.specs.Scripts.{script_line, script_report_text}
+use Rattle.bench_outcomes.specs.Comparisons.{IsScript, Scripted}
+use Rattle.bench_outcomes.specs.declared.status.Status.TheVariants.{Done}
+
+-- the words of the comment behind a script
+abbrev comment_words : (leaves moves : ℕ) → List (List ℕ)
+comment_words leaves moves = codes "c" ∷ codes "leaves" ∷ decimal leaves ∷ codes "moves" ∷ decimal moves ∷ []
+
+-- it is written so
+line-written : (leaves moves : ℕ) → script_line leaves moves ≡ written (comment_words leaves moves ∷ [])
+line-written leaves moves = simp append_assoc
+
+-- a text of moves ends with a line feed
+moves-closed : (n : ℕ) (moves : List PlainMove) → is_closed (moves_text n moves) ≡ true
+unfolding moves_text
+moves-closed n moves = is_closed-unlines (map unwords (header_words n ∷ map move_words moves))
+
+-- the report stands for what the text of the moves stands for
+pub stands-report : (n leaves count : ℕ) (moves : List PlainMove) → leaves < 10 ^ 9 → count < 10 ^ 9 → Stands (move_format n) (moves_text n moves) moves → Stands (move_format n) (script_report_text (moves_text n moves) leaves count) moves
+unfolding script_report_text
+stands-report n leaves count moves few_leaves few_moves stands =
+    subst (λ (line : List ℕ). Stands (move_format n) (moves_text n moves ++ line) moves) (sym (line-written leaves count))
+    (Stands-comments (move_format n) (moves_text n moves) (written (comment_words leaves count ∷ [])) moves (moves-closed n moves)
+    (AreSkipped-written (comment_words leaves count ∷ [])
+    (record { skipped = refl; each = (refl, (refl, (is_word-decimal leaves few_leaves, (refl, (is_word-decimal count few_moves, tt))))) }, tt)) stands)
+
+-- and so the report tells the script
+pub scripted : (g : Graph) (s t : Shape) (moves : List PlainMove) (n leaves count : ℕ) (text shown output : List ℕ) →
+    IsScript g s t moves → leaves < 10 ^ 9 → count < 10 ^ 9 → n ≡ g.order → leaves ≡ leaf_count s → count ≡ length moves →
+    text ≡ moves_text n moves → shown ≡ text → Stands (move_format n) text moves → output ≡ script_report_text shown leaves count → Scripted g s t Done output
+scripted g s t moves n leaves count text shown output script few_leaves few_moves n_is leaves_are count_is text_is shown_is stands output_is = record {
+  moves = moves;
+  script = script;
+  done = refl;
+  text = whole;
+  stands = subst (λ (o : List ℕ). Stands (move_format g.order) o moves) (sym whole)
+      (stands-report g.order (leaf_count s) (length moves) moves (subst (λ (k : ℕ). k < 10 ^ 9) leaves_are few_leaves) (subst (λ (k : ℕ). k < 10 ^ 9) count_is few_moves)
+      (subst (λ (k : ℕ). Stands (move_format k) (moves_text k moves) moves) n_is (subst (λ (x : List ℕ). Stands (move_format n) x moves) text_is stands)));
+}
+  where
+    whole : output ≡ script_report_text (moves_text g.order moves) (leaf_count s) (length moves)
+    whole = output_is ∙ ap (λ (x : List ℕ). script_report_text x leaves count) (shown_is ∙ text_is ∙ ap (λ (k : ℕ). moves_text k moves) n_is)
+        ∙ ap₂ (script_report_text (moves_text g.order moves)) leaves_are count_is

@@ -1,0 +1,41 @@
+-- A matching that is maximum has as many edges as rows, and misses the vertices that are no ends of its rows.
+-- Each edge has two ends at different vertices, so the missed vertices and twice the edges make all vertices.
+use Rattle.std.proofs.Common.{◌≡◌, ◌≤◌, ℕ, ◌+◌, ◌-◌, ◌*◌, length, ◌∙◌, arith}
+use Rattle.std.proofs.lemmas.List.{length-map}
+use Rattle.counting.specs.Counts.{count}
+use Rattle.counting.specs.Sets.{none}
+use Rattle.counting.specs.Lists.{mem}
+use Rattle.counting.proofs.Totals.{total_zero}
+use Rattle.counting.proofs.Counts.{count_complement}
+use Rattle.counting.proofs.Lists.{count_mem_length}
+use Rattle.graph_core.specs.Graph.{Graph, IsGraph, size}
+use Rattle.graph_core.specs.Matchings.{IsMaximum, missed_count}
+use Rattle.graph_core.proofs.Edits.{missed_edges}
+use Rattle.match_core.specs.MatchingRows.{MatchingValue, KeepsMatching, IsOf, edges_of}
+use Rattle.match_core.specs.declared.matching.MatchRow.{MatchRow}
+use Rattle.match_core.proofs.MatchingEdges.{rows-rise}
+use Rattle.bench_outcomes.specs.Facts.{HasMaximum}
+
+module _ (g : Graph) (is : IsGraph g) (m : MatchingValue) (of : IsOf g m) (keeps : KeepsMatching m) (most : IsMaximum g none (mem (edges_of m))) where
+  edge : MatchRow → ℕ
+  edge row = row.edge
+
+  -- one edge a row
+  pub rows_count : count (size g) (mem (edges_of m)) ≡ length m.rows
+  rows_count = count_mem_length (size g) (edges_of m) (rows-rise g m of keeps) ∙ length-map m.rows (λ (row : MatchRow). row.edge)
+
+  -- the missed vertices and two ends a row are all vertices
+  pub missed_and_ends : missed_count g none (mem (edges_of m)) + 2 * length m.rows ≡ g.order
+  missed_and_ends =
+      let a = missed_edges g none (mem (edges_of m)) is most.is in
+      let b = count_complement g.order none in
+      let z : count g.order none ≡ 0 = total_zero g.order in
+      let r = rows_count in
+      omega arith
+
+  -- so there are no more than all vertices
+  pub ends_within : (edges : ℕ) → edges ≡ length m.rows → 2 * edges ≤ g.order
+  ends_within edges same = let all = missed_and_ends in omega arith
+
+  pub has_maximum : HasMaximum g (length m.rows) (g.order - 2 * length m.rows)
+  has_maximum = record { matching = mem (edges_of m); maximum = most; size_is = rows_count; misses = let a = missed_and_ends in omega arith }

@@ -1,0 +1,38 @@
+use Rattle.std.proofs.Common.{◌≡◌, ◌∙◌, ℕ, List, ◌++◌, Some, map, drop, length, slice_get, ap, sym, arith}
+use Rattle.std.specs.Option.{option_map}
+use Rattle.std.specs.Vec.Iter.{into_iter_items}
+use Rattle.std.proofs.lemmas.List.{append-nil, length-map}
+use Rattle.std.proofs.lemmas.Option.{slice_get-map}
+use Rattle.contraction.specs.Partition.{PartitionValue}
+use Rattle.report_text.specs.declared.comparisons.MapLine.{MapLine}
+use Rattle.uncross.specs.MapView.{map_of, maps_of}
+use Rattle.bench_outcomes.specs.Comparisons.{lines_of}
+use Rattle.bench_reports.proofs.PairLines.{lines-more, lines-none}
+use Rattle.bench_reports.proofs.comparing.lines_of.Goals as goal
+
+pub lines-preserved : goal.lines-preserved
+lines-preserved c =
+    let ps : List (List (List ℕ)) = map (λ (p : PartitionValue). p.blocks) c.args.found.now in
+    let at_p : slice_get ps c.lines.i ≡ Some c.get.result.now.blocks = slice_get-map (λ (p : PartitionValue). p.blocks) c.args.found.now c.lines.i ∙ ap (option_map (λ (p : PartitionValue). p.blocks)) c.get.ensures in
+    let less = ap length c.in-Some.ensures.cases.0 in
+    let counts = c.in-Some.ensures.cases.1 in
+    let left = c.lines.invariant.left in
+    let counted = c.lines.invariant.counted in
+    record {
+      left = omega arith;
+      counted = omega arith;
+      lines = lines-more c.lines.i ps c.get.result.now.blocks (map_of c.in-Some.map) (maps_of (into_iter_items c.lines.rest)) (maps_of (into_iter_items c.next.new.self)) (lines_of 0 ps (maps_of c.args.maps)) c.lines.lines c.push.new.self c.in_ok-line_of.field-0
+          at_p c.lines.invariant.lines (ap maps_of c.in-Some.ensures.cases.0) c.in_ok-line_of.ensures c.in_ok-push.ensures.ok;
+    }
+
+pub returns : goal.returns
+returns c =
+    let ps : List (List (List ℕ)) = map (λ (p : PartitionValue). p.blocks) c.args.found.now in
+    let none = c.in_default.ensures.cases.0 in
+    let counted = c.lines.invariant.counted in
+    let same = length-map (into_iter_items c.lines.rest) map_of in
+    sym (
+    c.lines.invariant.lines
+    ∙ ap (λ (ls : List MapLine). c.lines.lines ++ ls) (lines-none c.lines.i (drop c.lines.i ps) (maps_of (into_iter_items c.lines.rest)) (omega arith))
+    ∙ append-nil c.lines.lines
+    )

@@ -1,0 +1,49 @@
+use Rattle.std.proofs.Common.{ℕ, All, ◌≡◌, ap, refl, sym, subst, arith, length}
+use Rattle.contraction.specs.Partition.{PartitionValue}
+use Rattle.graph_text.specs.SoFar.{named_graph}
+use Rattle.tree_core.specs.Leaves.{StandsAt, leaves, partitions_of}
+use Rattle.tree_core.specs.Shapes.{Fits}
+use Rattle.tree_core.specs.View.{shape_of}
+use Rattle.graph_core.specs.Partitions.{singles}
+use Rattle.tree_core.proofs.DerivationStands.{fits-derivation, stands-derivation}
+use Rattle.report_text.proofs.FewLeaves.{few-leaves_listed, few-nodes, orders-of_leaves}
+use Rattle.bench_outcomes.proofs.DerivationTexts.{has-vertices, told}
+use Rattle.bench_reports.proofs.decomposing.derivation_report.Goals as goal
+
+pub write_tree-requires-clause-fits : goal.write_tree-requires-clause-fits
+write_tree-requires-clause-fits c =
+    subst (λ (n : ℕ). Fits n (shape_of c.args.tree.now)) (sym c.order-n.ensures.is) (fits-derivation c.args.named.now.graph (shape_of c.args.tree.now) c.requires)
+
+pub write_tree-requires-clause-vertices : goal.write_tree-requires-clause-vertices
+write_tree-requires-clause-vertices c =
+    has-vertices c.args.named.now.graph.order (singles c.args.named.now.graph.order) (shape_of c.args.tree.now) (stands-derivation c.args.named.now.graph (shape_of c.args.tree.now) c.requires)
+
+pub write_tree-requires-clause-few : goal.write_tree-requires-clause-few
+write_tree-requires-clause-few c = few-nodes c.args.named.now.graph (shape_of c.args.tree.now) c.keeps_limits.ensures.multigraph.ends c.keeps_limits.ensures.vertices c.requires
+
+pub leaves-requires-clause-fits : goal.leaves-requires-clause-fits
+leaves-requires-clause-fits c =
+    subst (λ (n : ℕ). Fits n (shape_of c.args.tree.now)) (sym c.order-n.ensures.is) (fits-derivation c.args.named.now.graph (shape_of c.args.tree.now) c.requires)
+
+pub leaves-requires-clause-stands : goal.leaves-requires-clause-stands
+leaves-requires-clause-stands c =
+    subst (λ (n : ℕ). StandsAt n (singles n) (shape_of c.args.tree.now)) (sym c.order-n.ensures.is) (stands-derivation c.args.named.now.graph (shape_of c.args.tree.now) c.requires)
+
+pub derivation-requires-clause-order : goal.derivation-requires-clause-order
+derivation-requires-clause-order c =
+    subst (All (λ (p : PartitionValue). p.order ≡ c.args.named.now.graph.order)) (sym c.in_ok-found.ensures)
+    (subst (λ (n : ℕ). All (λ (p : PartitionValue). p.order ≡ n) (partitions_of c.order-n.result (leaves c.order-n.result (shape_of c.args.tree.now)))) c.order-n.ensures.is
+    (orders-of_leaves c.order-n.result (leaves c.order-n.result (shape_of c.args.tree.now))))
+
+pub derivation-requires-clause-few : goal.derivation-requires-clause-few
+derivation-requires-clause-few c =
+    let nodes = few-nodes c.args.named.now.graph (shape_of c.args.tree.now) c.keeps_limits.ensures.multigraph.ends c.keeps_limits.ensures.vertices c.requires in
+    let listed = few-leaves_listed c.order-n.result (shape_of c.args.tree.now) nodes in
+    let same = ap length c.in_ok-found.ensures in
+    omega arith
+
+pub returns : goal.returns
+returns c =
+    told (named_graph c.args.named.now) (shape_of c.args.tree.now) c.order-n.result c.in_ok-found.found c.in_ok-text.text.items c.deref.result.now c.in_ok-report.report.items c.in_ok-with_given_names.field-0.items c.in_ok-report.ensures.0
+    c.keeps_limits.ensures c.requires c.order-n.ensures.is c.in_ok-found.ensures c.in_ok-text.ensures.text c.in_ok-text.ensures.stands c.deref.ensures.value c.in_ok-report.ensures.1 c.in_ok-report.ensures.2 c.in_ok-with_given_names.ensures.text
+    (c.in_ok-with_given_names.ensures.comments refl)

@@ -1,0 +1,13 @@
+use Rattle.std.proofs.Common.{ap, arith, length}
+use Rattle.std.proofs.lemmas.List.{length-map}
+use Rattle.ear_core.specs.View.{ears_of, step_of}
+use Rattle.bench_outcomes.proofs.EarSteps.{few-steps}
+use Rattle.bench_reports.proofs.ear_checking.accepted_report.Goals as goal
+
+pub counts_of-steps-requires : goal.counts_of-steps-requires
+counts_of-steps-requires c =
+    let few = few-steps c.args.g.now (ears_of c.args.list.now) c.requires.is in
+    let all = length-map c.args.list.now.steps step_of in
+    let same = ap length c.as_slice.ensures in
+    let limit = c.keeps_limits.ensures.edges in
+    omega arith

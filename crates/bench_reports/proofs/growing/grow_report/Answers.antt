@@ -1,0 +1,62 @@
+use Rattle.std.proofs.Common.{◌∙◌, ℕ, ◌≤◌, List, ap, refl, sym, subst, arith}
+use Rattle.std.proofs.lemmas.List.{length-map}
+use Rattle.graph_core.specs.Graph.{Graph, size}
+use Rattle.graph_text.specs.Writing.{graph_text}
+use Rattle.tree_core.specs.Leaves.{leaves}
+use Rattle.tree_core.specs.View.{shape_of}
+use Rattle.graph_core.specs.Partitions.{singles}
+use Rattle.tree_core.proofs.Sizes.{leaf_count-cuts, length-leaves_at, node_count-cuts}
+use Rattle.uncross.specs.MapView.{map_of, maps_of}
+use Rattle.report_text.specs.Growths.{grown_text}
+use Rattle.move_laws.specs.Pairings.{IsPairing}
+use Rattle.bench_outcomes.specs.Growths.{IsCounted}
+use Rattle.bench_outcomes.specs.Orders.{NamedPicks}
+use Rattle.bench_tasks.specs.declared.command.NamedOrder.TheVariants.{First, Last}
+use Rattle.report_text.proofs.FewLeaves.{few-nodes}
+use Rattle.bench_outcomes.proofs.GrownSizes.{few-edges, few-vertices}
+use Rattle.bench_reports.proofs.growing.grow_report.Goals as goal
+
+pub write_graph-requires-clause-vertices : goal.write_graph-requires-clause-vertices
+write_graph-requires-clause-vertices c =
+    subst (λ (g : Graph). g.order ≤ 64) (sym c.in_ok-g.ensures.graph) (few-vertices c.args.growth.seed c.args.growth.pieces c.args.growth.some c.args.growth.few)
+
+pub write_graph-requires-clause-edges : goal.write_graph-requires-clause-edges
+write_graph-requires-clause-edges c =
+    subst (λ (g : Graph). size g ≤ 512) (sym c.in_ok-g.ensures.graph) (few-edges c.args.growth.seed c.args.growth.pieces c.args.growth.some c.args.growth.few)
+
+pub overflow_cast-pairs : goal.overflow_cast-pairs
+overflow_cast-pairs c =
+    let t = shape_of c.in_ok-first.first in
+    let limits = c.in_ok-g.ensures.within_limits in
+    let nodes = few-nodes c.in_ok-g.g t limits.multigraph.ends limits.vertices c.in_ok-first.ensures.derivation in
+    let listed = length-leaves_at c.in_ok-g.g.order (singles c.in_ok-g.g.order) t in
+    let cuts = leaf_count-cuts t in
+    let all = node_count-cuts t in
+    let same = length-map c.in_ok-pairing.pairing.maps map_of in
+    let each = c.in_ok-pairing.ensures.paired.one_each in
+    let so_many = c.len-pairs.ensures in
+    omega arith
+
+pub returns : goal.returns
+returns c =
+    let s = shape_of c.in_ok-first.first in
+    let t = shape_of c.in_ok-last.last in
+    let maps = maps_of c.in_ok-pairing.pairing.maps in
+    let is = c.in_ok-g.ensures.graph in
+    record {
+      s = s;
+      first = c.in_ok-first.first_tally;
+      by_first = subst (λ (g : Graph). IsCounted (NamedPicks First) g s c.in_ok-first.first_tally) is c.in_ok-first.ensures;
+      t = t;
+      last = c.in_ok-last.last_tally;
+      by_last = subst (λ (g : Graph). IsCounted (NamedPicks Last) g t c.in_ok-last.last_tally) is c.in_ok-last.ensures;
+      pairs = c.len-pairs.result;
+      paired = record {
+        maps = maps;
+        paired = subst (λ (g : Graph). IsPairing g (leaves g.order s) (leaves g.order t) maps) is c.in_ok-pairing.ensures.paired;
+        so_many = c.len-pairs.ensures ∙ sym (length-map c.in_ok-pairing.pairing.maps map_of);
+      };
+      done = refl;
+      text = c.in_ok-grown.ensures
+          ∙ ap (λ (x : List ℕ). grown_text x c.in_ok-first.first_tally c.in_ok-last.last_tally c.len-pairs.result) (c.deref.ensures.value ∙ c.in_ok-text.ensures.text ∙ ap graph_text is);
+    }

@@ -1,0 +1,150 @@
+//! The comparison of two derivations of a graph, as `compare` and `script` tell it.
+ghost use Rattle.std.specs.Prelude.{◌≡◌, ◌≤◌, ◌<◌, ◌+◌, ◌^◌, IfOk, length, map};
+ghost use Rattle.tree_core.specs.Derivations.{IsDerivation};
+ghost use Rattle.tree_core.specs.MoveView.{moves_of};
+ghost use Rattle.tree_core.specs.Shapes.{Fits, leaf_count};
+ghost use Rattle.tree_core.specs.View.{shape_of};
+ghost use Rattle.uncross.specs.MapView.{map_of, maps_of};
+ghost use Rattle.bench_outcomes.specs.Comparisons.{Compared, CompareGives, RefusesPairIfAny, ScriptGives, Scripted, line_of, lines_of};
+
+use crate::checking::{refusal_of_tree, refusal_where_covered};
+use bench_outcomes::{Report, Status};
+use contraction::Partition;
+use graph_core::MultiGraph;
+use move_text::write_moves;
+use report_text::{MapLine, MapLines, block_names, pairing};
+use std::alloc::{AllocError as Memory, Global};
+use tree_core::{Partitions, Tree, leaves, nodes};
+use uncross::{LeafMap, LeafMaps, compare, moves_between};
+
+/// The report that refuses one of two trees: the graph is not covered, or the first tree is no derivation of it, or the second is none.
+/// None where both are derivations. Whether the graph is covered is asked once: a graph with a derivation is.
+pub fn refusal_of_pair(
+    alloc: Global,
+    g: &MultiGraph,
+    first: &Tree,
+    second: &Tree,
+) -> Result<Option<Report>, Memory>
+    requires first { Fits g.now.order (shape_of first.now) }
+    requires second { Fits g.now.order (shape_of second.now) }
+    ensures { IfOk result (RefusesPairIfAny g.now (shape_of first.now) (shape_of second.now)) }
+{
+    match refusal_of_tree(alloc, g, first, 1)? {
+        Some(report) => Ok(Some(report)),
+        None => refusal_where_covered(alloc, g, second, 2),
+    }
+}
+
+// The line of a leaf of this number, with the names of its blocks and of their images.
+fn line_of(alloc: Global, number: u32, p: &Partition, map: LeafMap) -> Result<MapLine, Memory>
+    ensures { IfOk result (λ line. line ≡ line_of number p.now.blocks (map_of map)) }
+{
+    let LeafMap { to, images } = map;
+    Ok(MapLine {
+        leaf: number,
+        partner: to,
+        names: block_names(alloc, p)?,
+        images,
+    })
+}
+
+// The lines of the leaves, each with its map.
+fn lines_of(alloc: Global, found: &Partitions, maps: LeafMaps) -> Result<MapLines, Memory>
+    requires one_each { length maps ≡ length found.now }
+    requires few { length found.now < 2 ^ 32 }
+    ensures { IfOk result
+        (λ lines. lines ≡ lines_of 0 (map (λ p. p.blocks) found.now) (maps_of maps)) }
+{
+    let mut lines = MapLines::new(alloc);
+    let mut rest = maps.into_items().into_iter();
+    let mut i = 0usize;
+    'lines: while let Some(map) = rest.next() {
+        lines.push(line_of(alloc, i as u32 + 1, found.get(i), map)?)?;
+        i += 1;
+    }
+    Ok(lines)
+}
+
+// The report on two derivations.
+fn pairing_report(
+    alloc: Global,
+    g: &MultiGraph,
+    first: &Tree,
+    second: &Tree,
+) -> Result<Report, Memory>
+    requires first { IsDerivation g.now (shape_of first.now) }
+    requires second { IsDerivation g.now (shape_of second.now) }
+    ensures { IfOk result
+        (λ report. Compared g.now (shape_of first.now) (shape_of second.now) report.status
+        report.bytes.items) }
+{
+    g.keeps_limits();
+    let n = g.order();
+    let found = leaves(alloc, first, n)?;
+    let pairs = compare(alloc, g, first, second)?;
+    let lines = lines_of(alloc, &found, pairs.maps)?;
+    Ok(Report {
+        status: Status::Done,
+        bytes: pairing(alloc, &pairs.moves, &lines)?,
+    })
+}
+
+/// The report on two trees: the moves that turn the first into the second and how their leaves are paired, or which tree is refused
+/// and why, or that the graph is not covered.
+pub fn compare_report(
+    alloc: Global,
+    g: &MultiGraph,
+    first: &Tree,
+    second: &Tree,
+) -> Result<Report, Memory>
+    requires first { Fits g.now.order (shape_of first.now) }
+    requires second { Fits g.now.order (shape_of second.now) }
+    ensures { IfOk result
+        (λ report. CompareGives g.now (shape_of first.now) (shape_of second.now) report.status
+        report.bytes.items) }
+{
+    let refusal = refusal_of_pair(alloc, g, first, second)?;
+    refusal.map_or_else(|| pairing_report(alloc, g, first, second), Ok)
+}
+
+// The text of a script between two derivations, and then the numbers of leaves and of moves.
+fn moves_report(
+    alloc: Global,
+    g: &MultiGraph,
+    first: &Tree,
+    second: &Tree,
+) -> Result<Report, Memory>
+    requires first { IsDerivation g.now (shape_of first.now) }
+    requires second { IsDerivation g.now (shape_of second.now) }
+    ensures { IfOk result
+        (λ report. Scripted g.now (shape_of first.now) (shape_of second.now) report.status
+        report.bytes.items) }
+{
+    g.keeps_limits();
+    let moves = moves_between(alloc, g, first, second)?;
+    let n = g.order();
+    let text = write_moves(alloc, &moves, n)?;
+    let leaves = nodes(first) / 2 + 1;
+    Ok(Report {
+        status: Status::Done,
+        bytes: report_text::script_report(alloc, &text, leaves as u32, moves.len() as u32)?,
+    })
+}
+
+/// The report on two trees: the text of moves that turn the first into the second, or which tree is refused and why, or that the graph is
+/// not covered.
+pub fn script_report(
+    alloc: Global,
+    g: &MultiGraph,
+    first: &Tree,
+    second: &Tree,
+) -> Result<Report, Memory>
+    requires first { Fits g.now.order (shape_of first.now) }
+    requires second { Fits g.now.order (shape_of second.now) }
+    ensures { IfOk result
+        (λ report. ScriptGives g.now (shape_of first.now) (shape_of second.now) report.status
+        report.bytes.items) }
+{
+    let refusal = refusal_of_pair(alloc, g, first, second)?;
+    refusal.map_or_else(|| moves_report(alloc, g, first, second), Ok)
+}

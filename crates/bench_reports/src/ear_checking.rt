@@ -1,0 +1,181 @@
+//! Ear lists of a graph, as `checkears` and `ears` tell of them.
+ghost use Rattle.std.specs.Prelude.{◌≡◌, ◌<◌, ◌^◌, length, map, IfOk};
+ghost use Rattle.graph_core.specs.Covered.{IsCovered};
+ghost use Rattle.graph_core.specs.Graph.{size};
+ghost use Rattle.ear_core.specs.EarLists.{FitsEars, IsEarList};
+ghost use Rattle.ear_core.specs.Refusals.{IsRefused};
+ghost use Rattle.ear_core.specs.View.{ears_of, step_of, why_of};
+ghost use Rattle.bench_outcomes.specs.EarChecks.{AcceptedEars, BuiltEars, EarCheckGives, EarsGives, RefusedEars, double_count, named_edge, single_count, why_number};
+
+use crate::uncovered::uncovered_report;
+use allowed_edges::covered;
+use bench_outcomes::{Report, Status};
+use ear_core::{EarJudgement, EarList, EarWhy, Step, build_ears, check_ears};
+use ear_text::write_ears;
+use graph_core::{MultiGraph, Reason, Verdict};
+use report_text::{EarLine, ear_judgement};
+use std::alloc::{AllocError as Memory, Global};
+
+// The number of a reason.
+fn number_of(why: EarWhy) -> u32
+    ensures { result ≡ why_number (why_of why) }
+{
+    match why {
+        EarWhy::NotPath => 1,
+        EarWhy::EvenLength => 2,
+        EarWhy::BadEnds => 3,
+        EarWhy::InnerOnStage => 4,
+        EarWhy::EdgeUsed => 5,
+        EarWhy::StageNotCovered { .. } => 6,
+        EarWhy::EndsEarly { .. } => 7,
+    }
+}
+
+// The edge that a reason names, if it names one.
+fn edge_of(why: EarWhy) -> Option<u32>
+    ensures { result ≡ named_edge (why_of why) }
+{
+    match why {
+        EarWhy::StageNotCovered { edge } | EarWhy::EndsEarly { edge } => Some(edge),
+        _ => None,
+    }
+}
+
+// How many of the steps have one ear.
+fn count_single(steps: &[Step]) -> usize
+    ensures { result ≡ single_count (map step_of steps.now) }
+{
+    steps.iter().filter(|step| step.second.is_none()).count()
+}
+
+// How many of the steps have two.
+fn count_double(steps: &[Step]) -> usize
+    ensures { result ≡ double_count (map step_of steps.now) }
+{
+    steps.iter().filter(|step| step.second.is_some()).count()
+}
+
+// The numbers of the steps of a list.
+struct StepCounts {
+    steps: u32,
+    single: u32,
+    double: u32,
+}
+
+// How many steps there are, how many of one ear, and how many of two.
+fn counts_of(steps: &[Step]) -> StepCounts
+    requires { length steps.now < 2 ^ 32 }
+    ensures steps { result.steps ≡ length (map step_of steps.now) }
+    ensures single { result.single ≡ single_count (map step_of steps.now) }
+    ensures double { result.double ≡ double_count (map step_of steps.now) }
+{
+    StepCounts {
+        steps: steps.len() as u32,
+        single: count_single(steps) as u32,
+        double: count_double(steps) as u32,
+    }
+}
+
+// The line of an ear list.
+fn accepted_report(alloc: Global, g: &MultiGraph, list: &EarList) -> Result<Report, Memory>
+    requires covered { IsCovered g.now }
+    requires is { IsEarList g.now (ears_of list.now) }
+    ensures { IfOk result
+        (λ report. AcceptedEars g.now (ears_of list.now) report.status report.bytes.items) }
+{
+    g.keeps_limits();
+    let StepCounts {
+        steps,
+        single,
+        double,
+    } = counts_of(list.steps.as_slice());
+    let line = EarLine::Accepted {
+        steps,
+        single,
+        double,
+    };
+    Ok(Report {
+        status: Status::Done,
+        bytes: ear_judgement(alloc, &line)?,
+    })
+}
+
+// The line of a refusal.
+fn refused_report(
+    alloc: Global,
+    g: &MultiGraph,
+    list: &EarList,
+    step: u32,
+    why: EarWhy,
+) -> Result<Report, Memory>
+    requires covered { IsCovered g.now }
+    requires refused { IsRefused g.now (ears_of list.now) step (why_of why) }
+    ensures { IfOk result
+        (λ report. RefusedEars g.now (ears_of list.now) report.status report.bytes.items) }
+{
+    let line = EarLine::Refused {
+        step,
+        why: number_of(why),
+        edge: edge_of(why),
+    };
+    Ok(Report {
+        status: Status::Negative,
+        bytes: ear_judgement(alloc, &line)?,
+    })
+}
+
+// The report on a list of ears of a covered graph.
+fn judged_report(alloc: Global, g: &MultiGraph, list: &EarList) -> Result<Report, Memory>
+    requires covered { IsCovered g.now }
+    requires fits { FitsEars g.now.order (size g.now) (ears_of list.now) }
+    ensures { IfOk result
+        (λ report. EarCheckGives g.now (ears_of list.now) report.status report.bytes.items) }
+{
+    match check_ears(alloc, g, list)? {
+        EarJudgement::Accepted => accepted_report(alloc, g, list),
+        EarJudgement::Refused { step, why } => refused_report(alloc, g, list, step, why),
+    }
+}
+
+/// The report on a list of ears: how many steps it has, or where and why it is refused, or that the graph is not covered.
+pub fn checkears_report(alloc: Global, g: &MultiGraph, list: &EarList) -> Result<Report, Memory>
+    requires { FitsEars g.now.order (size g.now) (ears_of list.now) }
+    ensures { IfOk result
+        (λ report. EarCheckGives g.now (ears_of list.now) report.status report.bytes.items) }
+{
+    match covered(alloc, g)? {
+        Verdict::Covered => judged_report(alloc, g, list),
+        Verdict::NotCovered(reason) => uncovered_report(alloc, g, reason),
+    }
+}
+
+// The text of an ear list of a covered graph, and then the numbers of its steps.
+fn built_report(alloc: Global, g: &MultiGraph) -> Result<Report, Memory>
+    requires { IsCovered g.now }
+    ensures { IfOk result (λ report. BuiltEars g.now report.status report.bytes.items) }
+{
+    g.keeps_limits();
+    let list = build_ears(alloc, g)?;
+    let (n, m) = (g.order(), g.size());
+    let text = write_ears(alloc, &list, n, m)?;
+    let StepCounts {
+        steps,
+        single,
+        double,
+    } = counts_of(list.steps.as_slice());
+    let bytes = report_text::ears_report(alloc, &text, steps, single, double)?;
+    Ok(Report {
+        status: Status::Done,
+        bytes,
+    })
+}
+
+/// The report of an ear list that is built: its text and the numbers of its steps, or that the graph is not covered.
+pub fn ears_report(alloc: Global, g: &MultiGraph) -> Result<Report, Memory>
+    ensures { IfOk result (λ report. EarsGives g.now report.status report.bytes.items) }
+{
+    match covered(alloc, g)? {
+        Verdict::Covered => built_report(alloc, g),
+        Verdict::NotCovered(reason) => uncovered_report(alloc, g, reason),
+    }
+}

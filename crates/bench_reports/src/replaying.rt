@@ -1,0 +1,105 @@
+//! What a script of moves makes of a derivation, as `replay` tells it.
+ghost use Rattle.std.specs.Prelude.{◌≡◌, ◌≤◌, IfOk, length};
+ghost use Rattle.tree_core.specs.Derivations.{IsDerivation};
+ghost use Rattle.tree_core.specs.MoveView.{moves_of};
+ghost use Rattle.tree_core.specs.Shapes.{Fits};
+ghost use Rattle.tree_core.specs.View.{shape_of};
+ghost use Rattle.tree_check.specs.Judgements.{why_of};
+ghost use Rattle.tree_check.specs.Refusals.{why_number};
+ghost use Rattle.move_text.specs.MoveFormat.{most_moves};
+ghost use Rattle.tree_text.specs.Writing.{tree_text};
+ghost use Rattle.report_text.specs.Scripts.{refused_move_text, replayed_text, stuck_text};
+ghost use Rattle.bench_outcomes.specs.Checks.{shown_of};
+ghost use Rattle.bench_outcomes.specs.Replays.{MovesGive, ReplayGives};
+
+use crate::checking::{number_of, refusal_of_tree, shown_by};
+use bench_outcomes::{Report, Status};
+use graph_core::MultiGraph;
+use report_text::{replay_refused, replay_stuck, replayed};
+use std::alloc::{AllocError as Memory, Global};
+use tree_check::{Replayed, Why, replay};
+use tree_core::{Moves, Tree};
+use tree_text::write_tree;
+
+// The text of the last tree, and then the number of moves.
+fn last_tree_report(
+    alloc: Global,
+    g: &MultiGraph,
+    tree: &Tree,
+    moves: usize,
+) -> Result<Report, Memory>
+    requires derivation { IsDerivation g.now (shape_of tree.now) }
+    requires few { moves ≤ most_moves }
+    ensures done { IfOk result (λ report. report.status ≡ Status.Done) }
+    ensures text { IfOk result
+        (λ report. report.bytes.items ≡
+        replayed_text (tree_text g.now.order (shape_of tree.now)) moves) }
+{
+    g.keeps_limits();
+    let n = g.order();
+    let text = write_tree(alloc, tree, n)?;
+    Ok(Report {
+        status: Status::Done,
+        bytes: replayed(alloc, &text, moves as u32)?,
+    })
+}
+
+// The line of a move without a result.
+fn stuck_report(alloc: Global, at: u32) -> Result<Report, Memory>
+    ensures negative { IfOk result (λ report. report.status ≡ Status.Negative) }
+    ensures text { IfOk result (λ report. report.bytes.items ≡ stuck_text at) }
+{
+    Ok(Report {
+        status: Status::Negative,
+        bytes: replay_stuck(alloc, at)?,
+    })
+}
+
+// The line of a move whose result is no derivation.
+fn refused_move_report(alloc: Global, at: u32, node: u32, why: Why) -> Result<Report, Memory>
+    ensures negative { IfOk result (λ report. report.status ≡ Status.Negative) }
+    ensures text { IfOk result
+        (λ report. report.bytes.items ≡
+        refused_move_text at node (why_number (why_of why)) (shown_of (why_of why))) }
+{
+    let number = number_of(&why);
+    let shown = shown_by(why);
+    Ok(Report {
+        status: Status::Negative,
+        bytes: replay_refused(alloc, at, node, number, &shown)?,
+    })
+}
+
+// The report on moves on a derivation.
+fn moves_report(alloc: Global, g: &MultiGraph, tree: Tree, moves: &Moves) -> Result<Report, Memory>
+    requires derivation { IsDerivation g.now (shape_of tree) }
+    requires few { length moves.now ≤ most_moves }
+    ensures { IfOk result
+        (λ report. MovesGive g.now (shape_of tree) (moves_of moves.now) report.status
+        report.bytes.items) }
+{
+    let answer = replay(alloc, g, tree, moves)?;
+    match answer {
+        Replayed::Done { tree } => last_tree_report(alloc, g, &tree, moves.len()),
+        Replayed::Stuck { at } => stuck_report(alloc, at),
+        Replayed::Refused { at, node, why } => refused_move_report(alloc, at, node, why),
+    }
+}
+
+/// The report on moves on a tree: the last tree that they make where each on the way is a derivation of the graph, or the first move
+/// that fails; or why the tree is refused, or that the graph is not covered.
+pub fn replay_report(
+    alloc: Global,
+    g: &MultiGraph,
+    tree: Tree,
+    moves: &Moves,
+) -> Result<Report, Memory>
+    requires fits { Fits g.now.order (shape_of tree) }
+    requires few { length moves.now ≤ most_moves }
+    ensures { IfOk result
+        (λ report. ReplayGives g.now (shape_of tree) (moves_of moves.now) report.status
+        report.bytes.items) }
+{
+    let refusal = refusal_of_tree(alloc, g, &tree, 1)?;
+    refusal.map_or_else(|| moves_report(alloc, g, tree, moves), Ok)
+}

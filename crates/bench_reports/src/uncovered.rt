@@ -1,0 +1,23 @@
+//! The report on a graph that is not matching covered.
+ghost use Rattle.std.specs.Prelude.{IfOk};
+ghost use Rattle.graph_core.specs.Covered.{IsReason};
+ghost use Rattle.graph_core.specs.Verdicts.{reason_of};
+ghost use Rattle.bench_outcomes.specs.Uncovered.{Uncovered};
+
+use bench_outcomes::{Report, Status};
+use graph_core::{MultiGraph, Reason, Verdict};
+use report_text::verdict_line;
+use std::alloc::{AllocError as Memory, Global};
+
+/// The line of the reason why a graph is not covered.
+pub fn uncovered_report(alloc: Global, g: &MultiGraph, reason: Reason) -> Result<Report, Memory>
+    requires { IsReason g.now (reason_of reason) }
+    ensures { IfOk result (λ report. Uncovered g.now report.status report.bytes.items) }
+{
+    g.keeps_limits();
+    let bytes = verdict_line(alloc, &Verdict::NotCovered(reason))?;
+    Ok(Report {
+        status: Status::Negative,
+        bytes,
+    })
+}

@@ -1,0 +1,18 @@
+use Rattle.std.proofs.Common.{ℕ, ◌≤◌, length, subst}
+use Rattle.std.proofs.lemmas.List.{length-map}
+use Rattle.std.proofs.lemmas.Result.{IfOk-weaker}
+use Rattle.text_faults.specs.Readings.{ReadsText}
+use Rattle.line_text.specs.Reading.{reading_of}
+use Rattle.tree_core.specs.MoveView.{move_of, moves_of}
+use Rattle.move_text.specs.MoveFormat.{most_moves, move_format}
+use Rattle.bench_tasks.proofs.TextReads.{ReadsText-reading_of}
+use Rattle.bench_tasks.proofs.formats.MoveFileFileFormat.read.Goals as goal
+
+pub returns-clause-reads : goal.returns-clause-reads
+returns-clause-reads c =
+    subst (λ (n : ℕ). ReadsText moves_of c.read_moves.result (reading_of (move_format n) c.args.bytes.now)) c.order-n.ensures.is
+    (ReadsText-reading_of (move_format c.order-n.result) moves_of c.args.bytes.now c.read_moves.result c.read_moves.ensures.value c.read_moves.ensures.fault)
+
+pub returns-clause-keeps : goal.returns-clause-keeps
+returns-clause-keeps c =
+    IfOk-weaker c.read_moves.result _ (λ moves. length moves ≤ most_moves) (λ moves is. subst (λ (k : ℕ). k ≤ most_moves) (length-map moves move_of) is.few) c.read_moves.ensures.writable

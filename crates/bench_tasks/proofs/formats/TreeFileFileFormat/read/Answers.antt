@@ -1,0 +1,12 @@
+use Rattle.std.proofs.Common.{ℕ, subst}
+use Rattle.text_faults.specs.Readings.{ReadsText}
+use Rattle.line_text.specs.Reading.{reading_of}
+use Rattle.tree_core.specs.View.{shape_of}
+use Rattle.tree_text.specs.TreeFormat.{tree_format}
+use Rattle.bench_tasks.proofs.TextReads.{ReadsText-reading_of}
+use Rattle.bench_tasks.proofs.formats.TreeFileFileFormat.read.Goals as goal
+
+pub returns-clause-reads : goal.returns-clause-reads
+returns-clause-reads c =
+    subst (λ (n : ℕ). ReadsText shape_of c.read_tree.result (reading_of (tree_format n) c.args.bytes.now)) c.order-n.ensures.is
+    (ReadsText-reading_of (tree_format c.order-n.result) shape_of c.args.bytes.now c.read_tree.result c.read_tree.ensures.value c.read_tree.ensures.fault)

@@ -1,0 +1,109 @@
+-- What the files that a command names hold: each is looked up and read in the order of the words, up to the first that is
+-- not held or is bad.
+use Rattle.std.specs.Prelude.{ℕ, List, length, nat_lt, if◌then◌else◌}
+use Rattle.std.specs.declared.option.Option.{Option}
+use Rattle.std.specs.declared.option.Option.TheVariants.{Some, None}
+use Rattle.std.specs.declared.result.Result.{Result}
+use Rattle.std.specs.declared.result.Result.TheVariants.{Ok, Err}
+use Rattle.outside.specs.Shelf.{Named, file_named}
+use Rattle.line_text.specs.Reading.{reading_of}
+use Rattle.graph_core.specs.Graph.{Graph, size}
+use Rattle.graph_core.specs.Kinds.{kind_number}
+use Rattle.graph_core.specs.declared.faults.FaultKind.{FaultKind}
+use Rattle.graph_text.specs.EitherVersion.{NamedGraph, either_version}
+use Rattle.graph6_text.specs.Reading.{outcome_of}
+use Rattle.tree_core.specs.Shapes.{Shape}
+use Rattle.tree_core.specs.Moves.{PlainMove}
+use Rattle.tree_text.specs.PickFormat.{pick_format}
+use Rattle.tree_text.specs.TreeFormat.{tree_format}
+use Rattle.move_text.specs.MoveFormat.{move_format}
+use Rattle.ear_core.specs.EarLists.{PlainEars}
+use Rattle.ear_text.specs.EarFormat.{ear_format}
+use Rattle.bench_tasks.specs.Commands.{Command, Analyse, Convert, Analyse6, Decompose, DecomposeBy, Check, CheckEars, Ears, Replay, Compare, Script, Grow}
+use Rattle.bench_tasks.specs.Tasks.{Task}
+use Rattle.bench_tasks.specs.Tasks as task
+
+-- the most bytes that a file may have
+abbrev pub most_bytes : ℕ
+most_bytes = 1048576
+
+-- all is held and good; or the file at this place, counted from 1, is the first that is bad, at this line by this kind; or
+-- the file at this place is not held, and all before it are held and good
+pub data Loaded (A : Type 0) : Type 0 where
+  All : (inputs : A) → Loaded A
+  Bad : (file line kind : ℕ) → Loaded A
+  Absent : (file : ℕ) → Loaded A
+
+-- what a file's text is read as
+abbrev pub from_reading : {A : Type 0} → ℕ → Result A (ℕ × FaultKind) → Loaded A
+from_reading place (Ok value) = All value
+from_reading place (Err fault) = Bad place fault.0 (kind_number fault.1)
+
+-- one file: not held; over the limit of bytes, which is line 0 and kind 6 whatever else is wrong; or what its text is read as
+abbrev pub file_read : {A : Type 0} → ℕ → (List ℕ → Result A (ℕ × FaultKind)) → Option (List ℕ) → Loaded A
+file_read place reading None = Absent place
+file_read place reading (Some bytes) = if nat_lt most_bytes (length bytes) then Bad place 0 6 else from_reading place (reading bytes)
+
+-- what is made of what files hold
+abbrev pub loaded_as : {A B : Type 0} → (A → B) → Loaded A → Loaded B
+loaded_as make (All value) = All (make value)
+loaded_as make (Bad file line kind) = Bad file line kind
+loaded_as make (Absent file) = Absent file
+
+-- what is loaded where a further file is asked only if those before it are held and good
+abbrev pub and_then : {A B : Type 0} → Loaded A → (A → Loaded B) → Loaded B
+and_then (All value) next = next value
+and_then (Bad file line kind) next = Bad file line kind
+and_then (Absent file) next = Absent file
+
+-- the graph of the file of that name, in either version of the graph format; or in graph6
+abbrev pub graph_file : List Named → List ℕ → Loaded NamedGraph
+graph_file files name = file_read 1 (reading_of either_version) (file_named name files)
+
+abbrev pub graph6_file : List Named → List ℕ → Loaded Graph
+graph6_file files name = file_read 1 outcome_of (file_named name files)
+
+-- the list of picks of the file of that name, which is the second
+abbrev pub pick_file : List Named → List ℕ → Loaded (List ℕ)
+pick_file files name = file_read 2 (reading_of pick_format) (file_named name files)
+
+-- the tree of the file of that name, which has this place among the named files, for a graph of that order
+abbrev pub tree_file : List Named → (place : ℕ) → List ℕ → (order : ℕ) → Loaded Shape
+tree_file files place name order = file_read place (reading_of (tree_format order)) (file_named name files)
+
+-- the ear list of the file of that name, which is the second, for that graph
+abbrev pub ear_file : List Named → List ℕ → Graph → Loaded PlainEars
+ear_file files name g = file_read 2 (reading_of (ear_format g.order (size g))) (file_named name files)
+
+-- the moves of the file of that name, which is the third, on trees for a graph of that order
+abbrev pub move_file : List Named → List ℕ → (order : ℕ) → Loaded (List PlainMove)
+move_file files name order = file_read 3 (reading_of (move_format order)) (file_named name files)
+
+-- a graph, and a tree for it
+abbrev pub tree_given : List Named → (graph tree : List ℕ) → Loaded (NamedGraph × Shape)
+tree_given files graph tree = and_then (graph_file files graph) (λ named. loaded_as (λ t. (named, t)) (tree_file files 2 tree named.graph.order))
+
+-- the same with a second tree
+abbrev pub trees_given : List Named → (graph first second : List ℕ) → Loaded (NamedGraph × (Shape × Shape))
+trees_given files graph first second =
+    and_then (tree_given files graph first) (λ given. loaded_as (λ t. (given.0, (given.1, t))) (tree_file files 3 second given.0.graph.order))
+
+-- the same with moves
+abbrev pub moves_given : List Named → (graph tree moves : List ℕ) → Loaded (NamedGraph × (Shape × List PlainMove))
+moves_given files graph tree moves =
+    and_then (tree_given files graph tree) (λ given. loaded_as (λ ms. (given.0, (given.1, ms))) (move_file files moves given.0.graph.order))
+
+-- what the files of a command hold
+abbrev pub loaded : List Named → Command → Loaded Task
+loaded files (Analyse graph) = loaded_as task.Analyse (graph_file files graph)
+loaded files (Convert graph) = loaded_as task.Convert (graph_file files graph)
+loaded files (Analyse6 graph) = loaded_as task.Analyse6 (graph6_file files graph)
+loaded files (Decompose graph order) = loaded_as (λ named. task.Decompose named order) (graph_file files graph)
+loaded files (DecomposeBy graph picks) = and_then (graph_file files graph) (λ named. loaded_as (task.DecomposeBy named) (pick_file files picks))
+loaded files (Check graph tree) = loaded_as (λ given. task.Check given.0 given.1) (tree_given files graph tree)
+loaded files (CheckEars graph ears) = and_then (graph_file files graph) (λ named. loaded_as (task.CheckEars named) (ear_file files ears named.graph))
+loaded files (Ears graph) = loaded_as task.Ears (graph_file files graph)
+loaded files (Replay graph tree moves) = loaded_as (λ given. task.Replay given.0 given.1.0 given.1.1) (moves_given files graph tree moves)
+loaded files (Compare graph first second) = loaded_as (λ given. task.Compare given.0 given.1.0 given.1.1) (trees_given files graph first second)
+loaded files (Script graph first second) = loaded_as (λ given. task.Script given.0 given.1.0 given.1.1) (trees_given files graph first second)
+loaded files (Grow seed pieces) = All (task.Grow seed pieces)

@@ -1,0 +1,82 @@
+-- What loading a file, or the files of a command, answers.
+use Rattle.std.specs.Prelude.{◌≡◌, ◌≤◌, List, ℕ, Bool}
+use Rattle.std.specs.declared.option.Option.{Option}
+use Rattle.std.specs.declared.option.Option.TheVariants.{Some}
+use Rattle.std.specs.declared.result.Result.{Result}
+use Rattle.std.specs.declared.result.Result.TheVariants.{Ok, Err}
+use Rattle.outside.specs.Faults.{Rose}
+use Rattle.outside.specs.Shelf.{Named}
+use Rattle.graph_core.specs.Graph.{Graph}
+use Rattle.graph_text.specs.EitherVersion.{NamedGraph}
+use Rattle.graph_text.specs.SoFar.{named_graph}
+use Rattle.tree_core.specs.View.{shape_of}
+use Rattle.tree_core.specs.MoveView.{moves_of}
+use Rattle.tree_core.specs.Moves.{PlainMove}
+use Rattle.tree_core.specs.Shapes.{Shape}
+use Rattle.ear_core.specs.View.{ears_of}
+use Rattle.bench_tasks.specs.Loading.{Loaded, All, Bad}
+use Rattle.bench_tasks.specs.Reads.{FailsAs, IsReadFault}
+use Rattle.bench_tasks.specs.Tasks.{Task}
+use Rattle.bench_tasks.specs.Tasks as task
+use Rattle.bench_tasks.specs.declared.stop.Stop.{Stop}
+use Rattle.bench_tasks.specs.declared.stop.Stop.TheVariants as stop
+use Rattle.bench_tasks.specs.declared.tasks.SimpleGraph.{SimpleGraph}
+use Rattle.bench_tasks.specs.declared.tasks.GivenTree.{GivenTree}
+use Rattle.bench_tasks.specs.declared.tasks.GivenTrees.{GivenTrees}
+use Rattle.bench_tasks.specs.declared.tasks.GivenMoves.{GivenMoves}
+use Rattle.bench_tasks.specs.declared.tasks.Task.TheVariants as code
+
+-- what the files of a command hold
+abbrev pub Held : Type 0
+Held = Loaded Task
+
+-- the graph of a value that is kept simple
+abbrev pub graph_in : SimpleGraph → Graph
+graph_in simple = simple.graph
+
+-- a graph with a tree, with two trees, and with a tree and moves, as they are seen
+abbrev pub given_tree : GivenTree → NamedGraph × Shape
+given_tree given = (named_graph given.named, shape_of given.tree)
+
+abbrev pub given_trees : GivenTrees → NamedGraph × (Shape × Shape)
+given_trees given = (named_graph given.named, (shape_of given.first, shape_of given.second))
+
+abbrev pub given_moves : GivenMoves → NamedGraph × (Shape × List PlainMove)
+given_moves given = (named_graph given.named, (shape_of given.tree, moves_of given.moves))
+
+-- the task as it is seen
+abbrev pub task_of : code.the_data → Task
+task_of (code.Analyse named) = task.Analyse (named_graph named)
+task_of (code.Convert named) = task.Convert (named_graph named)
+task_of (code.Analyse6 simple) = task.Analyse6 (graph_in simple)
+task_of (code.Decompose named order) = task.Decompose (named_graph named) order
+task_of (code.DecomposeBy named picks) = task.DecomposeBy (named_graph named) picks
+task_of (code.Check given) = task.Check (named_graph given.named) (shape_of given.tree)
+task_of (code.CheckEars given) = task.CheckEars (named_graph given.named) (ears_of given.list)
+task_of (code.Ears named) = task.Ears (named_graph named)
+task_of (code.Replay given) = task.Replay (named_graph given.named) (shape_of given.tree) (moves_of given.moves)
+task_of (code.Compare given) = task.Compare (named_graph given.named) (shape_of given.first) (shape_of given.second)
+task_of (code.Script given) = task.Script (named_graph given.named) (shape_of given.first) (shape_of given.second)
+task_of (code.Grow growth) = task.Grow growth.seed growth.pieces
+
+-- a stop names the first bad file; nothing is said of a failed read or of want of memory
+abbrev pub StopsAs : {A : Type 0} → Stop → Loaded A → Type 0
+StopsAs (stop.Bad file line kind) loaded = loaded ≡ Bad file line kind
+StopsAs (stop.ReadFault file) loaded = Unit {0}
+StopsAs stop.Memory loaded = Unit {0}
+
+-- what was loaded, seen by view, is what the files hold
+abbrev pub LoadsAs : {X A : Type 0} → (X → A) → Result X Stop → Loaded A → Type 0
+LoadsAs view (Ok x) loaded = loaded ≡ All (view x)
+LoadsAs view (Err stopped) loaded = StopsAs stopped loaded
+
+-- what a call that loads makes of a shelf, and what it answers: the files and whether the shelf is steady stay as they were, the count of
+-- faults does not fall, and rose where a read failed; and where the shelf tells its files, the answer is what they hold, and over a steady
+-- shelf a read fails only at a file that is not held
+pub record Loads {S X A : Type 0} (told : S → Option (List Named)) (steady : S → Bool) (faults : S → ℕ) (view : X → A) (held : List Named → Loaded A) (result : Result X Stop) (before now : S) : Type 0 where
+  pub files : told now ≡ told before
+  pub as_steady : steady now ≡ steady before
+  pub later : faults before ≤ faults now
+  pub failed : IsReadFault result → Rose (faults before) (faults now)
+  pub loads : (files : List Named) → told before ≡ Some files → LoadsAs view result (held files)
+  pub absent : (files : List Named) → told before ≡ Some files → FailsAs (steady before) result (held files)

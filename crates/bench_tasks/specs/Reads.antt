@@ -1,0 +1,76 @@
+-- Which files a run reads, and in which order.
+use Rattle.std.specs.Prelude.{◌≡◌, ◌≤◌, List, [], ◌∷◌, ℕ, Bool, IsTrue, length, take}
+use Rattle.std.specs.declared.option.Option.{Option}
+use Rattle.std.specs.declared.option.Option.TheVariants.{Some, None}
+use Rattle.std.specs.declared.result.Result.{Result}
+use Rattle.std.specs.declared.result.Result.TheVariants.{Ok, Err}
+use Rattle.outside.specs.Shelf.{ReadsInTurn, ReadsFirst}
+use Rattle.bench_tasks.specs.Commands.{Command, Analyse, Convert, Analyse6, Decompose, DecomposeBy, Check, CheckEars, Ears, Replay, Compare, Script, Grow}
+use Rattle.bench_tasks.specs.Loading.{Loaded, All, Bad, Absent}
+use Rattle.bench_tasks.specs.declared.stop.Stop.{Stop}
+use Rattle.bench_tasks.specs.declared.stop.Stop.TheVariants as stop
+
+-- the names of the files of a command, in the order of the words
+abbrev pub file_names : Command → List (List ℕ)
+file_names (Analyse graph) = graph ∷ []
+file_names (Convert graph) = graph ∷ []
+file_names (Analyse6 graph) = graph ∷ []
+file_names (Decompose graph order) = graph ∷ []
+file_names (DecomposeBy graph picks) = graph ∷ picks ∷ []
+file_names (Check graph tree) = graph ∷ tree ∷ []
+file_names (CheckEars graph ears) = graph ∷ ears ∷ []
+file_names (Ears graph) = graph ∷ []
+file_names (Replay graph tree moves) = graph ∷ tree ∷ moves ∷ []
+file_names (Compare graph first second) = graph ∷ first ∷ second ∷ []
+file_names (Script graph first second) = graph ∷ first ∷ second ∷ []
+file_names (Grow seed pieces) = []
+
+-- the same of the words, which may match no row: then there are none
+abbrev pub names_in : Option Command → List (List ℕ)
+names_in None = []
+names_in (Some command) = file_names command
+
+-- the names of these up to the first whose file is not held or is bad, that one included
+abbrev pub names_until : {A : Type 0} → Loaded A → List (List ℕ) → List (List ℕ)
+names_until (All value) names = names
+names_until (Bad file line kind) names = take file names
+names_until (Absent file) names = take file names
+
+-- a stop at the file of this place; want of memory may come at any
+abbrev pub StopsAt : (place : ℕ) → Stop → Type 0
+StopsAt place (stop.ReadFault file) = file ≡ place
+StopsAt place (stop.Bad file line kind) = file ≡ place
+StopsAt place stop.Memory = Unit {0}
+
+-- reads up to a stop lead from the first shelf to the last: those of the names up to the file that stops, that one included; where
+-- memory ran out, those of the first few names
+abbrev pub ReadsUntil : {S : Type 0} → (S → List ℕ → S → Type 0) → List (List ℕ) → Stop → S → S → Type 0
+ReadsUntil reads names (stop.ReadFault file) first last = (file ≤ length names) × ReadsInTurn reads (take file names) first last
+ReadsUntil reads names (stop.Bad file line kind) first last = (file ≤ length names) × ReadsInTurn reads (take file names) first last
+ReadsUntil reads names stop.Memory first last = ReadsFirst reads names first last
+
+-- all names are read where there is an answer, and else those up to the stop
+abbrev pub ReadsAs : {S X : Type 0} → (S → List ℕ → S → Type 0) → List (List ℕ) → Result X Stop → S → S → Type 0
+ReadsAs reads names (Ok x) first last = ReadsInTurn reads names first last
+ReadsAs reads names (Err stopped) first last = ReadsUntil reads names stopped first last
+
+-- over a steady shelf a read fails at the file that is not held
+abbrev pub FailsAs : {X A : Type 0} → (steady : Bool) → Result X Stop → Loaded A → Type 0
+FailsAs steady (Ok x) loaded = Unit {0}
+FailsAs steady (Err (stop.ReadFault file)) loaded = IsTrue steady → loaded ≡ Absent file
+FailsAs steady (Err (stop.Bad file line kind)) loaded = Unit {0}
+FailsAs steady (Err stop.Memory) loaded = Unit {0}
+
+-- a read of a file failed
+abbrev pub IsReadFault : {X : Type 0} → Result X Stop → Type 0
+IsReadFault (Ok x) = ⊥
+IsReadFault (Err (stop.ReadFault file)) = Unit {0}
+IsReadFault (Err (stop.Bad file line kind)) = ⊥
+IsReadFault (Err stop.Memory) = ⊥
+
+-- no file is missing: all are good, or one is bad
+abbrev pub IsRead : {X : Type 0} → Result X Stop → Type 0
+IsRead (Ok x) = Unit {0}
+IsRead (Err (stop.ReadFault file)) = ⊥
+IsRead (Err (stop.Bad file line kind)) = Unit {0}
+IsRead (Err stop.Memory) = ⊥

@@ -1,0 +1,205 @@
+//! Reading and parsing the files that a command names.
+ghost use Rattle.std.specs.Prelude.{◌≡◌, [], ◌∷◌, IfOk, IfErr, Some};
+ghost use Rattle.outside.specs.Shelf.{file_named};
+ghost use Rattle.bench_tasks.specs.Asked.{asked};
+ghost use Rattle.bench_tasks.specs.Loading.{file_read, loaded, tree_given, trees_given, moves_given};
+ghost use Rattle.bench_tasks.specs.Loads.{Loads, given_tree, given_trees, given_moves, task_of};
+ghost use Rattle.bench_tasks.specs.Reads.{ReadsAs, StopsAt, file_names};
+ghost use Rattle.bench_tasks.specs.Refusing.{MayRefuse, GatheredMayRefuse};
+
+use crate::command::Command;
+use crate::formats::{EarFile, FileFormat, Graph6File, GraphFile, MoveFile, PickFile, TreeFile};
+use crate::stop::Stop;
+use crate::tasks::{GivenEars, GivenMoves, GivenTree, GivenTrees, Task};
+use graph_core::TextFault;
+use outside::{Shelf, ShelfFault};
+use std::alloc::Global;
+
+/// The most bytes that a file may have.
+pub const MOST_BYTES: usize = 1_048_576;
+
+// What the file of that name holds, which has this place among the named files.
+fn load<S: Shelf, F: FileFormat>(
+    alloc: Global,
+    format: &F,
+    name: &str,
+    place: u32,
+    shelf: &mut S,
+) -> Result<F::Value, Stop>
+    ensures loads { Loads S.files S.steady S.faults F.meaning
+        (λ files. file_read place (F.reading format.now) (file_named name.now files))
+        result shelf.old shelf.new }
+    ensures reads { S.reads shelf.old name.now shelf.new }
+    ensures stops { IfErr result (StopsAt place) }
+    ensures keeps { IfOk result (F.keeps format.now) }
+{
+    let bytes = match shelf.read(alloc, name, MOST_BYTES) {
+        Ok(bytes) => bytes,
+        Err(ShelfFault::Failed) => return Err(Stop::ReadFault { file: place }),
+        Err(ShelfFault::TooLong) => {
+            return Err(Stop::Bad {
+                file: place,
+                line: 0,
+                kind: 6,
+            });
+        }
+        Err(ShelfFault::Memory) => return Err(Stop::Memory),
+    };
+    match format.read(alloc, &bytes) {
+        Ok(value) => Ok(value),
+        Err(TextFault::At { line, kind }) => Err(Stop::Bad {
+            file: place,
+            line,
+            kind: kind.number(),
+        }),
+        Err(TextFault::Memory) => Err(Stop::Memory),
+    }
+}
+
+// What the first named file holds.
+fn load_first<S: Shelf, F: FileFormat>(
+    alloc: Global,
+    format: &F,
+    name: &str,
+    shelf: &mut S,
+) -> Result<F::Value, Stop>
+    ensures loads { Loads S.files S.steady S.faults F.meaning
+        (λ files. file_read 1 (F.reading format.now) (file_named name.now files))
+        result shelf.old shelf.new }
+    ensures reads { ReadsAs S.reads (name.now ∷ []) result shelf.old shelf.new }
+    ensures keeps { IfOk result (F.keeps format.now) }
+{
+    load(alloc, format, name, 1, shelf)
+}
+
+// What the files of a graph and of a tree for it hold.
+fn load_tree<S: Shelf>(
+    alloc: Global,
+    graph: &str,
+    tree: &str,
+    shelf: &mut S,
+) -> Result<GivenTree, Stop>
+    ensures loads { Loads S.files S.steady S.faults given_tree
+        (λ files. tree_given files graph.now tree.now)
+        result shelf.old shelf.new }
+    ensures reads { ReadsAs S.reads (graph.now ∷ tree.now ∷ []) result shelf.old shelf.new }
+{
+    let named = load_first(alloc, &GraphFile, graph, shelf)?;
+    let format = TreeFile {
+        graph: &named.graph,
+    };
+    let tree = load(alloc, &format, tree, 2, shelf)?;
+    Ok(GivenTree { named, tree })
+}
+
+// The same with a second tree.
+fn load_trees<S: Shelf>(
+    alloc: Global,
+    graph: &str,
+    first: &str,
+    second: &str,
+    shelf: &mut S,
+) -> Result<GivenTrees, Stop>
+    ensures loads { Loads S.files S.steady S.faults given_trees
+        (λ files. trees_given files graph.now first.now second.now)
+        result shelf.old shelf.new }
+    ensures reads { ReadsAs S.reads (graph.now ∷ first.now ∷ second.now ∷ []) result shelf.old
+        shelf.new }
+{
+    let GivenTree { named, tree } = load_tree(alloc, graph, first, shelf)?;
+    let format = TreeFile {
+        graph: &named.graph,
+    };
+    let second = load(alloc, &format, second, 3, shelf)?;
+    Ok(GivenTrees {
+        named,
+        first: tree,
+        second,
+    })
+}
+
+// The same with moves.
+fn load_moves<S: Shelf>(
+    alloc: Global,
+    graph: &str,
+    tree: &str,
+    moves: &str,
+    shelf: &mut S,
+) -> Result<GivenMoves, Stop>
+    ensures loads { Loads S.files S.steady S.faults given_moves
+        (λ files. moves_given files graph.now tree.now moves.now)
+        result shelf.old shelf.new }
+    ensures reads { ReadsAs S.reads (graph.now ∷ tree.now ∷ moves.now ∷ []) result shelf.old
+        shelf.new }
+{
+    let GivenTree { named, tree } = load_tree(alloc, graph, tree, shelf)?;
+    let format = MoveFile {
+        graph: &named.graph,
+    };
+    let moves = load(alloc, &format, moves, 3, shelf)?;
+    Ok(GivenMoves { named, tree, moves })
+}
+
+/// Reads and parses the files of the command, in the order of the words, up to the first that stops it.
+pub fn gather<S: Shelf>(alloc: Global, command: Command<'_>, shelf: &mut S) -> Result<Task, Stop>
+    ensures loads { Loads S.files S.steady S.faults task_of
+        (λ files. loaded files (asked command.entry))
+        result shelf.old shelf.new }
+    ensures reads { ReadsAs S.reads (file_names (asked command.entry)) result shelf.old shelf.new }
+    ensures refuses { GatheredMayRefuse result → MayRefuse (Some (asked command.entry)) }
+{
+    match command {
+        Command::Analyse { graph } => Ok(Task::Analyse {
+            named: load_first(alloc, &GraphFile, graph, shelf)?,
+        }),
+        Command::Convert { graph } => Ok(Task::Convert {
+            named: load_first(alloc, &GraphFile, graph, shelf)?,
+        }),
+        Command::Analyse6 { graph } => Ok(Task::Analyse6 {
+            simple: load_first(alloc, &Graph6File, graph, shelf)?,
+        }),
+        Command::Decompose { graph, order } => Ok(Task::Decompose {
+            named: load_first(alloc, &GraphFile, graph, shelf)?,
+            order,
+        }),
+        Command::DecomposeBy { graph, picks } => {
+            let named = load_first(alloc, &GraphFile, graph, shelf)?;
+            let picks = load(alloc, &PickFile, picks, 2, shelf)?;
+            Ok(Task::DecomposeBy { named, picks })
+        }
+        Command::Check { graph, tree } => Ok(Task::Check {
+            given: load_tree(alloc, graph, tree, shelf)?,
+        }),
+        Command::CheckEars { graph, ears } => {
+            let named = load_first(alloc, &GraphFile, graph, shelf)?;
+            let format = EarFile {
+                graph: &named.graph,
+            };
+            let list = load(alloc, &format, ears, 2, shelf)?;
+            Ok(Task::CheckEars {
+                given: GivenEars { named, list },
+            })
+        }
+        Command::Ears { graph } => Ok(Task::Ears {
+            named: load_first(alloc, &GraphFile, graph, shelf)?,
+        }),
+        Command::Replay { graph, tree, moves } => Ok(Task::Replay {
+            given: load_moves(alloc, graph, tree, moves, shelf)?,
+        }),
+        Command::Compare {
+            graph,
+            first,
+            second,
+        } => Ok(Task::Compare {
+            given: load_trees(alloc, graph, first, second, shelf)?,
+        }),
+        Command::Script {
+            graph,
+            first,
+            second,
+        } => Ok(Task::Script {
+            given: load_trees(alloc, graph, first, second, shelf)?,
+        }),
+        Command::Grow { growth } => Ok(Task::Grow { growth }),
+    }
+}

@@ -1,8 +1,0 @@
-use Rattle.graph_text.specs.EitherVersion.{either_version}
-use Rattle.graph_text.specs.SoFar.{named_graph}
-use Rattle.bench_top.proofs.TextReads.{ReadsText-reading_of}
-use Rattle.bench_top.proofs.formats.GraphFileFileFormat.read.Goals as goal
-
-pub returns-clause-reads : goal.returns-clause-reads
-returns-clause-reads c =
-    ReadsText-reading_of either_version named_graph c.args.bytes.now c.read_any.result c.read_any.ensures.value c.read_any.ensures.fault
