@@ -254,7 +254,6 @@ module _ (g : Graph) (p : List (List ℕ)) (stage : Stage g p) (x u v : List ℕ
       other : (x u v : Bool) → (u ≡ true → x ≡ true) → (v ≡ true → x ≡ false) → not ((not x && not v) || u) ≡ ((x && not u) || v)
       other x u v h k = grind arith
 
-  -- and with n in Q
   pub new_shore_stays : Big g p (union_list g.order (inner_rest g.order x u) v) → IsNewShore g p (union_list g.order (inner_rest g.order x u) v) (union in_inner_rest (mem v)) (union in_outer_rest (mem u))
   new_shore_stays bz =
       new_shore (union_list g.order (inner_rest g.order x u) v) bz (union in_inner_rest (mem v)) (union in_outer_rest (mem u))
@@ -264,7 +263,6 @@ module _ (g : Graph) (p : List (List ℕ)) (stage : Stage g p) (x u v : List ℕ
       other : (x u v : Bool) → (u ≡ true → x ≡ true) → (v ≡ true → x ≡ false) → not ((x && not u) || v) ≡ ((not x && not v) || u)
       other x u v h k = grind arith
 
-  -- the Switch with n in v
   pub switch_greatest_comes : (a b : Shape) → AreRising g.order (cut x a b) → IsDerivationAt g p (cut x a b) → mem v g.order ≡ true → Big g p (union_list g.order (outer_rest g.order x v) u) →
       IsDerivationAt g p (cut (union_list g.order (outer_rest g.order x v) u) (merged_if_greatest_comes g.order x u b) (kept_if_greatest_comes g.order x u v a))
   switch_greatest_comes a b f d nv bz =
@@ -283,7 +281,6 @@ module _ (g : Graph) (p : List (List ℕ)) (stage : Stage g p) (x u v : List ℕ
       gone : (x u v : Bool) → v ≡ true → x ≡ false → (u ≡ true → x ≡ true) → ((not x && not v) || u) ≡ false
       gone x u v h k l = grind arith
 
-  -- the Switch with n in Q
   pub switch_greatest_stays : (a b : Shape) → AreRising g.order (cut x a b) → IsDerivationAt g p (cut x a b) → mem v g.order ≡ false → Big g p (union_list g.order (inner_rest g.order x u) v) →
       IsDerivationAt g p (cut (union_list g.order (inner_rest g.order x u) v) (kept_if_greatest_stays g.order x u v a) (merged_if_greatest_stays g.order x u v b))
   switch_greatest_stays a b f d nv bz =
