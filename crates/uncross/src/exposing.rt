@@ -19,13 +19,13 @@ ghost use Rattle.uncross.specs.TurnedView.{turned_of};
 
 use crate::leaf_maps::LeafMaps;
 use crate::move_maps::script_maps;
+use crate::partitions_below::partitions_below;
 use crate::plans::{Plan, plan_at};
 use crate::turning::{Turned, raise, turn_over_inner};
 use contraction::Partition;
 use graph_core::MultiGraph;
 use std::alloc::{AllocError as Memory, Global};
-use std::mem;
-use tree_core::{Moves, Side, Tree, copy, kept_partition, merged_partition};
+use tree_core::{Moves, Side, Tree, copy};
 use vset_core::VSet;
 
 // The root of a child that moves have made is brought over the root.
@@ -95,6 +95,27 @@ pub struct Exposure {
     pub moves: Option<Moves>,
 }
 
+// The plan is carried out at the root x, over its two trees as exposing made them.
+fn carry_out_over(
+    alloc: Global,
+    n: u32,
+    x: VSet,
+    plan: &Plan,
+    inner: Exposure,
+    outer: Exposure,
+) -> Result<Turned, Memory>
+    requires { Fits n (cut x (shape_of inner.tree) (shape_of outer.tree)) }
+    ensures { IfOk result
+        (λ r. (s : PlainTurned) →
+        plan_result n x (plan_of plan.now) (shape_of inner.tree) (shape_of outer.tree)
+        (option_map moves_of inner.moves) (option_map moves_of outer.moves) ≡ Some s →
+        turned_of r ≡ s) }
+{
+    let kept = Box::new(alloc, inner.tree)?;
+    let merged = Box::new(alloc, outer.tree)?;
+    carry_out(alloc, n, x, plan, kept, merged, &inner.moves, &outer.moves)
+}
+
 /// Brings a shore, if there is one, to the root of a derivation at p, through derivations at p.
 pub fn expose_at(
     alloc: Global,
@@ -123,40 +144,16 @@ pub fn expose_at(
         }),
         Tree::Cut {
             shore: x,
-            mut kept,
-            mut merged,
+            kept,
+            merged,
         } => {
             let plan = plan_at(p, x, y);
-            let kept_at = kept_partition(alloc, g, p, x)?;
-            let below = mem::replace(&mut *kept, Tree::Leaf);
-            let Exposure { tree, moves: inner } = expose_at(
-                alloc,
-                g,
-                &kept_at,
-                below,
-                plan.first(y),
-            )?;
-            *kept = tree;
-            let merged_at = merged_partition(alloc, g, p, x)?;
-            let below = mem::replace(&mut *merged, Tree::Leaf);
-            let Exposure { tree, moves: outer } = expose_at(
-                alloc,
-                g,
-                &merged_at,
-                below,
-                plan.second(y),
-            )?;
-            *merged = tree;
-            let Turned { tree, moves } = carry_out(
-                alloc,
-                g.order(),
-                x,
-                &plan,
-                kept,
-                merged,
-                &inner,
-                &outer,
-            )?;
+            let at = partitions_below(alloc, g, p, x)?;
+            let kept = Box::into_inner(kept);
+            let inner = expose_at(alloc, g, &at.kept, kept, plan.first(y))?;
+            let merged = Box::into_inner(merged);
+            let outer = expose_at(alloc, g, &at.merged, merged, plan.second(y))?;
+            let Turned { tree, moves } = carry_out_over(alloc, g.order(), x, &plan, inner, outer)?;
             Ok(Exposure {
                 tree,
                 moves: Some(moves),
