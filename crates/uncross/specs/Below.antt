@@ -18,3 +18,9 @@ pub record IsPartitionBelow (g : Graph) (p : List (List ℕ)) (q : PartitionValu
 pub record IsBrought (g : Graph) (p : List (List ℕ)) (s : Shape) (y : List ℕ) (k l : Shape) (ms : List PlainMove) : Type 0 where
   pub script : IsProperScript g p s ms (cut y k l)
   pub few : length ms + 2 ≤ 3 * cut_count s
+
+-- few moves turn s into the tree t, which has the root shore y
+pub record IsRaised (g : Graph) (p : List (List ℕ)) (s : Shape) (y : List ℕ) (t : Shape) (ms : List PlainMove) : Type 0 where
+  pub root : (a : Shape) × (b : Shape) × (t ≡ cut y a b)
+  pub script : IsProperScript g p s ms t
+  pub few : length ms + 2 ≤ 3 * cut_count s

@@ -1,5 +1,5 @@
 //! Comparing: a derivation is turned into another, and the leaves of the two are paired.
-ghost use Rattle.std.specs.Prelude.{◌≡◌, ◌++◌, ◌*◌, ◌≤◌, IfOk, OnOk, length, map};
+ghost use Rattle.std.specs.Prelude.{◌≡◌, ◌++◌, ◌*◌, ◌≤◌, IfOk, length, map};
 ghost use Rattle.graph_core.specs.Covered.{IsCovered};
 ghost use Rattle.graph_core.specs.Partitions.{singles};
 ghost use Rattle.graph_core.specs.Quotients.{quotient};
@@ -73,15 +73,16 @@ fn bring(
     }
 }
 
-// Appends the moves made in the two trees below the root, each one step further down.
-fn append_both(alloc: Global, kept: &Moves, merged: &Moves, into: &mut Moves) -> Result<(), Memory>
-    ensures { OnOk result
-        (moves_of into.new ≡ (moves_of into.old ++ map (below Side.Kept) (moves_of kept.now)) ++
-        map (below Side.Merged) (moves_of merged.now)) }
+// Moves, and behind them those made in the two trees below the root, each one step further down.
+fn with_both(alloc: Global, moves: Moves, kept: Moves, merged: Moves) -> Result<Moves, Memory>
+    ensures { IfOk result
+        (λ ms. moves_of ms ≡ (moves_of moves ++ map (below Side.Kept) (moves_of kept)) ++
+        map (below Side.Merged) (moves_of merged)) }
 {
-    append_below(alloc, Side::Kept, kept.as_slice(), into)?;
-    append_below(alloc, Side::Merged, merged.as_slice(), into)?;
-    Ok(())
+    let mut all = moves;
+    append_below(alloc, Side::Kept, kept.as_slice(), &mut all)?;
+    append_below(alloc, Side::Merged, merged.as_slice(), &mut all)?;
+    Ok(all)
 }
 
 /// The moves that turn the first derivation at p into the second, through derivations at p: the root shore of the second is exposed in
@@ -114,12 +115,11 @@ pub fn compare_at(
             merged,
         } => {
             let y = *shore;
-            let brought = bring(alloc, g, p, first, y)?;
-            let mut moves = brought.moves;
             let at = partitions_below(alloc, g, p, y)?;
+            let brought = bring(alloc, g, p, first, y)?;
             let in_kept = compare_at(alloc, g, &at.kept, brought.kept, kept)?;
             let in_merged = compare_at(alloc, g, &at.merged, brought.merged, merged)?;
-            append_both(alloc, &in_kept, &in_merged, &mut moves)?;
+            let moves = with_both(alloc, brought.moves, in_kept, in_merged)?;
             Ok(moves)
         }
     }

@@ -12,6 +12,7 @@ ghost use Rattle.tree_core.specs.Shapes.{Fits, Shape, cut, cut_count};
 ghost use Rattle.tree_core.specs.View.{shape_of};
 ghost use Rattle.move_laws.specs.Pairings.{IsPairing};
 ghost use Rattle.move_laws.specs.Turning.{PlainTurned, followed, raised};
+ghost use Rattle.uncross.specs.Below.{IsRaised};
 ghost use Rattle.uncross.specs.MapView.{maps_of};
 ghost use Rattle.uncross.specs.PlanView.{plan_of};
 ghost use Rattle.uncross.specs.Plans.{CutIf, IsExposed, plan_result};
@@ -25,7 +26,7 @@ use crate::turning::{Turned, raise, turn_over_inner};
 use contraction::Partition;
 use graph_core::MultiGraph;
 use std::alloc::{AllocError as Memory, Global};
-use tree_core::{Moves, Side, Tree, copy};
+use tree_core::{Moves, Side, Tree, copy, root_partition};
 use vset_core::VSet;
 
 // The root of a child that moves have made is brought over the root.
@@ -174,6 +175,20 @@ pub struct Exposed {
     pub maps: LeafMaps,
 }
 
+// Brings a shore to the root of a derivation of a graph, through derivations.
+fn bring_up(alloc: Global, g: &MultiGraph, tree: Tree, shore: VSet) -> Result<Turned, Memory>
+    requires derives { IsDerivation g.now (shape_of tree) }
+    requires shore { IsCutAt g.now (singles g.now.order) shore }
+    ensures { IfOk result
+        (λ r. IsRaised g.now (singles g.now.order) (shape_of tree) shore (shape_of r.tree)
+        (moves_of r.moves)) }
+{
+    let root = root_partition(alloc, g)?;
+    let Exposure { tree, moves: found } = expose_at(alloc, g, &root, tree, Some(shore))?;
+    let moves = found.unwrap_or(Moves::new(alloc));
+    Ok(Turned { tree, moves })
+}
+
 /// Brings a canonical nontrivial tight shore to the root of a derivation of a graph by moves, through derivations, and pairs each leaf
 /// of the tree with one of the new tree by the maps of these moves. There are at most 5 c moves for a tree of c cuts. The only error
 /// is `Memory`; after it the tree is given up.
@@ -193,10 +208,8 @@ pub fn expose(alloc: Global, g: &MultiGraph, tree: Tree, shore: VSet) -> Result<
         (leaves g.now.order (shape_of r.tree)) (maps_of r.maps)) }
 {
     g.keeps_limits();
-    let root = Partition::singles(alloc, g.order())?;
     let before = copy(alloc, &tree)?;
-    let Exposure { tree, moves: found } = expose_at(alloc, g, &root, tree, Some(shore))?;
-    let moves = found.unwrap_or(Moves::new(alloc));
+    let Turned { tree, moves } = bring_up(alloc, g, tree, shore)?;
     let maps = script_maps(alloc, g, &before, &moves)?;
     Ok(Exposed { tree, moves, maps })
 }

@@ -8,7 +8,7 @@ use Rattle.tree_core.specs.declared.tree.Tree.{Tree}
 use Rattle.uncross.proofs.CompareSteps.{IsCompared, both_leaves, compared}
 use Rattle.move_laws.specs.Scripts.{IsProperScript}
 use Rattle.uncross.proofs.comparing.+compare_at.Goals as goal
-use Rattle.uncross.proofs.comparing.+compare_at.Goals.{In_ok-brought-in-Cut, In_ok-append_both-in-Cut}
+use Rattle.uncross.proofs.comparing.+compare_at.Goals.{In_ok-brought-in-Cut, In_ok-moves-in-Cut}
 
 -- the trees below the root shore of the second tree, which was brought to the root of the first
 below_shore : (t : ℕ) (c : In_ok-brought-in-Cut t) →
@@ -45,18 +45,18 @@ returns-in-Leaf-clause-script t c =
     (both_leaves c.args.g.now c.args.p.now.order c.args.p.now.blocks (shape_of c.args.first) (shape_of c.args.second.now) c.keeps_limits.ensures.multigraph.ends c.requires.order c.keeps_partition.ensures.partition c.requires.covered (ap shape_of c.in-Leaf.is) c.requires.first c.requires.second)
 
 -- the moves put together
-together : (t : ℕ) (c : In_ok-append_both-in-Cut t) →
+together : (t : ℕ) (c : In_ok-moves-in-Cut t) →
     IsCompared c.args.g.now c.args.p.now.blocks (shape_of c.args.first) (shape_of c.args.second.now) c.in-Cut.shore (shape_of c.in_ok-brought-in-Cut.brought.kept) (shape_of c.in_ok-brought-in-Cut.brought.merged) (shape_of c.in-Cut.kept.value) (shape_of c.in-Cut.merged.value) (moves_of c.in_ok-brought-in-Cut.brought.moves) →
-    IsProperScript c.args.g.now c.args.p.now.blocks (shape_of c.args.first) (moves_of c.append_both.new.into) (shape_of c.args.second.now) × (length (moves_of c.append_both.new.into) ≤ 5 * (cut_count (shape_of c.args.first) * cut_count (shape_of c.args.first)))
+    IsProperScript c.args.g.now c.args.p.now.blocks (shape_of c.args.first) (moves_of c.in_ok-moves-in-Cut.moves) (shape_of c.args.second.now) × (length (moves_of c.in_ok-moves-in-Cut.moves) ≤ 5 * (cut_count (shape_of c.args.first) * cut_count (shape_of c.args.first)))
 together t c below_both =
     below_both.whole c.in_ok-at-in-Cut.at.kept.blocks c.in_ok-at-in-Cut.at.merged.blocks (moves_of c.in_ok-in_kept-in-Cut.in_kept) (moves_of c.in_ok-in_merged-in-Cut.in_merged)
     (shape_of c.in_ok-brought-in-Cut.brought.kept) (shape_of c.deref.result.now) (shape_of c.in_ok-brought-in-Cut.brought.merged) (shape_of c.deref-in-Cut.result.now)
     c.in_ok-at-in-Cut.ensures.kept.blocks c.in_ok-at-in-Cut.ensures.merged.blocks refl (ap shape_of c.deref.ensures) refl (ap shape_of c.deref-in-Cut.ensures)
     c.in_ok-in_kept-in-Cut.ensures.script c.in_ok-in_merged-in-Cut.ensures.script c.in_ok-in_kept-in-Cut.ensures.few c.in_ok-in_merged-in-Cut.ensures.few
-    (moves_of c.append_both.new.into) c.in_ok-append_both-in-Cut.ensures
+    (moves_of c.in_ok-moves-in-Cut.moves) c.in_ok-moves-in-Cut.ensures
 
-pub returns-in_ok-append_both-in-Cut-clause-script : goal.returns-in_ok-append_both-in-Cut-clause-script
-returns-in_ok-append_both-in-Cut-clause-script t c = (let at = goal.at.returns-in_ok-append_both-in-Cut-clause-script t c in together t at.In_ok-append_both-in-Cut (below_shore t at.In_ok-brought-in-Cut)).0
+pub returns-in_ok-moves-in-Cut-clause-script : goal.returns-in_ok-moves-in-Cut-clause-script
+returns-in_ok-moves-in-Cut-clause-script t c = (let at = goal.at.returns-in_ok-moves-in-Cut-clause-script t c in together t at.In_ok-moves-in-Cut (below_shore t at.In_ok-brought-in-Cut)).0
 
-pub returns-in_ok-append_both-in-Cut-clause-few : goal.returns-in_ok-append_both-in-Cut-clause-few
-returns-in_ok-append_both-in-Cut-clause-few t c = (let at = goal.at.returns-in_ok-append_both-in-Cut-clause-few t c in together t at.In_ok-append_both-in-Cut (below_shore t at.In_ok-brought-in-Cut)).1
+pub returns-in_ok-moves-in-Cut-clause-few : goal.returns-in_ok-moves-in-Cut-clause-few
+returns-in_ok-moves-in-Cut-clause-few t c = (let at = goal.at.returns-in_ok-moves-in-Cut-clause-few t c in together t at.In_ok-moves-in-Cut (below_shore t at.In_ok-brought-in-Cut)).1
