@@ -1,5 +1,5 @@
 -- What exposing a shore in a derivation of a graph gives: a script of few moves to a derivation with the shore at its root.
-use Rattle.std.proofs.Common.{List, None, Option, Some, ap, arith, length, option_map, subst, subst₂, sym, unwrap_or, ℕ, ◌*◌, ◌+◌, ◌≡◌, ◌≤◌, ◌∙◌}
+use Rattle.std.proofs.Common.{List, None, Option, Some, ap, arith, option_map, subst, subst₂, sym, unwrap_or, ℕ, ◌≡◌, ◌∙◌}
 use Rattle.graph_core.specs.Graph.{Graph}
 use Rattle.graph_core.specs.Partitions.{singles}
 use Rattle.tree_core.specs.MoveView.{moves_of}

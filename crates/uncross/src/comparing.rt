@@ -3,7 +3,7 @@ ghost use Rattle.std.specs.Prelude.{◌≡◌, ◌++◌, ◌*◌, ◌≤◌, IfO
 ghost use Rattle.graph_core.specs.Covered.{IsCovered};
 ghost use Rattle.graph_core.specs.Partitions.{singles};
 ghost use Rattle.graph_core.specs.Quotients.{quotient};
-ghost use Rattle.tree_core.specs.Derivations.{IsCutAt, IsDerivation, IsDerivationAt};
+ghost use Rattle.tree_core.specs.Derivations.{IsCutAt, IsDerivation, IsDerivationAt, kept_at, merged_at};
 ghost use Rattle.tree_core.specs.LeafMaps.{script_maps};
 ghost use Rattle.tree_core.specs.Leaves.{leaves};
 ghost use Rattle.tree_core.specs.MoveView.{moves_of};
@@ -12,13 +12,13 @@ ghost use Rattle.tree_core.specs.Shapes.{cut_count};
 ghost use Rattle.tree_core.specs.View.{shape_of};
 ghost use Rattle.move_laws.specs.Pairings.{IsPairing};
 ghost use Rattle.move_laws.specs.Scripts.{IsProperScript};
-ghost use Rattle.uncross.specs.Below.{IsBrought};
+ghost use Rattle.uncross.specs.Below.{IsBrought, IsPartitionBelow};
 ghost use Rattle.uncross.specs.MapView.{maps_of};
 
 use crate::exposing::{Exposure, expose_at};
 use crate::leaf_maps::LeafMaps;
 use crate::move_maps::script_maps;
-use crate::partitions_below::partitions_below;
+use crate::partitions_below::{PartitionsBelow, partitions_below};
 use crate::turning::append_below;
 use contraction::Partition;
 use graph_core::MultiGraph;
@@ -26,9 +26,11 @@ use std::alloc::{AllocError as Memory, Global};
 use tree_core::{Moves, Side, Tree, copy};
 use vset_core::VSet;
 
-/// The two trees below a shore that moves brought to the root, and the moves.
+/// The two trees below a shore that moves brought to the root, the partitions at them, and the moves.
 #[derive(Drop)]
 pub struct Brought {
+    /// The partitions at the two trees.
+    pub at: PartitionsBelow,
     /// The tree in `kept`.
     pub kept: Tree,
     /// The tree in `merged`.
@@ -49,14 +51,20 @@ fn bring(
     requires covered { IsCovered (quotient g.now p.now.blocks) }
     requires derives { IsDerivationAt g.now p.now.blocks (shape_of tree) }
     requires shore { IsCutAt g.now p.now.blocks shore }
-    ensures { IfOk result
+    ensures kept { IfOk result
+        (λ r. IsPartitionBelow g.now (kept_at g.now.order p.now.blocks shore) r.at.kept) }
+    ensures merged { IfOk result
+        (λ r. IsPartitionBelow g.now (merged_at g.now.order p.now.blocks shore) r.at.merged) }
+    ensures brought { IfOk result
         (λ r. IsBrought g.now p.now.blocks (shape_of tree) shore (shape_of r.kept) (shape_of r.merged)
         (moves_of r.moves)) }
 {
+    let at = partitions_below(alloc, g, p, shore)?;
     let Exposure { tree, moves } = expose_at(alloc, g, p, tree, Some(shore))?;
     let moves = moves.unwrap_or(Moves::new(alloc));
     match tree {
         Tree::Leaf => Ok(Brought {
+            at,
             kept: Tree::Leaf,
             merged: Tree::Leaf,
             moves,
@@ -65,6 +73,7 @@ fn bring(
             let kept = Box::into_inner(kept);
             let merged = Box::into_inner(merged);
             Ok(Brought {
+                at,
                 kept,
                 merged,
                 moves,
@@ -115,8 +124,8 @@ pub fn compare_at(
             merged,
         } => {
             let y = *shore;
-            let at = partitions_below(alloc, g, p, y)?;
             let brought = bring(alloc, g, p, first, y)?;
+            let at = brought.at;
             let in_kept = compare_at(alloc, g, &at.kept, brought.kept, kept)?;
             let in_merged = compare_at(alloc, g, &at.merged, brought.merged, merged)?;
             let moves = with_both(alloc, brought.moves, in_kept, in_merged)?;

@@ -16,28 +16,25 @@ below_shore : (t : ℕ) (c : In_ok-brought-in-Cut t) →
 below_shore t c =
     compared c.args.g.now c.args.p.now.order c.args.p.now.blocks (shape_of c.args.first) (shape_of c.args.second.now) c.in-Cut.shore (shape_of c.in-Cut.kept.value) (shape_of c.in-Cut.merged.value)
     c.keeps_limits.ensures.multigraph.ends c.requires.order c.keeps_partition.ensures.partition c.requires.covered (ap shape_of c.in-Cut.is) c.requires.first c.requires.second
-    (shape_of c.in_ok-brought-in-Cut.brought.kept) (shape_of c.in_ok-brought-in-Cut.brought.merged) (moves_of c.in_ok-brought-in-Cut.brought.moves) c.in_ok-brought-in-Cut.ensures
+    (shape_of c.in_ok-brought-in-Cut.brought.kept) (shape_of c.in_ok-brought-in-Cut.brought.merged) (moves_of c.in_ok-brought-in-Cut.brought.moves) c.in_ok-brought-in-Cut.ensures.brought
 
 abbrev nodes_of : Tree → ℕ
 nodes_of tree = node_count (shape_of tree)
 
 pub compare_at-requires : goal.compare_at-requires
 compare_at-requires t c =
-    let asks = (below_shore t (goal.at.compare_at-requires t c).In_ok-brought-in-Cut).kept c.in_ok-at-in-Cut.at.kept.blocks (shape_of c.in_ok-brought-in-Cut.brought.kept) (shape_of c.deref.result.now) c.in_ok-at-in-Cut.ensures.kept.blocks refl (ap shape_of c.deref.ensures) in
+    let asks = (below_shore t (goal.at.compare_at-requires t c).In_ok-brought-in-Cut).kept c.in_ok-brought-in-Cut.brought.at.kept.blocks (shape_of c.in_ok-brought-in-Cut.brought.kept) (shape_of c.deref.result.now) c.in_ok-brought-in-Cut.ensures.kept.blocks refl (ap shape_of c.deref.ensures) in
     let below = ap nodes_of c.deref.ensures in let whole = ap nodes_of c.in-Cut.is in let size = c.decreases in
-    (omega arith, (c.in_ok-at-in-Cut.ensures.kept.order, (c.in_ok-at-in-Cut.ensures.kept.covered, asks)))
+    (omega arith, (c.in_ok-brought-in-Cut.ensures.kept.order, (c.in_ok-brought-in-Cut.ensures.kept.covered, asks)))
 
 pub compare_at-requires-in-Cut : goal.compare_at-requires-in-Cut
 compare_at-requires-in-Cut t c =
-    let asks = (below_shore t (goal.at.compare_at-requires-in-Cut t c).In_ok-brought-in-Cut).merged c.in_ok-at-in-Cut.at.merged.blocks (shape_of c.in_ok-brought-in-Cut.brought.merged) (shape_of c.deref-in-Cut.result.now) c.in_ok-at-in-Cut.ensures.merged.blocks refl (ap shape_of c.deref-in-Cut.ensures) in
+    let asks = (below_shore t (goal.at.compare_at-requires-in-Cut t c).In_ok-brought-in-Cut).merged c.in_ok-brought-in-Cut.brought.at.merged.blocks (shape_of c.in_ok-brought-in-Cut.brought.merged) (shape_of c.deref-in-Cut.result.now) c.in_ok-brought-in-Cut.ensures.merged.blocks refl (ap shape_of c.deref-in-Cut.ensures) in
     let below = ap nodes_of c.deref-in-Cut.ensures in let whole = ap nodes_of c.in-Cut.is in let size = c.decreases in
-    (omega arith, (c.in_ok-at-in-Cut.ensures.merged.order, (c.in_ok-at-in-Cut.ensures.merged.covered, asks)))
+    (omega arith, (c.in_ok-brought-in-Cut.ensures.merged.order, (c.in_ok-brought-in-Cut.ensures.merged.covered, asks)))
 
 pub bring-requires-clause-shore : goal.bring-requires-clause-shore
 bring-requires-clause-shore t c = (subst (λ (tree : Tree). IsDerivationAt c.args.g.now c.args.p.now.blocks (shape_of tree)) c.in-Cut.is c.requires.second).0
-
-pub partitions_below-requires-clause-cut : goal.partitions_below-requires-clause-cut
-partitions_below-requires-clause-cut t c = (subst (λ (tree : Tree). IsDerivationAt c.args.g.now c.args.p.now.blocks (shape_of tree)) c.in-Cut.is c.requires.second).0
 
 pub returns-in-Leaf-clause-script : goal.returns-in-Leaf-clause-script
 returns-in-Leaf-clause-script t c =
@@ -49,9 +46,9 @@ together : (t : ℕ) (c : In_ok-moves-in-Cut t) →
     IsCompared c.args.g.now c.args.p.now.blocks (shape_of c.args.first) (shape_of c.args.second.now) c.in-Cut.shore (shape_of c.in_ok-brought-in-Cut.brought.kept) (shape_of c.in_ok-brought-in-Cut.brought.merged) (shape_of c.in-Cut.kept.value) (shape_of c.in-Cut.merged.value) (moves_of c.in_ok-brought-in-Cut.brought.moves) →
     IsProperScript c.args.g.now c.args.p.now.blocks (shape_of c.args.first) (moves_of c.in_ok-moves-in-Cut.moves) (shape_of c.args.second.now) × (length (moves_of c.in_ok-moves-in-Cut.moves) ≤ 5 * (cut_count (shape_of c.args.first) * cut_count (shape_of c.args.first)))
 together t c below_both =
-    below_both.whole c.in_ok-at-in-Cut.at.kept.blocks c.in_ok-at-in-Cut.at.merged.blocks (moves_of c.in_ok-in_kept-in-Cut.in_kept) (moves_of c.in_ok-in_merged-in-Cut.in_merged)
+    below_both.whole c.in_ok-brought-in-Cut.brought.at.kept.blocks c.in_ok-brought-in-Cut.brought.at.merged.blocks (moves_of c.in_ok-in_kept-in-Cut.in_kept) (moves_of c.in_ok-in_merged-in-Cut.in_merged)
     (shape_of c.in_ok-brought-in-Cut.brought.kept) (shape_of c.deref.result.now) (shape_of c.in_ok-brought-in-Cut.brought.merged) (shape_of c.deref-in-Cut.result.now)
-    c.in_ok-at-in-Cut.ensures.kept.blocks c.in_ok-at-in-Cut.ensures.merged.blocks refl (ap shape_of c.deref.ensures) refl (ap shape_of c.deref-in-Cut.ensures)
+    c.in_ok-brought-in-Cut.ensures.kept.blocks c.in_ok-brought-in-Cut.ensures.merged.blocks refl (ap shape_of c.deref.ensures) refl (ap shape_of c.deref-in-Cut.ensures)
     c.in_ok-in_kept-in-Cut.ensures.script c.in_ok-in_merged-in-Cut.ensures.script c.in_ok-in_kept-in-Cut.ensures.few c.in_ok-in_merged-in-Cut.ensures.few
     (moves_of c.in_ok-moves-in-Cut.moves) c.in_ok-moves-in-Cut.ensures
 
