@@ -26,7 +26,7 @@ use std::alloc::{AllocError as Memory, Global};
 use tree_core::{Moves, Side, Tree, copy};
 use vset_core::VSet;
 
-/// The two trees below a shore that moves brought to the root, the partitions at them, and the moves.
+/// The two trees below a shore that moves brought to the root, their partitions, and the moves.
 #[derive(Drop)]
 pub struct Brought {
     /// The partitions at the two trees.
@@ -56,8 +56,8 @@ fn bring(
     ensures merged { IfOk result
         (λ r. IsPartitionBelow g.now (merged_at g.now.order p.now.blocks shore) r.at.merged) }
     ensures brought { IfOk result
-        (λ r. IsBrought g.now p.now.blocks (shape_of tree) shore (shape_of r.kept) (shape_of r.merged)
-        (moves_of r.moves)) }
+        (λ r. IsBrought g.now p.now.blocks (shape_of tree) shore (shape_of r.kept)
+        (shape_of r.merged) (moves_of r.moves)) }
 {
     let at = partitions_below(alloc, g, p, shore)?;
     let Exposure { tree, moves } = expose_at(alloc, g, p, tree, Some(shore))?;
