@@ -1,11 +1,11 @@
 -- The steps of turning a derivation into another, as the code takes them: what its two calls below the root may ask, and that the whole
 -- is a script of few moves.
-use Rattle.std.proofs.Common.{◌≡◌, ℕ, ◌+◌, ◌*◌, ◌≤◌, List, ◌++◌, length, map, Some, sym, ap, ◌∙◌, arith, subst}
+use Rattle.std.proofs.Common.{◌≡◌, ℕ, ◌+◌, ◌*◌, ◌≤◌, List, ◌++◌, length, map, sym, arith, subst}
 use Rattle.graph_core.specs.Covered.{IsCovered}
 use Rattle.graph_core.specs.Graph.{Graph, IsGraph}
 use Rattle.graph_core.specs.Partitions.{IsPartition}
 use Rattle.graph_core.specs.Quotients.{quotient}
-use Rattle.tree_core.specs.Derivations.{IsDerivationAt, kept_at, merged_at}
+use Rattle.tree_core.specs.Derivations.{IsCutAt, IsDerivationAt, kept_at, merged_at}
 use Rattle.tree_core.specs.Moves.{PlainMove, below}
 use Rattle.tree_core.specs.Shapes.{Shape, cut, cut_count, leaf}
 use Rattle.tree_core.specs.declared.path.Side.TheVariants.{Kept, Merged}
@@ -15,7 +15,7 @@ use Rattle.uncross.proofs.ExposeSteps.{stage_of}
 use Rattle.move_laws.proofs.NestedShores.{leaf_not}
 use Rattle.move_laws.proofs.Rising.{rising-derivation_at}
 use Rattle.move_laws.proofs.Scripts.{length_below, length_join, script_end, script_join, script_kept, script_merged}
-use Rattle.uncross.specs.Plans.{CutIf, IsExposed}
+use Rattle.uncross.specs.Below.{IsBrought}
 use Rattle.move_laws.specs.Scripts.{AreRising, IsProperScript}
 
 -- a derivation where another is a leaf is a leaf
@@ -38,29 +38,13 @@ module _ (g : Graph) (n : ℕ) (p : List (List ℕ)) (s t : Shape) (y : List ℕ
   second : IsDerivationAt g p (cut y k2 r2)
   second = subst (IsDerivationAt g p) w dt
 
-  -- what may be asked of exposing
-  pub asks_exposing : CutIf g p (Some y)
-  asks_exposing = second.0
+  -- what may be asked of bringing
+  pub asks_bringing : IsCutAt g p y
+  asks_bringing = second.0
 
-  module _ (made : Shape) (x : List ℕ) (k1 r1 : Shape) (ms : List PlainMove) (is_made : made ≡ cut x k1 r1) (ex : IsExposed g p s (Some y) made (Some ms)) where
-    shapes : cut x k1 r1 ≡ cut y ex.0 ex.1
-    shapes = sym is_made ∙ ex.2
-
-    left_of : Shape → Shape
-    left_of leaf = leaf
-    left_of (cut x a b) = a
-
-    right_of : Shape → Shape
-    right_of leaf = leaf
-    right_of (cut x a b) = b
-
-    -- the tree that exposing made
-    at_y : cut y k1 r1 ≡ cut y ex.0 ex.1
-    unfolding left_of right_of
-    at_y = ap (λ t. cut y (left_of t) (right_of t)) shapes
-
+  module _ (k1 r1 : Shape) (ms : List PlainMove) (brought : IsBrought g p s y k1 r1 ms) where
     script : IsProperScript g p s ms (cut y k1 r1)
-    script = subst (IsProperScript g p s ms) (sym at_y) ex.3
+    script = brought.script
 
     ended : IsDerivationAt g p (cut y k1 r1) × AreRising g.order (cut y k1 r1) × (cut_count (cut y k1 r1) ≡ cut_count s)
     ended = script_end g p s ms (cut y k1 r1) ds (rising-derivation_at g p s ds) script
@@ -102,7 +86,7 @@ module _ (g : Graph) (n : ℕ) (p : List (List ℕ)) (s t : Shape) (y : List ℕ
           let l3 = length_below Kept ks in let l4 = length_below Merged ns in
           let c : cut_count s ≡ 1 + cut_count k1 + cut_count r1 = sym ended.2 in
           let sq = square (cut_count k1) (cut_count r1) (cut_count s) c in
-          let b0 = ex.4 in
+          let b0 = brought.few in
           let b1 : length ks ≤ 5 * (cut_count k1 * cut_count k1) = subst (λ a. length ks ≤ 5 * (cut_count a * cut_count a)) e1 bk in
           let b2 : length ns ≤ 5 * (cut_count r1 * cut_count r1) = subst (λ a. length ns ≤ 5 * (cut_count a * cut_count a)) e3 br in
           omega arith

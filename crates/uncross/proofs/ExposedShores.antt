@@ -1,24 +1,44 @@
 -- What exposing a shore in a derivation of a graph gives: a script of few moves to a derivation with the shore at its root.
-use Rattle.std.proofs.Common.{List, None, Option, Some, length, option_map, subst, subst₂, sym, unwrap_or, ℕ, ◌*◌, ◌+◌, ◌≡◌, ◌≤◌}
+use Rattle.std.proofs.Common.{List, None, Option, Some, ap, arith, option_map, subst, subst₂, sym, unwrap_or, ℕ, ◌≡◌, ◌∙◌}
 use Rattle.graph_core.specs.Graph.{Graph}
 use Rattle.graph_core.specs.Partitions.{singles}
 use Rattle.tree_core.specs.MoveView.{moves_of}
-use Rattle.tree_core.specs.Shapes.{Shape, cut, cut_count}
+use Rattle.tree_core.specs.Shapes.{Shape, cut, cut_count, leaf}
 use Rattle.tree_core.specs.declared.moves.Move.{Move}
+use Rattle.uncross.specs.Below.{IsBrought, IsRaised}
 use Rattle.uncross.specs.Plans.{IsExposed}
 use Rattle.move_laws.specs.Scripts.{IsProperScript}
 
--- the tree t was reached from s by these moves, and has the shore y at its root
-pub record IsRaised (g : Graph) (p : List (List ℕ)) (s : Shape) (y : List ℕ) (t : Shape) (ms : List Move) : Type 0 where
-  pub root : (a : Shape) × (b : Shape) × (t ≡ cut y a b)
-  pub script : IsProperScript g p s (moves_of ms) t
-  pub few : length (moves_of ms) + 2 ≤ 3 * cut_count s
-
 -- where a shore is exposed, there are moves, whatever would stand for none
-pub raised : (g : Graph) (p : List (List ℕ)) (s : Shape) (y : List ℕ) (t : Shape) (found : Option (List Move)) (other : List Move) → IsExposed g p s (Some y) t (option_map moves_of found) → IsRaised g p s y t (unwrap_or found other)
+pub raised : (g : Graph) (p : List (List ℕ)) (s : Shape) (y : List ℕ) (t : Shape) (found : Option (List Move)) (other : List Move) → IsExposed g p s (Some y) t (option_map moves_of found) → IsRaised g p s y t (moves_of (unwrap_or found other))
 raised g p s y t None other h = absurd h
 raised g p s y t (Some ms) other h = record { root = (h.0, h.1, h.2); script = subst (IsProperScript g p s (moves_of ms)) (sym h.2) h.3; few = h.4 }
 
 -- the same at single vertices, for the moves that stand for those found
-pub raised_at_singles : (g : Graph) (p : List (List ℕ)) (s : Shape) (y : List ℕ) (t : Shape) (found : Option (List Move)) (other ms : List Move) → p ≡ singles g.order → ms ≡ unwrap_or found other → IsExposed g p s (Some y) t (option_map moves_of found) → IsRaised g (singles g.order) s y t ms
-raised_at_singles g p s y t found other ms at e h = subst₂ (λ (q : List (List ℕ)) (ns : List Move). IsRaised g q s y t ns) at (sym e) (raised g p s y t found other h)
+pub raised_at_singles : (g : Graph) (p : List (List ℕ)) (s : Shape) (y : List ℕ) (t : Shape) (found : Option (List Move)) (other ms : List Move) → p ≡ singles g.order → ms ≡ unwrap_or found other → IsExposed g p s (Some y) t (option_map moves_of found) → IsRaised g (singles g.order) s y t (moves_of ms)
+raised_at_singles g p s y t found other ms at e h = subst₂ (λ (q : List (List ℕ)) (ns : List Move). IsRaised g q s y t (moves_of ns)) at (sym e) (raised g p s y t found other h)
+
+left_of : Shape → Shape
+left_of leaf = leaf
+left_of (cut x a b) = a
+
+right_of : Shape → Shape
+right_of leaf = leaf
+right_of (cut x a b) = b
+
+-- where the new tree is a cut, its shore is the one that was exposed
+pub brought : (g : Graph) (p : List (List ℕ)) (s : Shape) (y : List ℕ) (t : Shape) (found : Option (List Move)) (other ms : List Move) → ms ≡ unwrap_or found other → IsExposed g p s (Some y) t (option_map moves_of found) →
+    (x : List ℕ) (k l : Shape) → t ≡ cut x k l → IsBrought g p s y k l (moves_of ms)
+unfolding left_of right_of
+brought g p s y t found other ms e h x k l is =
+    let up = subst (λ (ns : List Move). IsRaised g p s y t (moves_of ns)) (sym e) (raised g p s y t found other h) in
+    let same : cut y k l ≡ t = ap (λ (r : Shape). cut y (left_of r) (right_of r)) (sym is ∙ up.root.2) ∙ sym up.root.2 in
+    record { script = subst (IsProperScript g p s (moves_of ms)) (sym same) up.script; few = up.few }
+
+-- and it is no leaf
+pub brought_no_leaf : (g : Graph) (p : List (List ℕ)) (s : Shape) (y : List ℕ) (t : Shape) (found : Option (List Move)) (other ms : List Move) → ms ≡ unwrap_or found other → IsExposed g p s (Some y) t (option_map moves_of found) →
+    t ≡ leaf → (k l : Shape) → IsBrought g p s y k l (moves_of ms)
+brought_no_leaf g p s y t found other ms e h is k l =
+    let up = subst (λ (ns : List Move). IsRaised g p s y t (moves_of ns)) (sym e) (raised g p s y t found other h) in
+    let none = ap cut_count (sym is ∙ up.root.2) in
+    absurd (omega arith)

@@ -1,14 +1,20 @@
 -- Two pairings, one after the other, can be composed: each map of the first leads to a leaf of the second, by names of blocks that have a
 -- place there.
-use Rattle.std.proofs.Common.{All, List, [], ◌∷◌, ap, arith, get_or, length, refl, subst, sym, ℕ, ◌+◌, ◌-◌, ◌≡◌, ◌≤◌}
+use Rattle.std.proofs.Common.{All, List, [], ◌∙◌, ◌∷◌, ap, ap₂, arith, get_or, length, map, refl, subst, subst₂, sym, ℕ, ◌+◌, ◌-◌, ◌≡◌, ◌≤◌}
+use Rattle.std.proofs.lemmas.List.{length-map}
 use Rattle.std.proofs.lemmas.List.Elements.{All-from_get_or}
+use Rattle.contraction.specs.Partition.{PartitionValue}
 use Rattle.counting.specs.Counts.{Within}
 use Rattle.graph_core.specs.Graph.{Graph}
 use Rattle.graph_core.specs.Partitions.{IsPartition, place}
-use Rattle.tree_core.specs.LeafMaps.{PlainLeafMap, leaf_at, map_at, name}
-use Rattle.tree_core.specs.Leaves.{partitions_of}
+use Rattle.tree_core.specs.LeafMaps.{PlainLeafMap, leaf_at, map_at, move_maps, name, then_map}
+use Rattle.tree_core.specs.Leaves.{leaves, partitions_of}
+use Rattle.tree_core.specs.Moves.{PlainMove}
+use Rattle.tree_core.specs.Shapes.{Shape}
 use Rattle.move_laws.proofs.SameLeaves.{name_within}
-use Rattle.uncross.specs.Following.{IsFollowed, IsNamed, blocks_of}
+use Rattle.uncross.specs.Following.{IsFollowed, IsNamed, LeadsOn, blocks_of, led_on}
+use Rattle.uncross.specs.MapView.{map_of, maps_of}
+use Rattle.uncross.specs.declared.leaf_maps.LeafMap.{LeafMap}
 use Rattle.move_laws.specs.Pairings.{IsPairing}
 use Rattle.move_laws.specs.SameLeaf.{IsSameLeaf, image}
 
@@ -48,3 +54,20 @@ followed g ps qs rs first second few parts one two = All-from_get_or (IsFollowed
 pub blocks-partitions : (n : ℕ) (ps : List (List (List ℕ))) → blocks_of (partitions_of n ps) ≡ ps
 blocks-partitions n [] = refl
 blocks-partitions n (p ∷ ps) = ap (λ qs. p ∷ qs) (blocks-partitions n ps)
+
+-- the maps of a move, `seconds`, and the leaves ps of its tree, as the code has them
+module _ (n : ℕ) (t : Shape) (m : PlainMove) (maps : List PlainLeafMap) (seconds : List LeafMap) (ps : List PartitionValue) (are_maps : maps_of seconds ≡ move_maps n t m) (are_leaves : ps ≡ partitions_of n (leaves n t)) where
+  its_leaves : blocks_of ps ≡ leaves n t
+  its_leaves = ap blocks_of are_leaves ∙ blocks-partitions n (leaves n t)
+
+  -- there are as many maps as leaves
+  pub as_many : LeadsOn n t m maps → length seconds ≡ length ps
+  as_many on = sym (length-map seconds map_of) ∙ ap length are_maps ∙ on.one_each ∙ sym (ap length its_leaves) ∙ length-map ps (λ (p : PartitionValue). p.blocks)
+
+  -- the maps so far may be followed by these
+  pub follows : LeadsOn n t m maps → All (IsFollowed (blocks_of ps) (maps_of seconds)) maps
+  follows on = subst₂ (λ (qs : List (List (List ℕ))) (ns : List PlainLeafMap). All (IsFollowed qs ns) maps) (sym its_leaves) (sym are_maps) on.followed
+
+  -- and this is where they lead
+  pub leads_to : (after : List PlainLeafMap) → after ≡ map (then_map (blocks_of ps) (maps_of seconds)) maps → after ≡ led_on n t m maps
+  leads_to after e = e ∙ ap₂ (λ (qs : List (List (List ℕ))) (ns : List PlainLeafMap). map (then_map qs ns) maps) its_leaves are_maps

@@ -1,32 +1,28 @@
 -- The maps of a script, move by move: what holds where some of its moves are made.
-use Rattle.std.proofs.Common.{All, List, Some, ap, ap₂, arith, length, map, refl, subst, subst₂, sym, unwrap_or, ℕ, ◌∙◌, ◌∷◌, ◌≡◌, ◌≤◌}
-use Rattle.std.proofs.lemmas.List.{length-map}
+use Rattle.std.proofs.Common.{List, Some, ap, arith, length, map, refl, subst, subst₂, sym, unwrap_or, ℕ, ◌∙◌, ◌∷◌, ◌≡◌, ◌≤◌}
 use Rattle.counting.proofs.Counts.{count_complement}
 use Rattle.graph_core.proofs.Singles.{length-singles}
 use Rattle.graph_core.specs.Graph.{Graph, IsGraph}
 use Rattle.graph_core.specs.Partitions.{singles}
 use Rattle.graph_core.specs.Shores.{blocks_in}
 use Rattle.counting.specs.Lists.{mem}
-use Rattle.contraction.specs.Partition.{PartitionValue}
 use Rattle.tree_core.proofs.CutsBelow.{few-leaves}
 use Rattle.tree_core.proofs.DerivationLeaves.{partitions-leaves}
 use Rattle.tree_core.proofs.DerivationStands.{fits-derivation, stands-derivation}
 use Rattle.tree_core.specs.Derivations.{IsDerivation}
 use Rattle.tree_core.specs.LeafMaps.{PlainLeafMap, maps_after, move_maps, own_maps, script_maps, then_map}
-use Rattle.tree_core.specs.Leaves.{StandsAt, leaves, partitions_of}
+use Rattle.tree_core.specs.Leaves.{StandsAt, leaves}
 use Rattle.tree_core.specs.Moves.{PlainMove, move_result}
 use Rattle.tree_core.specs.Shapes.{Fits, Shape, cut, leaf, leaf_count}
-use Rattle.uncross.proofs.FollowedMaps.{blocks-partitions, followed}
+use Rattle.uncross.proofs.FollowedMaps.{followed}
 use Rattle.move_laws.proofs.MoveParts.{move_pairs}
 use Rattle.move_laws.proofs.Rising.{rising-derivation_at}
 use Rattle.move_laws.proofs.ScriptPairs.{own_pairs, pairing-then, script_pairs}
 use Rattle.move_laws.proofs.Scripts.{script_end}
 use Rattle.move_laws.proofs.SingleVertices.{singles_stage}
-use Rattle.uncross.specs.Following.{IsFollowed, blocks_of}
-use Rattle.uncross.specs.MapView.{map_of, maps_of}
+use Rattle.uncross.specs.Following.{LeadsOn, led_on}
 use Rattle.move_laws.specs.Pairings.{IsPairing}
 use Rattle.move_laws.specs.Scripts.{IsProperScript}
-use Rattle.uncross.specs.declared.leaf_maps.LeafMap.{LeafMap}
 
 -- a derivation of a graph of at most 128 vertices has few leaves
 pub leaves-few : (g : Graph) (t : Shape) → IsGraph g → g.order ≤ 128 → IsDerivation g t → leaf_count t ≤ 255
@@ -97,28 +93,16 @@ module _ (g : Graph) (is : IsGraph g) (few : g.order ≤ 128) (n : ℕ) (same : 
           value = sym (ap (λ s. maps_after g.order s (map (then_map (leaves g.order current) (move_maps g.order current m)) maps) others) next) ∙ sym (ap (maps_after g.order current maps) e) ∙ r.value;
         }
 
-    -- with its maps, `seconds`, and the leaves ps, as the code has them
-    module _ (seconds : List LeafMap) (ps : List PartitionValue) (are_maps : maps_of seconds ≡ move_maps n current m) (are_leaves : ps ≡ partitions_of n (leaves n current)) where
-      -- the maps, at the graph's order
-      second_maps : maps_of seconds ≡ move_maps g.order current m
-      second_maps = are_maps ∙ ap (λ k. move_maps k current m) same
+    -- the maps so far may be followed by those of the move
+    pub leads_on : LeadsOn n current m maps
+    leads_on = subst (λ (k : ℕ). LeadsOn k current m maps) (sym same) (record {
+      one_each = next_pairs.one_each;
+      followed = followed g (leaves g.order first) (leaves g.order current) (leaves g.order road.1.0) maps (move_maps g.order current m) few (partitions-leaves g current r.derives) r.pairs next_pairs;
+    })
 
-      -- the leaves, at the graph's order
-      its_leaves : blocks_of ps ≡ leaves g.order current
-      its_leaves = ap blocks_of are_leaves ∙ blocks-partitions n (leaves n current) ∙ ap (λ k. leaves k current) same
-
-      -- there are as many maps as leaves
-      pub as_many : length seconds ≡ length ps
-      as_many = sym (length-map seconds map_of) ∙ ap length second_maps ∙ next_pairs.one_each ∙ sym (ap length its_leaves) ∙ length-map ps (λ (p : PartitionValue). p.blocks)
-
-      -- the maps so far may be followed by these
-      pub follows : All (IsFollowed (blocks_of ps) (maps_of seconds)) maps
-      follows = subst₂ (λ (qs : List (List (List ℕ))) (ns : List PlainLeafMap). All (IsFollowed qs ns) maps) (sym its_leaves) (sym second_maps)
-          (followed g (leaves g.order first) (leaves g.order current) (leaves g.order road.1.0) maps (move_maps g.order current m) few (partitions-leaves g current r.derives) r.pairs next_pairs)
-
-      -- and where they are, the same holds again
-      pub step : (next : Shape) (after : List PlainLeafMap) → after ≡ map (then_map (blocks_of ps) (maps_of seconds)) maps → ((t : Shape) → move_result n current m ≡ Some t → next ≡ t) → Remains g first next ms others after
-      step next after composed moved =
-          let new : next ≡ road.1.0 = moved road.1.0 result in
-          let both : after ≡ map (then_map (leaves g.order current) (move_maps g.order current m)) maps = composed ∙ ap₂ (λ (qs : List (List (List ℕ))) (ns : List PlainLeafMap). map (then_map qs ns) maps) its_leaves second_maps in
-          subst₂ (λ (s : Shape) (ls : List PlainLeafMap). Remains g first s ms others ls) (sym new) (sym both) next_remains
+    -- and where they are, the same holds again
+    pub step : (next : Shape) (after : List PlainLeafMap) → after ≡ led_on n current m maps → ((t : Shape) → move_result n current m ≡ Some t → next ≡ t) → Remains g first next ms others after
+    step next after led moved =
+        let new : next ≡ road.1.0 = moved road.1.0 result in
+        let both : after ≡ led_on g.order current m maps = led ∙ ap (λ (k : ℕ). led_on k current m maps) same in
+        subst₂ (λ (s : Shape) (ls : List PlainLeafMap). Remains g first s ms others ls) (sym new) (sym both) next_remains

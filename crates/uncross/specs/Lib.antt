@@ -5,3 +5,4 @@ pub mod MapView
 pub mod Following
 pub mod Exchanges
 pub mod Changes
+pub mod Below

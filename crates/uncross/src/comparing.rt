@@ -1,27 +1,98 @@
 //! Comparing: a derivation is turned into another, and the leaves of the two are paired.
-ghost use Rattle.std.specs.Prelude.{◌≡◌, ◌*◌, ◌≤◌, IfOk, length};
+ghost use Rattle.std.specs.Prelude.{◌≡◌, ◌++◌, ◌*◌, ◌≤◌, IfOk, length, map};
 ghost use Rattle.graph_core.specs.Covered.{IsCovered};
 ghost use Rattle.graph_core.specs.Partitions.{singles};
 ghost use Rattle.graph_core.specs.Quotients.{quotient};
-ghost use Rattle.tree_core.specs.Derivations.{IsDerivation, IsDerivationAt};
+ghost use Rattle.tree_core.specs.Derivations.{IsCutAt, IsDerivation, IsDerivationAt, kept_at, merged_at};
 ghost use Rattle.tree_core.specs.LeafMaps.{script_maps};
 ghost use Rattle.tree_core.specs.Leaves.{leaves};
 ghost use Rattle.tree_core.specs.MoveView.{moves_of};
-ghost use Rattle.tree_core.specs.Moves.{TurnsThrough};
+ghost use Rattle.tree_core.specs.Moves.{TurnsThrough, below};
 ghost use Rattle.tree_core.specs.Shapes.{cut_count};
 ghost use Rattle.tree_core.specs.View.{shape_of};
 ghost use Rattle.move_laws.specs.Pairings.{IsPairing};
 ghost use Rattle.move_laws.specs.Scripts.{IsProperScript};
+ghost use Rattle.uncross.specs.Below.{IsBrought, IsPartitionBelow};
 ghost use Rattle.uncross.specs.MapView.{maps_of};
 
 use crate::exposing::{Exposure, expose_at};
 use crate::leaf_maps::LeafMaps;
 use crate::move_maps::script_maps;
+use crate::partitions_below::{PartitionsBelow, partitions_below};
 use crate::turning::append_below;
 use contraction::Partition;
 use graph_core::MultiGraph;
 use std::alloc::{AllocError as Memory, Global};
-use tree_core::{Moves, Side, Tree, copy, kept_partition, merged_partition};
+use tree_core::{Moves, Side, Tree, copy};
+use vset_core::VSet;
+
+/// The two trees below a shore that moves brought to the root, their partitions, and the moves.
+#[derive(Drop)]
+pub struct Brought {
+    /// The partitions at the two trees.
+    pub at: PartitionsBelow,
+    /// The tree in `kept`.
+    pub kept: Tree,
+    /// The tree in `merged`.
+    pub merged: Tree,
+    /// The moves.
+    pub moves: Moves,
+}
+
+// Brings a shore to the root of a derivation at p, through derivations at p.
+fn bring(
+    alloc: Global,
+    g: &MultiGraph,
+    p: &Partition,
+    tree: Tree,
+    shore: VSet,
+) -> Result<Brought, Memory>
+    requires order { p.now.order ≡ g.now.order }
+    requires covered { IsCovered (quotient g.now p.now.blocks) }
+    requires derives { IsDerivationAt g.now p.now.blocks (shape_of tree) }
+    requires shore { IsCutAt g.now p.now.blocks shore }
+    ensures kept { IfOk result
+        (λ r. IsPartitionBelow g.now (kept_at g.now.order p.now.blocks shore) r.at.kept) }
+    ensures merged { IfOk result
+        (λ r. IsPartitionBelow g.now (merged_at g.now.order p.now.blocks shore) r.at.merged) }
+    ensures brought { IfOk result
+        (λ r. IsBrought g.now p.now.blocks (shape_of tree) shore (shape_of r.kept)
+        (shape_of r.merged) (moves_of r.moves)) }
+{
+    let at = partitions_below(alloc, g, p, shore)?;
+    let Exposure { tree, moves } = expose_at(alloc, g, p, tree, Some(shore))?;
+    let moves = moves.unwrap_or(Moves::new(alloc));
+    match tree {
+        Tree::Leaf => Ok(Brought {
+            at,
+            kept: Tree::Leaf,
+            merged: Tree::Leaf,
+            moves,
+        }),
+        Tree::Cut { kept, merged, .. } => {
+            let kept = Box::into_inner(kept);
+            let merged = Box::into_inner(merged);
+            Ok(Brought {
+                at,
+                kept,
+                merged,
+                moves,
+            })
+        }
+    }
+}
+
+// Moves, and behind them those made in the two trees below the root, each one step further down.
+fn with_both(alloc: Global, moves: Moves, kept: Moves, merged: Moves) -> Result<Moves, Memory>
+    ensures { IfOk result
+        (λ ms. moves_of ms ≡ (moves_of moves ++ map (below Side.Kept) (moves_of kept)) ++
+        map (below Side.Merged) (moves_of merged)) }
+{
+    let mut all = moves;
+    append_below(alloc, Side::Kept, kept.as_slice(), &mut all)?;
+    append_below(alloc, Side::Merged, merged.as_slice(), &mut all)?;
+    Ok(all)
+}
 
 /// The moves that turn the first derivation at p into the second, through derivations at p: the root shore of the second is exposed in
 /// the first, then the same is done in the two trees `kept`, and then in the two trees `merged`.
@@ -53,27 +124,12 @@ pub fn compare_at(
             merged,
         } => {
             let y = *shore;
-            let Exposure { tree, moves: found } = expose_at(alloc, g, p, first, Some(y))?;
-            let Some(exposing) = found else {
-                return Ok(Moves::new(alloc));
-            };
-            let mut moves = exposing;
-            match tree {
-                Tree::Leaf => Ok(moves),
-                Tree::Cut {
-                    kept: first_kept,
-                    merged: first_merged,
-                    ..
-                } => {
-                    let q = kept_partition(alloc, g, p, y)?;
-                    let below = compare_at(alloc, g, &q, Box::into_inner(first_kept), kept)?;
-                    append_below(alloc, Side::Kept, below.as_slice(), &mut moves)?;
-                    let q = merged_partition(alloc, g, p, y)?;
-                    let below = compare_at(alloc, g, &q, Box::into_inner(first_merged), merged)?;
-                    append_below(alloc, Side::Merged, below.as_slice(), &mut moves)?;
-                    Ok(moves)
-                }
-            }
+            let brought = bring(alloc, g, p, first, y)?;
+            let at = brought.at;
+            let in_kept = compare_at(alloc, g, &at.kept, brought.kept, kept)?;
+            let in_merged = compare_at(alloc, g, &at.merged, brought.merged, merged)?;
+            let moves = with_both(alloc, brought.moves, in_kept, in_merged)?;
+            Ok(moves)
         }
     }
 }

@@ -12,6 +12,7 @@ ghost use Rattle.tree_core.specs.Shapes.{Fits, Shape, cut, cut_count};
 ghost use Rattle.tree_core.specs.View.{shape_of};
 ghost use Rattle.move_laws.specs.Pairings.{IsPairing};
 ghost use Rattle.move_laws.specs.Turning.{PlainTurned, followed, raised};
+ghost use Rattle.uncross.specs.Below.{IsRaised};
 ghost use Rattle.uncross.specs.MapView.{maps_of};
 ghost use Rattle.uncross.specs.PlanView.{plan_of};
 ghost use Rattle.uncross.specs.Plans.{CutIf, IsExposed, plan_result};
@@ -19,13 +20,13 @@ ghost use Rattle.uncross.specs.TurnedView.{turned_of};
 
 use crate::leaf_maps::LeafMaps;
 use crate::move_maps::script_maps;
+use crate::partitions_below::partitions_below;
 use crate::plans::{Plan, plan_at};
 use crate::turning::{Turned, raise, turn_over_inner};
 use contraction::Partition;
 use graph_core::MultiGraph;
 use std::alloc::{AllocError as Memory, Global};
-use std::mem;
-use tree_core::{Moves, Side, Tree, copy, kept_partition, merged_partition};
+use tree_core::{Moves, Side, Tree, copy, root_partition};
 use vset_core::VSet;
 
 // The root of a child that moves have made is brought over the root.
@@ -95,6 +96,27 @@ pub struct Exposure {
     pub moves: Option<Moves>,
 }
 
+// The plan is carried out at the root x, over its two trees as exposing made them.
+fn carry_out_over(
+    alloc: Global,
+    n: u32,
+    x: VSet,
+    plan: &Plan,
+    inner: Exposure,
+    outer: Exposure,
+) -> Result<Turned, Memory>
+    requires { Fits n (cut x (shape_of inner.tree) (shape_of outer.tree)) }
+    ensures { IfOk result
+        (λ r. (s : PlainTurned) →
+        plan_result n x (plan_of plan.now) (shape_of inner.tree) (shape_of outer.tree)
+        (option_map moves_of inner.moves) (option_map moves_of outer.moves) ≡ Some s →
+        turned_of r ≡ s) }
+{
+    let kept = Box::new(alloc, inner.tree)?;
+    let merged = Box::new(alloc, outer.tree)?;
+    carry_out(alloc, n, x, plan, kept, merged, &inner.moves, &outer.moves)
+}
+
 /// Brings a shore, if there is one, to the root of a derivation at p, through derivations at p.
 pub fn expose_at(
     alloc: Global,
@@ -123,40 +145,16 @@ pub fn expose_at(
         }),
         Tree::Cut {
             shore: x,
-            mut kept,
-            mut merged,
+            kept,
+            merged,
         } => {
             let plan = plan_at(p, x, y);
-            let kept_at = kept_partition(alloc, g, p, x)?;
-            let below = mem::replace(&mut *kept, Tree::Leaf);
-            let Exposure { tree, moves: inner } = expose_at(
-                alloc,
-                g,
-                &kept_at,
-                below,
-                plan.first(y),
-            )?;
-            *kept = tree;
-            let merged_at = merged_partition(alloc, g, p, x)?;
-            let below = mem::replace(&mut *merged, Tree::Leaf);
-            let Exposure { tree, moves: outer } = expose_at(
-                alloc,
-                g,
-                &merged_at,
-                below,
-                plan.second(y),
-            )?;
-            *merged = tree;
-            let Turned { tree, moves } = carry_out(
-                alloc,
-                g.order(),
-                x,
-                &plan,
-                kept,
-                merged,
-                &inner,
-                &outer,
-            )?;
+            let at = partitions_below(alloc, g, p, x)?;
+            let kept = Box::into_inner(kept);
+            let inner = expose_at(alloc, g, &at.kept, kept, plan.first(y))?;
+            let merged = Box::into_inner(merged);
+            let outer = expose_at(alloc, g, &at.merged, merged, plan.second(y))?;
+            let Turned { tree, moves } = carry_out_over(alloc, g.order(), x, &plan, inner, outer)?;
             Ok(Exposure {
                 tree,
                 moves: Some(moves),
@@ -175,6 +173,20 @@ pub struct Exposed {
     /// One map for each leaf of the tree as it was, in preorder: the place of its partner among the leaves of this one, and for each
     /// of its blocks the name of a block of the partner.
     pub maps: LeafMaps,
+}
+
+// Brings a shore to the root of a derivation of a graph, through derivations.
+fn bring_up(alloc: Global, g: &MultiGraph, tree: Tree, shore: VSet) -> Result<Turned, Memory>
+    requires derives { IsDerivation g.now (shape_of tree) }
+    requires shore { IsCutAt g.now (singles g.now.order) shore }
+    ensures { IfOk result
+        (λ r. IsRaised g.now (singles g.now.order) (shape_of tree) shore (shape_of r.tree)
+        (moves_of r.moves)) }
+{
+    let root = root_partition(alloc, g)?;
+    let Exposure { tree, moves: found } = expose_at(alloc, g, &root, tree, Some(shore))?;
+    let moves = found.unwrap_or(Moves::new(alloc));
+    Ok(Turned { tree, moves })
 }
 
 /// Brings a canonical nontrivial tight shore to the root of a derivation of a graph by moves, through derivations, and pairs each leaf
@@ -196,10 +208,8 @@ pub fn expose(alloc: Global, g: &MultiGraph, tree: Tree, shore: VSet) -> Result<
         (leaves g.now.order (shape_of r.tree)) (maps_of r.maps)) }
 {
     g.keeps_limits();
-    let root = Partition::singles(alloc, g.order())?;
     let before = copy(alloc, &tree)?;
-    let Exposure { tree, moves: found } = expose_at(alloc, g, &root, tree, Some(shore))?;
-    let moves = found.unwrap_or(Moves::new(alloc));
+    let Turned { tree, moves } = bring_up(alloc, g, tree, shore)?;
     let maps = script_maps(alloc, g, &before, &moves)?;
     Ok(Exposed { tree, moves, maps })
 }

@@ -159,6 +159,20 @@ enum Change {
     Switch { n: u32, u: VSet, v: VSet },
 }
 
+// Appends the order that a change at the root of the tree makes.
+fn push_order_here(order: &mut Numbers, change: &Change, k: u32, tree: &Tree) -> Result<(), Memory>
+    requires { k + leaf_count (shape_of tree.now) ≤ 255 }
+    ensures order { OnOk result
+        (order.new ≡ order.old ++ changed_order change.now k (shape_of tree.now)) }
+    ensures count { OnOk result
+        (length order.new ≡ length order.old + leaf_count (shape_of tree.now)) }
+{
+    match change {
+        Change::Rotate(side) => push_rotate_order(order, *side, k, tree),
+        Change::Switch { n, u, v } => push_switch_order(order, *n, *u, *v, k, tree),
+    }
+}
+
 // Appends the order that a change at the end of the path makes.
 fn push_order_along(
     order: &mut Numbers,
@@ -175,10 +189,7 @@ fn push_order_along(
         (length order.new ≡ length order.old + leaf_count (shape_of tree.now)) }
 {
     let Some((side, rest)) = path.split_first() else {
-        return match change {
-            Change::Rotate(side) => push_rotate_order(order, *side, k, tree),
-            Change::Switch { n, u, v } => push_switch_order(order, *n, *u, *v, k, tree),
-        };
+        return push_order_here(order, change, k, tree);
     };
     match tree {
         Tree::Leaf => push_numbers(order, k, 1),

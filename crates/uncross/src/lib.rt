@@ -21,6 +21,7 @@ mod exposing;
 mod leaf_maps;
 mod leaf_orders;
 mod move_maps;
+mod partitions_below;
 mod plans;
 mod turning;
 

@@ -3,7 +3,7 @@ ghost use Rattle.std.specs.Prelude.{◌≡◌, ◌≤◌, ◌<◌, ◌+◌, ◌-
 ghost use Rattle.counting.specs.Counts.{Within};
 ghost use Rattle.graph_core.specs.Partitions.{complement_of, singles};
 ghost use Rattle.contraction.specs.Partition.{IsUnionAt};
-ghost use Rattle.tree_core.specs.Derivations.{IsDerivation, kept_at};
+ghost use Rattle.tree_core.specs.Derivations.{IsDerivation, kept_at, merged_at};
 ghost use Rattle.tree_core.specs.LeafMaps.{maps_from, move_maps, own_maps, position, script_maps};
 ghost use Rattle.tree_core.specs.Leaves.{StandsAt};
 ghost use Rattle.tree_core.specs.MoveView.{move_of, moves_of};
@@ -12,12 +12,14 @@ ghost use Rattle.tree_core.specs.Shapes.{Fits, Shape, leaf_count};
 ghost use Rattle.tree_core.specs.View.{shape_of};
 ghost use Rattle.move_laws.specs.Scripts.{IsProperScript};
 ghost use Rattle.uncross.specs.Exchanges.{exchanged_names};
+ghost use Rattle.uncross.specs.Following.{LeadsOn, led_on};
 ghost use Rattle.uncross.specs.MapView.{maps_of};
 
 use crate::block_images::{Images, image_names};
 use crate::exchanges::Exchange;
 use crate::leaf_maps::{LeafMap, LeafMaps, followed_by};
 use crate::leaf_orders::{count_leaves, move_order, push_numbers};
+use crate::partitions_below::PartitionsBelow;
 use contraction::Partition;
 use graph_core::{MultiGraph, Numbers};
 use std::alloc::{AllocError as Memory, Global};
@@ -49,23 +51,29 @@ fn push_leaf(order: &[u32], names: Numbers, maps: &mut LeafMaps) -> Result<(), M
     maps.push(LeafMap { to, images: names })
 }
 
-// The partition with the complement of a shore made one block.
-fn keep(alloc: Global, p: &Partition, shore: VSet) -> Result<Partition, Memory>
+// The partitions at the two trees below the root with this shore.
+fn split(alloc: Global, p: &Partition, shore: VSet) -> Result<PartitionsBelow, Memory>
     requires fits { All (Within (p.now.order - 1)) shore }
     requires nonempty { 0 < length shore }
     requires union { IsUnionAt p.now shore }
-    ensures order { IfOk result (λ q. q.order ≡ p.now.order) }
-    ensures blocks { IfOk result (λ q. q.blocks ≡ kept_at p.now.order p.now.blocks shore) }
+    ensures kept_order { IfOk result (λ at. at.kept.order ≡ p.now.order) }
+    ensures kept_blocks { IfOk result
+        (λ at. at.kept.blocks ≡ kept_at p.now.order p.now.blocks shore) }
+    ensures merged_order { IfOk result (λ at. at.merged.order ≡ p.now.order) }
+    ensures merged_blocks { IfOk result
+        (λ at. at.merged.blocks ≡ merged_at p.now.order p.now.blocks shore) }
 {
     let complement = complement_in(p, shore);
-    p.merge(alloc, complement)
+    let kept = p.merge(alloc, complement)?;
+    let merged = p.merge(alloc, shore)?;
+    Ok(PartitionsBelow { kept, merged })
 }
 
 // Appends the maps of the leaves of the tree at p, below whose root this happens, at the end of the path.
 fn push_leaves(
     alloc: Global,
     tree: &Tree,
-    p: Partition,
+    p: &Partition,
     path: &[Side],
     exchange: &Exchange,
     order: &[u32],
@@ -73,28 +81,27 @@ fn push_leaves(
 ) -> Result<(), Memory>
     requires few { length maps.old + leaf_count (shape_of tree.now) ≤ 255 }
     requires short { length order.now ≤ 255 }
-    requires fits { Fits p.order (shape_of tree.now) }
-    requires stands { StandsAt p.order p.blocks (shape_of tree.now) }
+    requires fits { Fits p.now.order (shape_of tree.now) }
+    requires stands { StandsAt p.now.order p.now.blocks (shape_of tree.now) }
     ensures maps { OnOk result
         (maps_of maps.new ≡ maps_of maps.old ++
         maps_from order.now (length maps.old)
-        (exchanged_names p.order exchange.now path.now p.blocks (shape_of tree.now))) }
+        (exchanged_names p.now.order exchange.now path.now p.now.blocks (shape_of tree.now))) }
     ensures count { OnOk result
         (length maps.new ≡ length maps.old + leaf_count (shape_of tree.now)) }
 {
     p.keeps_partition();
     match tree {
-        Tree::Leaf => push_leaf(order, image_names(alloc, &exchange.at_leaf(), &p)?, maps),
+        Tree::Leaf => push_leaf(order, image_names(alloc, &exchange.at_leaf(), p)?, maps),
         Tree::Cut {
             shore,
             kept,
             merged,
         } => {
             let below = exchange.at_cut(path, p.order(), *shore);
-            let at_kept = keep(alloc, &p, *shore)?;
-            push_leaves(alloc, kept, at_kept, below.0, &below.1, order, maps)?;
-            let at_merged = p.merge(alloc, *shore)?;
-            push_leaves(alloc, merged, at_merged, below.0, &below.2, order, maps)
+            let at = split(alloc, p, *shore)?;
+            push_leaves(alloc, kept, &at.kept, below.0, &below.1, order, maps)?;
+            push_leaves(alloc, merged, &at.merged, below.0, &below.2, order, maps)
         }
     }
 }
@@ -121,7 +128,7 @@ fn maps_with(
     push_leaves(
         alloc,
         tree,
-        root,
+        &root,
         path,
         exchange,
         order.as_slice(),
@@ -178,6 +185,29 @@ fn moved(tree: Tree, n: u32, m: &Move) -> Tree
     }
 }
 
+// The maps so far, each followed by the map that a move of the tree gives its partner.
+fn maps_onward(
+    alloc: Global,
+    n: u32,
+    tree: &Tree,
+    m: &Move,
+    maps: &LeafMaps,
+) -> Result<LeafMaps, Memory>
+    requires order { n ≤ MOST_VERTICES }
+    requires fits { Fits n (shape_of tree.now) }
+    requires stands { StandsAt n (singles n) (shape_of tree.now) }
+    requires few { leaf_count (shape_of tree.now) ≤ 255 }
+    requires made { (t : Shape) × (move_result n (shape_of tree.now) (move_of m.now) ≡ Some t) }
+    requires leads_on { LeadsOn n (shape_of tree.now) (move_of m.now) (maps_of maps.now) }
+    ensures { IfOk result
+        (λ after. maps_of after ≡ led_on n (shape_of tree.now) (move_of m.now) (maps_of maps.now)) }
+{
+    let partitions = leaves(alloc, tree, n)?;
+    let next = move_maps(alloc, n, tree, m)?;
+    let after = followed_by(alloc, maps, &partitions, &next)?;
+    Ok(after)
+}
+
 /// The maps of a script of moves that leads through derivations of the graph, each Switch proper: where each leaf of the tree goes,
 /// and its blocks.
 pub fn script_maps(
@@ -198,9 +228,7 @@ pub fn script_maps(
     let mut maps = own_maps(alloc, n, tree)?;
     let mut rest = moves.as_slice();
     'moves: while let Some((m, others)) = rest.split_first() {
-        let partitions = leaves(alloc, &current, n)?;
-        let next = move_maps(alloc, n, &current, m)?;
-        maps = followed_by(alloc, &maps, &partitions, &next)?;
+        maps = maps_onward(alloc, n, &current, m, &maps)?;
         current = moved(current, n, m);
         rest = others;
     }

@@ -1,4 +1,5 @@
-use Rattle.std.proofs.Common.{ap, ◌∙◌, arith, option_map}
+use Rattle.std.proofs.Common.{ap, arith, option_map, subst}
+use Rattle.tree_core.specs.Derivations.{IsDerivationAt}
 use Rattle.tree_core.specs.Shapes.{node_count}
 use Rattle.tree_core.specs.declared.tree.Tree.{Tree}
 use Rattle.tree_core.specs.MoveView.{moves_of}
@@ -12,35 +13,38 @@ pub expose_at-requires : goal.expose_at-requires
 expose_at-requires t c =
     let asks = asks_kept c.args.g.now c.args.p.now.order c.args.p.now.blocks c.in-Cut.x c.in-Some.y (shape_of c.in-Cut.kept.value) (shape_of c.in-Cut.merged.value) (shape_of c.args.tree) (plan_of c.plan_at-plan.result) c.args.shore
     c.keeps_limits.ensures.multigraph.ends c.requires.order c.keeps_partition.ensures.partition c.requires.covered (ap shape_of c.in-Cut.is) c.requires.derives c.in-Some.is c.requires.shore c.plan_at-plan.ensures
-    c.in_ok-kept_at-in-Cut.kept_at.blocks (shape_of c.replace-below.result) c.first.result c.in_ok-kept_at-in-Cut.ensures.blocks (ap shape_of (c.replace-below.ensures.value ∙ c.deref_mut.ensures.value)) c.first.ensures in
-    let below = ap (λ (s : Tree). node_count (shape_of s)) (c.replace-below.ensures.value ∙ c.deref_mut.ensures.value) in let whole = ap (λ (s : Tree). node_count (shape_of s)) c.in-Cut.is in let size = c.decreases in
-    (omega arith, (c.in_ok-kept_at-in-Cut.ensures.order, (c.in_ok-kept_at-in-Cut.ensures.covered, asks)))
+    c.in_ok-at-in-Cut.at.kept.blocks (shape_of c.into_inner-kept.result) c.first.result c.in_ok-at-in-Cut.ensures.kept.blocks (ap shape_of c.into_inner-kept.ensures) c.first.ensures in
+    let below = ap (λ (s : Tree). node_count (shape_of s)) c.into_inner-kept.ensures in let whole = ap (λ (s : Tree). node_count (shape_of s)) c.in-Cut.is in let size = c.decreases in
+    (omega arith, (c.in_ok-at-in-Cut.ensures.kept.order, (c.in_ok-at-in-Cut.ensures.kept.covered, asks)))
 
 pub expose_at-requires-in-Cut : goal.expose_at-requires-in-Cut
 expose_at-requires-in-Cut t c =
     let asks = asks_merged c.args.g.now c.args.p.now.order c.args.p.now.blocks c.in-Cut.x c.in-Some.y (shape_of c.in-Cut.kept.value) (shape_of c.in-Cut.merged.value) (shape_of c.args.tree) (plan_of c.plan_at-plan.result) c.args.shore
     c.keeps_limits.ensures.multigraph.ends c.requires.order c.keeps_partition.ensures.partition c.requires.covered (ap shape_of c.in-Cut.is) c.requires.derives c.in-Some.is c.requires.shore c.plan_at-plan.ensures
-    c.in_ok-merged_at-in-Cut.merged_at.blocks (shape_of c.replace-below-in-Cut.result) c.second.result c.in_ok-merged_at-in-Cut.ensures.blocks (ap shape_of (c.replace-below-in-Cut.ensures.value ∙ c.deref_mut-in-Cut-2.ensures.value)) c.second.ensures in
-    let below = ap (λ (s : Tree). node_count (shape_of s)) (c.replace-below-in-Cut.ensures.value ∙ c.deref_mut-in-Cut-2.ensures.value) in let whole = ap (λ (s : Tree). node_count (shape_of s)) c.in-Cut.is in let size = c.decreases in
-    (omega arith, (c.in_ok-merged_at-in-Cut.ensures.order, (c.in_ok-merged_at-in-Cut.ensures.covered, asks)))
+    c.in_ok-at-in-Cut.at.merged.blocks (shape_of c.into_inner-merged.result) c.second.result c.in_ok-at-in-Cut.ensures.merged.blocks (ap shape_of c.into_inner-merged.ensures) c.second.ensures in
+    let below = ap (λ (s : Tree). node_count (shape_of s)) c.into_inner-merged.ensures in let whole = ap (λ (s : Tree). node_count (shape_of s)) c.in-Cut.is in let size = c.decreases in
+    (omega arith, (c.in_ok-at-in-Cut.ensures.merged.order, (c.in_ok-at-in-Cut.ensures.merged.covered, asks)))
 
-pub carry_out-requires : goal.carry_out-requires
-carry_out-requires t c =
+pub carry_out_over-requires : goal.carry_out_over-requires
+carry_out_over-requires t c =
     both_fit c.args.g.now c.args.p.now.order c.args.p.now.blocks c.in-Cut.x c.in-Some.y (shape_of c.in-Cut.kept.value) (shape_of c.in-Cut.merged.value) (shape_of c.args.tree) (plan_of c.plan_at-plan.result) c.args.shore
     c.keeps_limits.ensures.multigraph.ends c.requires.order c.keeps_partition.ensures.partition c.requires.covered (ap shape_of c.in-Cut.is) c.requires.derives c.in-Some.is c.requires.shore c.plan_at-plan.ensures
-    c.in_ok-kept_at-in-Cut.kept_at.blocks c.in_ok-merged_at-in-Cut.merged_at.blocks (shape_of c.replace-below.result) (shape_of c.replace-below-in-Cut.result) (shape_of c.in_ok-tree-in-Cut.field-0.tree) (shape_of c.in_ok-tree-in-Cut-2.field-0.tree)
-    c.first.result c.second.result (option_map moves_of c.in_ok-tree-in-Cut.field-0.moves) (option_map moves_of c.in_ok-tree-in-Cut-2.field-0.moves)
-    c.in_ok-kept_at-in-Cut.ensures.blocks c.in_ok-merged_at-in-Cut.ensures.blocks (ap shape_of (c.replace-below.ensures.value ∙ c.deref_mut.ensures.value)) (ap shape_of (c.replace-below-in-Cut.ensures.value ∙ c.deref_mut-in-Cut-2.ensures.value)) c.first.ensures c.second.ensures
-    c.in_ok-tree-in-Cut.ensures c.in_ok-tree-in-Cut-2.ensures c.order.result c.order.ensures.is
+    c.in_ok-at-in-Cut.at.kept.blocks c.in_ok-at-in-Cut.at.merged.blocks (shape_of c.into_inner-kept.result) (shape_of c.into_inner-merged.result) (shape_of c.in_ok-inner-in-Cut.inner.tree) (shape_of c.in_ok-outer-in-Cut.outer.tree)
+    c.first.result c.second.result (option_map moves_of c.in_ok-inner-in-Cut.inner.moves) (option_map moves_of c.in_ok-outer-in-Cut.outer.moves)
+    c.in_ok-at-in-Cut.ensures.kept.blocks c.in_ok-at-in-Cut.ensures.merged.blocks (ap shape_of c.into_inner-kept.ensures) (ap shape_of c.into_inner-merged.ensures) c.first.ensures c.second.ensures
+    c.in_ok-inner-in-Cut.ensures c.in_ok-outer-in-Cut.ensures c.order.result c.order.ensures.is
 
 pub returns-in-Leaf : goal.returns-in-Leaf
 returns-in-Leaf t c = leaf_exposes c.args.g.now c.args.p.now.order c.args.p.now.blocks c.in-Some.y (shape_of c.args.tree) _ c.args.shore c.keeps_limits.ensures.multigraph.ends c.requires.order c.keeps_partition.ensures.partition c.requires.covered (ap shape_of c.in-Leaf.is) c.requires.derives c.in-Some.is c.requires.shore
 
-pub returns-in_ok-tree-in-Cut-3 : goal.returns-in_ok-tree-in-Cut-3
-returns-in_ok-tree-in-Cut-3 t c =
+pub returns-in_ok-tree-in-Cut : goal.returns-in_ok-tree-in-Cut
+returns-in_ok-tree-in-Cut t c =
     whole_exposed c.args.g.now c.args.p.now.order c.args.p.now.blocks c.in-Cut.x c.in-Some.y (shape_of c.in-Cut.kept.value) (shape_of c.in-Cut.merged.value) (shape_of c.args.tree) (plan_of c.plan_at-plan.result) c.args.shore
     c.keeps_limits.ensures.multigraph.ends c.requires.order c.keeps_partition.ensures.partition c.requires.covered (ap shape_of c.in-Cut.is) c.requires.derives c.in-Some.is c.requires.shore c.plan_at-plan.ensures
-    c.in_ok-kept_at-in-Cut.kept_at.blocks c.in_ok-merged_at-in-Cut.merged_at.blocks (shape_of c.replace-below.result) (shape_of c.replace-below-in-Cut.result) (shape_of c.in_ok-tree-in-Cut.field-0.tree) (shape_of c.in_ok-tree-in-Cut-2.field-0.tree)
-    c.first.result c.second.result (option_map moves_of c.in_ok-tree-in-Cut.field-0.moves) (option_map moves_of c.in_ok-tree-in-Cut-2.field-0.moves)
-    c.in_ok-kept_at-in-Cut.ensures.blocks c.in_ok-merged_at-in-Cut.ensures.blocks (ap shape_of (c.replace-below.ensures.value ∙ c.deref_mut.ensures.value)) (ap shape_of (c.replace-below-in-Cut.ensures.value ∙ c.deref_mut-in-Cut-2.ensures.value)) c.first.ensures c.second.ensures
-    c.in_ok-tree-in-Cut.ensures c.in_ok-tree-in-Cut-2.ensures c.order.result c.order.ensures.is (turned_of c.in_ok-tree-in-Cut-3.field-0) c.in_ok-tree-in-Cut-3.ensures
+    c.in_ok-at-in-Cut.at.kept.blocks c.in_ok-at-in-Cut.at.merged.blocks (shape_of c.into_inner-kept.result) (shape_of c.into_inner-merged.result) (shape_of c.in_ok-inner-in-Cut.inner.tree) (shape_of c.in_ok-outer-in-Cut.outer.tree)
+    c.first.result c.second.result (option_map moves_of c.in_ok-inner-in-Cut.inner.moves) (option_map moves_of c.in_ok-outer-in-Cut.outer.moves)
+    c.in_ok-at-in-Cut.ensures.kept.blocks c.in_ok-at-in-Cut.ensures.merged.blocks (ap shape_of c.into_inner-kept.ensures) (ap shape_of c.into_inner-merged.ensures) c.first.ensures c.second.ensures
+    c.in_ok-inner-in-Cut.ensures c.in_ok-outer-in-Cut.ensures c.order.result c.order.ensures.is (turned_of c.in_ok-tree-in-Cut.field-0) c.in_ok-tree-in-Cut.ensures
+
+pub partitions_below-requires-clause-cut : goal.partitions_below-requires-clause-cut
+partitions_below-requires-clause-cut t c = (subst (λ (tree : Tree). IsDerivationAt c.args.g.now c.args.p.now.blocks (shape_of tree)) c.in-Cut.is c.requires.derives).0

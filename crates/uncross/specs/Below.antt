@@ -1,0 +1,26 @@
+-- What is below the root of a derivation.
+use Rattle.std.specs.Prelude.{◌≡◌, ◌+◌, ◌*◌, ◌≤◌, ℕ, List, length}
+use Rattle.contraction.specs.Partition.{PartitionValue}
+use Rattle.graph_core.specs.Covered.{IsCovered}
+use Rattle.graph_core.specs.Graph.{Graph}
+use Rattle.graph_core.specs.Quotients.{quotient}
+use Rattle.tree_core.specs.Moves.{PlainMove}
+use Rattle.tree_core.specs.Shapes.{Shape, cut, cut_count}
+use Rattle.move_laws.specs.Scripts.{IsProperScript}
+
+-- q has the blocks p, and the quotient of g at it is covered
+pub record IsPartitionBelow (g : Graph) (p : List (List ℕ)) (q : PartitionValue) : Type 0 where
+  pub order : q.order ≡ g.order
+  pub blocks : q.blocks ≡ p
+  pub covered : IsCovered (quotient g q.blocks)
+
+-- few moves turn s into the tree with the root shore y and these two trees below it
+pub record IsBrought (g : Graph) (p : List (List ℕ)) (s : Shape) (y : List ℕ) (k l : Shape) (ms : List PlainMove) : Type 0 where
+  pub script : IsProperScript g p s ms (cut y k l)
+  pub few : length ms + 2 ≤ 3 * cut_count s
+
+-- few moves turn s into the tree t, which has the root shore y
+pub record IsRaised (g : Graph) (p : List (List ℕ)) (s : Shape) (y : List ℕ) (t : Shape) (ms : List PlainMove) : Type 0 where
+  pub root : (a : Shape) × (b : Shape) × (t ≡ cut y a b)
+  pub script : IsProperScript g p s ms t
+  pub few : length ms + 2 ≤ 3 * cut_count s
