@@ -24,7 +24,7 @@ returns-in-Closed-clause-closed c = λ set q.
     let net = c.args.net.now in
     let same : c.in-Closed.set ≡ set = cc in
     subst (λ (nodes : List ℕ). IsLeastCut net c.args.source c.args.sink nodes c.growing.flow.value × (c.growing.flow.value ≤ c.args.above)) same
-    (reached_least net c.args.source c.args.sink c.growing.flow.on c.growing.flow.value c.requires.bounded.arcs c.requires.source c.growing.invariant c.in-Closed.set (subst (IsOutcome net c.growing.flow.on c.args.source c.args.sink) c.in-Closed.is c.in_ok-visits.ensures), c.growing-test.true)
+    (reached_least net c.args.source c.args.sink c.growing.flow.on c.growing.flow.value c.requires.bounded.arcs c.requires.source c.growing.invariant c.in-Closed.set (subst (IsOutcome net c.growing.flow.on c.args.source c.args.sink) c.in-Closed.is c.in_ok-visits.ensures), let t = c.growing-test.true in omega arith)
 
 pub returns-clause-above : goal.returns-clause-above
 returns-clause-above c = λ _. c.growing-test.false
