@@ -220,11 +220,21 @@ fn settle_pair(
         None => Ok(kept),
         Some(found) => {
             found.keeps_matching();
-            let next = copied(alloc, &found)?;
-            pairs.add(found)?;
-            Ok(next)
+            listed(alloc, pairs, found)
         }
     }
+}
+
+// Lists a matching, and answers the same once more.
+fn listed(alloc: Global, pairs: &mut PairTable, found: Matching) -> Result<Matching, Memory>
+    requires { All (λ row. Within pairs.old.size row.edge) found.rows }
+    ensures { IfOk result
+        (λ next. (next ≡ found) × (pairs.new.size ≡ pairs.old.size) ×
+        (pairs.new.list ≡ pairs.old.list ++ found ∷ [])) }
+{
+    let next = copied(alloc, &found)?;
+    pairs.add(found)?;
+    Ok(next)
 }
 
 // Whether nothing has to be asked of two edges: a listed matching contains both, or they share an end or a tight cut.

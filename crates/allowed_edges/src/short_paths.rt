@@ -92,9 +92,29 @@ fn with_two(
         Some(k) => k,
         None => return Ok(None),
     };
+    in_place_of(alloc, g, met, m, row, at_x, at_y)
+}
+
+// With two edges in place of one.
+fn in_place_of(
+    alloc: Global,
+    g: &MultiGraph,
+    met: VSet,
+    m: &Matching,
+    row: MatchRow,
+    first: u32,
+    second: u32,
+) -> Result<Option<Matching>, Memory>
+    requires matching { IsMatchingOff g.now met m.now }
+    requires a { Within MOST_VERTICES row.a }
+    requires b { Within MOST_VERTICES row.b }
+    requires first { Within (size g.now) first }
+    requires second { Within (size g.now) second }
+    ensures { IfOk result (λ o. (n : _) → o ≡ Some n → IsPerfectOff g.now met n) }
+{
     let opened = m.cleared(alloc, met.with(row.a).with(row.b))?;
-    match with_edge(alloc, g, met, &opened, at_x)? {
-        Some(longer) => with_one(alloc, g, met, &longer, at_y),
+    match with_edge(alloc, g, met, &opened, first)? {
+        Some(longer) => with_one(alloc, g, met, &longer, second),
         None => Ok(None),
     }
 }

@@ -1,8 +1,9 @@
 //! The least minimum cut up to a bound, or a flow above it.
-ghost use Rattle.std.specs.Prelude.{◌≢◌, ◌≤◌, ◌<◌, ◌↔◌, IfOk};
+ghost use Rattle.std.specs.Prelude.{◌≡◌, ◌≢◌, ◌≤◌, ◌<◌, ◌↔◌, IfOk, OnOk, Some, None};
 ghost use Rattle.counting.specs.Counts.{Within};
-ghost use Rattle.flow_core.specs.Nets.{IsLeastCut, HasCutWithin};
+ghost use Rattle.flow_core.specs.Nets.{HasCutWithin, IsBounded, IsLeastCut};
 ghost use Rattle.flow_core.specs.Flows.{IsFlow};
+ghost use Rattle.flow_core.specs.Incidence.{IsIncidence};
 ghost use Rattle.flow_core.specs.Cuts.{IsCut, IfCut, IfExceeds};
 
 use crate::flow::Flow;
@@ -52,16 +53,42 @@ pub fn min_cut(
 {
     let incidence = Incidence::new(alloc, net)?;
     let mut flow = Flow::zero(alloc, net)?;
+    match grow_above(alloc, net, &incidence, &mut flow, source, sink, above)? {
+        Some(set) => Ok(CutAnswer::Cut {
+            set,
+            value: flow.value,
+        }),
+        None => Ok(CutAnswer::Exceeds { flow }),
+    }
+}
+
+// Lets a flow grow until it is above the bound, or until no path has room: the nodes that a search
+// reaches then are answered. After `Memory` the flow is to be given up.
+fn grow_above(
+    alloc: Global,
+    net: &Net,
+    incidence: &Incidence,
+    flow: &mut Flow,
+    source: u32,
+    sink: u32,
+    above: u64,
+) -> Result<Option<VSet>, Memory>
+    requires bounded { IsBounded net.now }
+    requires incidence { IsIncidence net.now incidence.now }
+    requires source { Within net.now.nodes source }
+    requires differ { source ≢ sink }
+    requires flow { IsFlow net.now source sink flow.old.on flow.old.value }
+    ensures flow { OnOk result (IsFlow net.now source sink flow.new.on flow.new.value) }
+    ensures closed { IfOk result
+        (λ o. (set : _) → o ≡ Some set →
+        IsLeastCut net.now source sink set flow.new.value × (flow.new.value ≤ above)) }
+    ensures above { IfOk result (λ o. o ≡ None → above < flow.new.value) }
+{
     'growing: while flow.value <= above {
-        match search(alloc, net, &incidence, &flow.on, source, sink)? {
-            Outcome::Path(visits) => grow(alloc, net, &incidence, &mut flow, &visits, above)?,
-            Outcome::Closed(set) => {
-                return Ok(CutAnswer::Cut {
-                    set,
-                    value: flow.value,
-                });
-            }
+        match search(alloc, net, incidence, &flow.on, source, sink)? {
+            Outcome::Path(visits) => grow(alloc, net, incidence, flow, &visits, above)?,
+            Outcome::Closed(set) => return Ok(Some(set)),
         }
     }
-    Ok(CutAnswer::Exceeds { flow })
+    Ok(None)
 }

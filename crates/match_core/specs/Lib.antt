@@ -2,6 +2,7 @@ pub mod Frames
 pub mod OddCycles
 pub mod Forests
 pub mod RepairPaths
+pub mod RepairWalks
 pub mod Mates
 pub mod Instances
 pub mod AlternatingForests

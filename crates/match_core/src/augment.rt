@@ -7,17 +7,17 @@
 //!
 //! After a shrinking the forest is grown anew. That takes few steps: the pairs on the way to the base were exchanged, so the
 //! base is exposed and a root, and the rest of the blossom is gone.
-ghost use Rattle.std.specs.Prelude.{◌<◌, length, IfOk, OnOk};
+ghost use Rattle.std.specs.Prelude.{◌≡◌, ◌<◌, length, IfOk, OnOk, Some};
 ghost use Rattle.counting.specs.Sets.{Set};
 ghost use Rattle.graph_core.specs.Graph.{Graph};
 ghost use Rattle.match_core.specs.AlternatingForests.{HoldsMatching, IsSized, MayBeExposed};
-ghost use Rattle.match_core.specs.Blossoms.{IsMateStep};
+ghost use Rattle.match_core.specs.Blossoms.{ClosesForest, ExposesOnly, IsClosed, IsMateStep};
 ghost use Rattle.match_core.specs.Shrinkings.{AreAlike};
 
 use crate::alternating::{AlternatingForest, exposed_in};
 use crate::answer::{Answer, FinalSets, widen};
-use crate::blossom::{close, open};
-use crate::growing::{Growth, grow_forest};
+use crate::blossom::{Blossom, close, open};
+use crate::growing::{Adjacent, Growth, grow_forest};
 use crate::instance::Instance;
 use crate::ways::ways_to;
 use std::alloc::{AllocError as Memory, Global};
@@ -48,19 +48,33 @@ pub fn augment_once(
             outer: forest.outer,
             inner: forest.inner,
         })),
-        Some(gap) => {
-            let ways = ways_to(alloc, &forest, mate, gap)?;
-            match close(alloc, &ways, mate)? {
-                None => Ok(Answer::Grown),
-                Some(blossom) => {
-                    let base = blossom.ring[1];
-                    let before = instance.shrink(blossom.members, base);
-                    let below = augment_once(alloc, instance, forest, roots.with(base), mate)?;
-                    instance.unshrink(base, before);
-                    open(instance, &blossom, mate);
-                    Ok(widen(below, blossom.members))
-                }
+        Some(gap) => match close_gap(alloc, &forest, gap, mate)? {
+            None => Ok(Answer::Grown),
+            Some(blossom) => {
+                let base = blossom.ring[1];
+                let before = instance.shrink(blossom.members, base);
+                let below = augment_once(alloc, instance, forest, roots.with(base), mate)?;
+                instance.unshrink(base, before);
+                open(instance, &blossom, mate);
+                Ok(widen(below, blossom.members))
             }
-        }
+        },
     }
+}
+
+// Closes the ways of a forest to two of its outer vertices that an edge joins: the matching is
+// augmented along them, or a blossom is answered and its vertices are exposed.
+fn close_gap(
+    alloc: Global,
+    forest: &AlternatingForest,
+    gap: Adjacent,
+    mate: &mut [u32],
+) -> Result<Option<Blossom>, Memory>
+    requires { (g : Graph) × (r : Set) × (f : Set) × ClosesForest g r f mate.old forest.now gap }
+    ensures closed { IfOk result (λ b. (g : Graph) (r f : Set) →
+        ClosesForest g r f mate.old forest.now gap → IsClosed g r f mate.new b) }
+    ensures exposed { IfOk result (λ o. (b : _) → o ≡ Some b → ExposesOnly mate.old mate.new b) }
+{
+    let ways = ways_to(alloc, forest, mate, gap)?;
+    close(alloc, &ways, mate)
 }

@@ -4,9 +4,11 @@
 ghost use Rattle.std.specs.Prelude.{◌≡◌, ◌+◌, ◌==◌, ◌&&◌, not, length, IfOk};
 ghost use Rattle.counting.specs.Counts.{Within};
 ghost use Rattle.counting.specs.Lists.{mem};
+ghost use Rattle.counting.specs.Sets.{Set};
 ghost use Rattle.graph_core.specs.Rows.{AreRows};
 ghost use Rattle.graph_core.specs.View.{graph_of};
 ghost use Rattle.graph_core.specs.Matchings.{IsMatching};
+ghost use Rattle.match_core.specs.AlternatingForests.{HoldsMatching};
 ghost use Rattle.match_core.specs.Rows.{marks};
 ghost use Rattle.match_core.specs.GraphRows.{IsGraphRow};
 ghost use Rattle.match_core.specs.Optimal.{IsBest};
@@ -14,7 +16,7 @@ ghost use Rattle.match_core.specs.Optimal.{IsBest};
 use crate::alternating::AlternatingForest;
 use crate::answer::{Answer, FinalSets};
 use crate::augment::augment_once;
-use crate::instance::instance_of;
+use crate::instance::{Instance, instance_of};
 use crate::marked::marks_of;
 use crate::mates::mates_of;
 use crate::rows::{falses, mark_place};
@@ -57,13 +59,31 @@ pub fn best_from(
 {
     let mut instance = instance_of(alloc, rows, removed)?;
     let mut mate = mates_of(alloc, n, ends, given)?;
+    enlarge(alloc, n, ends, &mut instance, &mut mate)
+}
+
+// Enlarges a matching, given by its mates, until a step answers a frame.
+fn enlarge(
+    alloc: Global,
+    n: u32,
+    ends: &[Ends],
+    instance: &mut Instance,
+    mate: &mut [u32],
+) -> Result<Best, Memory>
+    requires row { IsGraphRow n ends.now }
+    requires holds { (r : Set) × (f : Set) ×
+        HoldsMatching (graph_of n ends.now) r f instance.old mate.old }
+    ensures { IfOk result (λ b. (r f : Set) →
+        HoldsMatching (graph_of n ends.now) r f instance.old mate.old →
+        IsBest (graph_of n ends.now) r b) }
+{
     'augmenting: loop {
         let left = instance.left;
         let unused = AlternatingForest::empty(alloc, n)?;
-        match augment_once(alloc, &mut instance, unused, left, &mut mate)? {
+        match augment_once(alloc, instance, unused, left, mate)? {
             Answer::Grown => {}
             Answer::Final(sets) => {
-                let mark = marks_of(alloc, n, ends, &mate)?;
+                let mark = marks_of(alloc, n, ends, mate)?;
                 return Ok(Best { mark, sets });
             }
         }

@@ -5,12 +5,13 @@ ghost use Rattle.counting.specs.Lists.{mem};
 ghost use Rattle.graph_core.specs.Rows.{AreRows};
 ghost use Rattle.graph_core.specs.View.{graph_of};
 ghost use Rattle.graph_core.specs.Matchings.{IsMatching, IsPerfect, HasPerfect, missed_count};
-ghost use Rattle.counting.specs.Sets.{put};
+ghost use Rattle.counting.specs.Sets.{Set, put};
 ghost use Rattle.match_core.specs.Forests.{flipped};
 ghost use Rattle.match_core.specs.Rows.{marks, numbers, part, end_a, end_b};
 ghost use Rattle.match_core.specs.GraphRows.{IsGraphRow, NamesEdges};
 ghost use Rattle.match_core.specs.MatchingRows.{IsOf, edges_of};
 ghost use Rattle.match_core.specs.RepairPaths.{DiffersByPath, IsRepairRow, Misses};
+ghost use Rattle.match_core.specs.RepairWalks.{StartsWalk};
 
 use crate::best::{Best, best_from};
 use crate::matching::{Matching, matching_of};
@@ -141,19 +142,29 @@ fn repair_path(
 {
     let at = matched_edges(alloc, n, ends, mark)?;
     let other = matched_edges(alloc, n, ends, found)?;
-    let x = match free(n, removed, &at).first() {
-        Some(x) => x,
+    match free(n, removed, &at).first() {
+        Some(x) => walk(alloc, ends, &at, &other, x),
         None => unreachable!(),
-    };
+    }
+}
+
+// The edges of that path from its first vertex, from the rows that name the edges of the matchings.
+fn walk(alloc: Global, ends: &[Ends], at: &[u32], other: &[u32], x: u32) -> Result<Vec<u32>, Memory>
+    requires { (n : ℕ) × (r : Set) × (m : Set) × (w : Set) ×
+        StartsWalk n r m w ends.now at.now other.now x }
+    ensures { IfOk result (λ es. (n : ℕ) (r m w : Set) →
+        StartsWalk n r m w ends.now at.now other.now x →
+        IsRepairRow (graph_of n ends.now) r m x es.items) }
+{
     let mut edges = Vec::new(alloc);
     let mut v = x;
     'walking: loop {
-        let next = match mate_at(ends, &other, v) {
+        let next = match mate_at(ends, other, v) {
             Some(next) => next,
             None => unreachable!(),
         };
         edges.push(next.edge)?;
-        match mate_at(ends, &at, next.vertex) {
+        match mate_at(ends, at, next.vertex) {
             None => return Ok(edges),
             Some(back) => {
                 edges.push(back.edge)?;

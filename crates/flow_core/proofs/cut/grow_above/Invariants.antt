@@ -1,7 +1,7 @@
 use Rattle.std.proofs.Common.{◌-◌}
 use Rattle.flow_core.specs.Nets.{total_capacity}
 use Rattle.flow_core.specs.Flows.{IsFlow}
-use Rattle.flow_core.proofs.cut.min_cut.Given as goal
+use Rattle.flow_core.proofs.cut.grow_above.Given as goal
 
 abbrev pub invariant-growing : goal.invariant-growing
 invariant-growing l = IsFlow l.net l.source l.sink l.flow.on l.flow.value

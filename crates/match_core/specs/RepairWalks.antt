@@ -1,0 +1,20 @@
+-- Where the walk of a repair begins.
+use Rattle.std.specs.Prelude.{◌≡◌, ℕ, ◌+◌, List, length}
+use Rattle.counting.specs.Sets.{Set}
+use Rattle.graph_core.specs.Matchings.{IsMatching, IsPerfect, missed_count}
+use Rattle.graph_core.specs.View.{graph_of}
+use Rattle.graph_core.specs.declared.ends.Ends.{Ends}
+use Rattle.match_core.specs.GraphRows.{IsGraphRow, NamesEdges}
+use Rattle.match_core.specs.RepairPaths.{Misses}
+
+-- the matching m misses x and one vertex more, w is perfect, and for each vertex the rows name its edges of m and of w
+pub record StartsWalk (n : ℕ) (r m w : Set) (ends : List Ends) (at other : List ℕ) (x : ℕ) : Type 0 where
+  pub row : IsGraphRow n ends
+  pub at_long : length at ≡ n + 1
+  pub named : NamesEdges ends m at (length ends)
+  pub other_long : length other ≡ n + 1
+  pub other_named : NamesEdges ends w other (length ends)
+  pub matching : IsMatching (graph_of n ends) r m
+  pub perfect : IsPerfect (graph_of n ends) r w
+  pub two : missed_count (graph_of n ends) r m ≡ 2
+  pub missed : Misses (graph_of n ends) r m x
