@@ -124,10 +124,14 @@ fn decompose_at<P: Picker>(
     match picker.pick_shore(alloc, g, p, before)? {
         None => Ok((Tree::Leaf, before)),
         Some(shore) => {
-            let kept_at = kept_partition(alloc, g, p, shore)?;
-            let (kept, between) = decompose_at(alloc, g, picker, &kept_at, before + 1)?;
-            let merged_at = merged_partition(alloc, g, p, shore)?;
-            let (merged, after) = decompose_at(alloc, g, picker, &merged_at, between)?;
+            let (kept, between) = {
+                let kept_at = kept_partition(alloc, g, p, shore)?;
+                decompose_at(alloc, g, picker, &kept_at, before + 1)?
+            };
+            let (merged, after) = {
+                let merged_at = merged_partition(alloc, g, p, shore)?;
+                decompose_at(alloc, g, picker, &merged_at, between)?
+            };
             let tree = cut_tree(alloc, shore, kept, merged)?;
             Ok((tree, after))
         }
