@@ -87,8 +87,11 @@ fn scan_at(
             if let Some(why) = cut_fault(alloc, g, p, *shore)? {
                 return Ok(Scanned::Refused { node, why });
             }
-            let kept_at = kept_partition(alloc, g, p, *shore)?;
-            match scan_at(alloc, g, kept, &kept_at, node + 1)? {
+            let scanned = {
+                let kept_at = kept_partition(alloc, g, p, *shore)?;
+                scan_at(alloc, g, kept, &kept_at, node + 1)?
+            };
+            match scanned {
                 Scanned::Refused { node, why } => Ok(Scanned::Refused { node, why }),
                 Scanned::Passed { next } => {
                     let merged_at = merged_partition(alloc, g, p, *shore)?;

@@ -19,7 +19,7 @@ returns-in-Refused t c =
     refused-kept c.args.g.now c.args.p.now.blocks c.in-Cut.shore (shape_of c.args.tree.now) (shape_of c.in-Cut.kept.value) (shape_of c.in-Cut.merged.value) (ap shape_of c.in-Cut.is) c.args.node
     (c.in_ok-why-in-Cut.ensures.none c.in_default.is) c.in_ok-kept_at-in-Cut.kept_at.blocks c.in_ok-kept_at-in-Cut.ensures.blocks c.in-Refused.node c.in-Refused.why
     (subst (λ (u : Tree). IsScanned c.args.g.now c.in_ok-kept_at-in-Cut.kept_at.blocks (shape_of u) (c.args.node + 1) (scanned.Refused c.in-Refused.node c.in-Refused.why)) c.deref.ensures
-    (subst (IsScanned c.args.g.now c.in_ok-kept_at-in-Cut.kept_at.blocks (shape_of c.deref.result.now) (c.args.node + 1)) c.in-Refused.is c.in_ok-node-in-Cut.ensures))
+    (subst (IsScanned c.args.g.now c.in_ok-kept_at-in-Cut.kept_at.blocks (shape_of c.deref.result.now) (c.args.node + 1)) c.in-Refused.is c.in_ok-scanned-in-Cut.ensures))
 
 pub scan_at-requires : goal.scan_at-requires
 scan_at-requires t c =
@@ -32,7 +32,7 @@ scan_at-requires t c =
 
 pub scan_at-requires-in-Passed : goal.scan_at-requires-in-Passed
 scan_at-requires-in-Passed t c =
-    let passed = subst (IsScanned c.args.g.now c.in_ok-kept_at-in-Cut.kept_at.blocks (shape_of c.deref.result.now) (c.args.node + 1)) c.in-Passed.is c.in_ok-node-in-Cut.ensures in
+    let passed = subst (IsScanned c.args.g.now c.in_ok-kept_at-in-Cut.kept_at.blocks (shape_of c.deref.result.now) (c.args.node + 1)) c.in-Passed.is c.in_ok-scanned-in-Cut.ensures in
     let below = below-merged c.args.g.now c.args.p.now.blocks c.in-Cut.shore (c.in_ok-why-in-Cut.ensures.none c.in_default.is) c.args.node (length c.in_ok-kept_at-in-Cut.kept_at.blocks) c.requires.few c.in_ok-kept_at-in-Cut.ensures.length
     c.in_ok-kept_at-in-Cut.kept_at.blocks (shape_of c.deref.result.now) c.keeps_limits.ensures.multigraph.ends (subst (λ n. IsPartition n c.args.p.now.blocks) c.requires.order c.keeps_partition.ensures.partition)
     c.in_ok-kept_at-in-Cut.ensures.blocks passed.0 refl (length c.in_ok-merged_at-in-Passed.merged_at.blocks) c.in-Passed.next c.in_ok-merged_at-in-Passed.ensures.length passed.1 in
@@ -42,14 +42,14 @@ scan_at-requires-in-Passed t c =
     let falls = c.decreases in
     (first_of (omega arith, search rules), (c.in_ok-merged_at-in-Passed.ensures.order, (c.in_ok-merged_at-in-Passed.ensures.covered, (fits, below.1))))
 
-pub returns : goal.returns
-returns t c =
+pub returns-in_ok-merged_at-in-Passed : goal.returns-in_ok-merged_at-in-Passed
+returns-in_ok-merged_at-in-Passed t c =
     IfOk-weaker c.scan_at-in-Passed.result (IsScanned c.args.g.now c.in_ok-merged_at-in-Passed.merged_at.blocks (shape_of c.deref-in-Passed.result.now) c.in-Passed.next) (IsScanned c.args.g.now c.args.p.now.blocks (shape_of c.args.tree.now) c.args.node)
     (λ w found.
     found-merged c.args.g.now c.args.p.now.blocks c.in-Cut.shore (shape_of c.args.tree.now) (shape_of c.in-Cut.kept.value) (shape_of c.in-Cut.merged.value) (ap shape_of c.in-Cut.is) c.args.node
     (c.in_ok-why-in-Cut.ensures.none c.in_default.is) c.in_ok-kept_at-in-Cut.kept_at.blocks c.in_ok-kept_at-in-Cut.ensures.blocks
     c.in_ok-merged_at-in-Passed.merged_at.blocks c.in_ok-merged_at-in-Passed.ensures.blocks c.in-Passed.next
     (subst (λ (u : Tree). IsScanned c.args.g.now c.in_ok-kept_at-in-Cut.kept_at.blocks (shape_of u) (c.args.node + 1) (scanned.Passed c.in-Passed.next)) c.deref.ensures
-    (subst (IsScanned c.args.g.now c.in_ok-kept_at-in-Cut.kept_at.blocks (shape_of c.deref.result.now) (c.args.node + 1)) c.in-Passed.is c.in_ok-node-in-Cut.ensures))
+    (subst (IsScanned c.args.g.now c.in_ok-kept_at-in-Cut.kept_at.blocks (shape_of c.deref.result.now) (c.args.node + 1)) c.in-Passed.is c.in_ok-scanned-in-Cut.ensures))
     w (subst (λ (u : Tree). IsScanned c.args.g.now c.in_ok-merged_at-in-Passed.merged_at.blocks (shape_of u) c.in-Passed.next w) c.deref-in-Passed.ensures found))
     c.scan_at-in-Passed.ensures
