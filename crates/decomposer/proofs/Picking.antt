@@ -85,10 +85,13 @@ is-choice g p stored list before few pp shows all room fits some = record {
 pub stored-length : (stored : List StoredCandidate) (list : List Candidate) (place : ℕ) → map candidate_of stored ≡ list → place < length stored → place < length list
 stored-length stored list place shows l = let a = length-map stored candidate_of in let e = ap length shows in omega arith
 
--- the numbers of blocks below a cut, and so how many cuts stand before each part of the tree
-module _ (g : Graph) (p : List (List ℕ)) (x : List ℕ) (cuts : IsCutAt g p x) (lk lm before : ℕ) (is_k : lk + count (length p) (complement (blocks_in p (mem x))) ≡ length p + 1) where
-  pub kept-few : lk + 2 ≤ length p
-  kept-few = let a = cuts.nontrivial.inside in let b = cuts.nontrivial.outside in let s = count_complement (length p) (blocks_in p (mem x)) in omega arith
+-- the numbers of blocks below a cut, of which so many are in the shore and so many are not
+module _ (g : Graph) (p : List (List ℕ)) (x : List ℕ) (cuts : IsCutAt g p x) where
+  pub blocks-beside : count (length p) (blocks_in p (mem x)) + 3 ≤ length p
+  blocks-beside = let b = cuts.nontrivial.outside in let s = count_complement (length p) (blocks_in p (mem x)) in omega arith
 
-  pub merged-few : lm + count (length p) (blocks_in p (mem x)) ≡ length p + 1 → (4 ≤ lk) × ((4 ≤ lm) × (lk + lm ≡ length p + 2))
-  merged-few is_m = let a = cuts.nontrivial.inside in let b = cuts.nontrivial.outside in let s = count_complement (length p) (blocks_in p (mem x)) in (omega arith, (omega arith, omega arith))
+  pub blocks-inside : 3 ≤ count (length p) (blocks_in p (mem x))
+  blocks-inside = let a = cuts.nontrivial.inside in omega arith
+
+  pub blocks-kept : (k : ℕ) → k + count (length p) (complement (blocks_in p (mem x))) ≡ length p + 1 → k ≡ count (length p) (blocks_in p (mem x)) + 1
+  blocks-kept k is = let s = count_complement (length p) (blocks_in p (mem x)) in omega arith

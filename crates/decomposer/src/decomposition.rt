@@ -1,9 +1,14 @@
 //! The decomposition of a graph by tight cuts.
 ghost use Rattle.std.specs.Prelude.{◌≡◌, ◌≤◌, ◌<◌, ◌+◌, ◌-◌, ℕ, List, [], length, IfOk, Err, Some, None};
+ghost use Rattle.counting.specs.Counts.{count};
+ghost use Rattle.counting.specs.Lists.{mem};
 ghost use Rattle.graph_core.specs.Covered.{IsCovered, IsReason};
 ghost use Rattle.graph_core.specs.Quotients.{quotient};
+ghost use Rattle.graph_core.specs.Shores.{blocks_in};
 ghost use Rattle.graph_core.specs.Verdicts.{reason_of};
-ghost use Rattle.tree_core.specs.Derivations.{IsDerivation, IsDerivationAt};
+ghost use Rattle.tree_core.specs.Derivations.{
+    IsCutAt, IsDerivation, IsDerivationAt, kept_at, merged_at,
+};
 ghost use Rattle.tree_core.specs.Shapes.{cut, cut_count};
 ghost use Rattle.tree_core.specs.View.{shape_of};
 ghost use Rattle.decomposer.specs.Choices.{FnPicks, PicksInRange};
@@ -103,6 +108,7 @@ fn cut_tree(alloc: Global, shore: VSet, kept: Tree, merged: Tree) -> Result<Tree
 }
 
 // The tree that the picker picks at p with so many cuts before it, and the number of cuts before what follows it.
+#[cycle(decomposing)]
 fn decompose_at<P: Picker>(
     alloc: Global,
     g: &MultiGraph,
@@ -124,12 +130,65 @@ fn decompose_at<P: Picker>(
     match picker.pick_shore(alloc, g, p, before)? {
         None => Ok((Tree::Leaf, before)),
         Some(shore) => {
-            let kept_at = kept_partition(alloc, g, p, shore)?;
-            let (kept, between) = decompose_at(alloc, g, picker, &kept_at, before + 1)?;
-            let merged_at = merged_partition(alloc, g, p, shore)?;
-            let (merged, after) = decompose_at(alloc, g, picker, &merged_at, between)?;
+            let (kept, between) = decompose_kept(alloc, g, picker, p, before + 1, shore)?;
+            let (merged, after) = decompose_merged(alloc, g, picker, p, between, shore)?;
             let tree = cut_tree(alloc, shore, kept, merged)?;
             Ok((tree, after))
         }
     }
+}
+
+// The tree of the side that is kept below the cut of the shore at p.
+#[cycle(decomposing)]
+fn decompose_kept<P: Picker>(
+    alloc: Global,
+    g: &MultiGraph,
+    picker: &P,
+    p: &Partition,
+    before: usize,
+    shore: VSet,
+) -> Result<(Tree, usize), AllocError>
+    requires ready { P.is_ready picker.now }
+    requires partition { p.now.order ≡ g.now.order }
+    requires covered { IsCovered (quotient g.now p.now.blocks) }
+    requires cut { IsCutAt g.now p.now.blocks shore }
+    requires few { before + count (length p.now.blocks) (blocks_in p.now.blocks (mem shore)) ≤ 255 }
+    ensures derives { IfOk result (λ made.
+        IsDerivationAt g.now (kept_at g.now.order p.now.blocks shore) (shape_of made.0)) }
+    ensures picked { IfOk result (λ made. IsPickedAt (P.picks picker.now) g.now
+        (kept_at g.now.order p.now.blocks shore) before (shape_of made.0)) }
+    ensures after { IfOk result (λ made. made.1 ≡ before + cut_count (shape_of made.0)) }
+    ensures few { IfOk result (λ made. cut_count (shape_of made.0) + 2 ≤
+        count (length p.now.blocks) (blocks_in p.now.blocks (mem shore))) }
+{
+    let kept_at = kept_partition(alloc, g, p, shore)?;
+    decompose_at(alloc, g, picker, &kept_at, before)
+}
+
+// The tree of the side that is merged below the cut of the shore at p.
+#[cycle(decomposing)]
+fn decompose_merged<P: Picker>(
+    alloc: Global,
+    g: &MultiGraph,
+    picker: &P,
+    p: &Partition,
+    before: usize,
+    shore: VSet,
+) -> Result<(Tree, usize), AllocError>
+    requires ready { P.is_ready picker.now }
+    requires partition { p.now.order ≡ g.now.order }
+    requires covered { IsCovered (quotient g.now p.now.blocks) }
+    requires cut { IsCutAt g.now p.now.blocks shore }
+    requires few { before + length p.now.blocks ≤
+        255 + count (length p.now.blocks) (blocks_in p.now.blocks (mem shore)) }
+    ensures derives { IfOk result (λ made.
+        IsDerivationAt g.now (merged_at g.now.order p.now.blocks shore) (shape_of made.0)) }
+    ensures picked { IfOk result (λ made. IsPickedAt (P.picks picker.now) g.now
+        (merged_at g.now.order p.now.blocks shore) before (shape_of made.0)) }
+    ensures after { IfOk result (λ made. made.1 ≡ before + cut_count (shape_of made.0)) }
+    ensures few { IfOk result (λ made. cut_count (shape_of made.0) + 2 +
+        count (length p.now.blocks) (blocks_in p.now.blocks (mem shore)) ≤ length p.now.blocks) }
+{
+    let merged_at = merged_partition(alloc, g, p, shore)?;
+    decompose_at(alloc, g, picker, &merged_at, before)
 }

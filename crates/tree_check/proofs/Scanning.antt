@@ -24,26 +24,24 @@ use Rattle.tree_check.specs.declared.scan.Scanned.TheVariants as scanned
 few-nodes : (g : Graph) (p : List (List ℕ)) (t : Shape) → IsGraph g → IsPartition g.order p → IsDerivationAt g p t → 4 ≤ length p → node_count t + 3 ≤ length p
 few-nodes g p t is pp d four = let a = few-cuts_at g p t is pp d four in let b = node_count-cuts t in omega arith
 
--- the numbers of blocks below a cut, and so how many nodes stand before each part of the tree
-module _ (g : Graph) (p : List (List ℕ)) (x : List ℕ) (cuts : IsCutAt g p x) (node lk : ℕ) (room : node + length p ≤ 129) (is_k : lk + count (length p) (complement (blocks_in p (mem x))) ≡ length p + 1) where
-  pub kept-less : lk + 2 ≤ length p
-  kept-less =
-      let a = cuts.nontrivial.inside in
-      let b = cuts.nontrivial.outside in
-      let s = count_complement (length p) (blocks_in p (mem x)) in
+-- the numbers of blocks below a cut, of which so many are in the shore and so many are not
+module _ (g : Graph) (p : List (List ℕ)) (x : List ℕ) (cuts : IsCutAt g p x) where
+  pub blocks-beside : count (length p) (blocks_in p (mem x)) + 3 ≤ length p
+  blocks-beside = let b = cuts.nontrivial.outside in let s = count_complement (length p) (blocks_in p (mem x)) in omega arith
+
+  pub blocks-inside : 3 ≤ count (length p) (blocks_in p (mem x))
+  blocks-inside = let a = cuts.nontrivial.inside in omega arith
+
+  pub blocks-kept : (k : ℕ) → k + count (length p) (complement (blocks_in p (mem x))) ≡ length p + 1 → k ≡ count (length p) (blocks_in p (mem x)) + 1
+  blocks-kept k is = let s = count_complement (length p) (blocks_in p (mem x)) in omega arith
+
+  -- the tree that is kept has fewer nodes than there are blocks in the shore
+  pub few-passed : (q : List (List ℕ)) (k : Shape) → IsGraph g → IsPartition g.order p → q ≡ kept_at g.order p x → length q + count (length p) (complement (blocks_in p (mem x))) ≡ length p + 1 → IsDerivationAt g q k → node_count k + 2 ≤ count (length p) (blocks_in p (mem x))
+  few-passed q k is pp same long derives =
+      let l = blocks-kept (length q) long in
+      let a = blocks-inside in
+      let few = few-nodes g q k is (subst (IsPartition g.order) (sym same) (kept-partition g p x is pp cuts)) derives (omega arith) in
       omega arith
-
-  pub kept-room : node + 1 + lk ≤ 129
-  kept-room = let a = cuts.nontrivial.outside in omega arith
-
-  module _ (q : List (List ℕ)) (k : Shape) (is : IsGraph g) (pp : IsPartition g.order p) (same : q ≡ kept_at g.order p x) (derives : IsDerivationAt g q k) (long : length q ≡ lk) (lm next : ℕ) (is_m : lm + count (length p) (blocks_in p (mem x)) ≡ length p + 1) (passed : next ≡ node + 1 + node_count k) where
-    pub below-merged : (lm + 2 ≤ length p) × (next + lm ≤ 129)
-    below-merged =
-        let a = cuts.nontrivial.inside in
-        let b = cuts.nontrivial.outside in
-        let s = count_complement (length p) (blocks_in p (mem x)) in
-        let few = few-nodes g q k is (subst (IsPartition g.order) (sym same) (kept-partition g p x is pp cuts)) derives (omega arith) in
-        (omega arith, omega arith)
 
 -- what is found below a cut
 module _ (g : Graph) (p : List (List ℕ)) (x : List ℕ) (t k m : Shape) (is_t : t ≡ cut x k m) (node : ℕ) where

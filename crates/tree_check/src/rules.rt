@@ -1,5 +1,6 @@
 //! The rules that a node of a derivation keeps.
 ghost use Rattle.std.specs.Prelude.{◌≡◌, ◌-◌, ℕ, true, All, length, IfOk, None, Some};
+ghost use Rattle.contraction.specs.Contracted.{contraction};
 ghost use Rattle.counting.specs.Counts.{Within, is_odd};
 ghost use Rattle.counting.specs.Lists.{mem, rising_list};
 ghost use Rattle.graph_core.specs.Covered.{IsCovered};
@@ -12,7 +13,7 @@ ghost use Rattle.tree_check.specs.Judgements.{why_of};
 ghost use Rattle.tree_check.specs.Refusals.{BreaksCut, CrossesAt};
 
 use crate::judgement::Why;
-use contraction::{Partition, lift, quotient};
+use contraction::{Contracted, Partition, lift, quotient};
 use graph_core::{MultiGraph, Numbers};
 use std::alloc::{AllocError as Memory, Global};
 use tight_cuts::{Tightness, first_candidate_at, is_tight};
@@ -67,12 +68,32 @@ fn crossing_at(
         (λ o. (m : _) → o ≡ Some m → CrossesAt g.now p.now.blocks (mem shore) m) }
     ensures none { IfOk result (λ o. o ≡ None → IsTightAt g.now p.now.blocks (mem shore)) }
 {
+    let q = quotient(alloc, g, p)?;
+    crossing_by(alloc, g, p, &q, shore)
+}
+
+// The same, from the quotient at p.
+fn crossing_by(
+    alloc: Global,
+    g: &MultiGraph,
+    p: &Partition,
+    q: &Contracted,
+    shore: VSet,
+) -> Result<Option<Numbers>, Memory>
+    requires order { p.now.order ≡ g.now.order }
+    requires covered { IsCovered (quotient g.now p.now.blocks) }
+    requires contracted { q.now ≡ contraction g.now p.now.blocks }
+    requires union { IsUnion g.now.order p.now.blocks (mem shore) }
+    requires odd { is_odd (block_count p.now.blocks (mem shore)) ≡ true }
+    ensures some { IfOk result
+        (λ o. (m : _) → o ≡ Some m → CrossesAt g.now p.now.blocks (mem shore) m) }
+    ensures none { IfOk result (λ o. o ≡ None → IsTightAt g.now p.now.blocks (mem shore)) }
+{
     g.keeps_limits();
     p.keeps_partition();
-    let q = quotient(alloc, g, p)?;
     match is_tight(alloc, q.graph(), places_in(p, shore))? {
         Tightness::Tight => Ok(None),
-        Tightness::Crossed { matching } => Ok(Some(lift(alloc, &q, &matching)?)),
+        Tightness::Crossed { matching } => Ok(Some(lift(alloc, q, &matching)?)),
     }
 }
 

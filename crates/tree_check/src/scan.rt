@@ -1,8 +1,12 @@
 //! The scan of a tree in preorder.
 ghost use Rattle.std.specs.Prelude.{◌≡◌, ◌≤◌, ◌+◌, length, IfOk};
+ghost use Rattle.counting.specs.Counts.{count};
+ghost use Rattle.counting.specs.Lists.{mem};
 ghost use Rattle.graph_core.specs.Covered.{IsCovered};
 ghost use Rattle.graph_core.specs.Partitions.{singles};
 ghost use Rattle.graph_core.specs.Quotients.{quotient};
+ghost use Rattle.graph_core.specs.Shores.{blocks_in};
+ghost use Rattle.tree_core.specs.Derivations.{IsCutAt, kept_at, merged_at};
 ghost use Rattle.tree_core.specs.Shapes.{Fits, leaf};
 ghost use Rattle.tree_core.specs.View.{shape_of};
 ghost use Rattle.tree_check.specs.Judgements.{IsJudgement};
@@ -15,6 +19,7 @@ use contraction::Partition;
 use graph_core::{MultiGraph, Reason, Verdict};
 use std::alloc::{AllocError as Memory, Global};
 use tree_core::{Tree, kept_partition, merged_partition, root_partition};
+use vset_core::VSet;
 
 /// Whether `tree`, whose shores lie below the order of `g`, is a derivation of `g`. `NotCovered` comes exactly where `g` is not matching
 /// covered, with the first reason; `Accepted` exactly where it is and the tree is a derivation of it; else `Refused` names the first
@@ -62,6 +67,7 @@ pub(crate) enum Scanned {
 }
 
 // Scans the tree at p, whose first node has the number `node`.
+#[cycle(scanning)]
 fn scan_at(
     alloc: Global,
     g: &MultiGraph,
@@ -75,8 +81,6 @@ fn scan_at(
     requires few { node + length p.now.blocks ≤ 129 }
     ensures { IfOk result (IsScanned g.now p.now.blocks (shape_of tree.now) node) }
 {
-    g.keeps_limits();
-    p.keeps_partition();
     match tree {
         Tree::Leaf => scan_leaf(alloc, g, p, node),
         Tree::Cut {
@@ -87,16 +91,61 @@ fn scan_at(
             if let Some(why) = cut_fault(alloc, g, p, *shore)? {
                 return Ok(Scanned::Refused { node, why });
             }
-            let kept_at = kept_partition(alloc, g, p, *shore)?;
-            match scan_at(alloc, g, kept, &kept_at, node + 1)? {
+            match scan_kept(alloc, g, kept, p, node + 1, *shore)? {
                 Scanned::Refused { node, why } => Ok(Scanned::Refused { node, why }),
-                Scanned::Passed { next } => {
-                    let merged_at = merged_partition(alloc, g, p, *shore)?;
-                    scan_at(alloc, g, merged, &merged_at, next)
-                }
+                Scanned::Passed { next } => scan_merged(alloc, g, merged, p, next, *shore),
             }
         }
     }
+}
+
+// Scans the tree of the side that is kept below the cut of the shore at p.
+#[cycle(scanning)]
+fn scan_kept(
+    alloc: Global,
+    g: &MultiGraph,
+    tree: &Tree,
+    p: &Partition,
+    node: u32,
+    shore: VSet,
+) -> Result<Scanned, Memory>
+    requires order { p.now.order ≡ g.now.order }
+    requires covered { IsCovered (quotient g.now p.now.blocks) }
+    requires cut { IsCutAt g.now p.now.blocks shore }
+    requires fits { Fits g.now.order (shape_of tree.now) }
+    requires few { node + count (length p.now.blocks) (blocks_in p.now.blocks (mem shore)) ≤ 128 }
+    ensures scanned { IfOk result
+        (IsScanned g.now (kept_at g.now.order p.now.blocks shore) (shape_of tree.now) node) }
+    ensures few { IfOk result (λ found. (next : _) → found ≡ Scanned.Passed next →
+        next + 2 ≤ node + count (length p.now.blocks) (blocks_in p.now.blocks (mem shore))) }
+{
+    g.keeps_limits();
+    p.keeps_partition();
+    let kept_at = kept_partition(alloc, g, p, shore)?;
+    scan_at(alloc, g, tree, &kept_at, node)
+}
+
+// Scans the tree of the side that is merged below the cut of the shore at p.
+#[cycle(scanning)]
+fn scan_merged(
+    alloc: Global,
+    g: &MultiGraph,
+    tree: &Tree,
+    p: &Partition,
+    node: u32,
+    shore: VSet,
+) -> Result<Scanned, Memory>
+    requires order { p.now.order ≡ g.now.order }
+    requires covered { IsCovered (quotient g.now p.now.blocks) }
+    requires cut { IsCutAt g.now p.now.blocks shore }
+    requires fits { Fits g.now.order (shape_of tree.now) }
+    requires few { node + length p.now.blocks ≤
+        128 + count (length p.now.blocks) (blocks_in p.now.blocks (mem shore)) }
+    ensures { IfOk result
+        (IsScanned g.now (merged_at g.now.order p.now.blocks shore) (shape_of tree.now) node) }
+{
+    let merged_at = merged_partition(alloc, g, p, shore)?;
+    scan_at(alloc, g, tree, &merged_at, node)
 }
 
 // What the scan finds at a leaf.
