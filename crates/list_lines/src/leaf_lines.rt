@@ -117,8 +117,7 @@ fn lines_of_tree(alloc: Global, g: &MultiGraph, tree: &Tree, number: u64) -> Res
     let n = g.order();
     let found = leaves(alloc, tree, n)?;
     let front = format!(in alloc; "{number} ")?;
-    let lines = lines_of_leaves(alloc, g, &found, front.as_str())?;
-    Ok(lines)
+    lines_of_leaves(alloc, g, &found, front.as_str())
 }
 
 // The lines of the leaves at these partitions, each behind the same front.
