@@ -8,7 +8,7 @@ use Rattle.graph_core.specs.Quotients.{quotient}
 use Rattle.graph6_text.specs.Writing.{graph6_of}
 use Rattle.tree_core.specs.Leaves.{leaves}
 use Rattle.tree_core.specs.Shapes.{Shape}
-use Rattle.report_text.specs.Tallies.{AreLeafKinds}
+use Rattle.report_text.specs.Tallies.{AreLeafKinds, IsKindOf}
 use Rattle.report_text.specs.declared.tallies.LeafKind.{LeafKind}
 use Rattle.report_text.specs.declared.tallies.LeafKind.TheVariants.{Brick, Brace}
 use Rattle.list_lines.specs.Orders.{IsPickedTree, Picks}
@@ -26,6 +26,12 @@ leaf_end Brace = codes " brace\n"
 -- the line of a leaf with this quotient
 abbrev pub quotient_line : (front : List ℕ) → Graph → LeafKind → List ℕ
 quotient_line front q kind = front ++ graph6_of q ++ leaf_end kind
+
+-- the line of a leaf with this quotient was added, with its kind
+pub record AddsLine (front : List ℕ) (q : Graph) (before now : List ℕ) : Type 0 where
+  pub kind : LeafKind
+  pub right : IsKindOf q kind
+  pub line : now ≡ before ++ quotient_line front q kind
 
 -- the line of the leaf at a partition
 abbrev pub leaf_line : (front : List ℕ) → Graph → List (List ℕ) → LeafKind → List ℕ

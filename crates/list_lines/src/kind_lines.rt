@@ -49,14 +49,26 @@ fn push_standing(words: &mut String, standing: Standing) -> Result<(), Memory>
             bricks,
             braces,
             bicritical,
-        } => {
-            push_word(words, sort_word(sort))?;
-            push_number(words, bricks)?;
-            push_number(words, braces)?;
-            push_word(words, "bicritical")?;
-            push_word(words, answer_word(bicritical))
-        }
+        } => push_covered(words, sort, bricks, braces, bicritical),
     }
+}
+
+// Appends the words on a covered graph.
+fn push_covered(
+    words: &mut String,
+    sort: Sort,
+    bricks: u32,
+    braces: u32,
+    bicritical: bool,
+) -> Result<(), Memory>
+    ensures { OnOk result (string_bytes words.new
+        ≡ with_standing (string_bytes words.old) (Standing.Covered sort bricks braces bicritical)) }
+{
+    push_word(words, sort_word(sort))?;
+    push_number(words, bricks)?;
+    push_number(words, braces)?;
+    push_word(words, "bicritical")?;
+    push_word(words, answer_word(bicritical))
 }
 
 // Appends a word behind a space.

@@ -7,8 +7,7 @@ ghost use Rattle.tree_core.specs.Derivations.{IsDerivation};
 ghost use Rattle.tree_core.specs.Leaves.{leaves};
 ghost use Rattle.tree_core.specs.View.{shape_of};
 ghost use Rattle.decomposer.specs.Choices.{FnPicks, PicksInRange};
-ghost use Rattle.report_text.specs.Tallies.{IsLeafKind};
-ghost use Rattle.list_lines.specs.LeafLines.{AreLeafLines, AreLinesOf, leaf_end, leaf_line, line_front, quotient_line};
+ghost use Rattle.list_lines.specs.LeafLines.{AddsLine, AreLeafLines, AreLinesOf, leaf_end, line_front, quotient_line};
 ghost use Rattle.list_lines.specs.Orders.{IsPickedTree, Picks};
 
 use crate::query::LeafOrder;
@@ -118,8 +117,7 @@ fn lines_of_tree(alloc: Global, g: &MultiGraph, tree: &Tree, number: u64) -> Res
     let n = g.order();
     let found = leaves(alloc, tree, n)?;
     let front = format!(in alloc; "{number} ")?;
-    let lines = lines_of_leaves(alloc, g, &found, front.as_str())?;
-    Ok(lines)
+    lines_of_leaves(alloc, g, &found, front.as_str())
 }
 
 // The lines of the leaves at these partitions, each behind the same front.
@@ -134,31 +132,40 @@ fn lines_of_leaves(
         (λ lines. AreLinesOf front.now g.now (map (λ p. p.blocks) found.now) lines.items) }
 {
     let mut lines = Vec::new(alloc);
-    let mut kinds = Vec::new(alloc);
     for i in 0..found.len() {
-        let kind = push_leaf(alloc, &mut lines, g, found.get(i), front)?;
-        kinds.push(kind)?;
+        push_leaf(alloc, &mut lines, g, found.get(i), front)?;
     }
     Ok(lines)
 }
 
-// Appends the line of the leaf at a partition, and tells its kind.
+// Appends the line of the leaf at a partition.
 fn push_leaf(
     alloc: Global,
     lines: &mut Vec<u8>,
     g: &MultiGraph,
     p: &Partition,
     front: &str,
-) -> Result<LeafKind, Memory>
+) -> Result<(), Memory>
     requires { p.now.order ≡ g.now.order }
-    ensures kind { IfOk result (λ kind. IsLeafKind g.now p.now.blocks kind) }
-    ensures line { IfOk result
-        (λ kind. lines.new.items ≡ lines.old.items ++ leaf_line front.now g.now p.now.blocks kind) }
+    ensures { OnOk result
+        (AddsLine front.now (quotient g.now p.now.blocks) lines.old.items lines.new.items) }
 {
     let q = leaf_quotient(alloc, g, p)?;
-    let kind = kind_of(alloc, q.graph())?;
-    push_line(alloc, lines, q.graph(), front, kind)?;
-    Ok(kind)
+    push_quotient(alloc, lines, q.graph(), front)
+}
+
+// Appends the line of a leaf with this quotient.
+fn push_quotient(
+    alloc: Global,
+    lines: &mut Vec<u8>,
+    q: &MultiGraph,
+    front: &str,
+) -> Result<(), Memory>
+    requires { IsSimple q.now }
+    ensures { OnOk result (AddsLine front.now q.now lines.old.items lines.new.items) }
+{
+    let kind = kind_of(alloc, q)?;
+    push_line(alloc, lines, q, front, kind)
 }
 
 // The quotient at a partition, a simple graph.

@@ -1,5 +1,5 @@
 //! A list that comes in pieces.
-ghost use Rattle.std.specs.Prelude.{◌≡◌, ◌+◌, ◌++◌, OnOk, IsErrOf};
+ghost use Rattle.std.specs.Prelude.{◌≡◌, ◌+◌, ◌++◌, IfOk, OnOk, IsErrOf};
 ghost use Rattle.list_reader.specs.Lines.{HasNoFeed, lines_of};
 ghost use Rattle.list_reader.specs.Endings.{Added, Gives, ToldThrough, StopsWith};
 
@@ -16,6 +16,31 @@ pub struct Listing {
     pub lines: u64,
     /// The bytes behind them, of a line whose line feed has not come yet.
     pub held: Vec<u8>,
+}
+
+// Tells the whole lines of a text, as `tell_lines` does, and refuses what is left of it where that is too long for a line.
+fn tell_within_limit<'a, T: LineTeller>(
+    alloc: Global,
+    teller: &T,
+    lines: u64,
+    text: &'a [u8],
+    output: &mut Vec<u8>,
+) -> Result<(u64, &'a [u8]), Stop>
+    ensures told { IfOk result
+        (λ found. Added (ToldThrough (T.tells teller.now) lines text.now found.1.now found.0)
+        output.old.items output.new.items) }
+    ensures left { IfOk result (λ found. HasNoFeed found.1.now) }
+    ensures bad { IsErrOf result Stop.Bad →
+        Added (StopsWith (T.tells teller.now) (T.bad teller.now) lines text.now Ending.Bad)
+        output.old.items output.new.items }
+{
+    let (lines, rest) = tell_lines(alloc, teller, lines, text, output)?;
+    if rest.len() > MOST_LINE {
+        let number = next_number(lines)?;
+        push_fault(alloc, number, FaultKind::Limit, output).map_err(|_| Stop::Memory)?;
+        return Err(Stop::Bad);
+    }
+    Ok((lines, rest))
 }
 
 // Tells the lines that a further piece makes whole, and holds what is left behind them.
@@ -38,12 +63,7 @@ pub fn add_piece<T: LineTeller>(
         .held
         .extend_from_slice(piece)
         .map_err(|_| Stop::Memory)?;
-    let (lines, rest) = tell_lines(alloc, teller, listing.lines, &listing.held, output)?;
-    if rest.len() > MOST_LINE {
-        let number = next_number(lines)?;
-        push_fault(alloc, number, FaultKind::Limit, output).map_err(|_| Stop::Memory)?;
-        return Err(Stop::Bad);
-    }
+    let (lines, rest) = tell_within_limit(alloc, teller, listing.lines, &listing.held, output)?;
     let held = rest.to_vec(alloc).map_err(|_| Stop::Memory)?;
     *listing = Listing { lines, held };
     Ok(())

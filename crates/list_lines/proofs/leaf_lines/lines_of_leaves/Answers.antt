@@ -1,13 +1,16 @@
-use Rattle.std.proofs.Common.{List, [], ap, ap₂, arith, get_or, length, map, subst, sym, take, ℕ, ◌+◌, ◌++◌, ◌<◌, ◌≡◌, ◌∙◌}
-use Rattle.std.proofs.lemmas.List.{length-append, length-map}
+use Rattle.std.proofs.Common.{List, [], arith, get_or, length, map, subst, sym, ℕ, ◌<◌, ◌≡◌, ◌∙◌}
+use Rattle.std.proofs.lemmas.List.{length-map}
 use Rattle.contraction.specs.Partition.{PartitionValue}
-use Rattle.tree_core.specs.LeafMaps.{leaf_at}
-use Rattle.report_text.specs.Tallies.{IsLeafKind, kind_at}
-use Rattle.report_text.specs.declared.tallies.LeafKind.{LeafKind}
-use Rattle.list_lines.specs.LeafLines.{leaf_line, leaf_lines}
-use Rattle.report_text.proofs.LeafLines.{blocks-at, kinds-more}
-use Rattle.list_lines.proofs.LeafTexts.{lines_step}
+use Rattle.graph_core.specs.Quotients.{quotient}
+use Rattle.report_text.proofs.LeafLines.{blocks-at}
+use Rattle.list_lines.specs.LeafLines.{AddsLine}
+use Rattle.list_lines.proofs.LeafTexts.{FirstLines, lines_all, lines_next, lines_none}
 use Rattle.list_lines.proofs.leaf_lines.lines_of_leaves.Goals as goal
+
+pub loop-i-init : goal.loop-i-init
+loop-i-init c =
+    subst (FirstLines c.args.front.now c.args.g.now (map (λ (p : PartitionValue). p.blocks) c.args.found.now) 0) (sym c.new-lines.ensures.items)
+    (lines_none c.args.front.now c.args.g.now (map (λ (p : PartitionValue). p.blocks) c.args.found.now))
 
 pub loop-i-preserved : goal.loop-i-preserved
 loop-i-preserved c =
@@ -16,15 +19,12 @@ loop-i-preserved c =
     let below : i < length c.args.found.now = omega (arith, c.len-i-end.ensures) in
     let listed : i < length ps = subst (λ (n : ℕ). i < n) (sym (length-map c.args.found.now (λ (p : PartitionValue). p.blocks))) below in
     let blocks : get_or ps i [] ≡ c.get.result.now.blocks = blocks-at c.args.found.now i c.get.result.now c.get.ensures in
-    let more = c.in_ok-push.ensures.items in
-    record {
-      so_many = ap length more ∙ length-append c.loop-i.kinds.items _ ∙ ap (λ (n : ℕ). n + 1) c.loop-i.invariant.so_many;
-      right = λ j w. subst (λ (ks : List LeafKind). IsLeafKind c.args.g.now (leaf_at ps j) (kind_at ks j)) (sym more)
-          (kinds-more c.args.g.now ps i c.loop-i.kinds.items c.in_ok-kind.kind c.loop-i.invariant.so_many c.loop-i.invariant.right
-          (subst (λ (p : List (List ℕ)). IsLeafKind c.args.g.now p c.in_ok-kind.kind) (sym blocks) c.in_ok-kind.ensures.kind) j w);
-      lines =
-          c.in_ok-kind.ensures.line
-          ∙ ap₂ (λ (before : List ℕ) (p : List (List ℕ)). before ++ leaf_line c.args.front.now c.args.g.now p c.in_ok-kind.kind) c.loop-i.invariant.lines (sym blocks)
-          ∙ sym (lines_step c.args.front.now c.args.g.now ps i c.loop-i.kinds.items c.in_ok-kind.kind listed c.loop-i.invariant.so_many)
-          ∙ ap (λ (ks : List LeafKind). leaf_lines c.args.front.now c.args.g.now (take (i + 1) ps) ks) (sym more);
-    }
+    let now = c.push_leaf.new.lines.items in
+    lines_next c.args.front.now c.args.g.now ps i c.loop-i.lines.items now listed c.loop-i.invariant
+    (subst (λ (p : List (List ℕ)). AddsLine c.args.front.now (quotient c.args.g.now p) c.loop-i.lines.items now) (sym blocks) c.in_ok-push_leaf.ensures)
+
+pub returns : goal.returns
+returns c =
+    let ps : List (List (List ℕ)) = map (λ (p : PartitionValue). p.blocks) c.args.found.now in
+    let all : c.loop-i.i ≡ length c.args.found.now = omega (arith, c.len-i-end.ensures) in
+    lines_all c.args.front.now c.args.g.now ps c.loop-i.i c.loop-i.lines.items (all ∙ sym (length-map c.args.found.now (λ (p : PartitionValue). p.blocks))) c.loop-i.invariant

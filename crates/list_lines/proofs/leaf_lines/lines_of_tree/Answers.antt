@@ -1,4 +1,4 @@
-use Rattle.std.proofs.Common.{ℕ, List, All, ◌≡◌, ◌∙◌, ap, sym, subst, subst₂, map}
+use Rattle.std.proofs.Common.{ℕ, List, All, IfOk, ◌≡◌, ◌∙◌, ap, sym, subst, subst₂, map}
 use Rattle.contraction.specs.Partition.{PartitionValue}
 use Rattle.graph_core.specs.Partitions.{singles}
 use Rattle.tree_core.specs.Leaves.{StandsAt, leaves, partitions_of}
@@ -25,7 +25,7 @@ lines_of_leaves-requires c =
 pub returns : goal.returns
 returns c =
     let front : c.as_str.result.now ≡ line_front c.args.number = c.as_str.ensures.value ∙ c.in_ok-front.ensures.ok in
-    subst₂ (λ (before : List ℕ) (ps : List (List (List ℕ))). AreLinesOf before c.args.g.now ps c.in_ok-lines.lines.items) front
+    subst₂ (λ (before : List ℕ) (ps : List (List (List ℕ))). IfOk c.lines_of_leaves.result (λ lines. AreLinesOf before c.args.g.now ps lines.items)) front
     (ap (map (λ (p : PartitionValue). p.blocks)) c.in_ok-found.ensures ∙ blocks-of_leaves c.order-n.result (leaves c.order-n.result (shape_of c.args.tree.now))
     ∙ ap (λ (k : ℕ). leaves k (shape_of c.args.tree.now)) c.order-n.ensures.is)
-    c.in_ok-lines.ensures
+    c.lines_of_leaves.ensures
