@@ -18,10 +18,10 @@ fn agrees(alloc: Global, g: &MultiGraph) -> Result<bool, Memory> {
     if !is_covered(alloc, g)? {
         return Ok(false);
     }
-    let plain = candidates_by_pairs(alloc, g)?;
-    let quick = candidates(alloc, g)?;
     let first = first_candidate(alloc, g)?;
     let shore = find_any(alloc, g)?;
+    let plain = candidates_by_pairs(alloc, g)?;
+    let quick = candidates(alloc, g)?;
     Ok(
         quick.as_slice() == plain.as_slice()
             && first == plain.as_slice().first().copied()
@@ -32,8 +32,13 @@ fn agrees(alloc: Global, g: &MultiGraph) -> Result<bool, Memory> {
 // Whether the grown graph of the number and each of the leaves of its decomposition agree.
 fn number_agrees(alloc: Global, number: u64) -> Result<bool, Memory> {
     let g = grow(alloc, number, 5)?;
-    let pieces = leaf_graphs(alloc, &g, Choice::FirstAlone)?;
-    let mut agree = pieces.len() == 5 && agrees(alloc, &g)?;
+    Ok(agrees(alloc, &g)? && leaves_agree(alloc, &g)?)
+}
+
+// Whether the decomposition has five leaves, and each of them agrees.
+fn leaves_agree(alloc: Global, g: &MultiGraph) -> Result<bool, Memory> {
+    let pieces = leaf_graphs(alloc, g, Choice::FirstAlone)?;
+    let mut agree = pieces.len() == 5;
     for piece in &pieces {
         agree = agree && agrees(alloc, piece.graph())?;
     }
