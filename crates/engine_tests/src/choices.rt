@@ -75,15 +75,23 @@ pub fn leaf_graphs(
     g: &MultiGraph,
     choice: Choice,
 ) -> Result<Vec<Contracted>, Memory> {
+    match derived(alloc, g, choice)? {
+        Some(tree) => graphs_of_leaves(alloc, g, &tree),
+        None => Ok(Vec::new(alloc)),
+    }
+}
+
+// The graphs of the leaves of a derivation.
+fn graphs_of_leaves(alloc: Global, g: &MultiGraph, tree: &Tree) -> Result<Vec<Contracted>, Memory>
+    requires { IsDerivation g.now (shape_of tree.now) }
+{
     derivation_stands();
+    let partitions = leaves(alloc, tree, g.order())?;
     let mut graphs = Vec::new(alloc);
-    if let Some(tree) = derived(alloc, g, choice)? {
-        let partitions = leaves(alloc, &tree, g.order())?;
-        for i in 0..partitions.len() {
-            let leaf = partitions.get(i);
-            if leaf.order() == g.order() {
-                graphs.push(quotient(alloc, g, leaf)?)?;
-            }
+    for i in 0..partitions.len() {
+        let leaf = partitions.get(i);
+        if leaf.order() == g.order() {
+            graphs.push(quotient(alloc, g, leaf)?)?;
         }
     }
     Ok(graphs)

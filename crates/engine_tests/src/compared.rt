@@ -46,6 +46,31 @@ fn replayed(tree: Tree, n: u32, moves: &Moves) -> Tree {
     tree
 }
 
+// Whether no move leads from a derivation to itself.
+fn is_like_itself(alloc: Global, g: &MultiGraph, tree: &Tree) -> Result<bool, Memory>
+    requires { IsDerivation g.now (shape_of tree.now) }
+{
+    Ok(compare(alloc, g, tree, tree)?.moves.is_empty())
+}
+
+// Whether moves lead from a derivation to another, with a map for each of so many leaves.
+fn turns_into(
+    alloc: Global,
+    g: &MultiGraph,
+    first: Tree,
+    second: &Tree,
+    many: usize,
+) -> Result<bool, Memory>
+    requires first { IsDerivation g.now (shape_of first) }
+    requires second { IsDerivation g.now (shape_of second.now) }
+{
+    let pairing = compare(alloc, g, &first, second)?;
+    if pairing.moves.is_empty() || pairing.maps.len() != many {
+        return Ok(false);
+    }
+    Ok(same_tree(&replayed(first, g.order(), &pairing.moves), second))
+}
+
 #[test]
 fn derivations_of_the_cycle_of_eight(rt: HostRuntime) -> Result<(), Fail> {
     let g = made(rt.alloc(), 8, &CYCLE_OF_8)?;
@@ -53,16 +78,12 @@ fn derivations_of_the_cycle_of_eight(rt: HostRuntime) -> Result<(), Fail> {
         assert!(rt; false);
         return Ok(());
     };
+    assert!(rt; is_like_itself(rt.alloc(), &g, &first)?);
     let Some(second) = derived(rt.alloc(), &g, Choice::Last)? else {
         assert!(rt; false);
         return Ok(());
     };
-    let itself = compare(rt.alloc(), &g, &first, &first)?;
-    assert!(rt; itself.moves.is_empty());
-    let pairing = compare(rt.alloc(), &g, &first, &second)?;
-    assert!(rt; !pairing.moves.is_empty() && pairing.maps.len() == 3);
-    let made = replayed(first, g.order(), &pairing.moves);
-    assert!(rt; same_tree(&made, &second));
+    assert!(rt; turns_into(rt.alloc(), &g, first, &second, 3)?);
     Ok(())
 }
 

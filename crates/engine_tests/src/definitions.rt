@@ -76,19 +76,30 @@ fn the_deficiency_is_that_of_a_berge_set(rt: HostRuntime) -> Result<(), Fail> {
     Ok(())
 }
 
+// A graph, a set of its vertices, and whether it is a tight shore.
+static TIGHT: [(u32, &[(u32, u32)], &[u32], bool); 4] = [
+    (6, &HEXAGON, &[2, 3, 4], true),
+    (6, &HEXAGON, &[1, 3, 5], false),
+    (6, &HEXAGON, &[2, 3], false),
+    (6, &PRISM, &[1, 2, 3], false),
+];
+
 #[test]
 fn tight_shores(rt: HostRuntime) -> Result<(), Fail> {
-    let hexagon = made(rt.alloc(), 6, &HEXAGON)?;
-    assert!(rt; is_small(&hexagon));
-    assert!(rt; is_tight(rt.alloc(), &hexagon, set_of(&[2, 3, 4]))?);
-    assert!(rt; !is_tight(rt.alloc(), &hexagon, set_of(&[1, 3, 5]))?);
-    assert!(rt; !is_tight(rt.alloc(), &hexagon, set_of(&[2, 3]))?);
+    for (order, edges, shore, tight) in &TIGHT {
+        let graph = made(rt.alloc(), *order, edges)?;
+        assert!(rt; is_small(&graph));
+        assert!(rt; is_tight(rt.alloc(), &graph, set_of(shore))? == *tight);
+    }
+    Ok(())
+}
+
+#[test]
+fn three_edges_of_a_perfect_matching_cross_the_prism(rt: HostRuntime) -> Result<(), Fail> {
     let prism = made(rt.alloc(), 6, &PRISM)?;
     assert!(rt; is_small(&prism));
     let crossing = set_of(&[7, 8, 9]);
-    let triangle = set_of(&[1, 2, 3]);
     assert!(rt; is_perfect(&prism, VSet::empty(), crossing));
-    assert!(rt; edges_in_cut(&prism, crossing, triangle) == 3);
-    assert!(rt; !is_tight(rt.alloc(), &prism, triangle)?);
+    assert!(rt; edges_in_cut(&prism, crossing, set_of(&[1, 2, 3])) == 3);
     Ok(())
 }

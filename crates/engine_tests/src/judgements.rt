@@ -77,14 +77,19 @@ fn is_cut_further(judgement: &Option<Judgement>, shore: VSet) -> bool {
     }
 }
 
+// A graph, the shore of its cut, and the matching that crosses it.
+static CROSSED: [(u32, &[(u32, u32)], &[u32], &[u32]); 2] = [
+    (6, &PRISM, &[1, 2, 3], &[7, 8, 9]),
+    (10, &PETERSEN, &[1, 2, 3, 4, 5], &[6, 7, 8, 9, 10]),
+];
+
 #[test]
 fn cuts_that_are_not_tight(rt: HostRuntime) -> Result<(), Fail> {
-    let prism = made(rt.alloc(), 6, &PRISM)?;
-    let answer = judged_cut(rt.alloc(), &prism, VSet::full(3))?;
-    assert!(rt; is_crossed_by(&answer, &[7, 8, 9]));
-    let petersen = made(rt.alloc(), 10, &PETERSEN)?;
-    let answer = judged_cut(rt.alloc(), &petersen, VSet::full(5))?;
-    assert!(rt; is_crossed_by(&answer, &[6, 7, 8, 9, 10]));
+    for (order, edges, shore, crossing) in &CROSSED {
+        let graph = made(rt.alloc(), *order, edges)?;
+        let answer = judged_cut(rt.alloc(), &graph, set_of(shore))?;
+        assert!(rt; is_crossed_by(&answer, crossing));
+    }
     Ok(())
 }
 
@@ -103,32 +108,52 @@ fn shores_of_a_hexagon(rt: HostRuntime) -> Result<(), Fail> {
     assert!(rt; is_refused(&even, 1, 2));
     let trivial = judged_cut(rt.alloc(), &hexagon, VSet::one(1))?;
     assert!(rt; is_refused(&trivial, 1, 3));
+    Ok(())
+}
+
+#[test]
+fn a_shore_below_that_is_no_union_of_blocks(rt: HostRuntime) -> Result<(), Fail> {
+    let hexagon = made(rt.alloc(), 6, &HEXAGON)?;
     let below = cut(rt.alloc(), set_of(&[1, 4, 5]), Tree::Leaf, Tree::Leaf)?;
     let tree = cut(rt.alloc(), VSet::full(3), below, Tree::Leaf)?;
-    let answer = judged(rt.alloc(), &hexagon, &tree)?;
-    assert!(rt; is_refused(&answer, 2, 1));
+    assert!(rt; is_refused(&judged(rt.alloc(), &hexagon, &tree)?, 2, 1));
     Ok(())
+}
+
+fn is_accepted(judgement: &Option<Judgement>) -> bool {
+    matches!(judgement, Some(Judgement::Accepted))
+}
+
+// Whether the graph is refused since no path joins two vertices.
+fn is_parted(judgement: &Option<Judgement>, first: u32, second: u32) -> bool {
+    match judgement {
+        Some(Judgement::NotCovered(Reason::Parted { a, b })) => *a == first && *b == second,
+        _ => false,
+    }
 }
 
 #[test]
 fn accepted_and_not_covered(rt: HostRuntime) -> Result<(), Fail> {
     let g = made(rt.alloc(), 8, &TRIANGLE_IN_K33)?;
-    match judged_cut(rt.alloc(), &g, VSet::full(3))? {
-        Some(Judgement::Accepted) => {}
-        _ => assert!(rt; false),
-    }
+    assert!(rt; is_accepted(&judged_cut(rt.alloc(), &g, VSet::full(3))?));
     let parted = made(rt.alloc(), 4, &TWO_EDGES)?;
-    match judged(rt.alloc(), &parted, &Tree::Leaf)? {
-        Some(Judgement::NotCovered(Reason::Parted { a, b })) => assert!(rt; a == 1 && b == 3),
-        _ => assert!(rt; false),
-    }
+    assert!(rt; is_parted(&judged(rt.alloc(), &parted, &Tree::Leaf)?, 1, 3));
     Ok(())
 }
 
-// A Switch at the root.
-fn switch_root(alloc: Global, u: VSet, v: VSet) -> Move {
+// A Switch at the root by two vertices, or a Rotate there.
+type Step = Option<(u32, u32)>;
+
+fn move_of(alloc: Global, step: Step) -> Move {
     let path = Path::new(alloc);
-    Move::Switch { path, u, v }
+    match step {
+        Some((u, v)) => Move::Switch {
+            path,
+            u: set_of(&[u]),
+            v: set_of(&[v]),
+        },
+        None => Move::Rotate { path },
+    }
 }
 
 // The answer to moves on the cut of a hexagon with the shore 1 2 3, and none where it is no derivation.
@@ -180,37 +205,30 @@ fn is_refused_move(answer: &Option<Replayed>, number: u32, edges: &[u32]) -> boo
     }
 }
 
+// The answer to these steps on that cut.
+fn after(alloc: Global, steps: &[Step]) -> Result<Option<Replayed>, Fail> {
+    let mut moves = Moves::new(alloc);
+    for step in steps {
+        moves.push(move_of(alloc, *step))?;
+    }
+    if moves.len() > 3 {
+        return Ok(None);
+    }
+    replayed_hexagon(alloc, &moves)
+}
+
 #[test]
-fn a_script_replayed(rt: HostRuntime) -> Result<(), Fail> {
-    let mut moves = Moves::new(rt.alloc());
-    moves.push(switch_root(rt.alloc(), VSet::one(1), VSet::one(4)))?;
-    let answer = replayed_hexagon(rt.alloc(), &moves)?;
+fn scripts_replayed(rt: HostRuntime) -> Result<(), Fail> {
+    let answer = after(rt.alloc(), &[Some((1, 4))])?;
     assert!(rt; is_done_with(&answer, set_of(&[2, 3, 4])));
-    moves.push(Move::Rotate {
-        path: Path::new(rt.alloc()),
-    })?;
-    let answer = replayed_hexagon(rt.alloc(), &moves)?;
-    assert!(rt; is_stuck(&answer, 2));
-    Ok(())
-}
-
-#[test]
-fn a_move_without_result(rt: HostRuntime) -> Result<(), Fail> {
-    let mut moves = Moves::new(rt.alloc());
-    moves.push(Move::Rotate {
-        path: Path::new(rt.alloc()),
-    })?;
-    let answer = replayed_hexagon(rt.alloc(), &moves)?;
-    assert!(rt; is_stuck(&answer, 1));
-    Ok(())
-}
-
-#[test]
-fn a_tree_on_the_way_refused(rt: HostRuntime) -> Result<(), Fail> {
-    let mut moves = Moves::new(rt.alloc());
-    moves.push(switch_root(rt.alloc(), VSet::one(2), VSet::one(4)))?;
-    moves.push(switch_root(rt.alloc(), VSet::one(4), VSet::one(2)))?;
-    let answer = replayed_hexagon(rt.alloc(), &moves)?;
+    let answer = after(rt.alloc(), &[Some((2, 4)), Some((4, 2))])?;
     assert!(rt; is_refused_move(&answer, 1, &[2, 4, 6]));
+    Ok(())
+}
+
+#[test]
+fn moves_without_result(rt: HostRuntime) -> Result<(), Fail> {
+    assert!(rt; is_stuck(&after(rt.alloc(), &[Some((1, 4)), None])?, 2));
+    assert!(rt; is_stuck(&after(rt.alloc(), &[None])?, 1));
     Ok(())
 }

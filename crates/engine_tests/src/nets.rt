@@ -94,24 +94,26 @@ fn cut_of(
     }
 }
 
+// Whether the answer is a flow of this value, with these amounts on the arcs.
+fn is_flow(answer: &CutAnswer, value: u64, on: &[i64]) -> bool {
+    match answer {
+        CutAnswer::Cut { .. } => false,
+        CutAnswer::Exceeds { flow } => flow.value == value && flow.on.as_slice() == on,
+    }
+}
+
 // The net with arcs 1-2 of capacity 2 and 2-3 of capacity 1.
 #[test]
 fn two_arcs(rt: HostRuntime) -> Result<(), Memory> {
     let mut net = Net::new(rt.alloc(), 3)?;
     net.add(1, 2, 2)?;
     net.add(2, 3, 1)?;
-    assert_eq!(rt; net.total(), 3);
+    assert!(rt; net.total() == 3);
     match min_cut(rt.alloc(), &net, 1, 3, 5)? {
         CutAnswer::Cut { set, value } => assert!(rt; set == set_of_bits(0b110) && value == 1),
         CutAnswer::Exceeds { flow: _ } => assert!(rt; false),
     }
-    match min_cut(rt.alloc(), &net, 1, 3, 0)? {
-        CutAnswer::Cut { .. } => assert!(rt; false),
-        CutAnswer::Exceeds { flow } => {
-            assert_eq!(rt; flow.value, 1);
-            assert_eq!(rt; flow.on.as_slice(), [1, 1].as_slice());
-        }
-    }
+    assert!(rt; is_flow(&min_cut(rt.alloc(), &net, 1, 3, 0)?, 1, &[1, 1]));
     Ok(())
 }
 
@@ -121,13 +123,7 @@ fn parallel_arcs(rt: HostRuntime) -> Result<(), Memory> {
     let mut net = Net::new(rt.alloc(), 2)?;
     net.add(1, 2, 1)?;
     net.add(2, 1, 2)?;
-    match min_cut(rt.alloc(), &net, 1, 2, 2)? {
-        CutAnswer::Cut { .. } => assert!(rt; false),
-        CutAnswer::Exceeds { flow } => {
-            assert_eq!(rt; flow.value, 3);
-            assert_eq!(rt; flow.on.as_slice(), [1, -2].as_slice());
-        }
-    }
+    assert!(rt; is_flow(&min_cut(rt.alloc(), &net, 1, 2, 2)?, 3, &[1, -2]));
     Ok(())
 }
 
@@ -137,8 +133,7 @@ fn amounts(rt: HostRuntime) -> Result<(), Memory> {
     assert!(rt; list.is_empty());
     list.push(-5)?;
     list.push(7)?;
-    assert_eq!(rt; list.len(), 2);
-    assert_eq!(rt; list.get(0), -5);
+    assert!(rt; list.len() == 2 && list.get(0) == -5);
     Ok(())
 }
 

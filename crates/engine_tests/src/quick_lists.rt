@@ -2,6 +2,7 @@
 ghost use Rattle.std.specs.Prelude.{◌≤◌};
 
 use crate::choices::{Choice, leaf_graphs};
+use crate::made::made;
 use graph_core::MultiGraph;
 use grow_gen::grow;
 use std::alloc::{AllocError as Memory, Global};
@@ -17,10 +18,10 @@ fn agrees(alloc: Global, g: &MultiGraph) -> Result<bool, Memory> {
     if !is_covered(alloc, g)? {
         return Ok(false);
     }
-    let plain = candidates_by_pairs(alloc, g)?;
-    let quick = candidates(alloc, g)?;
     let first = first_candidate(alloc, g)?;
     let shore = find_any(alloc, g)?;
+    let plain = candidates_by_pairs(alloc, g)?;
+    let quick = candidates(alloc, g)?;
     Ok(
         quick.as_slice() == plain.as_slice()
             && first == plain.as_slice().first().copied()
@@ -31,8 +32,13 @@ fn agrees(alloc: Global, g: &MultiGraph) -> Result<bool, Memory> {
 // Whether the grown graph of the number and each of the leaves of its decomposition agree.
 fn number_agrees(alloc: Global, number: u64) -> Result<bool, Memory> {
     let g = grow(alloc, number, 5)?;
-    let pieces = leaf_graphs(alloc, &g, Choice::FirstAlone)?;
-    let mut agree = pieces.len() == 5 && agrees(alloc, &g)?;
+    Ok(agrees(alloc, &g)? && leaves_agree(alloc, &g)?)
+}
+
+// Whether the decomposition has five leaves, and each of them agrees.
+fn leaves_agree(alloc: Global, g: &MultiGraph) -> Result<bool, Memory> {
+    let pieces = leaf_graphs(alloc, g, Choice::FirstAlone)?;
+    let mut agree = pieces.len() == 5;
     for piece in &pieces {
         agree = agree && agrees(alloc, piece.graph())?;
     }
@@ -68,59 +74,71 @@ fn ladder(alloc: Global, rungs: u32, is_twisted: bool) -> Result<MultiGraph, Fai
     requires three { 3 ≤ rungs }
     requires few { rungs ≤ 50 }
 {
-    let mut edges = Vec::new(alloc);
-    for k in 1..rungs {
-        edges.push((k, k + 1))?;
-        edges.push((rungs + k, rungs + k + 1))?;
-        edges.push((k, rungs + k))?;
-    }
-    edges.push((rungs, rungs + rungs))?;
-    let (first, second) = if is_twisted {
+    let joined = if is_twisted {
         (rungs + 1, 1)
     } else {
         (1, rungs + 1)
     };
-    edges.push((rungs, first))?;
-    edges.push((rungs + rungs, second))?;
+    let mut edges = Vec::new(alloc);
+    for k in 0..rungs {
+        let (first, second) = if k + 1 < rungs {
+            (k + 2, rungs + k + 2)
+        } else {
+            joined
+        };
+        edges.push((k + 1, first))?;
+        edges.push((rungs + k + 1, second))?;
+        edges.push((k + 1, rungs + k + 1))?;
+    }
     Ok(graph_with(alloc, rungs + rungs, &edges)?)
+}
+
+// Whether the wheel with an odd rim, the prism and the Möbius ladder of a size agree.
+fn size_agrees(alloc: Global, size: u32) -> Result<bool, Fail>
+    requires three { 3 ≤ size }
+    requires few { size ≤ 50 }
+{
+    let wheel = wheel(alloc, size + size - 1)?;
+    if !agrees(alloc, &wheel)? {
+        return Ok(false);
+    }
+    Ok(ladder_agrees(alloc, size, false)? && ladder_agrees(alloc, size, true)?)
+}
+
+fn ladder_agrees(alloc: Global, rungs: u32, is_twisted: bool) -> Result<bool, Fail>
+    requires three { 3 ≤ rungs }
+    requires few { rungs ≤ 50 }
+{
+    let ladder = ladder(alloc, rungs, is_twisted)?;
+    Ok(agrees(alloc, &ladder)?)
 }
 
 #[test]
 fn wheels_prisms_and_moebius_ladders(rt: HostRuntime) -> Result<(), Fail> {
-    let mut agree = true;
     for size in 3..8u32 {
-        let found = [
-            wheel(rt.alloc(), size + size - 1)?,
-            ladder(rt.alloc(), size, false)?,
-            ladder(rt.alloc(), size, true)?,
-        ];
-        for g in &found {
-            agree = agree && agrees(rt.alloc(), g)?;
-        }
+        assert!(rt; size_agrees(rt.alloc(), size)?);
     }
-    assert!(rt; agree);
     Ok(())
 }
 
-// Whether the graph of these edges agrees.
-fn edges_agree(alloc: Global, order: u32, edges: &[(u32, u32)]) -> Result<bool, Fail>
-    requires { order ≤ 128 }
-{
-    let g = graph_with(alloc, order, edges)?;
-    Ok(agrees(alloc, &g)?)
-}
+static WORKED: [(u32, &[(u32, u32)]); 10] = [
+    (8, &CYCLE_OF_8),
+    (4, &DOUBLED_SQUARE),
+    (6, &HEXAGON),
+    (4, &K4),
+    (6, &K33),
+    (6, &PRISM),
+    (8, &CUBE),
+    (10, &PETERSEN),
+    (8, &TRIANGLE_IN_K33),
+    (6, &TWO_K4),
+];
 
 #[test]
 fn worked_graphs(rt: HostRuntime) -> Result<(), Fail> {
-    assert!(rt; edges_agree(rt.alloc(), 8, &CYCLE_OF_8)?);
-    assert!(rt; edges_agree(rt.alloc(), 4, &DOUBLED_SQUARE)?);
-    assert!(rt; edges_agree(rt.alloc(), 6, &HEXAGON)?);
-    assert!(rt; edges_agree(rt.alloc(), 4, &K4)?);
-    assert!(rt; edges_agree(rt.alloc(), 6, &K33)?);
-    assert!(rt; edges_agree(rt.alloc(), 6, &PRISM)?);
-    assert!(rt; edges_agree(rt.alloc(), 8, &CUBE)?);
-    assert!(rt; edges_agree(rt.alloc(), 10, &PETERSEN)?);
-    assert!(rt; edges_agree(rt.alloc(), 8, &TRIANGLE_IN_K33)?);
-    assert!(rt; edges_agree(rt.alloc(), 6, &TWO_K4)?);
+    for (order, edges) in &WORKED {
+        let graph = made(rt.alloc(), *order, edges)?;
+        assert!(rt; agrees(rt.alloc(), &graph)?);
+    }
     Ok(())
 }
