@@ -71,19 +71,24 @@ fn turns_into(
     Ok(same_tree(&replayed(first, g.order(), &pairing.moves), second))
 }
 
+// Whether the derivation by the first candidates is like itself, and turns into that by the last.
+fn first_turns_into_last(alloc: Global, g: &MultiGraph) -> Result<bool, Memory> {
+    let Some(first) = derived(alloc, g, Choice::First)? else {
+        return Ok(false);
+    };
+    if !is_like_itself(alloc, g, &first)? {
+        return Ok(false);
+    }
+    match derived(alloc, g, Choice::Last)? {
+        Some(second) => turns_into(alloc, g, first, &second, 3),
+        None => Ok(false),
+    }
+}
+
 #[test]
 fn derivations_of_the_cycle_of_eight(rt: HostRuntime) -> Result<(), Fail> {
     let g = made(rt.alloc(), 8, &CYCLE_OF_8)?;
-    let Some(first) = derived(rt.alloc(), &g, Choice::First)? else {
-        assert!(rt; false);
-        return Ok(());
-    };
-    assert!(rt; is_like_itself(rt.alloc(), &g, &first)?);
-    let Some(second) = derived(rt.alloc(), &g, Choice::Last)? else {
-        assert!(rt; false);
-        return Ok(());
-    };
-    assert!(rt; turns_into(rt.alloc(), &g, first, &second, 3)?);
+    assert!(rt; first_turns_into_last(rt.alloc(), &g)?);
     Ok(())
 }
 
@@ -110,17 +115,20 @@ fn root_exposed(
     }
 }
 
+// Whether the root shore of the derivation by the last candidates is exposed in that by the first.
+fn last_exposed_in_first(alloc: Global, g: &MultiGraph) -> Result<bool, Memory> {
+    let Some(second) = derived(alloc, g, Choice::Last)? else {
+        return Ok(false);
+    };
+    match derived(alloc, g, Choice::First)? {
+        Some(first) => root_exposed(alloc, g, first, &second, 3),
+        None => Ok(false),
+    }
+}
+
 #[test]
 fn a_shore_of_the_cycle_of_eight_exposed(rt: HostRuntime) -> Result<(), Fail> {
     let g = made(rt.alloc(), 8, &CYCLE_OF_8)?;
-    let Some(first) = derived(rt.alloc(), &g, Choice::First)? else {
-        assert!(rt; false);
-        return Ok(());
-    };
-    let Some(second) = derived(rt.alloc(), &g, Choice::Last)? else {
-        assert!(rt; false);
-        return Ok(());
-    };
-    assert!(rt; root_exposed(rt.alloc(), &g, first, &second, 3)?);
+    assert!(rt; last_exposed_in_first(rt.alloc(), &g)?);
     Ok(())
 }
