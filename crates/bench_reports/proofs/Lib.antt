@@ -5,3 +5,4 @@ pub mod ScriptMoves
 pub mod ScriptTexts
 pub mod PairLines
 pub mod Reported
+pub mod SecondRefusal
