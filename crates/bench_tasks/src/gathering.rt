@@ -1,8 +1,12 @@
 //! Reading and parsing the files that a command names.
-ghost use Rattle.std.specs.Prelude.{◌≡◌, [], ◌∷◌, IfOk, IfErr, Some};
+ghost use Rattle.std.specs.Prelude.{◌≡◌, ◌≤◌, [], ◌∷◌, IfOk, IfErr, Some, length};
 ghost use Rattle.outside.specs.Shelf.{file_named};
+ghost use Rattle.tree_core.specs.Shapes.{Fits};
+ghost use Rattle.tree_core.specs.View.{shape_of};
+ghost use Rattle.tree_core.specs.MoveView.{moves_of};
+ghost use Rattle.move_text.specs.MoveFormat.{most_moves};
 ghost use Rattle.bench_tasks.specs.Asked.{asked};
-ghost use Rattle.bench_tasks.specs.Loading.{file_read, loaded, tree_given, trees_given, moves_given};
+ghost use Rattle.bench_tasks.specs.Loading.{file_read, loaded, move_file, moves_given, tree_file, tree_given, trees_given};
 ghost use Rattle.bench_tasks.specs.Loads.{Loads, given_tree, given_trees, given_moves, task_of};
 ghost use Rattle.bench_tasks.specs.Reads.{ReadsAs, StopsAt, file_names};
 ghost use Rattle.bench_tasks.specs.Refusing.{MayRefuse, GatheredMayRefuse};
@@ -11,9 +15,10 @@ use crate::command::Command;
 use crate::formats::{EarFile, FileFormat, Graph6File, GraphFile, MoveFile, PickFile, TreeFile};
 use crate::stop::Stop;
 use crate::tasks::{GivenEars, GivenMoves, GivenTree, GivenTrees, Task};
-use graph_core::TextFault;
+use graph_core::{MultiGraph, TextFault};
 use outside::{Shelf, ShelfFault};
 use std::alloc::Global;
+use tree_core::{Moves, Tree};
 
 /// The most bytes that a file may have.
 pub const MOST_BYTES: usize = 1_048_576;
@@ -72,6 +77,24 @@ fn load_first<S: Shelf, F: FileFormat>(
     load(alloc, format, name, 1, shelf)
 }
 
+// What the file of a tree for this graph holds, which has this place among the named files.
+fn load_tree_for<S: Shelf>(
+    alloc: Global,
+    graph: &MultiGraph,
+    name: &str,
+    place: u32,
+    shelf: &mut S,
+) -> Result<Tree, Stop>
+    ensures loads { Loads S.files S.steady S.faults shape_of
+        (λ files. tree_file files place name.now graph.now.order) result shelf.old shelf.new }
+    ensures reads { S.reads shelf.old name.now shelf.new }
+    ensures stops { IfErr result (StopsAt place) }
+    ensures fits { IfOk result (λ tree. Fits graph.now.order (shape_of tree)) }
+{
+    let format = TreeFile { graph };
+    load(alloc, &format, name, place, shelf)
+}
+
 // What the files of a graph and of a tree for it hold.
 fn load_tree<S: Shelf>(
     alloc: Global,
@@ -85,10 +108,7 @@ fn load_tree<S: Shelf>(
     ensures reads { ReadsAs S.reads (graph.now ∷ tree.now ∷ []) result shelf.old shelf.new }
 {
     let named = load_first(alloc, &GraphFile, graph, shelf)?;
-    let format = TreeFile {
-        graph: &named.graph,
-    };
-    let tree = load(alloc, &format, tree, 2, shelf)?;
+    let tree = load_tree_for(alloc, &named.graph, tree, 2, shelf)?;
     Ok(GivenTree { named, tree })
 }
 
@@ -106,19 +126,33 @@ fn load_trees<S: Shelf>(
     ensures reads { ReadsAs S.reads (graph.now ∷ first.now ∷ second.now ∷ []) result shelf.old
         shelf.new }
 {
-    let GivenTree { named, tree } = load_tree(alloc, graph, first, shelf)?;
-    let format = TreeFile {
-        graph: &named.graph,
-    };
-    let second = load(alloc, &format, second, 3, shelf)?;
+    let given = load_tree(alloc, graph, first, shelf)?;
+    let second = load_tree_for(alloc, &given.named.graph, second, 3, shelf)?;
     Ok(GivenTrees {
-        named,
-        first: tree,
+        named: given.named,
+        first: given.tree,
         second,
     })
 }
 
-// The same with moves.
+// What the file of moves on trees for this graph holds, which is the third.
+fn load_moves_for<S: Shelf>(
+    alloc: Global,
+    graph: &MultiGraph,
+    name: &str,
+    shelf: &mut S,
+) -> Result<Moves, Stop>
+    ensures loads { Loads S.files S.steady S.faults moves_of
+        (λ files. move_file files name.now graph.now.order) result shelf.old shelf.new }
+    ensures reads { S.reads shelf.old name.now shelf.new }
+    ensures stops { IfErr result (StopsAt 3) }
+    ensures few { IfOk result (λ moves. length moves ≤ most_moves) }
+{
+    let format = MoveFile { graph };
+    load(alloc, &format, name, 3, shelf)
+}
+
+// What the files of a graph, of a tree for it and of moves hold.
 fn load_moves<S: Shelf>(
     alloc: Global,
     graph: &str,
@@ -132,12 +166,13 @@ fn load_moves<S: Shelf>(
     ensures reads { ReadsAs S.reads (graph.now ∷ tree.now ∷ moves.now ∷ []) result shelf.old
         shelf.new }
 {
-    let GivenTree { named, tree } = load_tree(alloc, graph, tree, shelf)?;
-    let format = MoveFile {
-        graph: &named.graph,
-    };
-    let moves = load(alloc, &format, moves, 3, shelf)?;
-    Ok(GivenMoves { named, tree, moves })
+    let given = load_tree(alloc, graph, tree, shelf)?;
+    let moves = load_moves_for(alloc, &given.named.graph, moves, shelf)?;
+    Ok(GivenMoves {
+        named: given.named,
+        tree: given.tree,
+        moves,
+    })
 }
 
 /// Reads and parses the files of the command, in the order of the words, up to the first that stops it.
