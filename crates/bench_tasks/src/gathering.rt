@@ -5,16 +5,21 @@ ghost use Rattle.tree_core.specs.Shapes.{Fits};
 ghost use Rattle.tree_core.specs.View.{shape_of};
 ghost use Rattle.tree_core.specs.MoveView.{moves_of};
 ghost use Rattle.move_text.specs.MoveFormat.{most_moves};
+ghost use Rattle.ear_core.specs.EarLists.{FitsEars};
+ghost use Rattle.ear_core.specs.View.{ears_of};
+ghost use Rattle.graph_core.specs.Graph.{size};
 ghost use Rattle.bench_tasks.specs.Asked.{asked};
-ghost use Rattle.bench_tasks.specs.Loading.{file_read, loaded, move_file, moves_given, tree_file, tree_given, trees_given};
+ghost use Rattle.bench_tasks.specs.Commands.{Analyse, Analyse6, Check, CheckEars, Compare, Convert, Decompose, DecomposeBy, Ears, Replay, Script};
+ghost use Rattle.bench_tasks.specs.Loading.{ear_file, file_read, loaded, move_file, moves_given, tree_file, tree_given, trees_given};
 ghost use Rattle.bench_tasks.specs.Loads.{Loads, given_tree, given_trees, given_moves, task_of};
 ghost use Rattle.bench_tasks.specs.Reads.{ReadsAs, StopsAt, file_names};
 ghost use Rattle.bench_tasks.specs.Refusing.{MayRefuse, GatheredMayRefuse};
 
-use crate::command::Command;
+use crate::command::{Command, NamedOrder};
 use crate::formats::{EarFile, FileFormat, Graph6File, GraphFile, MoveFile, PickFile, TreeFile};
 use crate::stop::Stop;
 use crate::tasks::{GivenEars, GivenMoves, GivenTree, GivenTrees, Task};
+use ear_core::EarList;
 use graph_core::{MultiGraph, TextFault};
 use outside::{Shelf, ShelfFault};
 use std::alloc::Global;
@@ -175,6 +180,178 @@ fn load_moves<S: Shelf>(
     })
 }
 
+// What `analyse` works on.
+fn analyse_task<S: Shelf>(alloc: Global, graph: &str, shelf: &mut S) -> Result<Task, Stop>
+    ensures loads { Loads S.files S.steady S.faults task_of
+        (λ files. loaded files (Analyse graph.now)) result shelf.old shelf.new }
+    ensures reads { ReadsAs S.reads (graph.now ∷ []) result shelf.old shelf.new }
+    ensures refuses { GatheredMayRefuse result → MayRefuse (Some (Analyse graph.now)) }
+{
+    let named = load_first(alloc, &GraphFile, graph, shelf)?;
+    Ok(Task::Analyse { named })
+}
+
+// What `convert` works on.
+fn convert_task<S: Shelf>(alloc: Global, graph: &str, shelf: &mut S) -> Result<Task, Stop>
+    ensures loads { Loads S.files S.steady S.faults task_of
+        (λ files. loaded files (Convert graph.now)) result shelf.old shelf.new }
+    ensures reads { ReadsAs S.reads (graph.now ∷ []) result shelf.old shelf.new }
+    ensures refuses { GatheredMayRefuse result → MayRefuse (Some (Convert graph.now)) }
+{
+    let named = load_first(alloc, &GraphFile, graph, shelf)?;
+    Ok(Task::Convert { named })
+}
+
+// What `analyse6` works on.
+fn analyse6_task<S: Shelf>(alloc: Global, graph: &str, shelf: &mut S) -> Result<Task, Stop>
+    ensures loads { Loads S.files S.steady S.faults task_of
+        (λ files. loaded files (Analyse6 graph.now)) result shelf.old shelf.new }
+    ensures reads { ReadsAs S.reads (graph.now ∷ []) result shelf.old shelf.new }
+    ensures refuses { GatheredMayRefuse result → MayRefuse (Some (Analyse6 graph.now)) }
+{
+    let simple = load_first(alloc, &Graph6File, graph, shelf)?;
+    Ok(Task::Analyse6 { simple })
+}
+
+// What `decompose` works on.
+fn decompose_task<S: Shelf>(
+    alloc: Global,
+    graph: &str,
+    order: NamedOrder,
+    shelf: &mut S,
+) -> Result<Task, Stop>
+    ensures loads { Loads S.files S.steady S.faults task_of
+        (λ files. loaded files (Decompose graph.now order)) result shelf.old shelf.new }
+    ensures reads { ReadsAs S.reads (graph.now ∷ []) result shelf.old shelf.new }
+{
+    let named = load_first(alloc, &GraphFile, graph, shelf)?;
+    Ok(Task::Decompose { named, order })
+}
+
+// What `ears` works on.
+fn ears_task<S: Shelf>(alloc: Global, graph: &str, shelf: &mut S) -> Result<Task, Stop>
+    ensures loads { Loads S.files S.steady S.faults task_of
+        (λ files. loaded files (Ears graph.now)) result shelf.old shelf.new }
+    ensures reads { ReadsAs S.reads (graph.now ∷ []) result shelf.old shelf.new }
+{
+    let named = load_first(alloc, &GraphFile, graph, shelf)?;
+    Ok(Task::Ears { named })
+}
+
+// What `check` works on.
+fn check_task<S: Shelf>(alloc: Global, graph: &str, tree: &str, shelf: &mut S) -> Result<Task, Stop>
+    ensures loads { Loads S.files S.steady S.faults task_of
+        (λ files. loaded files (Check graph.now tree.now)) result shelf.old shelf.new }
+    ensures reads { ReadsAs S.reads (graph.now ∷ tree.now ∷ []) result shelf.old shelf.new }
+{
+    let given = load_tree(alloc, graph, tree, shelf)?;
+    Ok(Task::Check { given })
+}
+
+// What `replay` works on.
+fn replay_task<S: Shelf>(
+    alloc: Global,
+    graph: &str,
+    tree: &str,
+    moves: &str,
+    shelf: &mut S,
+) -> Result<Task, Stop>
+    ensures loads { Loads S.files S.steady S.faults task_of
+        (λ files. loaded files (Replay graph.now tree.now moves.now)) result shelf.old shelf.new }
+    ensures reads { ReadsAs S.reads (graph.now ∷ tree.now ∷ moves.now ∷ []) result
+        shelf.old shelf.new }
+{
+    let given = load_moves(alloc, graph, tree, moves, shelf)?;
+    Ok(Task::Replay { given })
+}
+
+// What `compare` works on.
+fn compare_task<S: Shelf>(
+    alloc: Global,
+    graph: &str,
+    first: &str,
+    second: &str,
+    shelf: &mut S,
+) -> Result<Task, Stop>
+    ensures loads { Loads S.files S.steady S.faults task_of
+        (λ files. loaded files (Compare graph.now first.now second.now))
+        result shelf.old shelf.new }
+    ensures reads { ReadsAs S.reads (graph.now ∷ first.now ∷ second.now ∷ []) result
+        shelf.old shelf.new }
+{
+    let given = load_trees(alloc, graph, first, second, shelf)?;
+    Ok(Task::Compare { given })
+}
+
+// What `script` works on.
+fn script_task<S: Shelf>(
+    alloc: Global,
+    graph: &str,
+    first: &str,
+    second: &str,
+    shelf: &mut S,
+) -> Result<Task, Stop>
+    ensures loads { Loads S.files S.steady S.faults task_of
+        (λ files. loaded files (Script graph.now first.now second.now)) result shelf.old shelf.new }
+    ensures reads { ReadsAs S.reads (graph.now ∷ first.now ∷ second.now ∷ []) result
+        shelf.old shelf.new }
+{
+    let given = load_trees(alloc, graph, first, second, shelf)?;
+    Ok(Task::Script { given })
+}
+
+// What the file of a list of ears for this graph holds, which is the second.
+fn load_ears_for<S: Shelf>(
+    alloc: Global,
+    graph: &MultiGraph,
+    name: &str,
+    shelf: &mut S,
+) -> Result<EarList, Stop>
+    ensures loads { Loads S.files S.steady S.faults ears_of
+        (λ files. ear_file files name.now graph.now) result shelf.old shelf.new }
+    ensures reads { S.reads shelf.old name.now shelf.new }
+    ensures stops { IfErr result (StopsAt 2) }
+    ensures fits { IfOk result
+        (λ list. FitsEars graph.now.order (size graph.now) (ears_of list)) }
+{
+    let format = EarFile { graph };
+    load(alloc, &format, name, 2, shelf)
+}
+
+// What `decompose_by` works on.
+fn decompose_by_task<S: Shelf>(
+    alloc: Global,
+    graph: &str,
+    picks: &str,
+    shelf: &mut S,
+) -> Result<Task, Stop>
+    ensures loads { Loads S.files S.steady S.faults task_of
+        (λ files. loaded files (DecomposeBy graph.now picks.now)) result shelf.old shelf.new }
+    ensures reads { ReadsAs S.reads (graph.now ∷ picks.now ∷ []) result shelf.old shelf.new }
+{
+    let named = load_first(alloc, &GraphFile, graph, shelf)?;
+    let picks = load(alloc, &PickFile, picks, 2, shelf)?;
+    Ok(Task::DecomposeBy { named, picks })
+}
+
+// What `check_ears` works on.
+fn check_ears_task<S: Shelf>(
+    alloc: Global,
+    graph: &str,
+    ears: &str,
+    shelf: &mut S,
+) -> Result<Task, Stop>
+    ensures loads { Loads S.files S.steady S.faults task_of
+        (λ files. loaded files (CheckEars graph.now ears.now)) result shelf.old shelf.new }
+    ensures reads { ReadsAs S.reads (graph.now ∷ ears.now ∷ []) result shelf.old shelf.new }
+{
+    let named = load_first(alloc, &GraphFile, graph, shelf)?;
+    let list = load_ears_for(alloc, &named.graph, ears, shelf)?;
+    Ok(Task::CheckEars {
+        given: GivenEars { named, list },
+    })
+}
+
 /// Reads and parses the files of the command, in the order of the words, up to the first that stops it.
 pub fn gather<S: Shelf>(alloc: Global, command: Command<'_>, shelf: &mut S) -> Result<Task, Stop>
     ensures loads { Loads S.files S.steady S.faults task_of
@@ -184,57 +361,25 @@ pub fn gather<S: Shelf>(alloc: Global, command: Command<'_>, shelf: &mut S) -> R
     ensures refuses { GatheredMayRefuse result → MayRefuse (Some (asked command.entry)) }
 {
     match command {
-        Command::Analyse { graph } => Ok(Task::Analyse {
-            named: load_first(alloc, &GraphFile, graph, shelf)?,
-        }),
-        Command::Convert { graph } => Ok(Task::Convert {
-            named: load_first(alloc, &GraphFile, graph, shelf)?,
-        }),
-        Command::Analyse6 { graph } => Ok(Task::Analyse6 {
-            simple: load_first(alloc, &Graph6File, graph, shelf)?,
-        }),
-        Command::Decompose { graph, order } => Ok(Task::Decompose {
-            named: load_first(alloc, &GraphFile, graph, shelf)?,
-            order,
-        }),
-        Command::DecomposeBy { graph, picks } => {
-            let named = load_first(alloc, &GraphFile, graph, shelf)?;
-            let picks = load(alloc, &PickFile, picks, 2, shelf)?;
-            Ok(Task::DecomposeBy { named, picks })
-        }
-        Command::Check { graph, tree } => Ok(Task::Check {
-            given: load_tree(alloc, graph, tree, shelf)?,
-        }),
-        Command::CheckEars { graph, ears } => {
-            let named = load_first(alloc, &GraphFile, graph, shelf)?;
-            let format = EarFile {
-                graph: &named.graph,
-            };
-            let list = load(alloc, &format, ears, 2, shelf)?;
-            Ok(Task::CheckEars {
-                given: GivenEars { named, list },
-            })
-        }
-        Command::Ears { graph } => Ok(Task::Ears {
-            named: load_first(alloc, &GraphFile, graph, shelf)?,
-        }),
-        Command::Replay { graph, tree, moves } => Ok(Task::Replay {
-            given: load_moves(alloc, graph, tree, moves, shelf)?,
-        }),
+        Command::Analyse { graph } => analyse_task(alloc, graph, shelf),
+        Command::Convert { graph } => convert_task(alloc, graph, shelf),
+        Command::Analyse6 { graph } => analyse6_task(alloc, graph, shelf),
+        Command::Decompose { graph, order } => decompose_task(alloc, graph, order, shelf),
+        Command::DecomposeBy { graph, picks } => decompose_by_task(alloc, graph, picks, shelf),
+        Command::Check { graph, tree } => check_task(alloc, graph, tree, shelf),
+        Command::CheckEars { graph, ears } => check_ears_task(alloc, graph, ears, shelf),
+        Command::Ears { graph } => ears_task(alloc, graph, shelf),
+        Command::Replay { graph, tree, moves } => replay_task(alloc, graph, tree, moves, shelf),
         Command::Compare {
             graph,
             first,
             second,
-        } => Ok(Task::Compare {
-            given: load_trees(alloc, graph, first, second, shelf)?,
-        }),
+        } => compare_task(alloc, graph, first, second, shelf),
         Command::Script {
             graph,
             first,
             second,
-        } => Ok(Task::Script {
-            given: load_trees(alloc, graph, first, second, shelf)?,
-        }),
+        } => script_task(alloc, graph, first, second, shelf),
         Command::Grow { growth } => Ok(Task::Grow { growth }),
     }
 }
