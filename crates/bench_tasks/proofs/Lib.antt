@@ -1,2 +1,3 @@
 pub mod TextReads
 pub mod ReadNames
+pub mod LoadsMade

@@ -1,0 +1,24 @@
+use Rattle.std.proofs.Common.{refl}
+use Rattle.std.proofs.lemmas.Result.{err_from_is_err_and}
+use Rattle.bench_tasks.specs.Loads.{graph_in, task_of}
+use Rattle.bench_tasks.specs.Loading.{graph6_file}
+use Rattle.bench_tasks.specs.Tasks as task
+use Rattle.bench_tasks.proofs.LoadsMade.{loads-made, loads-made-stopped}
+use Rattle.bench_tasks.proofs.gathering.analyse6_task.Goals as goal
+
+pub returns-in_err-simple-clause-loads : goal.returns-in_err-simple-clause-loads
+returns-in_err-simple-clause-loads g c =
+    let p = err_from_is_err_and c.from_residual.result c.from_residual.ensures.1 in
+    rw (p.1, p.2) (loads-made-stopped g.S.Shelf.files g.S.Shelf.steady g.S.Shelf.faults graph_in task_of (λ files. graph6_file files c.args.graph.now) task.Analyse6 _ _ _ c.in_err-simple.ensures.loads)
+
+pub returns-in_err-simple-clause-reads : goal.returns-in_err-simple-clause-reads
+returns-in_err-simple-clause-reads g c =
+    let p = err_from_is_err_and c.from_residual.result c.from_residual.ensures.1 in
+    rw (p.1, p.2) c.in_err-simple.ensures.reads
+
+pub returns-clause-loads : goal.returns-clause-loads
+returns-clause-loads g c =
+    loads-made g.S.Shelf.files g.S.Shelf.steady g.S.Shelf.faults graph_in task_of (λ files. graph6_file files c.args.graph.now) task.Analyse6 _ _ _ _ refl c.in_ok-simple.ensures.loads
+
+pub returns-clause-reads : goal.returns-clause-reads
+returns-clause-reads g c = c.in_ok-simple.ensures.reads

@@ -1,0 +1,24 @@
+use Rattle.std.proofs.Common.{refl}
+use Rattle.std.proofs.lemmas.Result.{err_from_is_err_and}
+use Rattle.bench_tasks.specs.Loads.{given_trees, task_of}
+use Rattle.bench_tasks.specs.Loading.{trees_given}
+use Rattle.bench_tasks.specs.Tasks as task
+use Rattle.bench_tasks.proofs.LoadsMade.{loads-made, loads-made-stopped}
+use Rattle.bench_tasks.proofs.gathering.script_task.Goals as goal
+
+pub returns-in_err-given-clause-loads : goal.returns-in_err-given-clause-loads
+returns-in_err-given-clause-loads g c =
+    let p = err_from_is_err_and c.from_residual.result c.from_residual.ensures.1 in
+    rw (p.1, p.2) (loads-made-stopped g.S.Shelf.files g.S.Shelf.steady g.S.Shelf.faults given_trees task_of (λ files. trees_given files c.args.graph.now c.args.first.now c.args.second.now) (λ given. task.Script given.0 given.1.0 given.1.1) _ _ _ c.in_err-given.ensures.loads)
+
+pub returns-in_err-given-clause-reads : goal.returns-in_err-given-clause-reads
+returns-in_err-given-clause-reads g c =
+    let p = err_from_is_err_and c.from_residual.result c.from_residual.ensures.1 in
+    rw (p.1, p.2) c.in_err-given.ensures.reads
+
+pub returns-clause-loads : goal.returns-clause-loads
+returns-clause-loads g c =
+    loads-made g.S.Shelf.files g.S.Shelf.steady g.S.Shelf.faults given_trees task_of (λ files. trees_given files c.args.graph.now c.args.first.now c.args.second.now) (λ given. task.Script given.0 given.1.0 given.1.1) _ _ _ _ refl c.in_ok-given.ensures.loads
+
+pub returns-clause-reads : goal.returns-clause-reads
+returns-clause-reads g c = c.in_ok-given.ensures.reads
