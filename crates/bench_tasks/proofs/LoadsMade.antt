@@ -51,7 +51,8 @@ module _ {S X Z A C : Type 0} (told : S → Option (List Named)) (steady : S →
     later = first.later;
     failed = λ fault. first.failed (same-fault X Z stopped fault);
     loads = λ files holds. stops-then stopped (held files) (next files) (first.loads files holds);
-    absent = λ files holds. fails-then X Z (steady before) stopped (held files) (next files) (first.absent files holds) }
+    absent = λ files holds. fails-then X Z (steady before) stopped (held files) (next files) (first.absent files holds);
+  }
 
   -- one load stops, and nothing is made
   pub loads-made-stopped : (make : A → C) (stopped : Stop) (before now : S) → Loads told steady faults view held (Err stopped) before now →
@@ -62,7 +63,8 @@ module _ {S X Z A C : Type 0} (told : S → Option (List Named)) (steady : S →
     later = first.later;
     failed = λ fault. first.failed (same-fault X Z stopped fault);
     loads = λ files holds. stops-made stopped (held files) make (first.loads files holds);
-    absent = λ files holds. fails-made X Z (steady before) stopped (held files) make (first.absent files holds) }
+    absent = λ files holds. fails-made X Z (steady before) stopped (held files) make (first.absent files holds);
+  }
 
   -- something is made of the value of one load
   pub loads-made : (make : A → C) (x : X) (z : Z) (before now : S) → out z ≡ make (view x) → Loads told steady faults view held (Ok x) before now →
@@ -73,7 +75,8 @@ module _ {S X Z A C : Type 0} (told : S → Option (List Named)) (steady : S →
     later = first.later;
     failed = λ fault. absurd fault;
     loads = λ files holds. ap (loaded_as make) (first.loads files holds) ∙ ap All (sym is);
-    absent = λ files holds. tt }
+    absent = λ files holds. tt;
+  }
 
   module _ {Y B : Type 0} (second_view : Y → B) (further : List Named → A → Loaded B) (make : A → B → C) (x : X) (before mid now : S) (first : Loads told steady faults view held (Ok x) before mid) where
     -- what is made where the first is good
@@ -90,12 +93,13 @@ module _ {S X Z A C : Type 0} (told : S → Option (List Named)) (steady : S →
       later = omega (arith, first.later, second.later);
       failed = λ fault. rose-before (faults before) (faults mid) (faults now) first.later (second.failed (same-fault Y Z stopped fault));
       loads = λ files holds.
-        subst (StopsAs stopped) (sym (made-after files (first.loads files holds)))
-        (stops-made stopped (further files (view x)) (make (view x)) (second.loads files (first.files ∙ holds)));
+          subst (StopsAs stopped) (sym (made-after files (first.loads files holds)))
+          (stops-made stopped (further files (view x)) (make (view x)) (second.loads files (first.files ∙ holds)));
       absent = λ files holds.
-        subst (FailsAs {X = Z} {A = C} (steady before) (Err stopped)) (sym (made-after files (first.loads files holds)))
-        (fails-made Y Z (steady before) stopped (further files (view x)) (make (view x))
-        (subst (λ (is : Bool). FailsAs {X = Y} {A = B} is (Err stopped) (further files (view x))) first.as_steady (second.absent files (first.files ∙ holds)))) }
+          subst (FailsAs {X = Z} {A = C} (steady before) (Err stopped)) (sym (made-after files (first.loads files holds)))
+          (fails-made Y Z (steady before) stopped (further files (view x)) (make (view x))
+          (subst (λ (is : Bool). FailsAs {X = Y} {A = B} is (Err stopped) (further files (view x))) first.as_steady (second.absent files (first.files ∙ holds))));
+    }
 
     -- neither stops
     pub loads-both : (y : Y) (z : Z) → out z ≡ make (view x) (second_view y) → Loads told steady faults second_view (λ files. further files (view x)) (Ok y) mid now →
@@ -106,5 +110,6 @@ module _ {S X Z A C : Type 0} (told : S → Option (List Named)) (steady : S →
       later = omega (arith, first.later, second.later);
       failed = λ fault. absurd fault;
       loads = λ files holds.
-        made-after files (first.loads files holds) ∙ (ap (loaded_as (make (view x))) (second.loads files (first.files ∙ holds)) ∙ ap All (sym is));
-      absent = λ files holds. tt }
+          made-after files (first.loads files holds) ∙ (ap (loaded_as (make (view x))) (second.loads files (first.files ∙ holds)) ∙ ap All (sym is));
+      absent = λ files holds. tt;
+    }

@@ -7,7 +7,11 @@ ghost use Rattle.graph_core.specs.Quotients.{quotient};
 ghost use Rattle.graph_core.specs.Shores.{blocks_in};
 ghost use Rattle.graph_core.specs.Verdicts.{reason_of};
 ghost use Rattle.tree_core.specs.Derivations.{
-    IsCutAt, IsDerivation, IsDerivationAt, kept_at, merged_at,
+  IsCutAt,
+  IsDerivation,
+  IsDerivationAt,
+  kept_at,
+  merged_at,
 };
 ghost use Rattle.tree_core.specs.Shapes.{cut, cut_count};
 ghost use Rattle.tree_core.specs.View.{shape_of};
