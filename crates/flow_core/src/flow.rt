@@ -6,7 +6,7 @@ ghost use Rattle.flow_core.specs.Search.{IsTree, first_node, last_node};
 
 use crate::net::Net;
 use crate::search::Visit;
-use crate::signed_list::SignedList;
+use crate::signed_list::{SignedList, zeros};
 use std::alloc::{AllocError as Memory, Global};
 
 /// A flow from a source to a sink of a net: one amount for each arc, in the order of the arcs and positive from `a` to `b`. No
@@ -26,7 +26,7 @@ impl Flow {
         ensures value { IfOk result (λ flow. flow.value ≡ 0) }
     {
         Ok(Flow {
-            on: SignedList::zeros(alloc, net.size())?,
+            on: zeros(alloc, net.size())?,
             value: 0,
         })
     }

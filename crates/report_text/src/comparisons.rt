@@ -1,5 +1,5 @@
 //! The report of a comparison of two derivations.
-ghost use Rattle.std.specs.Prelude.{◌≡◌, ◌<◌, ◌++◌, ◌∷◌, [], ◌==◌, OnOk, OnErr, IfOk, Some, length, slice_get, string_bytes};
+ghost use Rattle.std.specs.Prelude.{◌≡◌, ◌++◌, OnOk, IfOk, string_bytes};
 ghost use Rattle.graph_core.specs.Partitions.{names_of};
 ghost use Rattle.tree_core.specs.MoveView.{move_of, moves_of};
 ghost use Rattle.report_text.specs.Comparisons.{image_line, image_lines, map_text, map_texts, move_line, move_lines, pairing_text, partner_line, same_line};
@@ -7,9 +7,9 @@ ghost use Rattle.report_text.specs.Comparisons.{image_line, image_lines, map_tex
 use crate::derivations::name_of;
 use contraction::Partition;
 use graph_core::Numbers;
+use listed::Listed;
 use move_text::push_move;
 use std::alloc::{AllocError as Memory, Global};
-use std::marker::Model;
 use tree_core::{Move, Moves};
 
 /// What is told of one leaf of the first tree.
@@ -25,69 +25,8 @@ pub struct MapLine {
     pub images: Numbers,
 }
 
-/// What is told of the leaves of the first tree, seen by contracts as a list.
-#[derive(Drop)]
-pub struct MapLines {
-    items: Vec<MapLine>,
-}
-
-impl Model for MapLines {
-    ghost use Rattle.std.specs.Prelude.{List};
-    ghost use Rattle.report_text.specs.declared.comparisons.MapLine.{MapLine};
-
-    ghost Value = { List MapLine };
-
-    ghost view = { λ list. list.items.items };
-}
-
-impl MapLines {
-    /// The empty list. Takes no memory.
-    pub fn new(alloc: Global) -> MapLines
-        ensures { result ≡ [] }
-    {
-        MapLines {
-            items: Vec::new(alloc),
-        }
-    }
-
-    /// The number of leaves. Takes no memory.
-    pub fn len(&self) -> usize
-        ensures { result ≡ length self.now }
-    {
-        self.items.len()
-    }
-
-    /// Whether there is no leaf. Takes no memory.
-    pub fn is_empty(&self) -> bool
-        ensures { result ≡ (length self.now == 0) }
-    {
-        self.items.is_empty()
-    }
-
-    /// What is told of a leaf, counted from 0. Takes no memory.
-    pub fn get(&self, i: usize) -> &MapLine
-        requires { i < length self.now }
-        ensures { slice_get self.now i ≡ Some result.now }
-    {
-        &self.items[i]
-    }
-
-    /// What is told of the leaves, as a slice. Takes no memory.
-    pub fn as_slice(&self) -> &[MapLine]
-        ensures { result.now ≡ self.now }
-    {
-        &self.items
-    }
-
-    /// Appends what is told of a leaf. After `Memory` the list is unchanged, and what was to be appended is given up.
-    pub fn push(&mut self, item: MapLine) -> Result<(), Memory>
-        ensures ok { OnOk result (self.new ≡ self.old ++ item ∷ []) }
-        ensures err { OnErr result (self.new ≡ self.old) }
-    {
-        self.items.push(item)?;
-        Ok(())
-    }
-}
+/// What is told of the leaves of the first tree.
+pub type MapLines = Listed<MapLine>;
 
 /// The names of the blocks of a partition, in order: the greatest vertex of each.
 pub fn block_names(alloc: Global, p: &Partition) -> Result<Numbers, Memory>

@@ -1,16 +1,16 @@
 //! Moves on trees of cuts.
-ghost use Rattle.std.specs.Prelude.{◌≡◌, ◌<◌, ◌++◌, ◌∷◌, [], ◌==◌, Some, None, IfOk, IfErr, OnOk, OnErr, length, slice_get};
+ghost use Rattle.std.specs.Prelude.{◌≡◌, Some, None, IfOk, IfErr};
 ghost use Rattle.tree_core.specs.MoveView.{move_of};
 ghost use Rattle.tree_core.specs.Moves.{below, move_result};
 ghost use Rattle.tree_core.specs.Shapes.{Fits};
 ghost use Rattle.tree_core.specs.View.{shape_of};
 
-use crate::path::{Path, Side};
+use crate::path::{Path, Side, path_below};
 use crate::rotation::rotate;
 use crate::switching::switch;
 use crate::tree::Tree;
+use listed::Listed;
 use std::alloc::{AllocError as Memory, Global};
-use std::marker::Model;
 use vset_core::VSet;
 
 /// A move on a tree of cuts, with the path from the root to its node.
@@ -39,10 +39,10 @@ impl Move {
     {
         match self {
             Move::Rotate { path } => Ok(Move::Rotate {
-                path: path.below(alloc, side)?,
+                path: path_below(alloc, path, side)?,
             }),
             Move::Switch { path, u, v } => Ok(Move::Switch {
-                path: path.below(alloc, side)?,
+                path: path_below(alloc, path, side)?,
                 u: *u,
                 v: *v,
             }),
@@ -69,66 +69,5 @@ pub fn apply(tree: Tree, n: u32, m: &Move) -> Result<Tree, (Tree, Stuck)>
     }
 }
 
-/// A list of moves, seen by contracts as the list of them.
-#[derive(Drop)]
-pub struct Moves {
-    items: Vec<Move>,
-}
-
-impl Model for Moves {
-    ghost use Rattle.std.specs.Prelude.{List};
-    ghost use Rattle.tree_core.specs.declared.moves.Move.{Move};
-
-    ghost Value = { List Move };
-
-    ghost view = { λ list. list.items.items };
-}
-
-impl Moves {
-    /// The empty list. Takes no memory.
-    pub fn new(alloc: Global) -> Moves
-        ensures { result ≡ [] }
-    {
-        Moves {
-            items: Vec::new(alloc),
-        }
-    }
-
-    /// The number of moves. Takes no memory.
-    pub fn len(&self) -> usize
-        ensures { result ≡ length self.now }
-    {
-        self.items.len()
-    }
-
-    /// Whether there is no move. Takes no memory.
-    pub fn is_empty(&self) -> bool
-        ensures { result ≡ (length self.now == 0) }
-    {
-        self.items.is_empty()
-    }
-
-    /// The move at place `i`, counted from 0. Takes no memory.
-    pub fn get(&self, i: usize) -> &Move
-        requires { i < length self.now }
-        ensures { slice_get self.now i ≡ Some result.now }
-    {
-        &self.items[i]
-    }
-
-    /// The moves as a slice. Takes no memory.
-    pub fn as_slice(&self) -> &[Move]
-        ensures { result.now ≡ self.now }
-    {
-        &self.items
-    }
-
-    /// Appends a move. After `Memory` the list is unchanged, and the move is given up.
-    pub fn push(&mut self, item: Move) -> Result<(), Memory>
-        ensures ok { OnOk result (self.new ≡ self.old ++ item ∷ []) }
-        ensures err { OnErr result (self.new ≡ self.old) }
-    {
-        self.items.push(item)?;
-        Ok(())
-    }
-}
+/// A list of moves.
+pub type Moves = Listed<Move>;

@@ -1,5 +1,5 @@
 //! Leaf maps: where each leaf of a tree goes, and its blocks; and what two of them, one after the other, give.
-ghost use Rattle.std.specs.Prelude.{◌≡◌, ◌<◌, ◌++◌, ◌∷◌, [], ◌==◌, OnOk, OnErr, length, slice_get, Some, ◌+◌, All, IfOk, map};
+ghost use Rattle.std.specs.Prelude.{◌≡◌, length, ◌+◌, All, IfOk, map};
 ghost use Rattle.counting.specs.Counts.{Within};
 ghost use Rattle.graph_core.specs.Partitions.{place};
 ghost use Rattle.tree_core.specs.LeafMaps.{name, then_map};
@@ -8,8 +8,8 @@ ghost use Rattle.uncross.specs.MapView.{map_of, maps_of};
 
 use contraction::Partition;
 use graph_core::Numbers;
+use listed::Listed;
 use std::alloc::{AllocError as Memory, Global};
-use std::marker::Model;
 use tree_core::Partitions;
 use vset_core::MOST_VERTICES;
 
@@ -22,76 +22,8 @@ pub struct LeafMap {
     pub images: Numbers,
 }
 
-/// The maps of the leaves of a tree in preorder, seen by contracts as the list of them.
-#[derive(Drop)]
-pub struct LeafMaps {
-    items: Vec<LeafMap>,
-}
-
-impl Model for LeafMaps {
-    ghost use Rattle.std.specs.Prelude.{List};
-    ghost use Rattle.uncross.specs.declared.leaf_maps.LeafMap.{LeafMap};
-
-    ghost Value = { List LeafMap };
-
-    ghost view = { λ list. list.items.items };
-}
-
-impl LeafMaps {
-    /// The empty list. Takes no memory.
-    pub fn new(alloc: Global) -> LeafMaps
-        ensures { result ≡ [] }
-    {
-        LeafMaps {
-            items: Vec::new(alloc),
-        }
-    }
-
-    /// The number of maps. Takes no memory.
-    pub fn len(&self) -> usize
-        ensures { result ≡ length self.now }
-    {
-        self.items.len()
-    }
-
-    /// Whether there is no map. Takes no memory.
-    pub fn is_empty(&self) -> bool
-        ensures { result ≡ (length self.now == 0) }
-    {
-        self.items.is_empty()
-    }
-
-    /// The map at place `i`, counted from 0. Takes no memory.
-    pub fn get(&self, i: usize) -> &LeafMap
-        requires { i < length self.now }
-        ensures { slice_get self.now i ≡ Some result.now }
-    {
-        &self.items[i]
-    }
-
-    /// The maps as a slice. Takes no memory.
-    pub fn as_slice(&self) -> &[LeafMap]
-        ensures { result.now ≡ self.now }
-    {
-        &self.items
-    }
-
-    /// Appends a map. After `Memory` the list is unchanged, and the map is given up.
-    pub fn push(&mut self, item: LeafMap) -> Result<(), Memory>
-        ensures ok { OnOk result (self.new ≡ self.old ++ item ∷ []) }
-        ensures err { OnErr result (self.new ≡ self.old) }
-    {
-        self.items.push(item)?;
-        Ok(())
-    }
-
-    /// The maps, to be taken apart. Takes no memory.
-    pub fn into_items(self) -> Vec<LeafMap>
-        ensures { result.items ≡ self }
-    {
-        self.items
-    }
-}
+/// The maps of the leaves of a tree, in preorder.
+pub type LeafMaps = Listed<LeafMap>;
 
 // The place of the block that holds v, counted from 0, and the number of blocks if none does.
 fn index_of(p: &Partition, v: u32) -> usize
