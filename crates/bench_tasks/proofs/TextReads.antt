@@ -4,9 +4,9 @@ use Rattle.line_text.specs.Format.{Rules, Stands}
 use Rattle.line_text.specs.Reading.{reading_of}
 use Rattle.line_text.proofs.ExactlyOne.{Stands-reading_of, FirstFault-reading_of}
 use Rattle.text_faults.specs.Readings.{IsFirstFault, ReadsText}
-use Rattle.graph_core.specs.declared.faults.FaultKind.{FaultKind}
-use Rattle.graph_core.specs.declared.faults.TextFault.{TextFault}
-use Rattle.graph_core.specs.declared.faults.TextFault.TheVariants.{At, Memory}
+use Rattle.text_faults.specs.declared.faults.FaultKind.{FaultKind}
+use Rattle.text_faults.specs.declared.faults.TextFault.{TextFault}
+use Rattle.text_faults.specs.declared.faults.TextFault.TheVariants.{At, Memory}
 
 pub ReadsText-reading_of : {X Body Value : Type 0} (rules : Rules Body Value FaultKind) (view : X → Value) (text : List ℕ) (result : Result X TextFault) → IfOk result (λ x. Stands rules text (view x)) → IfErr result (IsFirstFault rules text) → ReadsText view result (reading_of rules text)
 ReadsText-reading_of rules view text (Ok x) stands fault = Stands-reading_of rules text (view x) stands

@@ -8,8 +8,8 @@ use Rattle.std.specs.declared.result.Result.TheVariants.{Ok, Err}
 use Rattle.outside.specs.Shelf.{Named, file_named}
 use Rattle.line_text.specs.Reading.{reading_of}
 use Rattle.graph_core.specs.Graph.{Graph, size}
-use Rattle.graph_core.specs.Kinds.{kind_number}
-use Rattle.graph_core.specs.declared.faults.FaultKind.{FaultKind}
+use Rattle.text_faults.specs.Kinds.{kind_number}
+use Rattle.text_faults.specs.declared.faults.FaultKind.{FaultKind}
 use Rattle.graph_text.specs.EitherVersion.{NamedGraph, either_version}
 use Rattle.graph6_text.specs.Reading.{outcome_of}
 use Rattle.tree_core.specs.Shapes.{Shape}

@@ -3,7 +3,7 @@ ghost use Rattle.std.specs.Prelude.{◌<◌, ◌≤◌, ◌-◌, ◌^◌, ℕ, L
 ghost use Rattle.line_text.specs.Reading.{reading_of};
 ghost use Rattle.text_faults.specs.Readings.{ReadsText};
 ghost use Rattle.graph_core.specs.Graph.{Graph, size};
-ghost use Rattle.graph_core.specs.declared.faults.FaultKind.{FaultKind};
+ghost use Rattle.text_faults.specs.declared.faults.FaultKind.{FaultKind};
 ghost use Rattle.graph_text.specs.EitherVersion.{NamedGraph, either_version};
 ghost use Rattle.graph_text.specs.SoFar.{named_graph};
 ghost use Rattle.graph6_text.specs.Reading.{outcome_of};
@@ -22,11 +22,12 @@ ghost use Rattle.bench_tasks.specs.Loads.{graph_in};
 use crate::tasks::SimpleGraph;
 use ear_core::EarList;
 use ear_text::read_ears;
-use graph_core::{MultiGraph, Numbers, TextFault};
+use graph_core::{MultiGraph, Numbers};
 use graph_text::{Named, read_any};
 use graph6_text::read_graph6;
 use move_text::read_moves;
 use std::alloc::Global;
+use text_faults::TextFault;
 use tree_core::{Moves, Tree};
 use tree_text::{read_picks, read_tree};
 
@@ -34,7 +35,7 @@ use tree_text::{read_picks, read_tree};
 pub trait FileFormat {
     ghost use Rattle.std.specs.Prelude.{List, ℕ, Result, ◌<◌, ◌-◌, ◌^◌, length, IfOk};
     ghost use Rattle.text_faults.specs.Readings.{ReadsText};
-    ghost use Rattle.graph_core.specs.declared.faults.FaultKind.{FaultKind};
+    ghost use Rattle.text_faults.specs.declared.faults.FaultKind.{FaultKind};
 
     /// What a text stands for.
     type Value: Drop;

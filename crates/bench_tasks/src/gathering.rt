@@ -20,9 +20,10 @@ use crate::formats::{EarFile, FileFormat, Graph6File, GraphFile, MoveFile, PickF
 use crate::stop::Stop;
 use crate::tasks::{GivenEars, GivenMoves, GivenTree, GivenTrees, Task};
 use ear_core::EarList;
-use graph_core::{MultiGraph, TextFault};
+use graph_core::MultiGraph;
 use outside::{Shelf, ShelfFault};
 use std::alloc::Global;
+use text_faults::TextFault;
 use tree_core::{Moves, Tree};
 
 /// The most bytes that a file may have.

@@ -4,7 +4,7 @@ use Rattle.outside.specs.Shelf.{Named, file_named}
 use Rattle.line_text.specs.Reading.{reading_of}
 use Rattle.graph6_text.specs.Reading.{outcome_of}
 use Rattle.graph_core.specs.Graph.{IsMultigraph}
-use Rattle.graph_core.specs.declared.faults.FaultKind.{FaultKind}
+use Rattle.text_faults.specs.declared.faults.FaultKind.{FaultKind}
 use Rattle.graph_text.specs.EitherVersion.{NamedGraph, either_version}
 use Rattle.tree_core.specs.Moves.{PlainMove}
 use Rattle.tree_core.specs.Shapes.{Shape}

@@ -10,7 +10,7 @@ use Rattle.std.proofs.lemmas.Bool.Decides.{nat_tests}
 use Rattle.std.proofs.lemmas.Slice.Eq.{bytes_eq-Decides}
 use Rattle.counting.specs.Counts.{Within}
 use Rattle.graph_core.specs.Graph.{Graph, HasNoLoop, IsGraph, IsMultigraph, size}
-use Rattle.graph_core.specs.declared.faults.FaultKind.TheVariants as kind
+use Rattle.text_faults.specs.declared.faults.FaultKind.TheVariants as kind
 use Rattle.line_text.specs.Format.{checked, finish, step}
 use Rattle.line_text.specs.Numerals.{is_number, value_of}
 use Rattle.line_text.specs.Reading.{go_on, reading_from, reading_of}

@@ -9,7 +9,7 @@ use Rattle.line_text.specs.Numerals.{is_number, value_of}
 use Rattle.line_text.specs.Reading.{reading_of}
 use Rattle.line_text.proofs.ExactlyOne.{Stands-from_reading, Stands-reading_of}
 use Rattle.graph_core.specs.Graph.{size}
-use Rattle.graph_core.specs.declared.faults.FaultKind.{FaultKind}
+use Rattle.text_faults.specs.declared.faults.FaultKind.{FaultKind}
 use Rattle.graph_text.specs.EitherVersion.{NamedGraph, either_version}
 use Rattle.graph_text.specs.VersionOne.{FitsVersionOne}
 use Rattle.grow_gen.specs.Growth.{grown}

@@ -9,8 +9,8 @@ use Rattle.line_text.specs.Words.{has_form, word_at}
 use Rattle.line_text.specs.Numerals.{is_number, value_of}
 use Rattle.line_text.proofs.Tables.{all_passed, no_value, value_or}
 use Rattle.text_faults.proofs.InRange.{all-in_range, in_range}
-use Rattle.graph_core.specs.declared.faults.FaultKind.{FaultKind}
-use Rattle.graph_core.specs.declared.faults.FaultKind.TheVariants as kind
+use Rattle.text_faults.specs.declared.faults.FaultKind.{FaultKind}
+use Rattle.text_faults.specs.declared.faults.FaultKind.TheVariants as kind
 use Rattle.ear_core.specs.EarLists.{PlainEar, PlainStep, one, two, PlainEars, FitsEar, FitsStep, FitsEars, HasEdges}
 use Rattle.text_faults.specs.Ranges.{is_out_of_range}
 use Rattle.ear_text.specs.EarFormat.{EarsSoFar, headed, started, ear_format, ear_line, line_behind, ears_end, behind_two, is_ear_line, is_with_line, ear_at, closed, paired}

@@ -5,7 +5,7 @@ ghost use Rattle.line_text.specs.Reading.{Gives};
 ghost use Rattle.line_text.specs.Format.{Stands, FirstFault, checked};
 ghost use Rattle.line_text.specs.Words.{texts_of};
 ghost use Rattle.text_faults.specs.Readings.{IsFirstFault, ReadsText};
-ghost use Rattle.graph_core.specs.declared.faults.FaultKind.{FaultKind};
+ghost use Rattle.text_faults.specs.declared.faults.FaultKind.{FaultKind};
 ghost use Rattle.ear_core.specs.EarLists.{PlainEars, FitsEars, HasEdges};
 ghost use Rattle.ear_core.specs.View.{ear_of, step_of, ears_of};
 ghost use Rattle.text_faults.specs.Ranges.{is_out_of_range};
@@ -14,10 +14,10 @@ ghost use Rattle.ear_text.specs.SoFar.{ears_so_far};
 
 use crate::ears_read::{EarsRead, close_last, pair_last};
 use ear_core::{Ear, EarList, Steps};
-use graph_core::{FaultKind, Numbers, TextFault};
+use graph_core::Numbers;
 use line_text::{LineFormat, Refusal, has_form, number, numbers, word};
 use std::alloc::{AllocError as Memory, Global};
-use text_faults::{has_out_of_range, is_out_of_range, read_text};
+use text_faults::{FaultKind, TextFault, has_out_of_range, is_out_of_range, read_text};
 
 // The format, for graphs of this order and size.
 #[derive(Drop)]

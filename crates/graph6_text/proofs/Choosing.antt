@@ -2,13 +2,13 @@
 use Rattle.std.proofs.Common.{◌≡◌, ℕ, Bool, true, false, List, [], ◌∷◌, ◌++◌, length, map, refl, sym, ap, ap₂, ◌∙◌, arith, append_assoc, nat_lt, Option, Some, None, ◌⊎◌, inl, inr}
 use Rattle.std.proofs.lemmas.Bool.{cases_Bool}
 use Rattle.std.proofs.lemmas.Bool.Decides.{nat_tests}
-use Rattle.graph_core.specs.declared.faults.FaultKind.{FaultKind}
+use Rattle.text_faults.specs.declared.faults.FaultKind.{FaultKind}
 use Rattle.std.proofs.lemmas.List.{append-nil, nil_from_length, length-append, length-map}
 use Rattle.graph_core.specs.Graph.{Graph}
 use Rattle.graph_core.specs.View.{pair_of}
 use Rattle.graph_core.specs.declared.ends.Ends.{Ends}
-use Rattle.graph_core.specs.declared.faults.TextFault.{TextFault}
-use Rattle.graph_core.specs.declared.faults.TextFault.TheVariants as fault
+use Rattle.text_faults.specs.declared.faults.TextFault.{TextFault}
+use Rattle.text_faults.specs.declared.faults.TextFault.TheVariants as fault
 use Rattle.graph6_text.specs.Checks.{IsFirstFault, limit_row}
 use Rattle.graph6_text.specs.Pairs.{chosen, chosen_one}
 

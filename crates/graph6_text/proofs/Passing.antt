@@ -6,11 +6,11 @@ use Rattle.std.proofs.lemmas.Bool.{and_parts, not-false, eqb-false, ltb-false, l
 use Rattle.std.proofs.lemmas.List.{take-append-drop}
 use Rattle.std.proofs.lemmas.List.Folds.{list_all-append}
 use Rattle.std.specs.List.{list_all, list_any}
-use Rattle.graph_core.specs.Faults.{IsFault}
+use Rattle.text_faults.specs.Faults.{IsFault}
 use Rattle.graph_core.specs.Graph.{Graph, size}
-use Rattle.graph_core.specs.declared.faults.FaultKind.TheVariants.{Padding, Limit}
-use Rattle.graph_core.specs.declared.faults.TextFault.{TextFault}
-use Rattle.graph_core.specs.declared.faults.TextFault.TheVariants as fault
+use Rattle.text_faults.specs.declared.faults.FaultKind.TheVariants.{Padding, Limit}
+use Rattle.text_faults.specs.declared.faults.TextFault.{TextFault}
+use Rattle.text_faults.specs.declared.faults.TextFault.TheVariants as fault
 use Rattle.graph6_text.specs.Digits.{is_digit, bits_of}
 use Rattle.graph6_text.specs.Pairs.{column_pairs, chosen}
 use Rattle.graph6_text.specs.Checks.{limit_row, Checks, IsFirstFault}

@@ -7,7 +7,7 @@ ghost use Rattle.graph6_text.specs.Reading.{is_long, order_of, data_len, pair_co
 
 use crate::body::{LONG, data, is_long, order};
 use crate::digits::is_digit;
-use graph_core::{FaultKind, TextFault};
+use text_faults::{FaultKind, TextFault};
 use vset_core::MOST_VERTICES;
 
 /// The most vertices whose number one digit writes.

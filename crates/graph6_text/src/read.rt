@@ -1,7 +1,7 @@
 //! Reading graph6 texts.
 ghost use Rattle.std.specs.Prelude.{◌≡◌, ◌≤◌, ◌++◌, [], ◌∷◌, IfOk, IfErr, OnOk, None, length, drop, map, take};
 ghost use Rattle.std.specs.List.{list_any};
-ghost use Rattle.graph_core.specs.Faults.{IsFault};
+ghost use Rattle.text_faults.specs.Faults.{IsFault};
 ghost use Rattle.graph_core.specs.Graph.{size};
 ghost use Rattle.graph_core.specs.Simple.{IsSimple};
 ghost use Rattle.graph_core.specs.View.{pair_of};
@@ -13,8 +13,9 @@ use crate::body::{body, data, order};
 use crate::checks::{check_body, fault};
 use crate::digits::to_bits;
 use crate::pairs::to_pairs;
-use graph_core::{Ends, FaultKind, MOST_EDGES, MultiGraph, TextFault};
+use graph_core::{Ends, MOST_EDGES, MultiGraph};
 use std::alloc::Global;
+use text_faults::{FaultKind, TextFault};
 
 /// The graph that a graph6 text stands for. The text may begin with the header `>>graph6<<` and may end with one line end;
 /// it holds one graph. The edges come column by column of the adjacency matrix. `At` comes exactly where the text stands for

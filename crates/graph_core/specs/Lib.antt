@@ -19,5 +19,3 @@ pub mod Shores
 pub mod Simple
 pub mod Structure
 pub mod View
-pub mod Kinds
-pub mod Faults

@@ -12,7 +12,7 @@
 //! The laws, in `laws`: parity of a cut, weak duality, merging a shore, contraction of a tight cut, and uncrossing of two. In
 //! other words for a reader the definitions stand in `definition_laws`.
 //!
-//! Stands on `counting` and `vset_core`. Sources: Lovász and Plummer, "Matching Theory"; Lovász, "Matching structure and the matching
+//! Stands on `counting`, `listed` and `vset_core`, and gives on `FaultKind` and `TextFault` of `text_faults`. Sources: Lovász and Plummer, "Matching Theory"; Lovász, "Matching structure and the matching
 //! lattice" (1987); Lucchesi and Murty, "Perfect Matchings".
 #![tactic(auto)]
 
@@ -29,8 +29,9 @@ mod tree;
 mod verdict;
 
 pub use ends::Ends;
-pub use faults::{AddFault, FaultKind, TextFault};
+pub use faults::AddFault;
 pub use graph::{MOST_EDGES, MultiGraph};
 pub use lists::{Numbers, SetList};
 pub use sides::Sides;
+pub use text_faults::{FaultKind, TextFault};
 pub use verdict::{Kind, Reason, Verdict};

@@ -13,8 +13,8 @@ use Rattle.line_text.specs.Numerals.{is_number, value_of}
 use Rattle.line_text.specs.Words.{SignificantLine, significant_lines_of, has_form, word_at, begin_with}
 use Rattle.line_text.proofs.ExactlyOne.{Stands-reading_of, Stands-from_reading, FirstFault-reading_of, FirstFault-from_reading}
 use Rattle.graph_core.specs.Graph.{Graph, size, with_edge}
-use Rattle.graph_core.specs.declared.faults.FaultKind.{FaultKind}
-use Rattle.graph_core.specs.declared.faults.FaultKind.TheVariants as kind
+use Rattle.text_faults.specs.declared.faults.FaultKind.{FaultKind}
+use Rattle.text_faults.specs.declared.faults.FaultKind.TheVariants as kind
 use Rattle.graph_text.specs.EitherVersion.{EitherSoFar, NamedGraph, is_named_header, is_plain_header, is_over, either_header, line_behind, end_behind, vertex_line, named_edge_line, either_version, begin_named, is_version_two}
 use Rattle.graph_text.specs.GraphLines.{GraphSoFar, graph_line, graph_end}
 use Rattle.graph_text.specs.Names.{is_name, is_among, vertex_of}

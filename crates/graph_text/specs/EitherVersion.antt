@@ -7,8 +7,8 @@ use Rattle.line_text.specs.Format.{Rules, checked}
 use Rattle.line_text.specs.Words.{SignificantLine, significant_lines_of, has_form, word_at}
 use Rattle.line_text.specs.Numerals.{is_number, value_of}
 use Rattle.graph_core.specs.Graph.{Graph, size, with_edge}
-use Rattle.graph_core.specs.declared.faults.FaultKind.{FaultKind}
-use Rattle.graph_core.specs.declared.faults.FaultKind.TheVariants as kind
+use Rattle.text_faults.specs.declared.faults.FaultKind.{FaultKind}
+use Rattle.text_faults.specs.declared.faults.FaultKind.TheVariants as kind
 use Rattle.graph_text.specs.GraphLines.{GraphSoFar, graph_line, graph_end}
 use Rattle.graph_text.specs.Names.{is_name, is_among, vertex_of}
 use Rattle.graph_text.specs.VersionOne.{most_vertices, most_edges}

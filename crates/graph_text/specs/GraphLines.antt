@@ -5,8 +5,8 @@ use Rattle.line_text.specs.Words.{has_form, word_at}
 use Rattle.line_text.specs.Numerals.{is_number, value_of}
 use Rattle.graph_core.specs.Graph.{Graph, size, with_edge}
 use Rattle.text_faults.specs.Ranges.{is_out_of_range}
-use Rattle.graph_core.specs.declared.faults.FaultKind.{FaultKind}
-use Rattle.graph_core.specs.declared.faults.FaultKind.TheVariants as kind
+use Rattle.text_faults.specs.declared.faults.FaultKind.{FaultKind}
+use Rattle.text_faults.specs.declared.faults.FaultKind.TheVariants as kind
 
 -- the edges read so far, and how many there are to be
 pub record GraphSoFar : Type 0 where

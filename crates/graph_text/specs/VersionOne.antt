@@ -4,8 +4,8 @@ use Rattle.line_text.specs.Format.{Rules, checked}
 use Rattle.line_text.specs.Words.{has_form, word_at}
 use Rattle.line_text.specs.Numerals.{is_number, value_of}
 use Rattle.graph_core.specs.Graph.{Graph, IsMultigraph, size}
-use Rattle.graph_core.specs.declared.faults.FaultKind.{FaultKind}
-use Rattle.graph_core.specs.declared.faults.FaultKind.TheVariants as kind
+use Rattle.text_faults.specs.declared.faults.FaultKind.{FaultKind}
+use Rattle.text_faults.specs.declared.faults.FaultKind.TheVariants as kind
 use Rattle.graph_text.specs.GraphLines.{GraphSoFar, graph_line, graph_end}
 
 -- the most vertices and the most edges in version 1

@@ -4,7 +4,7 @@ ghost use Rattle.line_text.specs.Reading.{Gives};
 ghost use Rattle.line_text.specs.Format.{Stands, FirstFault};
 ghost use Rattle.line_text.specs.Words.{texts_of};
 ghost use Rattle.text_faults.specs.Readings.{IsFirstFault, ReadsText};
-ghost use Rattle.graph_core.specs.declared.faults.FaultKind.{FaultKind};
+ghost use Rattle.text_faults.specs.declared.faults.FaultKind.{FaultKind};
 ghost use Rattle.graph_core.specs.Graph.{size};
 ghost use Rattle.graph_text.specs.EitherVersion.{EitherSoFar, NamedGraph, named_so_far, is_over, either_header, vertex_line, named_edge_line, named_line, line_behind, end_behind, either_version};
 ghost use Rattle.graph_text.specs.SoFar.{so_far, either_so_far, named_graph};
@@ -13,10 +13,10 @@ use crate::body::{Body, EitherBody};
 use crate::graph_lines::{close_graph, read_edge};
 use crate::named::Named;
 use crate::names::{Names, name_of};
-use graph_core::{FaultKind, MultiGraph, TextFault};
+use graph_core::MultiGraph;
 use line_text::{LineFormat, Refusal, has_form, number, word};
 use std::alloc::Global;
-use text_faults::read_text;
+use text_faults::{FaultKind, TextFault, read_text};
 
 // The format.
 #[derive(Drop)]

@@ -7,8 +7,9 @@ ghost use Rattle.graph_text.specs.GraphLines.{GraphSoFar, edge_line, graph_line,
 ghost use Rattle.graph_text.specs.SoFar.{so_far};
 
 use crate::body::Body;
-use graph_core::{FaultKind, MultiGraph};
+use graph_core::MultiGraph;
 use line_text::{Refusal, has_form, number, word};
+use text_faults::FaultKind;
 
 // A line of an edge between numbered vertices.
 fn add_edge(body: &mut Body, words: &[&[u8]]) -> Result<(), Refusal<FaultKind>>

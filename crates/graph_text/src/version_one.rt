@@ -3,7 +3,7 @@ ghost use Rattle.std.specs.Prelude.{◌≡◌, ◌<◌, ◌-◌, ◌^◌, ℕ, l
 ghost use Rattle.line_text.specs.Reading.{Gives};
 ghost use Rattle.line_text.specs.Format.{Stands, FirstFault};
 ghost use Rattle.text_faults.specs.Readings.{IsFirstFault, ReadsText};
-ghost use Rattle.graph_core.specs.declared.faults.FaultKind.{FaultKind};
+ghost use Rattle.text_faults.specs.declared.faults.FaultKind.{FaultKind};
 ghost use Rattle.line_text.specs.Words.{texts_of};
 ghost use Rattle.graph_core.specs.Graph.{Graph};
 ghost use Rattle.graph_text.specs.GraphLines.{GraphSoFar};
@@ -12,10 +12,10 @@ ghost use Rattle.graph_text.specs.VersionOne.{version_one, header};
 
 use crate::body::Body;
 use crate::graph_lines::{close_graph, read_edge};
-use graph_core::{FaultKind, MultiGraph, TextFault};
+use graph_core::MultiGraph;
 use line_text::{LineFormat, Refusal, has_form, number, word};
 use std::alloc::Global;
-use text_faults::read_text;
+use text_faults::{FaultKind, TextFault, read_text};
 
 const MOST_VERTICES: u32 = 64;
 

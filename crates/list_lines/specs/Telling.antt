@@ -1,8 +1,8 @@
 -- What is told of a line of a list of graphs.
 use Rattle.std.specs.Prelude.{◌≡◌, ℕ, ◌≤◌, ◌⊎◌, List, Ok, Err}
 use Rattle.graph_core.specs.Graph.{Graph, size}
-use Rattle.graph_core.specs.declared.faults.FaultKind.{FaultKind}
-use Rattle.graph_core.specs.declared.faults.FaultKind.TheVariants.{Limit}
+use Rattle.text_faults.specs.declared.faults.FaultKind.{FaultKind}
+use Rattle.text_faults.specs.declared.faults.FaultKind.TheVariants.{Limit}
 use Rattle.graph6_text.specs.Reading.{outcome_of}
 use Rattle.graph_text.specs.VersionOne.{most_vertices, most_edges}
 use Rattle.graph_text.specs.Writing.{graph_text}

@@ -8,10 +8,11 @@ use crate::kind_lines::kind_line;
 use crate::leaf_lines::leaf_lines;
 use crate::query::Query;
 use crate::selecting::selected;
-use graph_core::{FaultKind, MultiGraph, TextFault};
+use graph_core::MultiGraph;
 use graph_text::write_graph;
 use graph6_text::read_graph6;
 use std::alloc::{AllocError as Memory, Global};
+use text_faults::{FaultKind, TextFault};
 
 /// The answer for a line.
 #[derive(Drop)]

@@ -1,8 +1,8 @@
 -- What is told of some lines, and then of the lines behind them, is told of all of them.
 use Rattle.std.proofs.Common.{◌≡◌, inl, inr, ℕ, suc, ◌+◌, List, [], ◌∷◌, ◌++◌, length, take, refl, sym, subst, ◌∙◌, ap, arith, append_assoc, length-append}
 use Rattle.std.proofs.lemmas.List.{append-nil}
-use Rattle.graph_core.specs.Kinds.{kind_number}
-use Rattle.graph_core.specs.declared.faults.FaultKind.{FaultKind}
+use Rattle.text_faults.specs.Kinds.{kind_number}
+use Rattle.text_faults.specs.declared.faults.FaultKind.{FaultKind}
 use Rattle.list_reader.specs.declared.ending.Ending.{Ending}
 use Rattle.list_reader.specs.declared.ending.Ending.TheVariants.{Done, Bad, ReadFault, WriteFault, Memory}
 use Rattle.list_reader.specs.Told.{LineTold, LineBad, NamesBad, fault_line}

@@ -3,9 +3,9 @@ use Rattle.std.proofs.Common.{◌≡◌, inl, ℕ, ◌+◌, ◌<◌, List, [], �
 use Rattle.std.proofs.lemmas.List.{append-nil}
 use Rattle.std.specs.declared.option.Option.{Option}
 use Rattle.outside.specs.Sink.{appended}
-use Rattle.graph_core.specs.Kinds.{kind_number}
-use Rattle.graph_core.specs.declared.faults.FaultKind.{FaultKind}
-use Rattle.graph_core.specs.declared.faults.FaultKind.TheVariants.{Limit}
+use Rattle.text_faults.specs.Kinds.{kind_number}
+use Rattle.text_faults.specs.declared.faults.FaultKind.{FaultKind}
+use Rattle.text_faults.specs.declared.faults.FaultKind.TheVariants.{Limit}
 use Rattle.list_reader.specs.declared.ending.Ending.TheVariants.{Bad, WriteFault}
 use Rattle.list_reader.specs.Lines.{lines_of, HasNoFeed, IsFirstLine}
 use Rattle.list_reader.specs.Told.{LineTold, NamesBad, most_line, fault_line}

@@ -7,7 +7,7 @@ use Rattle.std.specs.declared.option.Option.TheVariants.{Some, None}
 use Rattle.outside.specs.Sink.{appended}
 use Rattle.outside.specs.Source.{prepended, IsEnd}
 use Rattle.outside.proofs.Pieces.{appended-nil, appended-appended}
-use Rattle.graph_core.specs.declared.faults.FaultKind.{FaultKind}
+use Rattle.text_faults.specs.declared.faults.FaultKind.{FaultKind}
 use Rattle.list_reader.specs.declared.ending.Ending.{Ending}
 use Rattle.list_reader.specs.declared.ending.Ending.TheVariants.{Memory}
 use Rattle.list_reader.specs.Lines.{lines_of, HasNoFeed, IsClosed}

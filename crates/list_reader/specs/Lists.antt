@@ -1,7 +1,7 @@
 -- What is told of the lines of a list, one after another.
 use Rattle.std.specs.Prelude.{◌≡◌, ℕ, ◌+◌, ◌<◌, ◌⊎◌, List, [], ◌∷◌, ◌++◌, length, take}
-use Rattle.graph_core.specs.Kinds.{kind_number}
-use Rattle.graph_core.specs.declared.faults.FaultKind.{FaultKind}
+use Rattle.text_faults.specs.Kinds.{kind_number}
+use Rattle.text_faults.specs.declared.faults.FaultKind.{FaultKind}
 use Rattle.list_reader.specs.Told.{LineTold, LineBad, fault_line}
 
 -- the lines, of which the first has that number, are told by this output: the outputs of the lines in their order

@@ -2,9 +2,9 @@
 use Rattle.std.specs.Prelude.{◌≡◌, ℕ, ◌==◌, ◌<◌, ◌≤◌, ◌⊎◌, ◌&&◌, ◌||◌, Bool, List, [], ◌++◌, length, codes, IsTrue, IsFalse}
 use Rattle.std.specs.Fmt.{decimal}
 use Rattle.std.specs.Str.{bytes_eq}
-use Rattle.graph_core.specs.Kinds.{kind_number}
-use Rattle.graph_core.specs.declared.faults.FaultKind.{FaultKind}
-use Rattle.graph_core.specs.declared.faults.FaultKind.TheVariants.{Limit}
+use Rattle.text_faults.specs.Kinds.{kind_number}
+use Rattle.text_faults.specs.declared.faults.FaultKind.{FaultKind}
+use Rattle.text_faults.specs.declared.faults.FaultKind.TheVariants.{Limit}
 use Rattle.list_reader.specs.declared.teller.Told.{Told}
 use Rattle.list_reader.specs.declared.teller.Told.TheVariants.{Output, Bad}
 

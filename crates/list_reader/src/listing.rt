@@ -6,8 +6,8 @@ ghost use Rattle.list_reader.specs.Endings.{Added, Gives, ToldThrough, StopsWith
 use crate::ending::{Ending, Stop};
 use crate::teller::LineTeller;
 use crate::telling::{MOST_LINE, next_number, push_fault, tell_line, tell_lines};
-use graph_core::FaultKind;
 use std::alloc::Global;
+use text_faults::FaultKind;
 
 /// The state of a list that comes in pieces.
 #[derive(Drop)]

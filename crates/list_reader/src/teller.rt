@@ -1,10 +1,10 @@
 //! What tells the lines of a list.
 ghost use Rattle.std.specs.Prelude.{ℕ, List, IfOk};
-ghost use Rattle.graph_core.specs.declared.faults.FaultKind.{FaultKind};
+ghost use Rattle.text_faults.specs.declared.faults.FaultKind.{FaultKind};
 ghost use Rattle.list_reader.specs.Told.{IsToldAs};
 
-use graph_core::FaultKind;
 use std::alloc::{AllocError as Memory, Global};
+use text_faults::FaultKind;
 
 /// What is told of a line.
 #[derive(Drop)]

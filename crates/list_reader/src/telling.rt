@@ -1,6 +1,6 @@
 //! Telling the lines of a text.
 ghost use Rattle.std.specs.Prelude.{◌≡◌, ◌+◌, ◌++◌, ◌<◌, ◌^◌, ℕ, List, IfOk, IfErr, OnOk, IsErrOf, length};
-ghost use Rattle.graph_core.specs.Kinds.{kind_number};
+ghost use Rattle.text_faults.specs.Kinds.{kind_number};
 ghost use Rattle.list_reader.specs.declared.ending.Ending.{Ending};
 ghost use Rattle.list_reader.specs.Told.{LineTold, NamesBad, is_header, is_header_line, fault_line};
 ghost use Rattle.list_reader.specs.Lines.{HasNoFeed};
@@ -9,8 +9,8 @@ ghost use Rattle.list_reader.specs.Endings.{Added, ToldThrough, StopsWith};
 use crate::cutting::first_line;
 use crate::ending::Stop;
 use crate::teller::{LineTeller, Told};
-use graph_core::FaultKind;
 use std::alloc::{AllocError as Memory, Global};
+use text_faults::FaultKind;
 
 /// The most bytes of a line; a line of more is bad, whatever it holds.
 pub const MOST_LINE: usize = 65536;

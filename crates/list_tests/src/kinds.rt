@@ -1,9 +1,9 @@
 //! What is told of single lines.
 
-use graph_core::FaultKind;
 use list_lines::{LeafOrder, Property, Query, Told, tell};
 use std::alloc::{AllocError as Memory, Global};
 use std::test::Fail;
+use text_faults::FaultKind;
 
 // A query, a line, and what is written for it, or the kind of its fault.
 struct Row {

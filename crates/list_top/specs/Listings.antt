@@ -1,7 +1,7 @@
 -- What is told of a line of a list.
 use Rattle.std.specs.Prelude.{◌≡◌, ℕ, ◌⊎◌, nat_lt, Bool, false, List, IsTrue, IsFalse}
-use Rattle.graph_core.specs.declared.faults.FaultKind.{FaultKind}
-use Rattle.graph_core.specs.declared.faults.FaultKind.TheVariants.{Extra}
+use Rattle.text_faults.specs.declared.faults.FaultKind.{FaultKind}
+use Rattle.text_faults.specs.declared.faults.FaultKind.TheVariants.{Extra}
 use Rattle.list_lines.specs.declared.query.Query.{Query}
 use Rattle.list_lines.specs.declared.query.Query.TheVariants.{Kinds, Leaves, Graph, Select}
 use Rattle.list_lines.specs.Telling.{TellsLine, IsBad}

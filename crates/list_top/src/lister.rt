@@ -2,10 +2,10 @@
 ghost use Rattle.std.specs.Prelude.{◌≡◌};
 ghost use Rattle.list_top.specs.Listings.{TellsLineOf, IsBadLine, is_further};
 
-use graph_core::FaultKind;
 use list_lines::{Query, tell};
 use list_reader::{LineTeller, Told};
 use std::alloc::{AllocError as Memory, Global};
+use text_faults::FaultKind;
 
 /// A query, as it is asked of each line of a list.
 #[derive(Clone, Copy)]

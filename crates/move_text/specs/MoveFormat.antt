@@ -8,8 +8,8 @@ use Rattle.line_text.specs.Format.{Rules, checked}
 use Rattle.line_text.specs.Words.{has_form, word_at}
 use Rattle.line_text.specs.Numerals.{is_number, value_of}
 use Rattle.text_faults.specs.Ranges.{is_out_of_range}
-use Rattle.graph_core.specs.declared.faults.FaultKind.{FaultKind}
-use Rattle.graph_core.specs.declared.faults.FaultKind.TheVariants as kind
+use Rattle.text_faults.specs.declared.faults.FaultKind.{FaultKind}
+use Rattle.text_faults.specs.declared.faults.FaultKind.TheVariants as kind
 use Rattle.tree_core.specs.Moves.{PlainMove, rotate_at, switch_at}
 use Rattle.tree_core.specs.declared.path.Side.{Side}
 use Rattle.tree_core.specs.declared.path.Side.TheVariants.{Kept, Merged}

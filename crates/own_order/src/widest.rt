@@ -2,7 +2,7 @@
 ghost use Rattle.std.specs.Prelude.{◌≡◌, ◌<◌, ◌-◌, ◌^◌, ℕ, length, IfOk, Err};
 ghost use Rattle.graph_core.specs.Covered.{IsReason};
 ghost use Rattle.graph_core.specs.Verdicts.{reason_of};
-ghost use Rattle.graph_core.specs.declared.faults.TextFault.{TextFault};
+ghost use Rattle.text_faults.specs.declared.faults.TextFault.{TextFault};
 ghost use Rattle.graph_core.specs.declared.verdict.Reason.{Reason};
 ghost use Rattle.line_text.specs.Format.{Stands};
 ghost use Rattle.text_faults.specs.Readings.{IsFirstFault};
@@ -17,9 +17,10 @@ ghost use Rattle.own_order.specs.WidestCuts.{PicksTree, PicksWidest};
 
 use crate::widest_cuts::widest_place;
 use decomposer::{Order, Refused, decompose};
-use graph_core::{MultiGraph, Reason, TextFault};
+use graph_core::{MultiGraph, Reason};
 use graph_text::{Named, read_any};
 use std::alloc::Global;
+use text_faults::TextFault;
 use tight_cuts::Candidate;
 use tree_check::{Judgement, check};
 use tree_core::Tree;

@@ -1,2 +1,4 @@
+pub mod Kinds
+pub mod Faults
 pub mod Readings
 pub mod Ranges

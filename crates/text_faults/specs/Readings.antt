@@ -1,10 +1,10 @@
 -- What a reader of a text answers, with the faults that all texts share.
 use Rattle.std.specs.Prelude.{◌≡◌, ℕ, List, Result, Ok, Err}
 use Rattle.line_text.specs.Format.{Rules, FirstFault}
-use Rattle.graph_core.specs.Faults.{IsFault}
-use Rattle.graph_core.specs.declared.faults.FaultKind.{FaultKind}
-use Rattle.graph_core.specs.declared.faults.TextFault.{TextFault}
-use Rattle.graph_core.specs.declared.faults.TextFault.TheVariants.{At, Memory}
+use Rattle.text_faults.specs.Faults.{IsFault}
+use Rattle.text_faults.specs.declared.faults.FaultKind.{FaultKind}
+use Rattle.text_faults.specs.declared.faults.TextFault.{TextFault}
+use Rattle.text_faults.specs.declared.faults.TextFault.TheVariants.{At, Memory}
 
 -- a fault that names a line and a kind names the first fault of the text
 abbrev pub IsFirstFault : {Body Value : Type 0} → Rules Body Value FaultKind → List ℕ → TextFault → Type 0

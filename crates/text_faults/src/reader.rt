@@ -1,10 +1,10 @@
 //! The reader of a text.
 ghost use Rattle.std.specs.Prelude.{◌≡◌, ◌<◌, ◌-◌, ◌^◌, ℕ, length, IfOk, IfErr, Ok, Err};
 ghost use Rattle.line_text.specs.Format.{Stands, FirstFault};
-ghost use Rattle.graph_core.specs.declared.faults.FaultKind.{FaultKind};
+ghost use Rattle.text_faults.specs.declared.faults.FaultKind.{FaultKind};
 ghost use Rattle.text_faults.specs.Readings.{IsFirstFault, ReadsText};
 
-use graph_core::{FaultKind, TextFault};
+use crate::faults::{FaultKind, TextFault};
 use line_text::{LineFault, LineFormat, read};
 use std::alloc::Global;
 

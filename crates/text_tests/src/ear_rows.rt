@@ -1,7 +1,7 @@
 //! Texts of ear lists.
 
 use crate::formats::Row;
-use graph_core::FaultKind;
+use text_faults::FaultKind;
 
 /// Ear lists for 2 vertices and 1 edge.
 pub const EARS_OF_2: [Row; 1] = [("r mcg 2 1\nstart 1", Ok("r mcg 2 1\nstart 1\n"))];

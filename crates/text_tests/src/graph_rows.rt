@@ -1,9 +1,9 @@
 //! Texts of graphs in both versions, and the plain names.
 
 use crate::formats::Row;
-use graph_core::FaultKind;
 use graph_text::{Names, plain_names};
 use std::test::Fail;
+use text_faults::FaultKind;
 
 /// The graph format in version 1.
 pub const VERSION_ONE: [Row; 15] = [

@@ -1,11 +1,11 @@
 //! Lists that are told line by line: the output and the ending of each, in pieces of every small size, with a read that fails, and
 //! with too little room for the output.
 
-use graph_core::FaultKind;
 use list_reader::{Ending, LineTeller, Told, tell_all};
 use outside::{MemSink, MemSource};
 use std::alloc::{AllocError as Memory, Global};
 use std::test::Fail;
+use text_faults::FaultKind;
 
 // Tells a line by its number and the line itself, and calls one bad that holds a `!`.
 struct Copyist;

@@ -3,7 +3,7 @@ use Rattle.std.proofs.Common.{◌≡◌, ◌<◌, ◌+◌, ℕ, Bool, true, fals
 use Rattle.std.specs.Prelude.{if◌then◌else◌}
 use Rattle.std.proofs.lemmas.Bool.Decides.{nat_tests}
 use Rattle.line_text.specs.Format.{checked}
-use Rattle.graph_core.specs.declared.faults.FaultKind.TheVariants as kind
+use Rattle.text_faults.specs.declared.faults.FaultKind.TheVariants as kind
 use Rattle.tree_text.specs.Places.{Place}
 use Rattle.tree_text.specs.TreeFormat.{TreeSoFar, is_leaf_line, is_node_line, most_nodes, node_line, shore_tests, shore_told, with_node}
 

@@ -11,8 +11,8 @@ use Rattle.line_text.specs.Format.{Begins, Stands, finish}
 use Rattle.line_text.specs.Words.{has_form, word_at}
 use Rattle.line_text.specs.Numerals.{is_number, value_of}
 use Rattle.line_text.proofs.Tables.{all_passed, no_value, value_or}
-use Rattle.graph_core.specs.declared.faults.FaultKind.{FaultKind}
-use Rattle.graph_core.specs.declared.faults.FaultKind.TheVariants as kind
+use Rattle.text_faults.specs.declared.faults.FaultKind.{FaultKind}
+use Rattle.text_faults.specs.declared.faults.FaultKind.TheVariants as kind
 use Rattle.tree_core.specs.Shapes.{Shape, leaf, cut, Fits, node_count}
 use Rattle.tree_core.proofs.Shores.{below-without_greatest}
 use Rattle.tree_text.specs.Places.{Place, root, in_kept, in_merged, Reading, wanted, whole, put}

@@ -4,14 +4,14 @@ ghost use Rattle.line_text.specs.Reading.{Gives};
 ghost use Rattle.line_text.specs.Format.{Stands, FirstFault};
 ghost use Rattle.line_text.specs.Words.{texts_of};
 ghost use Rattle.text_faults.specs.Readings.{IsFirstFault, ReadsText};
-ghost use Rattle.graph_core.specs.declared.faults.FaultKind.{FaultKind};
+ghost use Rattle.text_faults.specs.declared.faults.FaultKind.{FaultKind};
 ghost use Rattle.tree_text.specs.PickFormat.{PicksSoFar, pick_header, pick_line, pick_end, pick_format};
 ghost use Rattle.tree_text.specs.SoFar.{picks_so_far};
 
-use graph_core::{FaultKind, Numbers, TextFault};
+use graph_core::Numbers;
 use line_text::{LineFormat, Refusal, has_form, number, word};
 use std::alloc::Global;
-use text_faults::read_text;
+use text_faults::{FaultKind, TextFault, read_text};
 
 const MOST_PICKS: u32 = 127;
 

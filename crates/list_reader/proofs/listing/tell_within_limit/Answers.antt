@@ -1,6 +1,6 @@
 use Rattle.std.proofs.Common.{◌≡◌, ◌++◌, ◌<◌, length, rules, arith}
-use Rattle.graph_core.specs.Kinds.{kind_number}
-use Rattle.graph_core.specs.declared.faults.FaultKind.TheVariants.{Limit}
+use Rattle.text_faults.specs.Kinds.{kind_number}
+use Rattle.text_faults.specs.declared.faults.FaultKind.TheVariants.{Limit}
 use Rattle.list_reader.specs.Lines.{HasNoFeed}
 use Rattle.list_reader.specs.Told.{most_line, fault_line}
 use Rattle.list_reader.specs.Endings.{Added, ToldThrough}

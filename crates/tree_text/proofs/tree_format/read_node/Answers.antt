@@ -1,7 +1,7 @@
 use Rattle.std.proofs.Common.{◌≡◌, ◌+◌, ◌∙◌, true, Bool, List, ℕ, Result, Ok, subst, sym, ap, ap₂, arith, rules}
 use Rattle.line_text.specs.Reading.{Refuses}
 use Rattle.line_text.specs.Words.{texts_of}
-use Rattle.graph_core.specs.declared.faults.FaultKind.{FaultKind}
+use Rattle.text_faults.specs.declared.faults.FaultKind.{FaultKind}
 use Rattle.tree_text.specs.Places.{Reading}
 use Rattle.tree_text.specs.SoFar.{place_of}
 use Rattle.tree_text.specs.TreeFormat.{TreeSoFar, is_node_line, with_node}

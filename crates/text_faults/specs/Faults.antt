@@ -1,8 +1,8 @@
 -- What a fault that a reader answers says of the text.
 use Rattle.std.specs.Prelude.{◌≡◌, ℕ, Result, Err}
-use Rattle.graph_core.specs.declared.faults.FaultKind.{FaultKind}
-use Rattle.graph_core.specs.declared.faults.TextFault.{TextFault}
-use Rattle.graph_core.specs.declared.faults.TextFault.TheVariants.{At, Memory}
+use Rattle.text_faults.specs.declared.faults.FaultKind.{FaultKind}
+use Rattle.text_faults.specs.declared.faults.TextFault.{TextFault}
+use Rattle.text_faults.specs.declared.faults.TextFault.TheVariants.{At, Memory}
 
 -- a fault is the one that the text has by its outcome, unless memory ran out
 abbrev pub IsFault : {Value : Type 0} → TextFault → Result Value (ℕ × FaultKind) → Type 0
