@@ -27,5 +27,5 @@ mod verdict;
 pub use edges::{allowed, allowed_in, is_allowed_in};
 pub use pairs::{PairTable, together, together_beside};
 pub use questions::{perfect_with_edge, perfect_with_pair};
-pub use sharing::{is_in_cut, share_end};
+pub use sharing::share_end;
 pub use verdict::{covered, covered_in};

@@ -6,7 +6,7 @@ ghost use Rattle.counting.specs.Lists.{mem};
 ghost use Rattle.graph_core.specs.Graph.{in_cut, size};
 ghost use Rattle.allowed_edges.specs.Leaving.{share_end};
 
-use graph_core::MultiGraph;
+use graph_core::{MultiGraph, is_in_cut};
 use vset_core::VSet;
 
 /// Whether two edges share an end; two that do, and differ, lie in no matching together. Takes no memory.
@@ -18,18 +18,6 @@ pub fn share_end(g: &MultiGraph, e: u32, f: u32) -> bool
     let a = g.ends(e);
     let b = g.ends(f);
     a.a == b.a || a.a == b.b || a.b == b.a || a.b == b.b
-}
-
-/// Whether an edge is in the cut of a shore. Takes no memory.
-pub fn is_in_cut(g: &MultiGraph, shore: VSet, e: u32) -> bool
-    requires { Within (size g.now) e }
-    ensures { result ≡ in_cut g.now (mem shore) e }
-{
-    g.keeps_limits();
-    let ends = g.ends(e);
-    let first = shore.contains(ends.a);
-    let second = shore.contains(ends.b);
-    (first && !second) || (!first && second)
 }
 
 /// Whether both edges are in the cut of one of these shores. Takes no memory.

@@ -6,7 +6,8 @@ use Rattle.barrier_kit.proofs.BarrierCuts.{leader_of, leads_out, part_out, part_
 use Rattle.barrier_kit.proofs.Barriers.{equivalent_barrier}
 use Rattle.barrier_kit.proofs.ClassLaw.{perfect_or_not, class_exists, class_barrier}
 use Rattle.barrier_kit.proofs.Matched.{even_order}
-use Rattle.barrier_kit.specs.BarrierCuts.{BarrierCut, IsSide}
+use Rattle.barrier_kit.specs.BarrierCuts.{BarrierCut}
+use Rattle.graph_core.specs.Sides.{IsSide}
 use Rattle.counting.proofs.Counts.{only_one}
 use Rattle.counting.proofs.Members.{member_count, two_members, two_of}
 use Rattle.counting.proofs.Odd.{odd_three}

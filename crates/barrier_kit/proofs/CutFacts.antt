@@ -15,7 +15,7 @@ use Rattle.counting.proofs.Booleans.{apart_denied, not_not}
 use Rattle.graph_core.proofs.SameSets.{nontrivial-same, tight-same}
 use Rattle.graph_core.specs.Graph.{Graph, IsGraph, first_end, second_end, size}
 use Rattle.graph_core.specs.Tight.{IsNontrivial, IsTight, canonical_shore, is_nontrivial}
-use Rattle.barrier_kit.specs.CanonicalCuts.{IsCanonicalCut, canonical_list, cuts_of, is_listed, with_cut}
+use Rattle.graph_core.specs.CanonicalCuts.{IsCanonicalCut, canonical_list, cuts_of, is_listed, with_cut}
 
 -- a step keeps what is in the list
 step-length : (n : ℕ) (cuts : List (List ℕ)) (s : List ℕ) → length cuts ≤ length (with_cut n cuts s)

@@ -10,7 +10,7 @@ use Rattle.graph_core.specs.Graph.{Graph}
 use Rattle.graph_core.specs.Structure.{classes}
 use Rattle.barrier_kit.proofs.CutLists.{barrier_cuts-all}
 use Rattle.barrier_kit.specs.BarrierShores.{barrier_cuts, barrier_shores}
-use Rattle.barrier_kit.specs.CanonicalCuts.{canonical_list, with_cut}
+use Rattle.graph_core.specs.CanonicalCuts.{canonical_list, with_cut}
 
 first-append : (cuts : List (List ℕ)) (d c : List ℕ) → slice_get cuts 0 ≡ Some c → slice_get (cuts ++ d ∷ []) 0 ≡ Some c
 first-append [] d c h = absurd cc

@@ -19,9 +19,10 @@ use Rattle.graph_core.specs.Graph.{Graph, HasNoLoop, IsGraph}
 use Rattle.graph_core.specs.Structure.{IsBicritical, IsClass, classes, is_equivalent, is_least_of_class}
 use Rattle.graph_core.specs.Tight.{IsNontrivial, IsTight, canonical_shore, is_nontrivial}
 use Rattle.graph_core.specs.Walks.{joined}
-use Rattle.barrier_kit.specs.BarrierCuts.{BarrierCut, IsSide, WideClass}
+use Rattle.barrier_kit.specs.BarrierCuts.{BarrierCut, WideClass}
+use Rattle.graph_core.specs.Sides.{IsSide}
 use Rattle.barrier_kit.specs.BarrierShores.{barrier_cuts, barrier_shores}
-use Rattle.barrier_kit.specs.CanonicalCuts.{IsCanonicalCut}
+use Rattle.graph_core.specs.CanonicalCuts.{IsCanonicalCut}
 use Rattle.barrier_kit.proofs.AllOf.{all_flat, all_rising, flat_all, map_all, rising_all}
 use Rattle.barrier_kit.proofs.BarrierCuts.{leader_of, leads_out, none_inside, part_same, part_tight}
 use Rattle.barrier_kit.proofs.ClassLaw.{class_barrier, equivalent_on}

@@ -1,8 +1,8 @@
 -- Cuts that barriers give (Lovász and Plummer, "Matching Theory", chapter 5; Edmonds, Lovász and Pulleyblank 1982).
-use Rattle.std.specs.Prelude.{◌≡◌, ◌≢◌, ◌≤◌, ℕ, true, false}
+use Rattle.std.specs.Prelude.{◌≡◌, ◌≤◌, ℕ, false}
 use Rattle.counting.specs.Counts.{Within, count}
 use Rattle.counting.specs.Sets.{Set}
-use Rattle.graph_core.specs.Graph.{Graph, size, first_end, second_end, in_cut, inside}
+use Rattle.graph_core.specs.Graph.{Graph, size, inside}
 use Rattle.graph_core.specs.Structure.{IsClass}
 use Rattle.graph_core.specs.Walks.{joined}
 use Rattle.graph_core.specs.Tight.{IsTight, IsNontrivial}
@@ -14,10 +14,6 @@ pub record BarrierCut (g : Graph) (s : Set) : Type 0 where
   pub outside : s vertex ≡ false
   pub tight : IsTight g (joined g s vertex)
   pub nontrivial : IsNontrivial g.order (joined g s vertex)
-
--- x is one side of g: each edge that is no loop has one end in x
-abbrev pub IsSide : Graph → Set → Type 0
-IsSide g x = (e : ℕ) → Within (size g) e → first_end g e ≢ second_end g e → in_cut g x e ≡ true
 
 -- a class with at least two vertices that no edge joins, and without it a component with at least three
 pub record WideClass (g : Graph) : Type 0 where

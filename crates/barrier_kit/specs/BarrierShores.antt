@@ -4,7 +4,7 @@ use Rattle.counting.specs.Lists.{mem}
 use Rattle.graph_core.specs.Graph.{Graph}
 use Rattle.graph_core.specs.Components.{components}
 use Rattle.graph_core.specs.Structure.{classes}
-use Rattle.barrier_kit.specs.CanonicalCuts.{cuts_of}
+use Rattle.graph_core.specs.CanonicalCuts.{cuts_of}
 
 -- for each class by least vertex, each component of the graph without it by least vertex
 unfoldable pub barrier_shores : Graph → List (List ℕ)

@@ -1,4 +1,3 @@
 pub mod Choices
 pub mod BarrierCuts
-pub mod CanonicalCuts
 pub mod BarrierShores

@@ -11,7 +11,7 @@ ghost use Rattle.graph_core.specs.Tight.{IsTight};
 ghost use Rattle.graph_core.specs.Structure.{Equivalent, IsBarrier, IsBicritical, IsClass};
 ghost use Rattle.barrier_kit.specs.BarrierCuts.{WideClass};
 ghost use Rattle.barrier_kit.specs.BarrierShores.{barrier_cuts, barrier_shores};
-ghost use Rattle.barrier_kit.specs.CanonicalCuts.{IsCanonicalCut};
+ghost use Rattle.graph_core.specs.CanonicalCuts.{IsCanonicalCut};
 
 /// The relation "equal, or without the two there is no perfect matching" is an equivalence in a covered graph, and it is
 /// decided (Kotzig; Lovász and Plummer, "Matching Theory", chapter 5).

@@ -7,8 +7,8 @@
 //!
 //! The laws: the classes are the greatest barriers (`equivalence_law`, `class_law`), what a barrier leaves has tight cuts
 //! (`barrier_law`, `barrier_cuts_law`), and a graph that is neither bicritical nor bipartite has such a cut
-//! (`wide_class_law`). `add_cut` serves the other finders of cuts. `classes_in`, `barrier_cuts_in` and
-//! `first_barrier_cut_in`, which stops at the first, take a table of partners that is at hand.
+//! (`wide_class_law`). `classes_in`, `barrier_cuts_in` and `first_barrier_cut_in`, which stops at the first, take a table of
+//! partners that is at hand.
 //!
 //! Stands on `match_core`. Source: Lovász and Plummer, "Matching Theory", chapters 3 and 5; Edmonds, Lovász and
 //! Pulleyblank 1982.
@@ -22,7 +22,4 @@ mod shores;
 pub use barrier::is_barrier;
 pub use canonical_partition::{classes, classes_in};
 pub use laws::{barrier_cuts_law, barrier_law, class_law, equivalence_law, wide_class_law};
-pub use shores::{
-    add_cut, add_cuts, barrier_cuts, barrier_cuts_in, canonical_shore, first_barrier_cut_in,
-    is_nontrivial,
-};
+pub use shores::{barrier_cuts, barrier_cuts_in, first_barrier_cut_in};

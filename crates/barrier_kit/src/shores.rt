@@ -1,78 +1,18 @@
-//! Lists of cuts by their canonical shores, and the cuts that the classes give.
-ghost use Rattle.std.specs.Prelude.{◌≡◌, ◌≤◌, fold, slice_get, IfOk, OnOk, OnErr};
-ghost use Rattle.counting.specs.Counts.{Within};
-ghost use Rattle.counting.specs.Lists.{mem, IsRisingIn};
+//! The cuts that the classes of a graph give.
+ghost use Rattle.std.specs.Prelude.{◌≡◌, fold, slice_get, IfOk, OnOk};
+ghost use Rattle.counting.specs.Lists.{mem};
 ghost use Rattle.counting.specs.Sets.{none};
+ghost use Rattle.graph_core.specs.CanonicalCuts.{with_cut};
 ghost use Rattle.graph_core.specs.Components.{components};
 ghost use Rattle.graph_core.specs.Covered.{IsCovered};
-ghost use Rattle.graph_core.specs.Tight.{is_nontrivial};
 ghost use Rattle.match_core.specs.Partners.{ArePartners};
 ghost use Rattle.barrier_kit.specs.BarrierShores.{barrier_cuts};
-ghost use Rattle.barrier_kit.specs.CanonicalCuts.{canonical_list, is_listed, with_cut};
 
 use crate::canonical_partition::classes_in;
-use graph_core::{MultiGraph, SetList};
+use graph_core::{MultiGraph, SetList, add_cuts};
 use match_core::{PartnerTable, all_partners};
 use std::alloc::{AllocError as Memory, Global};
-use vset_core::{MOST_VERTICES, VSet};
-
-/// The canonical shore of the cut of `shore`, a set of the vertices 1 to `n`: the one without the vertex `n`.
-pub fn canonical_shore(n: u32, shore: VSet) -> VSet
-    requires { Within MOST_VERTICES n }
-    ensures { result ≡ canonical_list n shore }
-{
-    let all = VSet::full(n);
-    let shore = if shore.contains(n) {
-        all.minus(shore)
-    } else {
-        all.meet(shore)
-    };
-    shore.rises();
-    shore
-}
-
-/// Whether the cut of `shore` is nontrivial: at least three of the vertices 1 to `n` are inside, and at least three outside.
-pub fn is_nontrivial(n: u32, shore: VSet) -> bool
-    requires vertices { n ≤ MOST_VERTICES }
-    requires set { IsRisingIn n shore }
-    ensures { result ≡ is_nontrivial n (mem shore) }
-{
-    let inside = shore.len();
-    inside >= 3 && n - inside >= 3
-}
-
-// Whether the shore is in the list.
-fn holds(cuts: &[VSet], shore: VSet) -> bool
-    ensures { result ≡ is_listed cuts.now shore }
-{
-    cuts.iter()
-        .any(|cut| shore.is_subset(*cut) && cut.is_subset(shore))
-}
-
-/// Appends the cut of `shore` by its canonical shore, the one without the greatest vertex `n`. It is left out where a side has
-/// fewer than three vertices or the cut is in the list. After `Memory` the list is unchanged.
-pub fn add_cut(cuts: &mut SetList, n: u32, shore: VSet) -> Result<(), Memory>
-    requires { Within MOST_VERTICES n }
-    ensures ok { OnOk result (cuts.new ≡ with_cut n cuts.old shore) }
-    ensures err { OnErr result (cuts.new ≡ cuts.old) }
-{
-    let shore = canonical_shore(n, shore);
-    if is_nontrivial(n, shore) && !holds(cuts.as_slice(), shore) {
-        cuts.push(shore)?;
-    }
-    Ok(())
-}
-
-/// Appends the cuts of all the shores in order, as `add_cut` does.
-pub fn add_cuts(cuts: &mut SetList, n: u32, shores: &SetList) -> Result<(), Memory>
-    requires { Within MOST_VERTICES n }
-    ensures { OnOk result (cuts.new ≡ fold (with_cut n) cuts.old shores.now) }
-{
-    for shore in shores.as_slice() {
-        add_cut(cuts, n, *shore)?;
-    }
-    Ok(())
-}
+use vset_core::VSet;
 
 // Appends the cuts that a class gives.
 fn add_class_cuts(

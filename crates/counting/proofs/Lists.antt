@@ -1,15 +1,16 @@
 -- Rising lists as sets: a rising list of numbers 1 to n has as many items as its test counts, and is fixed by its test.
 -- By induction on the list, with the least number that may still come.
-use Rattle.std.proofs.Common.{◌≡◌, ℕ, ◌+◌, ◌≤◌, ◌<◌, Bool, true, false, ◌==◌, ◌||◌, ◌&&◌, List, [], ◌∷◌, length, refl, sym, ap, ap₂, ◌∙◌, arith, ◌⊎◌, inl, inr, eq-eqb, ne_eqb, cond, subst, true≢false, suc, zero, ◌*◌, ◌++◌, eqb-true, sum_by, filter}
+use Rattle.std.proofs.Common.{◌≡◌, ℕ, ◌+◌, ◌≤◌, ◌<◌, Bool, true, false, ◌==◌, ◌||◌, ◌&&◌, List, [], ◌∷◌, length, refl, sym, ap, ap₂, ◌∙◌, arith, ◌⊎◌, inl, inr, eq-eqb, ne_eqb, cond, subst, true≢false, suc, zero, ◌*◌, ◌++◌, eqb-true, sum_by, filter, take, get_or}
 use Rattle.std.specs.Prelude.{slice_index, slice_index_or, All}
 use Rattle.std.specs.List.Sorted.{IsStrictlyIncreasing}
 use Rattle.std.proofs.lemmas.Bool.{cases_eq, cases_order, both_ways, cases_lt, or_cases, or_right, or_left, cases_Bool}
+use Rattle.std.proofs.lemmas.List.{take_more}
 use Rattle.std.proofs.lemmas.List.Sums.{sum_by-cons}
 use Rattle.counting.proofs.Totals.{total_add, total_at, total_congr, total_none, total_zero}
 use Rattle.counting.specs.Counts.{Within, bit, count, total}
 use Rattle.counting.specs.Lists.{IsRisingIn, mem, rising_list, times}
 use Rattle.counting.specs.Sets.{Set}
-use Rattle.counting.proofs.Booleans.{and_false}
+use Rattle.counting.proofs.Booleans.{and_false, or_false}
 
 -- rising numbers from low to n
 abbrev pub Rises : ℕ → ℕ → List ℕ → Type 0
@@ -117,6 +118,10 @@ mem-append (x ∷ xs) ys v = ap (λ b. (x == v) || b) (mem-append xs ys v) ∙ p
     parted : (a b c : Bool) → (a || (b || c)) ≡ ((a || b) || c)
     parted true b c = refl
     parted false b c = refl
+
+-- the first items of a list, and one more of them
+pub mem-more : (xs : List ℕ) (k v : ℕ) → k < length xs → mem (take (k + 1) xs) v ≡ (mem (take k xs) v || (get_or xs k 0 == v))
+mem-more xs k v l = ap (λ ys. mem ys v) (take_more xs k 0 l) ∙ mem-append (take k xs) (get_or xs k 0 ∷ []) v ∙ ap (λ b. mem (take k xs) v || b) (or_false (get_or xs k 0 == v))
 
 -- a rising list holds what passes, and nothing else
 pub rising_holds : (n : ℕ) (x : Set) (v : ℕ) → Within n v → x v ≡ true → mem (rising_list n x) v ≡ true

@@ -34,3 +34,4 @@ pub mod Rows
 pub mod Perfect
 pub mod SingleBlocks
 pub mod ShoreLists
+pub mod CutLists

@@ -13,6 +13,7 @@ pub mod Covered
 pub mod Verdicts
 pub mod PairLists
 pub mod Tight
+pub mod CanonicalCuts
 pub mod Partitions
 pub mod Quotients
 pub mod Shores

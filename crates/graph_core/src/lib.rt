@@ -1,7 +1,8 @@
 //! Finite undirected multigraphs without loops, and the definitions of the whole theory of their matchings.
 //!
 //! `MultiGraph` keeps up to 128 vertices and 2,048 edges, both numbered from 1, and answers by the definitions: `components_without`,
-//! `two_sides`, `adjacent`, `simple`, and `rows`, the sets of neighbours, which it keeps and on which its searches stand.
+//! `two_sides`, `adjacent`, `simple`, and `rows`, the sets of neighbours, which it keeps and on which its searches stand. `side_of`
+//! answers one side as a set; `is_in_cut`, `canonical_shore` and `add_cut` are for cuts by their shores and lists of them.
 //! Contracts see it as a plain `Graph` (specs/Graph, specs/View).
 //!
 //! The definitions, in specs/: matchings and perfect matchings of a graph without a vertex set (`Matchings`), walks and components
@@ -16,6 +17,7 @@
 //! lattice" (1987); Lucchesi and Murty, "Perfect Matchings".
 #![tactic(auto)]
 
+mod cuts;
 mod ends;
 mod faults;
 mod graph;
@@ -28,10 +30,11 @@ mod simple;
 mod tree;
 mod verdict;
 
+pub use cuts::{add_cut, add_cuts, canonical_shore, is_in_cut, is_nontrivial};
 pub use ends::Ends;
 pub use faults::AddFault;
 pub use graph::{MOST_EDGES, MultiGraph};
 pub use lists::{Numbers, SetList};
-pub use sides::Sides;
+pub use sides::{Sides, side_of};
 pub use text_faults::{FaultKind, TextFault};
 pub use verdict::{Kind, Reason, Verdict};

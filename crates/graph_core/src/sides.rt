@@ -1,17 +1,18 @@
 //! The two sides of a bipartite graph, or an odd closed walk.
-ghost use Rattle.std.specs.Prelude.{◌≡◌, ◌≤◌, ◌++◌, ◌∷◌, ◌↔◌, not, All, Contains, IfOk, IfSome, IfNone, length};
+ghost use Rattle.std.specs.Prelude.{◌≡◌, ◌≤◌, ◌++◌, ◌∷◌, ◌↔◌, not, All, Contains, IfOk, IfSome, IfNone, Some, None, length};
 ghost use Rattle.counting.specs.Counts.{Within, is_odd};
+ghost use Rattle.counting.specs.Lists.{mem};
 ghost use Rattle.counting.specs.Sets.{none};
 ghost use Rattle.graph_core.specs.Graph.{IsBipartite, IsGraph};
 ghost use Rattle.graph_core.specs.Nodes.{parent_at, depth_at, AreTrees, IsRooted};
-ghost use Rattle.graph_core.specs.Sides.{AreSides, IsEven};
+ghost use Rattle.graph_core.specs.Sides.{AreSides, IsEven, IsSide};
 ghost use Rattle.graph_core.specs.Trees.{way_up, way_down};
 ghost use Rattle.graph_core.specs.View.{graph_of};
 
 use crate::tree::{TreeNode, climb, descend, even_vertices};
-use crate::{Ends, Numbers};
+use crate::{Ends, MultiGraph, Numbers};
 use std::alloc::{AllocError as Memory, Global};
-use vset_core::MOST_VERTICES;
+use vset_core::{MOST_VERTICES, VSet};
 
 /// Whether a graph is bipartite, with what shows it.
 #[derive(Drop)]
@@ -76,5 +77,29 @@ pub(crate) fn sides_by_depth(
         None => Ok(Sides::Even {
             left: even_vertices(alloc, nodes)?,
         }),
+    }
+}
+
+// The set of the numbers.
+fn set_of(numbers: &[u32]) -> VSet
+    requires { All (Within MOST_VERTICES) numbers.now }
+    ensures { (v : _) → mem result v ≡ mem numbers.now v }
+{
+    let mut set = VSet::empty();
+    for v in numbers {
+        set = set.with(*v);
+    }
+    set
+}
+
+/// One side of a bipartite graph; `None` exactly where the graph is not bipartite.
+pub fn side_of(alloc: Global, g: &MultiGraph) -> Result<Option<VSet>, Memory>
+    ensures some { IfOk result (λ o. (side : _) → o ≡ Some side → IsSide g.now (mem side)) }
+    ensures none { IfOk result (λ o. (o ≡ None) ↔ ¬ (IsBipartite g.now)) }
+{
+    g.keeps_limits();
+    match g.two_sides(alloc)? {
+        Sides::Even { left } => Ok(Some(set_of(left.as_slice()))),
+        Sides::Odd { .. } => Ok(None),
     }
 }

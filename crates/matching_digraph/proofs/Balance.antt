@@ -3,7 +3,7 @@
 use Rattle.std.proofs.Common.{◌≡◌, ℕ, ◌+◌, Bool, true, false, refl, sym, ap, arith, ◌&&◌, ◌||◌, not, inl, inr}
 use Rattle.std.proofs.lemmas.Bool.{cases_eq, true≢false, and_parts}
 use Rattle.barrier_kit.proofs.Matched.{inner, loop_free}
-use Rattle.barrier_kit.specs.BarrierCuts.{IsSide}
+use Rattle.graph_core.specs.Sides.{IsSide}
 use Rattle.counting.proofs.Members.{count_zero}
 use Rattle.counting.proofs.Totals.{total_congr, total_add, total_none}
 use Rattle.counting.specs.Counts.{bit, count, Within}

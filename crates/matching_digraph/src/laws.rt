@@ -7,7 +7,7 @@ ghost use Rattle.graph_core.specs.Graph.{Graph, IsGraph};
 ghost use Rattle.graph_core.specs.Matchings.{IsPerfect};
 ghost use Rattle.graph_core.specs.Tight.{HasNoTightCut, IsTight};
 ghost use Rattle.graph_core.specs.Walks.{Walk};
-ghost use Rattle.barrier_kit.specs.BarrierCuts.{IsSide};
+ghost use Rattle.graph_core.specs.Sides.{IsSide};
 ghost use Rattle.matching_digraph.specs.Digraph.{NoArcLeaves, NoneParts, Spans, arc, are_mates, reached_past, step_past};
 
 /// The tight shores of a bipartite covered graph with the vertex a of the side and without its mate are exactly the vertex sets with

@@ -7,7 +7,7 @@
 //! digraph of each side, reach all (`Digraph::is_unparted`). A covered bipartite graph is a brace exactly where this holds at each edge of
 //! the matching (`parted_mates_law`).
 //!
-//! A flood goes over rows of words, a `VSet` for each vertex, and takes no memory. `side_of` answers a side as such a set.
+//! A flood goes over rows of words, a `VSet` for each vertex, and takes no memory.
 //!
 //! Stands on `match_core` and `barrier_kit`. Sources: Dulmage and Mendelsohn 1958; Lovász and Plummer, "Matching Theory", chapter 4;
 //! Lovász 1987 for tight cuts.
@@ -17,7 +17,5 @@ mod arcs;
 mod digraph;
 mod flood;
 pub mod laws;
-mod side;
 
 pub use digraph::Digraph;
-pub use side::side_of;

@@ -5,8 +5,7 @@ ghost use Rattle.counting.specs.Lists.{mem};
 ghost use Rattle.graph_core.specs.Graph.{in_cut, size};
 ghost use Rattle.own_order.specs.WidestCuts.{IsWidest};
 
-use allowed_edges::is_in_cut;
-use graph_core::MultiGraph;
+use graph_core::{MultiGraph, is_in_cut};
 use tight_cuts::Candidate;
 use vset_core::VSet;
 

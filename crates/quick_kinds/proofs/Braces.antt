@@ -1,7 +1,7 @@
 -- Which bipartite covered graphs are braces? The theorem on braces: there is no nontrivial tight cut exactly where a perfect matching
 -- is left without any two vertices of each side.
 use Rattle.std.proofs.Common.{inl, inr, ◌↔◌}
-use Rattle.barrier_kit.specs.BarrierCuts.{IsSide}
+use Rattle.graph_core.specs.Sides.{IsSide}
 use Rattle.counting.specs.Sets.{Set}
 use Rattle.quick_kinds.specs.Braces.{AreFoursMatched}
 use Rattle.graph_core.specs.Covered.{IsCovered}

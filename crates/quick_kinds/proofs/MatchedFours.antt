@@ -4,7 +4,7 @@
 use Rattle.std.proofs.Common.{◌≡◌, ℕ, suc, zero, ◌+◌, ◌*◌, ◌≤◌, ◌≢◌, Bool, true, false, ◌==◌, refl, sym, ap, ◌∙◌, arith, ◌&&◌, ◌||◌, not, ne_eqb, eqb-true}
 use Rattle.std.proofs.lemmas.Bool.{true≢false, and_parts, not-false, not-true}
 use Rattle.barrier_kit.proofs.Matched.{perfect_congr}
-use Rattle.barrier_kit.specs.BarrierCuts.{IsSide}
+use Rattle.graph_core.specs.Sides.{IsSide}
 use Rattle.counting.proofs.Counts.{count_congr}
 use Rattle.counting.proofs.Members.{count_minus, two_of}
 use Rattle.counting.proofs.SetSizes.{count_split}

@@ -6,7 +6,7 @@ use Rattle.barrier_kit.proofs.Families.{glue_family}
 use Rattle.barrier_kit.proofs.Hall.{hall, hits}
 use Rattle.barrier_kit.proofs.Joining.{cut_split}
 use Rattle.barrier_kit.proofs.Matched.{cut_matching, loop_free, perfect_congr}
-use Rattle.barrier_kit.specs.BarrierCuts.{IsSide}
+use Rattle.graph_core.specs.Sides.{IsSide}
 use Rattle.barrier_kit.specs.Choices.{neighbours, Picks}
 use Rattle.counting.proofs.Choice.{Respects, choose_set}
 use Rattle.counting.proofs.Counts.{count_congr}

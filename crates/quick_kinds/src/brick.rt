@@ -5,7 +5,7 @@ ghost use Rattle.graph_core.specs.Graph.{IsBipartite};
 ghost use Rattle.graph_core.specs.Structure.{IsBicritical, IsCutPair};
 ghost use Rattle.graph_core.specs.Tight.{HasNoTightCut};
 ghost use Rattle.barrier_kit.specs.BarrierShores.{barrier_cuts};
-ghost use Rattle.barrier_kit.specs.CanonicalCuts.{IsCanonicalCut};
+ghost use Rattle.graph_core.specs.CanonicalCuts.{IsCanonicalCut};
 ghost use Rattle.separation_kit.specs.SeparationShores.{separation_cuts};
 
 use barrier_kit::barrier_cuts;

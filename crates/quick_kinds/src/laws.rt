@@ -4,7 +4,7 @@ ghost use Rattle.counting.specs.Sets.{Set};
 ghost use Rattle.graph_core.specs.Covered.{IsCovered};
 ghost use Rattle.graph_core.specs.Graph.{Graph, IsGraph};
 ghost use Rattle.graph_core.specs.Tight.{HasNoTightCut};
-ghost use Rattle.barrier_kit.specs.BarrierCuts.{IsSide};
+ghost use Rattle.graph_core.specs.Sides.{IsSide};
 ghost use Rattle.quick_kinds.specs.Braces.{AreFoursMatched};
 
 /// The theorem on braces: a covered graph with the sides x and its complement has no nontrivial tight cut exactly where it

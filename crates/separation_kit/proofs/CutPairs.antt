@@ -2,7 +2,7 @@
 -- bicritical and has no cut pair. Each fact of a brick is the tight cut that there would be else.
 use Rattle.std.proofs.Common.{◌≡◌, ℕ, ◌≤◌, false, arith}
 use Rattle.barrier_kit.proofs.BarrierCuts.{leads_out}
-use Rattle.barrier_kit.specs.BarrierCuts.{IsSide}
+use Rattle.graph_core.specs.Sides.{IsSide}
 use Rattle.counting.proofs.Members.{count_member}
 use Rattle.counting.specs.Counts.{Within}
 use Rattle.counting.specs.Sets.{Set, pair_set, union, singleton}

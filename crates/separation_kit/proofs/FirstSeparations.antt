@@ -9,7 +9,7 @@ use Rattle.counting.specs.Sets.{pair_set}
 use Rattle.graph_core.specs.Components.{component_count}
 use Rattle.graph_core.specs.Graph.{Graph, IsGraph}
 use Rattle.graph_core.specs.Structure.{IsBicritical, IsCutPair, cut_pair}
-use Rattle.barrier_kit.specs.CanonicalCuts.{with_cut}
+use Rattle.graph_core.specs.CanonicalCuts.{with_cut}
 use Rattle.barrier_kit.proofs.AllOf.{pairs_rise}
 use Rattle.barrier_kit.proofs.FirstCuts.{first-of_part}
 use Rattle.separation_kit.specs.SeparationShores.{is_cut_pair, separation_cuts, separation_shores, shores_at_pair}

@@ -18,7 +18,7 @@ use Rattle.graph_core.specs.Graph.{Graph}
 use Rattle.graph_core.specs.Matchings.{has_perfect}
 use Rattle.graph_core.specs.Structure.{IsBicritical, is_bicritical, unlike_pair}
 use Rattle.graph_core.specs.Walks.{joined}
-use Rattle.barrier_kit.specs.CanonicalCuts.{with_cut}
+use Rattle.graph_core.specs.CanonicalCuts.{with_cut}
 use Rattle.barrier_kit.proofs.AllOf.{all_rising, pairs_rise, unfound_all}
 use Rattle.separation_kit.specs.Pairs.{pair_of}
 use Rattle.separation_kit.specs.SeparationShores.{is_cut_pair, separation_cuts, separation_shores, shores_at_pair}

@@ -18,7 +18,7 @@ use Rattle.graph_core.specs.Matchings.{HasPerfect, has_perfect}
 use Rattle.graph_core.specs.Structure.{IsBicritical, IsCutPair, cut_pair, is_bicritical, unlike_pair}
 use Rattle.graph_core.specs.Tight.{IsTight, canonical_shore, is_nontrivial}
 use Rattle.graph_core.specs.Walks.{joined}
-use Rattle.barrier_kit.specs.CanonicalCuts.{IsCanonicalCut, cuts_of}
+use Rattle.graph_core.specs.CanonicalCuts.{IsCanonicalCut, cuts_of}
 use Rattle.barrier_kit.proofs.AllOf.{all_flat, all_passing, all_rising, all_unfound, filter_all, flat_all, map_all, pairs_rise, rising_all, unfound_all}
 use Rattle.barrier_kit.proofs.BarrierCuts.{leads_out}
 use Rattle.barrier_kit.proofs.CutFacts.{cuts-canonical, cuts-none, cuts-some}

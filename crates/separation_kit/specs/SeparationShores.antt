@@ -5,7 +5,7 @@ use Rattle.counting.specs.Lists.{mem, rising_list, rising_pairs}
 use Rattle.graph_core.specs.Graph.{Graph}
 use Rattle.graph_core.specs.Components.{component_count, components}
 use Rattle.graph_core.specs.Structure.{is_bicritical}
-use Rattle.barrier_kit.specs.CanonicalCuts.{cuts_of}
+use Rattle.graph_core.specs.CanonicalCuts.{cuts_of}
 
 -- without the two vertices at least two components are left
 abbrev pub is_cut_pair : Graph → ℕ × ℕ → Bool

@@ -9,7 +9,7 @@ ghost use Rattle.graph_core.specs.Matchings.{HasPerfect};
 ghost use Rattle.graph_core.specs.Structure.{IsBicritical, IsCutPair, cut_pair, unlike_pair};
 ghost use Rattle.graph_core.specs.Tight.{HasNoTightCut, IsNontrivial, IsTight};
 ghost use Rattle.graph_core.specs.Walks.{joined};
-ghost use Rattle.barrier_kit.specs.CanonicalCuts.{IsCanonicalCut};
+ghost use Rattle.graph_core.specs.CanonicalCuts.{IsCanonicalCut};
 ghost use Rattle.separation_kit.specs.SeparationShores.{separation_cuts, separation_shores};
 
 /// There is no first pair exactly where there is none: a graph is bicritical where none is unlike, and no two vertices

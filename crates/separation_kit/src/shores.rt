@@ -6,15 +6,14 @@ ghost use Rattle.counting.specs.Sets.{singleton, union};
 ghost use Rattle.counting.specs.Lists.{mem, rising_list, IsRisingIn};
 ghost use Rattle.graph_core.specs.Covered.{IsCovered};
 ghost use Rattle.graph_core.specs.Structure.{IsBicritical, cut_pair};
-ghost use Rattle.barrier_kit.specs.CanonicalCuts.{with_cut};
+ghost use Rattle.graph_core.specs.CanonicalCuts.{with_cut};
 ghost use Rattle.separation_kit.specs.Pairs.{pair_of};
 ghost use Rattle.separation_kit.specs.SeparationShores.{separation_cuts, shores_at_pair};
 
 use crate::critical::{is_cut_pair, parts_without};
 use crate::dominators::suspects;
 use crate::pair::{Pair, all_pairs};
-use barrier_kit::add_cut;
-use graph_core::{MultiGraph, SetList};
+use graph_core::{MultiGraph, SetList, add_cut};
 use std::alloc::{AllocError as Memory, Global};
 use vset_core::{MOST_VERTICES, VSet};
 

@@ -4,8 +4,8 @@ use Rattle.std.proofs.Common.{◌≡◌, ℕ, ◌-◌, Bool, true, false, refl, 
 use Rattle.std.specs.Prelude.{if◌then◌else◌, fold}
 use Rattle.std.specs.List.{list_any}
 use Rattle.std.proofs.lemmas.Bool.{true≢false}
-use Rattle.barrier_kit.proofs.CutLists.{canonical-nontrivial}
-use Rattle.barrier_kit.specs.CanonicalCuts.{canonical_list, is_listed, with_cut}
+use Rattle.graph_core.proofs.CutLists.{canonical-nontrivial}
+use Rattle.graph_core.specs.CanonicalCuts.{canonical_list, is_listed, with_cut}
 use Rattle.counting.proofs.Counts.{count_congr, count_complement}
 use Rattle.counting.proofs.Lists.{count_mem_length}
 use Rattle.counting.proofs.RisingLists.{mem-rising_list}

@@ -7,7 +7,7 @@ use Rattle.std.specs.Option.{option_map}
 use Rattle.std.proofs.lemmas.Bool.{true≢false, lt-leb, and_right}
 use Rattle.std.proofs.lemmas.List.Elements.{All-head}
 use Rattle.barrier_kit.specs.BarrierShores.{barrier_cuts, barrier_shores}
-use Rattle.barrier_kit.specs.CanonicalCuts.{IsCanonicalCut, is_listed, with_cut}
+use Rattle.graph_core.specs.CanonicalCuts.{IsCanonicalCut, is_listed, with_cut}
 use Rattle.counting.proofs.Counts.{count_congr}
 use Rattle.counting.proofs.RisingLists.{rising_list-congr}
 use Rattle.counting.specs.Counts.{count, Within}

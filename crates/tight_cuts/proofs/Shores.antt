@@ -8,7 +8,7 @@ use Rattle.std.proofs.lemmas.List.Quantifiers.{all_pairs_push}
 use Rattle.std.specs.List.{AllPairs, list_any}
 use Rattle.std.specs.Prelude.{All, if◌then◌else◌}
 use Rattle.barrier_kit.proofs.CutFacts.{canonical-tight, canonical-wide, nontrivial-true, true-nontrivial, canonical-out}
-use Rattle.barrier_kit.specs.CanonicalCuts.{is_listed}
+use Rattle.graph_core.specs.CanonicalCuts.{is_listed}
 use Rattle.counting.proofs.Counts.{count_congr}
 use Rattle.counting.proofs.Lists.{rising_only}
 use Rattle.counting.proofs.RisingLists.{mem-rising_list, rising_list-rises, true_all_in, all_in_true}

@@ -9,7 +9,7 @@ use Rattle.counting.specs.Tests.{each_set, some_set}
 use Rattle.counting.specs.Lists.{mem, rising_list, ordered_pairs, IsRisingIn}
 use Rattle.graph_core.specs.Graph.{Graph, size, first_end, second_end, in_cut}
 use Rattle.graph_core.specs.Tight.{IsTight, IsNontrivial, is_tight, is_nontrivial, canonical_shore}
-use Rattle.barrier_kit.specs.CanonicalCuts.{is_listed}
+use Rattle.graph_core.specs.CanonicalCuts.{is_listed}
 use Rattle.barrier_kit.specs.BarrierShores.{barrier_shores}
 use Rattle.separation_kit.specs.SeparationShores.{separation_shores}
 

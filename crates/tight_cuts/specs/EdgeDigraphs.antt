@@ -1,7 +1,7 @@
 -- What the search in a bipartite graph stands on: a side and a perfect matching, and at an edge the digraph of a perfect matching
 -- that holds it, with the side of its lesser end.
 use Rattle.std.specs.Prelude.{◌≡◌, ℕ, List, true}
-use Rattle.barrier_kit.specs.BarrierCuts.{IsSide}
+use Rattle.graph_core.specs.Sides.{IsSide}
 use Rattle.counting.specs.Lists.{mem}
 use Rattle.counting.specs.Sets.{none}
 use Rattle.graph_core.specs.Graph.{Graph}

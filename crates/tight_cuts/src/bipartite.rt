@@ -4,7 +4,7 @@ ghost use Rattle.counting.specs.Counts.{Within};
 ghost use Rattle.counting.specs.Lists.{mem};
 ghost use Rattle.graph_core.specs.Covered.{IsCovered};
 ghost use Rattle.graph_core.specs.Graph.{size};
-ghost use Rattle.barrier_kit.specs.BarrierCuts.{IsSide};
+ghost use Rattle.graph_core.specs.Sides.{IsSide};
 ghost use Rattle.tight_cuts.specs.EdgeDigraphs.{AreFloodsOf, IsDigraphAt};
 ghost use Rattle.tight_cuts.specs.EdgeSearch.{IsShoreOfEdge, NoneBefore};
 

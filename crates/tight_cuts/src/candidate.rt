@@ -4,13 +4,11 @@ ghost use Rattle.std.specs.List.{list_any};
 ghost use Rattle.counting.specs.Counts.{Within};
 ghost use Rattle.counting.specs.Lists.{mem, is_subset, IsRisingIn};
 ghost use Rattle.graph_core.specs.Graph.{in_cut, size};
-ghost use Rattle.barrier_kit.specs.CanonicalCuts.{is_listed};
+ghost use Rattle.graph_core.specs.CanonicalCuts.{is_listed};
 ghost use Rattle.tight_cuts.specs.Candidates.{candidate_at, cuts, shores_of, with_list};
 ghost use Rattle.tight_cuts.specs.View.{candidate_of, origin_of};
 
-use allowed_edges::is_in_cut;
-use barrier_kit::{canonical_shore, is_nontrivial};
-use graph_core::{MultiGraph, SetList};
+use graph_core::{MultiGraph, SetList, canonical_shore, is_in_cut, is_nontrivial};
 use std::alloc::{AllocError as Memory, Global};
 use std::marker::Model;
 use vset_core::{MOST_VERTICES, VSet};

@@ -10,8 +10,8 @@ ghost use Rattle.match_core.specs.MatchingRows.{IsOf, edges_of};
 ghost use Rattle.allowed_edges.specs.PairTables.{IsPerfectWith};
 ghost use Rattle.tight_cuts.specs.Tightness.{CrossesTwice, IsTightness, NoLaterWith};
 
-use allowed_edges::{is_in_cut, perfect_with_edge, perfect_with_pair, share_end};
-use graph_core::MultiGraph;
+use allowed_edges::{perfect_with_edge, perfect_with_pair, share_end};
+use graph_core::{MultiGraph, is_in_cut};
 use match_core::{Matching, perfect_without};
 use std::alloc::{AllocError as Memory, Global};
 use vset_core::VSet;

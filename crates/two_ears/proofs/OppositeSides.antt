@@ -5,7 +5,7 @@ use Rattle.std.proofs.lemmas.Bool.{and_parts, and_from, both_ways, true≢false,
 use Rattle.barrier_kit.proofs.Barriers.{equivalent_barrier}
 use Rattle.barrier_kit.proofs.ClassLaw.{perfect_or_not}
 use Rattle.barrier_kit.proofs.Matched.{crosses_apart, cut_edge, loop_free}
-use Rattle.barrier_kit.specs.BarrierCuts.{IsSide}
+use Rattle.graph_core.specs.Sides.{IsSide}
 use Rattle.counting.proofs.Counts.{bit_true, count_congr}
 use Rattle.counting.proofs.Totals.{at_le_total, some_term, total_add, total_congr, total_none}
 use Rattle.counting.specs.Counts.{Within, bit, count}

@@ -5,7 +5,7 @@ ghost use Rattle.counting.specs.Sets.{Set, pair_set, union};
 ghost use Rattle.graph_core.specs.Covered.{IsCovered};
 ghost use Rattle.graph_core.specs.Graph.{Graph, IsGraph, with_ends};
 ghost use Rattle.graph_core.specs.Matchings.{HasPerfect};
-ghost use Rattle.barrier_kit.specs.BarrierCuts.{IsSide};
+ghost use Rattle.graph_core.specs.Sides.{IsSide};
 ghost use Rattle.two_ears.specs.AddedEdges.{with_pairs};
 ghost use Rattle.counting.specs.Lists.{IsIn};
 ghost use Rattle.two_ears.specs.VertexPairs.{AreDisjoint, in_pairs, vertices_of};

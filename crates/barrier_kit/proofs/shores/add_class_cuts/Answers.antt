@@ -1,7 +1,7 @@
 use Rattle.std.proofs.Common.{ap, ◌∙◌, List, ℕ}
 use Rattle.std.specs.Prelude.{fold}
 use Rattle.std.proofs.lemmas.Result.{on_ok_weaker}
-use Rattle.barrier_kit.specs.CanonicalCuts.{with_cut}
+use Rattle.graph_core.specs.CanonicalCuts.{with_cut}
 use Rattle.barrier_kit.proofs.shores.add_class_cuts.Goals as goal
 
 pub returns : goal.returns

@@ -1,7 +1,7 @@
 use Rattle.std.proofs.Common.{◌≡◌, [], fold, flat_map, take}
 use Rattle.counting.specs.Lists.{mem}
 use Rattle.graph_core.specs.Components.{components}
-use Rattle.barrier_kit.specs.CanonicalCuts.{with_cut}
+use Rattle.graph_core.specs.CanonicalCuts.{with_cut}
 use Rattle.barrier_kit.proofs.shores.first_barrier_cut_in.Given as goal
 
 abbrev pub invariant-loop-class : goal.invariant-loop-class

@@ -2,7 +2,7 @@ use Rattle.std.proofs.Common.{◌≡◌, ◌∙◌, ap, sym, subst, List, map}
 use Rattle.std.specs.Prelude.{All}
 use Rattle.std.proofs.lemmas.Result.{IfOk-weaker}
 use Rattle.separation_kit.proofs.SeparationFacts.{separation_cuts-canonical}
-use Rattle.barrier_kit.specs.CanonicalCuts.{IsCanonicalCut}
+use Rattle.graph_core.specs.CanonicalCuts.{IsCanonicalCut}
 use Rattle.counting.specs.Lists.{IsRisingIn}
 use Rattle.separation_kit.specs.SeparationShores.{separation_cuts}
 use Rattle.tight_cuts.specs.Candidates.{Candidate, Separation, candidate_at}

@@ -1,7 +1,7 @@
 use Rattle.std.proofs.Common.{◌≡◌, sym, ap, ◌∙◌, nat_le, ◌&&◌, ◌-◌, Bool, false}
 use Rattle.std.proofs.lemmas.Bool.{le-leb, lt-leb}
-use Rattle.barrier_kit.proofs.CutLists.{length-in, nontrivial-length}
-use Rattle.barrier_kit.proofs.shores.is_nontrivial.Goals as goal
+use Rattle.graph_core.proofs.CutLists.{length-in, nontrivial-length}
+use Rattle.graph_core.proofs.cuts.is_nontrivial.Goals as goal
 
 pub overflow_sub-result : goal.overflow_sub-result
 overflow_sub-result c = length-in c.args.n c.len-inside.result c.args.shore c.requires.set c.len-inside.ensures

@@ -1,8 +1,8 @@
 use Rattle.std.proofs.Common.{sym, ap, ◌∙◌}
-use Rattle.barrier_kit.specs.CanonicalCuts.{is_listed}
-use Rattle.barrier_kit.proofs.CutLists.{canonical-rises, cut-known, cut-narrow, cut-taken}
-use Rattle.barrier_kit.proofs.shores.add_cut.Goals.{else-is_nontrivial-via-then-is_nontrivial+else-not-holds, else-is_nontrivial-via-else-is_nontrivial}
-use Rattle.barrier_kit.proofs.shores.add_cut.Goals as goal
+use Rattle.graph_core.specs.CanonicalCuts.{is_listed}
+use Rattle.graph_core.proofs.CutLists.{canonical-rises, cut-known, cut-narrow, cut-taken}
+use Rattle.graph_core.proofs.cuts.add_cut.Goals.{else-is_nontrivial-via-then-is_nontrivial+else-not-holds, else-is_nontrivial-via-else-is_nontrivial}
+use Rattle.graph_core.proofs.cuts.add_cut.Goals as goal
 
 pub is_nontrivial-requires-clause-set : goal.is_nontrivial-requires-clause-set
 is_nontrivial-requires-clause-set c = canonical-rises c.args.n c.args.shore c.canonical_shore-shore.result c.canonical_shore-shore.ensures

@@ -1,8 +1,8 @@
 use Rattle.std.proofs.Common.{sym, ◌∙◌}
 use Rattle.counting.specs.Lists.{mem}
-use Rattle.barrier_kit.proofs.CutLists.{canonical-kept, canonical-turned}
-use Rattle.barrier_kit.proofs.shores.canonical_shore.Goals.{then-contains, else-contains}
-use Rattle.barrier_kit.proofs.shores.canonical_shore.Goals as goal
+use Rattle.graph_core.proofs.CutLists.{canonical-kept, canonical-turned}
+use Rattle.graph_core.proofs.cuts.canonical_shore.Goals.{then-contains, else-contains}
+use Rattle.graph_core.proofs.cuts.canonical_shore.Goals as goal
 
 pub returns : goal.returns
 returns c = elim c.if-contains.branch [
