@@ -19,11 +19,11 @@ use Rattle.tree_text.specs.Writing.{HasVertices, header_words, node_words, tree_
 use Rattle.graph_text.specs.EitherVersion.{NamedGraph}
 use Rattle.report_text.specs.Comments.{HasFewLeaves, IsCommented}
 use Rattle.report_text.specs.Derivations.{derivation_text}
-use Rattle.report_text.specs.Tallies.{AreLeafKinds}
-use Rattle.report_text.specs.declared.tallies.LeafKind.{LeafKind}
+use Rattle.tree_core.specs.Tallies.{AreLeafKinds}
+use Rattle.tree_core.specs.declared.tallies.LeafKind.{LeafKind}
 use Rattle.report_text.proofs.Comments.{commented-more, stands-commented}
 use Rattle.report_text.proofs.CommentLines.{derivation-commented}
-use Rattle.report_text.proofs.FewLeaves.{blocks-of_leaves, few-nodes}
+use Rattle.tree_core.proofs.FewLeaves.{blocks-of_leaves, few-nodes}
 use Rattle.bench_outcomes.specs.Outcome.{TellsDerivation, with_given_names}
 use Rattle.bench_outcomes.specs.declared.status.Status.TheVariants.{Done}
 

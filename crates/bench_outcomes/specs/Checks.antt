@@ -8,11 +8,11 @@ use Rattle.tree_core.specs.Leaves.{leaves}
 use Rattle.tree_core.specs.Shapes.{Shape}
 use Rattle.tree_check.specs.Refusals.{Why, not_blocks, even, trivial, not_tight, not_leaf, why_number, IsRefused}
 use Rattle.report_text.specs.Judgements.{judgement_text}
-use Rattle.report_text.specs.Tallies.{IsTally}
+use Rattle.tree_core.specs.Tallies.{IsTally}
 use Rattle.report_text.specs.declared.judgements.Shown.{Shown}
 use Rattle.report_text.specs.declared.judgements.Shown.TheVariants.{Nothing, Matching, Cut}
 use Rattle.report_text.specs.declared.judgements.TreeLine.TheVariants as line
-use Rattle.report_text.specs.declared.tallies.Tally.{Tally}
+use Rattle.tree_core.specs.declared.tallies.Tally.{Tally}
 use Rattle.bench_outcomes.specs.Uncovered.{Uncovered}
 use Rattle.bench_outcomes.specs.declared.report.Report.{Report}
 use Rattle.bench_outcomes.specs.declared.status.Status.{Status}

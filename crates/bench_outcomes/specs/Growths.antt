@@ -12,8 +12,8 @@ use Rattle.tree_core.specs.Leaves.{leaves}
 use Rattle.tree_core.specs.Shapes.{Shape}
 use Rattle.move_laws.specs.Pairings.{IsPairing}
 use Rattle.report_text.specs.Growths.{grown_text}
-use Rattle.report_text.specs.Tallies.{IsTally}
-use Rattle.report_text.specs.declared.tallies.Tally.{Tally}
+use Rattle.tree_core.specs.Tallies.{IsTally}
+use Rattle.tree_core.specs.declared.tallies.Tally.{Tally}
 use Rattle.bench_outcomes.specs.Orders.{NamedPicks}
 use Rattle.bench_tasks.specs.declared.command.NamedOrder.TheVariants.{First, Last}
 use Rattle.bench_outcomes.specs.declared.status.Status.{Status}

@@ -20,9 +20,9 @@ use Rattle.decomposer.specs.Picked.{IsPicked}
 use Rattle.report_text.specs.Analyses.{analysis_text}
 use Rattle.report_text.specs.Derivations.{derivation_text}
 use Rattle.report_text.specs.Reports.{bad_input_text, with_names_text, graph6_line}
-use Rattle.report_text.specs.Tallies.{AreLeafKinds}
+use Rattle.tree_core.specs.Tallies.{AreLeafKinds}
 use Rattle.report_text.specs.declared.analyses.AnalysisLines.{AnalysisLines}
-use Rattle.report_text.specs.declared.tallies.LeafKind.{LeafKind}
+use Rattle.tree_core.specs.declared.tallies.LeafKind.{LeafKind}
 use Rattle.bench_tasks.specs.Commands.{Command, command_of}
 use Rattle.bench_outcomes.specs.Orders.{NamedPicks, ScriptPicks}
 use Rattle.bench_outcomes.specs.Uncovered.{Uncovered}

@@ -6,7 +6,7 @@ use Rattle.tight_cuts.specs.Candidates.{Candidate}
 use Rattle.tree_core.specs.Shapes.{Shape}
 use Rattle.decomposer.proofs.WiderPicks.{picked-wider}
 use Rattle.bench_outcomes.specs.Outcome.{DecomposeGives, Decomposed}
-use Rattle.report_text.specs.declared.tallies.Tally.{Tally}
+use Rattle.tree_core.specs.declared.tallies.Tally.{Tally}
 use Rattle.bench_outcomes.specs.Growths.{IsCounted}
 use Rattle.bench_outcomes.specs.Uncovered.{Uncovered}
 use Rattle.bench_outcomes.specs.declared.status.Status.{Status}

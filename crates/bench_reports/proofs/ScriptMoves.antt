@@ -17,7 +17,7 @@ use Rattle.tree_core.proofs.DerivationStands.{fits-derivation}
 use Rattle.tree_core.proofs.Sizes.{node_count-cuts}
 use Rattle.tree_core.proofs.SwitchSets.{proper_outside-within, proper_part-within}
 use Rattle.move_text.specs.Writing.{HasSets, HasShortPath}
-use Rattle.report_text.proofs.FewLeaves.{few-nodes}
+use Rattle.tree_core.proofs.FewLeaves.{few-nodes}
 
 -- a path along which a tree changes
 path-short : (f : Shape → Option Shape) (path : List Side) (t r : Shape) → result_at f path t ≡ Some r → length path < node_count t

@@ -11,10 +11,10 @@ ghost use Rattle.bench_outcomes.specs.Checks.{AcceptedTree, CheckGives, RefusedT
 use crate::uncovered::uncovered_report;
 use bench_outcomes::{Report, Status};
 use graph_core::MultiGraph;
-use report_text::{Shown, TreeLine, judgement, tally_of_tree};
+use report_text::{Shown, TreeLine, judgement};
 use std::alloc::{AllocError as Memory, Global};
 use tree_check::{Judgement, Why, check, check_covered};
-use tree_core::Tree;
+use tree_core::{Tree, tally_of_tree};
 
 /// The number of a reason.
 pub fn number_of(why: &Why) -> u32

@@ -12,10 +12,10 @@ use decomposer::{Order, Refused, decompose, decompose_first, last_place};
 use graph_core::MultiGraph;
 use graph_text::write_graph;
 use grow_gen::grow;
-use report_text::{Tally, grown, tally_of_tree};
+use report_text::grown;
 use std::alloc::{AllocError as Memory, Global};
 use tight_cuts::Candidate;
-use tree_core::Tree;
+use tree_core::{Tally, Tree, tally_of_tree};
 use uncross::compare;
 
 // The derivation of a covered graph that the order picks, with its leaves counted.

@@ -19,10 +19,10 @@ use Rattle.report_text.specs.Growths.{grown_text}
 use Rattle.report_text.specs.Judgements.{judgement_text}
 use Rattle.report_text.specs.Reports.{graph6_line}
 use Rattle.report_text.specs.Scripts.{replayed_text}
-use Rattle.report_text.specs.Tallies.{IsTally}
+use Rattle.tree_core.specs.Tallies.{IsTally}
 use Rattle.report_text.specs.declared.judgements.TreeLine.TheVariants as line
-use Rattle.report_text.specs.declared.tallies.LeafKind.{LeafKind}
-use Rattle.report_text.specs.declared.tallies.Tally.{Tally}
+use Rattle.tree_core.specs.declared.tallies.LeafKind.{LeafKind}
+use Rattle.tree_core.specs.declared.tallies.Tally.{Tally}
 use Rattle.graph_text.specs.Writing.{graph_text}
 use Rattle.grow_gen.specs.Growth.{grown}
 use Rattle.bench_outcomes.specs.Checks.{CheckGives, Refuses}

@@ -15,10 +15,10 @@ use Rattle.decomposer.specs.Picked.{IsPickedAt, PicksShore}
 use Rattle.tree_core.specs.Derivations.{kept_at, merged_at}
 use Rattle.tree_core.specs.LeafMaps.{leaf_at}
 use Rattle.tree_core.specs.Shapes.{Shape, leaf, cut, cut_count}
-use Rattle.report_text.specs.Tallies.{AreLeafKinds, IsLeafKind, IsTally, kind_at, tally_of}
-use Rattle.report_text.specs.declared.tallies.LeafKind.{LeafKind}
-use Rattle.report_text.specs.declared.tallies.LeafKind.TheVariants.{Brick, Brace}
-use Rattle.report_text.specs.declared.tallies.Tally.{Tally}
+use Rattle.tree_core.specs.Tallies.{AreLeafKinds, IsLeafKind, IsTally, kind_at, tally_of}
+use Rattle.tree_core.specs.declared.tallies.LeafKind.{LeafKind}
+use Rattle.tree_core.specs.declared.tallies.LeafKind.TheVariants.{Brick, Brace}
+use Rattle.tree_core.specs.declared.tallies.Tally.{Tally}
 use Rattle.bench_outcomes.specs.Orders.{NamedPicks, ScriptPicks}
 use Rattle.bench_tasks.specs.declared.command.NamedOrder.{NamedOrder}
 use Rattle.bench_tasks.specs.declared.command.NamedOrder.TheVariants.{First, Last, Balanced}

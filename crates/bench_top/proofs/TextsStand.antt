@@ -33,11 +33,11 @@ use Rattle.report_text.specs.Comments.{IsCommented}
 use Rattle.report_text.specs.EarReports.{ears_report_text, steps_line}
 use Rattle.report_text.specs.Growths.{grown_text, growth_lines, order_line, pairs_line}
 use Rattle.report_text.specs.Scripts.{moves_line, replayed_text}
-use Rattle.report_text.specs.Tallies.{IsTally, is_brick}
-use Rattle.report_text.specs.declared.tallies.Tally.{Tally}
+use Rattle.tree_core.specs.Tallies.{IsTally, is_brick}
+use Rattle.tree_core.specs.declared.tallies.Tally.{Tally}
 use Rattle.report_text.proofs.Comments.{commented-both, commented-line, commented-tail, stands-commented}
 use Rattle.bench_outcomes.specs.EarChecks.{double_count, is_single, single_count}
-use Rattle.report_text.proofs.FewLeaves.{few-nodes}
+use Rattle.tree_core.proofs.FewLeaves.{few-nodes}
 use Rattle.bench_outcomes.proofs.DerivationTexts.{closed-tree_text, has-vertices}
 use Rattle.bench_outcomes.proofs.EarSteps.{few-steps}
 use Rattle.bench_top.proofs.ReadGraphs.{IsRead}

@@ -10,10 +10,10 @@ use Rattle.tree_core.specs.Leaves.{leaves}
 use Rattle.tree_core.specs.Shapes.{Shape}
 use Rattle.move_laws.proofs.Uniqueness.{pairing_law}
 use Rattle.move_laws.specs.Pairings.{IsPairing}
-use Rattle.report_text.specs.Tallies.{AreLeafKinds, is_brick, kind_at, tally_of}
-use Rattle.report_text.specs.declared.tallies.LeafKind.{LeafKind}
-use Rattle.report_text.specs.declared.tallies.LeafKind.TheVariants.{Brick}
-use Rattle.report_text.specs.declared.tallies.Tally.{Tally}
+use Rattle.tree_core.specs.Tallies.{AreLeafKinds, is_brick, kind_at, tally_of}
+use Rattle.tree_core.specs.declared.tallies.LeafKind.{LeafKind}
+use Rattle.tree_core.specs.declared.tallies.LeafKind.TheVariants.{Brick}
+use Rattle.tree_core.specs.declared.tallies.Tally.{Tally}
 use Rattle.list_lines.specs.Selecting.{HasProperty, LacksProperty}
 use Rattle.list_lines.specs.Standings.{IsCounted}
 use Rattle.list_lines.specs.declared.query.Property.{Property}

@@ -5,9 +5,9 @@ use Rattle.graph_core.specs.Partitions.{IsPartition}
 use Rattle.graph_core.specs.Quotients.{quotient}
 use Rattle.move_laws.proofs.CarryingLaws.{turned-leaf}
 use Rattle.move_laws.specs.SameLeaf.{IsSameLeaf, image, turned_names}
-use Rattle.report_text.specs.Tallies.{IsLeafKind}
-use Rattle.report_text.specs.declared.tallies.LeafKind.{LeafKind}
-use Rattle.report_text.specs.declared.tallies.LeafKind.TheVariants.{Brick, Brace}
+use Rattle.tree_core.specs.Tallies.{IsLeafKind}
+use Rattle.tree_core.specs.declared.tallies.LeafKind.{LeafKind}
+use Rattle.tree_core.specs.declared.tallies.LeafKind.TheVariants.{Brick, Brace}
 use Rattle.list_lines.proofs.QuotientSides.{parted, parts_from_sides, sides_from_parts}
 
 -- sides are carried back

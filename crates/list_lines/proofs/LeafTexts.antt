@@ -5,9 +5,9 @@ use Rattle.counting.specs.Counts.{Within}
 use Rattle.graph_core.specs.Graph.{Graph}
 use Rattle.graph_core.specs.Quotients.{quotient}
 use Rattle.tree_core.specs.LeafMaps.{leaf_at}
-use Rattle.report_text.specs.Tallies.{IsLeafKind, kind_at}
-use Rattle.report_text.specs.declared.tallies.LeafKind.{LeafKind}
-use Rattle.report_text.proofs.LeafLines.{kinds-more}
+use Rattle.tree_core.specs.Tallies.{IsLeafKind, kind_at}
+use Rattle.tree_core.specs.declared.tallies.LeafKind.{LeafKind}
+use Rattle.tree_core.proofs.KindsOfLeaves.{kinds-more}
 use Rattle.list_lines.specs.LeafLines.{AddsLine, AreLinesOf, leaf_line, leaf_lines}
 
 -- one leaf more, with its kind

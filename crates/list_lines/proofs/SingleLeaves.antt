@@ -13,9 +13,9 @@ use Rattle.tree_core.proofs.DerivationShores.{nontrivial-vertices}
 use Rattle.tree_core.specs.Derivations.{IsLeafAt}
 use Rattle.tree_core.specs.Shapes.{leaf}
 use Rattle.tree_core.specs.LeafMaps.{leaf_at}
-use Rattle.report_text.specs.Tallies.{AreLeafKinds, IsLeafKind, kind_at, tally_of}
-use Rattle.report_text.specs.declared.tallies.LeafKind.{LeafKind}
-use Rattle.report_text.specs.declared.tallies.LeafKind.TheVariants as of_leaf
+use Rattle.tree_core.specs.Tallies.{AreLeafKinds, IsLeafKind, kind_at, tally_of}
+use Rattle.tree_core.specs.declared.tallies.LeafKind.{LeafKind}
+use Rattle.tree_core.specs.declared.tallies.LeafKind.TheVariants as of_leaf
 use Rattle.list_lines.specs.Standings.{IsCounted}
 use Rattle.list_lines.proofs.QuotientSides.{bipartite_from_singles, singles_from_bipartite}
 

@@ -8,9 +8,9 @@ use Rattle.graph_core.specs.Quotients.{quotient}
 use Rattle.graph6_text.specs.Writing.{graph6_of}
 use Rattle.tree_core.specs.Leaves.{leaves}
 use Rattle.tree_core.specs.Shapes.{Shape}
-use Rattle.report_text.specs.Tallies.{AreLeafKinds, IsKindOf}
-use Rattle.report_text.specs.declared.tallies.LeafKind.{LeafKind}
-use Rattle.report_text.specs.declared.tallies.LeafKind.TheVariants.{Brick, Brace}
+use Rattle.tree_core.specs.Tallies.{AreLeafKinds, IsKindOf}
+use Rattle.tree_core.specs.declared.tallies.LeafKind.{LeafKind}
+use Rattle.tree_core.specs.declared.tallies.LeafKind.TheVariants.{Brick, Brace}
 use Rattle.list_lines.specs.Orders.{IsPickedTree, Picks}
 use Rattle.list_lines.specs.declared.query.LeafOrder.{LeafOrder}
 

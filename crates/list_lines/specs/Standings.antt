@@ -10,8 +10,8 @@ use Rattle.leaf_kinds.specs.LeafKinds.{IsKind}
 use Rattle.tree_core.specs.Derivations.{IsDerivation}
 use Rattle.tree_core.specs.Leaves.{leaves}
 use Rattle.tree_core.specs.Shapes.{Shape}
-use Rattle.report_text.specs.Tallies.{IsTally}
-use Rattle.report_text.specs.declared.tallies.Tally.{Tally}
+use Rattle.tree_core.specs.Tallies.{IsTally}
+use Rattle.tree_core.specs.declared.tallies.Tally.{Tally}
 use Rattle.std.specs.declared.option.Option.{Option}
 use Rattle.std.specs.declared.option.Option.TheVariants.{Some, None}
 use Rattle.graph_core.specs.declared.verdict.Reason.{Reason}

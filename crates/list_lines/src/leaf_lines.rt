@@ -15,10 +15,9 @@ use contraction::{Contracted, Partition, quotient};
 use decomposer::{Order, Refused, balanced_place, decompose, decompose_first, last_place};
 use graph_core::MultiGraph;
 use graph6_text::write_graph6;
-use report_text::{LeafKind, kind_of};
 use std::alloc::{AllocError as Memory, Global};
 use tight_cuts::Candidate;
-use tree_core::{Partitions, Tree, leaves};
+use tree_core::{LeafKind, Partitions, Tree, kind_of, leaves};
 
 /// The lines of the leaves of the derivation that the order picks, for a graph that stands in the line with this number; nothing
 /// where the graph is not matching covered.

@@ -6,9 +6,9 @@ use crate::query::Property;
 use crate::standing::{counted, is_covered};
 use graph_core::{Kind, MultiGraph};
 use leaf_kinds::kind;
-use report_text::Tally;
 use separation_kit::{first_pairs_law, not_bicritical};
 use std::alloc::{AllocError as Memory, Global};
+use tree_core::Tally;
 
 /// The line itself where its graph has the property, and nothing where it has not.
 pub fn selected(

@@ -15,10 +15,10 @@ use decomposer::{Refused, decompose_first};
 use graph_core::{Kind, MultiGraph, Reason, Verdict};
 use leaf_kinds::kind_in;
 use match_core::{PartnerTable, maximum, partners};
-use report_text::{Tally, tally_of_tree};
 use separation_kit::{first_pairs_law, not_bicritical_in};
 use std::alloc::{AllocError as Memory, Global};
 use tight_cuts::pair_where_bicritical;
+use tree_core::{Tally, tally_of_tree};
 use vset_core::VSet;
 
 /// The kind of the first reason why a graph is not matching covered.

@@ -23,10 +23,10 @@ use Rattle.report_text.specs.Comments.{HasFewLeaves, IsCommented}
 use Rattle.report_text.specs.Derivations.{adjacent_line, adjacent_lines, block_lines, derivation_text, kind_word, leaf_line, leaf_lines, leaf_text, name_at, tally_line}
 use Rattle.report_text.specs.Reports.{list_line, name_line, name_lines, numbers_text, with_names_text}
 use Rattle.tree_core.specs.LeafMaps.{leaf_at}
-use Rattle.report_text.specs.Tallies.{is_brick, kind_at, tally_of}
-use Rattle.report_text.specs.declared.tallies.LeafKind.{LeafKind}
-use Rattle.report_text.specs.declared.tallies.LeafKind.TheVariants.{Brick, Brace}
-use Rattle.report_text.specs.declared.tallies.Tally.{Tally}
+use Rattle.tree_core.specs.Tallies.{is_brick, kind_at, tally_of}
+use Rattle.tree_core.specs.declared.tallies.LeafKind.{LeafKind}
+use Rattle.tree_core.specs.declared.tallies.LeafKind.TheVariants.{Brick, Brace}
+use Rattle.tree_core.specs.declared.tallies.Tally.{Tally}
 use Rattle.report_text.proofs.Comments.{commented-both, commented-line, commented-more, commented-none, commented-tail}
 
 -- the numbers of a line, each behind a space

@@ -1,5 +1,4 @@
 pub mod WrittenLines
-pub mod FewLeaves
 pub mod LeafLines
 mod BlockNames
 pub mod Comments

@@ -11,9 +11,9 @@ use Rattle.contraction.specs.Partition.{PartitionValue}
 use Rattle.report_text.specs.Reports.{list_line}
 use Rattle.report_text.specs.Derivations.{adjacent_line, adjacent_lines, block_lines, leaf_line, leaf_lines, leaf_text, name_at}
 use Rattle.tree_core.specs.LeafMaps.{leaf_at}
-use Rattle.report_text.specs.Tallies.{kind_at}
-use Rattle.report_text.specs.declared.tallies.LeafKind.{LeafKind}
-use Rattle.report_text.specs.declared.tallies.LeafKind.TheVariants.{Brick}
+use Rattle.tree_core.specs.Tallies.{kind_at}
+use Rattle.tree_core.specs.declared.tallies.LeafKind.{LeafKind}
+use Rattle.tree_core.specs.declared.tallies.LeafKind.TheVariants.{Brick}
 
 -- one more line behind those that are written
 pub one-more : (start lines line now next : List ℕ) → now ≡ start ++ lines → next ≡ now ++ line → next ≡ start ++ (lines ++ line)

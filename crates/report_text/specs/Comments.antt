@@ -4,7 +4,7 @@ use Rattle.std.specs.List.{AllByRecursion}
 use Rattle.line_text.specs.Words.{IsComment, written}
 use Rattle.graph_core.specs.Graph.{Graph, size}
 use Rattle.graph_core.specs.Partitions.{IsPartition}
-use Rattle.report_text.specs.declared.tallies.LeafKind.{LeafKind}
+use Rattle.tree_core.specs.declared.tallies.LeafKind.{LeafKind}
 
 -- the report is the text and behind it lines that are comments
 pub record IsCommented (text report : List ℕ) : Type 0 where

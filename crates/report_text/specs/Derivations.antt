@@ -9,10 +9,10 @@ use Rattle.graph_core.specs.Partitions.{block}
 use Rattle.graph_core.specs.Quotients.{quotient, remembered}
 use Rattle.report_text.specs.Reports.{list_line, numbers_text}
 use Rattle.tree_core.specs.LeafMaps.{leaf_at}
-use Rattle.report_text.specs.Tallies.{kind_at, tally_of}
-use Rattle.report_text.specs.declared.tallies.LeafKind.{LeafKind}
-use Rattle.report_text.specs.declared.tallies.LeafKind.TheVariants.{Brick, Brace}
-use Rattle.report_text.specs.declared.tallies.Tally.{Tally}
+use Rattle.tree_core.specs.Tallies.{kind_at, tally_of}
+use Rattle.tree_core.specs.declared.tallies.LeafKind.{LeafKind}
+use Rattle.tree_core.specs.declared.tallies.LeafKind.TheVariants.{Brick, Brace}
+use Rattle.tree_core.specs.declared.tallies.Tally.{Tally}
 
 -- the word of a kind
 abbrev pub kind_word : LeafKind → List ℕ

@@ -2,7 +2,7 @@
 -- leaves of two of its decompositions, counted, and how many leaves their comparison pairs.
 use Rattle.std.specs.Prelude.{ℕ, List, ◌++◌, codes}
 use Rattle.std.specs.Fmt.{decimal}
-use Rattle.report_text.specs.declared.tallies.Tally.{Tally}
+use Rattle.tree_core.specs.declared.tallies.Tally.{Tally}
 
 -- the line of the leaves of the decomposition by the order of this name
 abbrev pub order_line : (order : List ℕ) → Tally → List ℕ

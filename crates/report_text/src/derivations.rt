@@ -5,17 +5,16 @@ ghost use Rattle.counting.specs.Lists.{last_of};
 ghost use Rattle.contraction.specs.Contracted.{contraction};
 ghost use Rattle.graph_core.specs.Graph.{Graph, size};
 ghost use Rattle.graph_core.specs.Quotients.{quotient};
-ghost use Rattle.report_text.specs.Tallies.{AreLeafKinds, IsKindOf, IsLeafKind, tally_of};
+ghost use Rattle.tree_core.specs.Tallies.{AreLeafKinds, IsKindOf, IsLeafKind, tally_of};
 ghost use Rattle.report_text.specs.Derivations.{adjacent_line, adjacent_lines, block_lines, derivation_text, kind_word, leaf_line, leaf_lines, leaf_text, name_at, tally_line};
-ghost use Rattle.report_text.specs.declared.tallies.LeafKind.{LeafKind};
+ghost use Rattle.tree_core.specs.declared.tallies.LeafKind.{LeafKind};
 
 use crate::commenting::commented;
 use crate::numbers::{push_numbers, push_set_line};
-use crate::tallies::{LeafKind, Tally, kind_of, tallied};
 use contraction::{Contracted, Partition, quotient};
 use graph_core::MultiGraph;
 use std::alloc::{AllocError as Memory, Global};
-use tree_core::Partitions;
+use tree_core::{LeafKind, Partitions, Tally, kind_of, tallied};
 use vset_core::VSet;
 
 // The word of a kind.

@@ -3,8 +3,8 @@ ghost use Rattle.std.specs.Prelude.{◌≡◌, ◌++◌, OnOk, IfOk, string_byte
 ghost use Rattle.report_text.specs.Growths.{grown_text, growth_lines, order_line, pairs_line};
 
 use crate::commenting::commented;
-use crate::tallies::Tally;
 use std::alloc::{AllocError as Memory, Global};
+use tree_core::Tally;
 
 fn push_order(text: &mut String, order: &str, tally: Tally) -> Result<(), Memory>
     ensures { OnOk result

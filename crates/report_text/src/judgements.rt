@@ -3,9 +3,9 @@ ghost use Rattle.std.specs.Prelude.{◌≡◌, ◌++◌, OnOk, IfOk, string_byte
 ghost use Rattle.report_text.specs.Judgements.{accepted_line, judgement_text, numbered, refused_line, shown_text};
 
 use crate::numbers::{push_numbers, push_set};
-use crate::tallies::Tally;
 use graph_core::Numbers;
 use std::alloc::{AllocError as Memory, Global};
+use tree_core::Tally;
 use vset_core::VSet;
 
 /// What a refusal shows.

@@ -5,7 +5,7 @@ ghost use Rattle.graph_core.specs.Graph.{Graph};
 ghost use Rattle.report_text.specs.Comments.{HasFewLeaves, IsCommented};
 ghost use Rattle.report_text.specs.Derivations.{derivation_text};
 ghost use Rattle.report_text.specs.Reports.{with_names_text};
-ghost use Rattle.report_text.specs.declared.tallies.LeafKind.{LeafKind};
+ghost use Rattle.tree_core.specs.declared.tallies.LeafKind.{LeafKind};
 
 /// What stands behind the text in the report of a decomposition are comments, so that the report stands for what the text stands
 /// for: the numbers are to have at most nine digits.

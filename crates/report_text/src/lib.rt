@@ -5,9 +5,9 @@
 //! `ears_report_text`, `pairing_text`, `script_report_text`, `replayed_text`, `stuck_text`, `refused_move_text`, `grown_text`,
 //! `bad_input_text`, in specs/). `with_names` and `graph6_line` put further lines behind a report. What stands behind the text of
 //! a decomposition, and the names behind it, are comments (`IsCommented`): `laws::derivation_comments_law`, `with_names`.
-//! What the values mean is said where they are computed: this crate knows no theory. It reads one thing itself: whether the quotient at
-//! a leaf is bipartite, which makes the leaf a brace or a brick (`IsTally`). Words of a line stand with one space between them, a list of numbers has
-//! one space before each, and each line ends with one line feed.
+//! What the values mean is said where they are computed: this crate knows no theory. The kinds of leaves and their counts are those of
+//! `tree_core`. Words of a line stand with one space between them, a list of numbers has one space before each, and each line ends
+//! with one line feed.
 //!
 //! Stands on the types of `graph_core`, on `graph_text` for the names of vertices, on `contraction` and `tree_core` for the leaves of
 //! a decomposition and for moves, and on `move_text` for the words of a move.
@@ -28,7 +28,6 @@ mod names;
 mod numbers;
 mod scripts;
 mod structures;
-mod tallies;
 mod verdicts;
 
 pub use analyses::{AnalysisLines, analysis};
@@ -43,5 +42,5 @@ pub use judgements::{Shown, TreeLine, judgement};
 pub use names::with_names;
 pub use scripts::{replay_refused, replay_stuck, replayed, script_report};
 pub use structures::Structure;
-pub use tallies::{LeafKind, Tally, count_leaves, kind_of, tally_of_tree};
+pub use tree_core::{Tally, count_leaves};
 pub use verdicts::verdict_line;

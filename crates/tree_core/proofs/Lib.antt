@@ -8,3 +8,5 @@ pub mod CutsBelow
 pub mod RotateSteps
 pub mod SwitchSets
 pub mod SwitchWalks
+pub mod FewLeaves
+pub mod KindsOfLeaves

@@ -7,3 +7,4 @@ pub mod LeafMaps
 pub mod MoveView
 pub mod Turns
 pub mod Exchanges
+pub mod Tallies

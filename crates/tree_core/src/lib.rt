@@ -7,7 +7,8 @@
 //! partitions of `specs/Leaves`, in preorder.
 //!
 //! `fits`, `nodes`, `depth`, `copy` and `leaves` are exactly these definitions; `laws::derivation_stands` says that the leaves of
-//! a derivation may be asked for. A `Path` leads from the root to a node.
+//! a derivation may be asked for. A `Path` leads from the root to a node. The kind of a leaf is told by its quotient: a brace where
+//! it is bipartite, and a brick otherwise; `count_leaves` counts them (`IsTally` of `specs/Tallies`).
 //!
 //! Two moves change a tree (`specs/Moves`): Rotate brings a cut over its parent, and Switch exchanges two sets of vertices between a
 //! shore and its complement. `rotate`, `switch` and `apply` are exactly these partial functions, take no memory, and hand the same
@@ -27,6 +28,7 @@ mod path;
 mod rotation;
 mod switched_shores;
 mod switching;
+mod tallies;
 mod tree;
 mod turns;
 
@@ -39,4 +41,5 @@ pub use path::{Path, Side};
 pub use rotation::{are_apart, rotate};
 pub use switched_shores::holds_greatest;
 pub use switching::switch;
+pub use tallies::{LeafKind, Tally, count_leaves, kind_of, tallied, tally_of_tree};
 pub use tree::{Tree, copy, depth, fits, nodes};

@@ -5,7 +5,7 @@ use Rattle.tree_core.specs.MoveView.{move_of, moves_of}
 use Rattle.tree_core.specs.View.{shape_of}
 use Rattle.tree_core.proofs.Sizes.{leaf_count-cuts, node_count-cuts}
 use Rattle.move_text.specs.Writing.{HasSets}
-use Rattle.report_text.proofs.FewLeaves.{few-nodes}
+use Rattle.tree_core.proofs.FewLeaves.{few-nodes}
 use Rattle.bench_reports.proofs.ScriptMoves.{few-moves, script-paths, script-sets}
 use Rattle.bench_reports.proofs.ScriptTexts.{scripted}
 use Rattle.bench_reports.proofs.comparing.moves_report.Goals as goal

@@ -11,7 +11,7 @@ use Rattle.report_text.specs.Comparisons.{pairing_text}
 use Rattle.report_text.specs.declared.comparisons.MapLine.{MapLine}
 use Rattle.uncross.specs.MapView.{map_of, maps_of}
 use Rattle.bench_outcomes.specs.Comparisons.{lines_of}
-use Rattle.report_text.proofs.FewLeaves.{blocks-of_leaves, few-leaves_listed, few-nodes}
+use Rattle.tree_core.proofs.FewLeaves.{blocks-of_leaves, few-leaves_listed, few-nodes}
 use Rattle.bench_reports.proofs.comparing.pairing_report.Goals as goal
 
 pub leaves-requires-clause-fits : goal.leaves-requires-clause-fits

@@ -6,7 +6,7 @@ use Rattle.tree_core.specs.Shapes.{Fits}
 use Rattle.tree_core.specs.View.{shape_of}
 use Rattle.graph_core.specs.Partitions.{singles}
 use Rattle.tree_core.proofs.DerivationStands.{fits-derivation, stands-derivation}
-use Rattle.report_text.proofs.FewLeaves.{few-leaves_listed, few-nodes, orders-of_leaves}
+use Rattle.tree_core.proofs.FewLeaves.{few-leaves_listed, few-nodes, orders-of_leaves}
 use Rattle.bench_outcomes.proofs.DerivationTexts.{has-vertices, told}
 use Rattle.bench_reports.proofs.decomposing.derivation_report.Goals as goal
 

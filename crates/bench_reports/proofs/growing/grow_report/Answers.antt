@@ -12,7 +12,7 @@ use Rattle.move_laws.specs.Pairings.{IsPairing}
 use Rattle.bench_outcomes.specs.Growths.{IsCounted}
 use Rattle.bench_outcomes.specs.Orders.{NamedPicks}
 use Rattle.bench_tasks.specs.declared.command.NamedOrder.TheVariants.{First, Last}
-use Rattle.report_text.proofs.FewLeaves.{few-nodes}
+use Rattle.tree_core.proofs.FewLeaves.{few-nodes}
 use Rattle.bench_outcomes.proofs.GrownSizes.{few-edges, few-vertices}
 use Rattle.bench_reports.proofs.growing.grow_report.Goals as goal
 

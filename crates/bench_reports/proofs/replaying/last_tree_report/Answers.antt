@@ -3,7 +3,7 @@ use Rattle.graph_core.specs.Partitions.{singles}
 use Rattle.tree_core.specs.Shapes.{Fits}
 use Rattle.tree_core.specs.View.{shape_of}
 use Rattle.tree_core.proofs.DerivationStands.{fits-derivation, stands-derivation}
-use Rattle.report_text.proofs.FewLeaves.{few-nodes}
+use Rattle.tree_core.proofs.FewLeaves.{few-nodes}
 use Rattle.bench_outcomes.proofs.DerivationTexts.{has-vertices}
 use Rattle.bench_reports.proofs.replaying.last_tree_report.Goals as goal
 

@@ -2,7 +2,7 @@ use Rattle.std.proofs.Common.{List, [], arith, get_or, length, map, subst, sym, 
 use Rattle.std.proofs.lemmas.List.{length-map}
 use Rattle.contraction.specs.Partition.{PartitionValue}
 use Rattle.graph_core.specs.Quotients.{quotient}
-use Rattle.report_text.proofs.LeafLines.{blocks-at}
+use Rattle.tree_core.proofs.KindsOfLeaves.{blocks-at}
 use Rattle.list_lines.specs.LeafLines.{AddsLine}
 use Rattle.list_lines.proofs.LeafTexts.{FirstLines, lines_all, lines_next, lines_none}
 use Rattle.list_lines.proofs.leaf_lines.lines_of_leaves.Goals as goal

@@ -6,7 +6,7 @@ use Rattle.tree_core.specs.Shapes.{Fits}
 use Rattle.tree_core.specs.View.{shape_of}
 use Rattle.tree_core.proofs.DerivationStands.{fits-derivation, stands-derivation}
 use Rattle.list_lines.specs.LeafLines.{AreLinesOf, line_front}
-use Rattle.report_text.proofs.FewLeaves.{blocks-of_leaves, orders-of_leaves}
+use Rattle.tree_core.proofs.FewLeaves.{blocks-of_leaves, orders-of_leaves}
 use Rattle.list_lines.proofs.leaf_lines.lines_of_tree.Goals as goal
 
 pub leaves-requires-clause-fits : goal.leaves-requires-clause-fits

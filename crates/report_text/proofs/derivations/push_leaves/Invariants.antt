@@ -2,7 +2,7 @@ use Rattle.std.proofs.Common.{◌≡◌, ◌++◌, ℕ, length, map, string_byte
 use Rattle.counting.specs.Counts.{Within}
 use Rattle.tree_core.specs.LeafMaps.{leaf_at}
 use Rattle.report_text.specs.Derivations.{leaf_lines}
-use Rattle.report_text.specs.Tallies.{IsLeafKind, kind_at}
+use Rattle.tree_core.specs.Tallies.{IsLeafKind, kind_at}
 use Rattle.report_text.proofs.derivations.push_leaves.Given as goal
 
 -- the lines of the first leaves are written, and their kinds are known

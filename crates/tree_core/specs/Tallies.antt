@@ -5,9 +5,9 @@ use Rattle.counting.specs.Counts.{Within}
 use Rattle.graph_core.specs.Graph.{Graph, IsBipartite}
 use Rattle.graph_core.specs.Quotients.{quotient}
 use Rattle.tree_core.specs.LeafMaps.{leaf_at}
-use Rattle.report_text.specs.declared.tallies.LeafKind.{LeafKind}
-use Rattle.report_text.specs.declared.tallies.LeafKind.TheVariants.{Brick, Brace}
-use Rattle.report_text.specs.declared.tallies.Tally.{Tally}
+use Rattle.tree_core.specs.declared.tallies.LeafKind.{LeafKind}
+use Rattle.tree_core.specs.declared.tallies.LeafKind.TheVariants.{Brick, Brace}
+use Rattle.tree_core.specs.declared.tallies.Tally.{Tally}
 
 -- the kind of a leaf with this quotient
 abbrev pub IsKindOf : Graph → LeafKind → Type 0

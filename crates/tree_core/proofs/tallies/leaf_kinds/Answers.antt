@@ -1,6 +1,6 @@
 use Rattle.std.proofs.Common.{arith, rules}
-use Rattle.report_text.proofs.LeafLines.{kinds-all, kinds-next}
-use Rattle.report_text.proofs.tallies.leaf_kinds.Goals as goal
+use Rattle.tree_core.proofs.KindsOfLeaves.{kinds-all, kinds-next}
+use Rattle.tree_core.proofs.tallies.leaf_kinds.Goals as goal
 
 pub loop-i-init : goal.loop-i-init
 loop-i-init c = record { so_many = search rules; right = λ j w. absurd (omega arith) }

@@ -3,12 +3,14 @@ ghost use Rattle.std.specs.Prelude.{◌≡◌, ◌<◌, ◌^◌, length, map, co
 ghost use Rattle.tree_core.specs.Derivations.{IsDerivation};
 ghost use Rattle.tree_core.specs.Leaves.{leaves};
 ghost use Rattle.tree_core.specs.View.{shape_of};
-ghost use Rattle.report_text.specs.Tallies.{AreLeafKinds, IsKindOf, IsLeafKind, IsTally, is_brick, tally_of};
+ghost use Rattle.tree_core.specs.Tallies.{AreLeafKinds, IsKindOf, IsLeafKind, IsTally, is_brick, tally_of};
 
+use crate::leaf_partitions::leaves;
+use crate::partitions::Partitions;
+use crate::tree::Tree;
 use contraction::{Partition, quotient};
 use graph_core::{MultiGraph, Sides};
 use std::alloc::{AllocError as Memory, Global};
-use tree_core::{Partitions, Tree, leaves};
 
 /// The kind of a leaf, told by its quotient.
 #[derive(Clone, Copy, Debug, PartialEq, Eq)]

@@ -5,9 +5,9 @@ use Rattle.tree_core.specs.Leaves.{StandsAt, leaves, partitions_of}
 use Rattle.tree_core.specs.Shapes.{Fits}
 use Rattle.tree_core.specs.View.{shape_of}
 use Rattle.tree_core.proofs.DerivationStands.{fits-derivation, stands-derivation}
-use Rattle.report_text.specs.Tallies.{IsTally}
-use Rattle.report_text.proofs.FewLeaves.{blocks-of_leaves, few-leaves_listed, few-nodes, orders-of_leaves}
-use Rattle.report_text.proofs.tallies.tally_of_tree.Goals as goal
+use Rattle.tree_core.specs.Tallies.{IsTally}
+use Rattle.tree_core.proofs.FewLeaves.{blocks-of_leaves, few-leaves_listed, few-nodes, orders-of_leaves}
+use Rattle.tree_core.proofs.tallies.tally_of_tree.Goals as goal
 
 pub leaves-requires-clause-fits : goal.leaves-requires-clause-fits
 leaves-requires-clause-fits c = subst (λ (n : ℕ). Fits n (shape_of c.args.tree.now)) (sym c.order-n.ensures.is) (fits-derivation c.args.g.now (shape_of c.args.tree.now) c.requires)

@@ -1,8 +1,8 @@
 use Rattle.std.proofs.Common.{◌≡◌, ℕ, length, map}
 use Rattle.counting.specs.Counts.{Within}
 use Rattle.tree_core.specs.LeafMaps.{leaf_at}
-use Rattle.report_text.specs.Tallies.{IsLeafKind, kind_at}
-use Rattle.report_text.proofs.tallies.leaf_kinds.Given as goal
+use Rattle.tree_core.specs.Tallies.{IsLeafKind, kind_at}
+use Rattle.tree_core.proofs.tallies.leaf_kinds.Given as goal
 
 -- the kinds of the first leaves are known
 abbrev pub invariant-loop-i : goal.invariant-loop-i

@@ -1,0 +1,53 @@
+-- The kinds of the leaves of a list grow by that of one leaf, and at the end are those of all.
+-- What stands at the places before stays where an item is appended, and the new item is at the next place.
+use Rattle.std.proofs.Common.{◌≡◌, ◌≤◌, ℕ, zero, suc, ◌+◌, ◌-◌, List, [], ◌∷◌, ◌++◌, length, map, ap, ap₂, refl, subst, subst₂, sym, ◌∙◌, get_or, slice_get, Some, inl, inr, arith}
+use Rattle.std.proofs.Math.ListN.{get_or-append}
+use Rattle.std.proofs.Math.Seq.{get_or-append_seam}
+use Rattle.std.proofs.lemmas.Bool.{cases_lt}
+use Rattle.std.proofs.lemmas.List.{length-append, length-map}
+use Rattle.std.proofs.lemmas.Option.{get_or_from_slice_get, slice_get-map}
+use Rattle.std.specs.Option.{option_map}
+use Rattle.counting.specs.Counts.{Within}
+use Rattle.contraction.specs.Partition.{PartitionValue}
+use Rattle.graph_core.specs.Graph.{Graph}
+use Rattle.tree_core.specs.LeafMaps.{leaf_at}
+use Rattle.tree_core.specs.Tallies.{AreLeafKinds, IsLeafKind, kind_at}
+use Rattle.tree_core.specs.declared.tallies.LeafKind.{LeafKind}
+use Rattle.tree_core.specs.declared.tallies.LeafKind.TheVariants.{Brick}
+
+-- the kinds so far, with that of the next leaf
+pub kinds-more : (g : Graph) (ps : List (List (List ℕ))) (i : ℕ) (kinds : List LeafKind) (kind : LeafKind) → length kinds ≡ i →
+    ((j : ℕ) → Within i j → IsLeafKind g (leaf_at ps j) (kind_at kinds j)) → IsLeafKind g (get_or ps i []) kind →
+    (j : ℕ) → Within (i + 1) j → IsLeafKind g (leaf_at ps j) (kind_at (kinds ++ kind ∷ []) j)
+kinds-more g ps i kinds kind e before here j w = elim (cases_lt (j - 1) i) [
+  | inl b ↦ subst (λ (d : LeafKind). IsLeafKind g (leaf_at ps j) d) (sym (get_or-append kinds (kind ∷ []) Brick (j - 1) (omega arith))) (before j (omega arith))
+  | inr a ↦
+      let same : length kinds ≡ j - 1 = omega arith in
+      let own : i ≡ j - 1 = omega arith in
+      subst₂ (λ (n : ℕ) (d : LeafKind). IsLeafKind g (get_or ps n []) d) own
+      (sym (get_or-append_seam kinds kind [] Brick) ∙ ap (λ (n : ℕ). get_or (kinds ++ kind ∷ []) n Brick) same) here
+]
+
+-- the blocks of the partition at a place
+pub blocks-at : (found : List PartitionValue) (i : ℕ) (p : PartitionValue) → slice_get found i ≡ Some p → get_or (map (λ (q : PartitionValue). q.blocks) found) i [] ≡ p.blocks
+blocks-at found i p is =
+    get_or_from_slice_get (map (λ (q : PartitionValue). q.blocks) found) i p.blocks []
+    (slice_get-map (λ (q : PartitionValue). q.blocks) found i ∙ ap (option_map (λ (q : PartitionValue). q.blocks)) is)
+
+-- the same of a list of kinds that has one more
+pub kinds-next : (g : Graph) (leaves : List PartitionValue) (i : ℕ) (p : PartitionValue) (kinds more : List LeafKind) (kind : LeafKind) → slice_get leaves i ≡ Some p → more ≡ kinds ++ kind ∷ [] → length kinds ≡ i →
+    ((j : ℕ) → Within i j → IsLeafKind g (leaf_at (map (λ (q : PartitionValue). q.blocks) leaves) j) (kind_at kinds j)) → IsLeafKind g p.blocks kind →
+    (length more ≡ i + 1) × ((j : ℕ) → Within (i + 1) j → IsLeafKind g (leaf_at (map (λ (q : PartitionValue). q.blocks) leaves) j) (kind_at more j))
+kinds-next g leaves i p kinds more kind is one e before here =
+    let ps : List (List (List ℕ)) = map (λ (q : PartitionValue). q.blocks) leaves in (
+      ap length one ∙ length-append kinds (kind ∷ []) ∙ ap (λ (n : ℕ). n + 1) e,
+      λ j w. subst (λ (ks : List LeafKind). IsLeafKind g (leaf_at ps j) (kind_at ks j)) (sym one)
+          (kinds-more g ps i kinds kind e before (subst (λ (b : List (List ℕ)). IsLeafKind g b kind) (sym (blocks-at leaves i p is)) here) j w),
+    )
+
+-- the kinds of all leaves
+pub kinds-all : (g : Graph) (leaves : List PartitionValue) (i : ℕ) (kinds : List LeafKind) → i ≡ length leaves → length kinds ≡ i →
+    ((j : ℕ) → Within i j → IsLeafKind g (leaf_at (map (λ (q : PartitionValue). q.blocks) leaves) j) (kind_at kinds j)) → AreLeafKinds g (map (λ (q : PartitionValue). q.blocks) leaves) kinds
+kinds-all g leaves i kinds all e right =
+    let count : i ≡ length (map (λ (q : PartitionValue). q.blocks) leaves) = all ∙ sym (length-map leaves (λ (q : PartitionValue). q.blocks)) in
+    record { each_one = e ∙ count; right = λ j w. right j (subst (λ (n : ℕ). Within n j) (sym count) w) }
