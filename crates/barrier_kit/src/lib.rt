@@ -1,17 +1,18 @@
 //! Barriers, the classes of the canonical partition, and the cuts that they give.
 //!
-//! A set of vertices is a barrier if without it there are as many components with an odd number of vertices as it has
-//! vertices (`IsBarrier`); two vertices of a covered graph are in one class if they are equal or the graph without them has
-//! no perfect matching (`Equivalent`). `is_barrier` decides the first for every graph, `classes` lists the second, and
-//! `barrier_cuts` lists the nontrivial cuts of the components without a class, by canonical shores and each once.
+//! A set of vertices is a barrier if without it there are as many components with an odd number of
+//! vertices as it has vertices (`IsBarrier`); two vertices of a covered graph are in one class if
+//! they are equal or the graph without them has no perfect matching (`Equivalent`). `is_barrier`
+//! decides the first for every graph, `classes` lists the second, and `barrier_cuts` lists the
+//! nontrivial cuts of the components without a class, by canonical shores and each once.
 //!
-//! The laws: the classes are the greatest barriers (`equivalence_law`, `class_law`), what a barrier leaves has tight cuts
-//! (`barrier_law`, `barrier_cuts_law`), and a graph that is neither bicritical nor bipartite has such a cut
-//! (`wide_class_law`). `classes_in`, `barrier_cuts_in` and `first_barrier_cut_in`, which stops at the first, take a table of
-//! partners that is at hand.
+//! The laws: the classes are the greatest barriers (`equivalence_law`, `class_law`), what a
+//! barrier leaves has tight cuts (`barrier_law`, `barrier_cuts_law`), and a graph that is neither
+//! bicritical nor bipartite has such a cut (`wide_class_law`). `classes_in`, `barrier_cuts_in` and
+//! `first_barrier_cut_in`, which stops at the first, take a table of partners that is at hand.
 //!
-//! Stands on `match_core`. Source: Lovász and Plummer, "Matching Theory", chapters 3 and 5; Edmonds, Lovász and
-//! Pulleyblank 1982.
+//! Stands on `match_core`. Source: Lovász and Plummer, "Matching Theory", chapters 3 and 5;
+//! Edmonds, Lovász and Pulleyblank 1982.
 #![tactic(auto)]
 
 mod barrier;

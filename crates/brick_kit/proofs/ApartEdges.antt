@@ -12,7 +12,7 @@ use Rattle.graph_core.specs.Graph.{Graph, HasEnds, IsGraph, first_end, in_cut, s
 use Rattle.graph_core.specs.Structure.{IsCutPair}
 use Rattle.graph_core.specs.Tight.{IsNontrivial}
 use Rattle.barrier_kit.proofs.Matched.{cut_edge}
-use Rattle.weight_kit.proofs.CutEnds.{cut_ends, ends_within}
+use Rattle.brick_kit.proofs.CutEnds.{cut_ends, ends_within}
 use Rattle.brick_kit.proofs.PairSeparations.{beside_ends, separates}
 use Rattle.brick_kit.proofs.PartingShores.{ApartEdges}
 

@@ -17,7 +17,7 @@ use Rattle.barrier_kit.proofs.Barriers.{equivalent_barrier}
 use Rattle.barrier_kit.proofs.CriticalPairs.{no_sides}
 use Rattle.separation_kit.proofs.CutPairs.{brick_facts}
 use Rattle.barrier_kit.proofs.ClassLaw.{perfect_or_not}
-use Rattle.weight_kit.proofs.Duality.{dual}
+use Rattle.brick_kit.proofs.Duality.{dual}
 use Rattle.brick_kit.proofs.PairsFromShores.{pair_below}
 use Rattle.brick_kit.proofs.TightCovers.{dual_balance}
 use Rattle.brick_kit.proofs.UncrossedLists.{spread}

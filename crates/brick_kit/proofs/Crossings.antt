@@ -14,7 +14,7 @@ use Rattle.graph_core.specs.Graph.{Graph, HasEnds, IsGraph, connects, first_end,
 use Rattle.graph_core.specs.Structure.{IsCutPair}
 use Rattle.graph_core.specs.Tight.{IsNontrivial, IsTight}
 use Rattle.barrier_kit.proofs.CutFacts.{tight-turned}
-use Rattle.weight_kit.proofs.CutEnds.{cut_ends, ends_within}
+use Rattle.brick_kit.proofs.CutEnds.{cut_ends, ends_within}
 use Rattle.brick_kit.proofs.PairSeparations.{beside_ends, separates}
 use Rattle.brick_kit.proofs.PartingShores.{ApartEdges}
 

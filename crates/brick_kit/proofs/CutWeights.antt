@@ -12,8 +12,8 @@ use Rattle.graph_core.proofs.Perfect.{none_missed-perfect, perfect_matching, per
 use Rattle.graph_core.specs.Graph.{Graph, IsGraph, edges_in_cut, in_cut, size}
 use Rattle.graph_core.specs.Matchings.{IsMatching, IsPerfect, missed_count}
 use Rattle.graph_core.specs.Tight.{CutIsTight}
-use Rattle.weight_kit.proofs.EdgeSums.{weight_flat, weight_plus, weight_test}
-use Rattle.weight_kit.specs.Weights.{IsHeaviest, weight_of}
+use Rattle.brick_kit.proofs.EdgeSums.{weight_flat, weight_plus, weight_test}
+use Rattle.brick_kit.specs.Weights.{IsHeaviest, weight_of}
 
 pub cut_weight : (g : Graph) (n : ℕ) (x m : Set) → weight_of g (λ e. n + bit (in_cut g x e)) m ≡ n * count (size g) m + edges_in_cut g m x
 cut_weight g n x m = weight_plus g (λ e. n) (λ e. bit (in_cut g x e)) m ∙ ap₂ ◌+◌ (weight_flat g n m) (weight_test g (in_cut g x) m)

@@ -1,3 +1,17 @@
+pub mod EdgeSums
+pub mod EndSums
+pub mod SetSums
+pub mod CutEnds
+pub mod CoverBound
+pub mod HeaviestMatchings
+pub mod LoweredWeights
+pub mod HeavyParts
+pub mod Swaps
+pub mod SwapSets
+pub mod BestMatchings
+pub mod OddPart
+pub mod MetVertex
+pub mod Duality
 pub mod CutWeights
 pub mod TightCovers
 pub mod PairBounds

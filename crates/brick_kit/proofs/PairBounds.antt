@@ -13,8 +13,8 @@ use Rattle.graph_core.specs.Graph.{Graph, IsGraph, degree, edges_in_cut, first_e
 use Rattle.graph_core.specs.Matchings.{IsPerfect}
 use Rattle.graph_core.specs.Tight.{IsTight}
 use Rattle.brick_kit.specs.Balances.{IsBalanced, apart, parts}
-use Rattle.weight_kit.proofs.EndSums.{alone, ends_weight}
-use Rattle.weight_kit.specs.Weights.{sum_over}
+use Rattle.brick_kit.proofs.EndSums.{alone, ends_weight}
+use Rattle.brick_kit.specs.Weights.{sum_over}
 
 -- a sum, and without a and b
 pub pair_total : (g : Graph) (m : Set) (a b : ℕ) (f : ℕ → ℕ) → Within g.order a → Within g.order b → a ≢ b → IsPerfect g (pair_set a b) m → total g.order (λ v. f v * degree g m v) + (f a + f b) ≡ total g.order f

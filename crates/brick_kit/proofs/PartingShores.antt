@@ -8,10 +8,10 @@ use Rattle.counting.specs.Counts.{Within, bit}
 use Rattle.counting.specs.Sets.{Set}
 use Rattle.graph_core.specs.Graph.{Graph, HasEnds, IsGraph, size}
 use Rattle.graph_core.specs.Tight.{IsTight}
-use Rattle.weight_kit.proofs.CutEnds.{ends_within}
-use Rattle.weight_kit.proofs.SetSums.{sum_plus, sum_same}
+use Rattle.brick_kit.proofs.CutEnds.{ends_within}
+use Rattle.brick_kit.proofs.SetSums.{sum_plus, sum_same}
 use Rattle.brick_kit.specs.Balances.{IsBalanced, apart, parts}
-use Rattle.weight_kit.specs.Weights.{sum_over}
+use Rattle.brick_kit.specs.Weights.{sum_over}
 
 -- two edges of the cut of x without a common end: e from u in x to v outside, f from u' to v'
 pub record ApartEdges (g : Graph) (x : Set) : Type 0 where

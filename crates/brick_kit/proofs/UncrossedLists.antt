@@ -12,7 +12,7 @@ use Rattle.graph_core.specs.Tight.{IsTight}
 use Rattle.barrier_kit.proofs.CutFacts.{tight-turned}
 use Rattle.brick_kit.proofs.PartingShores.{Picked}
 use Rattle.brick_kit.specs.Balances.{IsBalanced, apart, parts}
-use Rattle.weight_kit.proofs.EdgeSums.{total_less}
+use Rattle.brick_kit.proofs.EdgeSums.{total_less}
 
 -- the sum of apart over all ordered pairs of vertices
 abbrev pub spread : ℕ → List Set → ℕ

@@ -5,12 +5,12 @@ ghost use Rattle.tree_core.specs.View.{shape_of};
 use crate::choices::{Choice, derived};
 use crate::made::made;
 use graph_core::MultiGraph;
+use plain_graph::CYCLE_OF_8;
 use std::alloc::{AllocError as Memory, Global};
 use std::test::Fail;
 use tree_core::laws::derivation_stands;
 use tree_core::{Moves, Tree, apply, fits};
 use uncross::{compare, expose};
-use worked_graphs::CYCLE_OF_8;
 
 // Whether two trees say the same.
 fn same_tree(first: &Tree, second: &Tree) -> bool {

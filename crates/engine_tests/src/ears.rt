@@ -3,9 +3,9 @@
 use crate::made::made;
 use ear_core::{EarJudgement, build_ears, check_ears};
 use graph_core::MultiGraph;
+use plain_graph::{CUBE, HEXAGON, K4, PATH, PETERSEN, TRIANGLE_IN_K33, is_covered};
 use std::alloc::Global;
 use std::test::Fail;
-use worked_graphs::{CUBE, HEXAGON, K4, PATH, PETERSEN, TRIANGLE_IN_K33, is_covered};
 
 const TWINS: [(u32, u32); 2] = [(1, 2), (2, 1)];
 

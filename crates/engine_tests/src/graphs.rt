@@ -2,9 +2,9 @@
 
 use crate::made::{made, set_of};
 use graph_core::{AddFault, Ends, MOST_EDGES, MultiGraph, Sides};
+use plain_graph::{DOUBLED_SQUARE, HEXAGON, K4, STAR, TRIANGLE, TWO_EDGES};
 use std::alloc::Global;
 use std::test::Fail;
-use worked_graphs::{DOUBLED_SQUARE, HEXAGON, K4, STAR, TRIANGLE, TWO_EDGES};
 
 // A graph, the number of its components, and the side of its least vertices; no side where it is not bipartite.
 struct Row {

@@ -3,11 +3,11 @@
 use crate::made::made;
 use graph_core::Ends;
 use grow_gen::grow;
+use plain_graph::K33;
 use rand_core::utils::NextWord;
 use rand_pcg::Lcg64Xsh32;
 use std::alloc::AllocError;
 use std::test::Fail;
-use worked_graphs::K33;
 
 // The edges of five pieces from the seed 7, which a second program, written from the definition of the generator, gives: the complete
 // bipartite graph, the complete graph of four vertices, the complete bipartite graph, the prism and the cube.

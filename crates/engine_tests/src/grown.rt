@@ -4,10 +4,10 @@ use allowed_edges::together;
 use ear_core::{EarJudgement, build_ears, check_ears};
 use graph_core::MultiGraph;
 use grow_gen::grow;
+use plain_graph::{is_bipartite, is_covered};
 use quick_kinds::{quick_brace, quick_brick};
 use std::alloc::{AllocError as Memory, Global};
 use tight_cuts::find_any;
-use worked_graphs::{is_bipartite, is_covered};
 
 // Whether the graph is covered, and the quick test for its sort finds a nontrivial tight cut exactly where the finder does.
 fn agrees(alloc: Global, g: &MultiGraph) -> Result<bool, Memory> {

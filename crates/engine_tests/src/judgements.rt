@@ -3,12 +3,12 @@ ghost use Rattle.std.specs.Prelude.{◌≤◌, length};
 
 use crate::made::{made, set_of};
 use graph_core::{MultiGraph, Reason};
+use plain_graph::{HEXAGON, PETERSEN, PRISM, TRIANGLE_IN_K33, TWO_EDGES};
 use std::alloc::{AllocError as Memory, Global};
 use std::test::Fail;
 use tree_check::{Judgement, Replayed, Why, check, replay};
 use tree_core::{Move, Moves, Path, Tree, fits};
 use vset_core::VSet;
-use worked_graphs::{HEXAGON, PETERSEN, PRISM, TRIANGLE_IN_K33, TWO_EDGES};
 
 fn cut(alloc: Global, shore: VSet, kept: Tree, merged: Tree) -> Result<Tree, Memory> {
     Ok(Tree::Cut {

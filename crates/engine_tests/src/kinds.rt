@@ -3,9 +3,9 @@
 use crate::made::{made, set_of};
 use graph_core::{Kind, MultiGraph};
 use leaf_kinds::kind;
+use plain_graph::{FOUR_CYCLE, HEXAGON, K4, PATH, PRISM, TWO_K4, is_covered};
 use std::alloc::Global;
 use std::test::Fail;
-use worked_graphs::{FOUR_CYCLE, HEXAGON, K4, PATH, PRISM, TWO_K4, is_covered};
 
 // The kind of a graph, if it is covered.
 fn kind_if_covered(alloc: Global, graph: &MultiGraph) -> Result<Option<Kind>, Fail> {

@@ -1,33 +1,52 @@
 //! Tests of the crates of the engine, by their public calls alone.
 //!
-//! What no clause says is tried here: that each call succeeds on worked graphs, that its answers are those of the literature or were
-//! worked out by hand, and that they agree with the plain slow program of `plain_graph`. The tests stand in one crate above all others,
-//! so that no crate of the engine is proved a second time with its tests, and most calls ask for a covered graph, which `allowed_edges`
-//! decides.
+//! What no clause says is tried here: that each call succeeds on worked graphs, that its answers
+//! are those of the literature or were worked out by hand, and that they agree with the plain slow
+//! program of `plain_graph`. The tests stand in one crate above all others, so that no crate of
+//! the engine is proved a second time with its tests, and most calls ask for a covered graph,
+//! which `allowed_edges` decides.
 //!
-//! `made` and `choices` have what the tests share. `sets`, `nets`, `graphs`, `matchings`, `pairs`, `quotients`, `trees`, `kinds`, `orders`, `judgements`, `ears` and `growing` ask the calls of one
-//! crate each; `definitions` asks the plain program itself.
+//! `made` and `choices` have what the tests share. `sets`, `nets`, `graphs`, `matchings`, `pairs`,
+//! `quotients`, `trees`, `kinds`, `orders`, `judgements`, `ears` and `growing` ask the calls of
+//! one crate each; `definitions` asks the plain program itself.
 //!
-//! `cuts`: `tight_cuts::is_tight` is compared with the plain program, which goes through all perfect matchings, on a table of small
-//! matching covered graphs and on each set with an odd number of their vertices; and it answers the worked cuts: the triangle in K3,3 is
-//! a tight shore, the triangle of the prism and the outer cycle of the Petersen graph are not. `tight_cuts::candidates` answers the
-//! worked lists of candidates, in order and with their origins; bricks and braces have none; and on a table of small graphs the list is
-//! empty exactly where the plain program finds no nontrivial tight set.
+//! `cuts`: `tight_cuts::is_tight` is compared with the plain program, which goes through all
+//! perfect matchings, on a table of small matching covered graphs and on each set with an odd
+//! number of their vertices; and it answers the worked cuts: the triangle in K3,3 is a tight
+//! shore, the triangle of the prism and the outer cycle of the Petersen graph are not.
+//! `tight_cuts::candidates` answers the worked lists of candidates, in order and with their
+//! origins; bricks and braces have none; and on a table of small graphs the list is empty exactly
+//! where the plain program finds no nontrivial tight set.
 //!
-//! `worked`: each call of `barrier_kit`, `separation_kit` and `quick_kinds` on graphs of the literature.
+//! `worked`: each call of `barrier_kit`, `separation_kit` and `quick_kinds` on graphs of the
+//! literature.
 //!
-//! `grown`: on generated graphs and on the leaves of their decomposition the quick tests of `quick_kinds` agree with the complete
-//! finder, the ear lists that are built are accepted, and the table of pairs of a large graph ends.
+//! `grown`: on generated graphs and on the leaves of their decomposition the quick tests of
+//! `quick_kinds` agree with the complete finder, the ear lists that are built are accepted, and
+//! the table of pairs of a large graph ends.
 //!
-//! `quick_lists`: on worked and generated graphs and their leaves, wheels, prisms and Möbius ladders `tight_cuts::candidates` answers what
-//! the plain way by pairs does, and `first_candidate` the first of it.
+//! `quick_lists`: on worked and generated graphs and their leaves, wheels, prisms and Möbius
+//! ladders `tight_cuts::candidates` answers what the plain way by pairs does, and
+//! `first_candidate` the first of it.
 //!
-//! `compared`: two derivations of the cycle of eight are compared, the moves lead from the one to the other, and a shore is exposed.
+//! Whole families of graphs on which two ways must agree. `enumerated`: `quick_brace` and
+//! `quick_brick` find no nontrivial tight cut if and only if going through all perfect matchings
+//! and all odd sets finds none, on all matching covered simple graphs of 4 and 6 vertices, all
+//! bipartite ones of 8 vertices but the cycle, and some others of 8. `by_pairs`: `candidates` and
+//! `first_candidate` answer what the plain way by pairs does, on generated graphs, bipartite cubic
+//! graphs, and barriers and separations with several parts. Both ways begin with the cuts of
+//! barriers and separations, by the same calls; they differ in the search at the edges. `numbered`
+//! and `shapes` make the graphs. A test that must find something says how much it found.
 //!
-//! A test is a table and a small function that walks it: each test is proved, and a table of constants costs little to prove. Source of
-//! the graphs: Lovász and Plummer, "Matching Theory".
+//! `compared`: two derivations of the cycle of eight are compared, the moves lead from the one to
+//! the other, and a shore is exposed.
+//!
+//! A test is a table and a small function that walks it: each test is proved, and a table of
+//! constants costs little to prove. Source of the graphs: Lovász and Plummer, "Matching Theory".
 #![tactic(auto)]
 
+#[cfg(test)]
+mod by_pairs;
 #[cfg(test)]
 mod choices;
 #[cfg(test)]
@@ -38,6 +57,8 @@ mod cuts;
 mod definitions;
 #[cfg(test)]
 mod ears;
+#[cfg(test)]
+mod enumerated;
 #[cfg(test)]
 mod graphs;
 #[cfg(test)]
@@ -55,6 +76,8 @@ mod matchings;
 #[cfg(test)]
 mod nets;
 #[cfg(test)]
+mod numbered;
+#[cfg(test)]
 mod orders;
 #[cfg(test)]
 mod pairs;
@@ -64,6 +87,8 @@ mod quick_lists;
 mod quotients;
 #[cfg(test)]
 mod sets;
+#[cfg(test)]
+mod shapes;
 #[cfg(test)]
 mod trees;
 #[cfg(test)]

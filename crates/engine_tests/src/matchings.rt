@@ -8,10 +8,10 @@ ghost use Rattle.match_core.specs.MatchingRows.{IsOf, edges_of};
 use crate::made::{made, set_of};
 use graph_core::{MultiGraph, Numbers};
 use match_core::{Matching, frame, maximum, perfect_with, perfect_without, repair};
+use plain_graph::{FLOWER, K4, PATH, PETERSEN, STAR, TRIANGLE, TWO_EDGES};
 use std::alloc::Global;
 use std::test::Fail;
 use vset_core::VSet;
-use worked_graphs::{FLOWER, K4, PATH, PETERSEN, STAR, TRIANGLE, TWO_EDGES};
 
 // A square 3 4 5 6 beside an edge.
 const SQUARE: [(u32, u32); 5] = [(1, 2), (3, 4), (4, 5), (5, 6), (3, 6)];

@@ -4,11 +4,11 @@ use crate::choices::{Choice, decomposed};
 use crate::made::{made, set_of};
 use decomposer::Refused;
 use graph_core::Reason;
+use plain_graph::{HEXAGON, PATH, TRIANGLE_IN_K33};
 use std::alloc::Global;
 use std::test::Fail;
 use tree_core::Tree;
 use vset_core::VSet;
-use worked_graphs::{HEXAGON, PATH, TRIANGLE_IN_K33};
 
 // The shore of the only cut of a tree; none where it is a leaf or has more cuts.
 fn only_shore(tree: &Tree) -> Option<VSet> {

@@ -5,13 +5,13 @@ use crate::choices::{Choice, leaf_graphs};
 use crate::made::made;
 use graph_core::MultiGraph;
 use grow_gen::grow;
-use std::alloc::{AllocError as Memory, Global};
-use std::test::Fail;
-use tight_cuts::{candidates, candidates_by_pairs, find_any, first_candidate};
-use worked_graphs::{
+use plain_graph::{
     CUBE, CYCLE_OF_8, DOUBLED_SQUARE, HEXAGON, K4, K33, PETERSEN, PRISM, TRIANGLE_IN_K33, TWO_K4,
     graph_with, is_covered,
 };
+use std::alloc::{AllocError as Memory, Global};
+use std::test::Fail;
+use tight_cuts::{candidates, candidates_by_pairs, find_any, first_candidate};
 
 // Whether the graph is covered, and its candidates, the first of them and its shore are those of the plain way.
 fn agrees(alloc: Global, g: &MultiGraph) -> Result<bool, Memory> {

@@ -1,4 +1,4 @@
--- Lists of cuts by canonical shores: the canonical shore by its members, and what is added to the list for a shore.
+-- Lists of cuts by canonical shores: a shore by its members, and what a list gets for it.
 -- A rising list is fixed by its test, and of the three cases of `with_cut` each has its step.
 use Rattle.std.proofs.Common.{◌≡◌, ℕ, suc, zero, ◌+◌, ◌-◌, ◌≤◌, Bool, true, false, refl, sym, ap, ap₂, ◌∙◌, arith, ◌&&◌, not, cond, List, [], ◌∷◌, ◌++◌, map, length, nat_le, subst, fold, flat_map, take}
 use Rattle.std.proofs.lemmas.Bool.{and_parts, and_from, and_right}

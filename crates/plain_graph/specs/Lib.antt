@@ -2,3 +2,4 @@ pub mod Small
 pub mod Subsets
 pub mod Cuts
 pub mod Parts
+pub mod EdgeFaults

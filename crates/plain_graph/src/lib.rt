@@ -1,25 +1,40 @@
-//! A plain, slow program on small graphs, with which other crates' tests compare their answers.
+//! What the tests of the engine share: graphs of the literature, and a plain, slow program with
+//! which they compare its answers.
 //!
-//! It goes through all sets of edges of a graph of at most `MOST_PLAIN_VERTICES` vertices and `MOST_PLAIN_EDGES` edges
-//! (`is_small`), and tries each by the definitions' own tests: `degree`, `is_matching`, `is_perfect` and `edges_in_cut` of
-//! one edge set; `perfect_matchings`, `has_perfect`, `is_allowed` and `greatest_matching` over all of them; `is_tight` for a
-//! shore. `odd_component_count` follows walks of at most as many steps as there are vertices, step by step.
-//! A set of edges is a `VSet` of edge numbers. Each function's contract is the definition, so nothing here is clever: the
-//! crate shows on worked examples that the definitions say what is meant.
+//! The graphs are constants of `worked`, and `graph_with` makes the multigraph of one; what is
+//! asked of them is worked out by hand in the tests. `is_covered` and `is_bipartite` answer what
+//! most calls ask of a graph first.
 //!
-//! Stands on `graph_core` for the graph and the definitions. The examples are those of Lovász and Plummer, "Matching Theory"
-//! (1986), and of Lucchesi and Murty, "Perfect Matchings".
+//! The program goes through all sets of edges of a graph of at most `MOST_PLAIN_VERTICES` vertices
+//! and `MOST_PLAIN_EDGES` edges (`is_small`), and tries each by the definitions' own tests:
+//! `degree`, `is_matching`, `is_perfect` and `edges_in_cut` of one edge set; `perfect_matchings`,
+//! `has_perfect`, `is_allowed` and `greatest_matching` over all of them; `is_tight` for a shore.
+//! `odd_component_count` follows walks of at most as many steps as there are vertices, step by
+//! step. A set of edges is a `VSet` of edge numbers. Each function's contract is the definition,
+//! so nothing here is clever: the crate shows on worked examples that the definitions say what is
+//! meant.
+//!
+//! Stands on `graph_core` for the graph and the definitions, and on `allowed_edges`. The graphs
+//! are those of Lovász and Plummer, "Matching Theory" (1986), and of Lucchesi and Murty, "Perfect
+//! Matchings".
 #![tactic(auto)]
 
+mod asked;
 mod cuts;
 mod degrees;
 mod edge_sets;
 mod matchings;
 mod parts;
 mod small;
+mod worked;
 
+pub use asked::{is_bipartite, is_covered};
 pub use cuts::{edges_in_cut, is_tight};
 pub use degrees::{degree, is_matching, is_perfect};
 pub use matchings::{greatest_matching, has_perfect, is_allowed, perfect_matchings};
 pub use parts::odd_component_count;
 pub use small::{MOST_PLAIN_EDGES, MOST_PLAIN_VERTICES, is_small};
+pub use worked::{
+    CUBE, CYCLE_OF_8, DOUBLED_SQUARE, FLOWER, FOUR_CYCLE, HEXAGON, K4, K33, PATH, PETERSEN, PRISM,
+    STAR, TRIANGLE, TRIANGLE_IN_K33, TWO_EDGES, TWO_K4, graph_with,
+};

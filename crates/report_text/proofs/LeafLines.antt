@@ -1,4 +1,4 @@
--- The lines of the leaves grow by those of one leaf: the lines of the leaves before it tell their own kinds alone.
+-- The lines of the leaves grow by those of one leaf: those before it tell their own kinds.
 -- By induction over the leaves, and what stands at a place stays where a kind is appended.
 use Rattle.std.proofs.Common.{◌≡◌, ◌≤◌, ℕ, zero, suc, ◌+◌, ◌-◌, List, [], ◌∷◌, ◌++◌, length, map, ap, ap₂, refl, subst, subst₂, sym, ◌∙◌, get_or, slice_get, Some, inl, inr, arith}
 use Rattle.std.proofs.Math.ListN.{get_or-append}

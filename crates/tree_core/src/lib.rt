@@ -1,21 +1,25 @@
 //! Tight cut decompositions as trees.
 //!
-//! A `Tree` is a leaf or a cut with a shore and two trees below it: `kept`, where the complement of the shore is made one block,
-//! and `merged`, where the shore is. Contracts see it by its plain `Shape` (`specs/Shapes`), whatever boxes hold its nodes. A
-//! tree is a derivation of a matching covered graph (`IsDerivation` of `specs/Derivations`) if each cut names a canonical
-//! nontrivial tight shore at the partition where it stands and each leaf stands where no such shore is. Its leaves are the
-//! partitions of `specs/Leaves`, in preorder.
+//! A `Tree` is a leaf or a cut with a shore and two trees below it: `kept`, where the complement
+//! of the shore is made one block, and `merged`, where the shore is. Contracts see it by its plain
+//! `Shape` (`specs/Shapes`), whatever boxes hold its nodes. A tree is a derivation of a matching
+//! covered graph (`IsDerivation` of `specs/Derivations`) if each cut names a canonical nontrivial
+//! tight shore at the partition where it stands and each leaf stands where no such shore is. Its
+//! leaves are the partitions of `specs/Leaves`, in preorder.
 //!
-//! `fits`, `nodes`, `depth`, `copy` and `leaves` are exactly these definitions; `laws::derivation_stands` says that the leaves of
-//! a derivation may be asked for. A `Path` leads from the root to a node. The kind of a leaf is told by its quotient: a brace where
-//! it is bipartite, and a brick otherwise; `count_leaves` counts them (`IsTally` of `specs/Tallies`).
+//! `fits`, `nodes`, `depth`, `copy` and `leaves` are exactly these definitions;
+//! `laws::derivation_stands` says that the leaves of a derivation may be asked for. A `Path` leads
+//! from the root to a node. The kind of a leaf is told by its quotient: a brace where it is
+//! bipartite, and a brick otherwise; `count_leaves` counts them (`IsTally` of `specs/Tallies`).
 //!
-//! Two moves change a tree (`specs/Moves`): Rotate brings a cut over its parent, and Switch exchanges two sets of vertices between a
-//! shore and its complement. `rotate`, `switch` and `apply` are exactly these partial functions, take no memory, and hand the same
-//! tree back where a move has no result. `specs/LeafMaps` says where a move and a script of moves take each leaf and its blocks.
+//! Two moves change a tree (`specs/Moves`): Rotate brings a cut over its parent, and Switch
+//! exchanges two sets of vertices between a shore and its complement. `rotate`, `switch` and
+//! `apply` are exactly these partial functions, take no memory, and hand the same tree back where
+//! a move has no result. `specs/LeafMaps` says where a move and a script of moves take each leaf
+//! and its blocks.
 //!
-//! Stands on `contraction` for partitions. Source: Lovász, "Matching structure and the matching lattice" (1987); Lucchesi and
-//! Murty, "Perfect Matchings".
+//! Stands on `contraction` for partitions. Source: Lovász, "Matching structure and the matching
+//! lattice" (1987); Lucchesi and Murty, "Perfect Matchings".
 #![tactic(auto)]
 
 mod below;

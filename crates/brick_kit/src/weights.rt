@@ -1,0 +1,52 @@
+//! Weights of the edges of a graph: matchings of greatest weight, and what covers a weight.
+//!
+//! A weight is a whole number for each edge. Numbers of the vertices and odd sets of vertices
+//! cover it if each edge gets at least its weight, from its two ends and one from each set with
+//! both of them (`IsCover`); the value of a cover is the sum of the numbers and, for each set,
+//! half of its size, rounded down. A matching has at most that many edges inside a set, so no
+//! matching weighs more than the value of a cover. The law (`weight_law`): some matching and some
+//! cover are equal.
+//!
+//! Idea of the proof, by induction on the sum of the weights: lower some of them by one, and take
+//! a cover of what is left.
+//!
+//! ```text
+//!      some vertex u is met by each                each vertex is missed by some heaviest matching;
+//!      heaviest matching: one less                 K is a component of the edges that have weight:
+//!      at the edges of u                           one less inside K
+//!
+//!           u ===== .                                   .-----.
+//!           |\                                         / \   / \      K is odd: a matching that is best for the
+//!           | \                                       .   \ /   .     lowered weights, with most edges inside K,
+//!           .  .      y(u) rises by one                \   .   /      misses one vertex of K. So K joins the sets
+//!                                                       .-----.
+//! ```
+//!
+//! Why that matching misses one vertex of K alone: were it to miss two, it would, by induction on
+//! a walk between them, miss two neighbours. A step of the walk exchanges it with a heaviest
+//! matching that misses the next vertex, inside a set that no edge of either leaves. The set grows
+//! from that vertex, and each further vertex brings an edge of one of the two inside; so the
+//! second has no more edges there than the first, and the first misses at most one vertex of the
+//! set.
+//!
+//! Source: Edmonds 1965; Cunningham and Marsh 1978; Schrijver, "Combinatorial Optimization",
+//! chapter 25.
+ghost use Rattle.std.specs.Prelude.{◌≡◌, ◌≤◌, ℕ, List};
+ghost use Rattle.counting.specs.Sets.{Set, none};
+ghost use Rattle.graph_core.specs.Graph.{Graph, IsGraph};
+ghost use Rattle.graph_core.specs.Matchings.{IsMatching};
+ghost use Rattle.brick_kit.specs.Weights.{IsCover, IsHeaviest, cover_value, weight_of};
+
+/// Maximum weight matchings: no matching of a graph weighs more than the value of a cover, and for
+/// whole numbers as weights some matching, and so each heaviest one, weighs as much as some cover
+/// of whole numbers (Edmonds 1965; whole numbers: Cunningham and Marsh 1978).
+pub fn weight_law()
+    ensures below { (g : Graph) (w y : ℕ → ℕ) (us : List Set) (m : Set) → IsGraph g →
+        IsCover g w y us →
+        IsMatching g none m → weight_of g w m ≤ cover_value g y us }
+    ensures equal { (g : Graph) (w : ℕ → ℕ) → IsGraph g →
+        (m : Set) × (y : ℕ → ℕ) × (us : List Set) × IsMatching g none m × IsCover g w y us ×
+        (weight_of g w m ≡ cover_value g y us) }
+    ensures heaviest { (g : Graph) (w : ℕ → ℕ) (m : Set) → IsGraph g → IsHeaviest g w m →
+        (y : ℕ → ℕ) × (us : List Set) × IsCover g w y us × (weight_of g w m ≡ cover_value g y us) }
+{}

@@ -1,0 +1,87 @@
+//! The candidates beside those of the plain way by pairs: the same list in the same order, and its first.
+
+use crate::shapes::{TWO_K33, chordal_ring, pages, three_parts};
+use graph_core::MultiGraph;
+use grow_gen::grow;
+use plain_graph::{graph_with, is_covered};
+use std::alloc::{AllocError as Memory, Global};
+use std::test::Fail;
+use tight_cuts::{candidates, candidates_by_pairs, first_candidate};
+
+// The number of candidates; none where the graph is not covered, or the list or its first is not that of the plain way.
+fn agreed(alloc: Global, g: &MultiGraph) -> Result<Option<usize>, Memory> {
+    if !is_covered(alloc, g)? {
+        return Ok(None);
+    }
+    let plain = candidates_by_pairs(alloc, g)?;
+    let quick = candidates(alloc, g)?;
+    let first = first_candidate(alloc, g)?;
+    if quick.as_slice() == plain.as_slice() && first == plain.as_slice().first().copied() {
+        return Ok(Some(plain.len()));
+    }
+    Ok(None)
+}
+
+#[test]
+fn grown_graphs(rt: HostRuntime) -> Result<(), Memory> {
+    for number in 11..21u64 {
+        let g = grow(rt.alloc(), number, 5)?;
+        let many = agreed(rt.alloc(), &g)?;
+        assert!(rt; many.is_some() && many != Some(0));
+    }
+    Ok(())
+}
+
+// Half the number of vertices, the length of a chord, and the number of candidates.
+static RINGS: [(u32, u32, usize); 8] = [
+    (3, 3, 0),
+    (4, 3, 0),
+    (5, 3, 0),
+    (6, 3, 0),
+    (6, 5, 0),
+    (7, 3, 0),
+    (7, 5, 0),
+    (8, 5, 0),
+];
+
+#[test]
+fn bipartite_cubic_graphs(rt: HostRuntime) -> Result<(), Fail> {
+    for (half, jump, many) in &RINGS {
+        assert!(rt; 3 <= *half && *half <= 50 && *jump <= 50);
+        let g = chordal_ring(rt.alloc(), *half, *jump)?;
+        assert!(rt; agreed(rt.alloc(), &g)? == Some(*many));
+    }
+    let spliced = graph_with(rt.alloc(), 10, &TWO_K33)?;
+    assert!(rt; agreed(rt.alloc(), &spliced)? == Some(1));
+    Ok(())
+}
+
+// The number of candidates with no, one, two and three parts of 5 vertices.
+static PARTS: [usize; 4] = [3, 3, 3, 3];
+
+#[test]
+fn barriers_of_three_with_three_odd_parts(rt: HostRuntime) -> Result<(), Fail> {
+    let mut fives = 0;
+    for many in &PARTS {
+        assert!(rt; fives <= 3);
+        let g = three_parts(rt.alloc(), fives)?;
+        assert!(rt; agreed(rt.alloc(), &g)? == Some(*many));
+        fives += 1;
+    }
+    Ok(())
+}
+
+// The number of candidates of two, three and four K4 on the same two vertices.
+static PAGES: [(u32, usize); 3] = [(2, 2), (3, 3), (4, 4)];
+
+#[test]
+fn pairs_with_several_parts(rt: HostRuntime) -> Result<(), Fail> {
+    for (pages_in, many) in &PAGES {
+        assert!(rt; *pages_in <= 50);
+        let with_spine = pages(rt.alloc(), *pages_in, true)?;
+        assert!(rt; agreed(rt.alloc(), &with_spine)? == Some(*many));
+        let without = pages(rt.alloc(), *pages_in, false)?;
+        assert!(rt; agreed(rt.alloc(), &without)? == Some(*many));
+    }
+    Ok(())
+}

@@ -1,6 +1,0 @@
-use Rattle.std.proofs.Common.{◌≡◌, take}
-use Rattle.worked_graphs.proofs.graph_with.Given as goal
-
--- the graph has the edges so far
-abbrev pub invariant-loop-edge : goal.invariant-loop-edge
-invariant-loop-edge l = l.graph ≡ record { order = l.order; ends = take l.edge-index l.edges }
