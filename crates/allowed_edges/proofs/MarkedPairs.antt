@@ -8,8 +8,8 @@ use Rattle.std.proofs.lemmas.List.{get_or-map, get_or-set_same, get_or-set_other
 use Rattle.std.proofs.lemmas.List.Elements.{All-head, All-tail}
 use Rattle.counting.specs.Lists.{mem, row_of}
 use Rattle.counting.proofs.Booleans.{or_false}
-use Rattle.match_core.proofs.Marks.{no-marks}
-use Rattle.match_core.specs.Rows.{marks}
+use Rattle.match_search.proofs.Marks.{no-marks}
+use Rattle.match_search.specs.Rows.{marks}
 use Rattle.match_core.specs.declared.matching.MatchRow.{MatchRow}
 use Rattle.match_core.proofs.MatchingEdges.{edge_of}
 use Rattle.allowed_edges.specs.EdgeTables.{IsSquare, rows_of}

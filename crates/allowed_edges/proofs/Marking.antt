@@ -8,7 +8,7 @@ use Rattle.std.proofs.lemmas.Bool.{cases_eq, or_right}
 use Rattle.counting.specs.Lists.{mem}
 use Rattle.counting.proofs.Booleans.{or_false}
 use Rattle.match_core.proofs.MatchingEdges.{edge_of}
-use Rattle.match_core.specs.Rows.{marks}
+use Rattle.match_search.specs.Rows.{marks}
 use Rattle.match_core.specs.declared.matching.MatchRow.{MatchRow}
 
 -- one place more is marked

@@ -11,9 +11,9 @@ use Rattle.graph_core.proofs.Edits.{add_edge}
 use Rattle.match_core.specs.MatchingRows.{IsOf, KeepsMatching, MatchingValue, edges_of, ends_at}
 use Rattle.match_core.specs.declared.matching.MatchRow.{MatchRow}
 use Rattle.allowed_edges.specs.Leaving.{IsMatchingOff}
-use Rattle.match_core.proofs.Alike.{matching_alike}
+use Rattle.match_search.proofs.Alike.{matching_alike}
 use Rattle.match_core.proofs.ClearedMatchings.{left_size}
-use Rattle.match_core.proofs.GrownRows.{with_put}
+use Rattle.match_search.proofs.GrownRows.{with_put}
 use Rattle.match_core.proofs.MatchingEdges.{degree-ends_at, rows-rise}
 
 -- each row has its ends in x: then no row is at a vertex outside x

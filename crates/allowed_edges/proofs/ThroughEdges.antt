@@ -10,10 +10,10 @@ use Rattle.graph_core.specs.Graph.{Graph, IsGraph, IsMultigraph, degree, first_e
 use Rattle.graph_core.specs.Matchings.{Allowed, HasPerfect, IsPerfect, Together}
 use Rattle.graph_core.proofs.Decide.{degree_congr, none_matching}
 use Rattle.graph_core.proofs.Edits.{degree_put, ends_of}
-use Rattle.match_core.proofs.AlternatingPaths.{put_off, put_at}
-use Rattle.match_core.specs.Questions.{MeetOnce}
+use Rattle.match_search.proofs.AlternatingPaths.{put_off, put_at}
+use Rattle.match_search.specs.Questions.{MeetOnce}
 use Rattle.match_core.proofs.ClearedMatchings.{left_misses}
-use Rattle.match_core.proofs.Gluing.{cut_off, glued, meet_more}
+use Rattle.match_search.proofs.Gluing.{cut_off, glued, meet_more}
 use Rattle.allowed_edges.specs.Leaving.{LeavesFew, ShareNone}
 
 -- a perfect matching is what it answers at the edges
@@ -160,7 +160,7 @@ module _ (g : Graph) (is : IsMultigraph g) (e f : ℕ) (we : Within (size g) e) 
       at : (v : ℕ) → Within g.order v → (first_end g f ≡ v) ⊎ (second_end g f ≡ v) → degree g m v ≡ 0
       at v wv end =
           let a = perfect.away v wv (z_ends v end) in
-          let s = degree_congr g m (put q e true) v (λ i wi. h i ∙ Rattle.match_core.proofs.GrownRows.with_put q e i) in
+          let s = degree_congr g m (put q e true) v (λ i wi. h i ∙ Rattle.match_search.proofs.GrownRows.with_put q e i) in
           let p = degree_put g q e true v we in
           let n = ap (λ k. bit (q e) * k) (ends_none g e v (λ s. apart v s end)) in
           let l = ends_none g e v (λ s. apart v s end) in

@@ -3,7 +3,7 @@ use Rattle.std.specs.Prelude.{◌≡◌, ℕ, ◌+◌, ◌<◌, Bool, List, map,
 use Rattle.std.specs.Global.{Vec}
 use Rattle.counting.specs.Counts.{Within}
 use Rattle.counting.specs.Lists.{row_of}
-use Rattle.match_core.specs.Rows.{marks}
+use Rattle.match_search.specs.Rows.{marks}
 
 -- the rows as lists
 abbrev pub rows_of : List (Vec Bool) → List (List Bool)

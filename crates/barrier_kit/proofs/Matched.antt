@@ -17,7 +17,7 @@ use Rattle.graph_core.proofs.Walks.{parted}
 use Rattle.graph_core.specs.Covered.{IsCovered}
 use Rattle.graph_core.specs.Graph.{Graph, IsGraph, degree, edges_in_cut, first_end, in_cut, inside, second_end, size}
 use Rattle.graph_core.specs.Matchings.{IsPerfect}
-use Rattle.match_core.proofs.NearPerfectSets.{ends_far, ends_near}
+use Rattle.match_search.proofs.NearPerfectSets.{ends_far, ends_near}
 
 abbrev pub inner : Graph → Set → Set → ℕ
 inner g m x = count (size g) (λ e. m e && inside g x e)

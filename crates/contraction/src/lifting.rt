@@ -9,7 +9,7 @@ ghost use Rattle.graph_core.specs.Matchings.{IsPerfect};
 ghost use Rattle.graph_core.specs.Partitions.{IsPerfectAt};
 ghost use Rattle.graph_core.specs.Quotients.{lifted, quotient};
 ghost use Rattle.match_core.specs.MatchingRows.{IsOf, edges_of};
-ghost use Rattle.match_core.specs.Rows.{marks};
+ghost use Rattle.match_search.specs.Rows.{marks};
 ghost use Rattle.contraction.specs.Contracted.{contraction};
 ghost use Rattle.contraction.specs.LeastEdges.{least_at};
 

@@ -8,8 +8,8 @@ use Rattle.std.proofs.lemmas.Result.{IfOk-weaker}
 use Rattle.counting.specs.Counts.{Within, count}
 use Rattle.counting.specs.Sets.{Set, singleton}
 use Rattle.graph_core.specs.Graph.{Graph, size, IsMultigraph}
-use Rattle.match_core.proofs.Marks.{no-marks}
-use Rattle.match_core.specs.Rows.{marks}
+use Rattle.match_search.proofs.Marks.{no-marks}
+use Rattle.match_search.specs.Rows.{marks}
 use Rattle.allowed_edges.proofs.Marking.{marks-set}
 use Rattle.ear_core.specs.EarLists.{PlainStep, PlainEars, next_stage, IsEarList}
 use Rattle.ear_core.specs.EarTests.{Why, not_path}

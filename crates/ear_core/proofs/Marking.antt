@@ -6,7 +6,7 @@ use Rattle.counting.specs.Counts.{Within}
 use Rattle.counting.specs.Lists.{mem}
 use Rattle.counting.specs.Sets.{Set}
 use Rattle.graph_core.specs.Graph.{Graph}
-use Rattle.match_core.specs.Rows.{marks}
+use Rattle.match_search.specs.Rows.{marks}
 use Rattle.allowed_edges.proofs.Marking.{marks-set}
 use Rattle.ear_core.specs.EarLists.{PlainEar, two}
 use Rattle.ear_core.specs.EarTests.{Why, not_path, even_length, bad_ends, inner_on_stage, edge_used, is_path, has_odd_length, has_good_ends, has_new_edges, ear_fault, inner_vertices, no_member}

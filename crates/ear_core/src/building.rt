@@ -6,7 +6,7 @@ ghost use Rattle.counting.specs.Lists.{mem};
 ghost use Rattle.graph_core.specs.Covered.{IsCovered};
 ghost use Rattle.graph_core.specs.Graph.{size, first_end, second_end, IsBipartite};
 ghost use Rattle.match_core.specs.MatchingRows.{edges_of};
-ghost use Rattle.match_core.specs.Rows.{marks};
+ghost use Rattle.match_search.specs.Rows.{marks};
 ghost use Rattle.ear_core.specs.AlternatingEars.{IsPerfectRows, KeepsMates, row_edge};
 ghost use Rattle.ear_core.specs.EarLists.{AreSteps, IsEarList, IsSingle, IsStep, next_stage, FitsEars, FitsStep, HasEdges};
 ghost use Rattle.ear_core.specs.Stages.{is_met, IsStage};

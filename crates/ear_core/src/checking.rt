@@ -4,7 +4,7 @@ ghost use Rattle.std.specs.List.{AllByRecursion};
 ghost use Rattle.counting.specs.Counts.{Within};
 ghost use Rattle.counting.specs.Tests.{IsLeastWithout};
 ghost use Rattle.graph_core.specs.Graph.{size};
-ghost use Rattle.match_core.specs.Rows.{marks};
+ghost use Rattle.match_search.specs.Rows.{marks};
 ghost use Rattle.ear_core.specs.EarLists.{FitsEars, FitsStep, IsEarList};
 ghost use Rattle.ear_core.specs.EarTests.{Why};
 ghost use Rattle.ear_core.specs.Refusals.{IsJudged, IsRefused};

@@ -4,7 +4,7 @@ ghost use Rattle.std.specs.List.{AllByRecursion};
 ghost use Rattle.counting.specs.Lists.{mem};
 ghost use Rattle.counting.specs.Sets.{Set};
 ghost use Rattle.graph_core.specs.Graph.{Graph, size, IsBipartite};
-ghost use Rattle.match_core.specs.Rows.{marks};
+ghost use Rattle.match_search.specs.Rows.{marks};
 ghost use Rattle.ear_core.specs.AlternatingEars.{Serves, ends_of_ear, AreCandidates, IsChosen};
 ghost use Rattle.ear_core.specs.Asking.{IsAsked, FindsBeside, FindsTwo, NoneServesBeside, NoTwoServe};
 ghost use Rattle.ear_core.specs.EarLists.{next_stage, IsStep, IsSingle, FitsEar};

@@ -4,7 +4,7 @@ ghost use Rattle.counting.specs.Counts.{Within};
 ghost use Rattle.counting.specs.Sets.{Set};
 ghost use Rattle.counting.specs.Lists.{mem};
 ghost use Rattle.graph_core.specs.Graph.{size, with_ends};
-ghost use Rattle.match_core.specs.Rows.{marks};
+ghost use Rattle.match_search.specs.Rows.{marks};
 ghost use Rattle.ear_core.specs.Stages.{is_met, AllowedBy, with_edges};
 ghost use Rattle.ear_core.specs.StageGraphs.{listed, IsBehind, IsUpTo, Settled, asked_too};
 

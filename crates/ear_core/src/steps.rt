@@ -4,7 +4,7 @@ ghost use Rattle.counting.specs.Counts.{Within};
 ghost use Rattle.counting.specs.Lists.{mem};
 ghost use Rattle.counting.specs.Sets.{none};
 ghost use Rattle.graph_core.specs.Graph.{size};
-ghost use Rattle.match_core.specs.Rows.{marks};
+ghost use Rattle.match_search.specs.Rows.{marks};
 ghost use Rattle.ear_core.specs.EarLists.{FitsStep, next_stage, IsStep};
 ghost use Rattle.ear_core.specs.Refusals.{step_fault};
 ghost use Rattle.ear_core.specs.StageGraphs.{Settled};

@@ -3,7 +3,7 @@ ghost use Rattle.std.specs.Prelude.{◌≡◌, ◌++◌, ◌||◌, ◌==◌, ◌
 ghost use Rattle.counting.specs.Counts.{Within};
 ghost use Rattle.counting.specs.Lists.{mem};
 ghost use Rattle.graph_core.specs.Graph.{size};
-ghost use Rattle.match_core.specs.Rows.{marks};
+ghost use Rattle.match_search.specs.Rows.{marks};
 ghost use Rattle.ear_core.specs.AlternatingEars.{IsPerfectRows, row_edge, mate, KeepsMates, IsClear, IsTraced, HoldsMates, AreMatedEars, is_left};
 ghost use Rattle.ear_core.specs.EarLists.{PlainEar};
 ghost use Rattle.ear_core.specs.Ears.{other_end};

@@ -20,11 +20,11 @@ use Rattle.graph_core.specs.Matchings.{IsMatching, IsPerfect, missed_count}
 use Rattle.graph_core.proofs.Edits.{edge_at, ends_of, missed_edges, sum_degrees, two_ends_le_degree}
 use Rattle.graph_core.proofs.Perfect.{perfect_matching, perfect_misses}
 use Rattle.match_core.specs.MatchingRows.{IsOf, IsRowOf, KeepsMatching, MatchingValue, edges_of, has_end_in, is_clear, left_over}
-use Rattle.match_core.specs.Questions.{MeetOnce}
+use Rattle.match_search.specs.Questions.{MeetOnce}
 use Rattle.match_core.specs.declared.matching.MatchRow.{MatchRow}
-use Rattle.match_core.proofs.Alike.{matching_alike}
+use Rattle.match_search.proofs.Alike.{matching_alike}
 use Rattle.match_core.proofs.MatchingEdges.{edge_of, rows-matching, rows-rise}
-use Rattle.match_core.proofs.NearPerfectSets.{degree_split}
+use Rattle.match_search.proofs.NearPerfectSets.{degree_split}
 
 -- the rows that meet no vertex of x
 abbrev pub cleared : Set → MatchingValue → MatchingValue

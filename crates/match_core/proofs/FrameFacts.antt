@@ -18,12 +18,12 @@ use Rattle.graph_core.proofs.Edits.{edge_of, missed_edges}
 use Rattle.graph_core.proofs.Adjacency.{has_ends-from}
 use Rattle.graph_core.proofs.Perfect.{perfect_matching, perfect_misses, missed_one}
 use Rattle.graph_core.proofs.Walks.{adjacent_from}
-use Rattle.match_core.specs.Frames.{Frame}
-use Rattle.match_core.specs.Rows.{marks}
-use Rattle.match_core.specs.Optimal.{IsBest}
-use Rattle.match_core.specs.declared.best.Best.{Best}
-use Rattle.match_core.proofs.Alike.{matching_alike}
-use Rattle.match_core.proofs.Certificates.{certificate_bound}
+use Rattle.match_search.specs.Frames.{Frame}
+use Rattle.match_search.specs.Rows.{marks}
+use Rattle.match_search.specs.Optimal.{IsBest}
+use Rattle.match_search.specs.declared.best.Best.{Best}
+use Rattle.match_search.proofs.Alike.{matching_alike}
+use Rattle.match_search.proofs.Certificates.{certificate_bound}
 use Rattle.match_core.proofs.OddComponents.{certificate_components, certificate_maximum, outer_free, outer_missable, missable_outer, inner_next, next_inner}
 use Rattle.match_core.proofs.OuterComponents.{outer_odd, odd_outer}
 

@@ -1,7 +1,7 @@
 -- The edges of the rows of a matching are a matching: a vertex stands in the rows as often as edges meet it.
 -- A degree is a sum over the edges in the set, and that sum goes along the rising list of the rows.
 use Rattle.std.proofs.lemmas.Bool.{both_ways, cases_Bool, false_from_ne_true, or_cases}
-use Rattle.std.proofs.Common.{inr, eqb-true, ◌||◌, ◌≡◌, ℕ, suc, ◌+◌, ◌≤◌, Bool, true, false, ◌==◌, refl, sym, ap, ap₂, ◌∙◌, arith, List, [], ◌∷◌, ◌++◌, map, filter, cond, subst, inl}
+use Rattle.std.proofs.Common.{length, inr, eqb-true, ◌||◌, ◌≡◌, ℕ, suc, ◌+◌, ◌≤◌, Bool, true, false, ◌==◌, refl, sym, ap, ap₂, ◌∙◌, arith, List, [], ◌∷◌, ◌++◌, map, filter, cond, subst, inl}
 use Rattle.std.specs.Prelude.{All, sum_by, slice_index_or}
 use Rattle.std.proofs.lemmas.List.{map-append}
 use Rattle.std.proofs.lemmas.List.Elements.{All-map, All-filter}
@@ -15,6 +15,9 @@ use Rattle.graph_core.proofs.Decide.{degree_congr}
 use Rattle.graph_core.proofs.Edits.{degree_sum, ends_of}
 use Rattle.graph_core.specs.Graph.{Graph, IsGraph, degree, size}
 use Rattle.graph_core.specs.Matchings.{IsMatching}
+use Rattle.graph_core.specs.View.{graph_of}
+use Rattle.graph_core.specs.declared.ends.Ends.{Ends}
+use Rattle.match_search.proofs.WholeGraphs.{whole_graph, whole_size}
 use Rattle.match_core.specs.MatchingRows.{MatchingValue, KeepsMatching, IsOf, IsRowOf, edges_of, ends_at, row_at}
 use Rattle.match_core.specs.declared.matching.MatchRow.{MatchRow}
 
@@ -131,3 +134,10 @@ joined_edges n es x e we rises h i = elim (cases_Bool (mem es i || (e == i))) [
       | inl q ↦ mem-within n es rises i q
       | inr q ↦ subst (Within n) (eqb-true e i q) we
     ]
+
+module _ (g : Graph) (n : ℕ) (ends : List Ends) (order : n ≡ g.order) (same : graph_of g.order ends ≡ g) where
+  -- the marked edges of the ends are those of the graph
+  pub whole_marked : (m : Set) (rows : List MatchRow) → rows ≡ map (row_at (graph_of n ends)) (rising_list (length ends) m) → record { order = n; rows = rows } ≡ marked_matching g m
+  whole_marked m rows rows_is =
+      let made : ℕ → List MatchRow → MatchingValue = λ k rows. record { order = k; rows = rows } in
+      ap₂ made order (rows_is ∙ ap₂ (λ (h : Graph) k. map (row_at h) (rising_list k m)) (whole_graph g n ends order same) (whole_size g n ends order same))

@@ -8,13 +8,13 @@ use Rattle.counting.proofs.Totals.{total_none}
 use Rattle.counting.specs.Lists.{mem}
 use Rattle.graph_core.specs.View.{graph_of}
 use Rattle.graph_core.specs.declared.ends.Ends.{Ends}
-use Rattle.match_core.specs.GraphRows.{NamesEdges}
-use Rattle.match_core.proofs.LongerPaths.{ends_by}
-use Rattle.match_core.proofs.GraphRows.{free_degree, missed_degree, pair_is, partner}
+use Rattle.match_search.specs.GraphRows.{NamesEdges}
+use Rattle.match_search.proofs.LongerPaths.{ends_by}
+use Rattle.match_search.proofs.GraphRows.{free_degree, missed_degree, pair_is, partner}
 use Rattle.graph_core.specs.Graph.{HasEnds, degree, size}
 use Rattle.graph_core.specs.Matchings.{IsPerfect, missed_count}
-use Rattle.match_core.specs.Rows.{numbers, end_a, end_b}
-use Rattle.match_core.specs.RepairPaths.{Misses}
+use Rattle.match_search.specs.Rows.{numbers, end_a, end_b}
+use Rattle.match_search.specs.RepairPaths.{Misses}
 
 -- the row of mates names an edge of the matching at a vertex, and the vertex at its other end
 pub mate_pair : (n : ℕ) (ends : List Ends) (m : Set) (at : List ℕ) → NamesEdges ends m at (length ends) → (v a w : ℕ) → a ≡ numbers at v → a ≢ 0 → w ≡ cond (end_a ends (a - 1) == v) (end_b ends (a - 1)) (end_a ends (a - 1)) →

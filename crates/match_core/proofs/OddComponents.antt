@@ -16,9 +16,9 @@ use Rattle.graph_core.specs.Components.{is_least, odd_component_count}
 use Rattle.graph_core.specs.Graph.{Graph, IsGraph, degree, first_end, second_end, size, HasEnds}
 use Rattle.graph_core.specs.Matchings.{IsMatching, IsMaximum, missed_count}
 use Rattle.graph_core.specs.Walks.{Joined, Walk, adjacent, joined}
-use Rattle.match_core.proofs.Certificates.{class_sum, certificate_bound, certificate_tight}
-use Rattle.match_core.proofs.StepTheorem.{step}
-use Rattle.match_core.specs.Frames.{Frame, IsCertificate, IsOddLabelling}
+use Rattle.match_search.proofs.Certificates.{class_sum, certificate_bound, certificate_tight}
+use Rattle.match_search.proofs.StepTheorem.{step}
+use Rattle.match_search.specs.Frames.{Frame, IsCertificate, IsOddLabelling}
 
 module _ (g : Graph) (is : IsGraph g) (x : Set) (label : ℕ → ℕ) (p : ℕ) (labels : IsOddLabelling g x label p) where
   along_walk : (u v : ℕ) (ws : List ℕ) → Walk (adjacent g x) u ws v → label u ≡ label v

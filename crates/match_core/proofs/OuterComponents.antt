@@ -16,9 +16,9 @@ use Rattle.graph_core.specs.Components.{is_least, odd_component_count}
 use Rattle.graph_core.specs.Graph.{Graph, IsGraph, first_end, second_end, size}
 use Rattle.graph_core.specs.Matchings.{IsMatching}
 use Rattle.graph_core.specs.Walks.{Joined, joined}
-use Rattle.match_core.proofs.Certificates.{certificate_tight}
+use Rattle.match_search.proofs.Certificates.{certificate_tight}
 use Rattle.match_core.proofs.OddComponents.{certificate_components, classes_leaders, outer_free, same_class}
-use Rattle.match_core.specs.Frames.{Frame, IsOddLabelling}
+use Rattle.match_search.specs.Frames.{Frame, IsOddLabelling}
 
 module _ (g : Graph) (is : IsGraph g) (x : Set) where
   abbrev pub is_odd_least : Set

@@ -17,11 +17,11 @@ use Rattle.graph_core.specs.Matchings.{HasPerfect, IsMatching, IsPerfect, has_pe
 use Rattle.graph_core.proofs.Decide.{has_perfect_found, has_perfect_says}
 use Rattle.graph_core.proofs.Edits.{missed_edges}
 use Rattle.graph_core.proofs.Perfect.{missed_one, perfect_matching, perfect_misses}
-use Rattle.match_core.specs.Frames.{Frame}
-use Rattle.match_core.specs.Optimal.{IsBest}
+use Rattle.match_search.specs.Frames.{Frame}
+use Rattle.match_search.specs.Optimal.{IsBest}
 use Rattle.match_core.specs.Partners.{AreEmptyRows, ArePartners, are_partners}
-use Rattle.match_core.specs.Rows.{marks}
-use Rattle.match_core.specs.declared.best.Best.{Best}
+use Rattle.match_search.specs.Rows.{marks}
+use Rattle.match_search.specs.declared.best.Best.{Best}
 use Rattle.match_core.proofs.OddComponents.{certificate_maximum, missable_outer, outer_missable}
 
 or_none : (a b : Bool) → (a || b) ≡ false → (a ≡ false) × (b ≡ false)

@@ -8,16 +8,16 @@ use Rattle.std.proofs.lemmas.List.{get_or-append_right, length-append}
 use Rattle.counting.specs.Counts.{Within, bit, count, total}
 use Rattle.counting.specs.Sets.{Set, put}
 use Rattle.counting.proofs.Totals.{two_le_total, total_add, total_congr, total_at}
-use Rattle.match_core.proofs.Forests.{met, turned}
-use Rattle.match_core.proofs.LongerPaths.{end_within}
+use Rattle.match_search.proofs.Forests.{met, turned}
+use Rattle.match_search.proofs.LongerPaths.{end_within}
 use Rattle.graph_core.specs.Graph.{Graph, HasEnds, IsGraph, degree, size}
 use Rattle.graph_core.specs.Matchings.{IsMatching, IsPerfect, missed_count}
-use Rattle.match_core.specs.Forests.{flipped}
-use Rattle.match_core.specs.Rows.{numbers}
-use Rattle.match_core.specs.RepairPaths.{IsRepairRow, IsWalk, Misses}
-use Rattle.match_core.proofs.Alike.{path_alike}
-use Rattle.match_core.proofs.LongerPaths.{longer, longer_below, longer_at, longer_after}
-use Rattle.match_core.proofs.SymmetricDifference.{further, further_other, m_a, mended, path_short, w_off}
+use Rattle.match_search.specs.Forests.{flipped}
+use Rattle.match_search.specs.Rows.{numbers}
+use Rattle.match_search.specs.RepairPaths.{IsRepairRow, IsWalk, Misses}
+use Rattle.match_search.proofs.Alike.{path_alike}
+use Rattle.match_search.proofs.LongerPaths.{longer, longer_below, longer_at, longer_after}
+use Rattle.match_search.proofs.SymmetricDifference.{further, further_other, m_a, mended, path_short, w_off}
 
 -- where two pass, a third does not
 pub no_third_passes : (n : ℕ) (p : Set) (a b : ℕ) → count n p ≡ 2 → Within n a → Within n b → a ≢ b → p a ≡ true → p b ≡ true → (u : ℕ) → Within n u → p u ≡ true → (u ≡ a) ⊎ (u ≡ b)

@@ -6,16 +6,16 @@ use mathlib.Core.Path.{fun_ext}
 use Rattle.counting.specs.Counts.{Within, is_odd}
 use Rattle.counting.specs.Sets.{Set, put}
 use Rattle.counting.proofs.Odd.{odd-double}
-use Rattle.match_core.proofs.LongerPaths.{ends_by}
+use Rattle.match_search.proofs.LongerPaths.{ends_by}
 use Rattle.graph_core.specs.Graph.{Graph, HasEnds, IsGraph, size}
 use Rattle.graph_core.specs.Matchings.{IsMatching}
-use Rattle.match_core.specs.Forests.{IsAlternating, flipped}
-use Rattle.match_core.specs.OddCycles.{same_answer}
-use Rattle.match_core.specs.Rows.{numbers, part}
-use Rattle.match_core.specs.RepairPaths.{DiffersByPath, IsRepairRow, Misses, difference}
-use Rattle.match_core.proofs.AlternatingPaths.{put_at, put_off, path_edges, flipped_off}
-use Rattle.match_core.proofs.OddCycles.{same_ends}
-use Rattle.match_core.proofs.StepTheorem.{on_path}
+use Rattle.match_search.specs.Forests.{IsAlternating, flipped}
+use Rattle.match_search.specs.OddCycles.{same_answer}
+use Rattle.match_search.specs.Rows.{numbers, part}
+use Rattle.match_search.specs.RepairPaths.{DiffersByPath, IsRepairRow, Misses, difference}
+use Rattle.match_search.proofs.AlternatingPaths.{put_at, put_off, path_edges, flipped_off}
+use Rattle.match_search.proofs.OddCycles.{same_ends}
+use Rattle.match_search.proofs.StepTheorem.{on_path}
 
 -- the edge at a place of the path, after the exchange
 pub flipped_at : (g : Graph) (r f : Set) (k : ℕ) (v e : ℕ → ℕ) → IsAlternating g r f k v e → (i j : ℕ) → i ≤ k → j < i + i → flipped f e i (e j) ≡ not (is_odd j)
@@ -95,7 +95,7 @@ module _ (g : Graph) (is : IsGraph g) (r m : Set) (mm : IsMatching g r m) (x : �
   }
     where
       between : (i j b : ℕ) → i ≡ j → vertex i ≡ row.vertex j → vertex (suc i) ≡ b → HasEnds g (numbers es j) (row.vertex j) b → HasEnds g (numbers es i) (vertex i) (vertex (suc i))
-      between i j b q p s h = Rattle.match_core.proofs.LongerPaths.ends_by g (numbers es i) (numbers es j) (vertex i) (row.vertex j) (vertex (suc i)) b (ap (numbers es) q) p s h
+      between i j b q p s h = Rattle.match_search.proofs.LongerPaths.ends_by g (numbers es i) (numbers es j) (vertex i) (row.vertex j) (vertex (suc i)) b (ap (numbers es) q) p s h
 
       found : (e : ℕ) → difference m new e ≡ true → (i : ℕ) × (i < suc (k + k)) × (numbers es i ≡ e)
       found e t = elim (on_path (k + k) (numbers es) e) [

@@ -4,8 +4,8 @@ use Rattle.counting.specs.Sets.{Set}
 use Rattle.graph_core.specs.Matchings.{IsMatching, IsPerfect, missed_count}
 use Rattle.graph_core.specs.View.{graph_of}
 use Rattle.graph_core.specs.declared.ends.Ends.{Ends}
-use Rattle.match_core.specs.GraphRows.{IsGraphRow, NamesEdges}
-use Rattle.match_core.specs.RepairPaths.{Misses}
+use Rattle.match_search.specs.GraphRows.{IsGraphRow, NamesEdges}
+use Rattle.match_search.specs.RepairPaths.{Misses}
 
 -- the matching m misses x and one vertex more, w is perfect, and for each vertex the rows name its edges of m and of w
 pub record StartsWalk (n : ℕ) (r m w : Set) (ends : List Ends) (at other : List ℕ) (x : ℕ) : Type 0 where

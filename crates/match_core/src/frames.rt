@@ -9,10 +9,9 @@ ghost use Rattle.graph_core.specs.GallaiEdmonds.{InD, InA};
 ghost use Rattle.graph_core.specs.Walks.{joined};
 ghost use Rattle.match_core.specs.MatchingRows.{IsOf, edges_of};
 
-use crate::answer::FinalSets;
-use crate::best::{Best, find_best};
 use crate::matching::{Matching, matching_of};
 use graph_core::MultiGraph;
+use match_search::{Best, FinalSets, find_best};
 use std::alloc::{AllocError as Memory, Global};
 use vset_core::VSet;
 

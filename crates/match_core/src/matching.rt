@@ -6,12 +6,12 @@ ghost use Rattle.counting.specs.Lists.{mem, rising_list};
 ghost use Rattle.graph_core.specs.Graph.{Graph, size, degree, first_end, second_end};
 ghost use Rattle.graph_core.specs.View.{graph_of};
 ghost use Rattle.graph_core.specs.Matchings.{IsMatching};
-ghost use Rattle.match_core.specs.Rows.{marks};
-ghost use Rattle.match_core.specs.GraphRows.{IsGraphRow};
+ghost use Rattle.match_search.specs.Rows.{marks};
+ghost use Rattle.match_search.specs.GraphRows.{IsGraphRow};
 ghost use Rattle.match_core.specs.MatchingRows.{KeepsMatching, IsOf, edges_of, is_clear, left_over, row_at};
 
-use crate::rows::{falses, mark_place};
 use graph_core::{Ends, MOST_EDGES, MultiGraph};
+use match_search::{falses, mark_place};
 use std::alloc::{AllocError as Memory, Global};
 use std::marker::Model;
 use vset_core::{MOST_VERTICES, VSet};

@@ -16,14 +16,14 @@ ghost use Rattle.counting.specs.Lists.{item, mem};
 ghost use Rattle.graph_core.specs.Graph.{size};
 ghost use Rattle.graph_core.specs.Matchings.{IsMatching, has_perfect, missed_count};
 ghost use Rattle.match_core.specs.MatchingRows.{IsOf};
-ghost use Rattle.match_core.specs.Optimal.{IsBest};
+ghost use Rattle.match_search.specs.Optimal.{IsBest};
 ghost use Rattle.match_core.specs.Partners.{AreEmptyRows, ArePartners, are_partners};
-ghost use Rattle.match_core.specs.Rows.{marks};
+ghost use Rattle.match_search.specs.Rows.{marks};
 
-use crate::best::{Best, best_from};
 use crate::frames::maximum;
 use crate::matching::{Matching, matching_of};
 use graph_core::MultiGraph;
+use match_search::{Best, best_from};
 use std::alloc::{AllocError as Memory, Global};
 use std::marker::Model;
 use vset_core::VSet;

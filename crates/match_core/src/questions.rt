@@ -5,14 +5,13 @@ ghost use Rattle.counting.specs.Sets.{none};
 ghost use Rattle.counting.specs.Lists.{mem};
 ghost use Rattle.graph_core.specs.Graph.{size};
 ghost use Rattle.graph_core.specs.Matchings.{IsPerfect, HasPerfect};
-ghost use Rattle.match_core.specs.Rows.{marks};
+ghost use Rattle.match_search.specs.Rows.{marks};
 ghost use Rattle.match_core.specs.MatchingRows.{IsOf, edges_of};
-ghost use Rattle.match_core.specs.Questions.{HoldsAll, HasPerfectWith, MeetOnce};
+ghost use Rattle.match_search.specs.Questions.{HoldsAll, HasPerfectWith, MeetOnce};
 
-use crate::best::{Best, find_best, is_addable};
 use crate::matching::{Matching, matching_of};
-use crate::rows::{falses, is_marked, mark_place, mark_places};
 use graph_core::{MultiGraph, Numbers};
+use match_search::{Best, falses, find_best, is_addable, is_marked, mark_place, mark_places};
 use std::alloc::{AllocError as Memory, Global};
 use vset_core::VSet;
 

@@ -6,17 +6,16 @@ ghost use Rattle.graph_core.specs.Rows.{AreRows};
 ghost use Rattle.graph_core.specs.View.{graph_of};
 ghost use Rattle.graph_core.specs.Matchings.{IsMatching, IsPerfect, HasPerfect, missed_count};
 ghost use Rattle.counting.specs.Sets.{Set, put};
-ghost use Rattle.match_core.specs.Forests.{flipped};
-ghost use Rattle.match_core.specs.Rows.{marks, numbers, part, end_a, end_b};
-ghost use Rattle.match_core.specs.GraphRows.{IsGraphRow, NamesEdges};
+ghost use Rattle.match_search.specs.Forests.{flipped};
+ghost use Rattle.match_search.specs.Rows.{marks, numbers, part, end_a, end_b};
+ghost use Rattle.match_search.specs.GraphRows.{IsGraphRow, NamesEdges};
 ghost use Rattle.match_core.specs.MatchingRows.{IsOf, edges_of};
-ghost use Rattle.match_core.specs.RepairPaths.{DiffersByPath, IsRepairRow, Misses};
+ghost use Rattle.match_search.specs.RepairPaths.{DiffersByPath, IsRepairRow, Misses};
 ghost use Rattle.match_core.specs.RepairWalks.{StartsWalk};
 
-use crate::best::{Best, best_from};
 use crate::matching::{Matching, matching_of};
-use crate::rows::mark_place;
 use graph_core::{Ends, MultiGraph};
+use match_search::{Best, best_from, mark_place};
 use std::alloc::{AllocError as Memory, Global};
 use vset_core::{MOST_VERTICES, VSet};
 

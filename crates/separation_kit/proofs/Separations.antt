@@ -23,7 +23,7 @@ use Rattle.graph_core.specs.Matchings.{IsPerfect}
 use Rattle.graph_core.specs.Structure.{IsCutPair}
 use Rattle.graph_core.specs.Tight.{IsTight, IsNontrivial}
 use Rattle.graph_core.specs.Walks.{joined}
-use Rattle.match_core.proofs.NearPerfectSets.{ends_far, ends_near}
+use Rattle.match_search.proofs.NearPerfectSets.{ends_far, ends_near}
 
 module _ (g : Graph) (is : IsGraph g) (u v : ℕ) (wu : Within g.order u) (wv : Within g.order v) (d : u ≢ v) (n : Set) (pn : IsPerfect g (pair_set u v) n) where
   abbrev pair : Set

@@ -10,7 +10,7 @@ use Rattle.counting.specs.Counts.{bit, total, count, Within}
 use Rattle.counting.specs.Lists.{mem, item, IsRisingIn}
 use Rattle.counting.specs.Tests.{some}
 use Rattle.graph_core.specs.PairLists.{IsLean}
-use Rattle.match_core.proofs.Gluing.{mem-holds}
+use Rattle.match_search.proofs.Gluing.{mem-holds}
 
 low_count : (m f : ℕ) → count m (λ e. nat_le e f) ≤ f
 low_count zero f = omega arith

@@ -15,7 +15,7 @@ use Rattle.graph_core.specs.Tight.{IsTight}
 use Rattle.graph_core.specs.Walks.{joined, Joined, adjacent}
 use Rattle.tight_cuts.proofs.PairsOfEdges.{odd_sides, others_stay, cut_between}
 use Rattle.tight_cuts.specs.Pieces.{IsBeside}
-use Rattle.match_core.proofs.NearPerfectSets.{ends_far, ends_near}
+use Rattle.match_search.proofs.NearPerfectSets.{ends_far, ends_near}
 
 -- a set that no edge of h leaves holds all of a component or nothing
 pub uncrossed_joined : (h : Graph) (s z : Set) → IsGraph h → ((f : ℕ) → Within (size h) f → in_cut h z f ≡ false) → (u v : ℕ) → joined h s u v ≡ true → z u ≡ z v

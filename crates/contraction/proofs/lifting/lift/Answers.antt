@@ -7,9 +7,9 @@ use Rattle.counting.specs.Lists.{mem, rising_list}
 use Rattle.graph_core.specs.Graph.{size}
 use Rattle.graph_core.specs.Partitions.{IsPerfectAt}
 use Rattle.graph_core.specs.Quotients.{lifted}
-use Rattle.match_core.proofs.Marks.{no-marks}
+use Rattle.match_search.proofs.Marks.{no-marks}
 use Rattle.match_core.specs.MatchingRows.{edges_of}
-use Rattle.match_core.specs.Rows.{marks}
+use Rattle.match_search.specs.Rows.{marks}
 use Rattle.match_core.specs.declared.matching.MatchRow.{MatchRow}
 use Rattle.contraction.specs.LeastEdges.{least_at}
 use Rattle.contraction.proofs.LeastEdges.{blocks-of, marked-lifted}

@@ -1,9 +1,9 @@
 use Rattle.std.proofs.Common.{ℕ, ◌||◌, ◌==◌, sym, ap, ◌∙◌, take}
 use Rattle.counting.proofs.Booleans.{or_assoc}
 use Rattle.std.specs.List.{list_any}
-use Rattle.match_core.specs.Rows.{marks}
+use Rattle.match_search.specs.Rows.{marks}
 use Rattle.match_core.specs.declared.matching.MatchRow.{MatchRow}
-use Rattle.match_core.proofs.GrownRows.{with_put}
+use Rattle.match_search.proofs.GrownRows.{with_put}
 use Rattle.contraction.specs.LeastEdges.{least_at}
 use Rattle.contraction.proofs.LeastEdges.{any-more}
 use Rattle.contraction.proofs.lifting.mark_least.Goals as goal

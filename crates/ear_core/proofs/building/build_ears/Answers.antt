@@ -1,7 +1,7 @@
 use Rattle.std.proofs.Common.{rules, ◌≡◌, ◌<◌, length, map, subst, sym, ℕ}
 use Rattle.std.proofs.Math.Path.{fun_ext}
 use Rattle.counting.specs.Sets.{Set, singleton}
-use Rattle.match_core.specs.Rows.{marks}
+use Rattle.match_search.specs.Rows.{marks}
 use Rattle.std.specs.Prelude.{slice_set}
 use Rattle.std.proofs.Common.{true}
 use Rattle.ear_core.specs.AlternatingEars.{row_edge, KeepsMates}

@@ -1,7 +1,7 @@
 use Rattle.std.proofs.Common.{ap, subst, sym, map, List}
 use Rattle.std.proofs.lemmas.Result.{IfOk-weaker}
 use Rattle.graph_core.specs.Graph.{size}
-use Rattle.match_core.specs.Rows.{marks}
+use Rattle.match_search.specs.Rows.{marks}
 use Rattle.ear_core.specs.AlternatingEars.{row_edge, AreCandidates, IsPerfectRows, IsChosen, KeepsMates}
 use Rattle.ear_core.specs.EarLists.{IsStep, FitsStep, next_stage}
 use Rattle.ear_core.specs.Stages.{is_met}

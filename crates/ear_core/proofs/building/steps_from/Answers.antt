@@ -3,7 +3,7 @@ use Rattle.std.specs.List.{AllByRecursion}
 use Rattle.std.proofs.lemmas.List.{map-append}
 use Rattle.counting.specs.Counts.{Within}
 use Rattle.graph_core.specs.Graph.{size, first_end, second_end}
-use Rattle.match_core.specs.Rows.{marks}
+use Rattle.match_search.specs.Rows.{marks}
 use Rattle.ear_core.specs.AlternatingEars.{row_edge, KeepsMates}
 use Rattle.ear_core.specs.EarLists.{PlainStep, AreSteps, IsSingle, IsStep, next_stage}
 use Rattle.ear_core.specs.Stages.{is_met, IsStage}

@@ -3,7 +3,7 @@ use Rattle.std.specs.List.{AllByRecursion}
 use Rattle.counting.specs.Counts.{count}
 use Rattle.counting.specs.Sets.{complement}
 use Rattle.graph_core.specs.Graph.{size, IsBipartite}
-use Rattle.match_core.specs.Rows.{marks}
+use Rattle.match_search.specs.Rows.{marks}
 use Rattle.ear_core.specs.AlternatingEars.{KeepsMates, row_edge}
 use Rattle.ear_core.specs.EarLists.{PlainStep, AreSteps, IsSingle}
 use Rattle.ear_core.specs.Stages.{is_met, IsStage}

@@ -2,7 +2,7 @@ use Rattle.std.proofs.Common.{rules, ◌≡◌, ◌+◌, ◌∙◌, ◌∷◌, L
 use Rattle.std.specs.List.{AllByRecursion}
 use Rattle.counting.proofs.Counts.{count_le}
 use Rattle.graph_core.specs.Graph.{size}
-use Rattle.match_core.specs.Rows.{marks}
+use Rattle.match_search.specs.Rows.{marks}
 use Rattle.ear_core.specs.EarLists.{FitsStep, PlainStep}
 use Rattle.ear_core.specs.Refusals.{IsJudged}
 use Rattle.ear_core.specs.TakenSteps.{IsTaken}

@@ -2,7 +2,7 @@ use Rattle.std.proofs.Common.{◌≡◌, ◌+◌, ◌≤◌, ℕ, length, map, O
 use Rattle.std.specs.List.{AllByRecursion}
 use Rattle.counting.specs.Counts.{count}
 use Rattle.graph_core.specs.Graph.{size}
-use Rattle.match_core.specs.Rows.{marks}
+use Rattle.match_search.specs.Rows.{marks}
 use Rattle.ear_core.specs.EarLists.{FitsStep}
 use Rattle.ear_core.specs.EarTests.{Why}
 use Rattle.ear_core.specs.Refusals.{IsJudged}

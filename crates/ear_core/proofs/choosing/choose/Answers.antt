@@ -1,6 +1,6 @@
 use Rattle.std.proofs.Common.{rules, ap, map, [], ℕ, List}
 use Rattle.counting.specs.Lists.{mem}
-use Rattle.match_core.specs.Rows.{marks}
+use Rattle.match_search.specs.Rows.{marks}
 use Rattle.ear_core.specs.AlternatingEars.{IsChosen}
 use Rattle.ear_core.specs.Asking.{FindsBeside, FindsTwo, NoneServes, NoTwoServe}
 use Rattle.ear_core.specs.EarLists.{IsStep, next_stage, one}

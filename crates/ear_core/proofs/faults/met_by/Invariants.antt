@@ -2,7 +2,7 @@ use Rattle.std.proofs.Common.{◌≡◌, ◌||◌, ◌==◌, ◌&&◌, ℕ}
 use Rattle.counting.specs.Lists.{mem}
 use Rattle.counting.specs.Tests.{some}
 use Rattle.graph_core.specs.Graph.{first_end, second_end}
-use Rattle.match_core.specs.Rows.{marks}
+use Rattle.match_search.specs.Rows.{marks}
 use Rattle.ear_core.proofs.faults.met_by.Given as goal
 
 -- the vertices that the marked edges so far meet

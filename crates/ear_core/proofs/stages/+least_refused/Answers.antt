@@ -1,7 +1,7 @@
 use Rattle.std.proofs.Common.{rules, arith, ◌≡◌, true}
 use Rattle.counting.specs.Counts.{Within}
 use Rattle.graph_core.specs.Graph.{size}
-use Rattle.match_core.specs.Rows.{marks}
+use Rattle.match_search.specs.Rows.{marks}
 use Rattle.ear_core.specs.Stages.{with_edges}
 use Rattle.ear_core.specs.StageGraphs.{asked_too}
 use Rattle.ear_core.proofs.FirstFaults.{first-item, items-behind}

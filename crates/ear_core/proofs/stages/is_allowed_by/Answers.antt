@@ -2,7 +2,7 @@ use Rattle.std.proofs.Common.{rules, ◌≡◌, ◌≢◌, ◌∙◌, ◌==◌, 
 use Rattle.counting.specs.Counts.{Within}
 use Rattle.counting.specs.Lists.{mem}
 use Rattle.graph_core.specs.Graph.{first_end, second_end}
-use Rattle.match_core.specs.Rows.{marks}
+use Rattle.match_search.specs.Rows.{marks}
 use Rattle.match_core.specs.MatchingRows.{edges_of}
 use Rattle.ear_core.specs.Stages.{is_met}
 use Rattle.ear_core.proofs.Settling.{removed-is, found-allowed, none-refused}

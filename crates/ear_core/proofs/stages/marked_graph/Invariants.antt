@@ -1,6 +1,6 @@
 use Rattle.std.proofs.Common.{◌≡◌, ◌≤◌}
 use Rattle.graph_core.specs.Graph.{size, with_ends}
-use Rattle.match_core.specs.Rows.{marks}
+use Rattle.match_search.specs.Rows.{marks}
 use Rattle.ear_core.specs.StageGraphs.{listed}
 use Rattle.ear_core.proofs.stages.marked_graph.Given as goal
 

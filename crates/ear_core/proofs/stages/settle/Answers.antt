@@ -1,5 +1,5 @@
 use Rattle.std.proofs.Common.{rules}
-use Rattle.match_core.specs.Rows.{marks}
+use Rattle.match_search.specs.Rows.{marks}
 use Rattle.ear_core.proofs.Settling.{settled-known, settled-allowed, settled-refused}
 use Rattle.ear_core.proofs.stages.settle.Goals as goal
 

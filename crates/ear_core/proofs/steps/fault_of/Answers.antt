@@ -1,5 +1,5 @@
 use Rattle.std.proofs.Common.{rules, ◌≡◌, ◌∙◌, ap, [], Option, Some, None}
-use Rattle.match_core.specs.Rows.{marks}
+use Rattle.match_search.specs.Rows.{marks}
 use Rattle.ear_core.specs.EarTests.{Why, ear_fault}
 use Rattle.ear_core.specs.Refusals.{step_fault}
 use Rattle.ear_core.specs.View.{ear_of, plain_step, step_of, why_of}

@@ -1,6 +1,6 @@
 use Rattle.std.proofs.Common.{◌≡◌, ◌||◌, ◌<◌, ℕ, All, length}
 use Rattle.counting.specs.Lists.{mem}
-use Rattle.match_core.specs.Rows.{marks}
+use Rattle.match_search.specs.Rows.{marks}
 use Rattle.ear_core.proofs.steps.mark_edges.Given as goal
 
 -- the edges marked and those left are all

@@ -1,6 +1,6 @@
 use Rattle.std.proofs.Common.{◌∙◌, ap, ap₂, sym, List, ℕ}
 use Rattle.counting.specs.Sets.{none}
-use Rattle.match_core.specs.Rows.{marks}
+use Rattle.match_search.specs.Rows.{marks}
 use Rattle.ear_core.specs.EarLists.{next_stage}
 use Rattle.ear_core.specs.Stages.{with_edges}
 use Rattle.ear_core.specs.View.{ear_of, plain_step, step_of}

@@ -2,7 +2,7 @@ use Rattle.std.proofs.Common.{rules, ◌≡◌, ◌∙◌, ap, subst, refl, sym,
 use Rattle.counting.specs.Counts.{Within}
 use Rattle.counting.specs.Sets.{none}
 use Rattle.graph_core.specs.Graph.{size}
-use Rattle.match_core.specs.Rows.{marks}
+use Rattle.match_search.specs.Rows.{marks}
 use Rattle.ear_core.specs.EarLists.{next_stage}
 use Rattle.ear_core.specs.Refusals.{step_fault}
 use Rattle.ear_core.specs.StageGraphs.{Settled}

@@ -3,7 +3,7 @@ use Rattle.std.proofs.lemmas.Result.{IfOk-weaker}
 use Rattle.std.proofs.lemmas.List.{map-append}
 use Rattle.counting.specs.Counts.{Within}
 use Rattle.counting.specs.Lists.{mem}
-use Rattle.match_core.specs.Rows.{marks}
+use Rattle.match_search.specs.Rows.{marks}
 use Rattle.ear_core.specs.AlternatingEars.{row_edge, is_left, AreMatedEars, IsTraced}
 use Rattle.ear_core.specs.EarLists.{PlainEar}
 use Rattle.ear_core.specs.View.{ear_of}

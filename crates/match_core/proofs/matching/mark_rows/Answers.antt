@@ -2,9 +2,9 @@ use Rattle.std.proofs.Common.{◌≡◌, Bool, true, false, ◌||◌, ◌==◌, 
 use Rattle.std.proofs.lemmas.List.{take_more, map-append}
 use Rattle.counting.proofs.Lists.{mem-append}
 use Rattle.counting.specs.Lists.{mem}
-use Rattle.match_core.specs.Rows.{marks}
+use Rattle.match_search.specs.Rows.{marks}
 use Rattle.match_core.specs.declared.matching.MatchRow.{MatchRow}
-use Rattle.match_core.proofs.GrownRows.{with_put}
+use Rattle.match_search.proofs.GrownRows.{with_put}
 use Rattle.match_core.proofs.MatchingEdges.{edge_of}
 use Rattle.match_core.proofs.matching.mark_rows.Goals as goal
 

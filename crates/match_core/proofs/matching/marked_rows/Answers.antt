@@ -1,10 +1,10 @@
 use Rattle.std.proofs.Common.{◌≡◌, ℕ, suc, ◌+◌, ◌++◌, ◌∷◌, [], true, sym, ap, ◌∙◌, map, arith}
 use Rattle.counting.specs.Lists.{rising_list}
 use Rattle.graph_core.specs.View.{graph_of}
-use Rattle.match_core.specs.Rows.{marks, end_a, end_b}
+use Rattle.match_search.specs.Rows.{marks, end_a, end_b}
 use Rattle.match_core.specs.MatchingRows.{row_at}
 use Rattle.match_core.specs.declared.matching.MatchRow.{MatchRow}
-use Rattle.match_core.proofs.GraphRows.{ends_here}
+use Rattle.match_search.proofs.GraphRows.{ends_here}
 use Rattle.match_core.proofs.MatchingEdges.{marked_more, marked_none}
 use Rattle.match_core.proofs.matching.marked_rows.Goals as goal
 use Rattle.match_core.proofs.matching.marked_rows.Goals.{then-mark-k+in_ok-push, else-mark-k}

@@ -6,9 +6,9 @@ use Rattle.counting.specs.Sets.{Set}
 use Rattle.graph_core.specs.Graph.{Graph}
 use Rattle.graph_core.specs.Matchings.{IsMatching}
 use Rattle.match_core.specs.MatchingRows.{edges_of}
-use Rattle.match_core.specs.Optimal.{IsBest}
-use Rattle.match_core.specs.Rows.{marks}
-use Rattle.match_core.proofs.WholeGraphs.{ends_rows, limits_row, whole_graph}
+use Rattle.match_search.specs.Optimal.{IsBest}
+use Rattle.match_search.specs.Rows.{marks}
+use Rattle.match_search.proofs.WholeGraphs.{ends_rows, limits_row, whole_graph}
 use Rattle.match_core.proofs.partner_table.enlarged.Goals as goal
 
 pub marks-requires-clause-within : goal.marks-requires-clause-within

@@ -7,12 +7,12 @@ use Rattle.counting.specs.Sets.{Set, none, put}
 use Rattle.counting.specs.Lists.{mem}
 use Rattle.graph_core.specs.Graph.{degree}
 use Rattle.graph_core.proofs.Perfect.{perfect_matching}
-use Rattle.match_core.specs.Rows.{marks, end_a, end_b}
-use Rattle.match_core.specs.Questions.{MeetOnce}
-use Rattle.match_core.proofs.GrownRows.{with_put}
-use Rattle.match_core.proofs.FirstMarks.{addable, empty_degree}
-use Rattle.match_core.proofs.Gluing.{meet_more, meet_none, mem-more, mem-take, mem-again, mem-take_all}
-use Rattle.match_core.proofs.WholeGraphs.{whole_pair, whole_size, whole_within}
+use Rattle.match_search.specs.Rows.{marks, end_a, end_b}
+use Rattle.match_search.specs.Questions.{MeetOnce}
+use Rattle.match_search.proofs.GrownRows.{with_put}
+use Rattle.match_search.proofs.FirstMarks.{addable, empty_degree}
+use Rattle.match_search.proofs.Gluing.{meet_more, meet_none, mem-more, mem-take, mem-again, mem-take_all}
+use Rattle.match_search.proofs.WholeGraphs.{whole_pair, whole_size, whole_within}
 use Rattle.match_core.proofs.questions.ends_met.Goals as goal
 use Rattle.match_core.proofs.questions.ends_met.Goals.{then-not-is_marked+else-not-is_addable, else-not-is_marked}
 

@@ -4,8 +4,8 @@ use mathlib.Core.Path.{fun_ext}
 use Rattle.counting.specs.Sets.{Set, none, minus, union}
 use Rattle.counting.specs.Lists.{mem}
 use Rattle.graph_core.specs.Matchings.{IsPerfect}
-use Rattle.match_core.specs.Rows.{marks}
-use Rattle.match_core.proofs.Gluing.{glued, cut_off}
+use Rattle.match_search.specs.Rows.{marks}
+use Rattle.match_search.proofs.Gluing.{glued, cut_off}
 use Rattle.match_core.proofs.questions.marks_with.Goals as goal
 
 pub returns-in-None-2-clause-none : goal.returns-in-None-2-clause-none

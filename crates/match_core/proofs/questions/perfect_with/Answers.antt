@@ -5,10 +5,10 @@ use Rattle.counting.specs.Counts.{Within}
 use Rattle.counting.specs.Sets.{none}
 use Rattle.graph_core.specs.Graph.{size}
 use Rattle.graph_core.specs.Matchings.{IsPerfect}
-use Rattle.match_core.specs.Rows.{marks}
+use Rattle.match_search.specs.Rows.{marks}
 use Rattle.match_core.specs.MatchingRows.{edges_of, MatchingValue}
 use Rattle.match_core.proofs.FrameFacts.{passed_matching, listed_perfect}
-use Rattle.match_core.proofs.Gluing.{mem-holds}
+use Rattle.match_search.proofs.Gluing.{mem-holds}
 use Rattle.match_core.proofs.questions.perfect_with.Goals as goal
 
 pub matching_of-requires-clause-matching : goal.matching_of-requires-clause-matching

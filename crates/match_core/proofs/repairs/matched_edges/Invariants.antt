@@ -1,6 +1,6 @@
 use Rattle.std.proofs.Common.{◌≡◌, ◌+◌, length}
-use Rattle.match_core.specs.Rows.{marks}
-use Rattle.match_core.specs.GraphRows.{NamesEdges}
+use Rattle.match_search.specs.Rows.{marks}
+use Rattle.match_search.specs.GraphRows.{NamesEdges}
 use Rattle.match_core.proofs.repairs.matched_edges.Given as goal
 
 abbrev pub invariant-loop-k : goal.invariant-loop-k

@@ -4,12 +4,12 @@ use Rattle.counting.specs.Lists.{mem}
 use Rattle.counting.specs.Sets.{Set}
 use Rattle.graph_core.specs.Graph.{Graph}
 use Rattle.graph_core.specs.Matchings.{HasPerfect, IsMatching, IsPerfect, missed_count}
-use Rattle.match_core.specs.Rows.{marks}
+use Rattle.match_search.specs.Rows.{marks}
 use Rattle.match_core.specs.MatchingRows.{edges_of, MatchingValue}
-use Rattle.match_core.specs.RepairPaths.{DiffersByPath}
+use Rattle.match_search.specs.RepairPaths.{DiffersByPath}
 use Rattle.match_core.proofs.FrameFacts.{listed_marks, listed_perfect, passed_matching}
 use Rattle.match_core.proofs.RepairedPaths.{differs_alike}
-use Rattle.match_core.proofs.WholeGraphs.{ends_rows, limits_row, whole_graph, whole_size}
+use Rattle.match_search.proofs.WholeGraphs.{ends_rows, limits_row, whole_graph, whole_size}
 use Rattle.match_core.proofs.repairs.repair.Goals as goal
 
 pub marks-requires-clause-within : goal.marks-requires-clause-within

@@ -3,9 +3,9 @@ use Rattle.std.proofs.lemmas.Result.{IfOk-weaker}
 use Rattle.counting.specs.Lists.{mem}
 use Rattle.counting.specs.Sets.{Set}
 use Rattle.graph_core.specs.View.{graph_of}
-use Rattle.match_core.specs.GraphRows.{NamesEdges}
-use Rattle.match_core.specs.Rows.{marks, numbers}
-use Rattle.match_core.specs.RepairPaths.{IsRepairRow, Misses}
+use Rattle.match_search.specs.GraphRows.{NamesEdges}
+use Rattle.match_search.specs.Rows.{marks, numbers}
+use Rattle.match_search.specs.RepairPaths.{IsRepairRow, Misses}
 use Rattle.match_core.specs.RepairWalks.{StartsWalk}
 use Rattle.match_core.proofs.NamedEdges.{free_misses, none_free}
 use Rattle.match_core.proofs.repairs.repair_path.Goals as goal

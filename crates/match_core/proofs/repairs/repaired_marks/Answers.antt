@@ -4,11 +4,11 @@ use Rattle.counting.specs.Sets.{Set, put}
 use Rattle.counting.specs.Lists.{mem}
 use Rattle.graph_core.specs.Matchings.{IsMatching, IsPerfect}
 use Rattle.graph_core.specs.View.{graph_of}
-use Rattle.match_core.specs.Forests.{flipped}
-use Rattle.match_core.specs.Rows.{marks, numbers, part}
-use Rattle.match_core.specs.RepairPaths.{DiffersByPath, IsRepairRow, Misses}
+use Rattle.match_search.specs.Forests.{flipped}
+use Rattle.match_search.specs.Rows.{marks, numbers, part}
+use Rattle.match_search.specs.RepairPaths.{DiffersByPath, IsRepairRow, Misses}
 use Rattle.match_core.proofs.FrameFacts.{no_outer-best_perfect, outer-none_perfect}
-use Rattle.match_core.proofs.GraphRows.{row_graph, size_is}
+use Rattle.match_search.proofs.GraphRows.{row_graph, size_is}
 use Rattle.match_core.proofs.RepairedPaths.{row_real, flipped_row, repaired_path}
 use Rattle.match_core.proofs.repairs.repaired_marks.Goals as goal
 

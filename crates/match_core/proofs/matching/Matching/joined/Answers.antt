@@ -6,9 +6,9 @@ use Rattle.counting.specs.Lists.{mem, rising_list}
 use Rattle.graph_core.specs.Graph.{size, first_end, second_end}
 use Rattle.graph_core.specs.Matchings.{IsMatching}
 use Rattle.graph_core.proofs.Edits.{add_edge}
-use Rattle.match_core.specs.Rows.{marks}
+use Rattle.match_search.specs.Rows.{marks}
 use Rattle.match_core.specs.MatchingRows.{MatchingValue, edges_of}
-use Rattle.match_core.proofs.GrownRows.{with_put}
+use Rattle.match_search.proofs.GrownRows.{with_put}
 use Rattle.match_core.proofs.MatchingEdges.{rows-matching, rows-rise, joined_edges}
 use Rattle.match_core.proofs.matching.Matching.joined.Goals as goal
 

@@ -1,7 +1,0 @@
-use Rattle.std.proofs.Common.{length}
-use Rattle.counting.specs.Counts.{count}
-use Rattle.counting.specs.Lists.{mem}
-use Rattle.match_core.proofs.augment.+augment_once.Given as goal
-
-abbrev pub decreases-augment_once : goal.decreases-augment_once
-decreases-augment_once l = count (length l.instance.now.rows.items) (mem l.instance.now.left)

@@ -1,8 +1,0 @@
-use Rattle.std.proofs.Common.{◌≡◌, ℕ, false}
-use Rattle.counting.specs.Counts.{Within}
-use Rattle.counting.specs.Lists.{mem}
-use Rattle.match_core.specs.Rows.{numbers}
-use Rattle.match_core.proofs.blossom.place_in.Given as goal
-
-abbrev pub invariant-loop-i : goal.invariant-loop-i
-invariant-loop-i l = (j : ℕ) → Within l.i j → mem l.row (numbers l.ring j) ≡ false

@@ -1,7 +1,0 @@
-use Rattle.std.proofs.Common.{◌≡◌, ℕ, ◌-◌, length}
-use Rattle.match_core.specs.Mates.{paired_round}
-use Rattle.match_core.specs.Rows.{numbers}
-use Rattle.match_core.proofs.mates.pair_round.Given as goal
-
-abbrev pub invariant-loop-i : goal.invariant-loop-i
-invariant-loop-i l = record { same : length l.mate ≡ length l.initial.mate; row : (u : ℕ) → numbers l.mate u ≡ paired_round (numbers l.initial.mate) (length l.ring - 1) (numbers l.ring) l.tip l.i u }

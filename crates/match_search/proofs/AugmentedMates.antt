@@ -1,0 +1,61 @@
+-- What an augmentation by mates hands on: its matching is held again, with fewer exposed vertices; and where it ends, the marks
+-- of a matching with its mates and its frame are the best.
+use Rattle.std.proofs.Common.{◌≡◌, ℕ, suc, ◌+◌, ◌<◌, ◌==◌, ◌&&◌, not, nat_lt, nat_le, sym, ap, ◌∙◌, subst, arith, lt-ltb, List, length}
+use Rattle.std.proofs.lemmas.Bool.{and_from, le-leb}
+use Rattle.counting.proofs.Counts.{count_congr}
+use Rattle.counting.specs.Counts.{count, Within}
+use Rattle.counting.specs.Lists.{mem}
+use Rattle.counting.specs.Sets.{Set}
+use Rattle.graph_core.specs.Graph.{Graph, IsGraph, size}
+use Rattle.match_search.specs.AlternatingForests.{HoldsMatching}
+use Rattle.match_search.specs.Blossoms.{IsMateStep}
+use Rattle.match_search.specs.Frames.{Frame}
+use Rattle.match_search.specs.Instances.{IsInstance}
+use Rattle.match_search.specs.Mates.{HasMates}
+use Rattle.match_search.specs.Optimal.{IsBest}
+use Rattle.match_search.specs.Rows.{marks, numbers}
+use Rattle.match_search.specs.declared.best.Best.{Best}
+use Rattle.match_search.specs.declared.instance.Instance.{Instance}
+use Rattle.match_search.specs.declared.answer.Answer.TheVariants.{Final, Grown}
+use Rattle.match_search.specs.Shrinkings.{AreAlike}
+use Rattle.match_search.proofs.Instances.{instance_alike}
+use Rattle.match_search.proofs.SameMates.{exposed_mates, same_mates_count}
+
+-- an instance and the mates of a matching of it, where the mates are passed on
+pub first_held : (g : Graph) (r f : Set) (s : Instance) (mate passed : List ℕ) → passed ≡ mate → IsInstance g r s → length mate ≡ suc g.order → HasMates g r f (numbers mate) → HoldsMatching g r f s passed
+first_held g r f s mate passed same is long mates = subst (λ (row : List ℕ). HoldsMatching g r f s row) (sym same) (record { instance_is = is; long = long; mates = mates })
+
+-- a matching with one edge more has fewer exposed vertices
+fewer_exposed : (g : Graph) → IsGraph g → (r f m : Set) (mate new : ℕ → ℕ) → HasMates g r f mate → HasMates g r m new → count (size g) m ≡ count (size g) f + 1 →
+    count g.order (λ v. not (r v) && (new v == 0)) < count g.order (λ v. not (r v) && (mate v == 0))
+fewer_exposed g is r f m mate new before after more =
+    let a = exposed_mates g is r f mate before in
+    let b = exposed_mates g is r m new after in omega arith
+
+-- the vertices that are left are those that are not removed
+pub left_is : (g : Graph) (r : Set) (s : Instance) → IsInstance g r s → (v : ℕ) → Within g.order v → mem s.left v ≡ not (r v)
+left_is g r s is v w = is.left v ∙ ap (λ b. b && not (r v)) (and_from (nat_lt 0 v) (nat_le v g.order) (lt-ltb 0 v (omega arith)) (le-leb v g.order (omega arith)))
+
+-- what a step leaves
+module _ (g : Graph) (is : IsGraph g) (r f : Set) (s s' : Instance) (mate new : List ℕ) (held : HoldsMatching g r f s mate) (long : length new ≡ length mate) (step : IsMateStep g r f new Grown) where
+  pub held_again : AreAlike s s' → HoldsMatching g r step.m s' new
+  held_again alike = record {
+    instance_is = instance_alike g r s s' held.instance_is alike;
+    long = long ∙ held.long;
+    mates = step.mates;
+  }
+
+  pub fewer_left : (left : List ℕ) → ((v : ℕ) → Within g.order v → mem left v ≡ not (r v)) → count g.order (λ v. mem left v && (numbers new v == 0)) < count g.order (λ v. mem left v && (numbers mate v == 0))
+  fewer_left left are =
+      let fewer = fewer_exposed g is r f step.m (numbers mate) (numbers new) held.mates step.mates step.answer in
+      let a = count_congr g.order (λ v. mem left v && (numbers new v == 0)) (λ v. not (r v) && (numbers new v == 0)) (λ v w. ap (λ b. b && (numbers new v == 0)) (are v w)) in
+      let b = count_congr g.order (λ v. mem left v && (numbers mate v == 0)) (λ v. not (r v) && (numbers mate v == 0)) (λ v w. ap (λ b. b && (numbers mate v == 0)) (are v w)) in omega arith
+
+-- marks with the mates of a last step, and its frame
+pub marked_best : (g : Graph) → IsGraph g → (r f : Set) (mate : List ℕ) (b : Best) (step : IsMateStep g r f mate (Final b.sets)) → length b.mark.items ≡ size g + 1 → HasMates g r (marks b.mark.items) (numbers mate) → IsBest g r b
+marked_best g is r f mate b step long has = record {
+  long = long;
+  matching = has.matching;
+  frame = subst (λ k. Frame g r k (mem b.sets.outer) (mem b.sets.inner)) (sym step.answer.0 ∙ same_mates_count g is r step.m (marks b.mark.items) (numbers mate) step.mates has) step.answer.1;
+  sets = step.answer.2;
+}

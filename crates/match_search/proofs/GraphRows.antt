@@ -1,0 +1,96 @@
+-- What a row of ends says of the graph of these ends, and a row of edges of its vertices.
+-- Each fact about the ends at a place is carried to the edge one place on.
+use Rattle.std.proofs.Common.{◌≡◌, ℕ, suc, ◌+◌, ◌-◌, ◌<◌, ◌≤◌, ◌≢◌, Bool, true, false, cond, ◌==◌, refl, sym, ap, ap₂, ◌∙◌, arith, List, length, eq-eqb, ne_eqb, inl, inr, ◌&&◌}
+use Rattle.std.proofs.lemmas.Bool.{cases_eq}
+use Rattle.std.proofs.lemmas.List.{get_or-map, length-map}
+use Rattle.counting.specs.Counts.{bit, Within}
+use Rattle.counting.specs.Sets.{Set}
+use Rattle.counting.proofs.Totals.{total_none}
+use Rattle.graph_core.specs.Graph.{HasEnds, Graph, size, first_end, second_end, IsGraph, degree}
+use Rattle.graph_core.specs.View.{graph_of}
+use Rattle.match_search.proofs.Forests.{met}
+use Rattle.match_search.specs.Rows.{numbers, end_a, end_b}
+use Rattle.match_search.specs.GraphRows.{AreEnds, NamesEdges}
+use Rattle.graph_core.specs.declared.ends.Ends.{Ends}
+
+module _ (n : ℕ) (ends : List Ends) where
+  abbrev pub G : Graph
+  G = graph_of n ends
+
+  pub size_is : size G ≡ length ends
+  size_is = length-map ends (λ (e : Ends). (e.a, e.b))
+
+  both_are : (k : ℕ) → k < length ends → Rattle.std.specs.Prelude.slice_index_or G.ends k (0, 0) ≡ (end_a ends k, end_b ends k)
+  both_are k l = let pair : Ends → ℕ × ℕ = λ e. (e.a, e.b) in get_or-map pair ends k (record { a = 0; b = 0 }) (0, 0) l
+
+  pub near_is : (e : ℕ) → Within (length ends) e → first_end G e ≡ end_a ends (e - 1)
+  near_is e w = ap (λ (d : ℕ × ℕ). d.0) (both_are (e - 1) (omega arith))
+
+  pub far_is : (e : ℕ) → Within (length ends) e → second_end G e ≡ end_b ends (e - 1)
+  far_is e w = ap (λ (d : ℕ × ℕ). d.1) (both_are (e - 1) (omega arith))
+
+  -- ends of 1 to n make a graph
+  pub row_graph : AreEnds n ends → IsGraph G
+  row_graph row e w = let u : Within (length ends) e = (let s = size_is in omega arith) in
+      let a = row.a (e - 1) (omega arith) in let b = row.b (e - 1) (omega arith) in let x = near_is e u in let y = far_is e u in (omega arith, omega arith)
+
+  -- a vertex that no marked edge meets
+  pub unmet_degree : (m : Set) (v : ℕ) → ((k : ℕ) → k < length ends → m (k + 1) ≡ true → (end_a ends k ≢ v) × (end_b ends k ≢ v)) → degree G m v ≡ 0
+  unmet_degree m v unmet = ap₂ ◌+◌
+      (total_none (size G) _ (λ e w. ap bit (none e (first_end G e) w (λ t y. let u = in_ends e w in (unmet (e - 1) (omega arith) (ap m (forth e w.0) ∙ t)).0 (sym (near_is e u) ∙ y)))))
+      (total_none (size G) _ (λ e w. ap bit (none e (second_end G e) w (λ t y. let u = in_ends e w in (unmet (e - 1) (omega arith) (ap m (forth e w.0) ∙ t)).1 (sym (far_is e u) ∙ y)))))
+    where
+      in_ends : (e : ℕ) → Within (size G) e → Within (length ends) e
+      in_ends e w = let s = size_is in omega arith
+
+      forth : (e : ℕ) → 1 ≤ e → e - 1 + 1 ≡ e
+      forth e l = omega arith
+
+      none : (e y : ℕ) → Within (size G) e → (m e ≡ true → y ≢ v) → (m e && (y == v)) ≡ false
+      none e y w h = go (m e) h
+        where
+          go : (b : Bool) → (b ≡ true → y ≢ v) → (b && (y == v)) ≡ false
+          go true h = ne_eqb y v (h refl)
+          go false h = refl
+
+  module _ (m : Set) (at : List ℕ) (mates : NamesEdges ends m at (length ends)) where
+    -- a vertex without a marked edge
+    pub missed_degree : (v : ℕ) → numbers at v ≡ 0 → degree G m v ≡ 0
+    missed_degree v z = unmet_degree m v (mates.missed v z)
+
+    -- the mate of a vertex that has one
+    abbrev pub partner : ℕ → ℕ
+    partner w = cond (end_a ends (numbers at w - 1) == w) (end_b ends (numbers at w - 1)) (end_a ends (numbers at w - 1))
+
+    pub pair_is : (w : ℕ) → numbers at w ≢ 0 → Within (size G) (numbers at w) × (m (numbers at w) ≡ true) × HasEnds G (numbers at w) w (partner w)
+    pair_is w z =
+        let t = mates.met w z in
+        let s = size_is in (
+          omega arith,
+          t.1,
+          elim (cases_eq (end_a ends (numbers at w - 1)) w) [
+            | inl q ↦ inl (near_is (numbers at w) t.0 ∙ q, far_is (numbers at w) t.0 ∙ sym (ap (λ b. cond b (end_b ends (numbers at w - 1)) (end_a ends (numbers at w - 1))) (eq-eqb (end_a ends (numbers at w - 1)) w q)))
+            | inr q ↦ elim t.2 [
+              | inl y ↦ absurd (q y)
+              | inr y ↦ inr (near_is (numbers at w) t.0 ∙ sym (ap (λ b. cond b (end_b ends (numbers at w - 1)) (end_a ends (numbers at w - 1))) (ne_eqb (end_a ends (numbers at w - 1)) w q)), far_is (numbers at w) t.0 ∙ y)
+            ]
+          ],
+        )
+
+-- the ends at a place are those of the next edge
+pub ends_here : (n : ℕ) (ends : List Ends) (k : ℕ) → k < length ends → (end_a ends k ≡ first_end (graph_of n ends) (suc k)) × (end_b ends k ≡ second_end (graph_of n ends) (suc k))
+ends_here n ends k l = (
+  sym (near_is n ends (suc k) (omega arith) ∙ ap (end_a ends) (back k)),
+  sym (far_is n ends (suc k) (omega arith) ∙ ap (end_b ends) (back k)),
+)
+  where
+    back : (k : ℕ) → suc k - 1 ≡ k
+    back k = omega arith
+
+-- a vertex has no edge in the row exactly where the matching misses it
+pub free_degree : (n : ℕ) (ends : List Ends) (m : Set) (at : List ℕ) → NamesEdges ends m at (length ends) → (u : ℕ) → (numbers at u == 0) ≡ (degree (graph_of n ends) m u == 0)
+free_degree n ends m at mates u = elim (cases_eq (numbers at u) 0) [
+  | inl q ↦ eq-eqb (numbers at u) 0 q ∙ sym (eq-eqb (degree (graph_of n ends) m u) 0 (missed_degree n ends m at mates u q))
+  | inr q ↦ let p = pair_is n ends m at mates u q in let d = (met (graph_of n ends) m (numbers at u) u (partner n ends m at mates u) p.0 p.1 p.2).0 in
+      ne_eqb (numbers at u) 0 q ∙ sym (ne_eqb (degree (graph_of n ends) m u) 0 (λ z. absurd (omega arith)))
+]

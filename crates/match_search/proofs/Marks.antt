@@ -1,0 +1,10 @@
+-- Rows of marks: a new row marks nothing.
+use Rattle.std.proofs.Common.{◌≡◌, ℕ, suc, zero, false, refl}
+use Rattle.std.specs.Prelude.{replicate}
+use Rattle.match_search.specs.Rows.{marks}
+
+-- no place of a new row is marked
+pub no-marks : (n e : ℕ) → marks (replicate n false) e ≡ false
+no-marks zero e = refl
+no-marks (suc n) zero = refl
+no-marks (suc n) (suc e) = no-marks n e

@@ -1,0 +1,126 @@
+-- One augmentation by mates: what its parts hand to one another.
+use Rattle.std.proofs.Common.{◌≡◌, ℕ, ◌<◌, refl, ap, ◌∙◌, arith, subst₂, length, List, get_or, not, ◌&&◌, nat_lt, nat_le, lt-ltb, Some, None, Bool, true, false, ◌==◌, ◌||◌, ◌⊎◌, sym, inl, inr, eq-eqb}
+use mathlib.Core.Path.{fun_ext}
+use Rattle.std.proofs.lemmas.Bool.{and_from, le-leb, and_parts, or_left, or_right, true≢false}
+use Rattle.std.proofs.lemmas.Grind.{get_or_default_zero}
+use Rattle.counting.proofs.Totals.{total_congr}
+use Rattle.counting.specs.Counts.{Within, bit, count}
+use Rattle.counting.specs.Sets.{Set, complement}
+use Rattle.counting.specs.Lists.{mem}
+use Rattle.graph_core.specs.Graph.{Graph}
+use Rattle.match_search.specs.AlternatingForests.{AreExposed, HoldsMatching, IsGrowth, MayBeExposed}
+use Rattle.match_search.specs.Blossoms.{ClosesForest, HoldsBlossom, IsCompleted, IsMateStep, MayOpen, blossom_length, removed_with, without_blossom}
+use Rattle.match_search.specs.Instances.{IsInstance}
+use Rattle.match_search.specs.OddCycles.{listed}
+use Rattle.match_search.specs.Rows.{numbers}
+use Rattle.match_search.specs.Shrinkings.{AreAlike, IsShrinking}
+use Rattle.match_search.specs.Steps.{IsWidened}
+use Rattle.match_search.specs.declared.blossom.Blossom.{Blossom}
+use Rattle.match_search.specs.declared.growing.Adjacent.{Adjacent}
+use Rattle.match_search.specs.declared.growing.Growth.{Growth}
+use Rattle.match_search.specs.declared.instance.Instance.{Instance}
+use Rattle.match_search.specs.declared.answer.Answer.{Answer}
+use Rattle.match_search.specs.declared.answer.Answer.TheVariants.{Final}
+use Rattle.match_search.proofs.BlossomMates.{below_mates, below_size, cr, cw, cz, graph, pulls, smaller}
+use Rattle.match_search.proofs.BlossomSteps.{same_count, step_up}
+use Rattle.match_search.proofs.Instances.{instance_alike, near_edge}
+use Rattle.match_search.proofs.ParentForests.{done_frame}
+use Rattle.match_search.proofs.ShrunkInstances.{shrunk_instance}
+
+-- the base of a blossom, as the code reads it, is the first vertex of the ring, and a vertex of the graph
+module _ (g : Graph) (r f : Set) (mate : List ℕ) (b : Blossom) (held : HoldsBlossom g r f mate b) (base : ℕ) (read : base ≡ get_or b.ring.items 1 base) where
+  pub base_read : base ≡ numbers b.ring.items 1
+  base_read = let three = held.opened.cycle.three in read ∙ get_or_default_zero b.ring.items 1 base (omega arith)
+
+  pub base_within : Within g.order base
+  base_within = let three = held.opened.cycle.three in let w = held.opened.cycle.within 1 (omega arith, omega arith) in let first = base_read in omega arith
+
+-- the vertices that are left are counted by the instance
+pub left_count : (g : Graph) (r : Set) (s : Instance) → IsInstance g r s → count (length s.rows.items) (mem s.left) ≡ count g.order (complement r)
+left_count g r s is = ap (λ (n : ℕ). count n (mem s.left)) is.one_each
+    ∙ total_congr g.order (λ v. bit (mem s.left v)) (λ v. bit (not (r v))) (λ v w. ap bit (is.left v ∙ ap (λ b. b && not (r v)) (and_from (nat_lt 0 v) (nat_le v g.order) (lt-ltb 0 v (omega arith)) (le-leb v g.order (omega arith)))))
+
+-- a blossom may be opened by an instance that holds the same
+pub may_open_alike : (g : Graph) (r f m n : Set) (s h : Instance) (mate : List ℕ) (b : Blossom) → MayOpen g r f m n s mate b → AreAlike s h → MayOpen g r f m n h mate b
+may_open_alike g r f m n s h mate b may same = record { instance_is = instance_alike g r s h may.instance_is same; long = may.long; edge = may.edge; opened = may.opened; mates = may.mates }
+
+-- the exposed vertices are all those that may be
+pub roots_exposed : (left mate roots : List ℕ) → AreExposed left mate roots → MayBeExposed left mate roots
+roots_exposed left mate roots are v l z = are v ∙ and_from (mem left v) (numbers mate v == 0) l (eq-eqb (numbers mate v) 0 z)
+
+-- a vertex that is left after a shrinking and exposed is the base, or was exposed before
+pub candidates_below : (s h : Instance) (ring : List ℕ) (base : ℕ) → IsShrinking s (mem ring) base h → (candidates more before after : List ℕ) → MayBeExposed s.left before candidates
+    → ((v : ℕ) → numbers after v ≡ 0 → (mem ring v ≡ true) ⊎ (numbers before v ≡ 0)) → ((v : ℕ) → mem more v ≡ (mem candidates v || (base == v))) → MayBeExposed h.left after more
+candidates_below s h ring base shrink candidates more before after may exposes more_is v l z =
+    let a = and_parts (mem s.left v) (not (mem ring v && not (base == v))) (sym (shrink.left v) ∙ l) in
+    more_is v ∙ elim (exposes v z) [
+      | inl m ↦ or_right (mem candidates v) (base == v) (only_base (mem ring v) (base == v) m a.1)
+      | inr q ↦ or_left (mem candidates v) (base == v) (may v a.0 q)
+    ]
+  where
+    only_base : (a b : Bool) → a ≡ true → not (a && not b) ≡ true → b ≡ true
+    only_base true true p q = refl
+    only_base true false p q = absurd (true≢false (sym q))
+    only_base false b p q = absurd (true≢false (sym p))
+
+module _ (g : Graph) (r f : Set) (s : Instance) (mate : List ℕ) (is : HoldsMatching g r f s mate) where
+  pub growth_closes : (t : Growth) (o : Adjacent) → IsGrowth g r f s mate t → t.closing ≡ Some o → ClosesForest g r f mate t.forest o
+  growth_closes t o growth q =
+      let pair = growth.closing_pair o q in
+      let at = growth.holds.forest.outer_in o.v pair.v_outer in
+      record {
+        graph = is.instance_is.graph;
+        few = is.instance_is.few;
+        long = is.long;
+        mates = is.mates;
+        holds = growth.holds;
+        v_outer = pair.v_outer;
+        w_outer = pair.w_outer;
+        different = pair.different;
+        edge = near_edge g r s is.instance_is o.v o.w at.0 at.1 pair.adjacent pair.w_left pair.different;
+      }
+
+  pub growth_final : (t : Growth) → IsGrowth g r f s mate t → t.closing ≡ None → IsMateStep g r f mate (Final (record { outer = t.forest.outer; inner = t.forest.inner }))
+  growth_final t growth q = record {
+    m = f;
+    mates = is.mates;
+    answer = (refl, done_frame g r f s mate is t.forest growth.holds (growth.done q), λ v. (λ o. (growth.holds.forest.outer_in v o).0, λ o. (growth.holds.forest.inner_in v o).0));
+  }
+
+  module _ (mate2 : List ℕ) (long2 : length mate2 ≡ length mate) (b : Blossom) (held : HoldsBlossom g r f mate2 b) (base : ℕ) (base_is : base ≡ numbers b.ring.items 1) (h : Instance) (shrink : IsShrinking s (mem b.members) base h) where
+    abbrev c : ℕ → ℕ
+    c = numbers b.ring.items
+
+    abbrev n : ℕ
+    n = blossom_length b
+
+    shrinking : IsShrinking s (listed n c) (c 1) h
+    shrinking = subst₂ (λ (x : Set) (z : ℕ). IsShrinking s x z h) (fun_ext held.members) base_is shrink
+
+    pub below_holds : HoldsMatching (without_blossom g b) (removed_with r b) held.m h mate2
+    below_holds = record {
+      instance_is = shrunk_instance g (listed n c) (c 1) _ (pulls g is.instance_is.graph r f held.m n c held.edge held.opened) (cz g is.instance_is.graph r f held.m n c held.edge held.opened) r s h is.instance_is
+          (cr g is.instance_is.graph r f held.m n c held.edge held.opened) (cw g is.instance_is.graph r f held.m n c held.edge held.opened) shrinking (graph g is.instance_is.graph r f held.m n c held.edge held.opened);
+      long = long2 ∙ is.long;
+      mates = below_mates g is.instance_is.graph r f held.m n c held.edge held.opened (numbers mate2) held.mates;
+    }
+
+    pub below_less : count (length h.rows.items) (mem h.left) < count (length s.rows.items) (mem s.left)
+    below_less =
+        let a = left_count (without_blossom g b) (removed_with r b) h below_holds.instance_is in
+        let d = left_count g r s is.instance_is in
+        let e = smaller g is.instance_is.graph r f held.m n c held.edge held.opened in omega arith
+
+    module _ (mate3 : List ℕ) (long3 : length mate3 ≡ length mate2) (below : Answer) (step : IsMateStep (without_blossom g b) (removed_with r b) held.m mate3 below) where
+      pub may_open : MayOpen g r f held.m step.m s mate3 b
+      may_open = record { instance_is = is.instance_is; long = long3 ∙ long2 ∙ is.long; edge = held.edge; opened = held.opened; mates = step.mates }
+
+      pub step_completed : (mate4 : List ℕ) (result : Answer) → IsCompleted g r f held.m step.m mate4 → IsWidened below (mem b.members) result → IsMateStep g r f mate4 result
+      step_completed mate4 result done wide = record {
+        m = done.0;
+        mates = done.1;
+        answer = step_up g is.instance_is.graph r f held.m n c held.edge held.opened step.m done.0
+            (let d = done.2 in let low = below_size g is.instance_is.graph r f held.m n c held.edge held.opened in
+            let sm = same_count g is.instance_is.graph r f held.m n c held.edge held.opened held.m in let sn = same_count g is.instance_is.graph r f held.m n c held.edge held.opened step.m in omega arith)
+            below result b.members held.members step.answer wide;
+      }

@@ -1,0 +1,91 @@
+-- A set of edges is near-perfect in C for a vertex t: it meets each vertex of C but t once. How many ends has it at each vertex, and
+-- how many edges? And how do the degrees add up where the edges of a set are those of two others?
+use Rattle.std.proofs.Common.{◌≡◌, ℕ, suc, ◌+◌, ◌*◌, ◌≤◌, ◌≢◌, Bool, true, false, cond, ◌==◌, refl, sym, ap, ap₂, ◌∙◌, arith, ◌&&◌, ◌||◌, not, eq-eqb, ne_eqb, inl, inr}
+use Rattle.std.proofs.lemmas.Bool.{cases_Bool, true≢false}
+use Rattle.counting.proofs.Choice.{count_put}
+use Rattle.counting.proofs.Totals.{total_add, total_congr}
+use Rattle.counting.specs.Counts.{Within, bit, count, total}
+use Rattle.counting.specs.Sets.{Set, put}
+use Rattle.graph_core.proofs.Edits.{degree_sum, ends_le_degree, ends_of, ends_of_is, sum_degrees}
+use Rattle.graph_core.specs.Graph.{Graph, IsGraph, degree, first_end, second_end, size}
+use Rattle.match_search.specs.Frames.{IsNearPerfect}
+
+-- the edges of k are those of m and those of e
+pub count_split : (n : ℕ) (k m e : Set) → ((i : ℕ) → Within n i → bit (k i) ≡ bit (m i) + bit (e i)) → count n k ≡ count n m + count n e
+count_split n k m e h = total_congr n _ _ h ∙ total_add n (λ i. bit (m i)) (λ i. bit (e i))
+
+pub degree_split : (g : Graph) (k m e : Set) (v : ℕ) → ((i : ℕ) → Within (size g) i → bit (k i) ≡ bit (m i) + bit (e i)) → degree g k v ≡ degree g m v + degree g e v
+degree_split g k m e v h =
+    degree_sum g k v
+    ∙ total_congr (size g) _ _ (λ i w. each (bit (k i)) (bit (m i)) (bit (e i)) (ends_of g i v) (h i w))
+    ∙ total_add (size g) (λ i. bit (m i) * ends_of g i v) (λ i. bit (e i) * ends_of g i v)
+    ∙ ap₂ ◌+◌ (sym (degree_sum g m v)) (sym (degree_sum g e v))
+  where
+    each : (a b c d : ℕ) → a ≡ b + c → a * d ≡ b * d + c * d
+    each a b c d q = ap (λ k. k * d) q ∙ Rattle.std.proofs.Common.add-mul b c d
+
+pub bit_minus : (m e : Bool) → (e ≡ true → m ≡ true) → bit m ≡ bit (m && not e) + bit e
+bit_minus true true h = refl
+bit_minus true false h = refl
+bit_minus false true h = absurd (true≢false (sym (h refl)))
+bit_minus false false h = refl
+
+pub bit_union : (m e : Bool) → (m ≡ true → e ≡ true → ⊥) → bit (m || e) ≡ bit m + bit e
+bit_union true true h = absurd (h refl refl)
+bit_union true false h = refl
+bit_union false true h = refl
+bit_union false false h = refl
+
+pub ends_near : (g : Graph) (e : ℕ) → 1 ≤ ends_of g e (first_end g e)
+ends_near g e = let a = ends_of_is g e (first_end g e) (second_end g e) (inl (refl, refl)) (first_end g e) in let b = ap bit (eq-eqb (first_end g e) (first_end g e) refl) in omega arith
+
+pub ends_far : (g : Graph) (e : ℕ) → 1 ≤ ends_of g e (second_end g e)
+ends_far g e = let a = ends_of_is g e (first_end g e) (second_end g e) (inl (refl, refl)) (second_end g e) in let b = ap bit (eq-eqb (second_end g e) (second_end g e) refl) in omega arith
+
+module _ (g : Graph) (is : IsGraph g) (c : Set) (t : ℕ) (e : Set) (near_t : IsNearPerfect g c t e) where
+  pub near_in : (i : ℕ) → Within (size g) i → e i ≡ true → c (first_end g i) ≡ true
+  near_in i w ei = elim (cases_Bool (c (first_end g i))) [
+    | inl q ↦ q
+    | inr q ↦ let a = ends_le_degree g e i (first_end g i) w ei in let b = ends_near g i in
+        let d = near_t.degrees (first_end g i) (is i w).0 in
+        let z : bit (c (first_end g i) && not (first_end g i == t)) ≡ 0 = ap (λ s. bit (s && not (first_end g i == t))) q in absurd (omega arith)
+  ]
+
+  pub far_in : (i : ℕ) → Within (size g) i → e i ≡ true → c (second_end g i) ≡ true
+  far_in i w ei = elim (cases_Bool (c (second_end g i))) [
+    | inl q ↦ q
+    | inr q ↦ let a = ends_le_degree g e i (second_end g i) w ei in let b = ends_far g i in
+        let d = near_t.degrees (second_end g i) (is i w).1 in
+        let z : bit (c (second_end g i) && not (second_end g i == t)) ≡ 0 = ap (λ s. bit (s && not (second_end g i == t))) q in absurd (omega arith)
+  ]
+
+  pub near_perfect_count : (k : ℕ) → c t ≡ true → Within g.order t → count g.order c ≡ suc (k + k) → count (size g) e ≡ k
+  near_perfect_count k ct wt odd =
+      let a = sum_degrees g e is in
+      let b : total g.order (λ v. degree g e v) ≡ count g.order (put c t false) = total_congr g.order _ _ (λ v w. near_t.degrees v w ∙ bits v) in
+      let d = count_put g.order c t false wt in
+      let o = ap bit ct in omega arith
+    where
+      bits : (v : ℕ) → bit (c v && not (v == t)) ≡ bit (cond (v == t) false (c v))
+      bits v = go (c v) (v == t)
+        where
+          go : (a b : Bool) → bit (a && not b) ≡ bit (cond b false a)
+          go true true = refl
+          go true false = refl
+          go false true = refl
+          go false false = refl
+
+  pub at_t : Within g.order t → degree g e t ≡ 0
+  at_t w = near_t.degrees t w ∙ ap bit (go (c t) (t == t) (eq-eqb t t refl))
+    where
+      go : (a b : Bool) → b ≡ true → (a && not b) ≡ false
+      go a b q = grind arith
+
+  pub at_other : (v : ℕ) → Within g.order v → c v ≡ true → v ≢ t → degree g e v ≡ 1
+  at_other v w cv d = near_t.degrees v w ∙ ap bit (go (c v) (v == t) cv (ne_eqb v t d))
+    where
+      go : (a b : Bool) → a ≡ true → b ≡ false → (a && not b) ≡ true
+      go a b p q = grind arith
+
+  pub at_out : (v : ℕ) → Within g.order v → c v ≡ false → degree g e v ≡ 0
+  at_out v w cv = near_t.degrees v w ∙ ap (λ s. bit (s && not (v == t))) cv

@@ -1,0 +1,42 @@
+-- Two matchings with the same mates have the same degrees, so they have as many edges.
+use Rattle.std.proofs.Common.{◌≡◌, ℕ, ◌+◌, ◌*◌, ◌==◌, Bool, true, false, refl, sym, ap, ◌∙◌, arith, inl, inr, not, ◌&&◌, eq-eqb, ne_eqb}
+use Rattle.std.proofs.lemmas.Bool.{cases_eq}
+use Rattle.counting.proofs.Totals.{total_congr}
+use Rattle.counting.specs.Counts.{Within, bit, count}
+use Rattle.counting.specs.Sets.{Set, complement}
+use Rattle.graph_core.proofs.Edits.{missed_edges}
+use Rattle.graph_core.specs.Graph.{Graph, IsGraph, degree, size}
+use Rattle.graph_core.specs.Matchings.{missed_count}
+use Rattle.match_search.specs.Mates.{HasMates}
+use Rattle.match_search.proofs.Forests.{met}
+
+-- a vertex has one edge of the matching if it has a mate, and none if it is exposed
+pub mates_degree : (g : Graph) (r m : Set) (mate : ℕ → ℕ) → HasMates g r m mate → (v : ℕ) → Within g.order v → degree g m v ≡ bit (not (mate v == 0))
+mates_degree g r m mate has v w = elim (cases_eq (mate v) 0) [
+  | inl q ↦ has.exposed v w q ∙ sym (ap (λ b. bit (not b)) (eq-eqb (mate v) 0 q))
+  | inr q ↦ let d = has.paired v w q in let a = (met g m d.0 v (mate v) d.1 d.2 d.3).0 in let o = has.matching.once v w in let b = ap (λ b. bit (not b)) (ne_eqb (mate v) 0 q) in omega arith
+]
+
+pub same_mates_missed : (g : Graph) (r m n : Set) (mate : ℕ → ℕ) → HasMates g r m mate → HasMates g r n mate → missed_count g r m ≡ missed_count g r n
+unfolding missed_count
+same_mates_missed g r m n mate hm hn = total_congr g.order (λ v. bit (not (r v) && (degree g m v == 0))) (λ v. bit (not (r v) && (degree g n v == 0)))
+    (λ v w. ap (λ k. bit (not (r v) && (k == 0))) (mates_degree g r m mate hm v w ∙ sym (mates_degree g r n mate hn v w)))
+
+-- matchings with the same mates have as many edges
+pub same_mates_count : (g : Graph) → IsGraph g → (r m n : Set) (mate : ℕ → ℕ) → HasMates g r m mate → HasMates g r n mate → count (size g) m ≡ count (size g) n
+same_mates_count g is r m n mate hm hn =
+    let a = missed_edges g r m is hm.matching in
+    let b = missed_edges g r n is hn.matching in
+    let c = same_mates_missed g r m n mate hm hn in omega arith
+
+-- the exposed vertices outside r, by their mates, and twice the edges of the matching are the vertices outside r
+pub exposed_mates : (g : Graph) → IsGraph g → (r m : Set) (mate : ℕ → ℕ) → HasMates g r m mate → count g.order (λ v. not (r v) && (mate v == 0)) + 2 * count (size g) m ≡ count g.order (complement r)
+unfolding missed_count
+exposed_mates g is r m mate has =
+    ap (λ k. k + 2 * count (size g) m) (total_congr g.order (λ v. bit (not (r v) && (mate v == 0))) (λ v. bit (not (r v) && (degree g m v == 0)))
+    (λ v w. ap (λ b. bit (not (r v) && b)) (sym (ap (λ d. d == 0) (mates_degree g r m mate has v w) ∙ zero_test (mate v == 0)))))
+    ∙ missed_edges g r m is has.matching
+  where
+    zero_test : (b : Bool) → (bit (not b) == 0) ≡ b
+    zero_test true = refl
+    zero_test false = refl

@@ -1,0 +1,128 @@
+-- A set C is shrunk to one vertex z of it. What are the degrees in the shrunk graph? Outside C they stay, those in C sum to the
+-- degree of z, and a vertex of C but z has none.
+use Rattle.std.proofs.Common.{◌≡◌, ℕ, ◌+◌, ◌*◌, ◌≤◌, ◌<◌, ◌≢◌, Bool, true, false, cond, ◌==◌, refl, sym, ap, ap₂, ◌∙◌, arith, ◌&&◌, ◌||◌, not, eq-eqb, ne_eqb, inl, inr, List, mul-add, subst}
+use Rattle.std.proofs.lemmas.Bool.{cases_eq, cases_order, both_ways}
+use Rattle.counting.proofs.Counts.{count_congr}
+use Rattle.counting.proofs.Totals.{at_le_total, some_term, total_add, total_congr, total_none, two_le_total}
+use Rattle.counting.specs.Counts.{Within, bit, count, total}
+use Rattle.counting.specs.Sets.{Set}
+use Rattle.counting.proofs.Booleans.{and_false}
+use Rattle.graph_core.proofs.Parity.{ends_in}
+use Rattle.graph_core.specs.Graph.{Graph, IsGraph, degree, first_end, second_end, size, with_ends}
+use Rattle.match_search.specs.Frames.{IsShrunk, shrunk_vertex, shrunk_removed}
+
+module _ (g : Graph) (is : IsGraph g) (r c : Set) (z : ℕ) (es : List (ℕ × ℕ)) (pulls : IsShrunk g c z es) (cr : (v : ℕ) → c v ≡ true → r v ≡ false) (wz : Within g.order z) (cz : c z ≡ true) where
+  abbrev pub h : Graph
+  h = with_ends g es
+
+  abbrev pub r' : Set
+  r' = shrunk_removed r c z
+
+  pub in_g : (e : ℕ) → Within (size h) e → Within (size g) e
+  in_g e w = let k = pulls.same in omega arith
+
+  pull_within : (a : ℕ) → Within g.order a → Within g.order (shrunk_vertex c z a)
+  pull_within a w = go (c a)
+    where
+      go : (b : Bool) → Within g.order (cond b z a)
+      go true = wz
+      go false = w
+
+  pub shrunk_graph : IsGraph h
+  shrunk_graph e w = let u = in_g e w in (
+    subst (λ k. Within g.order k) (sym (pulls.first_ends e u)) (pull_within (first_end g e) (is e u).0),
+    subst (λ k. Within g.order k) (sym (pulls.second_ends e u)) (pull_within (second_end g e) (is e u).1),
+  )
+
+  pub over : (p q : ℕ → Bool) → ((e : ℕ) → Within (size g) e → p e ≡ q e) → count (size h) p ≡ count (size g) q
+  over p q k = ap (λ n. count n p) pulls.same ∙ count_congr (size g) p q k
+
+  pull_out : (a v : ℕ) → c v ≡ false → (shrunk_vertex c z a == v) ≡ (a == v)
+  pull_out a v cv = go (c a) refl
+    where
+      go : (b : Bool) → c a ≡ b → (cond b z a == v) ≡ (a == v)
+      go true q = ne_eqb z v (λ e. both_ways (c v) cv (ap c (sym e) ∙ cz)) ∙ sym (ne_eqb a v (λ e. both_ways (c v) cv (ap c (sym e) ∙ q)))
+      go false q = refl
+
+  pull_in : (a v : ℕ) → c v ≡ true → v ≢ z → (shrunk_vertex c z a == v) ≡ false
+  pull_in a v cv d = go (c a) refl
+    where
+      go : (b : Bool) → c a ≡ b → (cond b z a == v) ≡ false
+      go true q = ne_eqb z v (λ e. d (sym e))
+      go false q = ne_eqb a v (λ e. both_ways (c a) q (ap c e ∙ cv))
+
+  pull_z : (a : ℕ) → (shrunk_vertex c z a == z) ≡ c a
+  pull_z a = go (c a) refl
+    where
+      go : (b : Bool) → c a ≡ b → (cond b z a == z) ≡ b
+      go true q = eq-eqb z z refl
+      go false q = ne_eqb a z (λ e. both_ways (c a) q (ap c e ∙ cz))
+
+  pub degree_out : (m : Set) (v : ℕ) → c v ≡ false → degree h m v ≡ degree g m v
+  degree_out m v cv = ap₂ ◌+◌
+      (over _ _ (λ e w. ap (λ k. m e && k) (ap (λ k. k == v) (pulls.first_ends e w) ∙ pull_out (first_end g e) v cv)))
+      (over _ _ (λ e w. ap (λ k. m e && k) (ap (λ k. k == v) (pulls.second_ends e w) ∙ pull_out (second_end g e) v cv)))
+
+  pub degree_in : (m : Set) (v : ℕ) → c v ≡ true → v ≢ z → degree h m v ≡ 0
+  degree_in m v cv d = ap₂ ◌+◌
+      (over _ (λ e. false) (λ e w. ap (λ k. m e && k) (ap (λ k. k == v) (pulls.first_ends e w) ∙ pull_in (first_end g e) v cv d) ∙ and_false (m e)) ∙ total_none (size g) _ (λ e w. refl))
+      (over _ (λ e. false) (λ e w. ap (λ k. m e && k) (ap (λ k. k == v) (pulls.second_ends e w) ∙ pull_in (second_end g e) v cv d) ∙ and_false (m e)) ∙ total_none (size g) _ (λ e w. refl))
+
+  pub degree_z : (m : Set) → degree h m z ≡ total g.order (λ d. bit (c d) * degree g m d)
+  degree_z m = ap₂ ◌+◌
+      (over _ (λ e. m e && c (first_end g e)) (λ e w. ap (λ k. m e && k) (ap (λ k. k == z) (pulls.first_ends e w) ∙ pull_z (first_end g e))))
+      (over _ (λ e. m e && c (second_end g e)) (λ e w. ap (λ k. m e && k) (ap (λ k. k == z) (pulls.second_ends e w) ∙ pull_z (second_end g e))))
+      ∙ ap₂ ◌+◌ (sym (ends_in g.order (size g) m c (first_end g) (λ e w. (is e w).0))) (sym (ends_in g.order (size g) m c (second_end g) (λ e w. (is e w).1)))
+      ∙ sym (total_add g.order (λ v. bit (c v) * count (size g) (λ e. m e && (first_end g e == v))) (λ v. bit (c v) * count (size g) (λ e. m e && (second_end g e == v))))
+      ∙ total_congr g.order _ _ (λ v w. sym (mul-add (bit (c v)) (count (size g) (λ e. m e && (first_end g e == v))) (count (size g) (λ e. m e && (second_end g e == v)))))
+
+  -- what z has in h, each vertex of c has at most
+  pub in_le_z : (m : Set) (d : ℕ) → Within g.order d → c d ≡ true → degree g m d ≤ degree h m z
+  in_le_z m d w cd = let a = at_le_total g.order (λ d. bit (c d) * degree g m d) d w in let b = ap (λ s. bit s * degree g m d) cd in let e = degree_z m in omega arith
+
+  -- where to put the edge at z, if there is one
+  pub tip : (m : Set) → degree h m z ≤ 1 → (t : ℕ) × Within g.order t × (c t ≡ true) × ((d : ℕ) → Within g.order d → c d ≡ true → d ≢ t → degree g m d ≡ 0)
+  tip m one = elim (cases_eq (degree h m z) 0) [
+    | inl q ↦ (z, wz, cz, λ d w cd n. let a = in_le_z m d w cd in omega arith)
+    | inr q ↦
+        let s = some_term g.order (λ d. bit (c d) * degree g m d) (let a = degree_z m in omega arith) in
+        let cs = in_c (c s.0) (degree g m s.0) s.2 in (
+          s.0,
+          s.1,
+          cs,
+          λ d w cd n.
+              let e = degree_z m in
+              let x = ap (λ b. bit b * degree g m d) cd in
+              let y : 1 ≤ bit (c s.0) * degree g m s.0 = s.2 in
+              elim (cases_order d s.0) [
+                | inl l ↦ absurd (n l)
+                | inr l ↦ elim l [
+                  | inl l ↦ let a = two_le_total g.order (λ d. bit (c d) * degree g m d) d s.0 w s.1 l in omega arith
+                  | inr l ↦ let a = two_le_total g.order (λ d. bit (c d) * degree g m d) s.0 d s.1 w l in omega arith
+                ]
+              ],
+        )
+  ]
+    where
+      in_c : (b : Bool) (k : ℕ) → 0 < bit b * k → b ≡ true
+      in_c true k q = refl
+      in_c false k q = absurd (omega arith)
+
+  pub shut_z : r' z ≡ false
+  shut_z = go (r z) (c z) (z == z) (cr z cz) (eq-eqb z z refl)
+    where
+      go : (a b d : Bool) → a ≡ false → d ≡ true → (a || (b && not d)) ≡ false
+      go a b d p q = grind arith
+
+  pub shut_in : (v : ℕ) → c v ≡ true → v ≢ z → r' v ≡ true
+  shut_in v cv d = go (r v) (c v) (v == z) cv (ne_eqb v z d)
+    where
+      go : (a b d : Bool) → b ≡ true → d ≡ false → (a || (b && not d)) ≡ true
+      go a b d p q = grind arith
+
+  pub shut_out : (v : ℕ) → c v ≡ false → r' v ≡ r v
+  shut_out v cv = go (r v) (c v) (v == z) cv
+    where
+      go : (a b d : Bool) → b ≡ false → (a || (b && not d)) ≡ a
+      go true b d p = refl
+      go false b d p = grind arith

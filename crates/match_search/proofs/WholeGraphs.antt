@@ -1,0 +1,54 @@
+-- The order and the ends of a graph, as the code reads them, make the graph again.
+-- What is proved of these ends is so said of the graph, by one equation.
+use Rattle.std.proofs.Common.{◌≡◌, ℕ, suc, ◌-◌, ◌<◌, List, length, map, sym, ap, ap₂, ◌∙◌, arith, subst, inl}
+use Rattle.counting.specs.Counts.{Within}
+use Rattle.counting.specs.Lists.{rising_list}
+use Rattle.counting.specs.Sets.{Set}
+use Rattle.graph_core.specs.Graph.{Graph, HasEnds, IsGraph, first_end, second_end, size}
+use Rattle.graph_core.specs.Rows.{AreRows}
+use Rattle.graph_core.specs.View.{graph_of, IsWithinLimits}
+use Rattle.graph_core.specs.declared.ends.Ends.{Ends}
+use Rattle.match_search.specs.Rows.{end_a, end_b}
+use Rattle.match_search.specs.GraphRows.{AreEnds, IsGraphRow}
+use Rattle.match_search.proofs.GraphRows.{size_is, near_is, far_is}
+
+module _ (g : Graph) (n : ℕ) (ends : List Ends) (order : n ≡ g.order) (same : graph_of g.order ends ≡ g) where
+  pub whole_graph : graph_of n ends ≡ g
+  whole_graph = ap (λ n. graph_of n ends) order ∙ same
+
+  pub whole_size : length ends ≡ size g
+  whole_size = sym (size_is n ends) ∙ ap size whole_graph
+
+  -- the ends of an edge stand one place before it
+  pub whole_ends : (e : ℕ) → Within (size g) e → (first_end g e ≡ end_a ends (e - 1)) × (second_end g e ≡ end_b ends (e - 1))
+  whole_ends e w =
+      let there = whole_graph in
+      let here : Within (length ends) e = (let s = whole_size in omega arith) in
+      (subst (λ (h : Graph). first_end h e ≡ end_a ends (e - 1)) there (near_is n ends e here), subst (λ (h : Graph). second_end h e ≡ end_b ends (e - 1)) there (far_is n ends e here))
+
+  pub whole_pair : (e : ℕ) → Within (size g) e → HasEnds g e (end_a ends (e - 1)) (end_b ends (e - 1))
+  whole_pair e w = inl (whole_ends e w)
+
+  -- they are of 1 to the order
+  pub whole_within : IsGraph g → AreEnds n ends
+  whole_within is = record {
+    a = λ k l. subst (Within n) ((whole_ends (suc k) (in_size k l)).0 ∙ ap (end_a ends) (back k)) (let w = is (suc k) (in_size k l) in omega arith);
+    b = λ k l. subst (Within n) ((whole_ends (suc k) (in_size k l)).1 ∙ ap (end_b ends) (back k)) (let w = is (suc k) (in_size k l) in omega arith);
+  }
+    where
+      back : (k : ℕ) → suc k - 1 ≡ k
+      back k = omega arith
+
+      in_size : (k : ℕ) → k < length ends → Within (size g) (suc k)
+      in_size k l = let s = whole_size in omega arith
+
+  pub limits_row : IsWithinLimits g → IsGraphRow n ends
+  limits_row limits = record {
+    vertices = let a = limits.vertices in omega arith;
+    few = let a = limits.edges in let b = whole_size in omega arith;
+    within = whole_within limits.multigraph.ends;
+  }
+
+  -- the rows of the graph are those of its ends
+  pub ends_rows : (rows : List (List ℕ)) → AreRows g rows → AreRows (graph_of n ends) rows
+  ends_rows rows = subst (λ (h : Graph). AreRows h rows) (sym whole_graph)

@@ -1,0 +1,8 @@
+use Rattle.std.proofs.Common.{◌≡◌, ℕ}
+use Rattle.counting.specs.Lists.{mem}
+use Rattle.match_search.specs.OddCycles.{listed}
+use Rattle.match_search.specs.Rows.{numbers}
+use Rattle.match_search.proofs.cycle.members_of.Given as goal
+
+abbrev pub invariant-loop-i : goal.invariant-loop-i
+invariant-loop-i l = (v : ℕ) → mem l.members v ≡ listed l.i (numbers l.row) v

@@ -1,0 +1,7 @@
+use Rattle.std.proofs.Common.{◌≡◌, ℕ, length, [], ◌∷◌}
+use Rattle.counting.specs.Counts.{Within}
+use Rattle.counting.specs.Lists.{item}
+use Rattle.match_search.proofs.instance.singles.Given as goal
+
+abbrev pub invariant-loop-i : goal.invariant-loop-i
+invariant-loop-i l = record { long : length l.rows.items ≡ l.i; single : (v : ℕ) → Within l.i v → item l.rows.items v ≡ v ∷ [] }

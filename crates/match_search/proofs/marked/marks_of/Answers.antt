@@ -1,0 +1,85 @@
+use Rattle.std.proofs.Common.{◌≡◌, ℕ, suc, ◌+◌, ◌==◌, ◌&&◌, ◌||◌, ◌⊎◌, not, Bool, true, false, refl, sym, subst, subst₂, ap, ap₂, ◌∙◌, arith, inl, inr, eq-eqb, eqb-true, ne_eqb, length, List, Vec, Global}
+use Rattle.std.proofs.lemmas.Bool.{both_ways, true≢false}
+use mathlib.Core.Path.{fun_ext}
+use Rattle.counting.specs.Counts.{Within}
+use Rattle.counting.specs.Sets.{Set, put}
+use Rattle.counting.specs.Lists.{mem}
+use Rattle.graph_core.specs.View.{graph_of}
+use Rattle.match_search.specs.Mates.{MarksMates}
+use Rattle.match_search.specs.Rows.{marks, numbers, end_a, end_b}
+use Rattle.match_search.proofs.GraphRows.{ends_here, row_graph, size_is}
+use Rattle.match_search.proofs.MarkedMates.{marked_mates, marks_more, marks_none, marks_passed}
+use Rattle.match_search.proofs.marked.marks_of.Goals as goal
+use Rattle.match_search.proofs.marked.marks_of.Goals.{then-is_pair+then-is_addable, then-is_pair+else-is_addable, else-is_pair}
+
+pub loop-k-init : goal.loop-k-init
+loop-k-init c = record {
+  long = c.in_ok-mark.ensures.length;
+  marking = marks_none (graph_of c.args.n c.args.ends.now) (numbers c.args.mate.now) (marks c.in_ok-mark.mark.items) (mem c.empty-seen.result) c.in_ok-mark.ensures.each (λ v. ap (λ s. mem s v) c.empty-seen.ensures);
+}
+
+addable : (a b d : Bool) → (not a && (not b && not d)) ≡ true → (a ≡ false) × (b ≡ false) × (d ≡ false)
+addable a b d h = grind arith
+
+blocked : (a b d : Bool) → (not a && (not b && not d)) ≡ false → a ≡ false → (b ≡ true) ⊎ (d ≡ true)
+blocked true b d h q = absurd (true≢false q)
+blocked false true d h q = inl refl
+blocked false false true h q = inr refl
+blocked false false false h q = absurd (true≢false h)
+
+next : (k : ℕ) → suc k ≡ k + 1
+next k = omega arith
+
+pub loop-k-preserved : goal.loop-k-preserved
+loop-k-preserved c =
+    let g = graph_of c.args.n c.args.ends.now in
+    let mate = numbers c.args.mate.now in
+    let m : Set = marks c.loop-k.mark.items in
+    let seen : Set = mem c.loop-k.seen in
+    let k = c.loop-k.k in
+    let below = c.loop-k-test.true in
+    let here = ends_here c.args.n c.args.ends.now c.loop-k.k c.loop-k-test.true in
+    let a = end_a c.args.ends.now c.loop-k.k in
+    let b = end_b c.args.ends.now c.loop-k.k in
+    let before = c.loop-k.invariant.marking in
+    elim c.if-is_pair.branch [
+      | then-is_pair+then-is_addable w ↦
+          let t = addable (a == b) (mem c.loop-k.seen a) (mem c.loop-k.seen b) (sym w.is_addable.ensures ∙ w.if-is_addable.true) in
+          let size = size_is c.args.n c.args.ends.now in
+          let more = marks_more g mate m seen k before (mem c.if-is_pair.seen) (omega arith)
+          (subst (Within c.args.n) here.0 (c.requires.row.within.a k below)) (subst (Within c.args.n) here.1 (c.requires.row.within.b k below))
+          (λ q. both_ways (a == b) t.0 (eq-eqb a b (here.0 ∙ q ∙ sym here.1)))
+          (ap mate (sym here.0) ∙ eqb-true (mate a) b (sym c.is_pair.ensures ∙ w.if-is_pair.true) ∙ here.1)
+          (ap seen (sym here.0) ∙ t.1) (ap seen (sym here.1) ∙ t.2)
+          (λ v. ap (λ s. mem s v) w.seen-is ∙ w.with-seen.ensures v ∙ ap (λ s. s || (b == v)) (w.with.ensures v) ∙ ap₂ (λ x y. (seen v || (x == v)) || (y == v)) here.0 here.1) in
+          let now : marks c.if-is_pair.mark.items ≡ put m (suc k) true = fun_ext (λ i. ap (λ s. marks s.items i) w.mark-is ∙ w.mark_place.ensures.each i ∙ ap (λ j. put m j true i) (sym (next k))) in
+          record {
+            long = ap (λ s. length s.items) w.mark-is ∙ w.mark_place.ensures.length ∙ c.loop-k.invariant.long;
+            marking = subst₂ (λ (s : Set) (j : ℕ). MarksMates g mate s (mem c.if-is_pair.seen) j) (sym now) (next k) more;
+          }
+      | then-is_pair+else-is_addable w ↦ record {
+        long = ap (λ s. length s.items) w.mark-is ∙ c.loop-k.invariant.long;
+        marking =
+            let passed = marks_passed g mate m seen k before (λ p n.
+            elim (blocked (a == b) (mem c.loop-k.seen a) (mem c.loop-k.seen b) (sym w.is_addable.ensures ∙ w.if-is_addable.false) (ne_eqb a b (λ q. n (sym here.0 ∙ q ∙ here.1)))) [
+              | inl t ↦ inl (ap seen (sym here.0) ∙ t)
+              | inr t ↦ inr (ap seen (sym here.1) ∙ t)
+            ]) in
+            subst₂ (λ (s : Vec Bool Global) (x : List ℕ). MarksMates g mate (marks s.items) (mem x) (k + 1)) (sym w.mark-is) (sym w.seen-is) (subst (λ (j : ℕ). MarksMates g mate m seen j) (next k) passed);
+      }
+      | else-is_pair w ↦ record {
+        long = ap (λ s. length s.items) w.mark-is ∙ c.loop-k.invariant.long;
+        marking =
+            let passed = marks_passed g mate m seen k before (λ p n. absurd (both_ways (mate a == b) (sym c.is_pair.ensures ∙ w.if-is_pair.false) (eq-eqb (mate a) b (ap mate here.0 ∙ p ∙ sym here.1)))) in
+            subst₂ (λ (s : Vec Bool Global) (x : List ℕ). MarksMates g mate (marks s.items) (mem x) (k + 1)) (sym w.mark-is) (sym w.seen-is) (subst (λ (j : ℕ). MarksMates g mate m seen j) (next k) passed);
+      }
+    ]
+
+pub returns-clause-mates : goal.returns-clause-mates
+returns-clause-mates c = λ r m has.
+    let g = graph_of c.args.n c.args.ends.now in
+    let size = size_is c.args.n c.args.ends.now in
+    let end = c.loop-k.auto.k-end in
+    let last = c.loop-k-test.false in
+    marked_mates g (row_graph c.args.n c.args.ends.now c.requires.row.within) r m (marks c.loop-k.mark.items) (mem c.loop-k.seen) (numbers c.args.mate.now) has
+    (subst (λ (j : ℕ). MarksMates g (numbers c.args.mate.now) (marks c.loop-k.mark.items) (mem c.loop-k.seen) j) (omega arith) c.loop-k.invariant.marking)

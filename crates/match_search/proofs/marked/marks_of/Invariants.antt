@@ -1,0 +1,12 @@
+use Rattle.std.proofs.Common.{◌≡◌, ◌+◌, length}
+use Rattle.counting.specs.Lists.{mem}
+use Rattle.graph_core.specs.View.{graph_of}
+use Rattle.match_search.specs.Mates.{MarksMates}
+use Rattle.match_search.specs.Rows.{marks, numbers}
+use Rattle.match_search.proofs.marked.marks_of.Given as goal
+
+abbrev pub invariant-loop-k : goal.invariant-loop-k
+invariant-loop-k l = record {
+  long : length l.mark.items ≡ length l.ends + 1;
+  marking : MarksMates (graph_of l.n l.ends) (numbers l.mate) (marks l.mark.items) (mem l.seen) l.k;
+}

@@ -1,0 +1,76 @@
+-- How the code keeps an alternating forest: an inner vertex names its parent, and the way goes on from there by mates.
+use Rattle.std.specs.Prelude.{◌≢◌, ◌≡◌, ℕ, suc, ◌+◌, ◌≤◌, ◌==◌, ◌&&◌, ◌||◌, true, length, List, Some, None}
+use Rattle.counting.specs.Sets.{Set}
+use Rattle.counting.specs.Lists.{mem}
+use Rattle.graph_core.specs.Graph.{Graph}
+use Rattle.match_search.specs.Forests.{IsForest}
+use Rattle.match_search.specs.Mates.{HasMates, with_mate}
+use Rattle.match_search.specs.Instances.{IsInstance, Touches}
+use Rattle.match_search.specs.Rows.{numbers}
+use Rattle.match_search.specs.declared.instance.Instance.{Instance}
+use Rattle.match_search.specs.declared.alternating.AlternatingForest.{AlternatingForest}
+use Rattle.match_search.specs.declared.growing.Growth.{Growth}
+use Rattle.match_search.specs.declared.growing.Adjacent.{Adjacent}
+
+-- the instance is g without r, and the mates are those of a matching f of it
+pub record HoldsMatching (g : Graph) (r f : Set) (s : Instance) (mate : List ℕ) : Type 0 where
+  pub instance_is : IsInstance g r s
+  pub long : length mate ≡ suc g.order
+  pub mates : HasMates g r f (numbers mate)
+
+-- the candidates hold each vertex that is left and has no mate
+abbrev pub MayBeExposed : List ℕ → List ℕ → List ℕ → Type 0
+MayBeExposed left mate candidates = (v : ℕ) → mem left v ≡ true → numbers mate v ≡ 0 → mem candidates v ≡ true
+
+-- the roots are the vertices that are left and have no mate
+abbrev pub AreExposed : List ℕ → List ℕ → List ℕ → Type 0
+AreExposed left mate roots = (v : ℕ) → mem roots v ≡ (mem left v && (numbers mate v == 0))
+
+-- the lengths of the rows of a forest of n vertices
+pub record IsSized (n : ℕ) (t : AlternatingForest) : Type 0 where
+  pub parents_long : length t.parent.items ≡ suc n
+  pub pairs_long : length t.pairs.items ≡ suc n
+
+-- the way up from u: its mate hangs on p, and the path of u is that of p and on by its mate
+pub record GoesUp (mate : List ℕ) (t : AlternatingForest) (v : ℕ → ℕ → ℕ) (u p : ℕ) : Type 0 where
+  pub parent : numbers t.parent.items (numbers mate u) ≡ p
+  pub outer : mem t.outer p ≡ true
+  pub pairs : numbers t.pairs.items u ≡ suc (numbers t.pairs.items p)
+  pub inner : v u (suc (numbers t.pairs.items p + numbers t.pairs.items p)) ≡ numbers mate u
+  pub before : (j : ℕ) → j ≤ numbers t.pairs.items p + numbers t.pairs.items p → v u j ≡ v p j
+
+-- the sets, the parents and the mates are a forest for f in g without r; v and e are the vertices and edges of its paths
+pub record HoldsAlternating (g : Graph) (r f : Set) (mate : List ℕ) (t : AlternatingForest) : Type 0 where
+  pub v : ℕ → ℕ → ℕ
+  pub e : ℕ → ℕ → ℕ
+  pub forest : IsForest g r f (mem t.outer) (mem t.inner) (numbers t.pairs.items) v e
+  pub parents_long : length t.parent.items ≡ suc g.order
+  pub pairs_long : length t.pairs.items ≡ suc g.order
+  pub up : (u : ℕ) → mem t.outer u ≡ true → numbers t.pairs.items u ≢ 0 → (p : ℕ) × GoesUp mate t v u p
+
+-- h is t with an inner vertex y, whose parent is x, and with its mate z as an outer vertex
+pub record HasBranched (t h : AlternatingForest) (x y z : ℕ) : Type 0 where
+  pub outer : (v : ℕ) → mem h.outer v ≡ (mem t.outer v || (z == v))
+  pub inner : (v : ℕ) → mem h.inner v ≡ (mem t.inner v || (y == v))
+  pub parents_long : length h.parent.items ≡ length t.parent.items
+  pub pairs_long : length h.pairs.items ≡ length t.pairs.items
+  pub parent : (v : ℕ) → numbers h.parent.items v ≡ with_mate (numbers t.parent.items) y x v
+  pub pairs : (v : ℕ) → numbers h.pairs.items v ≡ with_mate (numbers t.pairs.items) z (suc (numbers t.pairs.items x)) v
+
+-- x is done: each neighbour of it that is left, but for itself, is inner
+abbrev pub IsDone : Instance → AlternatingForest → ℕ → Type 0
+IsDone s t x = (y : ℕ) → Touches s x y → mem s.left y ≡ true → x ≢ y → mem t.inner y ≡ true
+
+-- two outer vertices of the forest, different ones, which an edge joins
+pub record IsClosingPair (s : Instance) (t : AlternatingForest) (o : Adjacent) : Type 0 where
+  pub v_outer : mem t.outer o.v ≡ true
+  pub w_outer : mem t.outer o.w ≡ true
+  pub different : o.v ≢ o.w
+  pub w_left : mem s.left o.w ≡ true
+  pub adjacent : Touches s o.v o.w
+
+-- a forest that has an edge between two outer vertices, or that no edge leaves
+pub record IsGrowth (g : Graph) (r f : Set) (s : Instance) (mate : List ℕ) (t : Growth) : Type 0 where
+  pub holds : HoldsAlternating g r f mate t.forest
+  pub done : t.closing ≡ None → (x : ℕ) → mem t.forest.outer x ≡ true → IsDone s t.forest x
+  pub closing_pair : (o : Adjacent) → t.closing ≡ Some o → IsClosingPair s t.forest o

@@ -1,0 +1,15 @@
+pub mod Frames
+pub mod OddCycles
+pub mod Forests
+pub mod RepairPaths
+pub mod Mates
+pub mod Instances
+pub mod AlternatingForests
+pub mod Blossoms
+pub mod Shrinkings
+pub mod Rows
+pub mod Meetings
+pub mod GraphRows
+pub mod Steps
+pub mod Optimal
+pub mod Questions

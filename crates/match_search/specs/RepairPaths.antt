@@ -1,0 +1,80 @@
+-- Repaired matchings: perfect ones that differ from a given matching by one path.
+use Rattle.std.specs.Prelude.{◌≡◌, ℕ, suc, ◌+◌, ◌≤◌, ◌<◌, ◌≢◌, ◌↔◌, true, false, List, not, length}
+use Rattle.counting.specs.Counts.{Within, is_odd}
+use Rattle.counting.specs.Sets.{Set, put}
+use Rattle.graph_core.specs.Graph.{Graph, HasEnds, degree, size}
+use Rattle.graph_core.specs.Matchings.{IsPerfect}
+use Rattle.match_search.specs.Forests.{IsAlternating, flipped}
+use Rattle.match_search.specs.OddCycles.{same_answer}
+use Rattle.match_search.specs.Rows.{numbers}
+
+-- m misses v, a vertex outside r
+pub record Misses (g : Graph) (r m : Set) (v : ℕ) : Type 0 where
+  pub within : Within g.order v
+  pub outside : r v ≡ false
+  pub missed : degree g m v ≡ 0
+
+-- the edges that are in exactly one of m and n
+abbrev pub difference : Set → Set → Set
+difference m n e = not (same_answer (m e) (n e))
+
+-- the edges d form one path from x to y: its vertices are different, and each edge joins a vertex to the next
+pub record FormPath (g : Graph) (d : Set) (x y : ℕ) : Type 0 where
+  pub edges : ℕ
+  pub vertex : ℕ → ℕ
+  pub edge : ℕ → ℕ
+  pub first : vertex 0 ≡ x
+  pub last : vertex edges ≡ y
+  pub apart : (i j : ℕ) → i ≤ edges → j ≤ edges → vertex i ≡ vertex j → i ≡ j
+  pub real : (i : ℕ) → i < edges → Within (size g) (edge i)
+  pub ends : (i : ℕ) → i < edges → HasEnds g (edge i) (vertex i) (vertex (suc i))
+  pub these : (e : ℕ) → Within (size g) e → (d e ≡ true) ↔ ((i : ℕ) × (i < edges) × (edge i ≡ e))
+
+-- the edges in exactly one of m and n form one path between the two vertices that m misses
+pub record DiffersByPath (g : Graph) (r m n : Set) : Type 0 where
+  pub x : ℕ
+  pub y : ℕ
+  pub different : x ≢ y
+  pub first : Misses g r m x
+  pub second : Misses g r m y
+  pub path : FormPath g (difference m n) x y
+
+-- an alternating path and one more edge, which make a perfect matching of m
+pub record RepairPath (g : Graph) (r m : Set) (x y : ℕ) : Type 0 where
+  pub k : ℕ
+  pub v : ℕ → ℕ
+  pub e : ℕ → ℕ
+  pub path : IsAlternating g r m k v e
+  pub start : v 0 ≡ x
+  pub edge : ℕ
+  pub real : Within (size g) edge
+  pub ends : HasEnds g edge (v (k + k)) y
+  pub apart : (i : ℕ) → i ≤ k + k → v i ≢ y
+  pub off : m edge ≡ false
+  pub perfect : IsPerfect g r (put (flipped m e k) edge true)
+
+-- a walk from x by edges of n and of m in turn, which has come to v; the edges of n among them are an even number of places
+-- from the start
+pub record IsWalk (g : Graph) (r m n : Set) (x : ℕ) (es : List ℕ) (v : ℕ) : Type 0 where
+  pub pairs : ℕ
+  pub vertex : ℕ → ℕ
+  pub long : length es ≡ pairs + pairs
+  pub path : IsAlternating g r m pairs vertex (numbers es)
+  pub other : (i : ℕ) → i < pairs + pairs → n (numbers es i) ≡ not (is_odd i)
+  pub start : vertex 0 ≡ x
+  pub here : vertex (pairs + pairs) ≡ v
+
+-- the edges of the row, an odd number, are a path that repairs m
+pub record IsRepairRow (g : Graph) (r m : Set) (x : ℕ) (es : List ℕ) : Type 0 where
+  pub y : ℕ
+  pub missed : Misses g r m y
+  pub pairs : ℕ
+  pub long : length es ≡ suc (pairs + pairs)
+  pub vertex : ℕ → ℕ
+  pub path : IsAlternating g r m pairs vertex (numbers es)
+  pub start : vertex 0 ≡ x
+  pub real : Within (size g) (numbers es (pairs + pairs))
+  pub ends : HasEnds g (numbers es (pairs + pairs)) (vertex (pairs + pairs)) y
+  pub apart : (i : ℕ) → i ≤ pairs + pairs → vertex i ≢ y
+  pub off : m (numbers es (pairs + pairs)) ≡ false
+  pub perfect : IsPerfect g r (put (flipped m (numbers es) pairs) (numbers es (pairs + pairs)) true)

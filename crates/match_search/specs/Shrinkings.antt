@@ -1,0 +1,51 @@
+-- An instance with a blossom shrunk to its base.
+use Rattle.std.specs.Prelude.{◌≡◌, ◌≢◌, ◌↔◌, ℕ, ◌&&◌, ◌||◌, ◌==◌, not, true, List, length}
+use Rattle.counting.specs.Counts.{Within}
+use Rattle.counting.specs.Sets.{Set}
+use Rattle.counting.specs.Lists.{mem, item}
+use Rattle.match_search.specs.declared.instance.Instance.{Instance}
+use Rattle.match_search.specs.declared.instance.Unshrunk.{Unshrunk}
+
+-- the row holds what the rows of the vertices of x hold
+abbrev pub IsUnionOf : List (List ℕ) → Set → List ℕ → Type 0
+IsUnionOf rows x row = (u : ℕ) → (mem row u ≡ true) ↔ ((v : ℕ) × (x v ≡ true) × (mem (item rows v) u ≡ true))
+
+-- after is the list of rows with the row of z as the union of those of the vertices of x
+pub record IsGathered (before : List (List ℕ)) (x : Set) (z : ℕ) (after : List (List ℕ)) : Type 0 where
+  pub one_each : length after ≡ length before
+  pub own : IsUnionOf before x (item after z)
+  pub others : (v : ℕ) → Within (length before) v → z ≢ v → item after v ≡ item before v
+
+-- h is s with the ring shrunk to the base, which has the neighbours and the members of the ring
+pub record IsShrinking (s : Instance) (ring : Set) (base : ℕ) (h : Instance) : Type 0 where
+  pub rows : IsGathered s.rows.items ring base h.rows.items
+  pub members : IsGathered s.members.items ring base h.members.items
+  pub blossoms : (v : ℕ) → mem h.blossoms v ≡ ((mem s.blossoms v && not (ring v)) || (base == v))
+  pub left : (v : ℕ) → mem h.left v ≡ (mem s.left v && not (ring v && not (base == v)))
+
+-- what a shrinking to the base takes from s
+pub record IsUnshrunk (s : Instance) (base : ℕ) (before : Unshrunk) : Type 0 where
+  pub row : before.row ≡ item s.rows.items base
+  pub members : before.members ≡ item s.members.items base
+  pub blossoms : before.blossoms ≡ s.blossoms
+  pub left : before.left ≡ s.left
+
+-- h is s with the row and the members of the base, and with the blossoms and the vertices left, from before
+pub record IsPutBack (s : Instance) (base : ℕ) (before : Unshrunk) (h : Instance) : Type 0 where
+  pub rows_long : length h.rows.items ≡ length s.rows.items
+  pub members_long : length h.members.items ≡ length s.members.items
+  pub row : item h.rows.items base ≡ before.row
+  pub members : item h.members.items base ≡ before.members
+  pub other_rows : (v : ℕ) → Within (length s.rows.items) v → base ≢ v → item h.rows.items v ≡ item s.rows.items v
+  pub other_members : (v : ℕ) → Within (length s.members.items) v → base ≢ v → item h.members.items v ≡ item s.members.items v
+  pub blossoms : h.blossoms ≡ before.blossoms
+  pub left : h.left ≡ before.left
+
+-- the two hold the same
+pub record AreAlike (s h : Instance) : Type 0 where
+  pub rows_long : length h.rows.items ≡ length s.rows.items
+  pub members_long : length h.members.items ≡ length s.members.items
+  pub rows : (v : ℕ) → Within (length s.rows.items) v → item h.rows.items v ≡ item s.rows.items v
+  pub members : (v : ℕ) → Within (length s.members.items) v → item h.members.items v ≡ item s.members.items v
+  pub blossoms : h.blossoms ≡ s.blossoms
+  pub left : h.left ≡ s.left

@@ -1,0 +1,103 @@
+//! Alternating forests by parents.
+//!
+//! A vertex is outer if an alternating path of an even number of edges leads to it from an exposed vertex, and inner if it is
+//! the vertex before an outer one on such a path. An outer vertex is exposed, a root, or hangs on its mate, which is inner; an
+//! inner vertex hangs on its parent, an outer neighbour.
+ghost use Rattle.std.specs.Prelude.{◌≡◌, ℕ, ◌+◌, ◌<◌, ◌≤◌, ◌==◌, ◌&&◌, true, false, length, suc, IfOk};
+ghost use Rattle.counting.specs.Counts.{Within};
+ghost use Rattle.counting.specs.Lists.{mem};
+ghost use Rattle.match_search.specs.AlternatingForests.{AreExposed, HasBranched, IsSized, MayBeExposed};
+ghost use Rattle.match_search.specs.Rows.{numbers};
+
+use std::alloc::{AllocError as Memory, Global};
+use vset_core::{MOST_VERTICES, VSet};
+
+/// An alternating forest: its outer and its inner vertices, for each inner vertex its parent, and for each outer vertex the
+/// number of pairs of edges on its way to the root.
+#[derive(Drop)]
+pub struct AlternatingForest {
+    pub outer: VSet,
+    pub inner: VSet,
+    pub parent: Vec<u32>,
+    pub pairs: Vec<usize>,
+}
+
+/// The vertices that are left and exposed, where the candidates hold all of these.
+pub fn exposed_in(candidates: VSet, left: VSet, mate: &[u32]) -> VSet
+    requires vertices { (v : ℕ) → mem left v ≡ true → v < length mate.now }
+    requires candidates { MayBeExposed left mate.now candidates }
+    ensures { AreExposed left mate.now result }
+{
+    let mut exposed = VSet::empty();
+    let mut rest = candidates.meet(left);
+    'looking: while let Some((v, others)) = rest.split_first() {
+        rest = others;
+        if mate[v as usize] == 0 {
+            exposed = exposed.with(v);
+        }
+    }
+    exposed
+}
+
+// Writes 0 at the places of a set.
+fn write_zeros(row: &mut [usize], places: VSet)
+    requires { (v : ℕ) → mem places v ≡ true → v < length row.old }
+    ensures { (v : ℕ) → mem places v ≡ true → numbers row.new v ≡ 0 }
+{
+    let mut rest = places;
+    'writing: while let Some((v, others)) = rest.split_first() {
+        rest = others;
+        row[v as usize] = 0;
+    }
+}
+
+impl AlternatingForest {
+    /// The forest of 1 to `n` without a vertex.
+    pub fn empty(alloc: Global, n: u32) -> Result<AlternatingForest, Memory>
+        requires { n ≤ MOST_VERTICES }
+        ensures { IfOk result (IsSized n) }
+    {
+        Ok(AlternatingForest {
+            outer: VSet::empty(),
+            inner: VSet::empty(),
+            parent: vec![in alloc; 0; n as usize + 1]?,
+            pairs: vec![in alloc; 0; n as usize + 1]?,
+        })
+    }
+
+    /// The forest in which the vertices of a set are the roots, and all outer vertices. It keeps the memory of this one.
+    pub fn with_roots(self, roots: VSet) -> AlternatingForest
+        requires { (v : ℕ) → mem roots v ≡ true → v < length self.pairs.items }
+        ensures outer { result.outer ≡ roots }
+        ensures inner { (v : ℕ) → mem result.inner v ≡ false }
+        ensures parents_long { length result.parent.items ≡ length self.parent.items }
+        ensures pairs_long { length result.pairs.items ≡ length self.pairs.items }
+        ensures pairs { (v : ℕ) → mem roots v ≡ true → numbers result.pairs.items v ≡ 0 }
+    {
+        let AlternatingForest { parent, pairs, .. } = self;
+        let mut pairs = pairs;
+        write_zeros(&mut pairs, roots);
+        AlternatingForest {
+            outer: roots,
+            inner: VSet::empty(),
+            parent,
+            pairs,
+        }
+    }
+
+    /// Hangs the vertex `y`, which becomes inner, on the outer vertex `x`, and its mate `z`, which becomes outer, on `y`.
+    pub fn branch(&mut self, x: u32, y: u32, z: u32)
+        requires x_in { x < length self.old.pairs.items }
+        requires y_in { y < length self.old.parent.items }
+        requires z_in { z < length self.old.pairs.items }
+        requires y_vertex { Within MOST_VERTICES y }
+        requires z_vertex { Within MOST_VERTICES z }
+        requires shallow { numbers self.old.pairs.items x ≤ MOST_VERTICES }
+        ensures { HasBranched self.old self.new x y z }
+    {
+        self.parent[y as usize] = x;
+        self.pairs[z as usize] = self.pairs[x as usize] + 1;
+        self.outer = self.outer.with(z);
+        self.inner = self.inner.with(y);
+    }
+}

@@ -1,0 +1,80 @@
+//! One augmentation on rows of neighbours, by mates.
+//!
+//! From the exposed vertices a forest of alternating paths grows. An edge between two of its outer vertices gives a path that
+//! augments the matching, or a blossom. A blossom is shrunk to its base: a matching of the smaller graph can be completed in
+//! it, and a proof that there is no larger one holds for the graph too. Where no edge leaves the forest, its inner vertices
+//! show that the matching is maximum: without them each outer vertex, a blossom or not, is in an odd component of its own.
+//!
+//! After a shrinking the forest is grown anew. That takes few steps: the pairs on the way to the base were exchanged, so the
+//! base is exposed and a root, and the rest of the blossom is gone.
+ghost use Rattle.std.specs.Prelude.{◌≡◌, ◌<◌, length, IfOk, OnOk, Some};
+ghost use Rattle.counting.specs.Sets.{Set};
+ghost use Rattle.graph_core.specs.Graph.{Graph};
+ghost use Rattle.match_search.specs.AlternatingForests.{HoldsMatching, IsSized, MayBeExposed};
+ghost use Rattle.match_search.specs.Blossoms.{ClosesForest, ExposesOnly, IsClosed, IsMateStep};
+ghost use Rattle.match_search.specs.Shrinkings.{AreAlike};
+
+use crate::alternating::{AlternatingForest, exposed_in};
+use crate::answer::{Answer, FinalSets, widen};
+use crate::blossom::{Blossom, close, open};
+use crate::growing::{Adjacent, Growth, grow_forest};
+use crate::instance::Instance;
+use crate::ways::ways_to;
+use std::alloc::{AllocError as Memory, Global};
+use vset_core::VSet;
+
+/// Makes the matching with these mates larger by one edge, or answers a frame, which shows that none is larger; the mates may
+/// then be those of another matching of the same size. The exposed vertices are looked for among the candidates. What is
+/// shrunk meanwhile is put back. The forests are grown in the memory of one that means nothing.
+pub fn augment_once(
+    alloc: Global,
+    instance: &mut Instance,
+    unused: AlternatingForest,
+    candidates: VSet,
+    mate: &mut [u32],
+) -> Result<Answer, Memory>
+    requires holds { (g : Graph) × (r : Set) × (f : Set) ×
+        HoldsMatching g r f instance.old mate.old }
+    requires sized { IsSized (length instance.old.rows.items) unused }
+    requires candidates { MayBeExposed instance.old.left mate.old candidates }
+    ensures step { IfOk result (λ s. (g : Graph) (r f : Set) →
+        HoldsMatching g r f instance.old mate.old → IsMateStep g r f mate.new s) }
+    ensures restored { OnOk result (AreAlike instance.old instance.new) }
+{
+    let roots = exposed_in(candidates, instance.left, mate);
+    let Growth { forest, closing } = grow_forest(instance, unused, roots, mate);
+    match closing {
+        None => Ok(Answer::Final(FinalSets {
+            outer: forest.outer,
+            inner: forest.inner,
+        })),
+        Some(gap) => match close_gap(alloc, &forest, gap, mate)? {
+            None => Ok(Answer::Grown),
+            Some(blossom) => {
+                let base = blossom.ring[1];
+                let before = instance.shrink(blossom.members, base);
+                let below = augment_once(alloc, instance, forest, roots.with(base), mate)?;
+                instance.unshrink(base, before);
+                open(instance, &blossom, mate);
+                Ok(widen(below, blossom.members))
+            }
+        },
+    }
+}
+
+// Closes the ways of a forest to two of its outer vertices that an edge joins: the matching is
+// augmented along them, or a blossom is answered and its vertices are exposed.
+fn close_gap(
+    alloc: Global,
+    forest: &AlternatingForest,
+    gap: Adjacent,
+    mate: &mut [u32],
+) -> Result<Option<Blossom>, Memory>
+    requires { (g : Graph) × (r : Set) × (f : Set) × ClosesForest g r f mate.old forest.now gap }
+    ensures closed { IfOk result (λ b. (g : Graph) (r f : Set) →
+        ClosesForest g r f mate.old forest.now gap → IsClosed g r f mate.new b) }
+    ensures exposed { IfOk result (λ o. (b : _) → o ≡ Some b → ExposesOnly mate.old mate.new b) }
+{
+    let ways = ways_to(alloc, forest, mate, gap)?;
+    close(alloc, &ways, mate)
+}

@@ -1,0 +1,118 @@
+//! A maximum matching of G - removed, with the frame that shows it to be one: a matching is enlarged by one edge after the other
+//! until a step answers a frame instead. Each step leaves two exposed vertices less, so there are at most half as many as
+//! vertices.
+ghost use Rattle.std.specs.Prelude.{◌≡◌, ◌+◌, ◌==◌, ◌&&◌, not, length, IfOk};
+ghost use Rattle.counting.specs.Counts.{Within};
+ghost use Rattle.counting.specs.Lists.{mem};
+ghost use Rattle.counting.specs.Sets.{Set};
+ghost use Rattle.graph_core.specs.Rows.{AreRows};
+ghost use Rattle.graph_core.specs.View.{graph_of};
+ghost use Rattle.graph_core.specs.Matchings.{IsMatching};
+ghost use Rattle.match_search.specs.AlternatingForests.{HoldsMatching};
+ghost use Rattle.match_search.specs.Rows.{marks};
+ghost use Rattle.match_search.specs.GraphRows.{IsGraphRow};
+ghost use Rattle.match_search.specs.Optimal.{IsBest};
+
+use crate::alternating::AlternatingForest;
+use crate::answer::{Answer, FinalSets};
+use crate::augment::augment_once;
+use crate::instance::{Instance, instance_of};
+use crate::marked::marks_of;
+use crate::mates::mates_of;
+use crate::rows::{falses, mark_place};
+use graph_core::{Ends, MultiGraph};
+use std::alloc::{AllocError as Memory, Global};
+use vset_core::{MOST_VERTICES, VSet};
+
+/// The marks of a maximum matching, and its frame.
+#[derive(Drop)]
+pub struct Best {
+    pub mark: Vec<bool>,
+    pub sets: FinalSets,
+}
+
+/// Makes a maximum matching of G - removed: one edge after the other at first, then by augmentations.
+pub fn find_best(alloc: Global, g: &MultiGraph, removed: VSet) -> Result<Best, Memory>
+    ensures { IfOk result (λ b. IsBest g.now (mem removed) b) }
+{
+    let n = g.order();
+    let ends = g.edges();
+    let mark = first_marks(alloc, n, ends, removed)?;
+    best_from(alloc, n, ends, g.rows(), removed, &mark)
+}
+
+/// Enlarges a matching of G - removed, given by its marks, until it is maximum. It is enlarged by mates; the edges are read
+/// at the beginning and at the end alone.
+pub fn best_from(
+    alloc: Global,
+    n: u32,
+    ends: &[Ends],
+    rows: &[VSet],
+    removed: VSet,
+    given: &[bool],
+) -> Result<Best, Memory>
+    requires row { IsGraphRow n ends.now }
+    requires neighbours { AreRows (graph_of n ends.now) rows.now }
+    requires long { length given.now ≡ length ends.now + 1 }
+    requires matching { IsMatching (graph_of n ends.now) (mem removed) (marks given.now) }
+    ensures { IfOk result (λ b. IsBest (graph_of n ends.now) (mem removed) b) }
+{
+    let mut instance = instance_of(alloc, rows, removed)?;
+    let mut mate = mates_of(alloc, n, ends, given)?;
+    enlarge(alloc, n, ends, &mut instance, &mut mate)
+}
+
+// Enlarges a matching, given by its mates, until a step answers a frame.
+fn enlarge(
+    alloc: Global,
+    n: u32,
+    ends: &[Ends],
+    instance: &mut Instance,
+    mate: &mut [u32],
+) -> Result<Best, Memory>
+    requires row { IsGraphRow n ends.now }
+    requires holds { (r : Set) × (f : Set) ×
+        HoldsMatching (graph_of n ends.now) r f instance.old mate.old }
+    ensures { IfOk result (λ b. (r f : Set) →
+        HoldsMatching (graph_of n ends.now) r f instance.old mate.old →
+        IsBest (graph_of n ends.now) r b) }
+{
+    'augmenting: loop {
+        let left = instance.left;
+        let unused = AlternatingForest::empty(alloc, n)?;
+        match augment_once(alloc, instance, unused, left, mate)? {
+            Answer::Grown => {}
+            Answer::Final(sets) => {
+                let mark = marks_of(alloc, n, ends, mate)?;
+                return Ok(Best { mark, sets });
+            }
+        }
+    }
+}
+
+// The marks of a matching that no single edge enlarges: each edge in turn, if both its ends are free.
+fn first_marks(alloc: Global, n: u32, ends: &[Ends], removed: VSet) -> Result<Vec<bool>, Memory>
+    requires { IsGraphRow n ends.now }
+    ensures long { IfOk result (λ mark. length mark.items ≡ length ends.now + 1) }
+    ensures matching { IfOk result
+        (λ mark. IsMatching (graph_of n ends.now) (mem removed) (marks mark.items)) }
+{
+    let mut mark = falses(alloc, ends.len() + 1)?;
+    let mut met = removed;
+    for (k, e) in ends.iter().enumerate() {
+        if is_addable(*e, met) {
+            mark_place(&mut mark, k + 1);
+            met = met.with(e.a).with(e.b);
+        }
+    }
+    Ok(mark)
+}
+
+/// Whether an edge joins two different vertices outside the set.
+pub fn is_addable(e: Ends, met: VSet) -> bool
+    requires a { Within MOST_VERTICES e.a }
+    requires b { Within MOST_VERTICES e.b }
+    ensures { result ≡ (not (e.a == e.b) && (not (mem met e.a) && not (mem met e.b))) }
+{
+    e.a != e.b && (!met.contains(e.a) && !met.contains(e.b))
+}

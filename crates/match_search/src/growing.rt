@@ -1,0 +1,68 @@
+//! The search of the engine: an alternating forest grows until an edge joins two of its outer vertices, or no edge leads from
+//! an outer vertex to one that is not inner. The last forest of a search without such an edge shows that the matching is
+//! maximum: without its inner vertices each of its outer vertices is a component by itself.
+ghost use Rattle.std.specs.Prelude.{◌≡◌, ℕ, ◌+◌, ◌<◌, ◌≤◌, length, suc, IfOk};
+ghost use Rattle.counting.specs.Sets.{Set};
+ghost use Rattle.counting.specs.Lists.{mem};
+ghost use Rattle.graph_core.specs.Graph.{Graph};
+ghost use Rattle.match_search.specs.AlternatingForests.{AreExposed, HoldsMatching, IsGrowth, IsSized};
+ghost use Rattle.match_search.specs.Rows.{numbers};
+
+use crate::alternating::AlternatingForest;
+use crate::instance::Instance;
+use vset_core::VSet;
+
+/// Two vertices that an edge joins.
+#[derive(Clone, Copy, Debug, PartialEq, Eq, Drop)]
+pub struct Adjacent {
+    pub v: u32,
+    pub w: u32,
+}
+
+/// What a search ends with: a forest, and two of its outer vertices that are adjacent, if there are such.
+#[derive(Drop)]
+pub struct Growth {
+    pub forest: AlternatingForest,
+    pub closing: Option<Adjacent>,
+}
+
+/// Grows the forest of the matching with these mates from its exposed vertices. It is written into the memory of a forest that
+/// means nothing.
+pub fn grow_forest(
+    instance: &Instance,
+    unused: AlternatingForest,
+    roots: VSet,
+    mate: &[u32],
+) -> Growth
+    requires holds { (g : Graph) × (r : Set) × (f : Set) ×
+        HoldsMatching g r f instance.now mate.now }
+    requires sized { IsSized (length instance.now.rows.items) unused }
+    requires roots { AreExposed instance.now.left mate.now roots }
+    ensures { (g : Graph) (r f : Set) →
+        HoldsMatching g r f instance.now mate.now → IsGrowth g r f instance.now mate.now result }
+{
+    let mut forest = unused.with_roots(roots);
+    let mut open = forest.outer;
+    'growing: while let Some(x) = open.first() {
+        let near = instance.near(x).without(x);
+        let reach = near.minus(forest.inner);
+        if let Some(y) = reach.meet(forest.outer).first() {
+            return Growth {
+                forest,
+                closing: Some(Adjacent { v: x, w: y }),
+            };
+        }
+        match reach.first() {
+            None => open = open.without(x),
+            Some(y) => {
+                let z = mate[y as usize];
+                forest.branch(x, y, z);
+                open = open.with(z);
+            }
+        }
+    }
+    Growth {
+        forest,
+        closing: None,
+    }
+}

@@ -1,0 +1,172 @@
+//! A graph without its removed vertices as the search reads it, and the shrinking of a blossom to its base.
+//!
+//! A vertex that is left stands for its members: at first itself alone, and after a shrinking all vertices that became it. Its
+//! row keeps the neighbours that its members had before any shrinking. So two vertices are adjacent where the row of one holds
+//! a member of the other (`Touches`), and a shrinking writes no more than the row and the members of the base, each as the
+//! union over the blossom. No neighbour is told of it, and it is undone by putting back what stood there.
+ghost use Rattle.std.specs.Prelude.{◌≡◌, ◌≢◌, ℕ, ◌+◌, ◌-◌, ◌<◌, ◌≤◌, true, false, length, IfOk, ◌∷◌, [], ◌↔◌};
+ghost use Rattle.counting.specs.Counts.{Within};
+ghost use Rattle.counting.specs.Sets.{Set};
+ghost use Rattle.counting.specs.Lists.{mem, item};
+ghost use Rattle.graph_core.specs.Graph.{Graph, IsGraph};
+ghost use Rattle.graph_core.specs.Rows.{AreRows};
+ghost use Rattle.match_search.specs.Instances.{AreNear, IsInstance};
+ghost use Rattle.match_search.specs.Shrinkings.{IsGathered, IsPutBack, IsShrinking, IsUnionOf, IsUnshrunk};
+
+use std::alloc::{AllocError as Memory, Global};
+use vset_core::{MOST_VERTICES, VSet};
+
+/// The graph: for each vertex its members, which are the vertices that became it by shrinkings, and the neighbours that these
+/// had before any shrinking; the vertices that a blossom was shrunk to; and the vertices that are left. What stands at a
+/// removed vertex, and which removed vertices the rows hold, means nothing.
+#[derive(Drop)]
+pub struct Instance {
+    pub rows: Vec<VSet>,
+    pub members: Vec<VSet>,
+    pub blossoms: VSet,
+    pub left: VSet,
+}
+
+/// The graph with these rows of neighbours, without a set of vertices.
+pub fn instance_of(alloc: Global, rows: &[VSet], removed: VSet) -> Result<Instance, Memory>
+    requires { length rows.now ≤ MOST_VERTICES }
+    ensures { IfOk result (λ s. (g : Graph) → IsGraph g → AreRows g rows.now →
+        IsInstance g (mem removed) s) }
+{
+    let n = rows.len() as u32;
+    let rows = rows.to_vec(alloc)?;
+    let members = singles(alloc, n)?;
+    Ok(Instance {
+        rows,
+        members,
+        blossoms: VSet::empty(),
+        left: VSet::full(n).minus(removed),
+    })
+}
+
+// For each vertex the set of it alone.
+fn singles(alloc: Global, n: u32) -> Result<Vec<VSet>, Memory>
+    requires { n ≤ MOST_VERTICES }
+    ensures one_each { IfOk result (λ rows. length rows.items ≡ n) }
+    ensures single { IfOk result (λ rows. (v : ℕ) → Within n v → item rows.items v ≡ v ∷ []) }
+{
+    let mut rows = Vec::with_capacity(alloc, n as usize)?;
+    for i in 0..n {
+        rows.push(VSet::one(i + 1))?;
+    }
+    Ok(rows)
+}
+
+// Whether two sets have a common member.
+fn is_met(row: VSet, set: VSet) -> bool
+    ensures yes { result ≡ true → (w : ℕ) × (mem row w ≡ true) × (mem set w ≡ true) }
+    ensures no { result ≡ false → (w : ℕ) → mem row w ≡ true → mem set w ≡ false }
+{
+    match row.meet(set).first() {
+        Some(_) => true,
+        None => false,
+    }
+}
+
+impl Instance {
+    /// The vertices that are left and adjacent to `v`, and maybe `v` itself.
+    pub fn near(&self, v: u32) -> VSet
+        requires vertex { Within (length self.now.rows.items) v }
+        requires instance { (g : Graph) × (r : Set) × IsInstance g r self.now }
+        ensures { AreNear self.now v result }
+    {
+        let row = self.rows[v as usize - 1];
+        let mut near = row;
+        let mut rest = self.blossoms;
+        'blossoms: while let Some((b, others)) = rest.split_first() {
+            rest = others;
+            if is_met(row, self.members[b as usize - 1]) {
+                near = near.with(b);
+            }
+        }
+        near.meet(self.left)
+    }
+}
+
+// The union of the rows of the vertices of a set.
+fn union_of(rows: &[VSet], set: VSet) -> VSet
+    requires { (v : ℕ) → mem set v ≡ true → Within (length rows.now) v }
+    ensures { IsUnionOf rows.now (mem set) result }
+{
+    let mut all = VSet::empty();
+    let mut rest = set;
+    'uniting: while let Some((v, others)) = rest.split_first() {
+        rest = others;
+        all = all.union(rows[v as usize - 1]);
+    }
+    all
+}
+
+fn write_row(rows: &mut [VSet], v: u32, row: VSet)
+    requires { Within (length rows.old) v }
+    ensures own { item rows.new v ≡ row }
+    ensures others { (u : ℕ) → Within (length rows.old) u → v ≢ u →
+        item rows.new u ≡ item rows.old u }
+{
+    rows[v as usize - 1] = row;
+}
+
+// Makes the row of the base the union of those of the ring, and answers what it was.
+fn gather(rows: &mut [VSet], ring: VSet, base: u32) -> VSet
+    requires vertices { (v : ℕ) → mem ring v ≡ true → Within (length rows.old) v }
+    requires base { Within (length rows.old) base }
+    ensures gathered { IsGathered rows.old (mem ring) base rows.new }
+    ensures before { result ≡ item rows.old base }
+{
+    let before = rows[base as usize - 1];
+    let all = union_of(rows, ring);
+    write_row(rows, base, all);
+    before
+}
+
+/// What a shrinking takes from an instance: the row and the members of the base, and the sets of blossoms and of vertices left.
+#[derive(Clone, Copy, Drop)]
+pub struct Unshrunk {
+    pub row: VSet,
+    pub members: VSet,
+    pub blossoms: VSet,
+    pub left: VSet,
+}
+
+impl Instance {
+    /// Shrinks a ring of vertices to its base: the base has then the neighbours and the members of the ring, and the other
+    /// vertices of the ring are removed. Takes no memory, and answers what `unshrink` puts back.
+    pub fn shrink(&mut self, ring: VSet, base: u32) -> Unshrunk
+        requires few { length self.old.rows.items ≤ MOST_VERTICES }
+        requires one_each { length self.old.members.items ≡ length self.old.rows.items }
+        requires vertices { (v : ℕ) → mem ring v ≡ true → Within (length self.old.rows.items) v }
+        requires base { Within (length self.old.rows.items) base }
+        ensures shrunk { IsShrinking self.old (mem ring) base self.new }
+        ensures before { IsUnshrunk self.old base result }
+    {
+        let blossoms = self.blossoms;
+        let left = self.left;
+        let row = gather(&mut self.rows, ring, base);
+        let members = gather(&mut self.members, ring, base);
+        self.blossoms = blossoms.minus(ring).with(base);
+        self.left = left.minus(ring.without(base));
+        Unshrunk {
+            row,
+            members,
+            blossoms,
+            left,
+        }
+    }
+
+    /// Puts back what a shrinking to the base took.
+    pub fn unshrink(&mut self, base: u32, before: Unshrunk)
+        requires one_each { length self.old.members.items ≡ length self.old.rows.items }
+        requires base { Within (length self.old.rows.items) base }
+        ensures { IsPutBack self.old base before self.new }
+    {
+        write_row(&mut self.rows, base, before.row);
+        write_row(&mut self.members, base, before.members);
+        self.blossoms = before.blossoms;
+        self.left = before.left;
+    }
+}

@@ -1,0 +1,97 @@
+//! Rows of numbers and of marks: parts of a row put at the end of another, where a number stands, and marked places.
+ghost use Rattle.std.specs.Prelude.{◌≡◌, ◌≢◌, ℕ, ◌+◌, ◌-◌, ◌<◌, ◌≤◌, length, slice_index, IfOk, Some, None, All, ◌||◌, false, true};
+ghost use Rattle.counting.specs.Lists.{mem};
+ghost use Rattle.counting.specs.Sets.{put};
+ghost use Rattle.match_search.specs.Rows.{marks};
+
+use std::alloc::{AllocError as Memory, Global};
+
+/// Puts `count` numbers of another row, from a place on, at the end of the row.
+pub fn push_part(row: &mut Vec<u32>, of: &[u32], from: usize, count: usize) -> Result<(), Memory>
+    requires within { from + count ≤ length of.now }
+    ensures length { IfOk result (λ _. length row.new.items ≡ length row.old.items + count) }
+    ensures old { IfOk result
+        (λ _. (j : ℕ) → j < length row.old.items →
+        slice_index row.new.items j ≡ slice_index row.old.items j) }
+    ensures new { IfOk result
+        (λ _. (j : ℕ) → j < count →
+        slice_index row.new.items (length row.old.items + j) ≡ slice_index of.now (from + j)) }
+{
+    for i in 0..count {
+        row.push(of[from + i])?;
+    }
+    Ok(())
+}
+
+/// The same backwards: the last of the `count` numbers comes first.
+pub fn push_part_back(
+    row: &mut Vec<u32>,
+    of: &[u32],
+    from: usize,
+    count: usize,
+) -> Result<(), Memory>
+    requires within { from + count ≤ length of.now }
+    ensures length { IfOk result (λ _. length row.new.items ≡ length row.old.items + count) }
+    ensures old { IfOk result
+        (λ _. (j : ℕ) → j < length row.old.items →
+        slice_index row.new.items j ≡ slice_index row.old.items j) }
+    ensures new { IfOk result
+        (λ _. (j : ℕ) → j < count →
+        slice_index row.new.items (length row.old.items + j) ≡
+        slice_index of.now (from + (count - 1 - j))) }
+{
+    for i in 0..count {
+        row.push(of[from + (count - 1 - i)])?;
+    }
+    Ok(())
+}
+
+/// The first place of `v` among `count` numbers of a row, counted from the place `from`.
+pub fn find_in(row: &[u32], from: usize, count: usize, v: u32) -> Option<usize>
+    requires within { from + count ≤ length row.now }
+    ensures none { result ≡ None → (j : ℕ) → j < count → slice_index row.now (from + j) ≢ v }
+    ensures some { (j : ℕ) → result ≡ Some j → (j < count) × (slice_index row.now (from + j) ≡ v) }
+{
+    for j in 0..count {
+        if row[from + j] == v {
+            return Some(j);
+        }
+    }
+    None
+}
+
+/// A row of `n` truth values, each false.
+pub fn falses(alloc: Global, n: usize) -> Result<Vec<bool>, Memory>
+    ensures length { IfOk result (λ xs. length xs.items ≡ n) }
+    ensures each { IfOk result (λ xs. (v : ℕ) → marks xs.items v ≡ false) }
+{
+    vec![in alloc; false; n]
+}
+
+/// Marks one place.
+pub fn mark_place(mark: &mut Vec<bool>, place: usize)
+    requires { place < length mark.old.items }
+    ensures length { length mark.new.items ≡ length mark.old.items }
+    ensures each { (i : ℕ) → marks mark.new.items i ≡ put (marks mark.old.items) place true i }
+{
+    mark[place] = true;
+}
+
+/// Marks all places of a list.
+pub fn mark_places(mark: &mut Vec<bool>, places: &[u32])
+    requires { All (λ place. place < length mark.old.items) places.now }
+    ensures length { length mark.new.items ≡ length mark.old.items }
+    ensures each { (i : ℕ) → marks mark.new.items i ≡ (marks mark.old.items i || mem places.now i) }
+{
+    for place in places {
+        mark_place(mark, *place as usize);
+    }
+}
+
+/// Whether a place is marked.
+pub fn is_marked(mark: &[bool], place: u32) -> bool
+    requires { place < length mark.now }
+    ensures { result ≡ marks mark.now place }
+{
+    mark[place as usize]
+}
