@@ -1,9 +1,9 @@
 -- An edge is allowed exactly where its ends are partners; the list of the allowed edges, the least edge that is none, and whether a
 -- maximum matching is perfect.
 -- A perfect matching with the edge, less the edge, is perfect without its ends, and back. A perfect matching is as large as any.
-use Rattle.std.proofs.Common.{◌≡◌, ◌↔◌, ℕ, ◌==◌, ◌&&◌, ◌||◌, not, Bool, true, false, List, refl, sym, ap, ◌∙◌, arith, subst, ne_eqb, eq-eqb}
+use Rattle.std.proofs.Common.{◌≡◌, ◌↔◌, ℕ, ◌==◌, ◌&&◌, ◌||◌, not, Bool, true, false, List, refl, sym, ap, ◌∙◌, arith, subst, ne_eqb, eq-eqb, inl, inr}
 use Rattle.counting.proofs.Booleans.{same_tests}
-use Rattle.std.proofs.lemmas.Bool.{or_right}
+use Rattle.std.proofs.lemmas.Bool.{both_ways, cases_Bool, or_right}
 use Rattle.counting.specs.Counts.{Within}
 use Rattle.counting.specs.Lists.{Lists, item, mem, rising_list}
 use Rattle.counting.specs.Sets.{Set, none, pair_set}
@@ -64,3 +64,10 @@ maximum-perfect g m is max = (
       let all = missed_edges g none p.0 is (perfect_matching g none p.0 p.1) in
       let misses = perfect_misses g none p.0 p.1 in omega arith,
 )
+
+-- where a perfect matching is not excluded, there is one: whether there is one is decided
+pub perfect_unless_none : (g : Graph) → ¬ (¬ (HasPerfect g none)) → HasPerfect g none
+perfect_unless_none g h = elim (cases_Bool (has_perfect g none)) [
+  | inl t ↦ has_perfect_says g none t
+  | inr f ↦ absurd (h (λ p. both_ways (has_perfect g none) f (has_perfect_found g none p)))
+]

@@ -1,26 +1,46 @@
 //! The edges that lie in perfect matchings.
-ghost use Rattle.std.specs.Prelude.{◌≡◌, IfOk};
+ghost use Rattle.std.specs.Prelude.{◌≡◌, ◌↔◌, None, IfSome, IfOk};
 ghost use Rattle.counting.specs.Counts.{Within};
 ghost use Rattle.counting.specs.Sets.{none};
 ghost use Rattle.counting.specs.Lists.{Lists};
 ghost use Rattle.graph_core.specs.Graph.{size};
-ghost use Rattle.graph_core.specs.Matchings.{Allowed, is_allowed};
+ghost use Rattle.graph_core.specs.Matchings.{Allowed, HasPerfect, is_allowed};
 ghost use Rattle.match_core.specs.Partners.{ArePartners};
 
+use crate::perfect::partners_where_perfect;
 use graph_core::{MultiGraph, Numbers};
-use match_core::{PartnerTable, all_partners};
+use match_core::{PartnerTable, maximum};
 use std::alloc::{AllocError as Memory, Global};
 
-/// The edges that lie in perfect matchings, in rising order. A graph without a perfect matching has none.
+/// The edges that lie in perfect matchings, in rising order. A graph without a perfect matching
+/// has none.
 pub fn allowed(alloc: Global, g: &MultiGraph) -> Result<Numbers, Memory>
     ensures { IfOk result (λ edges. Lists (size g.now) edges (Allowed g.now)) }
 {
-    let table = all_partners(alloc, g)?;
+    let found = maximum(alloc, g)?;
+    let table = partners_where_perfect(alloc, g, &found.matching)?;
     allowed_in(alloc, g, &table)
 }
 
-/// The edges that `allowed` answers, read off the table of partners of `g`.
-pub fn allowed_in(alloc: Global, g: &MultiGraph, table: &PartnerTable) -> Result<Numbers, Memory>
+/// The edges that `allowed` answers, from the table of partners of `g` where it has a perfect
+/// matching.
+pub fn allowed_in(
+    alloc: Global,
+    g: &MultiGraph,
+    table: &Option<PartnerTable>,
+) -> Result<Numbers, Memory>
+    requires table { IfSome table.now (ArePartners g.now none) }
+    requires perfect { (table.now ≡ None) ↔ ¬ (HasPerfect g.now none) }
+    ensures { IfOk result (λ edges. Lists (size g.now) edges (Allowed g.now)) }
+{
+    match table {
+        None => Ok(Numbers::new(alloc)),
+        Some(table) => partnered(alloc, g, table),
+    }
+}
+
+// The edges whose ends are partners.
+fn partnered(alloc: Global, g: &MultiGraph, table: &PartnerTable) -> Result<Numbers, Memory>
     requires { ArePartners g.now none table.now }
     ensures { IfOk result (λ edges. Lists (size g.now) edges (Allowed g.now)) }
 {
@@ -33,7 +53,8 @@ pub fn allowed_in(alloc: Global, g: &MultiGraph, table: &PartnerTable) -> Result
     Ok(edges)
 }
 
-/// Whether edge `e` lies in a perfect matching: exactly where its ends are partners. Takes no memory.
+/// Whether edge `e` lies in a perfect matching: exactly where its ends are partners. Takes no
+/// memory.
 pub fn is_allowed_in(g: &MultiGraph, table: &PartnerTable, e: u32) -> bool
     requires edge { Within (size g.now) e }
     requires table { ArePartners g.now none table.now }

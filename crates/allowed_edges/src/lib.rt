@@ -1,23 +1,27 @@
 //! Allowed edges, the verdict on a graph, and the table of the pairs of edges that lie together.
 //!
-//! An edge is allowed if some perfect matching contains it (`Allowed` of `graph_core`), and a graph is matching covered if
-//! it has at least two vertices, is connected, and all its edges are allowed (`IsCovered`). `allowed` lists exactly the
-//! allowed edges. `covered` answers whether the graph is matching covered and, where it is not, the first reason that
-//! applies (`IsVerdict`): fewer than two vertices, no connection, no perfect matching, or the least edge that is not allowed.
-//! Both are read off the table of partners: an edge is allowed exactly where its ends are partners. `allowed_in` and `covered_in`
-//! take a table that is at hand.
+//! An edge is allowed if some perfect matching contains it (`Allowed` of `graph_core`), and a
+//! graph is matching covered if it has at least two vertices, is connected, and all its edges are
+//! allowed (`IsCovered`). `allowed` lists exactly the allowed edges. `covered` answers whether the
+//! graph is matching covered and, where it is not, the first reason that applies (`IsVerdict`):
+//! fewer than two vertices, no connection, no perfect matching, or the least edge that is not
+//! allowed. Both are read off the table of partners: an edge is allowed exactly where its ends are
+//! partners. `allowed_in` and `verdict_in` take a table that is at hand.
 //!
-//! Two edges lie together if some perfect matching contains both (`Together`). `together` answers a `PairTable`: `both` is
-//! true exactly for the edges that lie together, and `list` is a pair list (`IsPairList`), in which each matching holds an
-//! edge or a pair of edges that no earlier one holds (`IsLean`).
+//! Two edges lie together if some perfect matching contains both (`Together`). `together` answers
+//! a `PairTable`: `both` is true exactly for the edges that lie together, and `list` is a pair
+//! list (`IsPairList`), in which each matching holds an edge or a pair of edges that no earlier
+//! one holds (`IsLean`).
 //!
-//! Each question on a pair is answered from a perfect matching at hand by one augmentation at most. Stands on `match_core`,
-//! which makes the table of partners and repairs a matching along one path. Source: Lovász and Plummer, "Matching Theory",
-//! chapter 5; Lucchesi and Murty, "Perfect Matchings".
+//! Each question on a pair is answered from a perfect matching at hand by one augmentation at
+//! most. Stands on `match_core`, which makes the table of partners and repairs a matching along
+//! one path. Source: Lovász and Plummer, "Matching Theory", chapter 5; Lucchesi and Murty,
+//! "Perfect Matchings".
 #![tactic(auto)]
 
 mod edges;
 mod pairs;
+mod perfect;
 mod questions;
 mod sharing;
 mod short_paths;
@@ -26,6 +30,7 @@ mod verdict;
 
 pub use edges::{allowed, allowed_in, is_allowed_in};
 pub use pairs::{PairTable, together, together_beside};
+pub use perfect::partners_where_perfect;
 pub use questions::{perfect_with_edge, perfect_with_pair};
 pub use sharing::share_end;
-pub use verdict::{covered, covered_in};
+pub use verdict::{covered, verdict_in};

@@ -8,10 +8,11 @@
 //!
 //! The laws: the classes are the greatest barriers (`equivalence_law`, `class_law`), what a
 //! barrier leaves has tight cuts (`barrier_law`, `barrier_cuts_law`), and a graph that is neither
-//! bicritical nor bipartite has such a cut (`wide_class_law`). `classes_in`, `barrier_cuts_in` and
-//! `first_barrier_cut_in`, which stops at the first, take a table of partners that is at hand.
+//! bicritical nor bipartite has such a cut (`wide_class_law`). `classes_of`, `barrier_cuts_of` and
+//! `first_barrier_cut`, which stops at the first, take a covered graph as a value that has its
+//! table of partners (`Covered` of `graph_facts`).
 //!
-//! Stands on `match_core`. Source: Lovász and Plummer, "Matching Theory", chapters 3 and 5;
+//! Stands on `graph_facts`. Source: Lovász and Plummer, "Matching Theory", chapters 3 and 5;
 //! Edmonds, Lovász and Pulleyblank 1982.
 #![tactic(auto)]
 
@@ -21,6 +22,6 @@ mod laws;
 mod shores;
 
 pub use barrier::is_barrier;
-pub use canonical_partition::{classes, classes_in};
+pub use canonical_partition::{classes, classes_of};
 pub use laws::{barrier_cuts_law, barrier_law, class_law, equivalence_law, wide_class_law};
-pub use shores::{barrier_cuts, barrier_cuts_in, first_barrier_cut_in};
+pub use shores::{barrier_cuts, barrier_cuts_of, first_barrier_cut};

@@ -1,11 +1,6 @@
 //! What a command makes of its inputs.
-ghost use Rattle.std.specs.Prelude.{◌≡◌, ◌↔◌, IfOk, IsTrue};
-ghost use Rattle.counting.specs.Lists.{mem};
-ghost use Rattle.counting.specs.Sets.{none};
-ghost use Rattle.graph_core.specs.Graph.{IsBipartite};
-ghost use Rattle.graph_core.specs.Matchings.{IsMaximum};
+ghost use Rattle.std.specs.Prelude.{◌≡◌, IfOk};
 ghost use Rattle.graph_text.specs.SoFar.{named_graph};
-ghost use Rattle.match_core.specs.MatchingRows.{IsOf, edges_of};
 ghost use Rattle.bench_tasks.specs.Loads.{graph_in, task_of};
 ghost use Rattle.bench_tasks.specs.Refusing.{TaskMayRefuse};
 ghost use Rattle.bench_outcomes.specs.Facts.{HasMaximum, IsAnalysis};
@@ -19,57 +14,51 @@ use crate::growing::grow_report;
 use crate::naming::{given_or_plain, with_given_names};
 use crate::replaying::replay_report;
 use crate::structures::structure_where_covered;
-use allowed_edges::{allowed_in, covered_in};
 use bench_outcomes::{Report, Status};
 use bench_tasks::{GivenMoves, SimpleGraph, Task};
-use gallai_edmonds::sets_in;
-use graph_core::{MultiGraph, Sides};
+use gallai_edmonds::sets_of;
+use graph_core::MultiGraph;
+use graph_facts::Facts;
 use graph_text::{Named, write_named};
 use graph6_text::write_graph6;
-use match_core::{Matching, frame, partners};
 use report_text::{AnalysisLines, analysis, graph6_line};
 use std::alloc::{AllocError as Memory, Global};
-use vset_core::VSet;
-
-// Whether some vertex set has all edges in its cut.
-fn is_bipartite(alloc: Global, g: &MultiGraph) -> Result<bool, Memory>
-    ensures { IfOk result (λ holds. IsTrue holds ↔ IsBipartite g.now) }
-{
-    match g.two_sides(alloc)? {
-        Sides::Even { .. } => Ok(true),
-        Sides::Odd { .. } => Ok(false),
-    }
-}
 
 // How many edges a maximum matching has, and how many vertices it misses.
-fn maximum_sizes(g: &MultiGraph, m: &Matching) -> (u32, u32)
-    requires of { IsOf g.now m.now }
-    requires maximum { IsMaximum g.now none (mem (edges_of m.now)) }
-    ensures { HasMaximum g.now result.0 result.1 }
+fn maximum_sizes(facts: &Facts) -> (u32, u32)
+    ensures { HasMaximum facts.now result.0 result.1 }
 {
-    m.keeps_matching();
-    g.keeps_limits();
-    let edges = m.len() as u32;
-    (edges, g.order() - 2 * edges)
+    let n = facts.order();
+    let frame = facts.frame();
+    frame.found.matching.keeps_matching();
+    let edges = frame.found.matching.len() as u32;
+    (edges, n - 2 * edges)
 }
 
-// What `analyse` tells of the graph: one maximum matching with its frame and one table of partners tell all but the components
-// and the cuts.
+// What `analyse` tells of the graph: each of its facts is made once.
 fn analysis_lines(alloc: Global, g: &MultiGraph) -> Result<AnalysisLines, Memory>
     ensures { IfOk result (λ lines. IsAnalysis g.now lines) }
 {
-    let components = g.components(alloc)?;
-    let bipartite = is_bipartite(alloc, g)?;
-    let frame = frame(alloc, g)?;
-    let table = partners(alloc, g, VSet::empty(), &frame.found.matching)?;
-    let (matching, deficiency) = maximum_sizes(g, &frame.found.matching);
-    let sets = sets_in(g, &frame);
-    let allowed = allowed_in(alloc, g, &table)?;
-    let verdict = covered_in(alloc, g, &frame.found, &table)?;
-    let structure = structure_where_covered(alloc, g, &table, &verdict)?;
+    let facts = Facts::of(alloc, g)?;
+    lines_of(alloc, facts)
+}
+
+// What `analyse` tells of a graph whose facts are known.
+fn lines_of(alloc: Global, facts: Facts) -> Result<AnalysisLines, Memory>
+    ensures { IfOk result (λ lines. IsAnalysis facts.entry lines) }
+{
+    let (matching, deficiency) = maximum_sizes(&facts);
+    let sets = sets_of(&facts);
+    let allowed = facts.allowed(alloc)?;
+    let verdict = facts.verdict();
+    let order = facts.order();
+    let size = facts.size();
+    let components = facts.components();
+    let bipartite = facts.is_bipartite();
+    let structure = structure_where_covered(alloc, facts, &verdict)?;
     Ok(AnalysisLines {
-        order: g.order(),
-        size: g.size(),
+        order,
+        size,
         components,
         bipartite,
         matching,

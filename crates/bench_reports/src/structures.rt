@@ -1,20 +1,17 @@
 //! The structure of a covered graph, as `analyse` tells it.
 ghost use Rattle.std.specs.Prelude.{◌≡◌, IfOk};
 ghost use Rattle.std.specs.Option.{option_map};
-ghost use Rattle.counting.specs.Sets.{none};
-ghost use Rattle.graph_core.specs.Covered.{IsCovered};
 ghost use Rattle.graph_core.specs.Verdicts.{IsVerdict};
 ghost use Rattle.graph_core.specs.View.{pair_of};
-ghost use Rattle.match_core.specs.Partners.{ArePartners};
 ghost use Rattle.separation_kit.specs.Pairs.{pair_of as pair_in};
 ghost use Rattle.bench_outcomes.specs.Facts.{IsStructure, TellsStructure};
 
-use barrier_kit::classes_in;
-use graph_core::{Ends, MultiGraph, Verdict};
-use leaf_kinds::kind_in;
-use match_core::PartnerTable;
+use barrier_kit::classes_of;
+use graph_core::{Ends, Verdict};
+use graph_facts::{Covered, Facts};
+use leaf_kinds::kind_of;
 use report_text::Structure;
-use separation_kit::{Pair, cut_pair, not_bicritical_in};
+use separation_kit::{FirstPairs, Pair};
 use std::alloc::{AllocError as Memory, Global};
 
 // The two vertices of a pair.
@@ -27,37 +24,33 @@ fn ends_of(pair: Option<Pair>) -> Option<Ends>
     }
 }
 
-// The structure of a covered graph, from its table of partners.
-fn structure(alloc: Global, g: &MultiGraph, table: &PartnerTable) -> Result<Structure, Memory>
-    requires covered { IsCovered g.now }
-    requires table { ArePartners g.now none table.now }
-    ensures { IfOk result (IsStructure g.now) }
+// The structure of a covered graph.
+fn structure(alloc: Global, c: &Covered) -> Result<Structure, Memory>
+    ensures { IfOk result (IsStructure c.now) }
 {
-    let classes = classes_in(alloc, g, table)?;
-    let unlike = ends_of(not_bicritical_in(alloc, g, table)?);
-    let pair = cut_pair(alloc, g)?;
-    let kind = kind_in(alloc, g, table, pair)?;
+    let classes = classes_of(alloc, c)?;
+    let pairs = FirstPairs::of(alloc, c)?;
+    let cut = pairs.any_cut(alloc)?;
+    let kind = kind_of(alloc, &pairs)?;
     Ok(Structure {
         classes,
-        unlike,
-        cutpair: ends_of(pair),
+        unlike: ends_of(pairs.unlike()),
+        cutpair: ends_of(cut),
         kind,
     })
 }
 
-/// The structure of a graph where the verdict is that it is covered, from its table of partners.
+/// The structure of a graph where the verdict is that it is covered.
 pub fn structure_where_covered(
     alloc: Global,
-    g: &MultiGraph,
-    table: &PartnerTable,
+    facts: Facts,
     verdict: &Verdict,
 ) -> Result<Option<Structure>, Memory>
-    requires table { ArePartners g.now none table.now }
-    requires verdict { IsVerdict g.now verdict.now }
-    ensures { IfOk result (TellsStructure g.now verdict.now) }
+    requires { IsVerdict facts.entry verdict.now }
+    ensures { IfOk result (TellsStructure facts.entry verdict.now) }
 {
     match verdict {
-        Verdict::Covered => Ok(Some(structure(alloc, g, table)?)),
+        Verdict::Covered => Ok(Some(structure(alloc, &Covered::from_facts(facts))?)),
         Verdict::NotCovered(_) => Ok(None),
     }
 }

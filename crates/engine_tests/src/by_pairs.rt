@@ -2,8 +2,10 @@
 
 use crate::shapes::{TWO_K33, chordal_ring, pages, three_parts};
 use graph_core::MultiGraph;
+use graph_facts::Covered;
 use grow_gen::grow;
 use plain_graph::{graph_with, is_covered};
+use separation_kit::FirstPairs;
 use std::alloc::{AllocError as Memory, Global};
 use std::test::Fail;
 use tight_cuts::{candidates, candidates_by_pairs, first_candidate};
@@ -15,7 +17,8 @@ fn agreed(alloc: Global, g: &MultiGraph) -> Result<Option<usize>, Memory> {
     }
     let plain = candidates_by_pairs(alloc, g)?;
     let quick = candidates(alloc, g)?;
-    let first = first_candidate(alloc, g)?;
+    let covered = Covered::known(alloc, g)?;
+    let first = first_candidate(alloc, &FirstPairs::of(alloc, &covered)?)?;
     if quick.as_slice() == plain.as_slice() && first == plain.as_slice().first().copied() {
         return Ok(Some(plain.len()));
     }

@@ -4,11 +4,13 @@ ghost use Rattle.std.specs.Prelude.{◌≤◌};
 use crate::choices::{Choice, leaf_graphs};
 use crate::made::made;
 use graph_core::MultiGraph;
+use graph_facts::Covered;
 use grow_gen::grow;
 use plain_graph::{
     CUBE, CYCLE_OF_8, DOUBLED_SQUARE, HEXAGON, K4, K33, PETERSEN, PRISM, TRIANGLE_IN_K33, TWO_K4,
     graph_with, is_covered,
 };
+use separation_kit::FirstPairs;
 use std::alloc::{AllocError as Memory, Global};
 use std::test::Fail;
 use tight_cuts::{candidates, candidates_by_pairs, find_any, first_candidate};
@@ -18,7 +20,8 @@ fn agrees(alloc: Global, g: &MultiGraph) -> Result<bool, Memory> {
     if !is_covered(alloc, g)? {
         return Ok(false);
     }
-    let first = first_candidate(alloc, g)?;
+    let covered = Covered::known(alloc, g)?;
+    let first = first_candidate(alloc, &FirstPairs::of(alloc, &covered)?)?;
     let shore = find_any(alloc, g)?;
     let plain = candidates_by_pairs(alloc, g)?;
     let quick = candidates(alloc, g)?;

@@ -1,11 +1,10 @@
 //! The three sets.
-ghost use Rattle.std.specs.Prelude.{◌≡◌, ◌≤◌, ◌↔◌, ℕ, true, IfOk};
-ghost use Rattle.counting.specs.Counts.{Within};
-ghost use Rattle.counting.specs.Lists.{mem, IsRisingIn, Lists};
+ghost use Rattle.std.specs.Prelude.{◌≤◌, IfOk};
+ghost use Rattle.counting.specs.Lists.{Lists};
 ghost use Rattle.graph_core.specs.GallaiEdmonds.{InD, InA, InC};
 
 use graph_core::MultiGraph;
-use match_core::{FrameSets, frame};
+use graph_facts::Facts;
 use std::alloc::{AllocError as Memory, Global};
 use vset_core::VSet;
 
@@ -26,24 +25,18 @@ pub fn sets(alloc: Global, g: &MultiGraph) -> Result<ThreeSets, Memory>
     ensures a { IfOk result (λ s. Lists g.now.order s.a (InA g.now)) }
     ensures c { IfOk result (λ s. Lists g.now.order s.c (InC g.now)) }
 {
-    let frame = frame(alloc, g)?;
-    Ok(sets_in(g, &frame))
+    Ok(sets_of(&Facts::of(alloc, g)?))
 }
 
-/// The sets that `sets` answers, from a frame that is at hand. Takes no memory.
-pub fn sets_in(g: &MultiGraph, frame: &FrameSets) -> ThreeSets
-    requires outer_in { IsRisingIn g.now.order frame.now.outer }
-    requires inner_in { IsRisingIn g.now.order frame.now.inner }
-    requires missed { (v : ℕ) → Within g.now.order v → (mem frame.now.outer v ≡ true) ↔
-        InD g.now v }
-    requires next { (v : ℕ) → Within g.now.order v → (mem frame.now.inner v ≡ true) ↔ InA g.now v }
-    ensures d { Lists g.now.order result.d (InD g.now) }
-    ensures a { Lists g.now.order result.a (InA g.now) }
-    ensures c { Lists g.now.order result.c (InC g.now) }
+/// The sets that `sets` answers, of a graph whose facts are known. Takes no memory.
+pub fn sets_of(facts: &Facts) -> ThreeSets
+    ensures d { Lists facts.now.order result.d (InD facts.now) }
+    ensures a { Lists facts.now.order result.a (InA facts.now) }
+    ensures c { Lists facts.now.order result.c (InC facts.now) }
 {
-    g.keeps_limits();
+    let frame = facts.frame();
     let met = frame.outer.union(frame.inner);
-    let rest = VSet::full(g.order()).minus(met);
+    let rest = VSet::full(facts.order()).minus(met);
     rest.rises();
     ThreeSets {
         d: frame.outer,

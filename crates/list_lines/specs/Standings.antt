@@ -12,9 +12,6 @@ use Rattle.tree_core.specs.Leaves.{leaves}
 use Rattle.tree_core.specs.Shapes.{Shape}
 use Rattle.tree_core.specs.Tallies.{IsTally}
 use Rattle.tree_core.specs.declared.tallies.Tally.{Tally}
-use Rattle.std.specs.declared.option.Option.{Option}
-use Rattle.std.specs.declared.option.Option.TheVariants.{Some, None}
-use Rattle.graph_core.specs.declared.verdict.Reason.{Reason}
 use Rattle.list_lines.specs.declared.standing.Standing.{Standing}
 use Rattle.list_lines.specs.declared.standing.Standing.TheVariants.{Uncovered, Covered as IsSaid}
 use Rattle.list_lines.specs.declared.standing.Sort.{Sort}
@@ -57,8 +54,3 @@ why_of (Covered.Unallowed edge) = Edge
 abbrev pub IsStanding : Graph → Standing → Type 0
 IsStanding g (Uncovered why) = (reason : Covered.Reason) × IsReason g reason × (why ≡ why_of reason)
 IsStanding g (IsSaid sort bricks braces bicritical) = IsStructured g sort bricks braces bicritical
-
--- a reason is told exactly where the graph is not covered
-abbrev pub TellsReason : Graph → Option Reason → Type 0
-TellsReason g None = IsCovered g
-TellsReason g (Some reason) = ¬ IsCovered g

@@ -6,7 +6,7 @@
 //! the graph has a property and nothing where it has not (`IsSelected`). A line is bad exactly where it stands for no graph, or is
 //! asked for a graph file and too large for one (`IsBad`).
 //!
-//! Stands on `graph6_text` for the lines, on `allowed_edges`, `separation_kit` and `leaf_kinds` for what a graph is, and on `decomposer`,
+//! Stands on `graph6_text` for the lines, on `graph_facts`, `separation_kit` and `leaf_kinds` for what a graph is, and on `decomposer`,
 //! `tree_core` and `contraction` for its leaves. That the numbers of bricks and braces depend on no choice is a law of its own
 //! (Lovász, "Matching structure and the matching lattice", 1987).
 #![tactic(auto)]

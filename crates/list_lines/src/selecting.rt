@@ -1,12 +1,13 @@
 //! Whether a graph has a property.
-ghost use Rattle.std.specs.Prelude.{◌≡◌, IfOk};
+ghost use Rattle.std.specs.Prelude.{◌≡◌, Some, IfOk};
 ghost use Rattle.list_lines.specs.Selecting.{Decides, IsSelected, TellsKind, TellsTally};
 
 use crate::query::Property;
-use crate::standing::{counted, is_covered};
+use crate::standing::counted;
 use graph_core::{Kind, MultiGraph};
-use leaf_kinds::kind;
-use separation_kit::{first_pairs_law, not_bicritical};
+use graph_facts::Covered;
+use leaf_kinds::kind_of;
+use separation_kit::{FirstPairs, first_pairs_law, not_bicritical};
 use std::alloc::{AllocError as Memory, Global};
 use tree_core::Tally;
 
@@ -51,16 +52,33 @@ fn is_bicritical(alloc: Global, g: &MultiGraph) -> Result<bool, Memory>
     }
 }
 
+// Whether the graph is matching covered.
+fn is_covered(alloc: Global, g: &MultiGraph) -> Result<bool, Memory>
+    ensures { IfOk result (Decides g.now Property.Covered) }
+{
+    match Covered::of(alloc, g)? {
+        Ok(_) => Ok(true),
+        Err(_) => Ok(false),
+    }
+}
+
 // The kind of the graph, if it is matching covered.
 fn kind_if_covered(alloc: Global, g: &MultiGraph) -> Result<Option<Kind>, Memory>
     ensures { IfOk result (TellsKind g.now) }
 {
-    if is_covered(alloc, g)? {
-        let kind = kind(alloc, g)?;
-        Ok(Some(kind))
-    } else {
-        Ok(None)
+    match Covered::of(alloc, g)? {
+        Ok(c) => Ok(Some(covered_kind(alloc, &c)?)),
+        Err(_) => Ok(None),
     }
+}
+
+// The kind of a covered graph.
+fn covered_kind(alloc: Global, c: &Covered) -> Result<Kind, Memory>
+    ensures { IfOk result (λ kind. TellsKind c.now (Some kind)) }
+{
+    c.keeps_covered();
+    let kind = kind_of(alloc, &FirstPairs::of(alloc, c)?)?;
+    Ok(kind)
 }
 
 // Whether the graph is a brick.
@@ -97,11 +115,9 @@ fn is_composite(alloc: Global, g: &MultiGraph) -> Result<bool, Memory>
 fn tally_if_covered(alloc: Global, g: &MultiGraph) -> Result<Option<Tally>, Memory>
     ensures { IfOk result (TellsTally g.now) }
 {
-    if is_covered(alloc, g)? {
-        let tally = counted(alloc, g)?;
-        Ok(Some(tally))
-    } else {
-        Ok(None)
+    match Covered::of(alloc, g)? {
+        Ok(c) => Ok(Some(counted(alloc, c.graph())?)),
+        Err(_) => Ok(None),
     }
 }
 

@@ -1,25 +1,17 @@
 //! How a graph stands among the matching covered graphs.
-ghost use Rattle.std.specs.Prelude.{◌≡◌, ◌↔◌, IfOk, IsTrue};
-ghost use Rattle.counting.specs.Sets.{none};
+ghost use Rattle.std.specs.Prelude.{◌≡◌, IfOk};
 ghost use Rattle.graph_core.specs.Covered.{IsCovered};
-ghost use Rattle.graph_core.specs.Structure.{IsBicritical};
 ghost use Rattle.graph_core.specs.Verdicts.{reason_of};
 ghost use Rattle.leaf_kinds.specs.LeafKinds.{IsKind};
-ghost use Rattle.match_core.specs.Partners.{ArePartners};
-ghost use Rattle.list_lines.specs.Selecting.{Decides};
-ghost use Rattle.list_lines.specs.Standings.{IsCounted, IsStanding, TellsReason, sort_of, why_of};
+ghost use Rattle.list_lines.specs.Standings.{IsCounted, IsStanding, sort_of, why_of};
 
-use crate::query::Property;
-use allowed_edges::{covered, covered_in};
 use decomposer::{Refused, decompose_first};
-use graph_core::{Kind, MultiGraph, Reason, Verdict};
-use leaf_kinds::kind_in;
-use match_core::{PartnerTable, maximum, partners};
-use separation_kit::{first_pairs_law, not_bicritical_in};
+use graph_core::{Kind, MultiGraph, Reason};
+use graph_facts::Covered;
+use leaf_kinds::kind_of;
+use separation_kit::FirstPairs;
 use std::alloc::{AllocError as Memory, Global};
-use tight_cuts::pair_where_bicritical;
 use tree_core::{Tally, tally_of_tree};
-use vset_core::VSet;
 
 /// The kind of the first reason why a graph is not matching covered.
 #[derive(Clone, Copy, Debug, PartialEq, Eq)]
@@ -61,18 +53,15 @@ pub enum Standing {
     },
 }
 
-/// How the graph stands. One maximum matching and one table of partners tell all but the kind and the numbers of leaves, and the
-/// leaves are counted only where the graph has a nontrivial tight cut.
+/// How the graph stands. The leaves are counted only where it has a nontrivial tight cut.
 pub fn standing_of(alloc: Global, g: &MultiGraph) -> Result<Standing, Memory>
     ensures { IfOk result (IsStanding g.now) }
 {
-    let found = maximum(alloc, g)?;
-    let table = partners(alloc, g, VSet::empty(), &found.matching)?;
-    match covered_in(alloc, g, &found, &table)? {
-        Verdict::NotCovered(reason) => Ok(Standing::Uncovered {
+    match Covered::of(alloc, g)? {
+        Err(reason) => Ok(Standing::Uncovered {
             why: why_of(reason),
         }),
-        Verdict::Covered => covered_standing(alloc, g, &table),
+        Ok(c) => covered_standing(alloc, &c),
     }
 }
 
@@ -88,33 +77,22 @@ fn why_of(reason: Reason) -> Why
     }
 }
 
-// How a covered graph stands, from its table of partners.
-fn covered_standing(alloc: Global, g: &MultiGraph, table: &PartnerTable) -> Result<Standing, Memory>
-    requires covered { IsCovered g.now }
-    requires table { ArePartners g.now none table.now }
-    ensures { IfOk result (IsStanding g.now) }
+// How a covered graph stands.
+fn covered_standing(alloc: Global, c: &Covered) -> Result<Standing, Memory>
+    ensures { IfOk result (IsStanding c.now) }
 {
-    let bicritical = is_bicritical_in(alloc, g, table)?;
-    let pair = pair_where_bicritical(alloc, g, table)?;
-    let kind = kind_in(alloc, g, table, pair)?;
+    c.keeps_covered();
+    let pairs = FirstPairs::of(alloc, c)?;
+    let kind = kind_of(alloc, &pairs)?;
     let sort = sort_of(&kind);
-    let tally = tally_of_kind(alloc, g, kind)?;
+    let bicritical = pairs.is_bicritical();
+    let tally = tally_of_kind(alloc, c, kind)?;
     Ok(Standing::Covered {
         sort,
         bricks: tally.bricks,
         braces: tally.braces,
         bicritical,
     })
-}
-
-// Whether the graph is bicritical, from its table of partners.
-fn is_bicritical_in(alloc: Global, g: &MultiGraph, table: &PartnerTable) -> Result<bool, Memory>
-    requires { ArePartners g.now none table.now }
-    ensures { IfOk result (λ holds. IsTrue holds ↔ IsBicritical g.now) }
-{
-    first_pairs_law();
-    let holds = not_bicritical_in(alloc, g, table)?.is_none();
-    Ok(holds)
 }
 
 // The kind without a shore.
@@ -128,35 +106,12 @@ fn sort_of(kind: &Kind) -> Sort
     }
 }
 
-/// Whether the graph is matching covered.
-pub fn is_covered(alloc: Global, g: &MultiGraph) -> Result<bool, Memory>
-    ensures { IfOk result (Decides g.now Property.Covered) }
-{
-    match why_uncovered(alloc, g)? {
-        None => Ok(true),
-        Some(_) => Ok(false),
-    }
-}
-
-// Why the graph is not matching covered, if it is not.
-fn why_uncovered(alloc: Global, g: &MultiGraph) -> Result<Option<Reason>, Memory>
-    ensures { IfOk result (TellsReason g.now) }
-{
-    g.keeps_limits();
-    let verdict = covered(alloc, g)?;
-    match verdict {
-        Verdict::Covered => Ok(None),
-        Verdict::NotCovered(reason) => Ok(Some(reason)),
-    }
-}
-
 // The numbers of bricks and braces of a covered graph of this kind: a brick or a brace is its only leaf.
-fn tally_of_kind(alloc: Global, g: &MultiGraph, kind: Kind) -> Result<Tally, Memory>
-    requires covered { IsCovered g.now }
-    requires kind { IsKind g.now kind }
-    ensures { IfOk result (IsCounted g.now) }
+fn tally_of_kind(alloc: Global, c: &Covered, kind: Kind) -> Result<Tally, Memory>
+    requires { IsKind c.now kind }
+    ensures { IfOk result (IsCounted c.now) }
 {
-    g.keeps_limits();
+    c.keeps_covered();
     match kind {
         Kind::Brick => Ok(Tally {
             leaves: 1,
@@ -168,7 +123,7 @@ fn tally_of_kind(alloc: Global, g: &MultiGraph, kind: Kind) -> Result<Tally, Mem
             bricks: 0,
             braces: 1,
         }),
-        Kind::Composite { .. } => counted(alloc, g),
+        Kind::Composite { .. } => counted(alloc, c.graph()),
     }
 }
 

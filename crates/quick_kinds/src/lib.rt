@@ -14,6 +14,6 @@ mod brace;
 mod brick;
 mod laws;
 
-pub use brace::quick_brace;
+pub use brace::{is_brace, quick_brace};
 pub use brick::quick_brick;
 pub use laws::brace_law;

@@ -12,15 +12,16 @@ ghost use Rattle.graph_core.specs.Walks.{joined};
 ghost use Rattle.graph_core.specs.CanonicalCuts.{IsCanonicalCut};
 ghost use Rattle.separation_kit.specs.SeparationShores.{separation_cuts, separation_shores};
 
-/// There is no first pair exactly where there is none: a graph is bicritical where none is unlike, and no two vertices
-/// separate it where there is no cut pair.
+/// There is no first pair exactly where there is none: a graph is bicritical where none is unlike,
+/// and no two vertices separate it where there is no cut pair.
 pub fn first_pairs_law()
     ensures bicritical { (g : Graph) → (unlike_pair g ≡ None) ↔ IsBicritical g }
     ensures separated { (g : Graph) → (cut_pair g ≡ None) ↔ ((u v : ℕ) → ¬ (IsCutPair g u v)) }
 {}
 
-/// Two vertices u and v without which a graph has a perfect matching: each component without them is even and has, with u, a
-/// tight cut, which is nontrivial where there are two components or more (Edmonds, Lovász and Pulleyblank 1982).
+/// Two vertices u and v without which a graph has a perfect matching: each component without them
+/// is even and has, with u, a tight cut, which is nontrivial where there are two components or
+/// more (Edmonds, Lovász and Pulleyblank 1982).
 pub fn separation_law()
     ensures even { (g : Graph) (u v a : ℕ) → IsGraph g → Within g.order u → Within g.order v →
         u ≢ v → HasPerfect g (pair_set u v) → Within g.order a → pair_set u v a ≡ false →
@@ -33,9 +34,9 @@ pub fn separation_law()
         IsNontrivial g.order (union (joined g (pair_set u v) a) (singleton u)) }
 {}
 
-/// The cuts that `separation_cuts` lists are canonical shores of nontrivial tight cuts. In a bicritical graph with at least
-/// four vertices and a cut pair the components without the pair are even, so that there is such a cut; without a cut pair
-/// there is none.
+/// The cuts that `separation_cuts` lists are canonical shores of nontrivial tight cuts. In a
+/// bicritical graph with at least four vertices and a cut pair the components without the pair are
+/// even, so that there is such a cut; without a cut pair there is none.
 pub fn separation_cuts_law()
     ensures tight { (g : Graph) → IsGraph g → All (λ s. IsTight g (mem s)) (separation_shores g) }
     ensures canonical { (g : Graph) → IsGraph g → IsCovered g →
@@ -48,8 +49,8 @@ pub fn separation_cuts_law()
     ensures none { (g : Graph) → IsGraph g → cut_pair g ≡ None → separation_cuts g ≡ [] }
 {}
 
-/// A brick, that is a covered graph that is not bipartite and has no nontrivial tight cut, has at least four vertices, is
-/// bicritical and has no cut pair (Lovász 1987).
+/// A brick, that is a covered graph that is not bipartite and has no nontrivial tight cut, has at
+/// least four vertices, is bicritical and has no cut pair (Lovász 1987).
 pub fn brick_law()
     ensures four { (g : Graph) → IsMultigraph g → IsCovered g → ¬ (IsBipartite g) → 4 ≤ g.order }
     ensures bicritical { (g : Graph) → IsMultigraph g → IsCovered g → ¬ (IsBipartite g) →

@@ -12,6 +12,7 @@ ghost use Rattle.separation_kit.specs.SeparationShores.{separation_cuts, shores_
 
 use crate::critical::{is_cut_pair, parts_without};
 use crate::dominators::suspects;
+use crate::first_pairs::FirstPairs;
 use crate::pair::{Pair, all_pairs};
 use graph_core::{MultiGraph, SetList, add_cut};
 use std::alloc::{AllocError as Memory, Global};
@@ -44,7 +45,8 @@ fn add_with_vertex(cuts: &mut SetList, n: u32, parts: &SetList, a: u32) -> Resul
     Ok(())
 }
 
-// Appends the cuts that a pair gives: its first vertex with each component of the graph without the two.
+// Appends the cuts that a pair gives: its first vertex with each component of the graph without
+// the two.
 fn add_pair_cuts(
     alloc: Global,
     g: &MultiGraph,
@@ -62,8 +64,9 @@ fn add_pair_cuts(
     Ok(())
 }
 
-/// The nontrivial cuts that the cut pairs u < v of a bicritical covered graph give: u with each component of the graph without
-/// the two. Each cut is given once, by its canonical shore, and is tight (Edmonds, Lovász and Pulleyblank 1982).
+/// The nontrivial cuts that the cut pairs u < v of a bicritical covered graph give: u with each
+/// component of the graph without the two. Each cut is given once, by its canonical shore, and is
+/// tight (Edmonds, Lovász and Pulleyblank 1982).
 pub fn separation_cuts(alloc: Global, g: &MultiGraph) -> Result<SetList, Memory>
     requires covered { IsCovered g.now }
     requires bicritical { IsBicritical g.now }
@@ -82,8 +85,17 @@ pub fn separation_cuts(alloc: Global, g: &MultiGraph) -> Result<SetList, Memory>
     Ok(cuts)
 }
 
-/// The first of the cuts that `separation_cuts` lists, from the first cut pair of `g`.
-pub fn first_separation_cut(
+/// The first of the cuts that `separation_cuts` lists, from the first cut pair.
+pub fn first_separation_cut(alloc: Global, pairs: &FirstPairs) -> Result<Option<VSet>, Memory>
+    requires bicritical { IsBicritical pairs.now }
+    requires four { 4 ≤ pairs.now.order }
+    ensures { IfOk result (λ cut. cut ≡ slice_get (separation_cuts pairs.now) 0) }
+{
+    first_cut_at(alloc, pairs.covered().graph(), pairs.cut())
+}
+
+// The first cut that the first cut pair gives.
+fn first_cut_at(
     alloc: Global,
     g: &MultiGraph,
     pair: Option<Pair>,

@@ -8,7 +8,7 @@ ghost use Rattle.graph_core.specs.Quotients.{quotient};
 ghost use Rattle.graph_core.specs.Shores.{IsTightAt, blocks_in};
 ghost use Rattle.graph_core.specs.Tight.{IsNontrivial};
 ghost use Rattle.contraction.specs.Contracted.{contraction};
-ghost use Rattle.tight_cuts.specs.Candidates.{first_of};
+ghost use Rattle.tight_cuts.specs.Candidates.{candidates, first_of};
 ghost use Rattle.tight_cuts.specs.CandidatesAt.{IsCandidateAt, candidates_at, lifted_candidate};
 ghost use Rattle.tight_cuts.specs.View.{candidate_of};
 
@@ -16,6 +16,8 @@ use crate::candidate::{Candidate, CandidateList};
 use crate::finder::{candidates, first_candidate};
 use contraction::{Contracted, Partition, quotient};
 use graph_core::MultiGraph;
+use graph_facts::Covered;
+use separation_kit::FirstPairs;
 use std::alloc::{AllocError as Memory, Global};
 
 /// The candidates at the partition `p` of the vertices of `g`, whose quotient is matching covered: at single vertices those of `g`
@@ -41,6 +43,15 @@ pub fn candidates_at(alloc: Global, g: &MultiGraph, p: &Partition) -> Result<Can
     lifted(alloc, &q, &found)
 }
 
+// The first candidate of a graph that is known to be covered.
+fn first_of_known(alloc: Global, g: &MultiGraph) -> Result<Option<Candidate>, Memory>
+    requires { IsCovered g.now }
+    ensures { IfOk result (λ found. option_map candidate_of found ≡ first_of (candidates g.now)) }
+{
+    let covered = Covered::known(alloc, g)?;
+    first_candidate(alloc, &FirstPairs::of(alloc, &covered)?)
+}
+
 // The first candidate at the partition.
 fn first_at(alloc: Global, g: &MultiGraph, p: &Partition) -> Result<Option<Candidate>, Memory>
     requires order { p.now.order ≡ g.now.order }
@@ -51,10 +62,10 @@ fn first_at(alloc: Global, g: &MultiGraph, p: &Partition) -> Result<Option<Candi
     g.keeps_limits();
     p.keeps_partition();
     if p.len() == g.order() as usize {
-        return first_candidate(alloc, g);
+        return first_of_known(alloc, g);
     }
     let q = quotient(alloc, g, p)?;
-    match first_candidate(alloc, q.graph())? {
+    match first_of_known(alloc, q.graph())? {
         Some(candidate) => Ok(Some(lifted_one(&q, candidate))),
         None => Ok(None),
     }

@@ -12,7 +12,8 @@ use crate::edge_cuts::EdgeSearch;
 use crate::edge_search::first_lacking;
 use allowed_edges::perfect_with_edge;
 use graph_core::MultiGraph;
-use match_core::{Matching, perfect_without};
+use graph_facts::Bipartite;
+use match_core::Matching;
 use matching_digraph::Digraph;
 use std::alloc::{AllocError as Memory, Global};
 use vset_core::VSet;
@@ -40,17 +41,15 @@ pub(crate) struct FloodSearch {
 }
 
 impl FloodSearch {
-    /// The search in a covered graph with this side.
-    pub(crate) fn new(alloc: Global, g: &MultiGraph, side: VSet) -> Result<FloodSearch, Memory>
-        requires covered { IsCovered g.now }
-        requires side { IsSide g.now (mem side) }
-        ensures { IfOk result (λ search. AreFloodsOf g.now search.side search.kept) }
+    /// The search in a covered bipartite graph.
+    pub(crate) fn new(alloc: Global, bipartite: &Bipartite) -> Result<FloodSearch, Memory>
+        ensures { IfOk result (λ search. AreFloodsOf bipartite.now search.side search.kept) }
     {
-        g.keeps_limits();
-        match perfect_without(alloc, g, VSet::empty())? {
-            Some(kept) => Ok(FloodSearch { side, kept }),
-            None => unreachable!(),
-        }
+        let kept = bipartite.own_matching(alloc)?;
+        Ok(FloodSearch {
+            side: bipartite.side(),
+            kept,
+        })
     }
 }
 

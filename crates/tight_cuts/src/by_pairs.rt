@@ -16,6 +16,7 @@ use crate::front::front_candidates;
 use crate::groups::{Grouping, common_shore};
 use crate::pieces::Weights;
 use graph_core::MultiGraph;
+use graph_facts::Covered;
 use std::alloc::{AllocError as Memory, Global};
 use vset_core::VSet;
 
@@ -87,7 +88,8 @@ pub fn candidates_by_pairs(alloc: Global, g: &MultiGraph) -> Result<CandidateLis
     ensures none { IfOk result (λ list. (list ≡ []) ↔ HasNoTightCut g.now) }
 {
     g.keeps_limits();
-    let mut list = front_candidates(alloc, g)?;
+    let covered = Covered::known(alloc, g)?;
+    let mut list = front_candidates(alloc, &covered)?;
     let search = NetworkSearch::new(alloc, g, &[], ByPairs)?;
     add_edge_cuts(alloc, g, &search, 0, &mut list)?;
     Ok(list)

@@ -4,14 +4,11 @@ ghost use Rattle.std.specs.List.{AllPairs, list_any};
 ghost use Rattle.std.specs.Option.{option_map};
 ghost use Rattle.counting.specs.Counts.{Within};
 ghost use Rattle.counting.specs.Lists.{mem};
-ghost use Rattle.counting.specs.Sets.{Set, none};
+ghost use Rattle.counting.specs.Sets.{Set};
 ghost use Rattle.graph_core.specs.Covered.{IsCovered};
 ghost use Rattle.graph_core.specs.Graph.{in_cut, size};
-ghost use Rattle.graph_core.specs.Structure.{IsBicritical, cut_pair};
 ghost use Rattle.graph_core.specs.Tight.{HasNoTightCut, IsNontrivial, IsTight};
-ghost use Rattle.match_core.specs.Partners.{ArePartners};
-ghost use Rattle.graph_core.specs.Sides.{IsSide};
-ghost use Rattle.separation_kit.specs.Pairs.{pair_of};
+ghost use Rattle.tight_cuts.specs.EdgeDigraphs.{AreFloodsOf};
 ghost use Rattle.tight_cuts.specs.Candidates.{IsTightCandidate, ShoresDiffer, candidates, cuts, first_of, first_shore, front_candidates};
 ghost use Rattle.tight_cuts.specs.View.{candidate_of};
 
@@ -19,11 +16,11 @@ use crate::bipartite::FloodSearch;
 use crate::candidate::{Candidate, CandidateList, any_cuts, shores_of};
 use crate::edge_cuts::{add_edge_cut, add_edge_cuts};
 use crate::edge_search::{ByPieces, NetworkSearch};
-use crate::front::{first_front_candidate, front_candidates, pair_where_bicritical};
-use graph_core::{MultiGraph, side_of};
-use match_core::{PartnerTable, all_partners};
-use quick_kinds::quick_brace;
-use separation_kit::Pair;
+use crate::front::{first_front_candidate, front_candidates};
+use graph_core::MultiGraph;
+use graph_facts::{Bipartite, Covered};
+use quick_kinds::is_brace;
+use separation_kit::FirstPairs;
 use std::alloc::{AllocError as Memory, Global};
 use vset_core::VSet;
 
@@ -41,7 +38,8 @@ fn edges_cut(list: &CandidateList, g: &MultiGraph) -> u32
     g.size()
 }
 
-// Adds what the edges of any graph give. The table of pairs is made where an edge is in the cut of no earlier candidate, and else not at all.
+// Adds what the edges of any graph give. The table of pairs is made where an edge is in the cut of
+// no earlier candidate, and else not at all.
 fn add_network_cuts(alloc: Global, g: &MultiGraph, list: &mut CandidateList) -> Result<(), Memory>
     requires covered { IsCovered g.now }
     requires front { list.old ≡ front_candidates g.now }
@@ -57,22 +55,34 @@ fn add_network_cuts(alloc: Global, g: &MultiGraph, list: &mut CandidateList) -> 
     add_edge_cuts(alloc, g, &search, known, list)
 }
 
+// Adds what the edges of a bipartite graph give.
+fn add_flood_cuts(
+    alloc: Global,
+    bipartite: &Bipartite,
+    list: &mut CandidateList,
+) -> Result<(), Memory>
+    requires { list.old ≡ front_candidates bipartite.now }
+    ensures { OnOk result (list.new ≡ candidates bipartite.now) }
+{
+    let search = FloodSearch::new(alloc, bipartite)?;
+    add_edge_cuts(alloc, bipartite.graph(), &search, 0, list)
+}
+
 // The first candidate that an edge of a bipartite graph gives, where the first two parts give none.
-fn first_bipartite_cut(
+fn first_flood_cut(
     alloc: Global,
     g: &MultiGraph,
-    side: VSet,
+    search: &FloodSearch,
 ) -> Result<Option<Candidate>, Memory>
     requires covered { IsCovered g.now }
-    requires side { IsSide g.now (mem side) }
+    requires floods { AreFloodsOf g.now search.now.side search.now.kept }
     requires front { front_candidates g.now ≡ [] }
     ensures { IfOk result (λ found. option_map candidate_of found ≡ first_of (candidates g.now)) }
 {
     g.keeps_limits();
-    let search = FloodSearch::new(alloc, g, side)?;
     let mut list = CandidateList::new(alloc);
     for k in 0..g.size() {
-        add_edge_cut(alloc, g, &search, k + 1, &mut list)?;
+        add_edge_cut(alloc, g, search, k + 1, &mut list)?;
         if !list.is_empty() {
             return Ok(Some(list.get(0)));
         }
@@ -80,23 +90,21 @@ fn first_bipartite_cut(
     Ok(None)
 }
 
-// The list of the candidates. A graph that is not bipartite and has none of the first two parts has none at all (Edmonds, Lovász and
-// Pulleyblank 1982).
-fn all_candidates(alloc: Global, g: &MultiGraph) -> Result<CandidateList, Memory>
-    requires { IsCovered g.now }
-    ensures { IfOk result (λ list. list ≡ candidates g.now) }
+// The list of the candidates. A graph that is not bipartite and has none of the first two parts has
+// none at all (Edmonds, Lovász and Pulleyblank 1982).
+fn listed(alloc: Global, c: &Covered) -> Result<CandidateList, Memory>
+    ensures { IfOk result (λ list. list ≡ candidates c.now) }
 {
-    g.keeps_limits();
-    let mut list = front_candidates(alloc, g)?;
-    if let Some(side) = side_of(alloc, g)? {
-        let search = FloodSearch::new(alloc, g, side)?;
-        add_edge_cuts(alloc, g, &search, 0, &mut list)?;
+    c.keeps_covered();
+    let mut list = front_candidates(alloc, c)?;
+    if let Some(bipartite) = Bipartite::of(c) {
+        add_flood_cuts(alloc, &bipartite, &mut list)?;
         return Ok(list);
     }
     if list.is_empty() {
         return Ok(list);
     }
-    add_network_cuts(alloc, g, &mut list)?;
+    add_network_cuts(alloc, c.graph(), &mut list)?;
     Ok(list)
 }
 
@@ -117,89 +125,63 @@ pub fn candidates(alloc: Global, g: &MultiGraph) -> Result<CandidateList, Memory
     ensures none { IfOk result (λ list. (list ≡ []) ↔ HasNoTightCut g.now) }
 {
     g.keeps_limits();
-    let list = all_candidates(alloc, g)?;
+    let covered = Covered::known(alloc, g)?;
+    let list = listed(alloc, &covered)?;
     Ok(list)
 }
 
-/// The first candidate, and `None` exactly where the covered graph has no nontrivial tight cut. The search ends with it: the edges are
-/// asked only where the graph has no cut of a barrier or a separation.
-pub fn first_candidate(alloc: Global, g: &MultiGraph) -> Result<Option<Candidate>, Memory>
-    requires { IsCovered g.now }
+/// The first candidate, and `None` exactly where the covered graph has no nontrivial tight cut. The
+/// search ends with it: the edges are asked only where the graph has no cut of a barrier or a
+/// separation.
+pub fn first_candidate(alloc: Global, pairs: &FirstPairs) -> Result<Option<Candidate>, Memory>
     ensures first { IfOk result
-        (λ found. option_map candidate_of found ≡ first_of (candidates g.now)) }
+        (λ found. option_map candidate_of found ≡ first_of (candidates pairs.now)) }
     ensures some { IfOk result
-        (λ found. (c : _) → found ≡ Some c → IsTightCandidate g.now (candidate_of c)) }
-    ensures none { IfOk result (λ found. (found ≡ None) ↔ HasNoTightCut g.now) }
+        (λ found. (c : _) → found ≡ Some c → IsTightCandidate pairs.now (candidate_of c)) }
+    ensures none { IfOk result (λ found. (found ≡ None) ↔ HasNoTightCut pairs.now) }
 {
-    let table = all_partners(alloc, g)?;
-    let pair = pair_where_bicritical(alloc, g, &table)?;
-    first_candidate_in(alloc, g, &table, pair)
-}
-
-/// The candidate that `first_candidate` answers, from the table of partners of `g` and its first cut pair; the pair tells only where
-/// `g` is bicritical.
-pub fn first_candidate_in(
-    alloc: Global,
-    g: &MultiGraph,
-    table: &PartnerTable,
-    pair: Option<Pair>,
-) -> Result<Option<Candidate>, Memory>
-    requires covered { IsCovered g.now }
-    requires table { ArePartners g.now none table.now }
-    requires pair { IsBicritical g.now → option_map pair_of pair ≡ cut_pair g.now }
-    ensures first { IfOk result
-        (λ found. option_map candidate_of found ≡ first_of (candidates g.now)) }
-    ensures some { IfOk result
-        (λ found. (c : _) → found ≡ Some c → IsTightCandidate g.now (candidate_of c)) }
-    ensures none { IfOk result (λ found. (found ≡ None) ↔ HasNoTightCut g.now) }
-{
-    g.keeps_limits();
-    let front = first_front_candidate(alloc, g, table, pair)?;
-    let found = first_after(alloc, g, front)?;
+    pairs.keeps_covered();
+    let front = first_front_candidate(alloc, pairs)?;
+    let found = first_after(alloc, pairs.covered(), front)?;
     Ok(found)
 }
 
 // The first candidate, from the first one of the first two parts.
 fn first_after(
     alloc: Global,
-    g: &MultiGraph,
+    c: &Covered,
     front: Option<Candidate>,
 ) -> Result<Option<Candidate>, Memory>
-    requires covered { IsCovered g.now }
-    requires front { option_map candidate_of front ≡ first_of (front_candidates g.now) }
-    ensures { IfOk result (λ found. option_map candidate_of found ≡ first_of (candidates g.now)) }
+    requires { option_map candidate_of front ≡ first_of (front_candidates c.now) }
+    ensures { IfOk result (λ found. option_map candidate_of found ≡ first_of (candidates c.now)) }
 {
-    g.keeps_limits();
+    c.keeps_covered();
     if let Some(first) = front {
         return Ok(Some(first));
     }
-    match side_of(alloc, g)? {
-        Some(side) => first_of_bipartite(alloc, g, side),
+    match Bipartite::of(c) {
+        Some(bipartite) => first_of_bipartite(alloc, &bipartite),
         None => Ok(None),
     }
 }
 
-// The first candidate of a bipartite graph, where the first two parts give none. The edges are asked only where the quick test finds
-// that the graph is no brace.
-fn first_of_bipartite(
-    alloc: Global,
-    g: &MultiGraph,
-    side: VSet,
-) -> Result<Option<Candidate>, Memory>
-    requires covered { IsCovered g.now }
-    requires side { IsSide g.now (mem side) }
-    requires front { front_candidates g.now ≡ [] }
-    ensures { IfOk result (λ found. option_map candidate_of found ≡ first_of (candidates g.now)) }
+// The first candidate of a bipartite graph, where the first two parts give none. The edges are asked
+// only where the quick test finds that the graph is no brace.
+fn first_of_bipartite(alloc: Global, bipartite: &Bipartite) -> Result<Option<Candidate>, Memory>
+    requires { front_candidates bipartite.now ≡ [] }
+    ensures { IfOk result
+        (λ found. option_map candidate_of found ≡ first_of (candidates bipartite.now)) }
 {
-    g.keeps_limits();
-    if g.order() >= 4 && quick_brace(alloc, g)? {
+    bipartite.keeps_covered();
+    if is_brace(alloc, bipartite)? {
         return Ok(None);
     }
-    first_bipartite_cut(alloc, g, side)
+    let search = FloodSearch::new(alloc, bipartite)?;
+    first_flood_cut(alloc, bipartite.graph(), &search)
 }
 
-/// The shore of the first candidate, which is a canonical nontrivial tight shore, and `None` exactly where the covered graph has no
-/// nontrivial tight cut.
+/// The shore of the first candidate, which is a canonical nontrivial tight shore, and `None` exactly
+/// where the covered graph has no nontrivial tight cut.
 pub fn find_any(alloc: Global, g: &MultiGraph) -> Result<Option<VSet>, Memory>
     requires { IsCovered g.now }
     ensures first { IfOk result (λ found. found ≡ first_shore (candidates g.now)) }
@@ -208,29 +190,19 @@ pub fn find_any(alloc: Global, g: &MultiGraph) -> Result<Option<VSet>, Memory>
         IsTight g.now (mem s) × IsNontrivial g.now.order (mem s)) }
     ensures none { IfOk result (λ found. (found ≡ None) ↔ HasNoTightCut g.now) }
 {
-    let table = all_partners(alloc, g)?;
-    let pair = pair_where_bicritical(alloc, g, &table)?;
-    find_any_in(alloc, g, &table, pair)
+    let covered = Covered::known(alloc, g)?;
+    first_cut(alloc, &FirstPairs::of(alloc, &covered)?)
 }
 
-/// The shore that `find_any` answers, from the table of partners of `g` and its first cut pair; the pair tells only where `g` is
-/// bicritical.
-pub fn find_any_in(
-    alloc: Global,
-    g: &MultiGraph,
-    table: &PartnerTable,
-    pair: Option<Pair>,
-) -> Result<Option<VSet>, Memory>
-    requires covered { IsCovered g.now }
-    requires table { ArePartners g.now none table.now }
-    requires pair { IsBicritical g.now → option_map pair_of pair ≡ cut_pair g.now }
-    ensures first { IfOk result (λ found. found ≡ first_shore (candidates g.now)) }
+/// The shore that `find_any` answers, of a covered graph with its first pairs.
+pub fn first_cut(alloc: Global, pairs: &FirstPairs) -> Result<Option<VSet>, Memory>
+    ensures first { IfOk result (λ found. found ≡ first_shore (candidates pairs.now)) }
     ensures some { IfOk result
         (λ found. (s : _) → found ≡ Some s →
-        IsTight g.now (mem s) × IsNontrivial g.now.order (mem s)) }
-    ensures none { IfOk result (λ found. (found ≡ None) ↔ HasNoTightCut g.now) }
+        IsTight pairs.now (mem s) × IsNontrivial pairs.now.order (mem s)) }
+    ensures none { IfOk result (λ found. (found ≡ None) ↔ HasNoTightCut pairs.now) }
 {
-    match first_candidate_in(alloc, g, table, pair)? {
+    match first_candidate(alloc, pairs)? {
         Some(candidate) => Ok(Some(candidate.shore)),
         None => Ok(None),
     }

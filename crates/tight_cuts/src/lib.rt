@@ -5,8 +5,8 @@
 //! canonical shores: first those of barriers and separations, then, for each edge that no earlier cut has, one that a least
 //! minimum cut gives. Each listed cut is tight (`IsTightCandidate`), none comes twice, each edge of each nontrivial tight cut is
 //! in a listed one (clause `cover`), and so the list is empty exactly where there is no nontrivial tight cut (clause `none`).
-//! `first_candidate` and `find_any` answer the first, and search no further; `first_candidate_in` and `find_any_in` take the table of
-//! partners and the first cut pair that are at hand.
+//! `first_candidate` and `find_any` answer the first, and search no further; `first_candidate` and `first_cut` take the covered graph with
+//! its first pairs that is at hand (`FirstPairs` of `separation_kit`).
 //!
 //! What is searched: a graph that is not bipartite and has no cut of a barrier or a separation has no tight cut at all (`FrontEmpty`). In a
 //! bipartite graph floods in the digraph of a perfect matching tell what an edge gives (`BipartiteShores`). Elsewhere a tight set
@@ -38,6 +38,5 @@ mod tightness;
 pub use at_partition::{candidates_at, first_candidate_at};
 pub use by_pairs::candidates_by_pairs;
 pub use candidate::{Candidate, CandidateList, Origin};
-pub use finder::{candidates, find_any, find_any_in, first_candidate, first_candidate_in};
-pub use front::pair_where_bicritical;
+pub use finder::{candidates, find_any, first_candidate, first_cut};
 pub use tightness::{Tightness, is_tight};

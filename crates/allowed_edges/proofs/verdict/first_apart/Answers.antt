@@ -1,21 +1,21 @@
-use Rattle.std.proofs.Common.{◌≡◌, ◌<◌, [], length, sym, ap, ◌∙◌, subst}
-use Rattle.counting.specs.Lists.{IsLeastOf, mem}
+use Rattle.std.proofs.Common.{◌≡◌, ◌<◌, [], length, refl, sym, subst}
+use Rattle.counting.specs.Lists.{IsLeastOf}
 use Rattle.counting.specs.Sets.{none}
 use Rattle.counting.specs.Tests.{IsLeastWithout}
-use Rattle.graph_core.specs.Components.{IsConnected, components}
+use Rattle.graph_core.specs.Components.{IsConnected}
 use Rattle.graph_core.specs.Walks.{Joined}
 use Rattle.allowed_edges.proofs.FirstComponent.{all_joined, first_apart, none_weaker, some_component, some_weaker}
 use Rattle.allowed_edges.proofs.verdict.first_apart.Goals as goal
 
 pub get-requires : goal.get-requires
-get-requires c = subst (λ parts. 0 < length parts) (sym (c.in_ok-parts.ensures ∙ ap (λ xs. components c.args.g.now (mem xs)) c.empty.ensures)) (some_component c.args.g.now c.requires)
+get-requires c = subst (λ parts. 0 < length parts) (sym c.requires.parts) (some_component c.args.g.now c.requires.some)
 
 pub returns-clause-some : goal.returns-clause-some
 returns-clause-some c =
     some_weaker c.first.result (IsLeastOf c.minus-others.result) (IsLeastWithout c.args.g.now.order (Joined c.args.g.now none 1))
-    (first_apart c.args.g.now c.order.ensures.limits.multigraph.ends c.requires c.empty.result c.empty.ensures c.in_ok-parts.parts c.in_ok-parts.ensures c.get.result c.get.ensures c.order.result c.order.ensures.is c.full.result c.full.ensures.members c.minus-others.result c.minus-others.ensures) c.first.ensures.some
+    (first_apart c.args.g.now c.order.ensures.limits.multigraph.ends c.requires.some [] refl c.args.parts.now c.requires.parts c.get.result c.get.ensures c.order.result c.order.ensures.is c.full.result c.full.ensures.members c.minus-others.result c.minus-others.ensures) c.first.ensures.some
 
 pub returns-clause-none : goal.returns-clause-none
 returns-clause-none c =
     none_weaker c.first.result (c.minus-others.result ≡ []) (IsConnected c.args.g.now)
-    (all_joined c.args.g.now c.order.ensures.limits.multigraph.ends c.requires c.empty.result c.empty.ensures c.in_ok-parts.parts c.in_ok-parts.ensures c.get.result c.get.ensures c.order.result c.order.ensures.is c.full.result c.full.ensures.members c.minus-others.result c.minus-others.ensures) c.first.ensures.none
+    (all_joined c.args.g.now c.order.ensures.limits.multigraph.ends c.requires.some [] refl c.args.parts.now c.requires.parts c.get.result c.get.ensures c.order.result c.order.ensures.is c.full.result c.full.ensures.members c.minus-others.result c.minus-others.ensures) c.first.ensures.none

@@ -6,7 +6,7 @@ use Rattle.barrier_kit.proofs.canonical_partition.class_of.Goals as goal
 
 pub returns : goal.returns
 returns c =
-    class-row c.args.g.now c.full.result c.of.result c.minus-class.result c.args.a c.keeps_limits.ensures.vertices c.rises.ensures
+    class-row c.args.c.now c.full.result c.of.result c.minus-class.result c.args.a c.keeps_covered.ensures.limits.vertices c.rises.ensures
     (subst (λ n. (v : ℕ) → (mem c.full.result v ≡ true) ↔ Within n v) c.order.ensures.is c.full.ensures.members)
     c.minus-class.ensures
-    (λ v w. ap (λ xs. mem xs v) c.of.ensures ∙ c.requires.table.partner_is c.args.a v c.requires.vertex w)
+    (λ v w. ap (λ xs. mem xs v) c.of.ensures ∙ c.table.ensures.partner_is c.args.a v c.requires w)

@@ -5,20 +5,20 @@ use Rattle.bench_reports.proofs.judging.maximum_sizes.Goals as goal
 
 pub overflow_cast-edges : goal.overflow_cast-edges
 overflow_cast-edges c =
-    let few = ends_within c.args.g.now c.keeps_limits.ensures.multigraph.ends c.args.m.now c.requires.of c.keeps_matching.ensures c.requires.maximum _ c.len-edges.ensures in
-    omega (arith, c.keeps_limits.ensures.vertices)
+    let few = ends_within c.args.facts.now c.order-n.ensures.limits.multigraph.ends c.frame-frame.result.now.found.matching c.frame-frame.ensures.of c.keeps_matching.ensures c.frame-frame.ensures.maximum _ c.len-edges.ensures in
+    omega (arith, c.order-n.ensures.limits.vertices)
 
 pub overflow_mul-result : goal.overflow_mul-result
 overflow_mul-result c =
-    let few = ends_within c.args.g.now c.keeps_limits.ensures.multigraph.ends c.args.m.now c.requires.of c.keeps_matching.ensures c.requires.maximum _ c.len-edges.ensures in
-    omega (arith, c.keeps_limits.ensures.vertices)
+    let few = ends_within c.args.facts.now c.order-n.ensures.limits.multigraph.ends c.frame-frame.result.now.found.matching c.frame-frame.ensures.of c.keeps_matching.ensures c.frame-frame.ensures.maximum _ c.len-edges.ensures in
+    omega (arith, c.order-n.ensures.limits.vertices)
 
 pub overflow_sub-result : goal.overflow_sub-result
 overflow_sub-result c =
-    let few = ends_within c.args.g.now c.keeps_limits.ensures.multigraph.ends c.args.m.now c.requires.of c.keeps_matching.ensures c.requires.maximum _ c.len-edges.ensures in
-    omega (arith, c.order.ensures.is)
+    let few = ends_within c.args.facts.now c.order-n.ensures.limits.multigraph.ends c.frame-frame.result.now.found.matching c.frame-frame.ensures.of c.keeps_matching.ensures c.frame-frame.ensures.maximum _ c.len-edges.ensures in
+    omega (arith, c.order-n.ensures.is)
 
 pub returns : goal.returns
 returns c =
-    subst₂ (λ (k n : ℕ). HasMaximum c.args.g.now k (n - 2 * k)) (sym c.len-edges.ensures) (sym c.order.ensures.is)
-    (has_maximum c.args.g.now c.keeps_limits.ensures.multigraph.ends c.args.m.now c.requires.of c.keeps_matching.ensures c.requires.maximum)
+    subst₂ (λ (k n : ℕ). HasMaximum c.args.facts.now k (n - 2 * k)) (sym c.len-edges.ensures) (sym c.order-n.ensures.is)
+    (has_maximum c.args.facts.now c.order-n.ensures.limits.multigraph.ends c.frame-frame.result.now.found.matching c.frame-frame.ensures.of c.keeps_matching.ensures c.frame-frame.ensures.maximum)

@@ -1,8 +1,11 @@
-use Rattle.std.proofs.Common.{Bool, subst}
-use Rattle.list_lines.specs.Selecting.{Decides}
-use Rattle.list_lines.specs.declared.query.Property.TheVariants.{Covered}
+use Rattle.std.proofs.Common.{◌≡◌, subst}
+use Rattle.std.specs.Prelude.{IfOk}
+use Rattle.graph_core.specs.Covered.{IsCovered}
+use Rattle.graph_core.specs.Graph.{Graph}
+use Rattle.leaf_kinds.specs.LeafKinds.{IsKind}
 use Rattle.list_lines.proofs.selecting.kind_if_covered.Goals as goal
 
-pub returns-in_ok-kind : goal.returns-in_ok-kind
-returns-in_ok-kind c =
-    (subst (λ (holds : Bool). Decides c.args.g.now Covered holds) c.if-branch.true c.in_ok-is_covered.ensures, c.in_ok-kind.ensures.kind)
+pub returns-in_ok-covered_kind-in-Ok : goal.returns-in_ok-covered_kind-in-Ok
+returns-in_ok-covered_kind-in-Ok c =
+    let same = subst (λ r. IfOk r (λ (h : Graph). h ≡ c.args.g.now)) c.in-Ok.is c.in_ok-c.ensures.covered in
+    subst (λ (h : Graph). IsCovered h × IsKind h c.in_ok-covered_kind-in-Ok.field-0) same c.in_ok-covered_kind-in-Ok.ensures

@@ -5,7 +5,7 @@ use Rattle.list_lines.proofs.SingleLeaves.{one_brace, one_brick}
 use Rattle.list_lines.proofs.standing.tally_of_kind.Goals as goal
 
 pub returns-in-Brick : goal.returns-in-Brick
-returns-in-Brick c = one_brick c.args.g.now c.keeps_limits.ensures.multigraph c.requires.covered (subst (λ (k : Kind). IsKind c.args.g.now k) c.in-Brick.is c.requires.kind)
+returns-in-Brick c = one_brick c.args.c.now c.keeps_covered.ensures.limits.multigraph c.keeps_covered.ensures.covered (subst (λ (k : Kind). IsKind c.args.c.now k) c.in-Brick.is c.requires)
 
 pub returns-in-Brace : goal.returns-in-Brace
-returns-in-Brace c = one_brace c.args.g.now c.keeps_limits.ensures.multigraph c.requires.covered (subst (λ (k : Kind). IsKind c.args.g.now k) c.in-Brace.is c.requires.kind)
+returns-in-Brace c = one_brace c.args.c.now c.keeps_covered.ensures.limits.multigraph c.keeps_covered.ensures.covered (subst (λ (k : Kind). IsKind c.args.c.now k) c.in-Brace.is c.requires)

@@ -7,12 +7,12 @@ use Rattle.tight_cuts.proofs.FrontEmpty.{front_empty}
 use Rattle.tight_cuts.proofs.finder.first_after.Goals as goal
 
 pub returns-in-Some : goal.returns-in-Some
-returns-in-Some c = sym (first-front c.args.g.now (candidate_of c.in-Some.first) (sym c.requires.front ∙ ap (option_map candidate_of) c.in-Some.is))
+returns-in-Some c = sym (first-front c.args.c.now (candidate_of c.in-Some.first) (sym c.requires ∙ ap (option_map candidate_of) c.in-Some.is))
 
-pub first_of_bipartite-requires-clause-front : goal.first_of_bipartite-requires-clause-front
-first_of_bipartite-requires-clause-front c = first-nil (front_candidates c.args.g.now) (sym (ap (option_map candidate_of) c.in_default.is) ∙ c.requires.front)
+pub first_of_bipartite-requires : goal.first_of_bipartite-requires
+first_of_bipartite-requires c = ap front_candidates (c.of.ensures.some c.in-Some-of.bipartite c.in-Some-of.is) ∙ first-nil (front_candidates c.args.c.now) (sym (ap (option_map candidate_of) c.in_default.is) ∙ c.requires)
 
 pub returns-in-None : goal.returns-in-None
 returns-in-None c =
-    ap first_of (sym (front_empty c.args.g.now c.keeps_limits.ensures.multigraph c.requires.covered (c.in_ok-side.ensures.none.0 c.in-None.is)
-    (first-nil (front_candidates c.args.g.now) (sym (ap (option_map candidate_of) c.in_default.is) ∙ c.requires.front))))
+    ap first_of (sym (front_empty c.args.c.now c.keeps_covered.ensures.limits.multigraph c.keeps_covered.ensures.covered (c.of.ensures.none.0 c.in-None.is)
+    (first-nil (front_candidates c.args.c.now) (sym (ap (option_map candidate_of) c.in_default.is) ∙ c.requires))))

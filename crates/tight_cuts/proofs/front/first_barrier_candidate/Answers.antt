@@ -10,10 +10,10 @@ use Rattle.tight_cuts.proofs.front.first_barrier_candidate.Goals as goal
 pub new-requires-clause-shore : goal.new-requires-clause-shore
 new-requires-clause-shore c =
     subst (λ n. IsRisingIn n c.in-Some.shore) (sym c.order.ensures.is)
-    (first-rises c.args.g.now.order (barrier_cuts c.args.g.now) (canonical-rising c.args.g.now (barrier_cuts c.args.g.now) (barrier_cuts-canonical c.args.g.now c.keeps_limits.ensures.multigraph.ends c.requires.covered)) c.in-Some.shore (sym c.in-Some.is ∙ c.in_ok-shore.ensures))
+    (first-rises c.args.c.now.order (barrier_cuts c.args.c.now) (canonical-rising c.args.c.now (barrier_cuts c.args.c.now) (barrier_cuts-canonical c.args.c.now c.keeps_covered.ensures.limits.multigraph.ends c.keeps_covered.ensures.covered)) c.in-Some.shore (sym c.in-Some.is ∙ c.in_ok-shore.ensures))
 
 pub returns-in-Some : goal.returns-in-Some
-returns-in-Some c = first-some c.args.g.now.order Barrier (barrier_cuts c.args.g.now) c.in-Some.shore (candidate_of c.new.result) (sym c.in-Some.is ∙ c.in_ok-shore.ensures) (c.new.ensures ∙ ap (λ n. candidate_at n Barrier c.in-Some.shore) c.order.ensures.is)
+returns-in-Some c = first-some c.args.c.now.order Barrier (barrier_cuts c.args.c.now) c.in-Some.shore (candidate_of c.new.result) (sym c.in-Some.is ∙ c.in_ok-shore.ensures) (c.new.ensures ∙ ap (λ n. candidate_at n Barrier c.in-Some.shore) c.order.ensures.is)
 
 pub returns-in-None : goal.returns-in-None
-returns-in-None c = first-candidate_at c.args.g.now.order Barrier (barrier_cuts c.args.g.now) None (sym c.in-None.is ∙ c.in_ok-shore.ensures)
+returns-in-None c = first-candidate_at c.args.c.now.order Barrier (barrier_cuts c.args.c.now) None (sym c.in-None.is ∙ c.in_ok-shore.ensures)

@@ -3,6 +3,7 @@ use Rattle.std.specs.Option.{option_map}
 use Rattle.std.proofs.lemmas.Result.{IfOk-weaker}
 use Rattle.barrier_kit.proofs.ShoreFacts.{bicritical_no_cuts}
 use Rattle.barrier_kit.specs.BarrierShores.{barrier_cuts}
+use Rattle.graph_core.specs.Graph.{Graph}
 use Rattle.separation_kit.proofs.SeparationFacts.{unlike-none}
 use Rattle.separation_kit.specs.Pairs.{pair_of}
 use Rattle.separation_kit.specs.SeparationShores.{separation_cuts}
@@ -13,22 +14,19 @@ use Rattle.tight_cuts.proofs.FrontCandidates.{front-barriers, front-separations,
 use Rattle.tight_cuts.proofs.front.first_front_candidate.Goals as goal
 
 pub first_separation_candidate-requires-clause-bicritical : goal.first_separation_candidate-requires-clause-bicritical
-first_separation_candidate-requires-clause-bicritical c = (unlike-none c.args.g.now).0 (sym c.in_ok-not_bicritical_in.ensures.first ∙ ap (option_map pair_of) c.in_default.is)
-
-pub first_separation_candidate-requires-clause-pair : goal.first_separation_candidate-requires-clause-pair
-first_separation_candidate-requires-clause-pair c = c.requires.pair ((unlike-none c.args.g.now).0 (sym c.in_ok-not_bicritical_in.ensures.first ∙ ap (option_map pair_of) c.in_default.is))
+first_separation_candidate-requires-clause-bicritical c = (unlike-none c.args.pairs.now).0 (sym c.unlike.ensures ∙ ap (option_map pair_of) c.in_default.is)
 
 pub returns : goal.returns
-returns c = IfOk-weaker c.first_separation_candidate.result (λ (found : Option Candidate). option_map candidate_of found ≡ first_of (map (candidate_at c.args.g.now.order Separation) (separation_cuts c.args.g.now))) (λ (found : Option Candidate). option_map candidate_of found ≡ first_of (front_candidates c.args.g.now))
-    (λ found q. q ∙ ap first_of (front-separations c.args.g.now (bicritical_no_cuts c.args.g.now c.keeps_limits.ensures.multigraph.ends c.requires.covered ((unlike-none c.args.g.now).0 (sym c.in_ok-not_bicritical_in.ensures.first ∙ ap (option_map pair_of) c.in_default.is)))))
+returns c = IfOk-weaker c.first_separation_candidate.result (λ (found : Option Candidate). option_map candidate_of found ≡ first_of (map (candidate_at c.args.pairs.now.order Separation) (separation_cuts c.args.pairs.now))) (λ (found : Option Candidate). option_map candidate_of found ≡ first_of (front_candidates c.args.pairs.now))
+    (λ found q. q ∙ ap first_of (front-separations c.args.pairs.now (bicritical_no_cuts c.args.pairs.now c.keeps_covered.ensures.limits.multigraph.ends c.keeps_covered.ensures.covered ((unlike-none c.args.pairs.now).0 (sym c.unlike.ensures ∙ ap (option_map pair_of) c.in_default.is)))))
     c.first_separation_candidate.ensures
 
 pub returns-in-Some : goal.returns-in-Some
-returns-in-Some c = IfOk-weaker c.first_barrier_candidate.result (λ (found : Option Candidate). option_map candidate_of found ≡ first_of (map (candidate_at c.args.g.now.order Barrier) (barrier_cuts c.args.g.now))) (λ (found : Option Candidate). option_map candidate_of found ≡ first_of (front_candidates c.args.g.now))
-    (λ found q. q ∙ ap first_of (front-barriers c.args.g.now (unlike-some c.args.g.now (pair_of c.in-Some.field-0) (sym (ap (option_map pair_of) c.in-Some.is) ∙ c.in_ok-not_bicritical_in.ensures.first))))
+returns-in-Some c = IfOk-weaker c.first_barrier_candidate.result (λ (found : Option Candidate). option_map candidate_of found ≡ first_of (map (candidate_at c.covered.result.now.order Barrier) (barrier_cuts c.covered.result.now))) (λ (found : Option Candidate). option_map candidate_of found ≡ first_of (front_candidates c.args.pairs.now))
+    (λ found q. q ∙ ap (λ (g : Graph). first_of (map (candidate_at g.order Barrier) (barrier_cuts g))) c.covered.ensures ∙ ap first_of (front-barriers c.args.pairs.now (unlike-some c.args.pairs.now (pair_of c.in-Some.field-0) (sym (ap (option_map pair_of) c.in-Some.is) ∙ c.unlike.ensures))))
     c.first_barrier_candidate.ensures
 
 pub returns-then-order-lt4 : goal.returns-then-order-lt4
-returns-then-order-lt4 c = IfOk-weaker c.first_barrier_candidate-then-order-lt4.result (λ (found : Option Candidate). option_map candidate_of found ≡ first_of (map (candidate_at c.args.g.now.order Barrier) (barrier_cuts c.args.g.now))) (λ (found : Option Candidate). option_map candidate_of found ≡ first_of (front_candidates c.args.g.now))
-    (λ found q. q ∙ ap first_of (front-barriers c.args.g.now (order-small c.args.g.now (let l = c.if-order-lt4.true in let e = c.order.ensures.is in omega arith))))
+returns-then-order-lt4 c = IfOk-weaker c.first_barrier_candidate-then-order-lt4.result (λ (found : Option Candidate). option_map candidate_of found ≡ first_of (map (candidate_at c.covered-then-order-lt4.result.now.order Barrier) (barrier_cuts c.covered-then-order-lt4.result.now))) (λ (found : Option Candidate). option_map candidate_of found ≡ first_of (front_candidates c.args.pairs.now))
+    (λ found q. q ∙ ap (λ (g : Graph). first_of (map (candidate_at g.order Barrier) (barrier_cuts g))) c.covered-then-order-lt4.ensures ∙ ap first_of (front-barriers c.args.pairs.now (order-small c.args.pairs.now (let l = c.if-order-lt4.true in let e = c.order.ensures.is in omega arith))))
     c.first_barrier_candidate-then-order-lt4.ensures

@@ -4,17 +4,22 @@ use Rattle.std.proofs.lemmas.Result.{IfOk-weaker}
 use Rattle.separation_kit.proofs.SeparationFacts.{separation_cuts-canonical}
 use Rattle.graph_core.specs.CanonicalCuts.{IsCanonicalCut}
 use Rattle.counting.specs.Lists.{IsRisingIn}
+use Rattle.graph_core.specs.Graph.{Graph}
+use Rattle.graph_core.specs.Structure.{IsBicritical}
 use Rattle.separation_kit.specs.SeparationShores.{separation_cuts}
 use Rattle.tight_cuts.specs.Candidates.{Candidate, Separation, candidate_at}
 use Rattle.tight_cuts.proofs.FrontCandidates.{canonical-rising}
 use Rattle.tight_cuts.proofs.front.separation_candidates.Goals as goal
 
+pub separation_cuts-requires-clause-bicritical : goal.separation_cuts-requires-clause-bicritical
+separation_cuts-requires-clause-bicritical c = subst (λ (g : Graph). IsBicritical g) (sym c.graph.ensures.same) c.requires.bicritical
+
 pub candidates_of-requires-clause-shores : goal.candidates_of-requires-clause-shores
 candidates_of-requires-clause-shores c =
     subst (λ n. All (IsRisingIn n) c.in_ok-shores.shores) (sym c.order.ensures.is)
-    (canonical-rising c.args.g.now c.in_ok-shores.shores (subst (All (IsCanonicalCut c.args.g.now)) (sym c.in_ok-shores.ensures) (separation_cuts-canonical c.args.g.now c.keeps_limits.ensures.multigraph.ends c.requires.covered)))
+    (canonical-rising c.args.c.now c.in_ok-shores.shores (subst (All (IsCanonicalCut c.args.c.now)) (sym (c.in_ok-shores.ensures ∙ ap separation_cuts c.graph.ensures.same)) (separation_cuts-canonical c.args.c.now c.keeps_covered.ensures.limits.multigraph.ends c.keeps_covered.ensures.covered)))
 
 pub returns : goal.returns
-returns c = IfOk-weaker c.candidates_of.result (λ (list : List Candidate). list ≡ map (candidate_at c.order.result Separation) c.in_ok-shores.shores) (λ (list : List Candidate). list ≡ map (candidate_at c.args.g.now.order Separation) (separation_cuts c.args.g.now))
-    (λ list q. q ∙ ap (λ n. map (candidate_at n Separation) c.in_ok-shores.shores) c.order.ensures.is ∙ ap (map (candidate_at c.args.g.now.order Separation)) c.in_ok-shores.ensures)
+returns c = IfOk-weaker c.candidates_of.result (λ (list : List Candidate). list ≡ map (candidate_at c.order.result Separation) c.in_ok-shores.shores) (λ (list : List Candidate). list ≡ map (candidate_at c.args.c.now.order Separation) (separation_cuts c.args.c.now))
+    (λ list q. q ∙ ap (λ n. map (candidate_at n Separation) c.in_ok-shores.shores) c.order.ensures.is ∙ ap (map (candidate_at c.args.c.now.order Separation)) (c.in_ok-shores.ensures ∙ ap separation_cuts c.graph.ensures.same))
     c.candidates_of.ensures

@@ -1,7 +1,0 @@
-use Rattle.std.proofs.Common.{◌≡◌}
-use Rattle.counting.specs.Lists.{rising_list}
-use Rattle.graph_core.specs.Matchings.{is_allowed}
-use Rattle.allowed_edges.proofs.edges.allowed_in.Given as goal
-
-abbrev pub invariant-loop-k : goal.invariant-loop-k
-invariant-loop-k l = l.edges ≡ rising_list l.k (is_allowed l.g)

@@ -1,0 +1,12 @@
+use Rattle.std.proofs.Common.{Option, ℕ, refl, subst, arith}
+use Rattle.std.specs.Prelude.{IfSome}
+use Rattle.counting.specs.Sets.{none}
+use Rattle.counting.specs.Tests.{IsLeastWithout}
+use Rattle.graph_core.specs.Walks.{Joined}
+use Rattle.allowed_edges.proofs.verdict.verdict_in.Goals as goal
+
+pub returns-in-Some : goal.returns-in-Some
+returns-in-Some c =
+    let order = c.order.ensures.is in
+    let two = c.if-order-lt2.false in
+    (omega arith, refl, subst (λ (o : Option ℕ). IfSome o (IsLeastWithout c.args.g.now.order (Joined c.args.g.now none 1))) c.in-Some.is c.first_apart.ensures.some)

@@ -1,0 +1,42 @@
+//! Whether a graph has a perfect matching, and its table of partners where it has one.
+ghost use Rattle.std.specs.Prelude.{◌≡◌, ◌↔◌, None, IsTrue, IfSome, IfOk};
+ghost use Rattle.counting.specs.Lists.{mem};
+ghost use Rattle.counting.specs.Sets.{none};
+ghost use Rattle.graph_core.specs.Matchings.{HasPerfect, IsMaximum};
+ghost use Rattle.match_core.specs.MatchingRows.{IsOf, edges_of};
+ghost use Rattle.match_core.specs.Partners.{ArePartners};
+
+use crate::questions::misses_none;
+use graph_core::MultiGraph;
+use match_core::{Matching, PartnerTable, partners};
+use std::alloc::{AllocError as Memory, Global};
+use vset_core::VSet;
+
+/// The table of partners of `g`, from a maximum matching: `None` exactly where the graph has no
+/// perfect matching. There a table would say nothing of its edges, and none is made.
+pub fn partners_where_perfect(
+    alloc: Global,
+    g: &MultiGraph,
+    m: &Matching,
+) -> Result<Option<PartnerTable>, Memory>
+    requires of { IsOf g.now m.now }
+    requires maximum { IsMaximum g.now none (mem (edges_of m.now)) }
+    ensures table { IfOk result (λ table. IfSome table (ArePartners g.now none)) }
+    ensures perfect { IfOk result (λ table. (table ≡ None) ↔ ¬ (HasPerfect g.now none)) }
+{
+    if is_perfect(g, m) {
+        let table = partners(alloc, g, VSet::empty(), m)?;
+        return Ok(Some(table));
+    }
+    Ok(None)
+}
+
+// Whether a maximum matching is perfect, that is, whether the graph has a perfect matching.
+fn is_perfect(g: &MultiGraph, m: &Matching) -> bool
+    requires of { IsOf g.now m.now }
+    requires maximum { IsMaximum g.now none (mem (edges_of m.now)) }
+    ensures { IsTrue result ↔ HasPerfect g.now none }
+{
+    g.keeps_limits();
+    misses_none(g, m, VSet::empty())
+}

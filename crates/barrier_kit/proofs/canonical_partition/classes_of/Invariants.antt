@@ -1,0 +1,12 @@
+use Rattle.std.proofs.Common.{◌≡◌, ℕ, map}
+use Rattle.counting.specs.Counts.{Within}
+use Rattle.counting.specs.Lists.{mem, rising_list}
+use Rattle.counting.specs.Tests.{some}
+use Rattle.graph_core.specs.Structure.{is_equivalent, is_least_of_class}
+use Rattle.barrier_kit.proofs.canonical_partition.classes_of.Given as goal
+
+abbrev pub invariant-loop-k : goal.invariant-loop-k
+invariant-loop-k l = record {
+  list : l.list ≡ map (λ a. rising_list l.c.order (is_equivalent l.c a)) (rising_list l.k (is_least_of_class l.c));
+  met : (v : ℕ) → Within l.c.order v → mem l.met v ≡ some l.k (λ a. is_equivalent l.c a v);
+}

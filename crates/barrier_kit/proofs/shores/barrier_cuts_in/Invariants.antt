@@ -1,8 +1,0 @@
-use Rattle.std.proofs.Common.{◌≡◌, [], fold, flat_map, take}
-use Rattle.counting.specs.Lists.{mem}
-use Rattle.graph_core.specs.Components.{components}
-use Rattle.graph_core.specs.CanonicalCuts.{with_cut}
-use Rattle.barrier_kit.proofs.shores.barrier_cuts_in.Given as goal
-
-abbrev pub invariant-loop-class : goal.invariant-loop-class
-invariant-loop-class l = l.cuts ≡ fold (with_cut l.g.order) [] (flat_map (λ class. components l.g (mem class)) (take l.class-index l.class-items))

@@ -1,0 +1,11 @@
+use Rattle.std.proofs.Common.{◌≡◌, [], fold, flat_map, take}
+use Rattle.counting.specs.Lists.{mem}
+use Rattle.graph_core.specs.Components.{components}
+use Rattle.graph_core.specs.CanonicalCuts.{with_cut}
+use Rattle.barrier_kit.proofs.shores.first_barrier_cut.Given as goal
+
+abbrev pub invariant-loop-class : goal.invariant-loop-class
+invariant-loop-class l = record {
+  cuts : l.cuts ≡ fold (with_cut l.c.order) [] (flat_map (λ class. components l.c (mem class)) (take l.class-index l.class-items));
+  none : l.cuts ≡ [];
+}

@@ -1,0 +1,23 @@
+use Rattle.std.proofs.Common.{◌≡◌, ◌&&◌, true, Bool, ap, ◌∙◌, ℕ, List, arith}
+use Rattle.counting.specs.Lists.{mem}
+use Rattle.graph_core.proofs.Decide.{degree_congr}
+use Rattle.match_core.specs.MatchingRows.{edges_of, left_over}
+use Rattle.graph_facts.proofs.covered_graph.Covered.own_matching.Goals as goal
+
+and_true : (b : Bool) → (b && true) ≡ b
+and_true b = grind arith
+
+pub returns-clause-of : goal.returns-clause-of
+returns-clause-of c = c.in_ok-own.ensures.of c.args.self.now c.matching.ensures.of
+
+pub returns-clause-perfect : goal.returns-clause-perfect
+returns-clause-perfect c =
+    let g = c.args.self.now in
+    let k = mem (edges_of c.matching.result.now) in
+    let m = mem (edges_of c.in_ok-own.own) in
+    let same : (i : ℕ) → m i ≡ k i = λ i. c.in_ok-own.ensures.edges g c.matching.ensures.of i ∙ ap (λ (xs : List ℕ). left_over g (mem xs) k i) c.empty.ensures ∙ and_true (k i) in
+    let perfect = c.matching.ensures.perfect in
+    record {
+      once = λ v w h. degree_congr g m k v (λ e we. same e) ∙ perfect.once v w h;
+      away = λ v w h. degree_congr g m k v (λ e we. same e) ∙ perfect.away v w h;
+    }

@@ -1,0 +1,16 @@
+use Rattle.std.proofs.Common.{ap, ◌∙◌, length, arith}
+use Rattle.counting.specs.Sets.{none}
+use Rattle.graph_core.specs.Components.{component_count}
+use Rattle.graph_core.specs.Graph.{Graph}
+use Rattle.graph_core.proofs.Components.{component_count_le, length-components}
+use Rattle.graph_facts.proofs.facts.Facts.components.Goals as goal
+
+pub overflow_cast-result : goal.overflow_cast-result
+overflow_cast-result c =
+    let e = c.len.ensures ∙ ap length c.self.invariant.parts_are ∙ length-components c.self.inside.graph.now none in
+    let few = component_count_le c.self.inside.graph.now none in
+    let n = c.keeps_limits.ensures.vertices in
+    omega arith
+
+pub returns : goal.returns
+returns c = c.len.ensures ∙ ap length c.self.invariant.parts_are ∙ length-components c.self.inside.graph.now none ∙ ap (λ (g : Graph). component_count g none) c.self.view_is

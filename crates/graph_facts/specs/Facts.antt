@@ -1,0 +1,36 @@
+-- What is known of a graph: what its components, its side, a maximum matching and its partners are.
+-- Each is said in the words of the definitions of graphs and matchings.
+use Rattle.std.specs.Prelude.{◌≡◌, ℕ, true, List, Option, Some, None, IfSome, ◌↔◌}
+use Rattle.counting.specs.Counts.{Within}
+use Rattle.counting.specs.Lists.{mem, IsRisingIn}
+use Rattle.counting.specs.Sets.{none}
+use Rattle.graph_core.specs.BergeSets.{Attains}
+use Rattle.graph_core.specs.Components.{components}
+use Rattle.graph_core.specs.GallaiEdmonds.{InD, InA}
+use Rattle.graph_core.specs.Graph.{Graph, IsBipartite}
+use Rattle.graph_core.specs.Matchings.{HasPerfect, IsMaximum}
+use Rattle.graph_core.specs.Sides.{IsSide}
+use Rattle.match_core.specs.MatchingRows.{IsOf, edges_of}
+use Rattle.match_core.specs.Partners.{ArePartners}
+use Rattle.match_core.specs.declared.frames.FrameSets.{FrameSets}
+
+-- a maximum matching of g; outer is D, inner is A, which is the Berge set
+pub record IsFrame (g : Graph) (f : FrameSets) : Type 0 where
+  pub of : IsOf g f.found.matching
+  pub maximum : IsMaximum g none (mem (edges_of f.found.matching))
+  pub berge : f.found.berge ≡ f.inner
+  pub attains : Attains g none (mem f.inner) (mem (edges_of f.found.matching))
+  pub outer_in : IsRisingIn g.order f.outer
+  pub inner_in : IsRisingIn g.order f.inner
+  pub missed : (v : ℕ) → Within g.order v → (mem f.outer v ≡ true) ↔ InD g v
+  pub next : (v : ℕ) → Within g.order v → (mem f.inner v ≡ true) ↔ InA g v
+
+-- the components of g, one side where g is bipartite, its frame, and its partners, known exactly
+-- where g has a perfect matching
+pub record AreFacts (g : Graph) (parts : List (List ℕ)) (side : Option (List ℕ)) (frame : FrameSets) (table : Option (List (List ℕ))) : Type 0 where
+  pub parts_are : parts ≡ components g none
+  pub side_is : (s : List ℕ) → side ≡ Some s → IsSide g (mem s)
+  pub bipartite : (side ≡ None) ↔ ¬ (IsBipartite g)
+  pub frame_is : IsFrame g frame
+  pub partners : IfSome table (ArePartners g none)
+  pub perfect : (table ≡ None) ↔ ¬ (HasPerfect g none)

@@ -1,0 +1,87 @@
+//! A covered bipartite graph as a type.
+ghost use Rattle.std.specs.Prelude.{◌≡◌, ◌↔◌, None, Some, IfOk};
+ghost use Rattle.counting.specs.Lists.{mem};
+ghost use Rattle.counting.specs.Sets.{none};
+ghost use Rattle.graph_core.specs.Covered.{IsCovered};
+ghost use Rattle.graph_core.specs.Graph.{IsBipartite};
+ghost use Rattle.graph_core.specs.Matchings.{IsPerfect};
+ghost use Rattle.graph_core.specs.Sides.{IsSide};
+ghost use Rattle.graph_core.specs.View.{IsWithinLimits};
+ghost use Rattle.match_core.specs.MatchingRows.{IsOf, edges_of};
+
+use crate::covered_graph::Covered;
+use graph_core::MultiGraph;
+use match_core::Matching;
+use std::alloc::{AllocError as Memory, Global};
+use std::marker::Model;
+use vset_core::VSet;
+
+/// A covered bipartite graph with one of its sides. Contracts see the graph.
+#[derive(Drop)]
+pub struct Bipartite<'c, 'g> {
+    covered: &'c Covered<'g>,
+    side: VSet,
+}
+
+impl<'c, 'g> Model for Bipartite<'c, 'g> {
+    ghost use Rattle.counting.specs.Lists.{mem};
+    ghost use Rattle.graph_core.specs.Graph.{Graph};
+    ghost use Rattle.graph_core.specs.Sides.{IsSide};
+
+    ghost Value = { Graph };
+
+    ghost view = { λ b. b.covered.now };
+
+    ghost invariant = { λ b. IsSide b.covered.now (mem b.side) };
+}
+
+impl<'c, 'g> Bipartite<'c, 'g> {
+    /// The covered graph as a bipartite one; `None` exactly where it is not. Takes no memory.
+    pub fn of(covered: &'c Covered<'g>) -> Option<Bipartite<'c, 'g>>
+        ensures some { (b : _) → result ≡ Some b → b ≡ covered.now }
+        ensures none { (result ≡ None) ↔ ¬ (IsBipartite covered.now) }
+    {
+        match covered.side() {
+            Some(side) => Some(Bipartite { covered, side }),
+            None => None,
+        }
+    }
+
+    /// The covered graph.
+    pub fn covered(&self) -> &'c Covered<'g>
+        ensures { result.now ≡ self.now }
+    {
+        self.covered
+    }
+
+    /// The graph.
+    pub fn graph(&self) -> &'g MultiGraph
+        ensures same { result.now ≡ self.now }
+        ensures covered { IsCovered result.now }
+    {
+        self.covered.graph()
+    }
+
+    /// The law that the graph is covered. It does nothing: a caller states it where it needs it.
+    pub fn keeps_covered(&self)
+        ensures covered { IsCovered self.now }
+        ensures limits { IsWithinLimits self.now }
+    {
+        self.covered.keeps_covered();
+    }
+
+    /// A copy of a perfect matching.
+    pub fn own_matching(&self, alloc: Global) -> Result<Matching, Memory>
+        ensures of { IfOk result (IsOf self.now) }
+        ensures perfect { IfOk result (λ m. IsPerfect self.now none (mem (edges_of m))) }
+    {
+        self.covered.own_matching(alloc)
+    }
+
+    /// One side.
+    pub fn side(&self) -> VSet
+        ensures { IsSide self.now (mem result) }
+    {
+        self.side
+    }
+}

@@ -1,0 +1,143 @@
+//! A graph with what the searches find of it.
+ghost use Rattle.std.specs.Prelude.{◌≡◌, ◌↔◌, None, Some, IsTrue, IfSome, IfOk};
+ghost use Rattle.counting.specs.Lists.{Lists, mem};
+ghost use Rattle.counting.specs.Sets.{none};
+ghost use Rattle.graph_core.specs.Components.{component_count};
+ghost use Rattle.graph_core.specs.Graph.{IsBipartite, size};
+ghost use Rattle.graph_core.specs.Matchings.{Allowed, HasPerfect};
+ghost use Rattle.graph_core.specs.Sides.{IsSide};
+ghost use Rattle.graph_core.specs.Verdicts.{IsVerdict};
+ghost use Rattle.graph_core.specs.View.{IsWithinLimits};
+ghost use Rattle.match_core.specs.Partners.{ArePartners};
+ghost use Rattle.graph_facts.specs.Facts.{IsFrame};
+
+use allowed_edges::{allowed_in, partners_where_perfect, verdict_in};
+use graph_core::{MultiGraph, Numbers, SetList, Verdict, side_of};
+use match_core::{FrameSets, PartnerTable, frame};
+use std::alloc::{AllocError as Memory, Global};
+use std::marker::Model;
+use vset_core::VSet;
+
+/// A graph with its components, its side, a maximum matching with the Gallai-Edmonds sets, and
+/// its table of partners where the matching is perfect. Contracts see the graph.
+#[derive(Drop)]
+pub struct Facts<'g> {
+    graph: &'g MultiGraph,
+    parts: SetList,
+    side: Option<VSet>,
+    frame: FrameSets,
+    table: Option<PartnerTable>,
+}
+
+impl<'g> Model for Facts<'g> {
+    ghost use Rattle.graph_core.specs.Graph.{Graph};
+    ghost use Rattle.graph_facts.specs.Facts.{AreFacts};
+
+    ghost Value = { Graph };
+
+    ghost view = { λ f. f.graph.now };
+
+    ghost invariant = { λ f. AreFacts f.graph.now f.parts f.side f.frame f.table };
+}
+
+impl<'g> Facts<'g> {
+    /// What is known of `g`: one search for each fact.
+    pub fn of(alloc: Global, g: &'g MultiGraph) -> Result<Facts<'g>, Memory>
+        ensures { IfOk result (λ facts. facts ≡ g.now) }
+    {
+        let parts = g.components_without(alloc, VSet::empty())?;
+        let side = side_of(alloc, g)?;
+        let frame = frame(alloc, g)?;
+        let table = partners_where_perfect(alloc, g, &frame.found.matching)?;
+        Ok(Facts {
+            graph: g,
+            parts,
+            side,
+            frame,
+            table,
+        })
+    }
+
+    /// The graph.
+    pub fn graph(&self) -> &'g MultiGraph
+        ensures same { result.now ≡ self.now }
+        ensures limits { IsWithinLimits self.now }
+    {
+        self.graph.keeps_limits();
+        self.graph
+    }
+
+    /// The number of vertices.
+    pub fn order(&self) -> u32
+        ensures is { result ≡ self.now.order }
+        ensures limits { IsWithinLimits self.now }
+    {
+        self.graph.order()
+    }
+
+    /// The number of edges.
+    pub fn size(&self) -> u32
+        ensures is { result ≡ size self.now }
+        ensures limits { IsWithinLimits self.now }
+    {
+        self.graph.keeps_limits();
+        self.graph.size()
+    }
+
+    /// The number of components.
+    pub fn components(&self) -> u32
+        ensures { result ≡ component_count self.now none }
+    {
+        self.graph.keeps_limits();
+        self.parts.len() as u32
+    }
+
+    /// One side; `None` exactly where the graph is not bipartite.
+    pub fn side(&self) -> Option<VSet>
+        ensures some { (side : _) → result ≡ Some side → IsSide self.now (mem side) }
+        ensures none { (result ≡ None) ↔ ¬ (IsBipartite self.now) }
+    {
+        self.side
+    }
+
+    /// Whether some vertex set has all edges in its cut.
+    pub fn is_bipartite(&self) -> bool
+        ensures { IsTrue result ↔ IsBipartite self.now }
+    {
+        self.graph.keeps_limits();
+        match self.side {
+            Some(_) => true,
+            None => false,
+        }
+    }
+
+    /// A maximum matching with the Gallai-Edmonds sets, as `frame` of `match_core` answers them.
+    pub fn frame(&self) -> &FrameSets
+        ensures { IsFrame self.now result.now }
+    {
+        &self.frame
+    }
+
+    /// The table of partners, `None` exactly where the graph has no perfect matching.
+    pub fn table(&self) -> &Option<PartnerTable>
+        ensures table { IfSome result.now (ArePartners self.now none) }
+        ensures perfect { (result.now ≡ None) ↔ ¬ (HasPerfect self.now none) }
+    {
+        &self.table
+    }
+
+    /// Whether the graph is matching covered, and the first reason where it is not. Takes no
+    /// memory.
+    pub fn verdict(&self) -> Verdict
+        ensures { IsVerdict self.now result }
+    {
+        verdict_in(self.graph, &self.parts, &self.frame.found, &self.table)
+    }
+
+    /// The edges that lie in perfect matchings, in rising order.
+    pub fn allowed(&self, alloc: Global) -> Result<Numbers, Memory>
+        ensures { IfOk result (λ edges. Lists (size self.now) edges (Allowed self.now)) }
+    {
+        allowed_in(alloc, self.graph, &self.table)
+    }
+}

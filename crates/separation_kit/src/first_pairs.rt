@@ -1,0 +1,133 @@
+//! A covered graph with the pairs of vertices that tell whether it is bicritical, and then where
+//! two vertices separate it.
+ghost use Rattle.std.specs.Prelude.{◌≡◌, ◌↔◌, IsTrue, IfOk};
+ghost use Rattle.std.specs.Option.{option_map};
+ghost use Rattle.graph_core.specs.Covered.{IsCovered};
+ghost use Rattle.graph_core.specs.Graph.{IsBipartite};
+ghost use Rattle.graph_core.specs.Structure.{IsBicritical, cut_pair, unlike_pair};
+ghost use Rattle.graph_core.specs.View.{IsWithinLimits};
+ghost use Rattle.separation_kit.specs.Pairs.{pair_of};
+
+use crate::critical::{cut_pair, unlike_pair};
+use crate::pair::Pair;
+use graph_facts::Covered;
+use std::alloc::{AllocError as Memory, Global};
+use std::marker::Model;
+
+/// A covered graph with the first pair of vertices that shows it not bicritical, and its first cut
+/// pair where it is bicritical. Contracts see the graph.
+#[derive(Drop)]
+pub struct FirstPairs<'c, 'g> {
+    covered: &'c Covered<'g>,
+    unlike: Option<Pair>,
+    cut: Option<Pair>,
+}
+
+impl<'c, 'g> Model for FirstPairs<'c, 'g> {
+    ghost use Rattle.std.specs.Prelude.{◌≡◌};
+    ghost use Rattle.std.specs.Option.{option_map};
+    ghost use Rattle.graph_core.specs.Graph.{Graph};
+    ghost use Rattle.graph_core.specs.Structure.{IsBicritical, cut_pair, unlike_pair};
+    ghost use Rattle.separation_kit.specs.Pairs.{pair_of};
+
+    ghost Value = { Graph };
+
+    ghost view = { λ p. p.covered.now };
+
+    ghost invariant = { λ p. (option_map pair_of p.unlike ≡ unlike_pair p.covered.now) × (IsBicritical p.covered.now → option_map pair_of p.cut ≡ cut_pair p.covered.now) };
+}
+
+impl<'c, 'g> FirstPairs<'c, 'g> {
+    /// The pairs of a covered graph. A cut pair is looked for only where the graph is bicritical.
+    pub fn of(alloc: Global, covered: &'c Covered<'g>) -> Result<FirstPairs<'c, 'g>, Memory>
+        ensures { IfOk result (λ pairs. pairs ≡ covered.now) }
+    {
+        let unlike = unlike_pair(alloc, covered)?;
+        let cut = cut_where_bicritical(alloc, covered, unlike)?;
+        Ok(FirstPairs {
+            covered,
+            unlike,
+            cut,
+        })
+    }
+
+    /// The covered graph.
+    pub fn covered(&self) -> &'c Covered<'g>
+        ensures { result.now ≡ self.now }
+    {
+        self.covered
+    }
+
+    /// The law that the graph is covered. It does nothing: a caller states it where it needs it.
+    pub fn keeps_covered(&self)
+        ensures covered { IsCovered self.now }
+        ensures limits { IsWithinLimits self.now }
+    {
+        self.covered.keeps_covered();
+    }
+
+    /// The number of vertices.
+    pub fn order(&self) -> u32
+        ensures is { result ≡ self.now.order }
+    {
+        self.covered.order()
+    }
+
+    /// Whether some vertex set has all edges in its cut.
+    pub fn is_bipartite(&self) -> bool
+        ensures { IsTrue result ↔ IsBipartite self.now }
+    {
+        self.covered.is_bipartite()
+    }
+
+    /// The first pair without which the graph has no perfect matching: none exactly where it is
+    /// bicritical.
+    pub fn unlike(&self) -> Option<Pair>
+        ensures { option_map pair_of result ≡ unlike_pair self.now }
+    {
+        self.unlike
+    }
+
+    /// Whether the graph is bicritical.
+    pub fn is_bicritical(&self) -> bool
+        ensures { IsTrue result ↔ IsBicritical self.now }
+    {
+        match self.unlike {
+            Some(_) => false,
+            None => true,
+        }
+    }
+
+    /// The first cut pair of a bicritical graph.
+    pub fn cut(&self) -> Option<Pair>
+        requires { IsBicritical self.now }
+        ensures { option_map pair_of result ≡ cut_pair self.now }
+    {
+        self.cut
+    }
+
+    /// The first cut pair, bicritical or not. It is looked for only where it is not at hand.
+    pub fn any_cut(&self, alloc: Global) -> Result<Option<Pair>, Memory>
+        ensures { IfOk result (λ cut. option_map pair_of cut ≡ cut_pair self.now) }
+    {
+        if self.is_bicritical() {
+            return Ok(self.cut());
+        }
+        cut_pair(alloc, self.covered.graph())
+    }
+}
+
+// The first cut pair of a graph without an unlike pair.
+fn cut_where_bicritical(
+    alloc: Global,
+    c: &Covered,
+    unlike: Option<Pair>,
+) -> Result<Option<Pair>, Memory>
+    requires { option_map pair_of unlike ≡ unlike_pair c.now }
+    ensures { IfOk result (λ cut. IsBicritical c.now → option_map pair_of cut ≡ cut_pair c.now) }
+{
+    match unlike {
+        Some(_) => Ok(None),
+        None => cut_pair(alloc, c.graph()),
+    }
+}

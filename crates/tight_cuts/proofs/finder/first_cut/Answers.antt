@@ -1,0 +1,20 @@
+use Rattle.std.proofs.Common.{◌≡◌, ℕ, ap, sym, ◌∙◌, List, [], ◌∷◌, Option, Some, subst, unwrap_or}
+use Rattle.std.specs.Option.{option_map}
+use Rattle.counting.specs.Lists.{mem}
+use Rattle.graph_core.specs.Tight.{IsNontrivial, IsTight}
+use Rattle.tight_cuts.specs.Candidates.{Candidate, candidates, first_of, first_shore}
+use Rattle.tight_cuts.specs.View.{candidate_of}
+use Rattle.tight_cuts.proofs.finder.first_cut.Goals as goal
+
+pub returns-in-Some-clause-some : goal.returns-in-Some-clause-some
+returns-in-Some-clause-some c s is =
+    let t = c.in_ok-candidate.ensures.some c.in-Some.candidate c.in-Some.is in
+    subst (λ (x : List ℕ). IsTight c.args.pairs.now (mem x) × IsNontrivial c.args.pairs.now.order (mem x)) (ap (λ (o : Option (List ℕ)). unwrap_or o []) is) (t.tight, t.nontrivial)
+
+-- the shore of the first candidate is the first shore
+shore-first : (list : List Candidate) (c : Candidate) → Some c ≡ first_of list → Some c.shore ≡ first_shore list
+shore-first [] c e = absurd cc
+shore-first (d ∷ list) c e = ap (option_map (λ (k : Candidate). k.shore)) e
+
+pub returns-in-Some-clause-first : goal.returns-in-Some-clause-first
+returns-in-Some-clause-first c = shore-first (candidates c.args.pairs.now) (candidate_of c.in-Some.candidate) (sym (ap (option_map candidate_of) c.in-Some.is) ∙ c.in_ok-candidate.ensures.first)
