@@ -1,7 +1,7 @@
 //! The candidates beside those of the plain way by pairs: the same list in the same order, and its first.
 ghost use Rattle.std.specs.Prelude.{◌≤◌};
 
-use crate::choices::{Choice, leaf_graphs};
+use crate::choices::{FIRST, leaf_graphs};
 use crate::made::made;
 use graph_core::MultiGraph;
 use grow_gen::grow;
@@ -37,7 +37,7 @@ fn number_agrees(alloc: Global, number: u64) -> Result<bool, Memory> {
 
 // Whether the decomposition has five leaves, and each of them agrees.
 fn leaves_agree(alloc: Global, g: &MultiGraph) -> Result<bool, Memory> {
-    let pieces = leaf_graphs(alloc, g, Choice::FirstAlone)?;
+    let pieces = leaf_graphs(alloc, g, FIRST)?;
     let mut agree = pieces.len() == 5;
     for piece in &pieces {
         agree = agree && agrees(alloc, piece.graph())?;

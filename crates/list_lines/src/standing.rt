@@ -11,7 +11,7 @@ ghost use Rattle.list_lines.specs.Standings.{IsCounted, IsStanding, TellsReason,
 
 use crate::query::Property;
 use allowed_edges::{covered, covered_in};
-use decomposer::{Refused, decompose_first};
+use decomposer::{NamedOrder, Refused, decompose};
 use graph_core::{Kind, MultiGraph, Reason, Verdict};
 use leaf_kinds::kind_in;
 use match_core::{PartnerTable, maximum, partners};
@@ -177,7 +177,7 @@ pub fn counted(alloc: Global, g: &MultiGraph) -> Result<Tally, Memory>
     requires { IsCovered g.now }
     ensures { IfOk result (IsCounted g.now) }
 {
-    match decompose_first(alloc, g) {
+    match decompose(alloc, g, &NamedOrder::First) {
         Ok(tree) => {
             let tally = tally_of_tree(alloc, g, &tree)?;
             Ok(tally)
