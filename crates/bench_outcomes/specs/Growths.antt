@@ -14,8 +14,8 @@ use Rattle.move_laws.specs.Pairings.{IsPairing}
 use Rattle.report_text.specs.Growths.{grown_text}
 use Rattle.tree_core.specs.Tallies.{IsTally}
 use Rattle.tree_core.specs.declared.tallies.Tally.{Tally}
-use Rattle.bench_outcomes.specs.Orders.{NamedPicks}
-use Rattle.bench_tasks.specs.declared.command.NamedOrder.TheVariants.{First, Last}
+use Rattle.decomposer.specs.Orders.{NamedPicks}
+use Rattle.decomposer.specs.declared.orders.NamedOrder.TheVariants.{First, Last}
 use Rattle.bench_outcomes.specs.declared.status.Status.{Status}
 use Rattle.bench_outcomes.specs.declared.status.Status.TheVariants.{Done}
 

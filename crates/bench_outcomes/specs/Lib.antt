@@ -1,5 +1,4 @@
 pub mod Codes
-pub mod Orders
 pub mod Shown
 pub mod Conducts
 pub mod Facts

@@ -16,6 +16,7 @@ use Rattle.tree_core.specs.Leaves.{leaves}
 use Rattle.tree_core.specs.Shapes.{Shape}
 use Rattle.tree_text.specs.TreeFormat.{tree_format}
 use Rattle.tree_text.specs.Writing.{tree_text}
+use Rattle.decomposer.specs.Orders.{NamedPicks, ScriptPicks}
 use Rattle.decomposer.specs.Picked.{IsPicked}
 use Rattle.report_text.specs.Analyses.{analysis_text}
 use Rattle.report_text.specs.Derivations.{derivation_text}
@@ -24,7 +25,6 @@ use Rattle.tree_core.specs.Tallies.{AreLeafKinds}
 use Rattle.report_text.specs.declared.analyses.AnalysisLines.{AnalysisLines}
 use Rattle.tree_core.specs.declared.tallies.LeafKind.{LeafKind}
 use Rattle.bench_tasks.specs.Commands.{Command, command_of}
-use Rattle.bench_outcomes.specs.Orders.{NamedPicks, ScriptPicks}
 use Rattle.bench_outcomes.specs.Uncovered.{Uncovered}
 use Rattle.bench_outcomes.specs.Checks.{CheckGives}
 use Rattle.bench_outcomes.specs.EarChecks.{EarCheckGives, EarsGives}

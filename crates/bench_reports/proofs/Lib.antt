@@ -1,5 +1,4 @@
 pub mod Sizes
-pub mod PickedTrees
 pub mod GivenFacts
 pub mod ScriptMoves
 pub mod ScriptTexts

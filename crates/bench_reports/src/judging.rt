@@ -122,7 +122,7 @@ fn report_of(alloc: Global, task: Task) -> Result<Report, Memory>
         Task::Analyse { named } => analyse_report(alloc, &named),
         Task::Convert { named } => convert_report(alloc, named),
         Task::Analyse6 { simple } => analyse6_report(alloc, simple),
-        Task::Decompose { named, order } => decompose_report(alloc, &named, order),
+        Task::Decompose { named, order } => decompose_report(alloc, &named, &order),
         Task::DecomposeBy { named, picks } => decompose_by_report(alloc, &named, &picks),
         Task::Check { given } => check_report(alloc, &given.named.graph, &given.tree),
         Task::CheckEars { given } => checkears_report(alloc, &given.named.graph, &given.list),

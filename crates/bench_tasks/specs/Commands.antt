@@ -5,8 +5,8 @@ use Rattle.std.specs.declared.option.Option.TheVariants.{Some, None}
 use Rattle.std.specs.Option.{option_map}
 use Rattle.std.specs.Str.{bytes_eq}
 use Rattle.line_text.specs.Numerals.{is_number, value_of}
-use Rattle.bench_tasks.specs.declared.command.NamedOrder.{NamedOrder}
-use Rattle.bench_tasks.specs.declared.command.NamedOrder.TheVariants.{First, Last, Balanced}
+use Rattle.decomposer.specs.Orders.{order_named}
+use Rattle.decomposer.specs.declared.orders.NamedOrder.{NamedOrder}
 
 -- a command with the names of its files and its numbers
 pub data Command : Type 0 where
@@ -30,13 +30,6 @@ graph_command word graph =
     if bytes_eq word (codes "convert") then Some (Convert graph) else
     if bytes_eq word (codes "analyse6") then Some (Analyse6 graph) else
     if bytes_eq word (codes "ears") then Some (Ears graph) else None
-
--- the order of choice that a word names, if it names one
-abbrev pub order_named : List ℕ → Option NamedOrder
-order_named word =
-    if bytes_eq word (codes "first") then Some First else
-    if bytes_eq word (codes "last") then Some Last else
-    if bytes_eq word (codes "balanced") then Some Balanced else None
 
 -- the command that a word, the name of a file and the word of an order ask for
 abbrev pub order_command : List ℕ → List ℕ → List ℕ → Option Command

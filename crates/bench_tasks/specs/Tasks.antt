@@ -5,7 +5,7 @@ use Rattle.graph_text.specs.EitherVersion.{NamedGraph}
 use Rattle.tree_core.specs.Shapes.{Shape}
 use Rattle.tree_core.specs.Moves.{PlainMove}
 use Rattle.ear_core.specs.EarLists.{PlainEars}
-use Rattle.bench_tasks.specs.declared.command.NamedOrder.{NamedOrder}
+use Rattle.decomposer.specs.declared.orders.NamedOrder.{NamedOrder}
 
 pub data Task : Type 0 where
   Analyse : (named : NamedGraph) → Task

@@ -2,14 +2,7 @@
 ghost use Rattle.std.specs.Prelude.{◌≤◌};
 ghost use Rattle.bench_tasks.specs.Commands.{most_pieces};
 
-/// A named order of choice: at each node the first candidate is picked, the last, or the first of those whose sides differ least in
-/// size.
-#[derive(Clone, Copy, Debug, PartialEq, Eq)]
-pub enum NamedOrder {
-    First,
-    Last,
-    Balanced,
-}
+use decomposer::NamedOrder;
 
 /// What a graph grows from.
 #[derive(Clone, Copy)]

@@ -15,10 +15,11 @@ ghost use Rattle.bench_tasks.specs.Loads.{Loads, given_tree, given_trees, given_
 ghost use Rattle.bench_tasks.specs.Reads.{ReadsAs, StopsAt, file_names};
 ghost use Rattle.bench_tasks.specs.Refusing.{MayRefuse, GatheredMayRefuse};
 
-use crate::command::{Command, NamedOrder};
+use crate::command::Command;
 use crate::formats::{EarFile, FileFormat, Graph6File, GraphFile, MoveFile, PickFile, TreeFile};
 use crate::stop::Stop;
 use crate::tasks::{GivenEars, GivenMoves, GivenTree, GivenTrees, Task};
+use decomposer::NamedOrder;
 use ear_core::EarList;
 use graph_core::MultiGraph;
 use outside::{Shelf, ShelfFault};

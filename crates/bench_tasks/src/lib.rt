@@ -15,7 +15,7 @@ mod stop;
 mod tasks;
 mod words;
 
-pub use command::{Command, Growth, NamedOrder};
+pub use command::{Command, Growth};
 pub use gathering::gather;
 pub use stop::Stop;
 pub use tasks::{GivenEars, GivenMoves, GivenTree, GivenTrees, SimpleGraph, Task};

@@ -8,7 +8,8 @@ ghost use Rattle.move_text.specs.MoveFormat.{most_moves};
 ghost use Rattle.ear_core.specs.EarLists.{FitsEars};
 ghost use Rattle.ear_core.specs.View.{ears_of};
 
-use crate::command::{Growth, NamedOrder};
+use crate::command::Growth;
+use decomposer::NamedOrder;
 use ear_core::EarList;
 use graph_core::{MultiGraph, Numbers};
 use graph_text::Named;

@@ -1,24 +1,13 @@
 //! What the words ask for: one command for each row of the table of words.
 ghost use Rattle.std.specs.Prelude.{◌≡◌, map, string_bytes};
 ghost use Rattle.std.specs.Option.{option_map};
-ghost use Rattle.bench_tasks.specs.Commands.{command_of, graph_command, grow_command, order_named, pair_command, triple_command};
+ghost use Rattle.bench_tasks.specs.Commands.{command_of, graph_command, grow_command, pair_command, triple_command};
 ghost use Rattle.bench_tasks.specs.Asked.{asked};
 
-use crate::command::{Command, Growth, NamedOrder};
+use crate::command::{Command, Growth};
+use decomposer::NamedOrder;
 use grow_gen::MOST_PIECES;
 use line_text::number;
-
-// The order that the word names, if it names one.
-fn order_named(word: &str) -> Option<NamedOrder>
-    ensures { result ≡ order_named word.now }
-{
-    match word {
-        "first" => Some(NamedOrder::First),
-        "last" => Some(NamedOrder::Last),
-        "balanced" => Some(NamedOrder::Balanced),
-        _ => None,
-    }
-}
 
 // The command to grow a graph from the numbers that the two words write, if they write such numbers.
 fn grow_command<'a>(seed: &str, pieces: &str) -> Option<Command<'a>>
@@ -62,7 +51,7 @@ fn pair_command<'a>(word: &str, graph: &'a str, second: &'a str) -> Option<Comma
             ears: second,
         }),
         "grow" => grow_command(graph, second),
-        "decompose" => match order_named(second) {
+        "decompose" => match NamedOrder::of_word(second) {
             Some(order) => Some(Command::Decompose { graph, order }),
             None => None,
         },

@@ -32,13 +32,13 @@ use Rattle.bench_top.specs.Fixed.{DifferAtMostIn, HasChosenText, HasOneOutput, M
 use Rattle.bench_outcomes.specs.Shown.{MayBeBerge}
 use Rattle.bench_outcomes.specs.Growths.{Grown, IsCounted}
 use Rattle.bench_tasks.specs.Loading.{Loaded, All, Bad, Absent, loaded}
-use Rattle.bench_outcomes.specs.Orders.{NamedPicks, ScriptPicks}
+use Rattle.decomposer.specs.Orders.{NamedPicks, ScriptPicks}
 use Rattle.bench_outcomes.specs.Outcome.{Analysed, Analysed6, CommandGives, DecomposeGives, LoadedGives, Outcome, ResultOf, TellsDerivation, with_given_names}
 use Rattle.bench_outcomes.specs.Replays.{ReplayGives, ReplayedTree}
 use Rattle.bench_tasks.specs.Tasks.{Task}
 use Rattle.bench_tasks.specs.Tasks as task
-use Rattle.bench_tasks.specs.declared.command.NamedOrder.{NamedOrder}
-use Rattle.bench_tasks.specs.declared.command.NamedOrder.TheVariants.{First, Last}
+use Rattle.decomposer.specs.declared.orders.NamedOrder.{NamedOrder}
+use Rattle.decomposer.specs.declared.orders.NamedOrder.TheVariants.{First, Last}
 use Rattle.bench_outcomes.specs.declared.status.Status.{Status}
 use Rattle.bench_outcomes.specs.declared.status.Status.TheVariants.{Done, Negative, BadInput}
 use Rattle.bench_top.proofs.AlikeAnalyses.{analyses-alike}

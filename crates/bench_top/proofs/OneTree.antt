@@ -19,9 +19,9 @@ use Rattle.tree_core.specs.Tallies.{AreLeafKinds, IsLeafKind, IsTally, kind_at, 
 use Rattle.tree_core.specs.declared.tallies.LeafKind.{LeafKind}
 use Rattle.tree_core.specs.declared.tallies.LeafKind.TheVariants.{Brick, Brace}
 use Rattle.tree_core.specs.declared.tallies.Tally.{Tally}
-use Rattle.bench_outcomes.specs.Orders.{NamedPicks, ScriptPicks}
-use Rattle.bench_tasks.specs.declared.command.NamedOrder.{NamedOrder}
-use Rattle.bench_tasks.specs.declared.command.NamedOrder.TheVariants.{First, Last, Balanced}
+use Rattle.decomposer.specs.Orders.{NamedPicks, ScriptPicks}
+use Rattle.decomposer.specs.declared.orders.NamedOrder.{NamedOrder}
+use Rattle.decomposer.specs.declared.orders.NamedOrder.TheVariants.{First, Last, Balanced}
 
 -- an order that picks one place
 abbrev pub PicksOnce : (List Candidate → ℕ → ℕ → Type 0) → Type 0

@@ -22,7 +22,8 @@ use Rattle.tree_check.proofs.ReplaySteps.{reached-derivation}
 use Rattle.move_text.specs.MoveFormat.{move_format}
 use Rattle.move_text.proofs.MovesRead.{writable-read}
 use Rattle.ear_text.specs.EarFormat.{ear_format}
-use Rattle.bench_tasks.specs.Commands.{Command, Check, CheckEars, Decompose, Ears, Grow, command_of, most_pieces, order_named}
+use Rattle.bench_tasks.specs.Commands.{Command, Check, CheckEars, Decompose, Ears, Grow, command_of, most_pieces}
+use Rattle.decomposer.specs.Orders.{order_named}
 use Rattle.bench_outcomes.specs.EarChecks.{EarsGives}
 use Rattle.bench_outcomes.specs.Growths.{Grown}
 use Rattle.bench_tasks.specs.Loading.{Loaded, All, Bad, Absent, and_then, ear_file, file_read, from_reading, graph_file, loaded, loaded_as, most_bytes, move_file, moves_given, pick_file, tree_file, tree_given}
@@ -31,8 +32,8 @@ use Rattle.bench_outcomes.specs.Replays.{ReplayGives}
 use Rattle.bench_top.specs.RoundTrips.{AsksDone}
 use Rattle.bench_tasks.specs.Tasks.{Task}
 use Rattle.bench_tasks.specs.Tasks as task
-use Rattle.bench_tasks.specs.declared.command.NamedOrder.{NamedOrder}
-use Rattle.bench_tasks.specs.declared.command.NamedOrder.TheVariants.{First}
+use Rattle.decomposer.specs.declared.orders.NamedOrder.{NamedOrder}
+use Rattle.decomposer.specs.declared.orders.NamedOrder.TheVariants.{First}
 use Rattle.bench_outcomes.specs.declared.status.Status.TheVariants.{Done}
 use Rattle.bench_top.proofs.FileReads.{file_read-value}
 use Rattle.bench_outcomes.proofs.GrownSizes.{few-edges, few-vertices, grown-multigraph}

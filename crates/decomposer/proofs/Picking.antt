@@ -1,6 +1,6 @@
--- Steps of a decomposition. A candidate at a partition is a cut there; its shores may be passed to an order; and a cut with two trees
--- is the tree that the order picks, and a derivation, where both trees are.
-use Rattle.std.proofs.Common.{◌≡◌, ℕ, zero, suc, ◌+◌, ◌≤◌, ◌<◌, ◌^◌, List, [], ◌∷◌, length, map, All, get_or, refl, sym, ap, ◌∙◌, arith, subst, slice_get, Some, true, false, ◌==◌, ◌↔◌, eqb-true, ◌*◌}
+-- Steps of a decomposition. A candidate at a partition is a cut there; where an order takes the first candidate, its shore is picked;
+-- and a cut with two trees is the tree that the order picks, and a derivation, where both trees are.
+use Rattle.std.proofs.Common.{◌≡◌, ℕ, zero, suc, ◌+◌, ◌≤◌, ◌<◌, ◌^◌, List, [], ◌∷◌, length, map, All, get_or, refl, sym, ap, ◌∙◌, arith, subst, slice_get, Option, Some, true, false, ◌==◌, ◌↔◌, eqb-true, ◌*◌}
 use Rattle.std.proofs.lemmas.Bool.{both_ways}
 use Rattle.std.proofs.lemmas.List.{length-map, nil_from_length}
 use Rattle.std.proofs.lemmas.Option.{get_or_from_slice_get, slice_get_within}
@@ -20,23 +20,9 @@ use Rattle.tight_cuts.specs.View.{candidate_of}
 use Rattle.tight_cuts.specs.declared.candidate.Candidate.{Candidate as StoredCandidate}
 use Rattle.tree_core.specs.Shapes.{Shape, cut, cut_count}
 use Rattle.tree_core.specs.Derivations.{IsCutAt, IsDerivationAt, IsLeafAt, kept_at, merged_at}
-use Rattle.decomposer.specs.Choices.{IsChoice, IsPassed}
-use Rattle.decomposer.specs.Picked.{IsPickedAt, PicksShore}
-
--- the candidates can be passed to an order
-pub passed : (g : Graph) (p : List (List ℕ)) (stored : List StoredCandidate) → g.order ≤ 128 → length p ≤ 128 → All (IsCandidateAt g p) (map candidate_of stored) → All IsPassed stored
-passed g p stored few blocks all k d l = go stored all k l
-  where
-    go : (stored : List StoredCandidate) → All (IsCandidateAt g p) (map candidate_of stored) → (k : ℕ) → k < length stored → IsPassed (get_or stored k d)
-    go [] all k l = absurd (omega arith)
-    go (s ∷ stored) all zero l =
-        let c = all 0 (candidate_of s) (omega arith) in
-        let inside = count_le (length p) (blocks_in p (mem s.shore)) in
-        let outside = count_le (length p) (complement (blocks_in p (mem s.shore))) in
-        let is_inside = c.inside in
-        let is_outside = c.outside in
-        (set-wider g.order 128 s.shore few c.rising, omega arith, omega arith)
-    go (s ∷ stored) all (suc k) l = go stored (λ j e m. all (suc j) e (omega arith)) k (omega arith)
+use Rattle.decomposer.specs.Orders.{NamedPicks}
+use Rattle.decomposer.specs.Picked.{IsPickedAt, IsPickedShore, PicksShore}
+use Rattle.decomposer.specs.declared.orders.NamedOrder.TheVariants.{First}
 
 -- a candidate is a cut
 pub cut-from_candidate : (g : Graph) (p : List (List ℕ)) (c : Candidate) → IsCandidateAt g p c → IsCutAt g p c.shore
@@ -68,15 +54,9 @@ pub leaf-from_none : (g : Graph) (p : List (List ℕ)) (list : List Candidate) �
 unfolding IsLeafAt
 leaf-from_none g p list none is = none.0 (nil_from_length list (eqb-true (length list) 0 is))
 
--- what is asked is a choice
-pub is-choice : (g : Graph) (p : List (List ℕ)) (stored : List StoredCandidate) (list : List Candidate) (before : ℕ) → g.order ≤ 128 → IsPartition g.order p → map candidate_of stored ≡ list → All (IsCandidateAt g p) list →
-    length stored * 32 < 2 ^ 63 → before < 2 ^ 64 → (length list == 0) ≡ false → IsChoice stored before
-is-choice g p stored list before few pp shows all room fits some = record {
-  some = let l = length-map stored candidate_of in let e = ap length shows in positive (length stored) (ap (λ k. k == 0) (sym l ∙ e) ∙ some);
-  few = omega arith;
-  count = fits;
-  each = passed g p stored few (let l = length-partition g.order p pp in omega arith) (subst (All (IsCandidateAt g p)) (sym shows) all);
-}
+-- a list that is not empty has a candidate in store
+pub some-stored : (stored : List StoredCandidate) (list : List Candidate) → map candidate_of stored ≡ list → (length list == 0) ≡ false → 0 < length stored
+some-stored stored list shows some = let l = length-map stored candidate_of in let e = ap length shows in positive (length stored) (ap (λ k. k == 0) (sym l ∙ e) ∙ some)
   where
     positive : (k : ℕ) → (k == 0) ≡ false → 0 < k
     positive zero e = absurd (both_ways true e refl)
@@ -84,6 +64,19 @@ is-choice g p stored list before few pp shows all room fits some = record {
 
 pub stored-length : (stored : List StoredCandidate) (list : List Candidate) (place : ℕ) → map candidate_of stored ≡ list → place < length stored → place < length list
 stored-length stored list place shows l = let a = length-map stored candidate_of in let e = ap length shows in omega arith
+
+-- where an order takes the first candidate, the shore that the order of the first candidates picks is one that it picks
+pub first-picked : (picks : List Candidate → ℕ → ℕ → Type 0) (g : Graph) (p : List (List ℕ)) (k : ℕ) (o : Option (List ℕ)) → ((list : List Candidate) → 0 < length list → picks list k 0) →
+    IsPickedShore (NamedPicks First) g p k o → IsPickedShore picks g p k o
+first-picked picks g p k o takes is = record {
+  none = is.none;
+  leaf = is.leaf;
+  picked = λ x same.
+      let at = is.picked x same in
+      let within = slice_get_within (candidates_at g p) at.0 at.1 at.3 in
+      (0, at.1, takes (candidates_at g p) (omega arith), subst (λ i. slice_get (candidates_at g p) i ≡ Some at.1) at.2 at.3, at.4);
+  cut = is.cut;
+}
 
 -- the numbers of blocks below a cut, of which so many are in the shore and so many are not
 module _ (g : Graph) (p : List (List ℕ)) (x : List ℕ) (cuts : IsCutAt g p x) where

@@ -15,16 +15,14 @@ ghost use Rattle.tree_core.specs.Derivations.{
 };
 ghost use Rattle.tree_core.specs.Shapes.{cut, cut_count};
 ghost use Rattle.tree_core.specs.View.{shape_of};
-ghost use Rattle.decomposer.specs.Choices.{FnPicks, PicksInRange};
-ghost use Rattle.decomposer.specs.Picked.{IsPicked, IsPickedAt, PicksFirst};
+ghost use Rattle.decomposer.specs.Picked.{IsPicked, IsPickedAt};
 
 use crate::orders::Order;
-use crate::pickers::{FirstPicker, Picker};
+use crate::shores::picked_shore;
 use allowed_edges::covered;
 use contraction::Partition;
 use graph_core::{MultiGraph, Reason, Verdict};
 use std::alloc::{AllocError, Global};
-use tight_cuts::Candidate;
 use tree_core::{Tree, kept_partition, merged_partition, root_partition};
 use vset_core::VSet;
 
@@ -33,43 +31,16 @@ use vset_core::VSet;
 pub enum Refused {
     /// The graph is not matching covered, for this reason.
     NotCovered(Reason),
-    /// Want of memory.
+    /// There is not enough memory.
     Memory,
 }
 
 /// The tree of tight cuts that `order` picks from `g`. At the node with k cuts before it in preorder the order is asked with the
-/// candidates there and with k; the node is the cut of the candidate that it picks, and a leaf exactly where there is none.
-/// `NotCovered` comes exactly where `g` is not matching covered, with the first reason.
-pub fn decompose<F: Fn(&[Candidate], usize) -> usize>(
-    alloc: Global,
-    g: &MultiGraph,
-    order: &Order<F>,
-) -> Result<Tree, Refused>
-    requires { PicksInRange F.Fn order.now.f }
+/// candidates there and with k; the node is the cut of the candidate that it picks, and a leaf if and only if there is none.
+/// `NotCovered` comes if and only if `g` is not matching covered, with the first reason.
+pub fn decompose<O: Order>(alloc: Global, g: &MultiGraph, order: &O) -> Result<Tree, Refused>
     ensures derivation { IfOk result (λ tree. IsDerivation g.now (shape_of tree)) }
-    ensures picked { IfOk result
-        (λ tree. IsPicked (FnPicks F.Fn order.now.f) g.now (shape_of tree)) }
-    ensures reason { (r : _) → result ≡ Err (Refused.NotCovered r) → IsReason g.now (reason_of r) }
-    ensures uncovered { (r : _) → result ≡ Err (Refused.NotCovered r) → ¬ IsCovered g.now }
-{
-    decompose_by(alloc, g, order)
-}
-
-/// What `decompose` answers where the order picks the first candidate at each node. At a node no other candidate is looked for.
-pub fn decompose_first(alloc: Global, g: &MultiGraph) -> Result<Tree, Refused>
-    ensures derivation { IfOk result (λ tree. IsDerivation g.now (shape_of tree)) }
-    ensures picked { IfOk result (λ tree. IsPicked PicksFirst g.now (shape_of tree)) }
-    ensures reason { (r : _) → result ≡ Err (Refused.NotCovered r) → IsReason g.now (reason_of r) }
-    ensures uncovered { (r : _) → result ≡ Err (Refused.NotCovered r) → ¬ IsCovered g.now }
-{
-    decompose_by(alloc, g, &FirstPicker)
-}
-
-// The tree that the picker picks.
-fn decompose_by<P: Picker>(alloc: Global, g: &MultiGraph, picker: &P) -> Result<Tree, Refused>
-    requires { P.is_ready picker.now }
-    ensures derivation { IfOk result (λ tree. IsDerivation g.now (shape_of tree)) }
-    ensures picked { IfOk result (λ tree. IsPicked (P.picks picker.now) g.now (shape_of tree)) }
+    ensures picked { IfOk result (λ tree. IsPicked (O.picks order.now) g.now (shape_of tree)) }
     ensures reason { (r : _) → result ≡ Err (Refused.NotCovered r) → IsReason g.now (reason_of r) }
     ensures uncovered { (r : _) → result ≡ Err (Refused.NotCovered r) → ¬ IsCovered g.now }
 {
@@ -77,26 +48,21 @@ fn decompose_by<P: Picker>(alloc: Global, g: &MultiGraph, picker: &P) -> Result<
     match covered(alloc, g) {
         Err(_) => Err(Refused::Memory),
         Ok(Verdict::NotCovered(reason)) => Err(Refused::NotCovered(reason)),
-        Ok(Verdict::Covered) => match decompose_covered(alloc, g, picker) {
+        Ok(Verdict::Covered) => match decompose_covered(alloc, g, order) {
             Ok(tree) => Ok(tree),
             Err(_) => Err(Refused::Memory),
         },
     }
 }
 
-// The tree that the picker picks from a covered graph.
-fn decompose_covered<P: Picker>(
-    alloc: Global,
-    g: &MultiGraph,
-    picker: &P,
-) -> Result<Tree, AllocError>
-    requires ready { P.is_ready picker.now }
-    requires covered { IsCovered g.now }
+// The tree that the order picks from a covered graph.
+fn decompose_covered<O: Order>(alloc: Global, g: &MultiGraph, order: &O) -> Result<Tree, AllocError>
+    requires { IsCovered g.now }
     ensures derivation { IfOk result (λ tree. IsDerivation g.now (shape_of tree)) }
-    ensures picked { IfOk result (λ tree. IsPicked (P.picks picker.now) g.now (shape_of tree)) }
+    ensures picked { IfOk result (λ tree. IsPicked (O.picks order.now) g.now (shape_of tree)) }
 {
     let root = root_partition(alloc, g)?;
-    let (tree, _) = decompose_at(alloc, g, picker, &root, 0)?;
+    let (tree, _) = decompose_at(alloc, g, order, &root, 0)?;
     Ok(tree)
 }
 
@@ -111,31 +77,30 @@ fn cut_tree(alloc: Global, shore: VSet, kept: Tree, merged: Tree) -> Result<Tree
     })
 }
 
-// The tree that the picker picks at p with so many cuts before it, and the number of cuts before what follows it.
+// The tree that the order picks at p with so many cuts before it, and the number of cuts before what follows it.
 #[cycle(decomposing)]
-fn decompose_at<P: Picker>(
+fn decompose_at<O: Order>(
     alloc: Global,
     g: &MultiGraph,
-    picker: &P,
+    order: &O,
     p: &Partition,
     before: usize,
 ) -> Result<(Tree, usize), AllocError>
-    requires ready { P.is_ready picker.now }
     requires partition { p.now.order ≡ g.now.order }
     requires covered { IsCovered (quotient g.now p.now.blocks) }
     requires few { before + length p.now.blocks ≤ 256 }
     ensures derives { IfOk result (λ made. IsDerivationAt g.now p.now.blocks (shape_of made.0)) }
     ensures picked { IfOk result
-        (λ made. IsPickedAt (P.picks picker.now) g.now p.now.blocks before (shape_of made.0)) }
+        (λ made. IsPickedAt (O.picks order.now) g.now p.now.blocks before (shape_of made.0)) }
     ensures after { IfOk result (λ made. made.1 ≡ before + cut_count (shape_of made.0)) }
     ensures few { IfOk result
         (λ made. 4 ≤ length p.now.blocks → cut_count (shape_of made.0) + 3 ≤ length p.now.blocks) }
 {
-    match picker.pick_shore(alloc, g, p, before)? {
+    match picked_shore(alloc, g, order, p, before)? {
         None => Ok((Tree::Leaf, before)),
         Some(shore) => {
-            let (kept, between) = decompose_kept(alloc, g, picker, p, before + 1, shore)?;
-            let (merged, after) = decompose_merged(alloc, g, picker, p, between, shore)?;
+            let (kept, between) = decompose_kept(alloc, g, order, p, before + 1, shore)?;
+            let (merged, after) = decompose_merged(alloc, g, order, p, between, shore)?;
             let tree = cut_tree(alloc, shore, kept, merged)?;
             Ok((tree, after))
         }
@@ -144,42 +109,40 @@ fn decompose_at<P: Picker>(
 
 // The tree of the side that is kept below the cut of the shore at p.
 #[cycle(decomposing)]
-fn decompose_kept<P: Picker>(
+fn decompose_kept<O: Order>(
     alloc: Global,
     g: &MultiGraph,
-    picker: &P,
+    order: &O,
     p: &Partition,
     before: usize,
     shore: VSet,
 ) -> Result<(Tree, usize), AllocError>
-    requires ready { P.is_ready picker.now }
     requires partition { p.now.order ≡ g.now.order }
     requires covered { IsCovered (quotient g.now p.now.blocks) }
     requires cut { IsCutAt g.now p.now.blocks shore }
     requires few { before + count (length p.now.blocks) (blocks_in p.now.blocks (mem shore)) ≤ 255 }
     ensures derives { IfOk result (λ made.
         IsDerivationAt g.now (kept_at g.now.order p.now.blocks shore) (shape_of made.0)) }
-    ensures picked { IfOk result (λ made. IsPickedAt (P.picks picker.now) g.now
+    ensures picked { IfOk result (λ made. IsPickedAt (O.picks order.now) g.now
         (kept_at g.now.order p.now.blocks shore) before (shape_of made.0)) }
     ensures after { IfOk result (λ made. made.1 ≡ before + cut_count (shape_of made.0)) }
     ensures few { IfOk result (λ made. cut_count (shape_of made.0) + 2 ≤
         count (length p.now.blocks) (blocks_in p.now.blocks (mem shore))) }
 {
     let kept_at = kept_partition(alloc, g, p, shore)?;
-    decompose_at(alloc, g, picker, &kept_at, before)
+    decompose_at(alloc, g, order, &kept_at, before)
 }
 
 // The tree of the side that is merged below the cut of the shore at p.
 #[cycle(decomposing)]
-fn decompose_merged<P: Picker>(
+fn decompose_merged<O: Order>(
     alloc: Global,
     g: &MultiGraph,
-    picker: &P,
+    order: &O,
     p: &Partition,
     before: usize,
     shore: VSet,
 ) -> Result<(Tree, usize), AllocError>
-    requires ready { P.is_ready picker.now }
     requires partition { p.now.order ≡ g.now.order }
     requires covered { IsCovered (quotient g.now p.now.blocks) }
     requires cut { IsCutAt g.now p.now.blocks shore }
@@ -187,12 +150,12 @@ fn decompose_merged<P: Picker>(
         255 + count (length p.now.blocks) (blocks_in p.now.blocks (mem shore)) }
     ensures derives { IfOk result (λ made.
         IsDerivationAt g.now (merged_at g.now.order p.now.blocks shore) (shape_of made.0)) }
-    ensures picked { IfOk result (λ made. IsPickedAt (P.picks picker.now) g.now
+    ensures picked { IfOk result (λ made. IsPickedAt (O.picks order.now) g.now
         (merged_at g.now.order p.now.blocks shore) before (shape_of made.0)) }
     ensures after { IfOk result (λ made. made.1 ≡ before + cut_count (shape_of made.0)) }
     ensures few { IfOk result (λ made. cut_count (shape_of made.0) + 2 +
         count (length p.now.blocks) (blocks_in p.now.blocks (mem shore)) ≤ length p.now.blocks) }
 {
     let merged_at = merged_partition(alloc, g, p, shore)?;
-    decompose_at(alloc, g, picker, &merged_at, before)
+    decompose_at(alloc, g, order, &merged_at, before)
 }

@@ -1,12 +1,10 @@
-//! Decompositions in the orders that have names, and the graphs of their leaves, for the tests that need a derivation.
-ghost use Rattle.std.specs.Prelude.{◌≡◌, ◌<◌, ◌-◌, length, IfOk, Some};
+//! Decompositions in several orders, and the graphs of their leaves, for the tests that need a derivation.
+ghost use Rattle.std.specs.Prelude.{◌≡◌, ◌<◌, ℕ, length, IfOk, Some};
 ghost use Rattle.tree_core.specs.Derivations.{IsDerivation};
 ghost use Rattle.tree_core.specs.View.{shape_of};
 
 use contraction::{Contracted, quotient};
-use decomposer::{
-    Order, Refused, balanced_place, decompose, decompose_first, first_place, last_place,
-};
+use decomposer::{ByFunction, NamedOrder, Refused, Scripted, decompose};
 use graph_core::MultiGraph;
 use std::alloc::{AllocError as Memory, Global};
 use tight_cuts::Candidate;
@@ -16,45 +14,38 @@ use tree_core::{Tree, leaves};
 /// An order of choice.
 #[derive(Clone, Copy)]
 pub enum Choice {
-    First,
-    /// The first candidate, where no other is looked for.
-    FirstAlone,
-    Last,
-    Balanced,
+    /// An order that has a name.
+    Named(NamedOrder),
+    /// The order of a list of picks, with one for the root: the candidate at place 2, of three.
+    Scripted,
+    /// The order of a function that answers a place past the end of the list. So the first candidate is picked.
+    PastTheEnd,
 }
 
-// The place of the first candidate.
-fn first_of(list: &[Candidate], cuts: usize) -> usize
-    ensures { result ≡ 0 }
-{
-    first_place(list, cuts)
-}
+/// The order of the first candidates.
+pub const FIRST: Choice = Choice::Named(NamedOrder::First);
 
-// The place of the last candidate.
-fn last_of(list: &[Candidate], cuts: usize) -> usize
-    requires { 0 < length list.now }
-    ensures { result ≡ length list.now - 1 }
-{
-    last_place(list, cuts)
-}
-
-// The place of the first candidate with the least difference between inside and outside.
-fn balanced_of(list: &[Candidate], cuts: usize) -> usize
-    requires { 0 < length list.now }
-    ensures { result < length list.now }
-{
-    balanced_place(list, cuts)
-}
+/// The order of the last candidates.
+pub const LAST: Choice = Choice::Named(NamedOrder::Last);
 
 /// The decomposition of a graph in an order.
 pub fn decomposed(alloc: Global, g: &MultiGraph, choice: Choice) -> Result<Tree, Refused>
     ensures { IfOk result (λ tree. IsDerivation g.now (shape_of tree)) }
 {
     match choice {
-        Choice::First => decompose(alloc, g, &Order::new(first_of)),
-        Choice::FirstAlone => decompose_first(alloc, g),
-        Choice::Last => decompose(alloc, g, &Order::new(last_of)),
-        Choice::Balanced => decompose(alloc, g, &Order::new(balanced_of)),
+        Choice::Named(order) => decompose(alloc, g, &order),
+        Choice::Scripted => decompose(alloc, g, &Scripted { picks: &[2] }),
+        Choice::PastTheEnd => decomposed_past_the_end(alloc, g),
+    }
+}
+
+// The decomposition in the order of a function that answers a place past the end of the list.
+fn decomposed_past_the_end(alloc: Global, g: &MultiGraph) -> Result<Tree, Refused>
+    ensures { IfOk result (λ tree. IsDerivation g.now (shape_of tree)) }
+{
+    match Box::new(alloc, |list: &[Candidate], _cuts: usize| list.len()) {
+        Ok(function) => decompose(alloc, g, &ByFunction::new(function)),
+        Err(_) => Err(Refused::Memory),
     }
 }
 

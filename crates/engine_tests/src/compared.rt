@@ -2,7 +2,7 @@
 ghost use Rattle.tree_core.specs.Derivations.{IsDerivation};
 ghost use Rattle.tree_core.specs.View.{shape_of};
 
-use crate::choices::{Choice, derived};
+use crate::choices::{FIRST, LAST, derived};
 use crate::made::made;
 use graph_core::MultiGraph;
 use plain_graph::CYCLE_OF_8;
@@ -73,13 +73,13 @@ fn turns_into(
 
 // Whether the derivation by the first candidates is like itself, and turns into that by the last.
 fn first_turns_into_last(alloc: Global, g: &MultiGraph) -> Result<bool, Memory> {
-    let Some(first) = derived(alloc, g, Choice::First)? else {
+    let Some(first) = derived(alloc, g, FIRST)? else {
         return Ok(false);
     };
     if !is_like_itself(alloc, g, &first)? {
         return Ok(false);
     }
-    match derived(alloc, g, Choice::Last)? {
+    match derived(alloc, g, LAST)? {
         Some(second) => turns_into(alloc, g, first, &second, 3),
         None => Ok(false),
     }
@@ -117,10 +117,10 @@ fn root_exposed(
 
 // Whether the root shore of the derivation by the last candidates is exposed in that by the first.
 fn last_exposed_in_first(alloc: Global, g: &MultiGraph) -> Result<bool, Memory> {
-    let Some(second) = derived(alloc, g, Choice::Last)? else {
+    let Some(second) = derived(alloc, g, LAST)? else {
         return Ok(false);
     };
-    match derived(alloc, g, Choice::First)? {
+    match derived(alloc, g, FIRST)? {
         Some(first) => root_exposed(alloc, g, first, &second, 3),
         None => Ok(false),
     }

@@ -1,5 +1,5 @@
 //! Generated graphs and the leaves of their decomposition: the quick tests beside the complete finder, and their ear lists.
-use crate::choices::{Choice, leaf_graphs};
+use crate::choices::{FIRST, leaf_graphs};
 use allowed_edges::together;
 use ear_core::{EarJudgement, build_ears, check_ears};
 use graph_core::MultiGraph;
@@ -26,7 +26,7 @@ fn agrees(alloc: Global, g: &MultiGraph) -> Result<bool, Memory> {
 
 // Whether each of the leaves of the graph's decomposition, as many as wanted, agrees.
 fn leaves_agree(alloc: Global, g: &MultiGraph, many: usize) -> Result<bool, Memory> {
-    let pieces = leaf_graphs(alloc, g, Choice::First)?;
+    let pieces = leaf_graphs(alloc, g, FIRST)?;
     for piece in &pieces {
         if !agrees(alloc, piece.graph())? {
             return Ok(false);

@@ -1,8 +1,8 @@
-//! Worked graphs, each in the orders that have names.
+//! Worked graphs, each in several orders.
 
-use crate::choices::{Choice, decomposed};
+use crate::choices::{Choice, FIRST, LAST, decomposed};
 use crate::made::{made, set_of};
-use decomposer::Refused;
+use decomposer::{NamedOrder, Refused};
 use graph_core::Reason;
 use plain_graph::{HEXAGON, PATH, TRIANGLE_IN_K33};
 use std::alloc::Global;
@@ -32,15 +32,22 @@ fn is_leaf(tree: &Tree) -> bool {
 }
 
 // A graph, by its order and its edges, an order of choice, and the shore of the only cut.
-static ONE_CUT: [(u32, &[(u32, u32)], Choice, &[u32]); 8] = [
-    (6, &HEXAGON, Choice::First, &[2, 3, 4]),
-    (6, &HEXAGON, Choice::FirstAlone, &[2, 3, 4]),
-    (6, &HEXAGON, Choice::Last, &[1, 2, 3]),
-    (6, &HEXAGON, Choice::Balanced, &[2, 3, 4]),
-    (8, &TRIANGLE_IN_K33, Choice::First, &[1, 2, 3]),
-    (8, &TRIANGLE_IN_K33, Choice::FirstAlone, &[1, 2, 3]),
-    (8, &TRIANGLE_IN_K33, Choice::Last, &[1, 2, 3]),
-    (8, &TRIANGLE_IN_K33, Choice::Balanced, &[1, 2, 3]),
+static ONE_CUT: [(u32, &[(u32, u32)], Choice, &[u32]); 10] = [
+    (6, &HEXAGON, FIRST, &[2, 3, 4]),
+    (6, &HEXAGON, Choice::PastTheEnd, &[2, 3, 4]),
+    (6, &HEXAGON, LAST, &[1, 2, 3]),
+    (6, &HEXAGON, Choice::Named(NamedOrder::Balanced), &[2, 3, 4]),
+    (6, &HEXAGON, Choice::Scripted, &[1, 2, 3]),
+    (8, &TRIANGLE_IN_K33, FIRST, &[1, 2, 3]),
+    (8, &TRIANGLE_IN_K33, Choice::PastTheEnd, &[1, 2, 3]),
+    (8, &TRIANGLE_IN_K33, LAST, &[1, 2, 3]),
+    (
+        8,
+        &TRIANGLE_IN_K33,
+        Choice::Named(NamedOrder::Balanced),
+        &[1, 2, 3],
+    ),
+    (8, &TRIANGLE_IN_K33, Choice::Scripted, &[1, 2, 3]),
 ];
 
 // Whether the decomposition of the graph has one cut, with this shore.
@@ -69,7 +76,7 @@ fn graphs_with_one_cut(rt: HostRuntime) -> Result<(), Fail> {
 // Whether the graph is a leaf in the order of the first candidates.
 fn is_whole(alloc: Global, order: u32, edges: &[(u32, u32)]) -> Result<bool, Fail> {
     let g = made(alloc, order, edges)?;
-    match decomposed(alloc, &g, Choice::First) {
+    match decomposed(alloc, &g, FIRST) {
         Ok(tree) => Ok(is_leaf(&tree)),
         Err(_) => Ok(false),
     }
@@ -78,7 +85,7 @@ fn is_whole(alloc: Global, order: u32, edges: &[(u32, u32)]) -> Result<bool, Fai
 // Why the graph is refused; nothing where it is not.
 fn refusal(alloc: Global, order: u32, edges: &[(u32, u32)]) -> Result<Option<Reason>, Fail> {
     let g = made(alloc, order, edges)?;
-    match decomposed(alloc, &g, Choice::Last) {
+    match decomposed(alloc, &g, LAST) {
         Ok(_) => Ok(None),
         Err(Refused::NotCovered(reason)) => Ok(Some(reason)),
         Err(Refused::Memory) => Ok(None),

@@ -1,15 +1,12 @@
 //! The candidates beside those of the plain way by pairs: the same list in the same order, and its first.
 ghost use Rattle.std.specs.Prelude.{◌≤◌};
 
-use crate::choices::{Choice, leaf_graphs};
+use crate::choices::{FIRST, leaf_graphs};
 use crate::made::made;
 use graph_core::MultiGraph;
 use graph_facts::Covered;
 use grow_gen::grow;
-use plain_graph::{
-    CUBE, CYCLE_OF_8, DOUBLED_SQUARE, HEXAGON, K4, K33, PETERSEN, PRISM, TRIANGLE_IN_K33, TWO_K4,
-    graph_with, is_covered,
-};
+use plain_graph::{CUBE, CYCLE_OF_8, DOUBLED_SQUARE, HEXAGON, K4, K33, PETERSEN, PRISM, TRIANGLE_IN_K33, TWO_K4, graph_with, is_covered};
 use separation_kit::FirstPairs;
 use std::alloc::{AllocError as Memory, Global};
 use std::test::Fail;
@@ -40,7 +37,7 @@ fn number_agrees(alloc: Global, number: u64) -> Result<bool, Memory> {
 
 // Whether the decomposition has five leaves, and each of them agrees.
 fn leaves_agree(alloc: Global, g: &MultiGraph) -> Result<bool, Memory> {
-    let pieces = leaf_graphs(alloc, g, Choice::FirstAlone)?;
+    let pieces = leaf_graphs(alloc, g, FIRST)?;
     let mut agree = pieces.len() == 5;
     for piece in &pieces {
         agree = agree && agrees(alloc, piece.graph())?;

@@ -2,4 +2,3 @@ pub mod QuotientSides
 pub mod SimpleQuotients
 pub mod SingleLeaves
 pub mod LeafTexts
-pub mod PickedTrees

@@ -6,13 +6,15 @@ use Rattle.graph_core.specs.Covered.{IsCovered}
 use Rattle.graph_core.specs.Graph.{Graph}
 use Rattle.graph_core.specs.Quotients.{quotient}
 use Rattle.graph6_text.specs.Writing.{graph6_of}
+use Rattle.tree_core.specs.Derivations.{IsDerivation}
 use Rattle.tree_core.specs.Leaves.{leaves}
 use Rattle.tree_core.specs.Shapes.{Shape}
+use Rattle.decomposer.specs.Orders.{NamedPicks}
+use Rattle.decomposer.specs.Picked.{IsPicked}
+use Rattle.decomposer.specs.declared.orders.NamedOrder.{NamedOrder}
 use Rattle.tree_core.specs.Tallies.{AreLeafKinds, IsKindOf}
 use Rattle.tree_core.specs.declared.tallies.LeafKind.{LeafKind}
 use Rattle.tree_core.specs.declared.tallies.LeafKind.TheVariants.{Brick, Brace}
-use Rattle.list_lines.specs.Orders.{IsPickedTree, Picks}
-use Rattle.list_lines.specs.declared.query.LeafOrder.{LeafOrder}
 
 -- the front of a line: the number of the line in the list
 abbrev pub line_front : ℕ → List ℕ
@@ -50,11 +52,12 @@ pub record AreLinesOf (front : List ℕ) (g : Graph) (ps : List (List (List ℕ)
   pub lines : bytes ≡ leaf_lines front g ps kinds
 
 -- the bytes are the lines of the leaves of the derivation that the order picks, in the order of the leaves
-pub record TellsLeaves (order : LeafOrder) (number : ℕ) (g : Graph) (bytes : List ℕ) : Type 0 where
+pub record TellsLeaves (order : NamedOrder) (number : ℕ) (g : Graph) (bytes : List ℕ) : Type 0 where
   pub tree : Shape
-  pub picked : IsPickedTree (Picks order) g tree
+  pub derivation : IsDerivation g tree
+  pub picked : IsPicked (NamedPicks order) g tree
   pub lines : AreLinesOf (line_front number) g (leaves g.order tree) bytes
 
 -- the lines of the leaves of a covered graph, and nothing for one that is not
-abbrev pub AreLeafLines : LeafOrder → ℕ → Graph → List ℕ → Type 0
+abbrev pub AreLeafLines : NamedOrder → ℕ → Graph → List ℕ → Type 0
 AreLeafLines order number g bytes = TellsLeaves order number g bytes ⊎ ((¬ IsCovered g) × (bytes ≡ []))

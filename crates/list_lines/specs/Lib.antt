@@ -1,4 +1,3 @@
-pub mod Orders
 pub mod Standings
 pub mod KindLines
 pub mod LeafLines

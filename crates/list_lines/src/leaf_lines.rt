@@ -1,22 +1,17 @@
 //! The lines of `leaves`.
 ghost use Rattle.std.specs.Prelude.{◌≡◌, ◌<◌, ◌++◌, IfOk, OnOk, Err, All, length, map, string_bytes};
-ghost use Rattle.graph_core.specs.Covered.{IsCovered};
 ghost use Rattle.graph_core.specs.Quotients.{quotient};
 ghost use Rattle.graph_core.specs.Simple.{IsSimple};
 ghost use Rattle.tree_core.specs.Derivations.{IsDerivation};
 ghost use Rattle.tree_core.specs.Leaves.{leaves};
 ghost use Rattle.tree_core.specs.View.{shape_of};
-ghost use Rattle.decomposer.specs.Choices.{FnPicks, PicksInRange};
 ghost use Rattle.list_lines.specs.LeafLines.{AddsLine, AreLeafLines, AreLinesOf, leaf_end, line_front, quotient_line};
-ghost use Rattle.list_lines.specs.Orders.{IsPickedTree, Picks};
 
-use crate::query::LeafOrder;
 use contraction::{Contracted, Partition, quotient};
-use decomposer::{Order, Refused, balanced_place, decompose, decompose_first, last_place};
+use decomposer::{NamedOrder, Refused, decompose};
 use graph_core::MultiGraph;
 use graph6_text::write_graph6;
 use std::alloc::{AllocError as Memory, Global};
-use tight_cuts::Candidate;
 use tree_core::{LeafKind, Partitions, Tree, kind_of, leaves};
 
 /// The lines of the leaves of the derivation that the order picks, for a graph that stands in the line with this number; nothing
@@ -24,84 +19,18 @@ use tree_core::{LeafKind, Partitions, Tree, kind_of, leaves};
 pub fn leaf_lines(
     alloc: Global,
     g: &MultiGraph,
-    order: LeafOrder,
+    order: NamedOrder,
     number: u64,
 ) -> Result<Vec<u8>, Memory>
     ensures { IfOk result (λ lines. AreLeafLines order number g.now lines.items) }
 {
-    match decomposed(alloc, g, order) {
+    match decompose(alloc, g, &order) {
         Ok(tree) => {
             let lines = lines_of_tree(alloc, g, &tree, number)?;
             Ok(lines)
         }
         Err(Refused::NotCovered(_)) => Ok(Vec::new(alloc)),
         Err(Refused::Memory) => Err(Memory),
-    }
-}
-
-// The derivation that the order picks.
-fn decomposed(alloc: Global, g: &MultiGraph, order: LeafOrder) -> Result<Tree, Refused>
-    ensures tree { IfOk result (λ tree. IsPickedTree (Picks order) g.now (shape_of tree)) }
-    ensures uncovered { (r : _) → result ≡ Err (Refused.NotCovered r) → ¬ IsCovered g.now }
-{
-    match order {
-        LeafOrder::First => decomposed_first(alloc, g),
-        LeafOrder::Last => decomposed_last(alloc, g),
-        LeafOrder::Balanced => decomposed_balanced(alloc, g),
-    }
-}
-
-// The derivation for which the first candidates are picked. No other candidate is looked for.
-fn decomposed_first(alloc: Global, g: &MultiGraph) -> Result<Tree, Refused>
-    ensures tree { IfOk result
-        (λ tree. IsPickedTree (Picks LeafOrder.First) g.now (shape_of tree)) }
-    ensures uncovered { (r : _) → result ≡ Err (Refused.NotCovered r) → ¬ IsCovered g.now }
-{
-    match decompose_first(alloc, g) {
-        Ok(tree) => Ok(tree),
-        Err(refused) => Err(refused),
-    }
-}
-
-// The derivation that any order picks.
-fn decomposed_in<F: Fn(&[Candidate], usize) -> usize>(
-    alloc: Global,
-    g: &MultiGraph,
-    order: &Order<F>,
-) -> Result<Tree, Refused>
-    requires { PicksInRange F.Fn order.now.f }
-    ensures tree { IfOk result
-        (λ tree. IsPickedTree (FnPicks F.Fn order.now.f) g.now (shape_of tree)) }
-    ensures uncovered { (r : _) → result ≡ Err (Refused.NotCovered r) → ¬ IsCovered g.now }
-{
-    match decompose(alloc, g, order) {
-        Ok(tree) => Ok(tree),
-        Err(refused) => Err(refused),
-    }
-}
-
-// The derivation for which the last candidates are picked.
-fn decomposed_last(alloc: Global, g: &MultiGraph) -> Result<Tree, Refused>
-    ensures tree { IfOk result (λ tree. IsPickedTree (Picks LeafOrder.Last) g.now (shape_of tree)) }
-    ensures uncovered { (r : _) → result ≡ Err (Refused.NotCovered r) → ¬ IsCovered g.now }
-{
-    let order = Order::new(|list: &[Candidate], cuts: usize| last_place(list, cuts));
-    match decomposed_in(alloc, g, &order) {
-        Ok(tree) => Ok(tree),
-        Err(refused) => Err(refused),
-    }
-}
-
-// The derivation for which the first candidates are picked whose sides differ least in size.
-fn decomposed_balanced(alloc: Global, g: &MultiGraph) -> Result<Tree, Refused>
-    ensures tree { IfOk result
-        (λ tree. IsPickedTree (Picks LeafOrder.Balanced) g.now (shape_of tree)) }
-    ensures uncovered { (r : _) → result ≡ Err (Refused.NotCovered r) → ¬ IsCovered g.now }
-{
-    let order = Order::new(|list: &[Candidate], cuts: usize| balanced_place(list, cuts));
-    match decomposed_in(alloc, g, &order) {
-        Ok(tree) => Ok(tree),
-        Err(refused) => Err(refused),
     }
 }
 

@@ -18,6 +18,6 @@ mod selecting;
 mod standing;
 mod telling;
 
-pub use query::{LeafOrder, Property, Query};
+pub use query::{Property, Query};
 pub use standing::{Sort, Standing, Why};
 pub use telling::{Told, tell};

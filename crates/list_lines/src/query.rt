@@ -1,13 +1,6 @@
 //! What is asked of each line.
 
-/// An order of choice for a decomposition: at each node the first candidate is picked, the last, or the first of those whose sides
-/// differ least in size.
-#[derive(Clone, Copy, Debug, PartialEq, Eq)]
-pub enum LeafOrder {
-    First,
-    Last,
-    Balanced,
-}
+use decomposer::NamedOrder;
 
 /// A property of a graph.
 #[derive(Clone, Copy, Debug, PartialEq, Eq)]
@@ -32,7 +25,7 @@ pub enum Query {
     /// Its kind, and the numbers of its bricks and braces.
     Kinds,
     /// The leaves of its decomposition in this order, as graphs.
-    Leaves { order: LeafOrder },
+    Leaves { order: NamedOrder },
     /// The canonical text of its graph file.
     Graph,
     /// The line itself, where the graph has this property.

@@ -5,7 +5,7 @@ ghost use Rattle.graph_core.specs.Verdicts.{reason_of};
 ghost use Rattle.leaf_kinds.specs.LeafKinds.{IsKind};
 ghost use Rattle.list_lines.specs.Standings.{IsCounted, IsStanding, sort_of, why_of};
 
-use decomposer::{Refused, decompose_first};
+use decomposer::{NamedOrder, Refused, decompose};
 use graph_core::{Kind, MultiGraph, Reason};
 use graph_facts::Covered;
 use leaf_kinds::kind_of;
@@ -132,7 +132,7 @@ pub fn counted(alloc: Global, g: &MultiGraph) -> Result<Tally, Memory>
     requires { IsCovered g.now }
     ensures { IfOk result (IsCounted g.now) }
 {
-    match decompose_first(alloc, g) {
+    match decompose(alloc, g, &NamedOrder::First) {
         Ok(tree) => {
             let tally = tally_of_tree(alloc, g, &tree)?;
             Ok(tally)

@@ -1,6 +1,7 @@
 //! What is told of single lines.
 
-use list_lines::{LeafOrder, Property, Query, Told, tell};
+use decomposer::NamedOrder;
+use list_lines::{Property, Query, Told, tell};
 use std::alloc::{AllocError as Memory, Global};
 use std::test::Fail;
 use text_faults::FaultKind;
@@ -75,21 +76,21 @@ static ROWS: [Row; 26] = [
     },
     Row {
         query: Query::Leaves {
-            order: LeafOrder::First,
+            order: NamedOrder::First,
         },
         line: "C~\n",
         answer: Ok("7 C~ brick\n"),
     },
     Row {
         query: Query::Leaves {
-            order: LeafOrder::Last,
+            order: NamedOrder::Last,
         },
         line: "Ch\n",
         answer: Ok(""),
     },
     Row {
         query: Query::Leaves {
-            order: LeafOrder::Balanced,
+            order: NamedOrder::Balanced,
         },
         line: "EFz_\n",
         answer: Ok("7 EFz_ brace\n"),
@@ -141,14 +142,14 @@ static ROWS: [Row; 26] = [
     },
     Row {
         query: Query::Leaves {
-            order: LeafOrder::First,
+            order: NamedOrder::First,
         },
         line: "GFyAHK\n",
         answer: Ok("7 EFz_ brace\n7 C~ brick\n"),
     },
     Row {
         query: Query::Leaves {
-            order: LeafOrder::Balanced,
+            order: NamedOrder::Balanced,
         },
         line: "GFyAHK\n",
         answer: Ok("7 EFz_ brace\n7 C~ brick\n"),

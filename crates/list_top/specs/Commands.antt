@@ -6,8 +6,8 @@ use Rattle.std.specs.List.{starts_with}
 use Rattle.std.specs.Option.{option_map}
 use Rattle.std.specs.Str.{bytes_eq}
 use Rattle.line_text.specs.Numerals.{number_of}
-use Rattle.list_lines.specs.declared.query.LeafOrder.{LeafOrder}
-use Rattle.list_lines.specs.declared.query.LeafOrder.TheVariants.{First, Last, Balanced}
+use Rattle.decomposer.specs.Orders.{order_named}
+use Rattle.decomposer.specs.declared.orders.NamedOrder.TheVariants.{First}
 use Rattle.list_lines.specs.declared.query.Property.{Property}
 use Rattle.list_lines.specs.declared.query.Property.TheVariants.{Covered, Brick, Brace, Bicritical, Composite, Bricks}
 use Rattle.list_lines.specs.declared.query.Query.{Query}
@@ -17,13 +17,6 @@ use Rattle.list_lines.specs.declared.query.Query.TheVariants.{Kinds, Leaves, Gra
 pub record Command : Type 0 where
   pub query : Query
   pub file : Option (List ℕ)
-
--- the order of choice that a word names, if it names one
-abbrev pub order_named : List ℕ → Option LeafOrder
-order_named word =
-    if bytes_eq word (codes "first") then Some First else
-    if bytes_eq word (codes "last") then Some Last else
-    if bytes_eq word (codes "balanced") then Some Balanced else None
 
 -- `bricks=` and a number
 abbrev pub bricks_property : List ℕ → Option Property

@@ -1,24 +1,13 @@
 //! Reading the words.
 ghost use Rattle.std.specs.Prelude.{◌≡◌, map, string_bytes};
 ghost use Rattle.std.specs.Option.{option_map};
-ghost use Rattle.list_top.specs.Commands.{command_of, file_of, order_named, property_named, bricks_property, query_named, leaves_named, select_named, pair_named, pair_command, command_with};
+ghost use Rattle.list_top.specs.Commands.{command_of, file_of, property_named, bricks_property, query_named, leaves_named, select_named, pair_named, pair_command, command_with};
 ghost use Rattle.list_top.specs.Asked.{asked, text_of};
 
 use crate::command::Command;
+use decomposer::NamedOrder;
 use line_text::number;
-use list_lines::{LeafOrder, Property, Query};
-
-// The order that the word names, if it names one.
-fn order_named(word: &str) -> Option<LeafOrder>
-    ensures { result ≡ order_named word.now }
-{
-    match word {
-        "first" => Some(LeafOrder::First),
-        "last" => Some(LeafOrder::Last),
-        "balanced" => Some(LeafOrder::Balanced),
-        _ => None,
-    }
-}
+use list_lines::{Property, Query};
 
 // The property of so many bricks that the word names, if it names one.
 fn bricks_property(word: &str) -> Option<Property>
@@ -54,7 +43,7 @@ fn query_named(word: &str) -> Option<Query>
     match word {
         "kinds" => Some(Query::Kinds),
         "leaves" => Some(Query::Leaves {
-            order: LeafOrder::First,
+            order: NamedOrder::First,
         }),
         "graph" => Some(Query::Graph),
         _ => None,
@@ -66,7 +55,7 @@ fn query_named(word: &str) -> Option<Query>
 fn leaves_named(word: &str) -> Option<Query>
     ensures { result ≡ leaves_named word.now }
 {
-    match order_named(word) {
+    match NamedOrder::of_word(word) {
         Some(order) => Some(Query::Leaves { order }),
         None => None,
     }

@@ -6,8 +6,6 @@ use Rattle.graph_core.specs.Graph.{Graph, in_cut, size}
 use Rattle.tight_cuts.specs.Candidates.{Candidate}
 use Rattle.tight_cuts.specs.View.{candidate_of}
 use Rattle.tight_cuts.specs.declared.candidate.Candidate.{Candidate as StoredCandidate}
-use Rattle.tree_core.specs.Shapes.{Shape}
-use Rattle.decomposer.specs.Picked.{IsPicked}
 
 -- how many edges are in the cut of a candidate
 abbrev pub width_of : Graph → Option StoredCandidate → ℕ
@@ -29,7 +27,3 @@ pub record PicksWidest (g : Graph) (list : List Candidate) (k place : ℕ) : Typ
   pub stored : List StoredCandidate
   pub shows : map candidate_of stored ≡ list
   pub widest : IsWidest g stored place
-
--- the tree is the one that an order which picks so picks from the graph
-pub record PicksTree (picks : List Candidate → ℕ → ℕ → Type 0) (g : Graph) (t : Shape) : Type 0 where
-  pub picked : IsPicked picks g t

@@ -10,29 +10,27 @@ ghost use Rattle.graph_text.specs.EitherVersion.{either_version};
 ghost use Rattle.graph_text.specs.SoFar.{named_graph};
 ghost use Rattle.tree_core.specs.Derivations.{IsDerivation};
 ghost use Rattle.tree_core.specs.View.{shape_of};
-ghost use Rattle.decomposer.specs.Choices.{FnPicks, PicksInRange};
 ghost use Rattle.decomposer.specs.Picked.{IsPicked};
 ghost use Rattle.own_order.specs.Failures.{IsUncovered};
-ghost use Rattle.own_order.specs.WidestCuts.{PicksTree, PicksWidest};
+ghost use Rattle.own_order.specs.WidestCuts.{PicksWidest};
 
-use crate::widest_cuts::widest_place;
-use decomposer::{Order, Refused, decompose};
+use crate::widest_cuts::Widest;
+use decomposer::{Refused, decompose};
 use graph_core::{MultiGraph, Reason};
 use graph_text::{Named, read_any};
 use std::alloc::Global;
 use text_faults::TextFault;
-use tight_cuts::Candidate;
 use tree_check::{Judgement, check};
 use tree_core::Tree;
 
 /// Why there is no decomposition.
 #[derive(Drop)]
 pub enum Failed {
-    /// The text is none of a graph: its first fault, or want of memory.
+    /// The text does not stand for a graph: its first fault, which may be that there is not enough memory.
     Text(TextFault),
     /// The graph is not matching covered, for this reason.
     NotCovered(Reason),
-    /// Want of memory.
+    /// There is not enough memory.
     Memory,
 }
 
@@ -44,27 +42,6 @@ pub struct Decomposed {
     pub judgement: Judgement,
 }
 
-// The derivation in any order.
-fn tree_in<F: Fn(&[Candidate], usize) -> usize>(
-    alloc: Global,
-    g: &MultiGraph,
-    order: &Order<F>,
-) -> Result<Tree, Failed>
-    requires { PicksInRange F.Fn order.now.f }
-    ensures derivation { IfOk result (λ tree. IsDerivation g.now (shape_of tree)) }
-    ensures picked { IfOk result (λ tree.
-        PicksTree (FnPicks F.Fn order.now.f) g.now (shape_of tree)) }
-    ensures uncovered { (reason : Reason) → result ≡ Err (Failed.NotCovered reason)
-        → IsReason g.now (reason_of reason) }
-    ensures text { (fault : TextFault) → result ≡ Err (Failed.Text fault) → ⊥ }
-{
-    match decompose(alloc, g, order) {
-        Ok(tree) => Ok(tree),
-        Err(Refused::NotCovered(reason)) => Err(Failed::NotCovered(reason)),
-        Err(Refused::Memory) => Err(Failed::Memory),
-    }
-}
-
 // The derivation in the order of the widest cuts.
 fn widest_tree(alloc: Global, g: &MultiGraph) -> Result<Tree, Failed>
     ensures derivation { IfOk result (λ tree. IsDerivation g.now (shape_of tree)) }
@@ -73,14 +50,16 @@ fn widest_tree(alloc: Global, g: &MultiGraph) -> Result<Tree, Failed>
         → IsReason g.now (reason_of reason) }
     ensures text { (fault : TextFault) → result ≡ Err (Failed.Text fault) → ⊥ }
 {
-    let order = Order::new(|list: &[Candidate], _cuts: usize| widest_place(g, list));
-    let tree = tree_in(alloc, g, &order)?;
-    Ok(tree)
+    match decompose(alloc, g, &Widest { graph: g }) {
+        Ok(tree) => Ok(tree),
+        Err(Refused::NotCovered(reason)) => Err(Failed::NotCovered(reason)),
+        Err(Refused::Memory) => Err(Failed::Memory),
+    }
 }
 
 /// Reads the text of a graph, in either version of the graph format, decomposes the graph by the widest cuts, and has the
-/// derivation judged. `Text` comes exactly where the text stands for no graph, with its first fault, or for want of memory;
-/// `NotCovered` exactly where the graph is not matching covered.
+/// derivation judged. `Text` comes if and only if the text does not stand for a graph, with its first fault, or if there is not
+/// enough memory; `NotCovered` comes if and only if the graph is not matching covered.
 pub fn decompose_widest(alloc: Global, text: &[u8]) -> Result<Decomposed, Failed>
     requires { length text.now < 2 ^ 32 - 1 }
     ensures stands { IfOk result (λ made. Stands either_version text.now (named_graph made.named)) }

@@ -3,8 +3,9 @@ ghost use Rattle.std.specs.Prelude.{◌≡◌, ◌<◌, ◌≤◌, length};
 ghost use Rattle.counting.specs.Counts.{count};
 ghost use Rattle.counting.specs.Lists.{mem};
 ghost use Rattle.graph_core.specs.Graph.{in_cut, size};
-ghost use Rattle.own_order.specs.WidestCuts.{IsWidest};
+ghost use Rattle.own_order.specs.WidestCuts.{IsWidest, PicksWidest};
 
+use decomposer::Order;
 use graph_core::{MultiGraph, is_in_cut};
 use tight_cuts::Candidate;
 use vset_core::VSet;
@@ -23,8 +24,8 @@ pub fn cut_width(g: &MultiGraph, shore: VSet) -> u32
     width
 }
 
-/// The place of the first candidate whose cut has the most edges.
-pub fn widest_place(g: &MultiGraph, list: &[Candidate]) -> usize
+// The place of the first candidate whose cut has the most edges.
+fn widest_place(g: &MultiGraph, list: &[Candidate]) -> usize
     requires { 0 < length list.now }
     ensures { IsWidest g.now list.now result }
 {
@@ -35,4 +36,18 @@ pub fn widest_place(g: &MultiGraph, list: &[Candidate]) -> usize
         }
     }
     best
+}
+
+/// The order of the widest cuts of a graph: at each node the first candidate is picked whose cut has the most edges.
+#[derive(Clone, Copy)]
+pub struct Widest<'g> {
+    pub graph: &'g MultiGraph,
+}
+
+impl<'g> Order for Widest<'g> {
+    ghost picks = { λ order. PicksWidest order.graph.now };
+
+    fn pick(&self, list: &[Candidate], _cuts: usize) -> usize {
+        widest_place(self.graph, list)
+    }
 }

@@ -10,8 +10,8 @@ use Rattle.uncross.specs.MapView.{map_of, maps_of}
 use Rattle.report_text.specs.Growths.{grown_text}
 use Rattle.move_laws.specs.Pairings.{IsPairing}
 use Rattle.bench_outcomes.specs.Growths.{IsCounted}
-use Rattle.bench_outcomes.specs.Orders.{NamedPicks}
-use Rattle.bench_tasks.specs.declared.command.NamedOrder.TheVariants.{First, Last}
+use Rattle.decomposer.specs.Orders.{NamedPicks}
+use Rattle.decomposer.specs.declared.orders.NamedOrder.TheVariants.{First, Last}
 use Rattle.tree_core.proofs.FewLeaves.{few-nodes}
 use Rattle.bench_outcomes.proofs.GrownSizes.{few-edges, few-vertices}
 use Rattle.bench_reports.proofs.growing.grow_report.Goals as goal

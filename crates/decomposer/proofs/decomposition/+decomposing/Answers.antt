@@ -12,20 +12,20 @@ use Rattle.decomposer.proofs.decomposition.+decomposing.Goals as goal
 
 pub decompose_at-decompose_kept-requires : goal.decompose_at-decompose_kept-requires
 decompose_at-decompose_kept-requires g t c κs within =
-    let cuts = c.in_ok-pick_shore.ensures.cut c.in-Some.shore c.in-Some.is in
+    let cuts = c.in_ok-picked_shore.ensures.cut c.in-Some.shore c.in-Some.is in
     let beside = blocks-beside c.args.g.now c.args.p.now.blocks c.in-Some.shore cuts in
     let bound = c.requires.few in
     let falls = c.decreases in
-    (first_of (omega arith, search rules), (within, (c.requires.ready, (c.requires.partition, (c.requires.covered, (cuts, omega arith))))))
+    (first_of (omega arith, search rules), (within, (c.requires.partition, (c.requires.covered, (cuts, omega arith)))))
 
 pub decompose_at-decompose_merged-requires : goal.decompose_at-decompose_merged-requires
 decompose_at-decompose_merged-requires g t c κs within =
-    let cuts = c.in_ok-pick_shore.ensures.cut c.in-Some.shore c.in-Some.is in
+    let cuts = c.in_ok-picked_shore.ensures.cut c.in-Some.shore c.in-Some.is in
     let few = c.in_ok-kept-in-Some.ensures.few in
     let after = c.in_ok-kept-in-Some.ensures.after in
     let bound = c.requires.few in
     let falls = c.decreases in
-    (first_of (omega arith, search rules), (within, (c.requires.ready, (c.requires.partition, (c.requires.covered, (cuts, omega arith))))))
+    (first_of (omega arith, search rules), (within, (c.requires.partition, (c.requires.covered, (cuts, omega arith)))))
 
 pub decompose_at-returns-in_ok-tree-in-Some-clause-few : goal.decompose_at-returns-in_ok-tree-in-Some-clause-few
 decompose_at-returns-in_ok-tree-in-Some-clause-few g t c some =
@@ -36,17 +36,17 @@ decompose_at-returns-in_ok-tree-in-Some-clause-few g t c some =
 
 pub decompose_at-returns-in_ok-tree-in-Some-clause-derives : goal.decompose_at-returns-in_ok-tree-in-Some-clause-derives
 decompose_at-returns-in_ok-tree-in-Some-clause-derives g t c =
-    cut-derives c.args.g.now c.args.p.now.blocks _ _ c.in-Some.shore _ _ _ c.in_ok-tree-in-Some.ensures refl refl (c.in_ok-pick_shore.ensures.cut c.in-Some.shore c.in-Some.is)
+    cut-derives c.args.g.now c.args.p.now.blocks _ _ c.in-Some.shore _ _ _ c.in_ok-tree-in-Some.ensures refl refl (c.in_ok-picked_shore.ensures.cut c.in-Some.shore c.in-Some.is)
     c.in_ok-kept-in-Some.ensures.derives c.in_ok-merged-in-Some.ensures.derives
 
 pub decompose_at-returns-in_ok-tree-in-Some-clause-picked : goal.decompose_at-returns-in_ok-tree-in-Some-clause-picked
 decompose_at-returns-in_ok-tree-in-Some-clause-picked g t c =
-    cut-picked c.args.g.now c.args.p.now.blocks _ _ c.in-Some.shore _ _ _ c.in_ok-tree-in-Some.ensures refl refl (c.in_ok-pick_shore.ensures.cut c.in-Some.shore c.in-Some.is)
-    (g.P.Picker.picks c.args.picker.now) c.args.before _ (c.in_ok-pick_shore.ensures.picks c.in-Some.shore c.in-Some.is) c.in_ok-kept-in-Some.ensures.picked c.in_ok-kept-in-Some.ensures.after c.in_ok-merged-in-Some.ensures.picked
+    cut-picked c.args.g.now c.args.p.now.blocks _ _ c.in-Some.shore _ _ _ c.in_ok-tree-in-Some.ensures refl refl (c.in_ok-picked_shore.ensures.cut c.in-Some.shore c.in-Some.is)
+    (g.O.Order.picks c.args.order.now) c.args.before _ (c.in_ok-picked_shore.ensures.picked c.in-Some.shore c.in-Some.is) c.in_ok-kept-in-Some.ensures.picked c.in_ok-kept-in-Some.ensures.after c.in_ok-merged-in-Some.ensures.picked
 
 pub decompose_at-returns-in_ok-tree-in-Some-clause-after : goal.decompose_at-returns-in_ok-tree-in-Some-clause-after
 decompose_at-returns-in_ok-tree-in-Some-clause-after g t c =
-    cut-after c.args.g.now c.args.p.now.blocks _ _ c.in-Some.shore _ _ _ c.in_ok-tree-in-Some.ensures refl refl (c.in_ok-pick_shore.ensures.cut c.in-Some.shore c.in-Some.is)
+    cut-after c.args.g.now c.args.p.now.blocks _ _ c.in-Some.shore _ _ _ c.in_ok-tree-in-Some.ensures refl refl (c.in_ok-picked_shore.ensures.cut c.in-Some.shore c.in-Some.is)
     c.args.before _ _ c.in_ok-kept-in-Some.ensures.after c.in_ok-merged-in-Some.ensures.after
 
 pub decompose_kept-decompose_at-requires : goal.decompose_kept-decompose_at-requires
@@ -56,7 +56,7 @@ decompose_kept-decompose_at-requires g t c κs within =
     let beside = blocks-beside c.args.g.now c.args.p.now.blocks c.args.shore c.requires.cut in
     let bound = c.requires.few in
     let falls = c.decreases in
-    (first_of (omega arith, search rules), (within, (c.requires.ready, (c.in_ok-kept_at.ensures.order, (c.in_ok-kept_at.ensures.covered, omega arith)))))
+    (first_of (omega arith, search rules), (within, (c.in_ok-kept_at.ensures.order, (c.in_ok-kept_at.ensures.covered, omega arith))))
 
 pub decompose_kept-returns-clause-derives : goal.decompose_kept-returns-clause-derives
 decompose_kept-returns-clause-derives g t c =
@@ -66,8 +66,8 @@ decompose_kept-returns-clause-derives g t c =
 
 pub decompose_kept-returns-clause-picked : goal.decompose_kept-returns-clause-picked
 decompose_kept-returns-clause-picked g t c =
-    IfOk-weaker c.decompose_at.result (λ made. IsPickedAt (g.P.Picker.picks c.args.picker.now) c.args.g.now c.in_ok-kept_at.kept_at.blocks c.args.before (shape_of made.0)) (λ made. IsPickedAt (g.P.Picker.picks c.args.picker.now) c.args.g.now (kept_at c.args.g.now.order c.args.p.now.blocks c.args.shore) c.args.before (shape_of made.0))
-    (λ made found. subst (λ (q : List (List ℕ)). IsPickedAt (g.P.Picker.picks c.args.picker.now) c.args.g.now q c.args.before (shape_of made.0)) c.in_ok-kept_at.ensures.blocks found)
+    IfOk-weaker c.decompose_at.result (λ made. IsPickedAt (g.O.Order.picks c.args.order.now) c.args.g.now c.in_ok-kept_at.kept_at.blocks c.args.before (shape_of made.0)) (λ made. IsPickedAt (g.O.Order.picks c.args.order.now) c.args.g.now (kept_at c.args.g.now.order c.args.p.now.blocks c.args.shore) c.args.before (shape_of made.0))
+    (λ made found. subst (λ (q : List (List ℕ)). IsPickedAt (g.O.Order.picks c.args.order.now) c.args.g.now q c.args.before (shape_of made.0)) c.in_ok-kept_at.ensures.blocks found)
     c.decompose_at.ensures.picked
 
 pub decompose_merged-decompose_at-requires : goal.decompose_merged-decompose_at-requires
@@ -77,7 +77,7 @@ decompose_merged-decompose_at-requires g t c κs within =
     let beside = blocks-beside c.args.g.now c.args.p.now.blocks c.args.shore c.requires.cut in
     let bound = c.requires.few in
     let falls = c.decreases in
-    (first_of (omega arith, search rules), (within, (c.requires.ready, (c.in_ok-merged_at.ensures.order, (c.in_ok-merged_at.ensures.covered, omega arith)))))
+    (first_of (omega arith, search rules), (within, (c.in_ok-merged_at.ensures.order, (c.in_ok-merged_at.ensures.covered, omega arith))))
 
 pub decompose_merged-returns-clause-derives : goal.decompose_merged-returns-clause-derives
 decompose_merged-returns-clause-derives g t c =
@@ -87,8 +87,8 @@ decompose_merged-returns-clause-derives g t c =
 
 pub decompose_merged-returns-clause-picked : goal.decompose_merged-returns-clause-picked
 decompose_merged-returns-clause-picked g t c =
-    IfOk-weaker c.decompose_at.result (λ made. IsPickedAt (g.P.Picker.picks c.args.picker.now) c.args.g.now c.in_ok-merged_at.merged_at.blocks c.args.before (shape_of made.0)) (λ made. IsPickedAt (g.P.Picker.picks c.args.picker.now) c.args.g.now (merged_at c.args.g.now.order c.args.p.now.blocks c.args.shore) c.args.before (shape_of made.0))
-    (λ made found. subst (λ (q : List (List ℕ)). IsPickedAt (g.P.Picker.picks c.args.picker.now) c.args.g.now q c.args.before (shape_of made.0)) c.in_ok-merged_at.ensures.blocks found)
+    IfOk-weaker c.decompose_at.result (λ made. IsPickedAt (g.O.Order.picks c.args.order.now) c.args.g.now c.in_ok-merged_at.merged_at.blocks c.args.before (shape_of made.0)) (λ made. IsPickedAt (g.O.Order.picks c.args.order.now) c.args.g.now (merged_at c.args.g.now.order c.args.p.now.blocks c.args.shore) c.args.before (shape_of made.0))
+    (λ made found. subst (λ (q : List (List ℕ)). IsPickedAt (g.O.Order.picks c.args.order.now) c.args.g.now q c.args.before (shape_of made.0)) c.in_ok-merged_at.ensures.blocks found)
     c.decompose_at.ensures.picked
 
 pub decompose_kept-returns-clause-few : goal.decompose_kept-returns-clause-few

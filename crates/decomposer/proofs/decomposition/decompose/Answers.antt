@@ -1,7 +1,7 @@
 use Rattle.std.proofs.Common.{subst}
 use Rattle.graph_core.proofs.Decide.{reason-uncovered}
 use Rattle.graph_core.specs.Verdicts.{IsVerdict, reason_of}
-use Rattle.decomposer.proofs.decomposition.decompose_by.Goals as goal
+use Rattle.decomposer.proofs.decomposition.decompose.Goals as goal
 
 pub returns-in-Ok-NotCovered-clause-uncovered : goal.returns-in-Ok-NotCovered-clause-uncovered
 returns-in-Ok-NotCovered-clause-uncovered g c = λ r same.

@@ -1,0 +1,31 @@
+-- The orders of choice that have names, and those of lists of picks: which candidate each picks at a node, of the list of candidates
+-- there, with so many cuts before the node in preorder.
+use Rattle.std.specs.Prelude.{◌≡◌, ℕ, ◌-◌, ◌%◌, List, length, slice_index_or, codes, if◌then◌else◌}
+use Rattle.std.specs.declared.option.Option.{Option}
+use Rattle.std.specs.declared.option.Option.TheVariants.{Some, None}
+use Rattle.std.specs.Str.{bytes_eq}
+use Rattle.tight_cuts.specs.Candidates.{Candidate}
+use Rattle.decomposer.specs.Choices.{PicksBalanced}
+use Rattle.decomposer.specs.declared.orders.NamedOrder.{NamedOrder}
+use Rattle.decomposer.specs.declared.orders.NamedOrder.TheVariants.{First, Last, Balanced}
+
+-- the order of choice that a word names, if it names one
+abbrev pub order_named : List ℕ → Option NamedOrder
+order_named word =
+    if bytes_eq word (codes "first") then Some First else
+    if bytes_eq word (codes "last") then Some Last else
+    if bytes_eq word (codes "balanced") then Some Balanced else None
+
+-- a named order picks the first place, the last, or the first balanced one
+abbrev pub NamedPicks : NamedOrder → List Candidate → ℕ → ℕ → Type 0
+NamedPicks First list cuts place = place ≡ 0
+NamedPicks Last list cuts place = place ≡ length list - 1
+NamedPicks Balanced list cuts place = PicksBalanced list place
+
+-- the number that a list of picks has for the node behind so many cuts, modulo the number of candidates; 0 where it has none
+abbrev pub scripted_place : List ℕ → (cuts candidates : ℕ) → ℕ
+scripted_place picks cuts candidates = slice_index_or picks cuts 0 % candidates
+
+-- a list of picks picks that place
+abbrev pub ScriptPicks : List ℕ → List Candidate → ℕ → ℕ → Type 0
+ScriptPicks picks list cuts place = place ≡ scripted_place picks cuts (length list)

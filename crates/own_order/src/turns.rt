@@ -1,0 +1,26 @@
+//! A decomposition in the order of a closure: the first and the last candidates by turns.
+ghost use Rattle.std.specs.Prelude.{◌≡◌, ◌<◌, ◌-◌, ℕ, length, IfOk, Err};
+ghost use Rattle.graph_core.specs.Covered.{IsCovered};
+ghost use Rattle.tree_core.specs.Derivations.{IsDerivation};
+ghost use Rattle.tree_core.specs.View.{shape_of};
+
+use decomposer::{ByFunction, Refused, decompose};
+use graph_core::MultiGraph;
+use std::alloc::Global;
+use tight_cuts::Candidate;
+use tree_core::Tree;
+
+/// Decomposes the graph by the first candidate where the number of cuts before the node is even, and else by the last one.
+/// `NotCovered` comes if and only if the graph is not matching covered.
+pub fn decompose_by_turns(alloc: Global, g: &MultiGraph) -> Result<Tree, Refused>
+    ensures derivation { IfOk result (λ tree. IsDerivation g.now (shape_of tree)) }
+    ensures uncovered { (r : _) → result ≡ Err (Refused.NotCovered r) → ¬ IsCovered g.now }
+{
+    let by_turns = |list: &[Candidate], cuts: usize| -> usize
+        requires { 0 < length list.now }
+    { if cuts % 2 == 0 { 0 } else { list.len() - 1 } };
+    match Box::new(alloc, by_turns) {
+        Ok(function) => decompose(alloc, g, &ByFunction::new(function)),
+        Err(_) => Err(Refused::Memory),
+    }
+}
