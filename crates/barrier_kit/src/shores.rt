@@ -13,12 +13,7 @@ use std::alloc::{AllocError as Memory, Global};
 use vset_core::VSet;
 
 // Appends the cuts that a class gives.
-fn add_class_cuts(
-    alloc: Global,
-    c: &Covered,
-    class: VSet,
-    cuts: &mut SetList,
-) -> Result<(), Memory>
+fn add_class_cuts(alloc: Global, c: &Covered, class: VSet, cuts: &mut SetList) -> Result<(), Memory>
     ensures { OnOk result
         (cuts.new ≡ fold (with_cut c.now.order) cuts.old (components c.now (mem class))) }
 {

@@ -6,7 +6,10 @@ ghost use Rattle.plain_graph.specs.Small.{IsSmall};
 
 use crate::made::made;
 use graph_core::MultiGraph;
-use plain_graph::{CYCLE_OF_8, DOUBLED_SQUARE, HEXAGON, K4, PETERSEN, PRISM, TRIANGLE_IN_K33, TWO_K4, edges_in_cut, is_covered, is_perfect, is_small};
+use plain_graph::{
+    CYCLE_OF_8, DOUBLED_SQUARE, HEXAGON, K4, PETERSEN, PRISM, TRIANGLE_IN_K33, TWO_K4,
+    edges_in_cut, is_covered, is_perfect, is_small,
+};
 use std::alloc::Global;
 use std::test::Fail;
 use tight_cuts::{CandidateList, Origin, Tightness, candidates, find_any, is_tight};

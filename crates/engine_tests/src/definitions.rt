@@ -3,7 +3,11 @@ ghost use Rattle.plain_graph.specs.Small.{IsSmall};
 
 use crate::made::{made, set_of};
 use graph_core::MultiGraph;
-use plain_graph::{HEXAGON, K4, PATH, PRISM, STAR, TRIANGLE, edges_in_cut, greatest_matching, has_perfect, is_allowed, is_matching, is_perfect, is_small, is_tight, odd_component_count, perfect_matchings};
+use plain_graph::{
+    HEXAGON, K4, PATH, PRISM, STAR, TRIANGLE, edges_in_cut, greatest_matching, has_perfect,
+    is_allowed, is_matching, is_perfect, is_small, is_tight, odd_component_count,
+    perfect_matchings,
+};
 use std::alloc::Global;
 use std::test::Fail;
 use vset_core::VSet;

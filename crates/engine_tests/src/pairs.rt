@@ -6,7 +6,10 @@ use crate::made::{made, set_of};
 use allowed_edges::{allowed, covered, together};
 use graph_core::{MultiGraph, Reason, Verdict};
 use match_core::maximum;
-use plain_graph::{FLOWER, K4, K33, PATH, PRISM, STAR, TRIANGLE, TWO_EDGES, greatest_matching, is_small, perfect_matchings};
+use plain_graph::{
+    FLOWER, K4, K33, PATH, PRISM, STAR, TRIANGLE, TWO_EDGES, greatest_matching, is_small,
+    perfect_matchings,
+};
 use std::alloc::Global;
 use std::test::Fail;
 use vset_core::{MOST_VERTICES, VSet};

@@ -6,7 +6,10 @@ use crate::made::made;
 use graph_core::MultiGraph;
 use graph_facts::Covered;
 use grow_gen::grow;
-use plain_graph::{CUBE, CYCLE_OF_8, DOUBLED_SQUARE, HEXAGON, K4, K33, PETERSEN, PRISM, TRIANGLE_IN_K33, TWO_K4, graph_with, is_covered};
+use plain_graph::{
+    CUBE, CYCLE_OF_8, DOUBLED_SQUARE, HEXAGON, K4, K33, PETERSEN, PRISM, TRIANGLE_IN_K33, TWO_K4,
+    graph_with, is_covered,
+};
 use separation_kit::FirstPairs;
 use std::alloc::{AllocError as Memory, Global};
 use std::test::Fail;

@@ -6,7 +6,10 @@ ghost use Rattle.graph_core.specs.Structure.{IsBicritical};
 use crate::made::{made, set_of};
 use barrier_kit::{barrier_cuts, classes, is_barrier};
 use graph_core::MultiGraph;
-use plain_graph::{CUBE, FOUR_CYCLE, HEXAGON, K4, K33, PETERSEN, PRISM, TRIANGLE_IN_K33, TWO_K4, is_bipartite, is_covered};
+use plain_graph::{
+    CUBE, FOUR_CYCLE, HEXAGON, K4, K33, PETERSEN, PRISM, TRIANGLE_IN_K33, TWO_K4, is_bipartite,
+    is_covered,
+};
 use quick_kinds::{quick_brace, quick_brick};
 use separation_kit::{Pair, cut_pair, first_pairs_law, not_bicritical, separation_cuts};
 use std::alloc::{AllocError as Memory, Global};

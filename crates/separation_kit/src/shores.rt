@@ -95,11 +95,7 @@ pub fn first_separation_cut(alloc: Global, pairs: &FirstPairs) -> Result<Option<
 }
 
 // The first cut that the first cut pair gives.
-fn first_cut_at(
-    alloc: Global,
-    g: &MultiGraph,
-    pair: Option<Pair>,
-) -> Result<Option<VSet>, Memory>
+fn first_cut_at(alloc: Global, g: &MultiGraph, pair: Option<Pair>) -> Result<Option<VSet>, Memory>
     requires bicritical { IsBicritical g.now }
     requires four { 4 ≤ g.now.order }
     requires pair { option_map pair_of pair ≡ cut_pair g.now }
