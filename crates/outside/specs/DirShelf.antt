@@ -1,6 +1,6 @@
 -- A shelf of real files as its users see it.
-use Rattle.std.specs.Prelude.{◌≡◌, ℕ, ◌⊎◌}
-use Rattle.outside.specs.Faults.{next_fault}
+use Rattle.std.specs.Prelude.{ℕ}
+use Rattle.outside.specs.Faults.{MayCount}
 
 -- the bytes that the last read took, and the count of faults
 pub record OpenState : Type 0 where
@@ -9,4 +9,4 @@ pub record OpenState : Type 0 where
 
 -- a read leads from the first state to the second: at most one fault is counted
 abbrev pub IsOpened : OpenState → OpenState → Type 0
-IsOpened before now = (now.faults ≡ before.faults) ⊎ (now.faults ≡ next_fault before.faults)
+IsOpened before now = MayCount before.faults now.faults

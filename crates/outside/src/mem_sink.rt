@@ -2,7 +2,7 @@
 ghost use Rattle.std.specs.Prelude.{◌≡◌, ◌≤◌, ◌++◌, ◌∷◌, [], ◌↔◌, IfOk, OnOk, OnErr, IsErr, Contains, length, take};
 ghost use Rattle.std.specs.declared.option.Option.TheVariants.{Some};
 ghost use Rattle.outside.specs.Faults.{next_call, next_fault, faults_after};
-ghost use Rattle.outside.specs.MemSink.{share};
+ghost use Rattle.outside.specs.MemSink.{share, IsWrite};
 
 use crate::planned::CallPlan;
 use crate::{Sink, SinkFailed};
@@ -83,6 +83,8 @@ impl Sink for MemSink {
     ghost written = { λ sink. Some sink.written };
 
     ghost faults = { λ sink. sink.faults };
+
+    ghost writes = { IsWrite };
 
     /// It takes no memory.
     fn write(&mut self, bytes: &[u8]) -> Result<usize, SinkFailed>

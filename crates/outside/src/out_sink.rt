@@ -1,7 +1,7 @@
 //! A sink that is the standard output of a runtime.
 ghost use Rattle.std.specs.Prelude.{◌≡◌, ◌≤◌, IfOk, OnErr, length};
 ghost use Rattle.std.specs.declared.option.Option.TheVariants.{None};
-ghost use Rattle.outside.specs.Faults.{next_fault, faults_after};
+ghost use Rattle.outside.specs.Faults.{next_fault, faults_after, MayCount};
 
 use crate::retries::write_some;
 use crate::{Sink, SinkFailed};
@@ -40,11 +40,14 @@ impl<P: Print> Sink for OutSink<'_, P> {
 
     ghost faults = { λ sink. sink };
 
+    ghost writes = { λ before _ _ now. MayCount before now };
+
     /// Each write is flushed before it answers. An error of the runtime, at the write or at the flush, is `SinkFailed`. No clause
     /// tells what reaches the standard output: `tests/edge` looks at the bytes that arrive, and at a write to a full device.
     fn write(&mut self, bytes: &[u8]) -> Result<usize, SinkFailed>
         ensures within { IfOk result (λ count. count ≤ length bytes.now) }
         ensures later { self.old ≤ self.new }
+        ensures counts { MayCount self.old self.new }
         ensures ok { IfOk result
             (λ count. self.new ≡ faults_after self.old count (length bytes.now)) }
         ensures err { OnErr result (self.new ≡ next_fault self.old) }

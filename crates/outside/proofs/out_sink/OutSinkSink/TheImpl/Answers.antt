@@ -5,6 +5,7 @@ use Rattle.outside.proofs.out_sink.OutSinkSink.TheImpl.Goals as goal
 
 pub write-tells : goal.write-tells
 write-tells g c = record {
+  writes = c.ensures.counts;
   within = c.ensures.within;
   written = IfOk-weaker c.result _ _ (λ _ _. refl) c.ensures.within;
   unwritten = on_err_weaker c.result (λ _. refl) c.ensures.err;
