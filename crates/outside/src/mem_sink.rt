@@ -1,11 +1,11 @@
 //! A sink in memory, some of whose writes fail.
-ghost use Rattle.std.specs.Prelude.{◌≡◌, ◌≤◌, ◌++◌, ◌∷◌, [], ◌↔◌, IfOk, OnOk, OnErr, IsErr, Contains, length, take};
+ghost use Rattle.std.specs.Prelude.{◌≡◌, ◌≤◌, ◌++◌, ◌∷◌, [], ◌↔◌, IfOk, OnOk, OnErr, IsErr, Contains, false, length, take};
 ghost use Rattle.std.specs.declared.option.Option.TheVariants.{Some};
 ghost use Rattle.outside.specs.Faults.{next_call, next_fault, faults_after};
 ghost use Rattle.outside.specs.MemSink.{share, IsWrite};
 
 use crate::planned::CallPlan;
-use crate::{Sink, SinkFailed};
+use crate::{Outlet, Sink, SinkFailed};
 use std::alloc::{AllocError as Memory, Global};
 use std::marker::Model;
 
@@ -115,5 +115,14 @@ impl Sink for MemSink {
         }
         self.buffer.extend_from_slice(&bytes[..count]).unwrap();
         Ok(count)
+    }
+}
+
+/// It is always read.
+impl Outlet for MemSink {
+    ghost is_abandoned = { λ _. false };
+
+    fn is_abandoned(&self) -> bool {
+        false
     }
 }
