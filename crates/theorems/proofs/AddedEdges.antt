@@ -1,5 +1,5 @@
--- A perfect matching without the ends of an edge, with this edge, is one of the graph; and how a matching meets a set of vertices.
--- The edge is a perfect matching of its two ends.
+-- A perfect matching without the ends of an edge, with this edge, is one of the graph; and how a
+-- matching meets a set of vertices. The edge is a perfect matching of its two ends.
 use Rattle.std.proofs.Common.{◌≡◌, ◌≢◌, ℕ, ◌*◌, Bool, true, false, ◌==◌, ◌&&◌, ◌||◌, not, refl, sym, ap, ◌∙◌, arith, eq-eqb, eqb-true, inl, inr}
 use Rattle.std.proofs.lemmas.Bool.{or_cases, or_right}
 use Rattle.barrier_kit.proofs.Matched.{glue, perfect_congr}

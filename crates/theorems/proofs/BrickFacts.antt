@@ -1,5 +1,6 @@
--- A graph is a brick if and only if it has four vertices, is bicritical and has no cut pair.
--- Each edge of a bicritical graph is in a perfect matching; two vertices of one side of a bipartite graph leave the sides unequal.
+-- A graph is a brick if and only if it has four vertices, is bicritical and has no cut pair. Each
+-- edge of a bicritical graph is in a perfect matching; two vertices of one side of a bipartite
+-- graph leave the sides unequal.
 use Rattle.std.proofs.Common.{◌≡◌, ℕ, ◌≤◌, Bool, true, ◌==◌, ◌&&◌, not, refl, sym, ap, ◌∙◌, arith, eqb-true, ◌↔◌, inl, inr}
 use Rattle.std.proofs.lemmas.Bool.{or_cases}
 use Rattle.barrier_kit.proofs.Barriers.{two_less}

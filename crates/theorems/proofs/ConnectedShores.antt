@@ -1,5 +1,6 @@
--- A tight shore of a covered graph is connected: it is one component of the graph without the other shore.
--- Else it splits into a component C and the rest D, no edge joins the two, and perfect matchings make |C| both odd and even.
+-- A tight shore of a covered graph is connected: it is one component of the graph without the
+-- other shore. Else it splits into a component C and the rest D, no edge joins the two, and
+-- perfect matchings make |C| both odd and even.
 use Rattle.std.proofs.Common.{◌≡◌, ℕ, ◌+◌, Bool, true, false, ◌&&◌, ◌||◌, not, refl, sym, ap, ◌∙◌, arith, inl, inr}
 use Rattle.std.proofs.lemmas.Bool.{cases_Bool, true≢false, not-false}
 use Rattle.barrier_kit.proofs.BarrierCuts.{part_step}

@@ -1,6 +1,6 @@
--- A 2-edge-connected cubic graph is covered.
--- Else the law of Tutte and Berge leaves, beside the ends of an edge, a set T with as many odd components; three edges leave each of them for
--- T, which has an edge inside.
+-- A 2-edge-connected cubic graph is covered. Else the law of Tutte and Berge leaves, beside the
+-- ends of an edge, a set T with as many odd components; three edges leave each of them for T,
+-- which has an edge inside.
 use Rattle.std.proofs.Common.{◌≡◌, ◌≢◌, ℕ, suc, zero, ◌+◌, ◌*◌, ◌≤◌, Bool, true, false, ◌==◌, ◌&&◌, ◌||◌, not, refl, sym, ap, ◌∙◌, arith, eq-eqb, inl, inr}
 use Rattle.std.proofs.lemmas.Bool.{and_parts, cases_eq, true≢false, or_left, or_right}
 use Rattle.barrier_kit.proofs.BarrierCuts.{covers, covers_out, covers_step, cut_family}
@@ -36,7 +36,8 @@ connected g is two u v wu wv = elim (joined_or_not g none is u v wu) [
 ]
 
 module _ (g : Graph) (is : IsGraph g) (cubic : IsCubic g) (two : IsTwoEdgeConnected g) where
-  -- the odd components without s that miss a vertex of s have three edges each that leave them for s
+  -- the odd components without s that miss a vertex of s have three edges each that leave them
+  -- for s
   module _ (s : Set) (a : ℕ) (wa : Within g.order a) (sa : s a ≡ true) where
     abbrev leads : Set
     leads u = is_least g s u && is_odd (count g.order (joined g s u))

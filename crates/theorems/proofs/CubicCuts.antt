@@ -1,6 +1,6 @@
--- A tight cut of a 2-edge-connected cubic graph has three edges.
--- A perfect matching is heaviest for the weight "n, and one more in the cut", so a cover weighs as much; its inequality is summed over all
--- edges.
+-- A tight cut of a 2-edge-connected cubic graph has three edges. A perfect matching is heaviest
+-- for the weight "n, and one more in the cut", so a cover weighs as much; its inequality is
+-- summed over all edges.
 use Rattle.std.proofs.Common.{◌≡◌, ℕ, ◌+◌, ◌*◌, ◌/◌, ◌≤◌, true, List, [], ◌∷◌, refl, sym, ap, ◌∙◌, arith, mul-add, eqb-true}
 use Rattle.std.specs.Prelude.{All, ◌%◌}
 use Rattle.std.proofs.lemmas.List.Elements.{All-head, All-tail}

@@ -1,5 +1,6 @@
--- Three times the vertices of a set of a cubic graph are the edges in its cut and twice those inside.
--- So the order is even, and the number of edges in a cut is odd where the set is; in a 2-edge-connected graph it is then at least three.
+-- Three times the vertices of a set of a cubic graph are the edges in its cut and twice those
+-- inside. So the order is even, and the number of edges in a cut is odd where the set is; in a
+-- 2-edge-connected graph it is then at least three.
 use Rattle.std.proofs.Common.{◌≡◌, ℕ, ◌+◌, ◌*◌, ◌≤◌, ◌==◌, true, false, ◌&&◌, refl, sym, ap, ◌∙◌, arith}
 use Rattle.std.specs.Prelude.{◌%◌}
 use Rattle.std.proofs.lemmas.Bool.{not-true}

@@ -1,5 +1,6 @@
 -- In a bipartite cubic graph each cut of three edges is tight, and a connected one has no bridge.
--- With P and Q the two parts of a set, 3|P| + R = 3|Q| + L, where L and R count the edges of the cut that leave at P and at Q.
+-- With P and Q the two parts of a set, 3|P| + R = 3|Q| + L, where L and R count the edges of the
+-- cut that leave at P and at Q.
 use Rattle.std.proofs.Common.{◌≡◌, ◌≢◌, ℕ, ◌+◌, ◌*◌, ◌≤◌, Bool, true, false, ◌&&◌, ◌||◌, not, refl, sym, ap, ◌∙◌, arith, ◌↔◌}
 use Rattle.std.proofs.lemmas.Bool.{and_parts, true≢false}
 use Rattle.barrier_kit.specs.BarrierCuts.{IsSide}

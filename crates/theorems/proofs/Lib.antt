@@ -6,6 +6,7 @@ pub mod CubicCovered
 pub mod CubicCuts
 pub mod CubicDegrees
 pub mod CubicSides
+pub mod ExtendableGraphs
 pub mod NamedCuts
 pub mod NarrowCuts
 pub mod Neighbourhoods

@@ -1,5 +1,6 @@
--- A covered graph with a nontrivial tight cut has a nontrivial barrier cut or 2-separation cut.
--- A bicritical one has a cut pair, one that is neither bicritical nor bipartite a class, and of a bipartite one each tight cut is a barrier cut.
+-- A covered graph with a nontrivial tight cut has a nontrivial barrier cut or 2-separation cut. A
+-- bicritical one has a cut pair, one that is neither bicritical nor bipartite a class, and of a
+-- bipartite one each tight cut is a barrier cut.
 use Rattle.std.proofs.Common.{ℕ, ◌&&◌, ◌||◌, not, ap₂, sym, ◌⊎◌, inl, inr}
 use Rattle.std.proofs.lemmas.Bool.{both_ways}
 use Rattle.barrier_kit.proofs.ClassLaw.{class_barrier}

@@ -1,5 +1,6 @@
--- A cubic graph with six vertices or more of which no nontrivial cut has three edges is connected, and has no bridge where none has one.
--- A set without an edge in its cut and one vertex more have three edges in their cut.
+-- A cubic graph with six vertices or more of which no nontrivial cut has three edges is
+-- connected, and has no bridge where none has one. A set without an edge in its cut and one
+-- vertex more have three edges in their cut.
 use Rattle.std.proofs.Common.{◌≡◌, ◌≢◌, ℕ, suc, zero, ◌+◌, ◌*◌, ◌≤◌, Bool, true, false, ◌==◌, ◌&&◌, ◌||◌, not, refl, sym, ap, ◌∙◌, arith, eqb-true, inl, inr}
 use Rattle.std.proofs.lemmas.Bool.{and_parts, cases_lt, true≢false}
 use Rattle.counting.proofs.Counts.{count_complement, count_congr}

@@ -1,5 +1,6 @@
--- A set on one side of a bipartite graph and its neighbours: each perfect matching has as many edges in the cut of both together as there
--- are neighbours more; and a nontrivial tight shore, or the other one, is a set on a side with one vertex more of its neighbours' side.
+-- A set on one side of a bipartite graph and its neighbours: each perfect matching has as many
+-- edges in the cut of both together as there are neighbours more; and a nontrivial tight shore,
+-- or the other one, is a set on a side with one vertex more of its neighbours' side.
 use Rattle.std.proofs.Common.{◌≡◌, ℕ, suc, zero, ◌+◌, ◌≤◌, Bool, true, false, ◌&&◌, ◌||◌, not, refl, sym, ap, ◌∙◌, arith}
 use Rattle.std.proofs.lemmas.Bool.{and_from, and_parts, both_ways, false_from_ne_true, not-true, true≢false}
 use Rattle.barrier_kit.proofs.CutFacts.{nontrivial-turned, tight-turned}

@@ -1,5 +1,6 @@
--- A graph with four vertices or more is 3-connected if and only if it has no cut pair.
--- Fewer than two vertices that part a from b become two, as some others are left beside a and b; two leaders beside a cut pair are parted.
+-- A graph with four vertices or more is 3-connected if and only if it has no cut pair. Fewer than
+-- two vertices that part a from b become two, as some others are left beside a and b; two leaders
+-- beside a cut pair are parted.
 use Rattle.std.proofs.Common.{◌≡◌, ◌≢◌, ℕ, suc, ◌+◌, ◌≤◌, Bool, true, false, ◌==◌, ◌&&◌, ◌||◌, not, refl, sym, ap, ◌∙◌, arith, eq-eqb, eqb-true, ne_eqb, ◌↔◌, inl, inr}
 use Rattle.std.proofs.lemmas.Bool.{cases_lt, both_ways, and_parts, not-true}
 use Rattle.barrier_kit.proofs.BarrierCuts.{leader_same, leads_out, part_step}

@@ -1,6 +1,7 @@
--- A bipartite covered graph has no nontrivial tight cut if and only if any two edges without a common end lie in a perfect matching.
--- The cut of a nontrivial tight shore has two edges without a common end, by the neighbours of the vertices at which it is left.
-use Rattle.std.proofs.Common.{◌≡◌, ◌≢◌, ℕ, ◌+◌, ◌≤◌, ◌<◌, Bool, true, false, ◌==◌, ◌&&◌, ◌||◌, not, refl, sym, ap, ◌∙◌, arith, eq-eqb, eqb-true, subst, ◌↔◌, ◌⊎◌, inl, inr}
+-- A bipartite covered graph has no nontrivial tight cut if and only if any two edges without a
+-- common end lie in a perfect matching. The cut of a nontrivial tight shore has two edges without
+-- a common end, by the neighbours of the vertices at which it is left.
+use Rattle.std.proofs.Common.{◌≡◌, ◌≢◌, ℕ, ◌≤◌, ◌<◌, Bool, true, false, ◌==◌, ◌&&◌, ◌||◌, not, refl, sym, ap, ◌∙◌, arith, eq-eqb, eqb-true, subst, ◌↔◌, ◌⊎◌, inl, inr}
 use Rattle.std.proofs.lemmas.Bool.{and_from, and_parts, both_ways, cases_Bool, cases_eq, not-false, not-true, or_left, or_right, true≢false}
 use Rattle.barrier_kit.proofs.Matched.{cut_edge, perfect_congr}
 use Rattle.barrier_kit.specs.BarrierCuts.{IsSide}
@@ -8,12 +9,9 @@ use Rattle.counting.proofs.Booleans.{but_from}
 use Rattle.counting.proofs.Counts.{count_congr}
 use Rattle.counting.proofs.Members.{count_member, count_minus, two_members}
 use Rattle.counting.proofs.SetSizes.{count_mono, count_split}
-use Rattle.counting.proofs.Totals.{total_add, total_le}
-use Rattle.counting.specs.Counts.{Within, bit, count}
+use Rattle.counting.specs.Counts.{Within, count}
 use Rattle.counting.specs.Sets.{Set, complement, meet, minus, none, singleton, union}
-use Rattle.graph_core.proofs.Decide.{covered_perfect}
 use Rattle.graph_core.proofs.Walks.{has_ends-back, has_ends-cases, has_ends-own}
-use Rattle.graph_core.specs.Components.{IsConnected}
 use Rattle.graph_core.specs.Covered.{IsCovered}
 use Rattle.graph_core.specs.Graph.{Graph, IsMultigraph, first_end, has_ends, in_cut, second_end, size}
 use Rattle.graph_core.specs.Matchings.{HasPerfect, IsEnd, Together}
@@ -23,7 +21,6 @@ use Rattle.matching_digraph.proofs.TightShores.{ends_within}
 use Rattle.quick_kinds.proofs.Braces.{braces}
 use Rattle.quick_kinds.specs.Braces.{AreFoursMatched, four_set}
 use Rattle.theorems.proofs.AddedEdges.{add_edge, ends_set}
-use Rattle.theorems.proofs.CubicCuts.{perfect_size}
 use Rattle.theorems.proofs.Neighbourhoods.{Leaning, ends_cross, leaning, near_side, neighbour_edge, surplus}
 use Rattle.theorems.specs.Braces.{IsTwoExtendable, neighbourhood}
 
@@ -264,66 +261,3 @@ module _ (g : Graph) (is : IsMultigraph g) (cov : IsCovered g) (a : Set) (two : 
 
   pub extendable_or_tight : HasNoTightCut g ↔ IsTwoExtendable g
   extendable_or_tight = (extendable, not_extendable)
-
--- a 2-extendable graph with six vertices, connected and with a perfect matching, is covered
-module _ (g : Graph) (is : IsMultigraph g) (six : 6 ≤ g.order) (joined : IsConnected g) (perfect : HasPerfect g none) (ext : IsTwoExtendable g) where
-  -- an edge of the matching without an end in common with e
-  beside_edge : (e : ℕ) → Within (size g) e → (f : ℕ) × Within (size g) f × AreApart g e f
-  beside_edge e we =
-      let p = perfect.0 in
-      let x = first_end g e in
-      let y = second_end g e in
-      let s = perfect_size g perfect.0 is.ends perfect.1 in
-      let i = perfect.1.once (first_end g e) (is.ends e we).0 refl in
-      let j = perfect.1.once (second_end g e) (is.ends e we).1 refl in
-      let l = total_le (size g) (λ f. bit (perfect.0 f)) (λ f. bit (clear f) + (met_sum x f + met_sum y f)) (λ f w. bits (perfect.0 f) (first_end g f == first_end g e) (second_end g f == first_end g e) (first_end g f == second_end g e) (second_end g f == second_end g e)) in
-      let a = total_add (size g) (λ f. bit (clear f)) (λ f. met_sum x f + met_sum y f) in
-      let b = total_add (size g) (met_sum x) (met_sum y) in
-      let c = total_add (size g) (λ f. bit (perfect.0 f && (first_end g f == first_end g e))) (λ f. bit (perfect.0 f && (second_end g f == first_end g e))) in
-      let d = total_add (size g) (λ f. bit (perfect.0 f && (first_end g f == second_end g e))) (λ f. bit (perfect.0 f && (second_end g f == second_end g e))) in
-      let f = count_member (size g) clear (omega arith) in (f.0, f.1, apart f.0 f.2)
-    where
-      met_sum : ℕ → ℕ → ℕ
-      met_sum v f = bit (perfect.0 f && (first_end g f == v)) + bit (perfect.0 f && (second_end g f == v))
-
-      clear : Set
-      clear f = perfect.0 f && not (((first_end g f == first_end g e) || (second_end g f == first_end g e)) || ((first_end g f == second_end g e) || (second_end g f == second_end g e)))
-
-      bits : (k p q r s : Bool) → bit k ≤ bit (k && not ((p || q) || (r || s))) + ((bit (k && p) + bit (k && q)) + (bit (k && r) + bit (k && s)))
-      bits false p q r s = omega arith
-      bits true true q r s = omega arith
-      bits true false true r s = omega arith
-      bits true false false true s = omega arith
-      bits true false false false true = omega arith
-      bits true false false false false = omega arith
-
-      apart : (f : ℕ) → clear f ≡ true → AreApart g e f
-      apart f h v w i j = elim i [
-        | inl p ↦ elim j [
-          | inl q ↦ both_ways (first_end g f == first_end g e) o.0 (eq-eqb (first_end g f) (first_end g e) (q ∙ sym p))
-          | inr q ↦ both_ways (second_end g f == first_end g e) o.1 (eq-eqb (second_end g f) (first_end g e) (q ∙ sym p))
-        ]
-        | inr p ↦ elim j [
-          | inl q ↦ both_ways (first_end g f == second_end g e) o.2 (eq-eqb (first_end g f) (second_end g e) (q ∙ sym p))
-          | inr q ↦ both_ways (second_end g f == second_end g e) o.3 (eq-eqb (second_end g f) (second_end g e) (q ∙ sym p))
-        ]
-      ]
-        where
-          off : (k p q r s : Bool) → (k && not ((p || q) || (r || s))) ≡ true → (p ≡ false) × (q ≡ false) × (r ≡ false) × (s ≡ false)
-          off k p q r s h = grind arith
-
-          o : ((first_end g f == first_end g e) ≡ false) × ((second_end g f == first_end g e) ≡ false) × ((first_end g f == second_end g e) ≡ false) × ((second_end g f == second_end g e) ≡ false)
-          o = off (perfect.0 f) (first_end g f == first_end g e) (second_end g f == first_end g e) (first_end g f == second_end g e) (second_end g f == second_end g e) h
-
-  pub extendable_covered : IsCovered g
-  extendable_covered = record {
-    two = omega arith;
-    connected = joined;
-    allowed = λ e w d. let f = beside_edge e w in let m = ext e f.0 w f.1 f.2 in (m.0, m.1, m.2);
-  }
-
-pub brace_or_extendable : (g : Graph) (a : Set) → IsMultigraph g → IsSide g a → 6 ≤ g.order → (IsCovered g × HasNoTightCut g) ↔ (IsConnected g × HasPerfect g none × IsTwoExtendable g)
-brace_or_extendable g a is two six = (
-  (λ h. let c = h.0.connected in (c, covered_perfect g is.ends h.0, extendable g is h.0 a two h.1)),
-  (λ h. let c = extendable_covered g is six h.0 h.1 h.2 in (c, not_extendable g is c a two h.2)),
-)

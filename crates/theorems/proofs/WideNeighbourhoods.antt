@@ -1,5 +1,6 @@
--- A bipartite covered graph has no nontrivial tight cut if and only if its small sets on a side have two neighbours more than vertices.
--- A set with one neighbour more is with its neighbours a tight shore; and a nontrivial tight shore gives such a set.
+-- A bipartite covered graph has no nontrivial tight cut if and only if its small sets on a side
+-- have two neighbours more than vertices. A set with one neighbour more is with its neighbours a
+-- tight shore; and a nontrivial tight shore gives such a set.
 use Rattle.std.proofs.Common.{◌≡◌, ℕ, ◌+◌, ◌≤◌, true, not, sym, ap, ◌∙◌, arith, ◌↔◌, inl, inr}
 use Rattle.std.proofs.lemmas.Bool.{and_from, and_parts, cases_lt, not-true}
 use Rattle.barrier_kit.specs.BarrierCuts.{IsSide}

@@ -1,5 +1,5 @@
--- 3-connected graphs, and the two kinds of tight cuts (Edmonds, Lovász and Pulleyblank 1982). A barrier cut is given by the
--- barrier, and a 2-separation cut by the cut pair.
+-- 3-connected graphs, and the two kinds of tight cuts (Edmonds, Lovász and Pulleyblank 1982). A
+-- barrier cut is given by the barrier, and a 2-separation cut by the cut pair.
 use Rattle.std.specs.Prelude.{◌≡◌, ℕ, ◌≤◌, ◌⊎◌, false, not}
 use Rattle.counting.specs.Counts.{Within, count}
 use Rattle.counting.specs.Sets.{Set, pair_set, singleton, union}
@@ -22,7 +22,8 @@ pub record IsBarrierCutOf (g : Graph) (x s : Set) : Type 0 where
   pub outside : s vertex ≡ false
   pub same : ((v : ℕ) → Within g.order v → joined g s vertex v ≡ x v) ⊎ ((v : ℕ) → Within g.order v → joined g s vertex v ≡ not (x v))
 
--- a cut pair without which g has a perfect matching, and a component without it that has, with u, a nontrivial tight cut
+-- a cut pair without which g has a perfect matching, and a component without it that has, with u,
+-- a nontrivial tight cut
 pub record SeparationCut (g : Graph) (u v : ℕ) : Type 0 where
   pub pair : IsCutPair g u v
   pub perfect : HasPerfect g (pair_set u v)

@@ -8,6 +8,7 @@ use Rattle.graph_core.specs.Graph.{Graph, edges_in_cut}
 abbrev pub cut_size : Graph → Set → ℕ
 cut_size g x = edges_in_cut g everything x
 
--- 2-edge-connected: each vertex set that is neither empty nor all has at least two edges in its cut
+-- 2-edge-connected: each vertex set that is neither empty nor all has at least two edges in its
+-- cut
 abbrev pub IsTwoEdgeConnected : Graph → Type 0
 IsTwoEdgeConnected g = (x : Set) (u v : ℕ) → Within g.order u → Within g.order v → x u ≡ true → x v ≡ false → 2 ≤ cut_size g x

@@ -1,6 +1,7 @@
 //! Where does a nontrivial tight cut come from, and which graphs are bricks?
 //!
-//! Source: Edmonds, Lovász and Pulleyblank, "Brick decompositions and the matching rank of graphs" (Combinatorica 2, 1982).
+//! Source: Edmonds, Lovász and Pulleyblank, "Brick decompositions and the matching rank of
+//! graphs" (Combinatorica 2, 1982).
 ghost use Rattle.std.specs.Prelude.{ℕ, ◌≤◌, ◌⊎◌, ◌↔◌};
 ghost use Rattle.counting.specs.Sets.{Set};
 ghost use Rattle.graph_core.specs.Covered.{IsCovered};
@@ -10,10 +11,11 @@ ghost use Rattle.graph_core.specs.Tight.{HasNoTightCut, IsNontrivial, IsTight};
 ghost use Rattle.barrier_kit.specs.BarrierCuts.{BarrierCut, IsSide};
 ghost use Rattle.theorems.specs.Bricks.{IsBarrierCutOf, IsThreeConnected, SeparationCut};
 
-/// The theorem of Edmonds, Lovász and Pulleyblank: a matching covered graph with a nontrivial tight cut has a nontrivial tight cut
-/// that is a barrier cut or a 2-separation cut; in a bipartite one each tight cut is a barrier cut; and a graph is a brick if and
-/// only if it has at least four vertices, is bicritical and has no cut pair, that is, is 3-connected and bicritical (Edmonds,
-/// Lovász and Pulleyblank 1982; Lovász 1987).
+/// The theorem of Edmonds, Lovász and Pulleyblank: a matching covered graph with a nontrivial
+/// tight cut has a nontrivial tight cut that is a barrier cut or a 2-separation cut; in a
+/// bipartite one each tight cut is a barrier cut; and a graph is a brick if and only if it has at
+/// least four vertices, is bicritical and has no cut pair, that is, is 3-connected and bicritical
+/// (Edmonds, Lovász and Pulleyblank 1982; Lovász 1987).
 pub fn elp_law()
     ensures cut { (g : Graph) (x : Set) → IsMultigraph g → IsCovered g →
         IsTight g x → IsNontrivial g.order x →

@@ -1,6 +1,7 @@
 //! Perfect matchings and tight cuts of cubic graphs.
 //!
-//! Sources: Petersen, "Die Theorie der regulären graphs" (1891); Schönberger (1934); Lovász and Plummer, "Matching Theory", chapter 7.
+//! Sources: Petersen, "Die Theorie der regulären graphs" (1891); Schönberger (1934); Lovász and
+//! Plummer, "Matching Theory", chapter 7.
 ghost use Rattle.std.specs.Prelude.{◌≡◌, ◌≢◌, ℕ, ◌≤◌, ◌↔◌};
 ghost use Rattle.counting.specs.Sets.{Set};
 ghost use Rattle.graph_core.specs.Components.{IsConnected};
@@ -11,10 +12,12 @@ ghost use Rattle.grow_gen.specs.Cubic.{IsCubic};
 ghost use Rattle.barrier_kit.specs.BarrierCuts.{IsSide};
 ghost use Rattle.theorems.specs.CubicGraphs.{IsTwoEdgeConnected, cut_size};
 
-/// Cubic graphs: a 2-edge-connected cubic graph is matching covered (Petersen 1891; Schönberger 1934), and each of its tight cuts has
-/// three edges (after Edmonds 1965). So a cubic graph has no nontrivial tight cut if each nontrivial cut has at least four edges. In a
-/// bipartite cubic graph each cut of three edges is tight, so that it has no nontrivial tight cut if and only if no nontrivial cut has
-/// three edges; a connected one has no bridge (Lovász and Plummer, "Matching Theory", chapter 7).
+/// Cubic graphs: a 2-edge-connected cubic graph is matching covered (Petersen 1891; Schönberger
+/// 1934), and each of its tight cuts has three edges (after Edmonds 1965). So a cubic graph has
+/// no nontrivial tight cut if each nontrivial cut has at least four edges. In a bipartite cubic
+/// graph each cut of three edges is tight, so that it has no nontrivial tight cut if and only if
+/// no nontrivial cut has three edges; a connected one has no bridge (Lovász and Plummer,
+/// "Matching Theory", chapter 7).
 pub fn cubic_law()
     ensures covered { (g : Graph) → IsMultigraph g → IsCubic g → 2 ≤ g.order →
         IsTwoEdgeConnected g → IsCovered g }

@@ -1,5 +1,6 @@
 use Rattle.quick_kinds.proofs.Braces.{braces}
-use Rattle.theorems.proofs.TwoExtendable.{brace_or_extendable, extendable_or_tight}
+use Rattle.theorems.proofs.ExtendableGraphs.{brace_or_extendable}
+use Rattle.theorems.proofs.TwoExtendable.{extendable_or_tight}
 use Rattle.theorems.proofs.WideNeighbourhoods.{wide_or_tight}
 use Rattle.theorems.proofs.braces.braces_law.Goals as goal
 
