@@ -1,0 +1,15 @@
+pub mod AddedEdges
+pub mod BarrierShores
+pub mod BrickFacts
+pub mod ConnectedShores
+pub mod CubicCovered
+pub mod CubicCuts
+pub mod CubicDegrees
+pub mod CubicSides
+pub mod ExtendableGraphs
+pub mod NamedCuts
+pub mod NarrowCuts
+pub mod Neighbourhoods
+pub mod ThreeConnected
+pub mod TwoExtendable
+pub mod WideNeighbourhoods
