@@ -1,0 +1,2 @@
+pub mod MatchedParts
+pub mod ThreeSets
