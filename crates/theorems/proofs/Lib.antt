@@ -1,2 +1,4 @@
+pub mod LaminarFamilies
 pub mod MatchedParts
+pub mod NestedCuts
 pub mod ThreeSets

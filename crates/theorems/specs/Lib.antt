@@ -1,1 +1,2 @@
 pub mod Matchings
+pub mod TightCuts

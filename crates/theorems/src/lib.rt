@@ -6,5 +6,7 @@
 #![tactic(auto)]
 
 mod matchings;
+mod tight_cuts;
 
 pub use matchings::gallai_edmonds_law;
+pub use tight_cuts::laminar_law;
