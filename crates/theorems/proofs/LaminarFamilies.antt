@@ -1,11 +1,10 @@
 -- The shores of a derivation are a maximal family of which no two cross, and each such family is that of a derivation.
 -- By induction: the members inside a cut are such a family of its kept side, and those not inside it one of its merged side.
-use Rattle.std.proofs.Common.{◌≡◌, ◌≢◌, ◌⊎◌, ◌↔◌, ℕ, zero, suc, ◌+◌, ◌≤◌, ◌<◌, Bool, true, false, cond, not, ◌&&◌, List, [], ◌∷◌, ◌++◌, filter, length, refl, sym, ap, ◌∙◌, arith, inl, inr, subst}
-use Rattle.std.proofs.lemmas.Bool.{and_parts, and_from, both_ways, cases_Bool, true≢false, false_from_ne_true}
+use Rattle.std.proofs.Common.{◌≡◌, ◌⊎◌, ◌↔◌, ℕ, zero, suc, ◌≤◌, Bool, true, false, cond, not, ◌&&◌, List, [], ◌∷◌, ◌++◌, filter, length, refl, sym, ap, ◌∙◌, arith, inl, inr, subst}
+use Rattle.std.proofs.lemmas.Bool.{and_parts, and_from, both_ways, cases_Bool, false_from_ne_true}
 use Rattle.counting.proofs.RisingLists.{all_in_true, true_all_in}
 use Rattle.counting.specs.Counts.{Within}
 use Rattle.counting.specs.Lists.{IsIn, is_subset, mem}
-use Rattle.counting.specs.Sets.{Set}
 use Rattle.graph_core.proofs.MergedShores.{Apart, Below}
 use Rattle.graph_core.specs.Covered.{IsCovered}
 use Rattle.graph_core.specs.Graph.{Graph, IsGraph}
@@ -14,7 +13,7 @@ use Rattle.tree_core.proofs.CutsBelow.{kept-length, merged-length}
 use Rattle.tree_core.proofs.DerivationShores.{cut-shore, shore-cut}
 use Rattle.tree_core.specs.Derivations.{IsCutAt, IsDerivation, IsDerivationAt, IsLeafAt, IsTightShore, kept_at, merged_at}
 use Rattle.tree_core.specs.Shapes.{Shape, cut, leaf, shores}
-use Rattle.move_laws.proofs.BigShores.{Big, Stage, big_cut, big_some, cut_big}
+use Rattle.move_laws.proofs.BigShores.{Stage, big_cut, big_some, cut_big}
 use Rattle.move_laws.proofs.Rising.{bounds}
 use Rattle.move_laws.proofs.SingleVertices.{singles_stage}
 use Rattle.theorems.proofs.NestedCuts.{CutAt, Nested, apart_turned, apart_up, cut_of_set, kept_down, kept_stage, kept_up, merged_down, merged_stage, nested-uncrossed, nested_self, nested_turned, over_or_below, over_up, same_shores, uncrossed-nested}

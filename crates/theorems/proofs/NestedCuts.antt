@@ -1,6 +1,6 @@
 -- Cuts at a stage of a decomposition and at the two stages below it: what comes down, what comes up, and what is nested.
 -- A union of merged blocks holds the new block or is apart from it, so each cut below is nested with the shore that was merged.
-use Rattle.std.proofs.Common.{◌≡◌, ◌⊎◌, ℕ, ◌+◌, ◌≤◌, Bool, true, false, not, ◌&&◌, List, length, refl, sym, ap, ◌∙◌, arith, inl, inr, subst}
+use Rattle.std.proofs.Common.{◌≡◌, ◌⊎◌, ℕ, ◌≤◌, Bool, true, false, not, ◌&&◌, List, length, refl, sym, ap, ◌∙◌, arith, inl, inr, subst}
 use Rattle.std.proofs.lemmas.Bool.{and_parts, both_ways, cases_Bool, false_from_ne_true, not-true}
 use Rattle.counting.proofs.Booleans.{same_tests}
 use Rattle.counting.proofs.RisingLists.{mem-rising_list, rising_list-rises, same_rising_list}
@@ -14,9 +14,9 @@ use Rattle.graph_core.proofs.Complements.{mem-complement_of}
 use Rattle.graph_core.proofs.MergedShores.{Apart, Below, block_count_new, inside_or_apart}
 use Rattle.graph_core.specs.Graph.{Graph}
 use Rattle.graph_core.specs.Partitions.{AreBlocks, complement_of, merged}
-use Rattle.graph_core.specs.Shores.{IsTightAt, IsUnion, block_count, blocks_in}
+use Rattle.graph_core.specs.Shores.{IsTightAt, block_count, blocks_in}
 use Rattle.graph_core.specs.Tight.{IsNontrivial}
-use Rattle.tree_core.specs.Derivations.{IsLeafAt, kept_at, merged_at}
+use Rattle.tree_core.specs.Derivations.{kept_at, merged_at}
 use Rattle.move_laws.proofs.BigShores.{Big, Stage, big_merge, big_rest, big_some, big_y, rest_rest, stage_merged}
 use Rattle.move_laws.proofs.CarriedCuts.{some_of}
 use Rattle.move_laws.proofs.NestedShores.{stays_big}
