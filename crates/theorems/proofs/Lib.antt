@@ -6,10 +6,16 @@ pub mod CubicCovered
 pub mod CubicCuts
 pub mod CubicDegrees
 pub mod CubicSides
+pub mod EarRefusals
 pub mod ExtendableGraphs
+pub mod LaminarFamilies
+pub mod MatchedParts
 pub mod NamedCuts
 pub mod NarrowCuts
 pub mod Neighbourhoods
+pub mod NestedCuts
+pub mod PlainDecompositions
 pub mod ThreeConnected
+pub mod ThreeSets
 pub mod TwoExtendable
 pub mod WideNeighbourhoods

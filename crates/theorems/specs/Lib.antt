@@ -1,3 +1,5 @@
 pub mod Braces
 pub mod Bricks
 pub mod CubicGraphs
+pub mod Matchings
+pub mod TightCuts

@@ -1,12 +1,28 @@
-//! The theorems of the field under their own names, each as a mathematician states it.
+//! The theorems of the field, each under its own name and in the words of a textbook.
 //!
-//! Each theorem is a function that does nothing, and its contract is the statement. A chapter is
-//! a file: `bricks` on tight cuts, bricks and 3-connected graphs, `braces` on bipartite graphs
-//! without nontrivial tight cut, `cubic_graphs` on 2-edge-connected cubic graphs. The words of
-//! each chapter that the lower crates lack stand in a file of `specs/`. No part of the program
-//! stands on this crate.
+//! Each theorem is a public function with an empty body, and its contract is the statement. A file
+//! is a chapter:
+//! - `braces`: braces
+//! - `bricks`: bricks and 3-connected graphs
+//! - `cubic_graphs`: cubic graphs
+//! - `matchings`: the Gallai-Edmonds structure theorem
+//! - `tight_cuts`: laminar families of tight cuts
+//!
+//! The words of a chapter that the lower crates lack stand in a file of `specs/`. No part of the
+//! program stands on this crate. `docs/THEOREMS.md` is the book that follows it.
+//!
+//! Sources: Lovász and Plummer, "Matching Theory" (1986); Lucchesi and Murty, "Perfect Matchings"
+//! (2024).
 #![tactic(auto)]
 
-pub mod braces;
-pub mod bricks;
-pub mod cubic_graphs;
+mod braces;
+mod bricks;
+mod cubic_graphs;
+mod matchings;
+mod tight_cuts;
+
+pub use braces::braces_law;
+pub use bricks::elp_law;
+pub use cubic_graphs::cubic_law;
+pub use matchings::gallai_edmonds_law;
+pub use tight_cuts::laminar_law;
