@@ -24,4 +24,4 @@ pub use laws::{
     covered_quotient_law, lift_law, merged_quotients_law, projection_law, tight_quotient_law,
 };
 pub use lifting::lift;
-pub use partition::Partition;
+pub use partition::{Partition, name_of};

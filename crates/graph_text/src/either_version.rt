@@ -13,10 +13,12 @@ use crate::body::{Body, EitherBody};
 use crate::graph_lines::{close_graph, read_edge};
 use crate::named::Named;
 use crate::names::{Names, name_of};
-use graph_core::MultiGraph;
+use crate::version_one::{VERSION_ONE_EDGES, VERSION_ONE_VERTICES};
+use graph_core::{MOST_EDGES, MultiGraph};
 use line_text::{LineFormat, Refusal, has_form, number, word};
 use std::alloc::Global;
 use text_faults::{FaultKind, TextFault, read_text};
+use vset_core::MOST_VERTICES;
 
 // The format.
 #[derive(Drop)]
@@ -31,9 +33,9 @@ fn is_over_limits(named: bool, n: u32, m: u32) -> bool
     ensures edges { result ≡ false → m ≤ 2048 }
 {
     if named {
-        n > 128 || m > 2048
+        n > MOST_VERTICES || m > MOST_EDGES
     } else {
-        n > 64 || m > 512
+        n > VERSION_ONE_VERTICES || m > VERSION_ONE_EDGES
     }
 }
 

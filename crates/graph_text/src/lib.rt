@@ -23,5 +23,5 @@ mod writing;
 pub use either_version::read_any;
 pub use named::Named;
 pub use names::{Names, plain_names};
-pub use version_one::read_graph;
+pub use version_one::{VERSION_ONE_EDGES, VERSION_ONE_VERTICES, read_graph};
 pub use writing::{write_graph, write_named};

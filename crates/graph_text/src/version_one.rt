@@ -17,9 +17,11 @@ use line_text::{LineFormat, Refusal, has_form, number, word};
 use std::alloc::Global;
 use text_faults::{FaultKind, TextFault, read_text};
 
-const MOST_VERTICES: u32 = 64;
+/// The most vertices of a graph in version 1.
+pub const VERSION_ONE_VERTICES: u32 = 64;
 
-const MOST_EDGES: u32 = 512;
+/// The most edges of a graph in version 1.
+pub const VERSION_ONE_EDGES: u32 = 512;
 
 // The format.
 #[derive(Drop)]
@@ -36,7 +38,7 @@ fn read_header(alloc: Global, words: &[&[u8]]) -> Result<Body, Refusal<FaultKind
     let (Some(n), Some(m)) = (number(word(words, 2)), number(word(words, 3))) else {
         return Err(Refusal::Fault(FaultKind::Number));
     };
-    if n > MOST_VERTICES || m > MOST_EDGES {
+    if n > VERSION_ONE_VERTICES || m > VERSION_ONE_EDGES {
         return Err(Refusal::Fault(FaultKind::Limit));
     }
     match MultiGraph::new(alloc, n) {

@@ -9,7 +9,7 @@ use crate::leaf_lines::leaf_lines;
 use crate::query::Query;
 use crate::selecting::selected;
 use graph_core::MultiGraph;
-use graph_text::write_graph;
+use graph_text::{VERSION_ONE_EDGES, VERSION_ONE_VERTICES, write_graph};
 use graph6_text::read_graph6;
 use std::alloc::{AllocError as Memory, Global};
 use text_faults::{FaultKind, TextFault};
@@ -22,12 +22,6 @@ pub enum Told {
     /// The line is bad: this is the kind of its fault.
     Bad { kind: FaultKind },
 }
-
-/// The most vertices of a graph file.
-const MOST_FILE_VERTICES: u32 = 64;
-
-/// The most edges of a graph file.
-const MOST_FILE_EDGES: u32 = 512;
 
 /// The answer for a line with this number, counted from 1: what the query asks of the graph that stands in the line, or the kind of
 /// the line's fault. The line may have a header before the graph6 text and a line end behind it, as `read_graph6` has it. A graph
@@ -78,7 +72,7 @@ fn answer(
 fn file_text(alloc: Global, g: &MultiGraph) -> Result<Told, Memory>
     ensures { IfOk result (IsFileAnswer g.now) }
 {
-    if g.order() > MOST_FILE_VERTICES || g.size() > MOST_FILE_EDGES {
+    if g.order() > VERSION_ONE_VERTICES || g.size() > VERSION_ONE_EDGES {
         let kind = FaultKind::Limit;
         return Ok(Told::Bad { kind });
     }

@@ -4,8 +4,7 @@ ghost use Rattle.graph_core.specs.Partitions.{names_of};
 ghost use Rattle.tree_core.specs.MoveView.{move_of, moves_of};
 ghost use Rattle.report_text.specs.Comparisons.{image_line, image_lines, map_text, map_texts, move_line, move_lines, pairing_text, partner_line, same_line};
 
-use crate::derivations::name_of;
-use contraction::Partition;
+use contraction::{Partition, name_of};
 use graph_core::Numbers;
 use listed::Listed;
 use move_text::push_move;

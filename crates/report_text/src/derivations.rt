@@ -1,7 +1,6 @@
 //! The report of a decomposition: the text of its tree, and its leaves as comments.
 ghost use Rattle.std.specs.Prelude.{◌≡◌, ◌<◌, ◌≤◌, ◌++◌, ◌^◌, List, length, map, codes, OnOk, IfOk, All, string_bytes};
 ghost use Rattle.counting.specs.Counts.{Within};
-ghost use Rattle.counting.specs.Lists.{last_of};
 ghost use Rattle.contraction.specs.Contracted.{contraction};
 ghost use Rattle.graph_core.specs.Graph.{Graph, size};
 ghost use Rattle.graph_core.specs.Quotients.{quotient};
@@ -11,11 +10,10 @@ ghost use Rattle.tree_core.specs.declared.tallies.LeafKind.{LeafKind};
 
 use crate::commenting::commented;
 use crate::numbers::{push_numbers, push_set_line};
-use contraction::{Contracted, Partition, quotient};
+use contraction::{Contracted, Partition, name_of, quotient};
 use graph_core::MultiGraph;
 use std::alloc::{AllocError as Memory, Global};
 use tree_core::{LeafKind, Partitions, Tally, kind_of, tallied};
-use vset_core::VSet;
 
 // The word of a kind.
 fn kind_word(kind: LeafKind) -> &'static str
@@ -43,14 +41,6 @@ fn push_blocks(text: &mut String, p: &Partition) -> Result<(), Memory>
         push_set_line(text, "c block", p.block(i))?;
     }
     Ok(())
-}
-
-/// The name of a block: its greatest vertex.
-pub fn name_of(block: VSet) -> u32
-    ensures { result ≡ last_of block }
-{
-    block.rises();
-    block.last().unwrap_or(0)
 }
 
 // The name of the block at a place, counted from 1.

@@ -1,11 +1,11 @@
 //! The images of blocks: the names that the blocks of a leaf get by a Switch above it.
 ghost use Rattle.std.specs.Prelude.{◌≡◌, ◌≤◌, IfOk, map};
-ghost use Rattle.counting.specs.Lists.{last_of, mem, rising_list};
+ghost use Rattle.counting.specs.Lists.{mem, rising_list};
 ghost use Rattle.tree_core.specs.Moves.{list_if, meet_list, minus_list, union_list};
 ghost use Rattle.uncross.specs.MapView.{image_name, kept_images, merged_images};
 
 use crate::plans::complement;
-use contraction::Partition;
+use contraction::{Partition, name_of};
 use graph_core::Numbers;
 use std::alloc::{AllocError as Memory, Global};
 use vset_core::{MOST_VERTICES, VSet};
@@ -91,14 +91,6 @@ pub fn merged_images(n: u32, x: VSet, u: VSet, v: VSet) -> Images
         far: x,
         coming: u,
     }
-}
-
-// The name of a block: its greatest vertex, and 0 where it is empty.
-fn name_of(block: VSet) -> u32
-    ensures { result ≡ last_of block }
-{
-    block.rises();
-    block.last().unwrap_or(0)
 }
 
 // A set where a test holds, and the empty set else.
