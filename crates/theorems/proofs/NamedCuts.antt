@@ -1,37 +1,23 @@
 -- A covered graph with a nontrivial tight cut has a nontrivial barrier cut or 2-separation cut. A
 -- bicritical one has a cut pair, one that is neither bicritical nor bipartite a class, and of a
 -- bipartite one each tight cut is a barrier cut.
-use Rattle.std.proofs.Common.{ℕ, ◌&&◌, ◌||◌, not, ap₂, sym, ◌⊎◌, inl, inr}
-use Rattle.std.proofs.lemmas.Bool.{both_ways}
+use Rattle.std.proofs.Common.{ℕ, sym, ◌⊎◌, inl, inr}
 use Rattle.barrier_kit.proofs.ClassLaw.{class_barrier}
 use Rattle.barrier_kit.proofs.CriticalPairs.{class_cut, no_sides}
 use Rattle.barrier_kit.proofs.CutFacts.{nontrivial-turned, tight-turned}
 use Rattle.barrier_kit.specs.BarrierCuts.{BarrierCut}
 use Rattle.brick_kit.proofs.Bricks.{shore_pair}
-use Rattle.counting.proofs.Choice.{choose_set}
-use Rattle.counting.proofs.Tests.{every_congr, every_true, true_every}
 use Rattle.counting.specs.Sets.{Set, complement}
-use Rattle.counting.specs.Tests.{every}
+use Rattle.cut_laws.proofs.Quotients.{bipartite-or}
 use Rattle.graph_core.proofs.SameSets.{nontrivial-same, tight-same}
 use Rattle.graph_core.specs.Covered.{IsCovered}
-use Rattle.graph_core.specs.Graph.{Graph, IsBipartite, IsGraph, IsMultigraph, first_end, in_cut, second_end, size}
+use Rattle.graph_core.specs.Graph.{Graph, IsGraph, IsMultigraph}
 use Rattle.graph_core.specs.Structure.{IsBarrier, IsBicritical, IsCutPair}
 use Rattle.graph_core.specs.Tight.{IsNontrivial, IsTight}
 use Rattle.quick_kinds.proofs.QuickBricks.{critical_or_not}
 use Rattle.separation_kit.proofs.CutPairs.{beside_pair, pair_cut}
 use Rattle.theorems.proofs.BarrierShores.{shore_barrier}
 use Rattle.theorems.specs.Bricks.{IsBarrierCutOf, SeparationCut}
-
--- a graph is bipartite or not
-bipartite-or : (g : Graph) → IsGraph g → IsBipartite g ⊎ (IsBipartite g → ⊥)
-bipartite-or g is =
-    elim (choose_set g.order (λ x. every (size g) (in_cut g x)) (record {
-      same = λ x y same.
-          every_congr (size g) (in_cut g x) (in_cut g y) (λ e w. ap₂ (λ a b. (a && not b) || (not a && b)) (same (first_end g e) (is e w).0) (same (second_end g e) (is e w).1));
-    })) [
-      | inl found ↦ inl (found.0, λ e w. every_true (size g) (in_cut g found.0) found.1 e w)
-      | inr none ↦ inr (λ sides. both_ways (every (size g) (in_cut g sides.0)) (none sides.0) (true_every (size g) (in_cut g sides.0) sides.1))
-    ]
 
 -- a barrier cut of a nontrivial tight shore
 barrier_cut_of : (g : Graph) (x s : Set) → IsGraph g → IsTight g x → IsNontrivial g.order x → IsBarrierCutOf g x s → BarrierCut g s
