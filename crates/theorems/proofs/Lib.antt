@@ -1,0 +1,4 @@
+pub mod EarCounts
+pub mod EarPaths
+pub mod EarSteps
+pub mod HetyeiEars
