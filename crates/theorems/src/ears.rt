@@ -31,10 +31,16 @@ pub fn ear_count_law()
         IsEarList g list → ear_count list.steps + g.order ≡ size g + 1 }
 {}
 
-/// A single ear whose ends lie on opposite sides keeps a bipartite matching covered graph
-/// matching covered (Hetyei 1964; Lovász and Plummer, "Matching Theory", section 4.1).
+/// A bipartite matching covered graph with a single ear whose ends lie on opposite sides is
+/// matching covered and bipartite (Hetyei 1964; Lovász and Plummer, "Matching Theory", section
+/// 4.1).
 pub fn hetyei_law()
-    ensures { (g : Graph) (f a : Set) (v : ℕ) (es : List ℕ) → IsGraph g → IsStage g f →
+    ensures covered { (g : Graph) (f a : Set) (v : ℕ) (es : List ℕ) → IsGraph g → IsStage g f →
         ((e : ℕ) → Within (size g) e → f e ≡ true → in_cut g a e ≡ true) → IsEar g f v es →
         a (last_vertex g v es) ≡ not (a v) → IsStage g (with_edges f es) }
+    ensures bipartite { (g : Graph) (f a : Set) (v : ℕ) (es : List ℕ) →
+        ((e : ℕ) → Within (size g) e → f e ≡ true → in_cut g a e ≡ true) → IsEar g f v es →
+        a (last_vertex g v es) ≡ not (a v) →
+        (b : Set) × ((e : ℕ) → Within (size g) e → with_edges f es e ≡ true →
+        in_cut g b e ≡ true) }
 {}

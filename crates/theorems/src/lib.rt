@@ -6,6 +6,8 @@
 //! is a chapter. Nothing of the product stands on this crate.
 #![tactic(auto)]
 
+mod derivations;
 mod ears;
 
+pub use derivations::derivation_exists_law;
 pub use ears::{ear_count_law, ear_list_exists_law, hetyei_law};
