@@ -5,6 +5,8 @@
 //! - `braces`: braces
 //! - `bricks`: bricks and 3-connected graphs
 //! - `cubic_graphs`: cubic graphs
+//! - `derivations`: tight cut decompositions and the number of bricks
+//! - `ears`: ear decompositions
 //! - `matchings`: the Gallai-Edmonds structure theorem
 //! - `tight_cuts`: laminar families of tight cuts
 //!
@@ -18,11 +20,15 @@
 mod braces;
 mod bricks;
 mod cubic_graphs;
+mod derivations;
+mod ears;
 mod matchings;
 mod tight_cuts;
 
 pub use braces::braces_law;
 pub use bricks::elp_law;
 pub use cubic_graphs::cubic_law;
+pub use derivations::derivation_exists_law;
+pub use ears::{ear_count_law, ear_list_exists_law, hetyei_law};
 pub use matchings::gallai_edmonds_law;
 pub use tight_cuts::laminar_law;
