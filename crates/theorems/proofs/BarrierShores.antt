@@ -7,7 +7,7 @@ use Rattle.barrier_kit.proofs.BarrierCuts.{leader_of, part_same}
 use Rattle.barrier_kit.proofs.Barriers.{few_odd_components}
 use Rattle.barrier_kit.proofs.CutFacts.{tight-turned}
 use Rattle.barrier_kit.proofs.Matched.{crosses_apart}
-use Rattle.barrier_kit.specs.BarrierCuts.{IsSide}
+use Rattle.graph_core.specs.Sides.{IsSide}
 use Rattle.brick_kit.proofs.PairSeparations.{stays_joined}
 use Rattle.counting.proofs.Booleans.{same_tests}
 use Rattle.counting.proofs.Counts.{count_congr}

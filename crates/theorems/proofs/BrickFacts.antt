@@ -5,7 +5,7 @@ use Rattle.std.proofs.Common.{◌≡◌, ℕ, ◌≤◌, Bool, true, ◌==◌, �
 use Rattle.std.proofs.lemmas.Bool.{or_cases}
 use Rattle.barrier_kit.proofs.Barriers.{two_less}
 use Rattle.barrier_kit.proofs.CriticalPairs.{no_sides}
-use Rattle.barrier_kit.specs.BarrierCuts.{IsSide}
+use Rattle.graph_core.specs.Sides.{IsSide}
 use Rattle.brick_kit.proofs.Bricks.{no_shore}
 use Rattle.counting.proofs.Booleans.{apart_denied}
 use Rattle.counting.proofs.Counts.{count_complement, count_congr}

@@ -20,10 +20,10 @@ use Rattle.grow_gen.specs.Cubic.{IsCubic}
 use Rattle.theorems.proofs.CubicCovered.{cubic_covered}
 use Rattle.theorems.proofs.CubicDegrees.{all_edges, inner_size, three_each, three_in_cut}
 use Rattle.theorems.specs.CubicGraphs.{IsTwoEdgeConnected, cut_size}
-use Rattle.weight_kit.proofs.CoverBound.{Dual, cover_sum}
-use Rattle.weight_kit.proofs.Duality.{dual}
-use Rattle.weight_kit.proofs.EdgeSums.{weight_le}
-use Rattle.weight_kit.specs.Weights.{cover_value, covering, sum_over, weight_of}
+use Rattle.brick_kit.proofs.CoverBound.{Dual, cover_sum}
+use Rattle.brick_kit.proofs.Duality.{dual}
+use Rattle.brick_kit.proofs.EdgeSums.{weight_le}
+use Rattle.brick_kit.specs.Weights.{cover_value, covering, sum_over, weight_of}
 
 -- a perfect matching has half as many edges as there are vertices
 pub perfect_size : (g : Graph) (p : Set) → IsGraph g → IsPerfect g none p → g.order ≡ 2 * count (size g) p

@@ -3,7 +3,7 @@
 -- cut that leave at P and at Q.
 use Rattle.std.proofs.Common.{◌≡◌, ◌≢◌, ℕ, ◌+◌, ◌*◌, ◌≤◌, Bool, true, false, ◌&&◌, ◌||◌, not, refl, sym, ap, ◌∙◌, arith, ◌↔◌}
 use Rattle.std.proofs.lemmas.Bool.{and_parts, true≢false}
-use Rattle.barrier_kit.specs.BarrierCuts.{IsSide}
+use Rattle.graph_core.specs.Sides.{IsSide}
 use Rattle.counting.proofs.Members.{count_zero}
 use Rattle.counting.proofs.Odd.{complement_odd}
 use Rattle.counting.proofs.SetSizes.{count_mono}

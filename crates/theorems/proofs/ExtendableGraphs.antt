@@ -3,7 +3,7 @@
 -- edge, so that both lie in a perfect matching.
 use Rattle.std.proofs.Common.{◌≡◌, ℕ, ◌+◌, ◌≤◌, Bool, true, false, ◌==◌, ◌&&◌, ◌||◌, not, refl, sym, ◌∙◌, arith, eq-eqb, ◌↔◌, inl, inr}
 use Rattle.std.proofs.lemmas.Bool.{both_ways}
-use Rattle.barrier_kit.specs.BarrierCuts.{IsSide}
+use Rattle.graph_core.specs.Sides.{IsSide}
 use Rattle.counting.proofs.Members.{count_member}
 use Rattle.counting.proofs.Totals.{total_add, total_le}
 use Rattle.counting.specs.Counts.{Within, bit}

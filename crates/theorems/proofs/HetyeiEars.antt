@@ -4,7 +4,7 @@
 use Rattle.std.proofs.Common.{◌≡◌, ℕ, Bool, true, false, ◌==◌, refl, ap, ap₂, sym, ◌∙◌, arith, ◌&&◌, ◌||◌, not, eq-eqb, eqb-true, inl, inr, List}
 use Rattle.std.proofs.lemmas.Bool.{and_from, and_parts, cases_Bool}
 use Rattle.barrier_kit.proofs.Matched.{perfect_congr}
-use Rattle.barrier_kit.specs.BarrierCuts.{IsSide}
+use Rattle.graph_core.specs.Sides.{IsSide}
 use Rattle.counting.proofs.Booleans.{or_comm, same_tests}
 use Rattle.counting.proofs.Ranks.{rank_once}
 use Rattle.counting.proofs.Tests.{some_true, true_some}

@@ -6,7 +6,7 @@ use Rattle.std.proofs.lemmas.Bool.{and_from, and_parts, both_ways, false_from_ne
 use Rattle.barrier_kit.proofs.CutFacts.{nontrivial-turned, tight-turned}
 use Rattle.barrier_kit.proofs.Joining.{cut_split}
 use Rattle.barrier_kit.proofs.Matched.{cut_matching}
-use Rattle.barrier_kit.specs.BarrierCuts.{IsSide}
+use Rattle.graph_core.specs.Sides.{IsSide}
 use Rattle.counting.proofs.Booleans.{and_comm}
 use Rattle.counting.proofs.Counts.{count_congr, count_meet_union}
 use Rattle.counting.proofs.SetSizes.{count_split}

@@ -3,7 +3,7 @@
 -- tight shore; and a nontrivial tight shore gives such a set.
 use Rattle.std.proofs.Common.{◌≡◌, ℕ, ◌+◌, ◌≤◌, true, not, sym, ap, ◌∙◌, arith, ◌↔◌, inl, inr}
 use Rattle.std.proofs.lemmas.Bool.{and_from, and_parts, cases_lt, not-true}
-use Rattle.barrier_kit.specs.BarrierCuts.{IsSide}
+use Rattle.graph_core.specs.Sides.{IsSide}
 use Rattle.counting.proofs.Counts.{count_congr}
 use Rattle.counting.proofs.Booleans.{and_implied}
 use Rattle.counting.proofs.Members.{count_member, two_members, two_of}

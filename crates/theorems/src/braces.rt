@@ -9,7 +9,7 @@ ghost use Rattle.graph_core.specs.Covered.{IsCovered};
 ghost use Rattle.graph_core.specs.Graph.{Graph, IsGraph, IsMultigraph};
 ghost use Rattle.graph_core.specs.Matchings.{HasPerfect};
 ghost use Rattle.graph_core.specs.Tight.{HasNoTightCut};
-ghost use Rattle.barrier_kit.specs.BarrierCuts.{IsSide};
+ghost use Rattle.graph_core.specs.Sides.{IsSide};
 ghost use Rattle.quick_kinds.specs.Braces.{AreFoursMatched};
 ghost use Rattle.theorems.specs.Braces.{HasWideNeighbourhoods, IsTwoExtendable};
 

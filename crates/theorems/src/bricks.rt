@@ -8,7 +8,8 @@ ghost use Rattle.graph_core.specs.Covered.{IsCovered};
 ghost use Rattle.graph_core.specs.Graph.{Graph, IsBipartite, IsGraph, IsMultigraph};
 ghost use Rattle.graph_core.specs.Structure.{IsBarrier, IsBicritical, IsCutPair};
 ghost use Rattle.graph_core.specs.Tight.{HasNoTightCut, IsNontrivial, IsTight};
-ghost use Rattle.barrier_kit.specs.BarrierCuts.{BarrierCut, IsSide};
+ghost use Rattle.barrier_kit.specs.BarrierCuts.{BarrierCut};
+ghost use Rattle.graph_core.specs.Sides.{IsSide};
 ghost use Rattle.theorems.specs.Bricks.{IsBarrierCutOf, IsThreeConnected, SeparationCut};
 
 /// The theorem of Edmonds, Lovász and Pulleyblank: a matching covered graph with a nontrivial

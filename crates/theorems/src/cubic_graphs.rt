@@ -9,7 +9,7 @@ ghost use Rattle.graph_core.specs.Covered.{IsCovered};
 ghost use Rattle.graph_core.specs.Graph.{Graph, IsMultigraph};
 ghost use Rattle.graph_core.specs.Tight.{HasNoTightCut, IsNontrivial, IsTight};
 ghost use Rattle.grow_gen.specs.Cubic.{IsCubic};
-ghost use Rattle.barrier_kit.specs.BarrierCuts.{IsSide};
+ghost use Rattle.graph_core.specs.Sides.{IsSide};
 ghost use Rattle.theorems.specs.CubicGraphs.{IsTwoEdgeConnected, cut_size};
 
 /// Cubic graphs: a 2-edge-connected cubic graph is matching covered (Petersen 1891; Schönberger
