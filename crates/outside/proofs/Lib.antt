@@ -1,3 +1,4 @@
 pub mod FaultCounts
 pub mod Pieces
 pub mod HeldFiles
+pub mod Writes

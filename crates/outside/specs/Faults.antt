@@ -1,5 +1,5 @@
 -- Counts of faults and of calls, which never fall and stay at their greatest value.
-use Rattle.std.specs.Prelude.{ℕ, ◌+◌, ◌-◌, ◌^◌, ◌≤◌, ◌==◌, ◌&&◌, min, nat_lt, if◌then◌else◌}
+use Rattle.std.specs.Prelude.{◌≡◌, ℕ, ◌+◌, ◌-◌, ◌^◌, ◌≤◌, ◌⊎◌, ◌==◌, ◌&&◌, min, nat_lt, if◌then◌else◌}
 
 -- a count of faults after one more
 abbrev pub next_fault : ℕ → ℕ
@@ -9,6 +9,10 @@ next_fault faults = min (faults + 1) (2 ^ 64 - 1)
 -- and the piece is not empty
 abbrev pub faults_after : ℕ → ℕ → ℕ → ℕ
 faults_after faults count size = if count == 0 && nat_lt 0 size then next_fault faults else faults
+
+-- at most one fault was counted
+abbrev pub MayCount : ℕ → ℕ → Type 0
+MayCount before now = (now ≡ before) ⊎ (now ≡ next_fault before)
 
 -- a count of calls after one more: the number of that call, counted from 1
 abbrev pub next_call : ℕ → ℕ

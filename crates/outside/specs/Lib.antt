@@ -1,9 +1,11 @@
 pub mod Faults
 pub mod Shelf
 pub mod Sink
+pub mod Keeping
 pub mod Source
 pub mod MemShelf
 pub mod MemSink
 pub mod MemSource
 pub mod StoredFile
 pub mod DirShelf
+pub mod OutSink

@@ -1,6 +1,8 @@
 -- A source in memory as its users see it.
-use Rattle.std.specs.Prelude.{ℕ, ◌-◌, ◌^◌, List, length, min, max, slice_index_or}
-use Rattle.outside.specs.Faults.{next_call}
+use Rattle.std.specs.Prelude.{◌≡◌, ℕ, ◌-◌, ◌^◌, List, [], ◌++◌, length, min, max, slice_index_or}
+use Rattle.std.specs.declared.option.Option.{Option}
+use Rattle.std.specs.declared.option.Option.TheVariants.{Some, None}
+use Rattle.outside.specs.Faults.{MayCount, next_call}
 
 -- the bytes left; the most bytes for each call, in turn; the calls that are to fail, by their numbers; the counts of calls
 -- and of faults
@@ -18,3 +20,16 @@ size_for sizes call = max (slice_index_or sizes (call - 1) (2 ^ 64 - 1)) 1
 -- how many bytes the next read gives into a piece of that length
 abbrev pub portion : SourceState → ℕ → ℕ
 portion source size = min size (min (size_for source.sizes (next_call source.calls)) (length source.left))
+
+-- the bytes of a read, none where it failed
+abbrev pub bytes_given : Option (List ℕ) → List ℕ
+bytes_given None = []
+bytes_given (Some bytes) = bytes
+
+-- a read that gave these bytes, or failed, leads from the first state to the second: it is counted, and changes no plan
+pub record IsGiven (before : SourceState) (given : Option (List ℕ)) (now : SourceState) : Type 0 where
+  pub left : before.left ≡ bytes_given given ++ now.left
+  pub sizes : now.sizes ≡ before.sizes
+  pub failing : now.failing ≡ before.failing
+  pub calls : now.calls ≡ next_call before.calls
+  pub faults : MayCount before.faults now.faults

@@ -43,6 +43,9 @@ impl Sink for CountSink {
 
     ghost faults = { λ sink. 0 };
 
+    ghost writes = { λ before piece count now. (count ≡ length piece)
+        × (now ≡ min (before + length piece) (2 ^ 64 - 1)) };
+
     fn write(&mut self, bytes: &[u8]) -> Result<usize, SinkFailed>
         ensures whole { result ≡ Ok (length bytes.now) }
         ensures count { self.new ≡ min (self.old + length bytes.now) (2 ^ 64 - 1) }

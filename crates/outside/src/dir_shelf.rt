@@ -6,9 +6,10 @@ ghost use Rattle.outside.specs.DirShelf.{IsOpened};
 ghost use Rattle.outside.specs.Faults.{next_fault};
 
 use crate::retries::read_some;
-use crate::{Shelf, ShelfFault};
+use crate::{Explain, Reason, Shelf, ShelfFault};
 use std::alloc::Global;
 use std::fs;
+use std::io::ErrorKind;
 use std::marker::Model;
 use std::rt::Files;
 
@@ -18,13 +19,14 @@ const PIECE: usize = 4096;
 /// A shelf of the files that a runtime reaches by name: the trusted edge, which tells nothing of content and is never
 /// steady.
 ///
-/// A contract sees it as an `OpenState`: the bytes that the last read took, and the count of faults, which stays at
-/// the greatest u64 once it is there.
+/// A contract sees it as an `OpenState`: the bytes that the last read took, the count of faults, which stays at
+/// the greatest u64 once it is there, and why the last read failed, where it did.
 #[derive(Drop)]
 pub struct DirShelf<'a, R: Files> {
     runtime: &'a R,
     taken: usize,
     faults: u64,
+    reason: Option<Reason>,
 }
 
 impl<'a, R: Files> Model for DirShelf<'a, R> {
@@ -32,29 +34,54 @@ impl<'a, R: Files> Model for DirShelf<'a, R> {
 
     ghost Value = { OpenState };
 
-    ghost view = { λ shelf. record { taken = shelf.taken; faults = shelf.faults } };
+    ghost view = { λ shelf. record {
+      taken = shelf.taken;
+      faults = shelf.faults;
+      reason = shelf.reason;
+    } };
 }
 
 impl<'a, R: Files> DirShelf<'a, R> {
     /// The shelf of that runtime's files. It takes no memory.
     pub fn new(runtime: &'a R) -> DirShelf<'a, R>
-        ensures { result ≡ record { taken = 0; faults = 0 } }
+        ensures { result ≡ record { taken = 0; faults = 0; reason = None } }
     {
         DirShelf {
             runtime,
             taken: 0,
             faults: 0,
+            reason: None,
         }
     }
 }
 
+// Why a call failed that opens or reads a file.
+fn reason_of(kind: ErrorKind) -> Reason {
+    match kind {
+        ErrorKind::NotFound => Reason::Absent,
+        ErrorKind::IsADirectory => Reason::Folder,
+        ErrorKind::NotADirectory => Reason::NotInFolder,
+        ErrorKind::PermissionDenied => Reason::Forbidden,
+        _ => Reason::Other,
+    }
+}
+
+// Why the file of that name was not opened: a link is there where it leads to nothing.
+fn reason_unopened<R: Files>(runtime: &R, name: &str, kind: ErrorKind) -> Reason {
+    match reason_of(kind) {
+        Reason::Absent if fs::symlink_metadata(runtime, name).is_ok() => Reason::Dangling,
+        reason => reason,
+    }
+}
+
 // Appends the bytes of the file of that name: all of them, if they are at most `limit`, else `limit + 1`. Each turn takes at
-// least one byte or ends the read.
+// least one byte or ends the read. Where a call fails, the reason is put down.
 fn fill<R: Files>(
     runtime: &R,
     name: &str,
     bytes: &mut Vec<u8>,
     limit: usize,
+    reason: &mut Option<Reason>,
 ) -> Result<(), ShelfFault>
     requires begun { length bytes.now.items ≤ limit }
     requires bounded { limit < 2 ^ 64 - 1 }
@@ -62,14 +89,21 @@ fn fill<R: Files>(
     ensures too_long { IsErrOf result ShelfFault.TooLong → length bytes.new.items ≡ limit + 1 }
     ensures ends { length bytes.new.items ≤ limit + 1 }
 {
-    let Ok(mut file) = fs::open(runtime, name) else {
-        return Err(ShelfFault::Failed);
+    let mut file = match fs::open(runtime, name) {
+        Ok(file) => file,
+        Err(error) => {
+            *reason = Some(reason_unopened(runtime, name, error.kind()));
+            return Err(ShelfFault::Failed);
+        }
     };
     let mut piece = [0u8; PIECE];
     'reading: while bytes.len() <= limit {
         let room = PIECE.min(limit + 1 - bytes.len());
         match read_some(&mut file, &mut piece[..room]) {
-            Err(_) => return Err(ShelfFault::Failed),
+            Err(error) => {
+                *reason = Some(reason_of(error.kind()));
+                return Err(ShelfFault::Failed);
+            }
             Ok(0) => return Ok(()),
             Ok(count) => bytes
                 .extend_from_slice(&piece[..count])
@@ -108,8 +142,10 @@ impl<R: Files> Shelf for DirShelf<'_, R> {
         ensures stays { IsErrOf result ShelfFault.Failed ⊎ (self.new.faults ≡ self.old.faults) }
     {
         let mut bytes = Vec::new(alloc);
-        let filled = fill(self.runtime, name, &mut bytes, limit);
+        let mut reason = None;
+        let filled = fill(self.runtime, name, &mut bytes, limit, &mut reason);
         self.taken = bytes.len();
+        self.reason = reason;
         match filled {
             Ok(()) => Ok(bytes),
             Err(ShelfFault::Failed) => {
@@ -118,5 +154,13 @@ impl<R: Files> Shelf for DirShelf<'_, R> {
             }
             Err(fault) => Err(fault),
         }
+    }
+}
+
+impl<R: Files> Explain for DirShelf<'_, R> {
+    ghost reason = { λ shelf. shelf.reason };
+
+    fn reason(&self) -> Option<Reason> {
+        self.reason
     }
 }

@@ -1,7 +1,7 @@
 //! A source that is a reader of a runtime.
 ghost use Rattle.std.specs.Prelude.{◌≡◌, ◌≤◌, IfOk, OnOk, OnErr, length};
 ghost use Rattle.std.specs.declared.option.Option.TheVariants.{None};
-ghost use Rattle.outside.specs.Faults.{next_fault};
+ghost use Rattle.outside.specs.Faults.{next_fault, MayCount};
 
 use crate::retries::read_some;
 use crate::{Source, SourceFailed};
@@ -39,6 +39,8 @@ impl<R: Read + Drop> Source for InSource<R> {
     ghost left = { λ source. None };
 
     ghost faults = { λ source. source };
+
+    ghost reads = { λ before _ now. MayCount before now };
 
     /// An error of the runtime is `SourceFailed`.
     fn read(&mut self, piece: &mut [u8]) -> Result<usize, SourceFailed>

@@ -1,6 +1,6 @@
 //! A shelf in memory, some of whose reads fail.
 ghost use Rattle.std.specs.Prelude.{◌≡◌, ◌≤◌, ◌<◌, ◌-◌, ◌^◌, ◌==◌, ◌++◌, ◌∷◌, [], ◌↔◌, ◌⊎◌, IfOk, OnOk, OnErr, IsErrOf, Contains, length};
-ghost use Rattle.std.specs.declared.option.Option.TheVariants.{Some};
+ghost use Rattle.std.specs.declared.option.Option.TheVariants.{None, Some};
 ghost use Rattle.std.specs.Option.{option_map};
 ghost use Rattle.std.proofs.Common.{rules};
 ghost use Rattle.outside.specs.Faults.{next_call, next_fault};
@@ -9,7 +9,7 @@ ghost use Rattle.outside.specs.MemShelf.{FailsNext, IsRead};
 ghost use Rattle.outside.specs.StoredFile.{named_files};
 
 use crate::planned::CallPlan;
-use crate::{Shelf, ShelfFault};
+use crate::{Explain, Reason, Shelf, ShelfFault};
 use std::alloc::{AllocError as Memory, Global};
 use std::marker::Model;
 
@@ -148,5 +148,14 @@ impl Shelf for MemShelf {
                 Ok(bytes)
             }
         }
+    }
+}
+
+/// It never knows why.
+impl Explain for MemShelf {
+    ghost reason = { λ _. None };
+
+    fn reason(&self) -> Option<Reason> {
+        None
     }
 }

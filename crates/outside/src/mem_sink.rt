@@ -1,11 +1,11 @@
 //! A sink in memory, some of whose writes fail.
-ghost use Rattle.std.specs.Prelude.{◌≡◌, ◌≤◌, ◌++◌, ◌∷◌, [], ◌↔◌, IfOk, OnOk, OnErr, IsErr, Contains, length, take};
+ghost use Rattle.std.specs.Prelude.{◌≡◌, ◌≤◌, ◌++◌, ◌∷◌, [], ◌↔◌, IfOk, OnOk, OnErr, IsErr, Contains, false, length, take};
 ghost use Rattle.std.specs.declared.option.Option.TheVariants.{Some};
 ghost use Rattle.outside.specs.Faults.{next_call, next_fault, faults_after};
-ghost use Rattle.outside.specs.MemSink.{share};
+ghost use Rattle.outside.specs.MemSink.{share, IsWrite};
 
 use crate::planned::CallPlan;
-use crate::{Sink, SinkFailed};
+use crate::{Outlet, Sink, SinkFailed};
 use std::alloc::{AllocError as Memory, Global};
 use std::marker::Model;
 
@@ -84,6 +84,8 @@ impl Sink for MemSink {
 
     ghost faults = { λ sink. sink.faults };
 
+    ghost writes = { IsWrite };
+
     /// It takes no memory.
     fn write(&mut self, bytes: &[u8]) -> Result<usize, SinkFailed>
         // A call fails exactly where its number is kept; every other call takes its share.
@@ -113,5 +115,14 @@ impl Sink for MemSink {
         }
         self.buffer.extend_from_slice(&bytes[..count]).unwrap();
         Ok(count)
+    }
+}
+
+/// It is always read.
+impl Outlet for MemSink {
+    ghost is_abandoned = { λ _. false };
+
+    fn is_abandoned(&self) -> bool {
+        false
     }
 }

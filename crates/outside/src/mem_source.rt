@@ -2,7 +2,7 @@
 ghost use Rattle.std.specs.Prelude.{◌≡◌, ◌≤◌, ◌++◌, ◌∷◌, [], ◌↔◌, IfOk, OnOk, OnErr, IsErr, Contains, length, take, drop};
 ghost use Rattle.std.specs.declared.option.Option.TheVariants.{Some};
 ghost use Rattle.outside.specs.Faults.{next_call, next_fault};
-ghost use Rattle.outside.specs.MemSource.{size_for, portion};
+ghost use Rattle.outside.specs.MemSource.{size_for, portion, IsGiven};
 
 use crate::planned::CallPlan;
 use crate::{Source, SourceFailed};
@@ -91,6 +91,8 @@ impl Source for MemSource {
     ghost left = { λ source. Some source.left };
 
     ghost faults = { λ source. source.faults };
+
+    ghost reads = { IsGiven };
 
     /// It takes no memory.
     fn read(&mut self, piece: &mut [u8]) -> Result<usize, SourceFailed>

@@ -1,66 +1,95 @@
 //! A sink that is the standard output of a runtime.
-ghost use Rattle.std.specs.Prelude.{◌≡◌, ◌≤◌, IfOk, OnErr, length};
+ghost use Rattle.std.specs.Prelude.{◌≡◌, ◌≤◌, IfOk, OnErr, false, length};
 ghost use Rattle.std.specs.declared.option.Option.TheVariants.{None};
-ghost use Rattle.outside.specs.Faults.{next_fault, faults_after};
+ghost use Rattle.outside.specs.Faults.{next_fault, faults_after, MayCount};
 
 use crate::retries::write_some;
-use crate::{Sink, SinkFailed};
+use crate::{Outlet, Sink, SinkFailed};
 use std::io;
-use std::io::Write;
+use std::io::{ErrorKind, Write};
 use std::marker::Model;
 
 /// The standard output of a runtime: the trusted edge, which tells nothing of content.
 ///
-/// A contract sees it as the count of faults, which stays at the greatest u64 once it is there.
+/// A contract sees it as a `PrintState`: the count of faults, which stays at the greatest u64 once it is there, and whether the
+/// last write failed since nobody reads any more.
 #[derive(Drop)]
 pub struct OutSink<'a, P: Print> {
     runtime: &'a P,
     faults: u64,
+    is_abandoned: bool,
 }
 
 impl<'a, P: Print> Model for OutSink<'a, P> {
-    ghost use Rattle.std.specs.Prelude.{ℕ};
+    ghost use Rattle.outside.specs.OutSink.{PrintState};
 
-    ghost Value = { ℕ };
+    ghost Value = { PrintState };
 
-    ghost view = { λ sink. sink.faults };
+    ghost view = { λ sink. record { faults = sink.faults; is_abandoned = sink.is_abandoned } };
 }
 
 impl<'a, P: Print> OutSink<'a, P> {
     /// The sink that is that runtime's standard output. It takes no memory.
     pub fn new(runtime: &'a P) -> OutSink<'a, P>
-        ensures { result ≡ 0 }
+        ensures { result ≡ record { faults = 0; is_abandoned = false } }
     {
-        OutSink { runtime, faults: 0 }
+        OutSink {
+            runtime,
+            faults: 0,
+            is_abandoned: false,
+        }
+    }
+
+    // Counts one more fault, of that kind.
+    fn count_fault(&mut self, kind: ErrorKind)
+        ensures later { self.old.faults ≤ self.new.faults }
+        ensures faults { self.new.faults ≡ next_fault self.old.faults }
+    {
+        self.faults = self.faults.saturating_add(1);
+        self.is_abandoned = kind == ErrorKind::BrokenPipe;
     }
 }
 
 impl<P: Print> Sink for OutSink<'_, P> {
     ghost written = { λ sink. None };
 
-    ghost faults = { λ sink. sink };
+    ghost faults = { λ sink. sink.faults };
+
+    ghost writes = { λ before _ _ now. MayCount before.faults now.faults };
 
     /// Each write is flushed before it answers. An error of the runtime, at the write or at the flush, is `SinkFailed`. No clause
     /// tells what reaches the standard output: `tests/edge` looks at the bytes that arrive, and at a write to a full device.
     fn write(&mut self, bytes: &[u8]) -> Result<usize, SinkFailed>
         ensures within { IfOk result (λ count. count ≤ length bytes.now) }
-        ensures later { self.old ≤ self.new }
+        ensures later { self.old.faults ≤ self.new.faults }
+        ensures counts { MayCount self.old.faults self.new.faults }
         ensures ok { IfOk result
-            (λ count. self.new ≡ faults_after self.old count (length bytes.now)) }
-        ensures err { OnErr result (self.new ≡ next_fault self.old) }
+            (λ count. self.new.faults ≡ faults_after self.old.faults count (length bytes.now)) }
+        ensures err { OnErr result (self.new.faults ≡ next_fault self.old.faults) }
     {
         let mut out = io::writer(self.runtime);
-        let Ok(count) = write_some(&mut out, bytes) else {
-            self.faults = self.faults.saturating_add(1);
-            return Err(SinkFailed);
+        let count = match write_some(&mut out, bytes) {
+            Ok(count) => count,
+            Err(error) => {
+                self.count_fault(error.kind());
+                return Err(SinkFailed);
+            }
         };
-        if out.flush().is_err() {
-            self.faults = self.faults.saturating_add(1);
+        if let Err(error) = out.flush() {
+            self.count_fault(error.kind());
             return Err(SinkFailed);
         }
         if count == 0 && !bytes.is_empty() {
-            self.faults = self.faults.saturating_add(1);
+            self.count_fault(ErrorKind::WriteZero);
         }
         Ok(count)
+    }
+}
+
+impl<P: Print> Outlet for OutSink<'_, P> {
+    ghost is_abandoned = { λ sink. sink.is_abandoned };
+
+    fn is_abandoned(&self) -> bool {
+        self.is_abandoned
     }
 }

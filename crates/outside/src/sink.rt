@@ -2,7 +2,7 @@
 ghost use Rattle.std.specs.Prelude.{◌≡◌, ◌≤◌, ◌<◌, ℕ, List, IfOk, OnErr, length, take};
 ghost use Rattle.std.specs.declared.option.Option.{Option};
 ghost use Rattle.outside.specs.Faults.{Rose};
-ghost use Rattle.outside.specs.Sink.{appended};
+ghost use Rattle.outside.specs.Sink.{appended, taken_by};
 
 use std::error::Error;
 use std::fmt;
@@ -30,11 +30,17 @@ pub trait Sink {
     /// The count of writes that failed or took nothing of a piece that is not empty; it never falls.
     ghost faults: { Self → ℕ };
 
+    /// A write of that piece, which took so many of its bytes (0 where it failed), leads from the first sink to the second. Code
+    /// that is generic over its sink knows no other way from one sink to the next, so by this it tells which pieces it wrote, in
+    /// which order, and that no write follows a failed one (`IsWritten`, `IsCutOff`).
+    ghost writes: { Self → List ℕ → ℕ → Self → Type 0 };
+
     /// Appends the first bytes of the piece, and answers how many.
     ///
     /// `SinkFailed`, and 0 for a piece that is not empty, come only where the count of faults rose in this call. After
     /// `SinkFailed` what was written is as before.
     fn write(&mut self, bytes: &[u8]) -> Result<usize, SinkFailed>
+        ensures writes { writes self.old bytes.now (taken_by result) self.new }
         ensures within { IfOk result (λ count. count ≤ length bytes.now) }
         ensures written { IfOk result (λ count.
             written self.new ≡ appended (written self.old) (take count bytes.now)) }

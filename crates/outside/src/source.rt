@@ -2,7 +2,7 @@
 ghost use Rattle.std.specs.Prelude.{◌≡◌, ◌≤◌, ◌<◌, ℕ, List, IfOk, OnErr, length, take};
 ghost use Rattle.std.specs.declared.option.Option.{Option};
 ghost use Rattle.outside.specs.Faults.{Rose};
-ghost use Rattle.outside.specs.Source.{prepended, IsEnd};
+ghost use Rattle.outside.specs.Source.{prepended, given_by, IsEnd};
 
 use std::error::Error;
 use std::fmt;
@@ -30,11 +30,16 @@ pub trait Source {
     /// The count of reads that failed; it never falls.
     ghost faults: { Self → ℕ };
 
+    /// A read that gave these bytes, or failed, leads from the first source to the second. Code that is generic over its source
+    /// knows no other way from one source to the next, so by this it tells what its reads gave, and in which order.
+    ghost reads: { Self → Option (List ℕ) → Self → Type 0 };
+
     /// Puts the next bytes at the front of the piece, and answers how many.
     ///
     /// 0 for a piece that is not empty comes only at the end. `SourceFailed` comes only where the count of faults rose in
     /// this call, and then as many bytes are left as before.
     fn read(&mut self, piece: &mut [u8]) -> Result<usize, SourceFailed>
+        ensures reads { reads self.old (given_by result piece.new) self.new }
         ensures within { IfOk result (λ count. count ≤ length piece.old) }
         ensures taken { IfOk result (λ count.
             left self.old ≡ prepended (take count piece.new) (left self.new)) }

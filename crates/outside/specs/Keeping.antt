@@ -1,0 +1,21 @@
+-- What a shelf that keeps what it read last has kept.
+use Rattle.std.specs.Prelude.{ℕ, List}
+use Rattle.std.specs.declared.option.Option.{Option}
+use Rattle.std.specs.declared.option.Option.TheVariants.{None, Some}
+use Rattle.std.specs.Option.{option_map}
+use Rattle.std.specs.Global.{Vec}
+use Rattle.outside.specs.Shelf.{Named, TellsFile}
+
+-- the bytes that are kept
+abbrev pub bytes_kept : Option (Vec ℕ) → Option (List ℕ)
+bytes_kept kept = option_map (λ bytes. bytes.items) kept
+
+-- what is kept after a read of that name, if anything: where the files are told, the file of that name
+abbrev pub IsFileOf : Option (List Named) → List ℕ → Option (List ℕ) → Type 0
+IsFileOf files name None = Unit {0}
+IsFileOf files name (Some bytes) = TellsFile files name (Some bytes)
+
+-- a read of that name leads from the first shelf to the second, and leaves this kept
+pub record KeepsRead {S : Type 0} (files : S → Option (List Named)) (reads : S → List ℕ → S → Type 0) (before : S) (name : List ℕ) (now : S) (kept : Option (List ℕ)) : Type 0 where
+  pub read : reads before name now
+  pub is_file : IsFileOf (files before) name kept

@@ -1,0 +1,7 @@
+-- A stream of a runtime as its users see it.
+use Rattle.std.specs.Prelude.{ℕ, Bool}
+
+-- the count of faults, and whether the last write failed since nobody reads any more
+pub record PrintState : Type 0 where
+  pub faults : ℕ
+  pub is_abandoned : Bool

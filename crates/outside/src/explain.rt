@@ -1,0 +1,34 @@
+//! Why a read failed.
+ghost use Rattle.std.specs.Prelude.{◌≡◌};
+ghost use Rattle.std.specs.declared.option.Option.{Option};
+
+use crate::Shelf;
+
+/// Why a read of a shelf failed.
+#[derive(Clone, Copy, Debug, PartialEq, Eq)]
+pub enum Reason {
+    /// No file has that name.
+    Absent,
+    /// A link has that name, and leads to nothing.
+    Dangling,
+    /// A folder has that name.
+    Folder,
+    /// A part of the name that should lead to a folder leads to something else.
+    NotInFolder,
+    /// It may not be read.
+    Forbidden,
+    /// Something else went wrong, as a fault of the device.
+    Other,
+}
+
+/// A shelf that can say why its last read failed. It is for words to a person: nothing is proved of the reason's truth.
+pub trait Explain: Shelf {
+    ghost use Rattle.outside.specs.declared.explain.Reason.{Reason};
+
+    /// Why the last read failed, where it did and the shelf knows.
+    ghost reason: { Self → Option Reason };
+
+    /// Why the last read failed, where it did and the shelf knows. Takes no memory.
+    fn reason(&self) -> Option<Reason>
+        ensures { result ≡ reason self.now };
+}

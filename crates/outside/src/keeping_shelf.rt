@@ -1,0 +1,83 @@
+//! A shelf that keeps what it read last.
+ghost use Rattle.std.specs.Prelude.{◌≡◌, ◌≤◌, ◌<◌, ◌-◌, ◌^◌, IfOk, IsErrOf, IsTrue, OnErr, length};
+ghost use Rattle.std.specs.declared.option.Option.TheVariants.{None, Some};
+ghost use Rattle.std.specs.Option.{option_map};
+ghost use Rattle.outside.specs.Faults.{Rose};
+ghost use Rattle.outside.specs.Keeping.{KeepsRead, bytes_kept};
+ghost use Rattle.outside.specs.Shelf.{IsLonger, TellsFile};
+
+use crate::{Explain, Reason, Shelf, ShelfFault};
+use std::alloc::Global;
+
+/// A shelf that keeps the bytes of the file that it read last, and is in all else the shelf that it is made of.
+///
+/// Nothing is kept where the last read gave no bytes. A read takes memory for its bytes twice.
+#[derive(Drop)]
+pub struct KeepingShelf<S: Shelf + Drop> {
+    /// The shelf that is read.
+    pub shelf: S,
+    /// The bytes that the last read gave.
+    pub kept: Option<Vec<u8>>,
+}
+
+impl<S: Shelf + Drop> KeepingShelf<S> {
+    /// The shelf that keeps what it reads of this one; nothing was read yet. Takes no memory.
+    pub fn new(shelf: S) -> KeepingShelf<S>
+        ensures shelf { result.shelf ≡ shelf }
+        ensures kept { result.kept ≡ None }
+    {
+        KeepingShelf { shelf, kept: None }
+    }
+}
+
+impl<S: Shelf + Drop> Shelf for KeepingShelf<S> {
+    ghost files = { λ shelf. S.files shelf.shelf };
+
+    ghost taken = { λ shelf. S.taken shelf.shelf };
+
+    ghost faults = { λ shelf. S.faults shelf.shelf };
+
+    ghost reads = { λ before name now.
+        KeepsRead S.files S.reads before.shelf name now.shelf (bytes_kept now.kept) };
+
+    ghost steady = { λ shelf. S.steady shelf.shelf };
+
+    ghost steady_tells = { λ shelf is. S.steady_tells shelf.shelf is };
+
+    fn read(&mut self, alloc: Global, name: &str, limit: usize) -> Result<Vec<u8>, ShelfFault>
+        requires { limit < 2 ^ 64 - 1 }
+
+        ensures reads { KeepsRead S.files S.reads self.old.shelf name.now self.new.shelf (bytes_kept self.new.kept) }
+        // What it gives it keeps, and where it gives nothing it keeps nothing.
+        ensures keeps { IfOk result (λ bytes. bytes_kept self.new.kept ≡ Some bytes.items) }
+        ensures drops { OnErr result (self.new.kept ≡ None) }
+
+        ensures files { S.files self.new.shelf ≡ S.files self.old.shelf }
+        ensures steady { S.steady self.new.shelf ≡ S.steady self.old.shelf }
+        ensures later { S.faults self.old.shelf ≤ S.faults self.new.shelf }
+        ensures within { IfOk result (λ bytes. length bytes.items ≤ limit) }
+        ensures taken { IfOk result (λ bytes. length bytes.items ≡ S.taken self.new.shelf) }
+        ensures told { IfOk result
+            (λ bytes. TellsFile (S.files self.old.shelf) name.now (Some bytes.items)) }
+        ensures failed { IsErrOf result ShelfFault.Failed →
+            Rose (S.faults self.old.shelf) (S.faults self.new.shelf) }
+        ensures missing { IsErrOf result ShelfFault.Failed → IsTrue (S.steady self.old.shelf) →
+            TellsFile (S.files self.old.shelf) name.now None }
+        ensures too_long { IsErrOf result ShelfFault.TooLong →
+            IsLonger (S.files self.old.shelf) name.now limit (S.taken self.new.shelf) }
+    {
+        self.kept = None;
+        let bytes = self.shelf.read(alloc, name, limit)?;
+        let copy = bytes.to_vec(alloc).map_err(|_| ShelfFault::Memory)?;
+        self.kept = Some(copy);
+        Ok(bytes)
+    }
+}
+
+impl<S: Explain + Drop> Explain for KeepingShelf<S> {
+    ghost reason = { λ shelf. S.reason shelf.shelf };
+
+    fn reason(&self) -> Option<Reason> {
+        self.shelf.reason()
+    }
+}

@@ -1,0 +1,120 @@
+-- A 2-edge-connected cubic graph is covered. Else the law of Tutte and Berge leaves, beside the
+-- ends of an edge, a set T with as many odd components; three edges leave each of them for T,
+-- which has an edge inside.
+use Rattle.std.proofs.Common.{◌≡◌, ◌≢◌, ℕ, suc, zero, ◌+◌, ◌*◌, ◌≤◌, Bool, true, false, ◌==◌, ◌&&◌, ◌||◌, not, refl, sym, ap, ◌∙◌, arith, eq-eqb, inl, inr}
+use Rattle.std.proofs.lemmas.Bool.{and_parts, cases_eq, true≢false, or_left, or_right}
+use Rattle.barrier_kit.proofs.BarrierCuts.{covers, covers_out, covers_step, cut_family}
+use Rattle.barrier_kit.proofs.Barriers.{two_less}
+use Rattle.barrier_kit.proofs.Enlarging.{same_parity}
+use Rattle.counting.proofs.Counts.{count_congr}
+use Rattle.counting.proofs.Members.{member_count}
+use Rattle.counting.proofs.SetSizes.{count_mono}
+use Rattle.counting.proofs.Totals.{total_le, total_mul, total_none}
+use Rattle.counting.specs.Counts.{Within, bit, count, is_odd}
+use Rattle.counting.specs.Sets.{Set, everything, none, union}
+use Rattle.graph_core.proofs.Perfect.{none_missed-perfect}
+use Rattle.graph_core.proofs.Walks.{joined_or_not, parted}
+use Rattle.graph_core.specs.Components.{IsConnected, is_least, odd_component_count}
+use Rattle.graph_core.specs.Covered.{IsCovered}
+use Rattle.graph_core.specs.Graph.{Graph, IsGraph, edges_in_cut, first_end, in_cut, inside, second_end, size}
+use Rattle.graph_core.specs.Matchings.{Allowed, missed_count}
+use Rattle.graph_core.specs.Walks.{joined}
+use Rattle.grow_gen.specs.Cubic.{IsCubic}
+use Rattle.match_core.proofs.TutteBerge.{TutteBerge, tutte_berge}
+use Rattle.theorems.proofs.AddedEdges.{allowed_from, ends_set}
+use Rattle.theorems.proofs.CubicDegrees.{order_is_even, three_each, three_in_cut}
+use Rattle.theorems.specs.CubicGraphs.{IsTwoEdgeConnected, cut_size}
+
+-- a graph of which each cut has an edge is connected
+connected : (g : Graph) → IsGraph g → IsTwoEdgeConnected g → IsConnected g
+connected g is two u v wu wv = elim (joined_or_not g none is u v wu) [
+  | inl j ↦ j
+  | inr alone ↦
+      let p = (parted g u v is wu wv).0 alone in
+      let z : cut_size g p.0 ≡ 0 = total_none (size g) _ (λ e w. ap bit (p.3 e w)) in
+      let t = two p.0 u v wu wv p.1 p.2 in absurd (omega arith)
+]
+
+module _ (g : Graph) (is : IsGraph g) (cubic : IsCubic g) (two : IsTwoEdgeConnected g) where
+  -- the odd components without s that miss a vertex of s have three edges each that leave them
+  -- for s
+  module _ (s : Set) (a : ℕ) (wa : Within g.order a) (sa : s a ≡ true) where
+    abbrev leads : Set
+    leads u = is_least g s u && is_odd (count g.order (joined g s u))
+
+    least : (u : ℕ) → leads u ≡ true → is_least g s u ≡ true
+    least u h = (and_parts (is_least g s u) (is_odd (count g.order (joined g s u))) h).0
+
+    three : (u : ℕ) → (b : Bool) → leads u ≡ b → 3 * bit (leads u) ≤ bit (leads u) * edges_in_cut g everything (joined g s u)
+    three u false h = rw h (omega arith)
+    three u true h = rw h (let t = three_in_cut g (joined g s u) is cubic two (and_parts (is_least g s u) (is_odd (count g.order (joined g s u))) h).1 in omega arith)
+
+    many : 3 * odd_component_count g s ≤ cut_size g s
+    unfolding odd_component_count
+    many =
+        let l = total_le g.order (λ u. 3 * bit (leads u)) (λ u. bit (leads u) * edges_in_cut g everything (joined g s u)) (λ u w. three u (leads u) refl) in
+        let k = total_mul g.order 3 (λ u. bit (leads u)) in
+        let f = cut_family g is s leads least everything in
+        let m = count_mono (size g) (λ e. everything e && in_cut g (covers g is s leads least) e) (λ e. everything e && in_cut g s e) (λ e w h.
+        into (covers g is s leads least (first_end g e)) (covers g is s leads least (second_end g e)) (s (first_end g e)) (s (second_end g e))
+        (covers_out g is s leads least (first_end g e) (is e w).0) (covers_out g is s leads least (second_end g e) (is e w).1) (covers_step g is s leads least e w) h) in
+        omega arith
+      where
+        into : (a b c d : Bool) → (c ≡ true → a ≡ false) → (d ≡ true → b ≡ false) → (c ≡ false → d ≡ false → a ≡ b) → ((a && not b) || (not a && b)) ≡ true → ((c && not d) || (not c && d)) ≡ true
+        into a b true false f h i k = refl
+        into a b false true f h i k = refl
+        into a b false false f h i k = absurd (true≢false (sym k ∙ same a b (i refl refl)))
+          where
+            same : (a b : Bool) → a ≡ b → ((a && not b) || (not a && b)) ≡ false
+            same a b h = grind arith
+        into a b true true f h i k = absurd (true≢false (sym k ∙ neither a b (f refl) (h refl)))
+          where
+            neither : (a b : Bool) → a ≡ false → b ≡ false → ((a && not b) || (not a && b)) ≡ false
+            neither a b h l = grind arith
+
+  -- a set with an edge inside leaves fewer odd components than it has vertices
+  few : (s : Set) (e : ℕ) → Within (size g) e → s (first_end g e) ≡ true → s (second_end g e) ≡ true → count g.order s ≤ odd_component_count g s → ⊥
+  few s e w sa sb le =
+      let m = many s (first_end g e) (is e w).0 sa in
+      let t = three_each g s is cubic in
+      let i = member_count (size g) (λ e. everything e && inside g s e) e w (rw (sa, sb) refl) in absurd (omega arith)
+
+  allowed : (e : ℕ) → Within (size g) e → first_end g e ≢ second_end g e → Allowed g e
+  allowed e w d = elim (cases_eq (missed_count g (ends_set g e) t.m) 0) [
+    | inl z ↦ allowed_from g e is w d (t.m, none_missed-perfect g (ends_set g e) t.m t.is z)
+    | inr n ↦ absurd (few big e w first second (settle (missed_count g (ends_set g e) t.m) (count g.order t.s) (odd_component_count g big) (count g.order big) t.equal big_count n (same_parity g big is (order_is_even g is cubic))))
+  ]
+    where
+      t : TutteBerge g (ends_set g e)
+      t = tutte_berge g (ends_set g e) is
+
+      big : Set
+      big = union (ends_set g e) t.s
+
+      first : union (ends_set g e) t.s (first_end g e) ≡ true
+      first = or_left (ends_set g e (first_end g e)) (t.s (first_end g e)) (or_left (first_end g e == first_end g e) (second_end g e == first_end g e) (eq-eqb (first_end g e) (first_end g e) refl))
+
+      second : union (ends_set g e) t.s (second_end g e) ≡ true
+      second = or_left (ends_set g e (second_end g e)) (t.s (second_end g e)) (or_right (first_end g e == second_end g e) (second_end g e == second_end g e) (eq-eqb (second_end g e) (second_end g e) refl))
+
+      big_count : count g.order (union (ends_set g e) t.s) ≡ count g.order t.s + 2
+      big_count = two_less g.order (union (ends_set g e) t.s) (first_end g e) (second_end g e) (is e w).0 (is e w).1 d first second
+          ∙ ap (λ k. k + 2) (count_congr g.order _ _ (λ v wv. drop_pair (ends_set g e v) (t.s v) (t.outside v)))
+        where
+          drop_pair : (x y : Bool) → (y ≡ true → x ≡ false) → ((x || y) && not x) ≡ y
+          drop_pair x y h = grind arith
+
+      settle : (k c o n : ℕ) → k + c ≡ o → n ≡ c + 2 → (k ≡ 0 → ⊥) → is_odd o ≡ is_odd n → n ≤ o
+      settle zero c o n e f h q = absurd (h refl)
+      settle (suc zero) c o n e f h q = absurd (flip (is_odd o) (q ∙ ap is_odd (next e f)))
+        where
+          next : suc zero + c ≡ o → n ≡ c + 2 → n ≡ suc o
+          next e f = omega arith
+
+          flip : (x : Bool) → x ≡ not x → ⊥
+          flip true h = true≢false h
+          flip false h = true≢false (sym h)
+      settle (suc (suc k)) c o n e f h q = omega arith
+
+pub cubic_covered : (g : Graph) → IsGraph g → IsCubic g → 2 ≤ g.order → IsTwoEdgeConnected g → IsCovered g
+cubic_covered g is cubic many two = record { two = many; connected = connected g is two; allowed = allowed g is cubic two }

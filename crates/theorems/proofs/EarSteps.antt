@@ -1,0 +1,115 @@
+-- From each stage that does not hold all edges a step leads on, and so an ear decomposition
+-- exists.
+-- Idea: one perfect matching is kept; another one that holds an edge leading out of the stage
+-- makes ears with it, of which one or two serve (the two-ear theorem).
+use Rattle.std.proofs.Common.{◌≡◌, ℕ, zero, suc, ◌+◌, ◌<◌, ◌⊎◌, true, not, ◌&&◌, ◌||◌, refl, sym, arith, inl, inr, List, [], ◌∷◌, Bool, false}
+use Rattle.std.proofs.lemmas.Bool.{and_parts, cases_eq, true≢false}
+use Rattle.std.specs.List.{AllByRecursion}
+use Rattle.barrier_kit.proofs.ClassLaw.{perfect_or_not}
+use Rattle.counting.proofs.Members.{count_member, count_zero}
+use Rattle.counting.specs.Counts.{Within, count}
+use Rattle.counting.specs.Lists.{mem}
+use Rattle.counting.specs.Sets.{Set, complement, none, singleton, union}
+use Rattle.ear_core.proofs.BipartiteStages.{bipartite-found}
+use Rattle.ear_core.proofs.EngineGraphs.{served_listed}
+use Rattle.ear_core.proofs.FirstStage.{first-stage}
+use Rattle.ear_core.proofs.Mates.{rows-mates}
+use Rattle.ear_core.proofs.Searching.{beside-here, beside-later, found-one, found-two, never-none, no-two-later, none-beside-later, two-here, two-later}
+use Rattle.ear_core.proofs.Stepping.{all-on, covered-allowed, fewer-off, first-keeps, round-candidates, step-keeps}
+use Rattle.ear_core.specs.AlternatingEars.{AreCandidates, IsChosen, IsPerfectRows, KeepsMates, Serves, ends_of_ear, row_edge}
+use Rattle.ear_core.specs.Asking.{FindsBeside, FindsTwo, NoTwoServe, NoneServesBeside}
+use Rattle.ear_core.specs.EarLists.{AreSteps, IsEarList, IsSingle, IsStep, PlainEar, PlainEars, PlainStep, next_stage, one, two}
+use Rattle.ear_core.specs.StageGraphs.{listed}
+use Rattle.ear_core.specs.Stages.{IsStage, is_met}
+use Rattle.graph_core.specs.Covered.{IsCovered}
+use Rattle.graph_core.specs.Graph.{Graph, IsBipartite, IsGraph, IsMultigraph, first_end, second_end, size, with_ends}
+use Rattle.match_core.proofs.MatchingEdges.{marked_matching}
+use Rattle.match_core.specs.MatchingRows.{MatchingValue}
+use Rattle.theorems.proofs.EarPaths.{perfect-rows, round-exists, rows-hold}
+
+-- whether vertices serve is decided
+serves-or : (g : Graph) (f r : Set) → Serves g f r ⊎ (Serves g f r → ⊥)
+serves-or g f r = elim (perfect_or_not (with_ends g (listed g f (size g))) (union (complement (is_met g f)) r)) [
+  | inl p ↦ inl ((served_listed g f r).1 p)
+  | inr never ↦ inr (λ q. let p = (served_listed g f r).0 q in never p.0 p.1)
+]
+
+-- so one ear that serves is found, or two that serve together, or none
+beside-or : (g : Graph) (f x : Set) (ears : List PlainEar) → ((a : PlainEar) × FindsBeside g f x ears a) ⊎ NoneServesBeside g f x ears
+beside-or g f x [] = inr (λ a i q. i)
+beside-or g f x (a ∷ ears) = elim (serves-or g f (union x (ends_of_ear g a))) [
+  | inl q ↦ inl (a, beside-here g f a (a ∷ ears) ears refl x a refl q)
+  | inr never ↦ elim (beside-or g f x ears) [
+    | inl found ↦ inl (found.0, beside-later g f a (a ∷ ears) ears refl x found.0 found.1)
+    | inr none ↦ inr (none-beside-later g f a (a ∷ ears) ears refl x never none)
+  ]
+]
+
+two-or : (g : Graph) (f : Set) (ears : List PlainEar) → ((s : PlainStep) × FindsTwo g f ears s) ⊎ NoTwoServe g f ears
+two-or g f [] = inr (λ a b i q. i)
+two-or g f (a ∷ ears) = elim (beside-or g f (ends_of_ear g a) ears) [
+  | inl found ↦ inl (two a found.0, two-here g f a (a ∷ ears) ears refl found.0 (two a found.0) refl found.1)
+  | inr never ↦ elim (two-or g f ears) [
+    | inl found ↦ inl (found.0, two-later g f a (a ∷ ears) ears refl found.0 found.1)
+    | inr none ↦ inr (no-two-later g f a (a ∷ ears) ears refl never none)
+  ]
+]
+
+chosen-exists : (g : Graph) → IsGraph g → (f : Set) → IsStage g f → (ears : List PlainEar) → AreCandidates g f ears → (s : PlainStep) × IsChosen ears s × IsStep g f s × IsStage g (next_stage f s) × (IsBipartite g → IsSingle s)
+chosen-exists g is f stage ears c = elim (beside-or g f (mem []) ears) [
+  | inl found ↦ let r = found-one g is f stage ears c found.0 found.1 in (one found.0, r.0, r.1, r.2, λ sides. tt)
+  | inr none ↦ elim (two-or g f ears) [
+    | inl found ↦ let r = found-two g is f stage ears c found.0 found.1 in (found.0, r.0, r.1, r.2, λ sides. absurd (bipartite-found g is sides f stage ears c none))
+    | inr never ↦ absurd (never-none g is f stage ears c none never)
+  ]
+]
+
+-- an edge leads out of the stage
+abbrev leads_out : Graph → Set → Set
+leads_out g f e = not (f e) && (is_met g f (first_end g e) || is_met g f (second_end g e))
+
+module _ (g : Graph) (is : IsMultigraph g) (cov : IsCovered g) (kept : MatchingValue) (rows : IsPerfectRows g kept) where
+  abbrev n : ℕ → ℕ
+  n = row_edge kept.rows
+
+  -- a stage with the mates of its vertices, after a step
+  abbrev StepsOn : Set → Type 0
+  StepsOn f = (s : PlainStep) × IsStep g f s × IsStage g (next_stage f s) × KeepsMates g n (is_met g (next_stage f s)) × (IsBipartite g → IsSingle s)
+
+  step-by : (f : Set) → IsStage g f → KeepsMates g n (is_met g f) → (e : ℕ) → Within (size g) e → leads_out g f e ≡ true → StepsOn f
+  step-by f stage keeps e w leads =
+      let parts = and_parts (not (f e)) (is_met g f (first_end g e) || is_met g f (second_end g e)) leads in
+      let off = flipped (f e) parts.0 in
+      let allowed = covered-allowed g is cov e w in
+      let m = marked_matching g allowed.0 in
+      let by = perfect-rows g allowed.0 allowed.1 in
+      let ears = round-exists g is.ends f (row_edge m.rows) (rows-mates g is.ends m by) n (rows-mates g is.ends kept rows) keeps in
+      let c = round-candidates g is.ends f m by n e w (rows-hold g allowed.0 e w allowed.2) off parts.1 ears.0 ears.1 in
+      let s = chosen-exists g is.ends f stage ears.0 c in
+      (s.0, s.2, s.3, step-keeps g f (row_edge m.rows) n ears.0 ears.1.each s.0 s.1 s.2 keeps, s.4)
+    where
+      flipped : (b : Bool) → not b ≡ true → b ≡ false
+      flipped true h = absurd (true≢false (sym h))
+      flipped false h = refl
+
+  steps-exist : (fuel : ℕ) (f : Set) → IsStage g f → KeepsMates g n (is_met g f) → count (size g) (complement f) < fuel → (steps : List PlainStep) × AreSteps g f steps × (IsBipartite g → AllByRecursion IsSingle steps)
+  steps-exist zero f stage keeps less = absurd (omega arith)
+  steps-exist (suc fuel) f stage keeps less = elim (cases_eq (count (size g) (leads_out g f)) 0) [
+    | inl i ↦ ([], all-on g is.ends cov f stage (count_zero (size g) (leads_out g f) i), λ sides. tt)
+    | inr i ↦
+        let e = count_member (size g) (leads_out g f) (omega arith) in
+        let s = step-by f stage keeps e.0 e.1 e.2 in
+        let fewer = fewer-off g f (next_stage f s.0) s.0 (λ d. refl) s.1 in
+        let later = steps-exist fuel (next_stage f s.0) s.2 s.3 (omega arith) in
+        (s.0 ∷ later.0, (s.1, s.2, later.1), λ sides. (s.4 sides, later.2 sides))
+  ]
+
+pub ear-list-exists : (g : Graph) (e : ℕ) → IsMultigraph g → IsCovered g → Within (size g) e → (list : PlainEars) × IsEarList g list × (list.start ≡ e) × (IsBipartite g → AllByRecursion IsSingle list.steps)
+ear-list-exists g e is cov w =
+    let allowed = covered-allowed g is cov e w in
+    let rows = perfect-rows g allowed.0 allowed.1 in
+    let kept = marked_matching g allowed.0 in
+    let stage = first-stage g is e w in
+    let keeps = first-keeps g is kept rows e w (rows-hold g allowed.0 e w allowed.2) in
+    let steps = steps-exist g is cov kept rows (count (size g) (complement (singleton e)) + 1) (singleton e) stage keeps (omega arith) in
+    (record { start = e; steps = steps.0 }, record { start = w; first_stage = stage; steps = steps.1 }, refl, steps.2)

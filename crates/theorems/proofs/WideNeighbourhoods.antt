@@ -1,0 +1,61 @@
+-- A bipartite covered graph has no nontrivial tight cut if and only if its small sets on a side
+-- have two neighbours more than vertices. A set with one neighbour more is with its neighbours a
+-- tight shore; and a nontrivial tight shore gives such a set.
+use Rattle.std.proofs.Common.{◌≡◌, ℕ, ◌+◌, ◌≤◌, true, not, sym, ap, ◌∙◌, arith, ◌↔◌, inl, inr}
+use Rattle.std.proofs.lemmas.Bool.{and_from, and_parts, cases_lt, not-true}
+use Rattle.graph_core.specs.Sides.{IsSide}
+use Rattle.counting.proofs.Counts.{count_congr}
+use Rattle.counting.proofs.Booleans.{and_implied}
+use Rattle.counting.proofs.Members.{count_member, two_members, two_of}
+use Rattle.counting.proofs.Odd.{odd_three}
+use Rattle.counting.proofs.SetSizes.{count_mono, count_split}
+use Rattle.counting.specs.Counts.{count}
+use Rattle.counting.specs.Sets.{Set, complement, meet, minus, union}
+use Rattle.graph_core.proofs.Contraction.{tight_from_cut}
+use Rattle.graph_core.proofs.Decide.{covered_perfect}
+use Rattle.graph_core.specs.Covered.{IsCovered}
+use Rattle.graph_core.specs.Graph.{Graph, IsMultigraph}
+use Rattle.graph_core.specs.Tight.{HasNoTightCut, IsTight}
+use Rattle.theorems.proofs.Neighbourhoods.{both_count, ends_cross, leaning, near_count, near_out, neighbour_edge, surplus}
+use Rattle.theorems.specs.Braces.{HasWideNeighbourhoods, neighbourhood}
+
+module _ (g : Graph) (is : IsMultigraph g) (cov : IsCovered g) (a : Set) (two : IsSide g a) where
+  -- two vertices of the side outside a small set
+  two_left : (s : Set) → ((v : ℕ) → s v ≡ true → a v ≡ true) → count g.order s + 2 ≤ count g.order a → 2 ≤ count g.order (minus a s)
+  two_left s sub small =
+      let c = count_split g.order a s in
+      let d : count g.order (meet a s) ≡ count g.order s = count_congr g.order _ _ (λ v w. and_implied (a v) (s v) (sub v)) in omega arith
+
+  wide : HasNoTightCut g → HasWideNeighbourhoods g a
+  wide none_tight s sub some small = elim (cases_lt (count g.order s + 1) (count g.order (neighbourhood g s))) [
+    | inl l ↦ omega arith
+    | inr l ↦
+        let u = count_member g.order s (omega arith) in
+        let p = two_of g.order (minus a s) (two_left s sub small) in
+        let q = and_parts (a p.0) (not (s p.0)) p.5 in
+        let r = and_parts (a p.1) (not (s p.1)) p.6 in
+        let out0 = near_out g is a two s sub p.0 q.0 (not-true (s p.0) q.1) in
+        let out1 = near_out g is a two s sub p.1 r.0 (not-true (s p.1) r.1) in
+        let k = surplus g is a two s sub cov u.0 p.0 u.1 p.2 u.2 q.0 (not-true (s p.0) q.1) in
+        let m = covered_perfect g is.ends cov in
+        let t : IsTight g (union s (neighbourhood g s)) = tight_from_cut g (union s (neighbourhood g s)) m.0 is.ends m.1 (λ i pi. let c = near_count g is a two s sub i pi in omega arith) in
+        let b = both_count g is a two s sub in
+        absurd (none_tight (union s (neighbourhood g s)) t (record {
+          inside = omega arith;
+          outside = odd_three _ t.odd_complement (two_members g.order (complement (union s (neighbourhood g s))) p.0 p.1 p.2 p.3 p.4 (ap not out0) (ap not out1));
+        }))
+  ]
+
+  narrow : HasWideNeighbourhoods g a → HasNoTightCut g
+  narrow wide x t nontrivial =
+      let z = leaning g is a two cov x t nontrivial in
+      let l = z.1 in
+      let more = l.more in
+      let few = count_mono g.order (neighbourhood g (meet z.0 a)) (minus z.0 a) (λ v w h.
+      let e = neighbour_edge g (meet z.0 a) v h in
+      let p = and_parts (z.0 e.0) (a e.0) e.3 in
+      and_from (z.0 v) (not (a v)) (l.closed e.0 v e.1 e.4 e.5 p.0 p.1) (sym (ends_cross g is a two e.0 v e.1 e.4 e.5) ∙ p.1)) in
+      let many = wide (meet z.0 a) (λ v h. (and_parts (z.0 v) (a v) h).1) l.some_in l.some_out in absurd (omega arith)
+
+  pub wide_or_tight : HasNoTightCut g ↔ HasWideNeighbourhoods g a
+  wide_or_tight = (wide, narrow)

@@ -1,0 +1,6 @@
+use Rattle.ear_core.proofs.Stepping.{covered-edge}
+use Rattle.theorems.proofs.EarSteps.{ear-list-exists}
+use Rattle.theorems.proofs.ears.ear_list_exists_law.Goals as goal
+
+pub returns : goal.returns
+returns c = record { edge = covered-edge; list = ear-list-exists }

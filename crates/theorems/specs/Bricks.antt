@@ -1,0 +1,34 @@
+-- 3-connected graphs, and the two kinds of tight cuts (Edmonds, Lovász and Pulleyblank 1982). A
+-- barrier cut is given by the barrier, and a 2-separation cut by the cut pair.
+use Rattle.std.specs.Prelude.{◌≡◌, ℕ, ◌≤◌, ◌⊎◌, false, not}
+use Rattle.counting.specs.Counts.{Within, count}
+use Rattle.counting.specs.Sets.{Set, pair_set, singleton, union}
+use Rattle.graph_core.specs.Graph.{Graph}
+use Rattle.graph_core.specs.Matchings.{HasPerfect}
+use Rattle.graph_core.specs.Structure.{IsBarrier, IsCutPair}
+use Rattle.graph_core.specs.Tight.{IsNontrivial, IsTight}
+use Rattle.graph_core.specs.Walks.{Joined, joined}
+
+-- at least four vertices, and connected without any two vertices or fewer
+pub record IsThreeConnected (g : Graph) : Type 0 where
+  pub four : 4 ≤ g.order
+  pub connected : (r : Set) → count g.order r ≤ 2 → (a b : ℕ) → Within g.order a → Within g.order b → r a ≡ false → r b ≡ false → Joined g r a b
+
+-- s is a barrier, and one shore of the cut of x is a component of g without s
+pub record IsBarrierCutOf (g : Graph) (x s : Set) : Type 0 where
+  pub barrier : IsBarrier g s
+  pub vertex : ℕ
+  pub within : Within g.order vertex
+  pub outside : s vertex ≡ false
+  pub same : ((v : ℕ) → Within g.order v → joined g s vertex v ≡ x v) ⊎ ((v : ℕ) → Within g.order v → joined g s vertex v ≡ not (x v))
+
+-- a cut pair without which g has a perfect matching, and a component without it that has, with u,
+-- a nontrivial tight cut
+pub record SeparationCut (g : Graph) (u v : ℕ) : Type 0 where
+  pub pair : IsCutPair g u v
+  pub perfect : HasPerfect g (pair_set u v)
+  pub vertex : ℕ
+  pub within : Within g.order vertex
+  pub outside : pair_set u v vertex ≡ false
+  pub tight : IsTight g (union (joined g (pair_set u v) vertex) (singleton u))
+  pub nontrivial : IsNontrivial g.order (union (joined g (pair_set u v) vertex) (singleton u))

@@ -1,0 +1,61 @@
+-- Families of tight cuts of which no two cross, trees of tight cuts, and pairings of their leaves (Lovász 1987; Lucchesi and Murty,
+-- "Perfect Matchings"). A cut is given by its canonical shore, the one without the greatest vertex.
+use Rattle.std.specs.Prelude.{◌≡◌, ℕ, ◌≤◌, true, false, List, [], ◌∷◌, length}
+use Rattle.counting.specs.Counts.{Within}
+use Rattle.counting.specs.Lists.{IsIn, mem}
+use Rattle.counting.specs.Sets.{Set, complement}
+use Rattle.graph_core.specs.Graph.{Graph, edges_in_cut}
+use Rattle.graph_core.specs.Partitions.{IsPerfectAt}
+use Rattle.graph_core.specs.Quotients.{blocks_adjacent}
+use Rattle.graph_core.specs.Shores.{IsUnion, block_count}
+use Rattle.tree_core.specs.Derivations.{IsTightShore, kept_at, merged_at}
+use Rattle.tree_core.specs.LeafMaps.{leaf_at}
+use Rattle.tree_core.specs.Shapes.{Shape, cut, leaf}
+
+-- the cuts of x and y cross: each of the four corners holds one of 1 to n
+pub record Cross (n : ℕ) (x y : Set) : Type 0 where
+  pub both : (v : ℕ) × Within n v × (x v ≡ true) × (y v ≡ true)
+  pub first : (v : ℕ) × Within n v × (x v ≡ true) × (y v ≡ false)
+  pub second : (v : ℕ) × Within n v × (x v ≡ false) × (y v ≡ true)
+  pub neither : (v : ℕ) × Within n v × (x v ≡ false) × (y v ≡ false)
+
+-- a maximal family of nontrivial tight cuts of which no two cross, given by canonical shores
+pub record IsMaximalLaminar (g : Graph) (f : List (List ℕ)) : Type 0 where
+  pub cuts : (x : List ℕ) → IsIn x f → IsTightShore g x
+  pub laminar : (x y : List ℕ) → IsIn x f → IsIn y f → ¬ Cross g.order (mem x) (mem y)
+  pub maximal : (y : List ℕ) → IsTightShore g y → ((x : List ℕ) → IsIn x f → ¬ Cross g.order (mem x) (mem y)) → IsIn y f
+
+-- no item stands twice in the list
+abbrev pub AreDistinct : {A : Type 0} → List A → Type 0
+AreDistinct [] = Unit {0}
+AreDistinct (x ∷ xs) = (¬ IsIn x xs) × AreDistinct xs
+
+-- a nontrivial tight cut of the graph at the stage p, where each block of p is one vertex: x is a union of blocks, at least three are
+-- inside and at least three outside, and each perfect matching of the stage has exactly one edge in the cut
+pub record IsTightCutAt (g : Graph) (p : List (List ℕ)) (x : Set) : Type 0 where
+  pub union : IsUnion g.order p x
+  pub inside : 3 ≤ block_count p x
+  pub outside : 3 ≤ block_count p (complement x)
+  pub once : (m : Set) → IsPerfectAt g p m → edges_in_cut g m x ≡ 1
+
+-- a tree of nontrivial tight cuts from the stage p on: below a cut each side is made one block in turn, and where the tree ends the
+-- stage has no nontrivial tight cut
+abbrev pub IsTightCutTreeAt : Graph → List (List ℕ) → Shape → Type 0
+IsTightCutTreeAt g p leaf = (x : Set) → ¬ IsTightCutAt g p x
+IsTightCutTreeAt g p (cut x kept merged) = IsTightCutAt g p (mem x) × IsTightCutTreeAt g (kept_at g.order p x) kept × IsTightCutTreeAt g (merged_at g.order p x) merged
+
+-- f takes 1 to n one to one onto 1 to m
+pub record IsBijection (n m : ℕ) (f : ℕ → ℕ) : Type 0 where
+  pub within : (i : ℕ) → Within n i → Within m (f i)
+  pub once : (i j : ℕ) → Within n i → Within n j → f i ≡ f j → i ≡ j
+  pub onto : (k : ℕ) → Within m k → (i : ℕ) × Within n i × (f i ≡ k)
+
+-- the leaves p and q are one graph up to multiplicities of edges: f is a bijection of their blocks that preserves adjacency
+pub record IsSameGraph (g : Graph) (p q : List (List ℕ)) (f : ℕ → ℕ) : Type 0 where
+  pub bijection : IsBijection (length p) (length q) f
+  pub adjacent : (i j : ℕ) → Within (length p) i → Within (length p) j → blocks_adjacent g p i j ≡ blocks_adjacent g q (f i) (f j)
+
+-- a one-to-one pairing of two lists of leaves, and for each two partners such a bijection
+pub record PairsLeaves (g : Graph) (ps qs : List (List (List ℕ))) (partner : ℕ → ℕ) (blocks : ℕ → ℕ → ℕ) : Type 0 where
+  pub pairs : IsBijection (length ps) (length qs) partner
+  pub same : (i : ℕ) → Within (length ps) i → IsSameGraph g (leaf_at ps i) (leaf_at qs (partner i)) (blocks i)

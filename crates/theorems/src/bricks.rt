@@ -1,0 +1,35 @@
+//! Where does a nontrivial tight cut come from, and which graphs are bricks?
+//!
+//! Source: Edmonds, Lovász and Pulleyblank, "Brick decompositions and the matching rank of
+//! graphs" (Combinatorica 2, 1982).
+ghost use Rattle.std.specs.Prelude.{ℕ, ◌≤◌, ◌⊎◌, ◌↔◌};
+ghost use Rattle.counting.specs.Sets.{Set};
+ghost use Rattle.graph_core.specs.Covered.{IsCovered};
+ghost use Rattle.graph_core.specs.Graph.{Graph, IsBipartite, IsGraph, IsMultigraph};
+ghost use Rattle.graph_core.specs.Structure.{IsBarrier, IsBicritical, IsCutPair};
+ghost use Rattle.graph_core.specs.Tight.{HasNoTightCut, IsNontrivial, IsTight};
+ghost use Rattle.barrier_kit.specs.BarrierCuts.{BarrierCut};
+ghost use Rattle.graph_core.specs.Sides.{IsSide};
+ghost use Rattle.theorems.specs.Bricks.{IsBarrierCutOf, IsThreeConnected, SeparationCut};
+
+/// The theorem of Edmonds, Lovász and Pulleyblank: a matching covered graph with a nontrivial
+/// tight cut has a nontrivial tight cut that is a barrier cut or a 2-separation cut; in a
+/// bipartite one each tight cut is a barrier cut; and a graph is a brick if and only if it has at
+/// least four vertices, is bicritical and has no cut pair, that is, is 3-connected and bicritical
+/// (Edmonds, Lovász and Pulleyblank 1982; Lovász 1987).
+pub fn elp_law()
+    ensures cut { (g : Graph) (x : Set) → IsMultigraph g → IsCovered g →
+        IsTight g x → IsNontrivial g.order x →
+        ((s : Set) × IsBarrier g s × BarrierCut g s) ⊎
+        ((u : ℕ) × (v : ℕ) × SeparationCut g u v) }
+    ensures bipartite { (g : Graph) (a x : Set) → IsGraph g → IsCovered g → IsSide g a →
+        IsTight g x → (s : Set) × IsBarrierCutOf g x s }
+    ensures brick { (g : Graph) → IsMultigraph g →
+        (IsCovered g × (¬ (IsBipartite g)) × HasNoTightCut g) ↔
+        ((4 ≤ g.order) × IsBicritical g × ((u v : ℕ) → ¬ (IsCutPair g u v))) }
+    ensures connected { (g : Graph) → IsGraph g → 4 ≤ g.order →
+        ((u v : ℕ) → ¬ (IsCutPair g u v)) ↔ IsThreeConnected g }
+    ensures three_connected { (g : Graph) → IsMultigraph g →
+        (IsCovered g × (¬ (IsBipartite g)) × HasNoTightCut g) ↔
+        (IsThreeConnected g × IsBicritical g) }
+{}

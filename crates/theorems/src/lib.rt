@@ -1,0 +1,34 @@
+//! The theorems of the field, each under its own name and in the words of a textbook.
+//!
+//! Each theorem is a public function with an empty body, and its contract is the statement. A file
+//! is a chapter:
+//! - `braces`: braces
+//! - `bricks`: bricks and 3-connected graphs
+//! - `cubic_graphs`: cubic graphs
+//! - `derivations`: tight cut decompositions and the number of bricks
+//! - `ears`: ear decompositions
+//! - `matchings`: the Gallai-Edmonds structure theorem
+//! - `tight_cuts`: laminar families of tight cuts
+//!
+//! The words of a chapter that the lower crates lack stand in a file of `specs/`. No part of the
+//! program stands on this crate. `docs/THEOREMS.md` is the book that follows it.
+//!
+//! Sources: Lovász and Plummer, "Matching Theory" (1986); Lucchesi and Murty, "Perfect Matchings"
+//! (2024).
+#![tactic(auto)]
+
+mod braces;
+mod bricks;
+mod cubic_graphs;
+mod derivations;
+mod ears;
+mod matchings;
+mod tight_cuts;
+
+pub use braces::braces_law;
+pub use bricks::elp_law;
+pub use cubic_graphs::cubic_law;
+pub use derivations::derivation_exists_law;
+pub use ears::{ear_count_law, ear_list_exists_law, hetyei_law};
+pub use matchings::gallai_edmonds_law;
+pub use tight_cuts::laminar_law;
