@@ -9,6 +9,24 @@ ghost use Rattle.outside.specs.Shelf.{IsLonger, TellsFile};
 use crate::{Explain, Reason, Shelf, ShelfFault};
 use std::alloc::Global;
 
+/// A shelf that keeps what it read last.
+pub trait Keeping: Explain {
+    ghost use Rattle.std.specs.Prelude.{ℕ, List};
+    ghost use Rattle.std.specs.declared.option.Option.{Option};
+    ghost use Rattle.outside.specs.Keeping.{IsFileOf};
+
+    /// The bytes that the last read gave, where it gave some.
+    ghost kept: { Self → Option (List ℕ) };
+
+    /// The bytes that the last read gave, where it gave some. Takes no memory.
+    fn kept(&self) -> Option<&[u8]>
+        ensures { option_map (λ bytes. bytes.now) result ≡ kept self.now };
+
+    /// After a read of a name, what is kept is the file of that name, where the files are told.
+    ghost kept_is: { (before : Self) (name : List ℕ) (now : Self) → Self.reads before name now →
+        IsFileOf (Self.files before) name (kept now) };
+}
+
 /// A shelf that keeps the bytes of the file that it read last, and is in all else the shelf that it is made of.
 ///
 /// Nothing is kept where the last read gave no bytes. A read takes memory for its bytes twice.
@@ -80,4 +98,17 @@ impl<S: Explain + Drop> Explain for KeepingShelf<S> {
     fn reason(&self) -> Option<Reason> {
         self.shelf.reason()
     }
+}
+
+impl<S: Explain + Drop> Keeping for KeepingShelf<S> {
+    ghost kept = { λ shelf. bytes_kept shelf.kept };
+
+    fn kept(&self) -> Option<&[u8]> {
+        match &self.kept {
+            Some(bytes) => Some(bytes.as_slice()),
+            None => None,
+        }
+    }
+
+    ghost kept_is = { λ before name now read. read.is_file };
 }

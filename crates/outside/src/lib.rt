@@ -11,7 +11,7 @@
 //! `InSource` and `OutSink` are the files, the standard input and the standard output of the runtime, and `LineSink` its standard
 //! error, line by line, the trusted edge: they tell nothing of content. A call of theirs that a signal interrupts is tried again. `emit` writes a whole output to a sink.
 //!
-//! For who has to say in words what went wrong, a `KeepingShelf` keeps the bytes of the file that it read last, a shelf may
+//! For who has to say in words what went wrong, a `KeepingShelf` keeps the bytes of the file that it read last (`Keeping`), a shelf may
 //! `Explain` why a read failed, and an `Outlet` is a sink that knows whether anybody still reads it.
 //!
 //! It stands on `std` alone. A read or write of a part of a piece, and one that is made to fail at its n-th call, are those
@@ -41,7 +41,7 @@ pub use dir_shelf::DirShelf;
 pub use emitting::emit;
 pub use explain::{Explain, Reason};
 pub use in_source::InSource;
-pub use keeping_shelf::KeepingShelf;
+pub use keeping_shelf::{Keeping, KeepingShelf};
 pub use line_sink::LineSink;
 pub use mem_shelf::MemShelf;
 pub use mem_sink::MemSink;

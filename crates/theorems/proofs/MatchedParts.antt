@@ -22,7 +22,7 @@ use Rattle.graph_core.specs.Components.{component_count, is_least, odd_component
 use Rattle.graph_core.specs.Graph.{Graph, HasEnds, IsGraph, degree, edges_in_cut, first_end, in_cut, inside, second_end, size}
 use Rattle.graph_core.specs.Matchings.{IsMaximum, missed_count}
 use Rattle.graph_core.specs.Walks.{joined}
-use Rattle.match_core.proofs.Certificates.{ends_total}
+use Rattle.match_search.proofs.Certificates.{ends_total}
 use Rattle.theorems.proofs.ThreeSets.{attains, component_is, components_odd, d_odd, d_out, d_step, ends_within, odd_d, turn_ends}
 use Rattle.theorems.specs.Matchings.{AreThreeSets, HasPerfectWithin, IsFactorCritical, MatchesAllButOne, MatchesWithin, component_in}
 

@@ -2,7 +2,7 @@
 -- two vertices that part a from b become two, as some others are left beside a and b; two leaders
 -- beside a cut pair are parted.
 use Rattle.std.proofs.Common.{◌≡◌, ◌≢◌, ℕ, suc, ◌+◌, ◌≤◌, Bool, true, false, ◌==◌, ◌&&◌, ◌||◌, not, refl, sym, ap, ◌∙◌, arith, eq-eqb, eqb-true, ne_eqb, ◌↔◌, inl, inr}
-use Rattle.std.proofs.lemmas.Bool.{cases_lt, both_ways, and_parts, not-true}
+use Rattle.std.proofs.lemmas.Bool.{cases_lt, both_ways, and_parts, not-true, false_from_ne_true}
 use Rattle.barrier_kit.proofs.BarrierCuts.{leader_same, leads_out, part_step}
 use Rattle.brick_kit.proofs.PairSeparations.{separates}
 use Rattle.counting.proofs.Booleans.{alike_not_apart, but_from}
@@ -84,7 +84,7 @@ no_pair_three g is four none = record { four = four; connected = connected }
           (pair_out p.0 p.1 a (λ e. both_ways (a == p.0) ou.0 (eq-eqb a p.0 (sym e))) (λ e. both_ways (a == p.1) ov.0 (eq-eqb a p.1 (sym e))))
           (pair_out p.0 p.1 b (λ e. both_ways (b == p.0) ou.1 (eq-eqb b p.0 (sym e))) (λ e. both_ways (b == p.1) ov.1 (eq-eqb b p.1 (sym e))))
           (walk_joined g r is a a wa (joined_self g r a))
-          (not_joined (joined g r a b) (λ t. alone (joined_walk g r a b t)))
+          (false_from_ne_true (joined g r a b) (λ t. alone (joined_walk g r a b t)))
           (λ e w f s. alike_not_apart (joined g r a (first_end g e)) (joined g r a (second_end g e)) (part_step g r a e is wa w (p.7 (first_end g e) (is e w).0 f) (p.7 (second_end g e) (is e w).1 s)))))
     ]
       where
@@ -93,10 +93,6 @@ no_pair_three g is four none = record { four = four; connected = connected }
 
         apart : (p q : Bool) → not (p || q) ≡ true → (p ≡ false) × (q ≡ false)
         apart p q h = grind arith
-
-        not_joined : (p : Bool) → (p ≡ true → ⊥) → p ≡ false
-        not_joined true h = absurd (h refl)
-        not_joined false h = refl
 
         pair_out : (u v w : ℕ) → u ≢ w → v ≢ w → pair_set u v w ≡ false
         pair_out u v w d e = rw (ne_eqb u w d, ne_eqb v w e) refl

@@ -21,7 +21,7 @@ use Rattle.graph_core.specs.Matchings.{IsMaximum}
 use Rattle.graph_core.specs.Walks.{Joined, adjacent, joined}
 use Rattle.match_core.proofs.OddComponents.{Best, best, certificate_components, certificate_maximum, inner_next, missable_outer, next_inner, outer_free, outer_missable}
 use Rattle.match_core.proofs.OuterComponents.{odd_outer, outer_odd}
-use Rattle.match_core.specs.Frames.{Frame}
+use Rattle.match_search.specs.Frames.{Frame}
 use Rattle.theorems.specs.Matchings.{AreThreeSets}
 
 -- the ends of an edge are vertices

@@ -5,7 +5,7 @@ use Rattle.std.proofs.Common.{◌≡◌, ◌≢◌, ℕ, ◌≤◌, ◌<◌, Boo
 use Rattle.std.proofs.lemmas.Bool.{and_from, and_parts, both_ways, cases_Bool, cases_eq, not-false, not-true, or_left, or_right, true≢false}
 use Rattle.barrier_kit.proofs.Matched.{cut_edge, perfect_congr}
 use Rattle.graph_core.specs.Sides.{IsSide}
-use Rattle.counting.proofs.Booleans.{but_from}
+use Rattle.counting.proofs.Booleans.{and_comm, but_fails_second, but_from, but_not, or_false_back}
 use Rattle.counting.proofs.Counts.{count_congr}
 use Rattle.counting.proofs.Members.{count_member, count_minus, two_members}
 use Rattle.counting.proofs.SetSizes.{count_mono, count_split}
@@ -134,15 +134,12 @@ module _ (g : Graph) (is : IsMultigraph g) (cov : IsCovered g) (a : Set) (two : 
     both =
         let m = beside in
         let k = add_edge g (ends_set g f) m.0 e is.ends we (is.no_loop e we) (off (first_end g e) (is.ends e we).0 (inl refl)) (off (second_end g e) (is.ends e we).1 (inr refl)) m.1 in
-        let j = add_edge g none (λ i. m.0 i || singleton e i) f is.ends wf (is.no_loop f wf) refl refl (perfect_congr g (ends_set g f) (union (ends_set g f) none) (λ i. m.0 i || singleton e i) (λ v wv. alike (ends_set g f v)) k) in (
+        let j = add_edge g none (λ i. m.0 i || singleton e i) f is.ends wf (is.no_loop f wf) refl refl (perfect_congr g (ends_set g f) (union (ends_set g f) none) (λ i. m.0 i || singleton e i) (λ v wv. or_false_back (ends_set g f v)) k) in (
           (λ i. (m.0 i || singleton e i) || singleton f i),
           j,
           or_left (m.0 e || singleton e e) (singleton f e) (or_right (m.0 e) (e == e) (eq-eqb e e refl)),
           or_right (m.0 f || singleton e f) (f == f) (eq-eqb f f refl),
         )
-      where
-        alike : (p : Bool) → p ≡ (p || false)
-        alike p = grind arith
 
   pub extendable : HasNoTightCut g → IsTwoExtendable g
   extendable none_tight e f we wf apart = both ((braces g is.ends cov a two).0 none_tight) e f we wf apart
@@ -158,11 +155,8 @@ module _ (g : Graph) (is : IsMultigraph g) (cov : IsCovered g) (a : Set) (two : 
     far_two : 2 ≤ count g.order far
     far_two =
         let c = count_split g.order a z in
-        let d : count g.order (meet a z) ≡ count g.order (meet z a) = count_congr g.order _ _ (λ v w. turn (a v) (z v)) in
+        let d : count g.order (meet a z) ≡ count g.order (meet z a) = count_congr g.order _ _ (λ v w. and_comm (a v) (z v)) in
         let o = l.some_out in omega arith
-      where
-        turn : (p q : Bool) → (p && q) ≡ (q && p)
-        turn p q = grind arith
 
     -- more than k members: one outside a set of k
     beyond : (x y : Set) → count g.order y < count g.order x → (v : ℕ) × Within g.order v × (x v ≡ true) × (y v ≡ false)
@@ -201,16 +195,13 @@ module _ (g : Graph) (is : IsMultigraph g) (cov : IsCovered g) (a : Set) (two : 
         let i = l.some_in in
         let w = count_member g.order x (omega arith) in
         let sub : (k : ℕ) → x k ≡ true → complement a k ≡ true = λ k h. (and_parts (z k) (not (a k)) (and_parts (near k) (not (one.0 == k)) h).0).1 in
-        let k = surplus g is (complement a) (other_side g is.ends a two) x sub cov w.0 one.0 w.1 ends_in.0 w.2 (ap not one.7) (own (near one.0) (one.0 == one.0) (eq-eqb one.0 one.0 refl)) in
+        let k = surplus g is (complement a) (other_side g is.ends a two) x sub cov w.0 one.0 w.1 ends_in.0 w.2 (ap not one.7) (but_not (near one.0) (one.0 == one.0) (eq-eqb one.0 one.0 refl)) in
         let t = beyond (neighbourhood g x) (meet z a) (omega arith) in
         let e = neighbour_edge g x t.0 t.2 in
         let q = and_parts (near e.0) (not (one.0 == e.0)) e.3 in
         let side = not-false (a t.0) (not-true (not (a t.0)) (near_side g is (complement a) (other_side g is.ends a two) x sub t.0 t.2)) in
         (e.0, t.0, e.1, e.4, e.5, (and_parts (z e.0) (not (a e.0)) q.0).0, out (z t.0) (a t.0) t.3 side, (λ r. both_ways (one.0 == e.0) (not-true (one.0 == e.0) q.1) (eq-eqb one.0 e.0 r)))
       where
-        own : (p q : Bool) → q ≡ true → (p && not q) ≡ false
-        own p q h = grind arith
-
         out : (p q : Bool) → (p && q) ≡ false → q ≡ true → p ≡ false
         out p q h k = grind arith
 
@@ -223,26 +214,17 @@ module _ (g : Graph) (is : IsMultigraph g) (cov : IsCovered g) (a : Set) (two : 
         let f = far_two in
         let w = count_member g.order x (omega arith) in
         let sub : (k : ℕ) → x k ≡ true → a k ≡ true = λ k h. (and_parts (a k) (not (z k)) (and_parts (far k) (not (one.1 == k)) h).0).0 in
-        let k = surplus g is a two x sub cov w.0 one.1 w.1 ends_in.1 w.2 one.8 (own (far one.1) (one.1 == one.1) (eq-eqb one.1 one.1 refl)) in
+        let k = surplus g is a two x sub cov w.0 one.1 w.1 ends_in.1 w.2 one.8 (but_not (far one.1) (one.1 == one.1) (eq-eqb one.1 one.1 refl)) in
         let half = equal_sides g is.ends a two cov in
         let i = count_split g.order a z in
         let j = count_split g.order (complement a) z in
-        let p : count g.order (meet a z) ≡ count g.order (meet z a) = count_congr g.order _ _ (λ v w. turn (a v) (z v)) in
-        let r : count g.order (meet (complement a) z) ≡ count g.order near = count_congr g.order _ _ (λ v w. turn (not (a v)) (z v)) in
+        let p : count g.order (meet a z) ≡ count g.order (meet z a) = count_congr g.order _ _ (λ v w. and_comm (a v) (z v)) in
+        let r : count g.order (meet (complement a) z) ≡ count g.order near = count_congr g.order _ _ (λ v w. and_comm (not (a v)) (z v)) in
         let t = beyond (neighbourhood g x) (minus (complement a) z) (omega arith) in
         let e = neighbour_edge g x t.0 t.2 in
         let q = and_parts (far e.0) (not (one.1 == e.0)) e.3 in
         let side = near_side g is a two x sub t.0 t.2 in
-        (t.0, e.0, e.1, e.4, has_ends-back g e.0 t.0 e.1 e.5, out (not (a t.0)) (z t.0) t.3 side, not-true (z e.0) (and_parts (a e.0) (not (z e.0)) q.0).1, (λ r. both_ways (one.1 == e.0) (not-true (one.1 == e.0) q.1) (eq-eqb one.1 e.0 r)))
-      where
-        own : (p q : Bool) → q ≡ true → (p && not q) ≡ false
-        own p q h = grind arith
-
-        turn : (p q : Bool) → (p && q) ≡ (q && p)
-        turn p q = grind arith
-
-        out : (p q : Bool) → (p && not q) ≡ false → p ≡ true → q ≡ true
-        out p q h k = grind arith
+        (t.0, e.0, e.1, e.4, has_ends-back g e.0 t.0 e.1 e.5, but_fails_second (not (a t.0)) (z t.0) side t.3, not-true (z e.0) (and_parts (a e.0) (not (z e.0)) q.0).1, (λ r. both_ways (one.1 == e.0) (not-true (one.1 == e.0) q.1) (eq-eqb one.1 e.0 r)))
 
     none_leans : ⊥
     none_leans =

@@ -1,7 +1,7 @@
 -- A bipartite covered graph has no nontrivial tight cut if and only if its small sets on a side
 -- have two neighbours more than vertices. A set with one neighbour more is with its neighbours a
 -- tight shore; and a nontrivial tight shore gives such a set.
-use Rattle.std.proofs.Common.{◌≡◌, ℕ, ◌+◌, ◌≤◌, true, not, sym, ap, ◌∙◌, arith, ◌↔◌, inl, inr}
+use Rattle.std.proofs.Common.{◌≡◌, ℕ, ◌+◌, ◌≤◌, true, ◌&&◌, not, sym, ap, ◌∙◌, arith, ◌↔◌, inl, inr}
 use Rattle.std.proofs.lemmas.Bool.{and_from, and_parts, cases_lt, not-true}
 use Rattle.graph_core.specs.Sides.{IsSide}
 use Rattle.counting.proofs.Counts.{count_congr}
@@ -9,13 +9,15 @@ use Rattle.counting.proofs.Booleans.{and_implied}
 use Rattle.counting.proofs.Members.{count_member, two_members, two_of}
 use Rattle.counting.proofs.Odd.{odd_three}
 use Rattle.counting.proofs.SetSizes.{count_mono, count_split}
-use Rattle.counting.specs.Counts.{count}
-use Rattle.counting.specs.Sets.{Set, complement, meet, minus, union}
+use Rattle.counting.proofs.Tests.{some_congr}
+use Rattle.counting.specs.Counts.{Within, count}
+use Rattle.counting.specs.Sets.{Set, complement, meet, minus, none, union}
 use Rattle.graph_core.proofs.Contraction.{tight_from_cut}
 use Rattle.graph_core.proofs.Decide.{covered_perfect}
 use Rattle.graph_core.specs.Covered.{IsCovered}
 use Rattle.graph_core.specs.Graph.{Graph, IsMultigraph}
 use Rattle.graph_core.specs.Tight.{HasNoTightCut, IsTight}
+use Rattle.graph_core.specs.Walks.{adjacent}
 use Rattle.theorems.proofs.Neighbourhoods.{both_count, ends_cross, leaning, near_count, near_out, neighbour_edge, surplus}
 use Rattle.theorems.specs.Braces.{HasWideNeighbourhoods, neighbourhood}
 
@@ -26,8 +28,8 @@ module _ (g : Graph) (is : IsMultigraph g) (cov : IsCovered g) (a : Set) (two : 
       let c = count_split g.order a s in
       let d : count g.order (meet a s) ≡ count g.order s = count_congr g.order _ _ (λ v w. and_implied (a v) (s v) (sub v)) in omega arith
 
-  wide : HasNoTightCut g → HasWideNeighbourhoods g a
-  wide none_tight s sub some small = elim (cases_lt (count g.order s + 1) (count g.order (neighbourhood g s))) [
+  two_more : HasNoTightCut g → (s : Set) → ((v : ℕ) → s v ≡ true → a v ≡ true) → 1 ≤ count g.order s → count g.order s + 2 ≤ count g.order a → count g.order s + 2 ≤ count g.order (neighbourhood g s)
+  two_more none_tight s sub some small = elim (cases_lt (count g.order s + 1) (count g.order (neighbourhood g s))) [
     | inl l ↦ omega arith
     | inr l ↦
         let u = count_member g.order s (omega arith) in
@@ -46,6 +48,14 @@ module _ (g : Graph) (is : IsMultigraph g) (cov : IsCovered g) (a : Set) (two : 
         }))
   ]
 
+  -- what a set has past the last vertex plays no part
+  wide : HasNoTightCut g → HasWideNeighbourhoods g a
+  wide none_tight s sub some small =
+      let same : (v : ℕ) → Within g.order v → meet a s v ≡ s v = λ v w. and_implied (a v) (s v) (sub v w) in
+      let c : count g.order (meet a s) ≡ count g.order s = count_congr g.order _ _ same in
+      let d : count g.order (neighbourhood g (meet a s)) ≡ count g.order (neighbourhood g s) = count_congr g.order _ _ (λ v w. some_congr g.order _ _ (λ u x. ap (λ k. k && adjacent g none u v) (same u x))) in
+      let t = two_more none_tight (meet a s) (λ v h. (and_parts (a v) (s v) h).0) (omega arith) (omega arith) in omega arith
+
   narrow : HasWideNeighbourhoods g a → HasNoTightCut g
   narrow wide x t nontrivial =
       let z = leaning g is a two cov x t nontrivial in
@@ -55,7 +65,7 @@ module _ (g : Graph) (is : IsMultigraph g) (cov : IsCovered g) (a : Set) (two : 
       let e = neighbour_edge g (meet z.0 a) v h in
       let p = and_parts (z.0 e.0) (a e.0) e.3 in
       and_from (z.0 v) (not (a v)) (l.closed e.0 v e.1 e.4 e.5 p.0 p.1) (sym (ends_cross g is a two e.0 v e.1 e.4 e.5) ∙ p.1)) in
-      let many = wide (meet z.0 a) (λ v h. (and_parts (z.0 v) (a v) h).1) l.some_in l.some_out in absurd (omega arith)
+      let many = wide (meet z.0 a) (λ v w h. (and_parts (z.0 v) (a v) h).1) l.some_in l.some_out in absurd (omega arith)
 
   pub wide_or_tight : HasNoTightCut g ↔ HasWideNeighbourhoods g a
   wide_or_tight = (wide, narrow)

@@ -13,7 +13,7 @@ neighbourhood g s v = some g.order (λ u. s u && adjacent g none u v)
 
 -- each set of 1 to |a| - 2 vertices of the side a has at least two neighbours more than vertices
 abbrev pub HasWideNeighbourhoods : Graph → Set → Type 0
-HasWideNeighbourhoods g a = (s : Set) → ((v : ℕ) → s v ≡ true → a v ≡ true) → 1 ≤ count g.order s → count g.order s + 2 ≤ count g.order a → count g.order s + 2 ≤ count g.order (neighbourhood g s)
+HasWideNeighbourhoods g a = (s : Set) → ((v : ℕ) → Within g.order v → s v ≡ true → a v ≡ true) → 1 ≤ count g.order s → count g.order s + 2 ≤ count g.order a → count g.order s + 2 ≤ count g.order (neighbourhood g s)
 
 -- any two edges without a common end lie together in a perfect matching
 abbrev pub IsTwoExtendable : Graph → Type 0

@@ -1,0 +1,8 @@
+-- A line of a text by its number.
+use Rattle.std.specs.Prelude.{ℕ, ◌-◌, List, slice_get}
+use Rattle.std.specs.declared.option.Option.{Option}
+use Rattle.line_text.specs.Lines.{lines_of}
+
+-- the line with that number, counted from 1, if the text has it
+abbrev pub line_at : List ℕ → ℕ → Option (List ℕ)
+line_at text number = slice_get (lines_of text) (number - 1)

@@ -1,0 +1,47 @@
+-- The messages: each is a line that begins with the name of the program, or a few such lines.
+use Rattle.std.specs.Prelude.{ℕ, ◌==◌, List, [], ◌∷◌, ◌++◌, codes, if◌then◌else◌}
+use Rattle.std.specs.Fmt.{decimal}
+use Rattle.std.specs.declared.option.Option.{Option}
+use Rattle.std.specs.declared.option.Option.TheVariants.{None, Some}
+use Rattle.outside.specs.declared.explain.Reason.{Reason}
+use Rattle.front_words.specs.declared.faults.Role.{Role}
+use Rattle.front_words.specs.Faults.{fault_words, note_words}
+use Rattle.front_words.specs.Reasons.{reason_words}
+use Rattle.front_words.specs.Showing.{shown}
+
+-- a line of a program
+abbrev pub told : (program words : List ℕ) → List ℕ
+told program words = program ++ (codes ": " ++ (words ++ codes "\n"))
+
+-- the file of that name could not be read, for that reason
+abbrev pub unread_text : (program name : List ℕ) → Option Reason → List ℕ
+unread_text program name reason =
+    program ++ (codes ": cannot read " ++ (shown 4096 name ++ (codes ": " ++ (reason_words reason ++ codes "\n"))))
+
+-- the file of that name is too long
+abbrev pub too_long_text : (program name : List ℕ) → List ℕ
+too_long_text program name =
+    program ++ (codes ": " ++ (shown 4096 name ++ codes ": it has more than 1,048,576 bytes, the most that a file may have\n"))
+
+-- a line that is known and is not empty
+abbrev pub some_line : Option (List ℕ) → Option (List ℕ)
+some_line None = None
+some_line (Some []) = None
+some_line (Some (byte ∷ text)) = Some (byte ∷ text)
+
+-- the line with that number, if there is one to show
+abbrev pub line_shown : (program : List ℕ) (line : ℕ) → Option (List ℕ) → List ℕ
+line_shown program line None = []
+line_shown program line (Some text) = program ++ (codes ": line " ++ (decimal line ++ (codes " is: " ++ (shown 60 text ++ codes "\n"))))
+
+-- the file of that name, which is read so, is outside its format at that line by that kind; the text is that of the line,
+-- where it is known
+abbrev pub outside_text : (program name : List ℕ) → Role → (line kind : ℕ) → Option (List ℕ) → List ℕ
+outside_text program name role line kind text =
+    program ++ (codes ": " ++ (shown 4096 name ++ (codes ", line " ++ (decimal line ++ (codes ": " ++
+    (fault_words role kind ++ (note_words role kind ++ (codes "\n" ++ line_shown program line (some_line text)))))))))
+
+-- the file of that name is bad: with line 0 it is too long
+abbrev pub bad_file_text : (program name : List ℕ) → Role → (line kind : ℕ) → Option (List ℕ) → List ℕ
+bad_file_text program name role line kind text =
+    if line == 0 then too_long_text program name else outside_text program name role line kind text

@@ -1,0 +1,16 @@
+-- The text of a message.
+use Rattle.std.specs.Prelude.{ℕ, List, [], ◌∷◌, ◌++◌}
+use Rattle.std.specs.Fmt.{decimal}
+use Rattle.front_words.specs.Showing.{shown}
+use Rattle.front_words.specs.declared.pieces.Piece.TheVariants.{the_data, Text, Number, Shown}
+
+-- the text of a piece
+abbrev pub piece_text : the_data → List ℕ
+piece_text (Text text) = text.now
+piece_text (Number number) = decimal number
+piece_text (Shown bytes most) = shown most bytes.now
+
+-- the text of pieces, one after another
+abbrev pub pieces_text : List the_data → List ℕ
+pieces_text [] = []
+pieces_text (piece ∷ pieces) = piece_text piece ++ pieces_text pieces

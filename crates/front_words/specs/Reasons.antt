@@ -1,0 +1,16 @@
+-- Why a file could not be read, in words.
+use Rattle.std.specs.Prelude.{ℕ, List, codes}
+use Rattle.std.specs.declared.option.Option.{Option}
+use Rattle.std.specs.declared.option.Option.TheVariants.{None, Some}
+use Rattle.outside.specs.declared.explain.Reason.{Reason}
+use Rattle.outside.specs.declared.explain.Reason.TheVariants.{Absent, Dangling, Folder, NotInFolder, Forbidden, Other}
+
+-- the words for a reason
+abbrev pub reason_words : Option Reason → List ℕ
+reason_words None = codes "a read of it failed"
+reason_words (Some Absent) = codes "there is no such file"
+reason_words (Some Dangling) = codes "it is a link to what is not there"
+reason_words (Some Folder) = codes "it is a folder"
+reason_words (Some NotInFolder) = codes "a part of its name is not a folder"
+reason_words (Some Forbidden) = codes "no permission to read it"
+reason_words (Some Other) = codes "a read of it failed"

@@ -1,0 +1,155 @@
+//! The messages.
+ghost use Rattle.std.specs.Prelude.{◌≡◌};
+ghost use Rattle.std.specs.Option.{option_map};
+ghost use Rattle.front_words.specs.Messages.{bad_file_text, outside_text, some_line, too_long_text, unread_text};
+ghost use Rattle.front_words.specs.Saying.{Says};
+
+use crate::faults::{Role, fault_words, note_words};
+use crate::pieces::Piece::{Number, Shown, Text};
+use crate::pieces::say;
+use crate::reasons::reason_words;
+use outside::{Reason, Sink, SinkFailed};
+
+// The most bytes of a name that are shown, and of a line.
+const MOST_OF_NAME: u32 = 4096;
+
+const MOST_OF_LINE: u32 = 60;
+
+/// A file that is outside its format.
+#[derive(Clone, Copy, Drop)]
+pub struct BadFile<'a> {
+    /// Its name.
+    pub name: &'a str,
+    /// What it is read as.
+    pub role: Role,
+    /// The line of its first fault, counted from 1; 0 where it is too long.
+    pub line: u32,
+    /// The number of the kind of the fault.
+    pub kind: u32,
+}
+
+/// Says that the file of that name could not be read, and why. Takes no memory.
+pub fn say_unread<'a, K: Sink>(
+    sink: &mut K,
+    program: &'a str,
+    name: &'a str,
+    reason: Option<Reason>,
+) -> Result<(), SinkFailed>
+    ensures { Says K.written K.faults (unread_text program.now name.now reason) result sink.old
+        sink.new }
+{
+    let name = Shown(name.as_bytes(), MOST_OF_NAME);
+    let why = Text(reason_words(reason));
+    say(
+        sink,
+        &[
+            Text(program),
+            Text(": cannot read "),
+            name,
+            Text(": "),
+            why,
+            Text("\n"),
+        ],
+    )
+}
+
+// Says that the file of that name is too long.
+fn say_too_long<'a, K: Sink>(
+    sink: &mut K,
+    program: &'a str,
+    name: &'a str,
+) -> Result<(), SinkFailed>
+    ensures { Says K.written K.faults (too_long_text program.now name.now) result sink.old
+        sink.new }
+{
+    let name = Shown(name.as_bytes(), MOST_OF_NAME);
+    let words = ": it has more than 1,048,576 bytes, the most that a file may have\n";
+    say(sink, &[Text(program), Text(": "), name, Text(words)])
+}
+
+// The line, where it is known and is not empty.
+fn some_line(text: Option<&[u8]>) -> Option<&[u8]>
+    ensures { option_map (λ line. line.now) result ≡
+        some_line (option_map (λ line. line.now) text.entry) }
+{
+    match text {
+        Some(text) if !text.is_empty() => Some(text),
+        _ => None,
+    }
+}
+
+// Says what is wrong in which line, and the line, where it is known.
+fn say_outside<'a, K: Sink>(
+    sink: &mut K,
+    program: &'a str,
+    bad: &'a BadFile<'a>,
+    text: Option<&'a [u8]>,
+) -> Result<(), SinkFailed>
+    ensures { Says K.written K.faults
+        (outside_text program.now bad.now.name.now bad.now.role bad.now.line bad.now.kind
+        (option_map (λ line. line.now) text.entry)) result sink.old sink.new }
+{
+    let by = Text(program);
+    let name = Shown(bad.name.as_bytes(), MOST_OF_NAME);
+    let line = Number(bad.line);
+    let what = Text(fault_words(bad.role, bad.kind));
+    let note = Text(note_words(bad.role, bad.kind));
+    let end = Text("\n");
+    match some_line(text) {
+        Some(text) => {
+            let text = Shown(text, MOST_OF_LINE);
+            say(
+                sink,
+                &[
+                    by,
+                    Text(": "),
+                    name,
+                    Text(", line "),
+                    line,
+                    Text(": "),
+                    what,
+                    note,
+                    end,
+                    by,
+                    Text(": line "),
+                    line,
+                    Text(" is: "),
+                    text,
+                    end,
+                ],
+            )
+        }
+        None => say(
+            sink,
+            &[
+                by,
+                Text(": "),
+                name,
+                Text(", line "),
+                line,
+                Text(": "),
+                what,
+                note,
+                end,
+            ],
+        ),
+    }
+}
+
+/// Says of a bad file which it is, where it is outside its format and how, and the line, where its text is known. Takes no memory.
+pub fn say_bad_file<'a, K: Sink>(
+    sink: &mut K,
+    program: &'a str,
+    bad: &'a BadFile<'a>,
+    text: Option<&'a [u8]>,
+) -> Result<(), SinkFailed>
+    ensures { Says K.written K.faults
+        (bad_file_text program.now bad.now.name.now bad.now.role bad.now.line bad.now.kind
+        (option_map (λ line. line.now) text.entry)) result sink.old sink.new }
+{
+    if bad.line == 0 {
+        say_too_long(sink, program, bad.name)
+    } else {
+        say_outside(sink, program, bad, text)
+    }
+}

@@ -1,0 +1,43 @@
+//! A message as a list of pieces, and how it is said.
+ghost use Rattle.std.specs.Prelude.{◌≡◌};
+ghost use Rattle.front_words.specs.Pieces.{piece_text, pieces_text};
+ghost use Rattle.front_words.specs.Saying.{Says};
+
+use crate::showing::{say_bytes, say_shown};
+use itoa::Buffer;
+use outside::{Sink, SinkFailed};
+
+/// A piece of a message.
+#[derive(Clone, Copy, Drop)]
+pub enum Piece<'a> {
+    /// This text.
+    Text(&'a str),
+    /// This number, in decimal.
+    Number(u32),
+    /// These bytes of the outside, as they can stand in a line, and of them at most so many characters.
+    Shown(&'a [u8], u32),
+}
+
+// Says one piece.
+fn say_piece<K: Sink>(sink: &mut K, piece: &Piece<'_>) -> Result<(), SinkFailed>
+    ensures { Says K.written K.faults (piece_text piece.now) result sink.old sink.new }
+{
+    match piece {
+        Piece::Text(text) => say_bytes(sink, text.as_bytes()),
+        Piece::Number(number) => {
+            let mut buffer = Buffer::new();
+            say_bytes(sink, buffer.format(*number).as_bytes())
+        }
+        Piece::Shown(bytes, most) => say_shown(sink, bytes, *most),
+    }
+}
+
+/// Says the pieces, one after another, up to the first that cannot be said whole. Takes no memory.
+pub fn say<K: Sink>(sink: &mut K, pieces: &[Piece<'_>]) -> Result<(), SinkFailed>
+    ensures { Says K.written K.faults (pieces_text pieces.now) result sink.old sink.new }
+{
+    'saying: for piece in pieces {
+        say_piece(sink, piece)?;
+    }
+    Ok(())
+}
