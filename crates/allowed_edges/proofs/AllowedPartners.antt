@@ -1,6 +1,6 @@
--- An edge is allowed exactly where its ends are partners; the list of the allowed edges, the least edge that is none, and whether a
--- maximum matching is perfect.
--- A perfect matching with the edge, less the edge, is perfect without its ends, and back. A perfect matching is as large as any.
+-- An edge is allowed exactly when its ends are partners; the list of the allowed edges, the least
+-- edge that is none, and whether a maximum matching is perfect. A perfect matching with the edge,
+-- less the edge, is perfect without its ends, and back. A perfect matching is as large as any.
 use Rattle.std.proofs.Common.{◌≡◌, ◌↔◌, ℕ, ◌==◌, ◌&&◌, ◌||◌, not, Bool, true, false, List, refl, sym, ap, ◌∙◌, arith, subst, ne_eqb, eq-eqb, inl, inr}
 use Rattle.counting.proofs.Booleans.{same_tests}
 use Rattle.std.proofs.lemmas.Bool.{both_ways, cases_Bool, or_right}
@@ -54,7 +54,7 @@ listed-allowed g es q = subst (λ xs. Lists (size g) xs (Allowed g)) (sym q) (re
   complete = λ e w a. mem-rising_list (size g) (is_allowed g) e w ∙ is_allowed_found g e w a;
 })
 
--- a maximum matching misses no vertex exactly where there is a perfect matching
+-- a maximum matching misses no vertex exactly when there is a perfect matching
 pub maximum-perfect : (g : Graph) (m : Set) → IsGraph g → IsMaximum g none m → (missed_count g none m ≡ 0) ↔ HasPerfect g none
 maximum-perfect g m is max = (
   λ z. (m, none_missed-perfect g none m max.is z),

@@ -1,5 +1,5 @@
--- The first of the components is that of vertex 1, since no vertex is less; a graph is connected where it holds all vertices.
--- A walk from one vertex to another leads over 1.
+-- The first of the components is that of vertex 1, since no vertex is less; a graph is connected
+-- where it holds all vertices. A walk from one vertex to another leads over 1.
 use Rattle.std.proofs.Common.{◌≡◌, ℕ, suc, zero, ◌≤◌, ◌<◌, true, false, not, ◌&&◌, ◌↔◌, List, [], ◌∷◌, ◌++◌, map, length, cond, sym, ap, ◌∙◌, arith, subst, nat_lt, ltb-true}
 use Rattle.std.specs.Prelude.{IfNone, IfSome, None, Option, Some, slice_get}
 use Rattle.std.proofs.lemmas.Bool.{both_ways, and_parts, false_from_ne_true}
@@ -48,11 +48,12 @@ some_component g l =
     let long : length (map (λ u. rising_list g.order (joined g none u)) (rising_list g.order (is_least g none))) ≡ length (map (λ u. rising_list g.order (joined g none u)) (1 ∷ r.0)) = ap (λ us. length (map (λ u. rising_list g.order (joined g none u)) us)) r.1 in
     omega arith
 
--- a vertex is in this list exactly where a walk joins it to 1
+-- a vertex is in this list exactly when a walk joins it to 1
 in_first : (g : Graph) → IsGraph g → 1 ≤ g.order → (v : ℕ) → Within g.order v → mem (rising_list g.order (joined g none 1)) v ≡ true → Joined g none 1 v
 in_first g is l v w m = joined_walk g none 1 v (sym (mem-rising_list g.order (joined g none 1) v w) ∙ m)
 
--- the parts of the graph without nothing are its components, the first of them is read, and the others are all vertices outside it
+-- the parts of the graph without nothing are its components, the first of them is read, and the
+-- others are all vertices outside it
 module _ (g : Graph) (is : IsGraph g) (l : 1 ≤ g.order) (nothing : List ℕ) (nothing_is : nothing ≡ []) (parts : List (List ℕ)) (parts_are : parts ≡ components g (mem nothing)) (part : List ℕ) (part_is : slice_get parts 0 ≡ Some part)
     (n : ℕ) (order : n ≡ g.order) (all : List ℕ) (all_are : (v : ℕ) → (mem all v ≡ true) ↔ Within n v) (others : List ℕ) (others_are : (v : ℕ) → mem others v ≡ (mem all v && not (mem part v))) where
   first_is : part ≡ rising_list g.order (joined g none 1)

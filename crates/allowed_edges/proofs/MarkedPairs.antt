@@ -1,5 +1,5 @@
--- Marks set in a square table row by row, for all pairs of edges of a matching.
--- A row that is written has the new marks and every other row stays; by cases on the row that is asked for.
+-- Marks set in a square table row by row, for all pairs of edges of a matching. A row that is
+-- written has the new marks and every other row stays; by cases on the row that is asked for.
 use Rattle.std.proofs.Common.{◌≡◌, ◌≢◌, ℕ, suc, zero, ◌+◌, ◌<◌, Bool, true, false, ◌&&◌, ◌||◌, ◌==◌, List, [], ◌∷◌, length, get_or, set, map, take, refl, sym, ap, ◌∙◌, arith, inl, inr, eq-eqb, ne_eqb}
 use Rattle.std.specs.Prelude.{All, Some, replicate, slice_get}
 use Rattle.std.specs.Global.{Vec}

@@ -1,5 +1,6 @@
--- One perfect matching more in a list of them, each of which holds something new; and what such a list settles.
--- What a list holds it still holds when it is longer; the new matching holds a pair that no listed one holds.
+-- One perfect matching more in a list of them, each of which holds something new; and what such a
+-- list settles. What a list holds it still holds when it is longer; the new matching holds a pair
+-- that no listed one holds.
 use Rattle.std.proofs.Common.{◌≡◌, ◌≢◌, ℕ, ◌+◌, ◌-◌, ◌<◌, true, false, ◌&&◌, ◌||◌, ◌==◌, ◌↔◌, List, [], ◌∷◌, ◌++◌, length, get_or, map, filter, refl, sym, ap, ap₂, ◌∙◌, arith, inl, inr, subst, eqb-true, length-append}
 use Rattle.std.specs.Prelude.{All, Any}
 use Rattle.std.proofs.lemmas.Bool.{and_from, and_parts, both_ways, cases_eq, cases_order, false_from_ne_true, or_cases, or_left, or_right}
@@ -35,7 +36,7 @@ still_held ms es e f h = held_more ms es e f ∙ or_left (holds_both ms e f) (me
 pub now_held : (ms : List (List ℕ)) (es : List ℕ) (e f : ℕ) → mem es e ≡ true → mem es f ≡ true → holds_both (ms ++ es ∷ []) e f ≡ true
 now_held ms es e f he hf = held_more ms es e f ∙ or_right (holds_both ms e f) (mem es e && mem es f) (and_from (mem es e) (mem es f) he hf)
 
--- a list of matchings that holds both edges of no pair is no part of what holds them
+-- a list of matchings that holds both edges of no pair is not part of what holds them
 not_held : (ms : List (List ℕ)) (e f : ℕ) → holds_both ms e f ≡ false → (j : ℕ) → j < length ms → (mem (get_or ms j []) e && mem (get_or ms j []) f) ≡ false
 not_held ms e f h j l = false_from_ne_true (mem (get_or ms j []) e && mem (get_or ms j []) f) (λ t. both_ways (holds_both ms e f) h (list_any_at (λ m. mem m e && mem m f) ms j [] l t))
 

@@ -1,4 +1,5 @@
--- A matching with an edge more, between two vertices that it does not meet, and what a row that was read says of a matching's ends.
+-- A matching with an edge more, between two vertices that it does not meet, and what a row that
+-- was read says of a matching's ends.
 use Rattle.std.proofs.Common.{◌≡◌, ℕ, suc, zero, ◌+◌, ◌*◌, ◌<◌, true, false, ◌==◌, ◌||◌, refl, sym, ap, ◌∙◌, arith, List, [], ◌∷◌, inl, eq-eqb, ne_eqb, Some, Option, length, slice_get}
 use Rattle.std.proofs.lemmas.Bool.{both_ways}
 use Rattle.counting.specs.Counts.{Within, bit}

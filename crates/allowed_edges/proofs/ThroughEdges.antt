@@ -1,6 +1,7 @@
--- Perfect matchings through one edge or two, from a perfect matching of the graph without their ends and back.
--- The edges meet their ends once, so they are glued to the one and cut off the other; and a perfect matching leaves few
--- vertices missed when the edges at these ends are taken out.
+-- Perfect matchings through one edge or two, from a perfect matching of the graph without their
+-- ends and back. The edges meet their ends once, so they are glued to the one and cut off the
+-- other; and a perfect matching leaves few vertices missed when the edges at these ends are taken
+-- out.
 use Rattle.std.proofs.Common.{◌≡◌, ℕ, ◌*◌, ◌≢◌, Bool, true, false, ◌==◌, ◌||◌, ◌⊎◌, refl, sym, ap, ◌∙◌, arith, inl, inr, eqb-true, eq-eqb, ne_eqb, subst}
 use Rattle.counting.proofs.Booleans.{or_true, or_false}
 use Rattle.std.proofs.lemmas.Bool.{both_ways, cases_eq, false_from_ne_true, true≢false, or_cases}

@@ -13,7 +13,7 @@ rows_of rows = map (λ (row : Vec Bool). row.items) rows
 abbrev pub IsSquare : List (List Bool) → Type 0
 IsSquare table = (e : ℕ) → e < length table → length (row_of table e) ≡ length table
 
--- a square table for the edges 1 to n, which marks f in the row of e exactly where both answers true
+-- a square table for the edges 1 to n, which marks f in the row of e exactly when both answers true
 pub record MarksPairs (n : ℕ) (both : ℕ → ℕ → Bool) (table : List (List Bool)) : Type 0 where
   pub long : length table ≡ n + 1
   pub square : IsSquare table

@@ -1,4 +1,5 @@
--- Tables of pairs: perfect matchings, among them for each two edges that lie together one with both.
+-- Tables of pairs: perfect matchings, among them for each two edges that lie together one with
+-- both.
 use Rattle.std.specs.Prelude.{◌≡◌, ℕ, ◌≤◌, ◌<◌, Bool, true, ◌&&◌, List, map, All}
 use Rattle.std.specs.List.{list_any}
 use Rattle.counting.specs.Counts.{Within}

@@ -53,7 +53,7 @@ fn partnered(alloc: Global, g: &MultiGraph, table: &PartnerTable) -> Result<Numb
     Ok(edges)
 }
 
-/// Whether edge `e` lies in a perfect matching: exactly where its ends are partners. Takes no
+/// Whether edge `e` lies in a perfect matching: exactly when its ends are partners. Takes no
 /// memory.
 pub fn is_allowed_in(g: &MultiGraph, table: &PartnerTable, e: u32) -> bool
     requires edge { Within (size g.now) e }

@@ -5,7 +5,7 @@
 //! allowed (`IsCovered`). `allowed` lists exactly the allowed edges. `covered` answers whether the
 //! graph is matching covered and, where it is not, the first reason that applies (`IsVerdict`):
 //! fewer than two vertices, no connection, no perfect matching, or the least edge that is not
-//! allowed. Both are read off the table of partners: an edge is allowed exactly where its ends are
+//! allowed. Both are read off the table of partners: an edge is allowed exactly when its ends are
 //! partners. `allowed_in` and `verdict_in` take a table that is at hand.
 //!
 //! Two edges lie together if some perfect matching contains both (`Together`). `together` answers

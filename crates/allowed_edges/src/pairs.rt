@@ -20,8 +20,8 @@ use std::alloc::{AllocError as Memory, Global};
 use std::marker::Model;
 use vset_core::VSet;
 
-/// Perfect matchings of a graph, and for each two edges whether one of them contains both. Contracts see the number of
-/// edges of the graph and the list of the matchings.
+/// Perfect matchings of a graph, and for each two edges whether one of them contains both.
+/// Contracts see the number of edges of the graph and the list of the matchings.
 #[derive(Drop)]
 pub struct PairTable {
     size: u32,
@@ -43,7 +43,8 @@ impl Model for PairTable {
 }
 
 impl PairTable {
-    /// Whether some listed matching contains both `e` and `f`; for e = f, whether one contains e. Takes no memory.
+    /// Whether some listed matching contains both `e` and `f`; for e = f, whether one contains e.
+    /// Takes no memory.
     pub fn both(&self, e: u32, f: u32) -> bool
         requires first { Within self.now.size e }
         requires second { Within self.now.size f }
@@ -85,10 +86,11 @@ impl PairTable {
     }
 }
 
-/// The table of the pairs of edges of `g` that lie together: `both` is true exactly where some perfect matching contains
-/// both edges, and `list` is a pair list, in which each matching holds an edge or a pair of edges that no earlier one holds.
-/// One question is asked for each edge and for each two edges that share no end and lie together in no matching found
-/// before; each is answered by one augmentation at most.
+/// The table of the pairs of edges of `g` that lie together: `both` is true exactly when some
+/// perfect matching contains both edges, and `list` is a pair list, in which each matching holds
+/// an edge or a pair of edges that no earlier one holds. One question is asked for each edge and
+/// for each two edges that share no end and lie together in no matching found before; each is
+/// answered by one augmentation at most.
 pub fn together(alloc: Global, g: &MultiGraph) -> Result<PairTable, Memory>
     ensures size { IfOk result (λ pairs. pairs.size ≡ size g.now) }
     ensures of { IfOk result (λ pairs. All (IsOf g.now) pairs.list) }
@@ -101,8 +103,8 @@ pub fn together(alloc: Global, g: &MultiGraph) -> Result<PairTable, Memory>
     together_beside(alloc, g, &[])
 }
 
-/// A table as `together` answers it, where the cuts of these shores are tight. Two edges in one of these cuts lie in no perfect
-/// matching together, so nothing is asked of them.
+/// A table as `together` answers it, where the cuts of these shores are tight. Two edges in one
+/// of these cuts lie in no perfect matching together, so nothing is asked of them.
 pub fn together_beside(alloc: Global, g: &MultiGraph, shores: &[VSet]) -> Result<PairTable, Memory>
     requires { All (λ s. IsTight g.now (mem s)) shores.now }
     ensures size { IfOk result (λ pairs. pairs.size ≡ size g.now) }
@@ -169,8 +171,9 @@ fn settle_edge(
     }
 }
 
-// Settles the pairs of `e` with the edges above it, from a perfect matching that holds it; the answer is such a matching too.
-// Each matching that is found is the one from which the next is sought, so that the list comes to hold many pairs soon.
+// Settles the pairs of `e` with the edges above it, from a perfect matching that holds it; the
+// answer is such a matching too. Each matching that is found is the one from which the next is
+// sought, so that the list comes to hold many pairs soon.
 fn settle_pairs(
     alloc: Global,
     g: &MultiGraph,
@@ -237,7 +240,8 @@ fn listed(alloc: Global, pairs: &mut PairTable, found: Matching) -> Result<Match
     Ok(next)
 }
 
-// Whether nothing has to be asked of two edges: a listed matching contains both, or they share an end or a tight cut.
+// Whether nothing has to be asked of two edges: a listed matching contains both, or they share an
+// end or a tight cut.
 fn is_settled(g: &MultiGraph, shores: &[VSet], pairs: &PairTable, e: u32, f: u32) -> bool
     requires shores { All (λ s. IsTight g.now (mem s)) shores.now }
     requires edge { Within (size g.now) e }
@@ -267,7 +271,8 @@ fn copied(alloc: Global, m: &Matching) -> Result<Matching, Memory>
     Ok(copy)
 }
 
-// Lists a perfect matching that holds `e`, unless a listed one holds it; the pairs of `e` are settled.
+// Lists a perfect matching that holds `e`, unless a listed one holds it; the pairs of `e` are
+// settled.
 fn list_unless_held(
     g: &MultiGraph,
     pairs: &mut PairTable,

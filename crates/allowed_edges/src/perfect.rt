@@ -12,7 +12,7 @@ use match_core::{Matching, PartnerTable, partners};
 use std::alloc::{AllocError as Memory, Global};
 use vset_core::VSet;
 
-/// The table of partners of `g`, from a maximum matching: `None` exactly where the graph has no
+/// The table of partners of `g`, from a maximum matching: `None` exactly when the graph has no
 /// perfect matching. There a table would say nothing of its edges, and none is made.
 pub fn partners_where_perfect(
     alloc: Global,

@@ -9,7 +9,8 @@ ghost use Rattle.allowed_edges.specs.Leaving.{share_end};
 use graph_core::{MultiGraph, is_in_cut};
 use vset_core::VSet;
 
-/// Whether two edges share an end; two that do, and differ, lie in no matching together. Takes no memory.
+/// Whether two edges share an end; two that do, and differ, lie in no matching together. Takes no
+/// memory.
 pub fn share_end(g: &MultiGraph, e: u32, f: u32) -> bool
     requires first { Within (size g.now) e }
     requires second { Within (size g.now) f }

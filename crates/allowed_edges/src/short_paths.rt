@@ -1,5 +1,6 @@
-//! Short alternating paths: a matching that misses two vertices made perfect by one edge between them, or by two edges in place
-//! of one. In a graph with many edges such a path is found far sooner than by the search for any path.
+//! Short alternating paths: a matching that misses two vertices made perfect by one edge between
+//! them, or by two edges in place of one. In a graph with many edges such a path is found far
+//! sooner than by the search for any path.
 ghost use Rattle.std.specs.Prelude.{◌≡◌, ◌<◌, ◌≤◌, ℕ, false, length, slice_get, IfOk, Some, None};
 ghost use Rattle.counting.specs.Counts.{Within};
 ghost use Rattle.counting.specs.Lists.{mem};
@@ -13,8 +14,9 @@ use match_core::{MatchRow, Matching};
 use std::alloc::{AllocError as Memory, Global};
 use vset_core::{MOST_VERTICES, VSet};
 
-/// A perfect matching of G - met, from a matching of it: with an edge more between two vertices that it misses, or with two
-/// edges in place of one. `None` where neither serves, which says nothing of G - met.
+/// A perfect matching of G - met, from a matching of it: with an edge more between two vertices
+/// that it misses, or with two edges in place of one. `None` where neither serves, which says
+/// nothing of G - met.
 pub fn completed(
     alloc: Global,
     g: &MultiGraph,
@@ -155,7 +157,8 @@ fn met_vertices(m: &Matching) -> VSet
     met
 }
 
-// The first row whose ends are in the two sets, one in each; its `a` is then the one in the first set.
+// The first row whose ends are in the two sets, one in each; its `a` is then the one in the first
+// set.
 fn enclosed(m: &Matching, near: VSet, far: VSet) -> Option<MatchRow>
     ensures { (row : _) → result ≡ Some row → Within m.now.order row.a × Within m.now.order row.b }
 {

@@ -10,7 +10,8 @@ use match_core::Matching;
 use std::alloc::{AllocError as Memory, Global};
 use std::marker::Model;
 
-/// For each edge marks on the edges, at the places of their numbers. Contracts see the rows of marks.
+/// For each edge marks on the edges, at the places of their numbers. Contracts see the rows of
+/// marks.
 #[derive(Drop)]
 pub struct EdgeTable {
     rows: Vec<Vec<bool>>,

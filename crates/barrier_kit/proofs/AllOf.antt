@@ -1,5 +1,5 @@
--- What holds of each item of a list that is made of other lists, and of each item of such a list read back.
--- Inductions over the list.
+-- What holds of each item of a list that is made of other lists, and of each item of such a list
+-- read back. Inductions over the list.
 use Rattle.std.proofs.Common.{◌≡◌, ℕ, suc, zero, ◌<◌, Bool, true, false, cond, refl, sym, ap, ◌∙◌, arith, inl, inr, List, [], ◌∷◌, ◌++◌, map, flat_map, filter, Some, None, nat_lt, ltb-true, subst}
 use Rattle.std.specs.Prelude.{All, find}
 use Rattle.std.proofs.lemmas.Bool.{cases_Bool, cases_lt}

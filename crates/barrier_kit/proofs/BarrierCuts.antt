@@ -1,5 +1,6 @@
--- What a barrier of a covered graph leaves: odd components, as many as it has vertices, each with a tight cut.
--- Each odd component is left by at least one edge of a perfect matching, and the barrier meets no more of them than it has vertices.
+-- What a barrier of a covered graph leaves: odd components, as many as it has vertices, each with
+-- a tight cut. Each odd component is left by at least one edge of a perfect matching, and the
+-- barrier meets no more of them than it has vertices.
 use Rattle.std.proofs.Common.{◌≡◌, ℕ, ◌*◌, ◌≤◌, ◌≢◌, Bool, true, false, refl, sym, ap, ap₂, ◌∙◌, arith, ◌&&◌, ◌||◌, not, inl, inr, nat_lt, [], ◌∷◌}
 use Rattle.std.proofs.lemmas.Bool.{cases_Bool, true≢false, false_from_ne_true, both_ways, and_parts, and_from, not-true}
 use Rattle.barrier_kit.proofs.Matched.{cut_matching, even_order, inner}

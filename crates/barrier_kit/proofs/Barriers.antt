@@ -1,5 +1,6 @@
--- Barriers and perfect matchings: without a set of vertices there are at most as many odd components as it has vertices.
--- Parity decides the rest: two vertices of a barrier have no perfect matching without them, and two such vertices lie in a barrier.
+-- Barriers and perfect matchings: without a set of vertices there are at most as many odd
+-- components as it has vertices. Parity decides the rest: two vertices of a barrier have no
+-- perfect matching without them, and two such vertices lie in a barrier.
 use Rattle.std.proofs.Common.{◌≡◌, ℕ, suc, zero, ◌+◌, ◌*◌, ◌≤◌, ◌≢◌, Bool, true, false, cond, ◌==◌, refl, sym, ap, ap₂, ◌∙◌, arith, ◌&&◌, ◌||◌, not, eq-eqb, ne_eqb, eqb-true}
 use Rattle.std.proofs.lemmas.Bool.{true≢false}
 use mathlib.Core.Path.{fun_ext}

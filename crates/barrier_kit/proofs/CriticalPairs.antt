@@ -1,5 +1,6 @@
--- A covered graph that is not bicritical has a class with a nontrivial tight cut, and a bicritical one has none.
--- Without a barrier of two vertices some component has three: else each edge would have one end in the barrier.
+-- A covered graph that is not bicritical has a class with a nontrivial tight cut, and a
+-- bicritical one has none. Without a barrier of two vertices some component has three: else each
+-- edge would have one end in the barrier.
 use Rattle.std.proofs.Common.{◌≡◌, ℕ, suc, zero, ◌≤◌, ◌≢◌, Bool, true, false, ◌==◌, refl, sym, ap, ◌∙◌, arith, not, eq-eqb, ne_eqb, ◌⊎◌, ◌↔◌, inl, inr}
 use Rattle.std.proofs.lemmas.Bool.{cases_eq, cases_lt, cases_Bool, true≢false, false_from_ne_true, both_ways}
 use Rattle.barrier_kit.proofs.BarrierCuts.{leader_of, leads_out, part_out, part_step, part_same, none_inside, part_tight, many_parts}
@@ -26,8 +27,8 @@ use Rattle.graph_core.specs.Structure.{IsBarrier, IsBicritical, IsClass}
 use Rattle.graph_core.specs.Tight.{IsTight, IsNontrivial}
 use Rattle.graph_core.specs.Walks.{joined}
 
--- a component of a covered graph without a barrier has a nontrivial cut exactly where the barrier has two vertices
--- and the component more than one
+-- a component of a covered graph without a barrier has a nontrivial cut exactly when the barrier
+-- has two vertices and the component more than one
 pub part_nontrivial : (g : Graph) (s : Set) (a u : ℕ) → IsGraph g → IsCovered g → IsBarrier g s → Within g.order a → s a ≡ true → Within g.order u → s u ≡ false →
     IsNontrivial g.order (joined g s u) ↔ ((2 ≤ count g.order s) × (count g.order (joined g s u) ≢ 1))
 part_nontrivial g s a u is cov bar wa sa wu su = (there, back)

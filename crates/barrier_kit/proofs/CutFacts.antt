@@ -1,5 +1,6 @@
--- What holds of the cuts that shores give: each is a canonical nontrivial shore, tight where the shores are, and there is
--- none exactly where each shore is trivial. Inductions over the shores; a step appends at most one canonical shore.
+-- What holds of the cuts that shores give: each is a canonical nontrivial shore, tight where the
+-- shores are, and there is none exactly when each shore is trivial. Inductions over the shores; a
+-- step appends at most one canonical shore.
 use Rattle.std.proofs.Common.{◌≡◌, ℕ, ◌≤◌, Bool, true, false, refl, sym, ap, ◌∙◌, arith, ◌&&◌, not, cond, List, [], ◌∷◌, ◌++◌, fold, length, nat_le, leb-true, inl, inr}
 use Rattle.std.specs.Prelude.{All}
 use Rattle.std.proofs.lemmas.Bool.{and_from, and_parts, cases_Bool, le-leb}

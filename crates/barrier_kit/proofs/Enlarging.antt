@@ -1,5 +1,6 @@
--- A barrier grows by a vertex of an odd component without which the component has no perfect matching.
--- By the law of Tutte and Berge the component has a set that shows this; together with the barrier and the vertex it is a barrier.
+-- A barrier grows by a vertex of an odd component without which the component has no perfect
+-- matching. By the law of Tutte and Berge the component has a set that shows this; together with
+-- the barrier and the vertex it is a barrier.
 use Rattle.std.proofs.Common.{◌≡◌, ℕ, suc, zero, ◌+◌, ◌≤◌, Bool, true, false, cond, ◌==◌, refl, sym, ap, ap₂, ◌∙◌, arith, ◌&&◌, ◌||◌, not, eq-eqb, ne_eqb, eqb-true, inl, inr, nat_lt, List, [], ◌∷◌}
 use Rattle.counting.proofs.Booleans.{same_tests}
 use Rattle.std.proofs.lemmas.Bool.{cases_eq, true≢false, false_from_ne_true, both_ways}

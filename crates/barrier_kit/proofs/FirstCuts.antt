@@ -1,5 +1,5 @@
--- The first cut of a list stays the first while shores add more.
--- A step leaves the list or appends to it; so the first cut of the first classes is the first of all.
+-- The first cut of a list stays the first while shores add more. A step leaves the list or
+-- appends to it; so the first cut of the first classes is the first of all.
 use Rattle.std.proofs.Common.{◌≡◌, ℕ, Bool, true, false, cond, sym, ap, ◌∙◌, List, [], ◌∷◌, ◌++◌, Some, None, flat_map, fold, take, drop, slice_get, length, ◌≤◌, ◌<◌, ◌+◌, get_or, append-nil}
 use Rattle.std.proofs.lemmas.Grind.{flat_map-append}
 use Rattle.std.proofs.lemmas.List.{take-append-drop, take_more}
@@ -24,7 +24,7 @@ first-kept n cuts (s ∷ shores) c h = first-kept n (with_cut n cuts s) shores c
     go true = first-append cuts (canonical_list n s) c h
     go false = h
 
--- the first cut of some shores is the first with more shores behind them
+-- the first cut of some shores is the first with more shores after them
 pub first-of_part : (n : ℕ) (cuts shores more : List (List ℕ)) (c : List ℕ) → cuts ≡ fold (with_cut n) [] shores → slice_get cuts 0 ≡ Some c → Some c ≡ slice_get (fold (with_cut n) [] (shores ++ more)) 0
 first-of_part n cuts shores more c is h =
     sym (ap (λ (list : List (List ℕ)). slice_get list 0) (fold-append (with_cut n) [] shores more)

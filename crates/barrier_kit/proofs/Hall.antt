@@ -1,5 +1,6 @@
--- Hall's theorem: where each part of a set has at least as many neighbours, each member gets a neighbour of its own.
--- By induction on the set: either some proper part is just met, and both sides are done apart, or one member takes any neighbour.
+-- Hall's theorem: where each part of a set has at least as many neighbours, each member gets a
+-- neighbour of its own. By induction on the set: either some proper part is just met, and both
+-- sides are done apart, or one member takes any neighbour.
 use Rattle.std.proofs.Common.{◌≡◌, ℕ, suc, zero, ◌+◌, ◌≤◌, ◌<◌, ◌≢◌, Bool, true, false, cond, ◌==◌, refl, sym, ap, ap₂, ◌∙◌, arith, ◌&&◌, ◌||◌, not, eq-eqb, eqb-true, nat_lt, lt-ltb, ltb-true, inl, inr}
 use Rattle.std.proofs.lemmas.Bool.{cases_eq, false_from_ne_true, both_ways, and_parts, and_from}
 use Rattle.barrier_kit.specs.Choices.{Picks, neighbours}

@@ -1,5 +1,6 @@
--- A covered graph without a vertex of a barrier and one component of the rest has a perfect matching.
--- Hall's theorem gives each other vertex of the barrier a component of its own, and the matchings of the components are joined.
+-- A covered graph without a vertex of a barrier and one component of the rest has a perfect
+-- matching. Hall's theorem gives each other vertex of the barrier a component of its own, and the
+-- matchings of the components are joined.
 use Rattle.std.proofs.Common.{◌≡◌, ℕ, ◌+◌, ◌*◌, ◌≤◌, ◌≢◌, Bool, true, false, ◌==◌, refl, sym, ap, ◌∙◌, arith, ◌&&◌, ◌||◌, not, eq-eqb, ne_eqb, eqb-true, ◌⊎◌, inl, inr}
 use Rattle.std.proofs.lemmas.Bool.{cases_eq, cases_Bool, true≢false, false_from_ne_true, both_ways, and_parts, and_from, or_cases}
 use Rattle.barrier_kit.proofs.BarrierCuts.{cover_in, covers, covers_out, cut_family, leader_of, leader_same, leads_out, many_parts, none_inside, one_cut, part_out, sat_inside}

@@ -1,5 +1,6 @@
--- The classes found one after the other: a vertex is the least of its class exactly where no class before it holds it.
--- A class is met by its least vertex, and by transitivity a vertex that was met adds no vertex to those met.
+-- The classes found one after the other: a vertex is the least of its class exactly when no class
+-- before it holds it. A class is met by its least vertex, and by transitivity a vertex that was
+-- met adds no vertex to those met.
 use Rattle.std.proofs.Common.{◌≡◌, ℕ, suc, inl, inr, ◌+◌, ◌<◌, ◌≤◌, ◌↔◌, Bool, true, false, ◌==◌, refl, sym, ap, ap₂, ◌∙◌, arith, ◌&&◌, ◌||◌, not, cond, List, [], ◌∷◌, ◌++◌, map, nat_lt, ltb-true, lt-ltb, subst, append-nil}
 use Rattle.counting.proofs.Booleans.{same_tests}
 use Rattle.std.proofs.lemmas.Bool.{cases_Bool, and_parts, and_from, both_ways, false_from_ne_true}
@@ -20,7 +21,7 @@ use Rattle.match_core.specs.Partners.{are_partners}
 use Rattle.barrier_kit.proofs.ClassLaw.{equivalent_on}
 use Rattle.barrier_kit.proofs.Matched.{perfect_congr}
 
--- the test is true exactly where there is a perfect matching
+-- the test is true exactly when there is a perfect matching
 pub has_perfect-true : (g : Graph) (r s : Set) → ((v : ℕ) → r v ≡ s v) → HasPerfect g r → has_perfect g s ≡ true
 has_perfect-true g r s same m = has_perfect_found g s (m.0, perfect_congr g r s m.0 (λ v w. same v) m.1)
 
@@ -48,7 +49,7 @@ class-row g full row class a few rises all outside partners =
           both_ways (mem full v) f ((all v).1 (rising_only g.order (is_equivalent g a) v m).0)))
     ]
 
--- some number below k + 1 passes exactly where one of 1 to k does
+-- some number below k + 1 passes exactly when one of 1 to k does
 some_below : (n k : ℕ) (p : Set) → k < n → some n (λ b. nat_lt b (k + 1) && p b) ≡ some k p
 some_below n k p l = same_tests _ _
     (λ t. let b = some_true n (λ b. nat_lt b (k + 1) && p b) t in

@@ -1,5 +1,6 @@
--- The shores of the classes: each is tight, none is nontrivial in a bicritical graph, and in another that is not bipartite
--- some is. A class is a barrier, and what holds of each component of each class holds of each item of the list.
+-- The shores of the classes: each is tight, none is nontrivial in a bicritical graph, and in
+-- another that is not bipartite some is. A class is a barrier, and what holds of each component
+-- of each class holds of each item of the list.
 use Rattle.std.proofs.Common.{◌≡◌, ◌≢◌, ℕ, ◌≤◌, true, false, refl, sym, ap, ◌∙◌, arith, ◌&&◌, not, inl, inr, List, [], map, nat_lt, ltb-true}
 use Rattle.std.specs.Prelude.{All}
 use Rattle.std.proofs.lemmas.Bool.{and_parts, both_ways, false_from_ne_true}

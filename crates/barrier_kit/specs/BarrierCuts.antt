@@ -1,4 +1,5 @@
--- Cuts that barriers give (Lovász and Plummer, "Matching Theory", chapter 5; Edmonds, Lovász and Pulleyblank 1982).
+-- Cuts that barriers give (Lovász and Plummer, "Matching Theory", chapter 5; Edmonds, Lovász and
+-- Pulleyblank 1982).
 use Rattle.std.specs.Prelude.{◌≡◌, ◌≤◌, ℕ, false}
 use Rattle.counting.specs.Counts.{Within, count}
 use Rattle.counting.specs.Sets.{Set}
@@ -15,7 +16,8 @@ pub record BarrierCut (g : Graph) (s : Set) : Type 0 where
   pub tight : IsTight g (joined g s vertex)
   pub nontrivial : IsNontrivial g.order (joined g s vertex)
 
--- a class with at least two vertices that no edge joins, and without it a component with at least three
+-- a class with at least two vertices that no edge joins, and without it a component with at least
+-- three
 pub record WideClass (g : Graph) : Type 0 where
   pub vertex : ℕ
   pub class : Set

@@ -13,8 +13,8 @@ ghost use Rattle.barrier_kit.specs.BarrierCuts.{WideClass};
 ghost use Rattle.barrier_kit.specs.BarrierShores.{barrier_cuts, barrier_shores};
 ghost use Rattle.graph_core.specs.CanonicalCuts.{IsCanonicalCut};
 
-/// The relation "equal, or without the two there is no perfect matching" is an equivalence in a covered graph, and it is
-/// decided (Kotzig; Lovász and Plummer, "Matching Theory", chapter 5).
+/// The relation "equal, or without the two there is no perfect matching" is an equivalence in a
+/// covered graph, and it is decided (Kotzig; Lovász and Plummer, "Matching Theory", chapter 5).
 pub fn equivalence_law()
     ensures reflexive { (g : Graph) (a : ℕ) → Equivalent g a a }
     ensures symmetric { (g : Graph) (a b : ℕ) → Equivalent g a b → Equivalent g b a }
@@ -24,8 +24,8 @@ pub fn equivalence_law()
     ensures decided { (g : Graph) (a b : ℕ) → (Equivalent g a b) ⊎ (Equivalent g a b → ⊥) }
 {}
 
-/// In a covered graph the classes of this relation are the greatest barriers: each class is a barrier, and each barrier
-/// lies in the class of each of its vertices.
+/// In a covered graph the classes of this relation are the greatest barriers: each class is a
+/// barrier, and each barrier lies in the class of each of its vertices.
 pub fn class_law()
     ensures found { (g : Graph) (a : ℕ) → IsGraph g → IsCovered g → Within g.order a →
         (s : Set) × IsBarrier g s × IsClass g a s }
@@ -36,8 +36,8 @@ pub fn class_law()
         s v ≡ true }
 {}
 
-/// A nonempty barrier of a covered graph: without it all components are odd, there are as many as it has vertices, and the
-/// cut of each is tight; no edge joins two of its vertices.
+/// A nonempty barrier of a covered graph: without it all components are odd, there are as many as
+/// it has vertices, and the cut of each is tight; no edge joins two of its vertices.
 pub fn barrier_law()
     ensures odd { (g : Graph) (s : Set) (a u : ℕ) → IsGraph g → IsCovered g → IsBarrier g s →
         Within g.order a → s a ≡ true → Within g.order u → s u ≡ false →
@@ -50,8 +50,9 @@ pub fn barrier_law()
         Within (size g) e → first_end g e ≢ second_end g e → inside g s e ≡ false }
 {}
 
-/// In a covered graph the cut of each component without a class is tight, and the cuts that `barrier_cuts` lists are canonical
-/// shores of nontrivial tight cuts (Edmonds, Lovász and Pulleyblank 1982).
+/// In a covered graph the cut of each component without a class is tight, and the cuts that
+/// `barrier_cuts` lists are canonical shores of nontrivial tight cuts (Edmonds, Lovász and
+/// Pulleyblank 1982).
 pub fn barrier_cuts_law()
     ensures tight { (g : Graph) → IsGraph g → IsCovered g →
         All (λ s. IsTight g (mem s)) (barrier_shores g) }
@@ -59,8 +60,9 @@ pub fn barrier_cuts_law()
         All (IsCanonicalCut g) (barrier_cuts g) }
 {}
 
-/// In a covered graph that is neither bicritical nor bipartite some class has at least two vertices, no edge joins two of
-/// them, and some component without it has at least three, so that it gives a cut. In a bicritical graph no class does.
+/// In a covered graph that is neither bicritical nor bipartite some class has at least two
+/// vertices, no edge joins two of them, and some component without it has at least three, so that
+/// it gives a cut. In a bicritical graph no class does.
 pub fn wide_class_law()
     ensures class { (g : Graph) → IsMultigraph g → IsCovered g → ¬ (IsBicritical g) →
         ¬ (IsBipartite g) → WideClass g }

@@ -1,5 +1,5 @@
--- A derivation of a graph within the limits may be written, since no shore is empty and there are few nodes; and the report with its
--- leaves behind it stands for the tree.
+-- A derivation of a graph within the limits may be written, since no shore is empty and there are
+-- few nodes; and the report with its leaves after it stands for the tree.
 use Rattle.std.proofs.Common.{◌≡◌, ℕ, List, ◌∷◌, map, ap, subst, true, refl, ◌∙◌, arith}
 use Rattle.graph_core.specs.Graph.{Graph}
 use Rattle.graph_core.specs.Partitions.{singles}
@@ -54,7 +54,7 @@ few-told g t kinds limits derived right =
       partitions = partitions-leaves g t derived;
     }
 
--- the report with comments behind it stands for the tree
+-- the report with comments after it stands for the tree
 stands-told : (g : Graph) (t : Shape) (kinds : List LeafKind) (bytes : List ℕ) → IsWithinLimits g → IsDerivation g t → AreLeafKinds g (leaves g.order t) kinds →
     IsCommented (derivation_text (tree_text g.order t) g (leaves g.order t) kinds) bytes → Stands (tree_format g.order) (tree_text g.order t) t → Stands (tree_format g.order) bytes t
 stands-told g t kinds bytes limits derived right commented stands =

@@ -1,4 +1,5 @@
--- An ear list of a graph has no more steps than the graph has edges, since each step adds an edge to the stage before it.
+-- An ear list of a graph has no more steps than the graph has edges, since each step adds an edge
+-- to the stage before it.
 use Rattle.std.proofs.Common.{◌+◌, ◌≤◌, List, [], ◌∷◌, length, arith}
 use Rattle.counting.specs.Counts.{count}
 use Rattle.counting.specs.Sets.{Set, singleton}

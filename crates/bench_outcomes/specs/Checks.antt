@@ -1,4 +1,5 @@
--- What is told of a tree of cuts that is to be a derivation of a graph: its leaves, counted, or its first refusal.
+-- What is told of a tree of cuts that is to be a derivation of a graph: its leaves, counted, or
+-- its first refusal.
 use Rattle.std.specs.Prelude.{◌≡◌, ◌⊎◌, ℕ, List}
 use Rattle.std.specs.declared.option.Option.{Option}
 use Rattle.std.specs.declared.option.Option.TheVariants.{Some, None}
@@ -18,7 +19,8 @@ use Rattle.bench_outcomes.specs.declared.report.Report.{Report}
 use Rattle.bench_outcomes.specs.declared.status.Status.{Status}
 use Rattle.bench_outcomes.specs.declared.status.Status.TheVariants.{Done, Negative}
 
--- what is shown of the reason of a refusal: a perfect matching that crosses the cut more than once, or the shore of a cut
+-- what is shown of the reason of a refusal: a perfect matching that crosses the cut more than
+-- once, or the shore of a cut
 abbrev pub shown_of : Why → Shown
 shown_of not_blocks = Nothing
 shown_of even = Nothing
@@ -34,7 +36,8 @@ pub record AcceptedTree (g : Graph) (t : Shape) (status : Status) (output : List
   pub done : status ≡ Done
   pub text : output ≡ judgement_text (line.Accepted tally)
 
--- the tree of this place among those that are named, counted from 1, is none: the output is its first refusal
+-- the tree of this place among those that are named, counted from 1, is none: the output is its
+-- first refusal
 pub record RefusedTree (g : Graph) (t : Shape) (place : ℕ) (status : Status) (output : List ℕ) : Type 0 where
   pub node : ℕ
   pub why : Why

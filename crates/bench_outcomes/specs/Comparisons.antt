@@ -1,6 +1,7 @@
--- What is told of two trees of cuts that are to be derivations of one graph: how their leaves are paired, and a script of moves that
--- turns the first into the second (Lovász 1987: any two decompositions have the same leaves, up to multiplicities of edges); or why one
--- of them is refused.
+-- What is told of two trees of cuts that are to be derivations of one graph: how their leaves are
+-- paired, and a script of moves that turns the first into the second (Lovász 1987: any two
+-- decompositions have the same leaves, up to multiplicities of edges); or why one of them is
+-- refused.
 use Rattle.std.specs.Prelude.{◌≡◌, ◌≤◌, ◌*◌, ◌⊎◌, ℕ, suc, List, [], ◌∷◌, length}
 use Rattle.std.specs.declared.option.Option.{Option}
 use Rattle.std.specs.declared.option.Option.TheVariants.{Some, None}
@@ -24,7 +25,8 @@ use Rattle.bench_outcomes.specs.declared.report.Report.{Report}
 use Rattle.bench_outcomes.specs.declared.status.Status.{Status}
 use Rattle.bench_outcomes.specs.declared.status.Status.TheVariants.{Done}
 
--- the script turns the first derivation through derivations into the second, by few moves: at most 5 c * c for a tree of c cuts
+-- the script turns the first derivation through derivations into the second, by few moves: at
+-- most 5 c * c for a tree of c cuts
 pub record IsScript (g : Graph) (s t : Shape) (moves : List PlainMove) : Type 0 where
   pub first : IsDerivation g s
   pub second : IsDerivation g t
@@ -35,13 +37,14 @@ pub record IsScript (g : Graph) (s t : Shape) (moves : List PlainMove) : Type 0 
 abbrev pub line_of : (number : ℕ) → List (List ℕ) → PlainLeafMap → MapLine
 line_of number p m = record { leaf = number; partner = m.to; names = names_of p; images = m.images }
 
--- the lines of leaves, each with its map, behind so many others
+-- the lines of leaves, each with its map, after so many others
 abbrev pub lines_of : (before : ℕ) → List (List (List ℕ)) → List PlainLeafMap → List MapLine
 lines_of before [] maps = []
 lines_of before (p ∷ ps) [] = []
 lines_of before (p ∷ ps) (m ∷ maps) = line_of (suc before) p m ∷ lines_of (suc before) ps maps
 
--- both trees are derivations: the output is a script from the first to the second, and the maps of this script, which pair the leaves
+-- both trees are derivations: the output is a script from the first to the second, and the maps
+-- of this script, which pair the leaves
 pub record Compared (g : Graph) (s t : Shape) (status : Status) (output : List ℕ) : Type 0 where
   pub moves : List PlainMove
   pub script : IsScript g s t moves
@@ -51,8 +54,9 @@ pub record Compared (g : Graph) (s t : Shape) (status : Status) (output : List �
   pub done : status ≡ Done
   pub text : output ≡ pairing_text moves (lines_of 0 (leaves g.order s) maps)
 
--- both trees are derivations: the output is the text of a script from the first to the second, and then the numbers of leaves and of
--- moves as a comment; as a text of moves it stands for this script
+-- both trees are derivations: the output is the text of a script from the first to the second,
+-- and then the numbers of leaves and of moves as a comment; as a text of moves it stands for this
+-- script
 pub record Scripted (g : Graph) (s t : Shape) (status : Status) (output : List ℕ) : Type 0 where
   pub moves : List PlainMove
   pub script : IsScript g s t moves
@@ -60,7 +64,8 @@ pub record Scripted (g : Graph) (s t : Shape) (status : Status) (output : List �
   pub text : output ≡ script_report_text (moves_text g.order moves) (leaf_count s) (length moves)
   pub stands : Stands (move_format g.order) output moves
 
--- the graph is not covered, or the first tree is refused, or the first is a derivation and the second is refused
+-- the graph is not covered, or the first tree is refused, or the first is a derivation and the
+-- second is refused
 abbrev pub RefusesPair : Graph → Shape → Shape → Status → List ℕ → Type 0
 RefusesPair g s t status output = RefusedTree g s 1 status output ⊎ ((IsDerivation g s × RefusedTree g t 2 status output) ⊎ Uncovered g status output)
 

@@ -27,9 +27,10 @@ pub record HasMaximum (g : Graph) (edges missed : ℕ) : Type 0 where
   pub size_is : count (size g) matching ≡ edges
   pub misses : missed_count g none matching ≡ missed
 
--- each line on the structure of a covered graph is right: the classes are those of the canonical partition; the pairs are the first
--- without which there is no perfect matching, and without which at least two components are left; the kind is shown by the shore of
--- the first candidate, if there is one
+-- each line on the structure of a covered graph is right: the classes are those of the canonical
+-- partition; the pairs are the first without which there is no perfect matching, and without
+-- which at least two components are left; the kind is shown by the shore of the first candidate,
+-- if there is one
 pub record IsStructure (g : Graph) (structure : Structure) : Type 0 where
   pub partition : structure.classes ≡ classes g
   pub unlike : option_map pair_of structure.unlike ≡ unlike_pair g
@@ -37,7 +38,7 @@ pub record IsStructure (g : Graph) (structure : Structure) : Type 0 where
   pub kind : IsKind g structure.kind
   pub cut : cut_of structure.kind ≡ first_shore (candidates g)
 
--- the structure is told exactly where the graph is covered, and is right
+-- the structure is told exactly when the graph is covered, and is right
 abbrev pub TellsStructure : Graph → Verdict → Option Structure → Type 0
 TellsStructure g Covered None = ⊥
 TellsStructure g Covered (Some structure) = IsStructure g structure

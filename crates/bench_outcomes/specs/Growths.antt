@@ -1,5 +1,5 @@
--- What is told of a graph that grows from a seed: its text, the leaves of its decompositions by the first and by the last candidates,
--- counted, and how many of them are paired.
+-- What is told of a graph that grows from a seed: its text, the leaves of its decompositions by
+-- the first and by the last candidates, counted, and how many of them are paired.
 use Rattle.std.specs.Prelude.{◌≡◌, ℕ, List, length}
 use Rattle.graph_core.specs.Graph.{Graph}
 use Rattle.graph_text.specs.Writing.{graph_text}
@@ -31,7 +31,8 @@ pub record ArePaired (g : Graph) (s t : Shape) (pairs : ℕ) : Type 0 where
   pub paired : IsPairing g (leaves g.order s) (leaves g.order t) maps
   pub so_many : pairs ≡ length maps
 
--- what `grow` gives: the text of the graph, and then as comments the leaves of two decompositions, and how many are paired
+-- what `grow` gives: the text of the graph, and then as comments the leaves of two
+-- decompositions, and how many are paired
 pub record Grown (seed pieces : ℕ) (status : Status) (output : List ℕ) : Type 0 where
   pub s : Shape
   pub first : Tally

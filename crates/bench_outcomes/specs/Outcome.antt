@@ -1,4 +1,5 @@
--- Which status and which output the words and the files stand for. A named file that is not held fits no case.
+-- Which status and which output the words and the files stand for. A named file that is not held
+-- fits no case.
 use Rattle.std.specs.Prelude.{◌≡◌, ℕ, ◌<◌, ◌⊎◌, List, length, take, Bool, true, false}
 use Rattle.std.specs.declared.option.Option.{Option}
 use Rattle.std.specs.declared.option.Option.TheVariants.{Some, None}
@@ -55,7 +56,8 @@ pub record Analysed (named : NamedGraph) (status : Status) (output : List ℕ) :
   pub done : status ≡ Done
   pub text : output ≡ with_given_names (analysis_text lines) named.names false
 
--- the canonical text of a graph with its names or the plain ones; it stands for the graph with these names
+-- the canonical text of a graph with its names or the plain ones; it stands for the graph with
+-- these names
 pub record Converted (named : NamedGraph) (status : Status) (output : List ℕ) : Type 0 where
   pub done : status ≡ Done
   pub text : output ≡ named_text named.graph (given_or_plain named.graph.order named.names)
@@ -68,8 +70,9 @@ pub record Analysed6 (g : Graph) (status : Status) (output : List ℕ) : Type 0 
   pub done : status ≡ Done
   pub text : output ≡ graph6_line (analysis_text lines) (graph6_of g)
 
--- the tree is a derivation of the graph, and the output is its text, and then as comments its leaves, each with its right kind, and the
--- names of the vertices where the graph has names; as a text of a derivation it stands for the tree
+-- the tree is a derivation of the graph, and the output is its text, and then as comments its
+-- leaves, each with its right kind, and the names of the vertices where the graph has names; as a
+-- text of a derivation it stands for the tree
 pub record TellsDerivation (named : NamedGraph) (tree : Shape) (status : Status) (output : List ℕ) : Type 0 where
   pub derivation : IsDerivation named.graph tree
   pub kinds : List LeafKind
@@ -78,13 +81,15 @@ pub record TellsDerivation (named : NamedGraph) (tree : Shape) (status : Status)
   pub text : output ≡ with_given_names (derivation_text (tree_text named.graph.order tree) named.graph (leaves named.graph.order tree) kinds) named.names true
   pub stands : Stands (tree_format named.graph.order) output tree
 
--- the decomposition of a covered graph by tight cuts: a derivation of it is told, which is the tree that the order picks
+-- the decomposition of a covered graph by tight cuts: a derivation of it is told, which is the
+-- tree that the order picks
 pub record Decomposed (picks : List Candidate → ℕ → ℕ → Type 0) (named : NamedGraph) (status : Status) (output : List ℕ) : Type 0 where
   pub tree : Shape
   pub picked : IsPicked picks named.graph tree
   pub told : TellsDerivation named tree status output
 
--- what `decompose` gives by an order that picks so: of a covered graph a derivation, and of any other the reason
+-- what `decompose` gives by an order that picks so: of a covered graph a derivation, and of any
+-- other the reason
 abbrev pub DecomposeGives : (List Candidate → ℕ → ℕ → Type 0) → NamedGraph → Status → List ℕ → Type 0
 DecomposeGives picks named status output = Decomposed picks named status output ⊎ Uncovered named.graph status output
 

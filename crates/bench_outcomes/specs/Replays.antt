@@ -1,5 +1,6 @@
--- What is told of a script of moves on a tree of cuts that is to be a derivation of a graph: the last tree where each tree on the way is
--- a derivation, or the first move that fails, or why the tree itself is refused.
+-- What is told of a script of moves on a tree of cuts that is to be a derivation of a graph: the
+-- last tree where each tree on the way is a derivation, or the first move that fails, or why the
+-- tree itself is refused.
 use Rattle.std.specs.Prelude.{◌≡◌, ◌⊎◌, ℕ, List, length}
 use Rattle.graph_core.specs.Graph.{Graph}
 use Rattle.tree_core.specs.Derivations.{IsDerivation}
@@ -13,7 +14,8 @@ use Rattle.bench_outcomes.specs.Checks.{Refuses, shown_of}
 use Rattle.bench_outcomes.specs.declared.status.Status.{Status}
 use Rattle.bench_outcomes.specs.declared.status.Status.TheVariants.{Done, Negative}
 
--- the moves turn the derivation through derivations into a last tree: the output is its text, and then the number of moves
+-- the moves turn the derivation through derivations into a last tree: the output is its text, and
+-- then the number of moves
 pub record ReplayedTree (g : Graph) (t : Shape) (moves : List PlainMove) (status : Status) (output : List ℕ) : Type 0 where
   pub derivation : IsDerivation g t
   pub reached : Shape
@@ -29,7 +31,8 @@ pub record StuckMove (g : Graph) (t : Shape) (moves : List PlainMove) (status : 
   pub negative : status ≡ Negative
   pub text : output ≡ stuck_text at
 
--- the first move that fails has a result that is no derivation: the output names it and the first refusal of its result
+-- the first move that fails has a result that is not a derivation: the output names it and the
+-- first refusal of its result
 pub record RefusedMove (g : Graph) (t : Shape) (moves : List PlainMove) (status : Status) (output : List ℕ) : Type 0 where
   pub derivation : IsDerivation g t
   pub at : ℕ

@@ -1,5 +1,5 @@
--- What a report may show of which there may be many: a Berge set of a connected graph without a perfect matching, or a perfect matching
--- that crosses a refused cut.
+-- What a report may show of which there may be many: a Berge set of a connected graph without a
+-- perfect matching, or a perfect matching that crosses a refused cut.
 use Rattle.std.specs.Prelude.{◌⊎◌, ℕ, List}
 use Rattle.graph_core.specs.Covered.{IsReason, Unmatched}
 use Rattle.graph_core.specs.Graph.{Graph}
@@ -13,7 +13,8 @@ use Rattle.tree_check.specs.Replays.{IsRefusedMoveAt}
 abbrev pub MayBeBerge : Graph → List ℕ → Type 0
 MayBeBerge g set = IsReason g (Unmatched set)
 
--- a perfect matching that may be shown where the tree is refused: it crosses the cut of the first node that breaks a rule
+-- a perfect matching that may be shown where the tree is refused: it crosses the cut of the first
+-- node that breaks a rule
 abbrev pub MayCross : Graph → Shape → List ℕ → Type 0
 MayCross g tree matching = (node : ℕ) × IsRefused g tree node (not_tight matching)
 

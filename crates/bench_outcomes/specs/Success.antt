@@ -1,5 +1,6 @@
--- What a task needs to be done and not refused: a matching covered graph, trees that are derivations of it, a list that is an ear list of
--- it, moves that lead through derivations; or nothing.
+-- What a task needs to be done and not refused: a matching covered graph, trees that are
+-- derivations of it, a list that is an ear list of it, moves that lead through derivations; or
+-- nothing.
 use Rattle.bench_outcomes.specs.Conducts.{Conduct, Writes, Tells, Needs, Chooses, conduct_of}
 use Rattle.bench_tasks.specs.Tasks.{Task}
 

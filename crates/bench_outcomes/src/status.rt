@@ -7,7 +7,8 @@ ghost use Rattle.bench_outcomes.specs.Codes.{code_of};
 pub enum Status {
     /// The whole report was written, and no other status applies.
     Done,
-    /// The report says that the graph is not matching covered, that a tree or a list is not what it claims to be, or that a move fails.
+    /// The report says that the graph is not matching covered, that a tree or a list is not what
+    /// it claims to be, or that a move fails.
     Negative,
     /// The words match no command; nothing was read or written.
     Usage,

@@ -1,4 +1,5 @@
--- The lines of the leaves from a place on: that of the leaf there, and then those from the next place on.
+-- The lines of the leaves from a place on: that of the leaf there, and then those from the next
+-- place on.
 use Rattle.std.proofs.Common.{◌≡◌, ◌∙◌, ℕ, zero, suc, ◌+◌, List, [], ◌∷◌, ◌++◌, Some, append_assoc, drop, length, slice_get, refl, ap, sym, arith}
 use Rattle.std.proofs.lemmas.Option.{none-some, same_Some}
 use Rattle.tree_core.specs.LeafMaps.{PlainLeafMap}

@@ -1,6 +1,7 @@
--- The moves of a script through derivations may be written. A path along which a tree changes is shorter than the tree has nodes; the
--- sets of a Switch are not empty and lie within 1 to n, since they are proper subsets of the shore and of its complement; and a derivation
--- of a graph within the limits has few cuts.
+-- The moves of a script through derivations may be written. A path along which a tree changes is
+-- shorter than the tree has nodes; the sets of a Switch are not empty and lie within 1 to n,
+-- since they are proper subsets of the shore and of its complement; and a derivation of a graph
+-- within the limits has few cuts.
 use Rattle.std.proofs.Common.{◌≡◌, ℕ, suc, ◌*◌, ◌<◌, ◌≤◌, Bool, true, false, ◌&&◌, List, [], ◌∷◌, length, Option, Some, None, option_map, if◌then◌else◌, refl, sym, arith}
 use Rattle.std.proofs.lemmas.Option.{none-some}
 use Rattle.std.specs.List.{AllByRecursion}

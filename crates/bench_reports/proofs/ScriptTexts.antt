@@ -1,4 +1,5 @@
--- A text that stands for a value stands for it with comments behind it, and so the report on a script stands for the script.
+-- A text that stands for a value stands for it with comments after it, and so the report on a
+-- script stands for the script.
 use Rattle.std.proofs.Common.{◌≡◌, ◌∙◌, ℕ, ◌<◌, ◌^◌, List, [], ◌∷◌, ◌++◌, map, true, length, ap, ap₂, refl, sym, subst, append_assoc}
 use Rattle.std.specs.Prelude.{codes}
 use Rattle.std.specs.Fmt.{decimal}
@@ -16,7 +17,7 @@ use Rattle.report_text.specs.Scripts.{script_line, script_report_text}
 use Rattle.bench_outcomes.specs.Comparisons.{IsScript, Scripted}
 use Rattle.bench_outcomes.specs.declared.status.Status.TheVariants.{Done}
 
--- the words of the comment behind a script
+-- the words of the comment after a script
 abbrev comment_words : (leaves moves : ℕ) → List (List ℕ)
 comment_words leaves moves = codes "c" ∷ codes "leaves" ∷ decimal leaves ∷ codes "moves" ∷ decimal moves ∷ []
 

@@ -1,5 +1,6 @@
--- A matching that is maximum has as many edges as rows, and misses the vertices that are no ends of its rows.
--- Each edge has two ends at different vertices, so the missed vertices and twice the edges make all vertices.
+-- A matching that is maximum has as many edges as rows, and misses the vertices that are not ends
+-- of its rows. Each edge has two ends at different vertices, so the missed vertices and twice the
+-- edges make all vertices.
 use Rattle.std.proofs.Common.{◌≡◌, ◌≤◌, ℕ, ◌+◌, ◌-◌, ◌*◌, length, ◌∙◌, arith}
 use Rattle.std.proofs.lemmas.List.{length-map}
 use Rattle.counting.specs.Counts.{count}

@@ -65,7 +65,7 @@ fn refused_report(
     })
 }
 
-// The report of the answer to the tree of this place, where it is no derivation.
+// The report of the answer to the tree of this place, where it is not a derivation.
 fn refusal_of_answer(
     alloc: Global,
     g: &MultiGraph,
@@ -85,8 +85,8 @@ fn refusal_of_answer(
     }
 }
 
-/// The report that refuses the tree of this place among those that are named, counted from 1: the graph is not covered, or the tree is
-/// no derivation of it. None where the tree is a derivation.
+/// The report that refuses the tree of this place among those that are named, counted from 1: the
+/// graph is not covered, or the tree is no derivation of it. None where the tree is a derivation.
 pub fn refusal_of_tree(
     alloc: Global,
     g: &MultiGraph,
@@ -128,7 +128,8 @@ fn accepted_report(alloc: Global, g: &MultiGraph, tree: &Tree) -> Result<Report,
     })
 }
 
-/// The report on a tree: how many leaves it has, or where and why it is refused, or that the graph is not covered.
+/// The report on a tree: how many leaves it has, or where and why it is refused, or that the
+/// graph is not covered.
 pub fn check_report(alloc: Global, g: &MultiGraph, tree: &Tree) -> Result<Report, Memory>
     requires { Fits g.now.order (shape_of tree.now) }
     ensures { IfOk result

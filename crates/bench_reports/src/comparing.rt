@@ -17,8 +17,9 @@ use std::alloc::{AllocError as Memory, Global};
 use tree_core::{Partitions, Tree, leaves, nodes};
 use uncross::{LeafMap, LeafMaps, compare, moves_between};
 
-/// The report that refuses one of two trees: the graph is not covered, or the first tree is no derivation of it, or the second is none.
-/// None where both are derivations. Whether the graph is covered is asked once: a graph with a derivation is.
+/// The report that refuses one of two trees: the graph is not covered, or the first tree is not a
+/// derivation of it, or the second is none. None where both are derivations. Whether the graph is
+/// covered is asked once: a graph with a derivation is.
 pub fn refusal_of_pair(
     alloc: Global,
     g: &MultiGraph,
@@ -89,8 +90,8 @@ fn pairing_report(
     })
 }
 
-/// The report on two trees: the moves that turn the first into the second and how their leaves are paired, or which tree is refused
-/// and why, or that the graph is not covered.
+/// The report on two trees: the moves that turn the first into the second and how their leaves
+/// are paired, or which tree is refused and why, or that the graph is not covered.
 pub fn compare_report(
     alloc: Global,
     g: &MultiGraph,
@@ -131,8 +132,8 @@ fn moves_report(
     })
 }
 
-/// The report on two trees: the text of moves that turn the first into the second, or which tree is refused and why, or that the graph is
-/// not covered.
+/// The report on two trees: the text of moves that turn the first into the second, or which tree
+/// is refused and why, or that the graph is not covered.
 pub fn script_report(
     alloc: Global,
     g: &MultiGraph,

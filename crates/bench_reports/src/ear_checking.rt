@@ -137,7 +137,8 @@ fn judged_report(alloc: Global, g: &MultiGraph, list: &EarList) -> Result<Report
     }
 }
 
-/// The report on a list of ears: how many steps it has, or where and why it is refused, or that the graph is not covered.
+/// The report on a list of ears: how many steps it has, or where and why it is refused, or that
+/// the graph is not covered.
 pub fn checkears_report(alloc: Global, g: &MultiGraph, list: &EarList) -> Result<Report, Memory>
     requires { FitsEars g.now.order (size g.now) (ears_of list.now) }
     ensures { IfOk result
@@ -170,7 +171,8 @@ fn built_report(alloc: Global, g: &MultiGraph) -> Result<Report, Memory>
     })
 }
 
-/// The report of an ear list that is built: its text and the numbers of its steps, or that the graph is not covered.
+/// The report of an ear list that is built: its text and the numbers of its steps, or that the
+/// graph is not covered.
 pub fn ears_report(alloc: Global, g: &MultiGraph) -> Result<Report, Memory>
     ensures { IfOk result (λ report. EarsGives g.now report.status report.bytes.items) }
 {

@@ -31,8 +31,8 @@ fn counted(alloc: Global, g: &MultiGraph, order: NamedOrder) -> Result<(Tree, Ta
     }
 }
 
-/// The report on the graph that grows from a seed: its text, the leaves of its derivations by the first and by the last candidates, and
-/// how many leaves their comparison pairs.
+/// The report on the graph that grows from a seed: its text, the leaves of its derivations by the
+/// first and by the last candidates, and how many leaves their comparison pairs.
 pub fn grow_report(alloc: Global, growth: Growth) -> Result<Report, Memory>
     ensures { IfOk result
         (λ report. Grown growth.seed growth.pieces report.status report.bytes.items) }

@@ -1,11 +1,12 @@
 //! What each task gives: its status and its whole report, made in memory.
 //!
-//! `judge` has one branch for each task, and a module for each kind: the structure of a graph, decompositions, a tree that is checked,
-//! lists of ears, moves that are replayed, two trees that are compared, and a graph that grows. Its promise is `ResultOf` of
-//! `bench_outcomes`: the status and the bytes are those that the task stands for. Neither a shelf nor a sink is asked.
+//! `judge` has one branch for each task, and a module for each kind: the structure of a graph,
+//! decompositions, a tree that is checked, lists of ears, moves that are replayed, two trees that
+//! are compared, and a graph that grows. Its promise is `ResultOf` of `bench_outcomes`: the
+//! status and the bytes are those that the task stands for. Neither a shelf nor a sink is asked.
 //!
-//! Stands on the engine for the answers, on `report_text` and the writers of texts for the bytes, and on `bench_tasks` and
-//! `bench_outcomes` for the tasks and what they stand for.
+//! Stands on the engine for the answers, on `report_text` and the writers of texts for the bytes,
+//! and on `bench_tasks` and `bench_outcomes` for the tasks and what they stand for.
 #![tactic(auto)]
 
 mod checking;

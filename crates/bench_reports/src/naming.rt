@@ -9,7 +9,8 @@ use graph_text::{Names, plain_names};
 use report_text::with_names;
 use std::alloc::{AllocError as Memory, Global};
 
-/// The report, and then the names where the graph has names; each is a comment where `comments` is true.
+/// The report, and then the names where the graph has names; each is a comment where `comments`
+/// is true.
 pub fn with_given_names(
     alloc: Global,
     report: Vec<u8>,

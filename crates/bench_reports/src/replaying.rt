@@ -55,7 +55,7 @@ fn stuck_report(alloc: Global, at: u32) -> Result<Report, Memory>
     })
 }
 
-// The line of a move whose result is no derivation.
+// The line of a move whose result is not a derivation.
 fn refused_move_report(alloc: Global, at: u32, node: u32, why: Why) -> Result<Report, Memory>
     ensures negative { IfOk result (λ report. report.status ≡ Status.Negative) }
     ensures text { IfOk result
@@ -86,8 +86,9 @@ fn moves_report(alloc: Global, g: &MultiGraph, tree: Tree, moves: &Moves) -> Res
     }
 }
 
-/// The report on moves on a tree: the last tree that they make where each on the way is a derivation of the graph, or the first move
-/// that fails; or why the tree is refused, or that the graph is not covered.
+/// The report on moves on a tree: the last tree that they make where each on the way is a
+/// derivation of the graph, or the first move that fails; or why the tree is refused, or that the
+/// graph is not covered.
 pub fn replay_report(
     alloc: Global,
     g: &MultiGraph,

@@ -1,5 +1,6 @@
--- What two loads one after the other make: a stop at the first is a stop of both, and so is a stop at the second; where neither stops, what
--- is made of the two values is what is made of the two files.
+-- What two loads one after the other make: a stop at the first is a stop of both, and so is a
+-- stop at the second; where neither stops, what is made of the two values is what is made of the
+-- two files.
 use Rattle.std.proofs.Common.{◌≡◌, ◌∙◌, ◌≤◌, ℕ, Bool, List, Option, Ok, Err, ap, sym, subst, arith}
 use Rattle.outside.specs.Faults.{Rose}
 use Rattle.outside.specs.Shelf.{Named}

@@ -1,4 +1,5 @@
--- A reader that names the value that a text stands for, or its first fault, names what comes of the text line by line.
+-- A reader that names the value that a text stands for, or its first fault, names what comes of
+-- the text line by line.
 use Rattle.std.proofs.Common.{ℕ, List, Result, Ok, Err, IfOk, IfErr}
 use Rattle.line_text.specs.Format.{Rules, Stands}
 use Rattle.line_text.specs.Reading.{reading_of}

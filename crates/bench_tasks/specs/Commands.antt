@@ -1,4 +1,5 @@
--- What the words ask for: one case of `Command` for each row of the table of words, and one line of `command_of`.
+-- What the words ask for: one case of `Command` for each row of the table of words, and one line
+-- of `command_of`.
 use Rattle.std.specs.Prelude.{List, [], ◌∷◌, ℕ, ◌&&◌, nat_le, if◌then◌else◌, codes}
 use Rattle.std.specs.declared.option.Option.{Option}
 use Rattle.std.specs.declared.option.Option.TheVariants.{Some, None}
@@ -39,25 +40,29 @@ order_command word graph order = if bytes_eq word (codes "decompose") then optio
 abbrev pub most_pieces : ℕ
 most_pieces = 16
 
--- the command to grow a graph that two words ask for: the number of a seed, and that of 1 to 16 pieces
+-- the command to grow a graph that two words ask for: the number of a seed, and that of 1 to 16
+-- pieces
 abbrev pub grow_command : List ℕ → List ℕ → Option Command
 grow_command seed pieces =
     if is_number seed && (is_number pieces && (nat_le 1 (value_of pieces) && nat_le (value_of pieces) most_pieces))
     then Some (Grow (value_of seed) (value_of pieces)) else None
 
--- the command that a word, the name of a file, and a second name or the word of an order ask for; or a word and two numbers
+-- the command that a word, the name of a file, and a second name or the word of an order ask for;
+-- or a word and two numbers
 abbrev pub pair_command : List ℕ → List ℕ → List ℕ → Option Command
 pair_command word graph second =
     if bytes_eq word (codes "check") then Some (Check graph second) else
     if bytes_eq word (codes "checkears") then Some (CheckEars graph second) else
     if bytes_eq word (codes "grow") then grow_command graph second else order_command word graph second
 
--- the command that a word, the name of a file, the word `script` and the name of a further file ask for
+-- the command that a word, the name of a file, the word `script` and the name of a further file
+-- ask for
 abbrev pub script_command : List ℕ → List ℕ → List ℕ → List ℕ → Option Command
 script_command word graph script picks =
     if bytes_eq word (codes "decompose") then (if bytes_eq script (codes "script") then Some (DecomposeBy graph picks) else None) else None
 
--- the command that a word and the names of three files, or of one, the word `script` and a further one ask for
+-- the command that a word and the names of three files, or of one, the word `script` and a
+-- further one ask for
 abbrev pub triple_command : List ℕ → List ℕ → List ℕ → List ℕ → Option Command
 triple_command word graph second third =
     if bytes_eq word (codes "replay") then Some (Replay graph second third) else

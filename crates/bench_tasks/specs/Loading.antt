@@ -1,5 +1,5 @@
--- What the files that a command names hold: each is looked up and read in the order of the words, up to the first that is
--- not held or is bad.
+-- What the files that a command names hold: each is looked up and read in the order of the words,
+-- up to the first that is not held or is bad.
 use Rattle.std.specs.Prelude.{ℕ, List, length, nat_lt, if◌then◌else◌}
 use Rattle.std.specs.declared.option.Option.{Option}
 use Rattle.std.specs.declared.option.Option.TheVariants.{Some, None}
@@ -27,8 +27,9 @@ use Rattle.bench_tasks.specs.Tasks as task
 abbrev pub most_bytes : ℕ
 most_bytes = 1048576
 
--- all is held and good; or the file at this place, counted from 1, is the first that is bad, at this line by this kind; or
--- the file at this place is not held, and all before it are held and good
+-- all is held and good; or the file at this place, counted from 1, is the first that is bad, at
+-- this line by this kind; or the file at this place is not held, and all before it are held and
+-- good
 pub data Loaded (A : Type 0) : Type 0 where
   All : (inputs : A) → Loaded A
   Bad : (file line kind : ℕ) → Loaded A
@@ -39,7 +40,8 @@ abbrev pub from_reading : {A : Type 0} → ℕ → Result A (ℕ × FaultKind) �
 from_reading place (Ok value) = All value
 from_reading place (Err fault) = Bad place fault.0 (kind_number fault.1)
 
--- one file: not held; over the limit of bytes, which is line 0 and kind 6 whatever else is wrong; or what its text is read as
+-- one file: not held; over the limit of bytes, which is line 0 and kind 6 whatever else is wrong;
+-- or what its text is read as
 abbrev pub file_read : {A : Type 0} → ℕ → (List ℕ → Result A (ℕ × FaultKind)) → Option (List ℕ) → Loaded A
 file_read place reading None = Absent place
 file_read place reading (Some bytes) = if nat_lt most_bytes (length bytes) then Bad place 0 6 else from_reading place (reading bytes)
@@ -67,7 +69,8 @@ graph6_file files name = file_read 1 outcome_of (file_named name files)
 abbrev pub pick_file : List Named → List ℕ → Loaded (List ℕ)
 pick_file files name = file_read 2 (reading_of pick_format) (file_named name files)
 
--- the tree of the file of that name, which has this place among the named files, for a graph of that order
+-- the tree of the file of that name, which has this place among the named files, for a graph of
+-- that order
 abbrev pub tree_file : List Named → (place : ℕ) → List ℕ → (order : ℕ) → Loaded Shape
 tree_file files place name order = file_read place (reading_of (tree_format order)) (file_named name files)
 

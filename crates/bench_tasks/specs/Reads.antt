@@ -42,8 +42,8 @@ StopsAt place (stop.ReadFault file) = file ≡ place
 StopsAt place (stop.Bad file line kind) = file ≡ place
 StopsAt place stop.Memory = Unit {0}
 
--- reads up to a stop lead from the first shelf to the last: those of the names up to the file that stops, that one included; where
--- memory ran out, those of the first few names
+-- reads up to a stop lead from the first shelf to the last: those of the names up to the file
+-- that stops, that one included; where memory ran out, those of the first few names
 abbrev pub ReadsUntil : {S : Type 0} → (S → List ℕ → S → Type 0) → List (List ℕ) → Stop → S → S → Type 0
 ReadsUntil reads names (stop.ReadFault file) first last = (file ≤ length names) × ReadsInTurn reads (take file names) first last
 ReadsUntil reads names (stop.Bad file line kind) first last = (file ≤ length names) × ReadsInTurn reads (take file names) first last

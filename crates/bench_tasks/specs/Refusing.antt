@@ -1,4 +1,5 @@
--- Which commands may refuse what they are given, and which tasks: all but those that only tell of a graph or write one.
+-- Which commands may refuse what they are given, and which tasks: all but those that only tell of
+-- a graph or write one.
 use Rattle.std.specs.declared.option.Option.{Option}
 use Rattle.std.specs.declared.option.Option.TheVariants.{Some, None}
 use Rattle.std.specs.declared.result.Result.{Result}

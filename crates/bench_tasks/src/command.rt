@@ -66,7 +66,8 @@ pub enum Command<'a> {
         first: &'a str,
         second: &'a str,
     },
-    /// The moves that turn the tree of a file into that of another, both derivations of the graph of a file.
+    /// The moves that turn the tree of a file into that of another, both derivations of the graph
+    /// of a file.
     Script {
         graph: &'a str,
         first: &'a str,

@@ -354,7 +354,8 @@ fn check_ears_task<S: Shelf>(
     })
 }
 
-/// Reads and parses the files of the command, in the order of the words, up to the first that stops it.
+/// Reads and parses the files of the command, in the order of the words, up to the first that
+/// stops it.
 pub fn gather<S: Shelf>(alloc: Global, command: Command<'_>, shelf: &mut S) -> Result<Task, Stop>
     ensures loads { Loads S.files S.steady S.faults task_of
         (λ files. loaded files (asked command.entry))

@@ -5,7 +5,8 @@
 pub enum Stop {
     /// A file could not be read: its place among the named files.
     ReadFault { file: u32 },
-    /// A file is too long or outside its format: its place among the named files, the line and the kind of its first fault.
+    /// A file is too long or outside its format: its place among the named files, the line and
+    /// the kind of its first fault.
     Bad { file: u32, line: u32, kind: u32 },
     /// Memory ran out.
     Memory,

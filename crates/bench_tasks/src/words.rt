@@ -9,7 +9,8 @@ use decomposer::NamedOrder;
 use grow_gen::MOST_PIECES;
 use line_text::number;
 
-// The command to grow a graph from the numbers that the two words write, if they write such numbers.
+// The command to grow a graph from the numbers that the two words write, if they write such
+// numbers.
 fn grow_command<'a>(seed: &str, pieces: &str) -> Option<Command<'a>>
     ensures { option_map asked result ≡ grow_command seed.now pieces.now }
 {
@@ -37,7 +38,8 @@ fn graph_command<'a>(word: &str, graph: &'a str) -> Option<Command<'a>>
     }
 }
 
-// The command that a word, the name of a file, and a second name or the word of an order ask for; or a word and two numbers.
+// The command that a word, the name of a file, and a second name or the word of an order ask for;
+// or a word and two numbers.
 fn pair_command<'a>(word: &str, graph: &'a str, second: &'a str) -> Option<Command<'a>>
     ensures { option_map asked result ≡ pair_command word.now graph.now second.now }
 {
@@ -59,7 +61,8 @@ fn pair_command<'a>(word: &str, graph: &'a str, second: &'a str) -> Option<Comma
     }
 }
 
-// The command that a word and the names of three files, or of one, the word `script` and a further one ask for.
+// The command that a word and the names of three files, or of one, the word `script` and a
+// further one ask for.
 fn triple_command<'a>(
     word: &str,
     graph: &'a str,

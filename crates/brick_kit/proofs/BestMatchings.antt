@@ -1,6 +1,7 @@
--- Matchings that are heaviest where each edge inside k weighs one less, and among those have most edges inside k.
--- Such a one is heaviest for one weight in which the lowered weights count for more than all edges inside; with its
--- edges inside a swap set replaced by those of a heaviest matching it is best again.
+-- Matchings that are heaviest where each edge inside k weighs one less, and among those have most
+-- edges inside k. Such a one is heaviest for one weight in which the lowered weights count for
+-- more than all edges inside; with its edges inside a swap set replaced by those of a heaviest
+-- matching it is best again.
 use Rattle.std.proofs.Common.{◌≡◌, ◌≢◌, ℕ, suc, zero, ◌+◌, ◌-◌, ◌*◌, ◌≤◌, ◌<◌, Bool, true, false, cond, ◌==◌, ◌&&◌, nat_lt, refl, sym, ap, ap₂, ◌∙◌, arith, inl, inr, eqb-true, lt-ltb, mul-le-mul_left, subst}
 use Rattle.std.proofs.lemmas.Bool.{cases_Bool, cases_lt}
 use Rattle.counting.proofs.Counts.{count_congr, count_le}
@@ -20,14 +21,16 @@ use Rattle.brick_kit.specs.Weights.{IsHeaviest, weight_of}
 abbrev pub HasWeight : Graph → (ℕ → ℕ) → Set → Type 0
 HasWeight g w m = (e : ℕ) → Within (size g) e → m e ≡ true → 0 < w e
 
--- m has only edges of weight, is heaviest for w lowered inside k, and among those it has most edges inside k
+-- m has only edges of weight, is heaviest for w lowered inside k, and among those it has most
+-- edges inside k
 pub record IsBest (g : Graph) (w : ℕ → ℕ) (k m : Set) : Type 0 where
   pub is : IsMatching g none m
   pub heavy : HasWeight g w m
   pub low : (n : Set) → IsMatching g none n → weight_of g (lowered w (inside g k)) n ≤ weight_of g (lowered w (inside g k)) m
   pub most : (n : Set) → IsMatching g none n → HasWeight g w n → weight_of g (lowered w (inside g k)) n ≡ weight_of g (lowered w (inside g k)) m → held g n k ≤ held g m k
 
--- of two numbers of which the first counts more than s times, the first decides, and where the first are equal the second
+-- of two numbers of which the first counts more than s times, the first decides, and where the
+-- first are equal the second
 first_of_two : (s x y c d : ℕ) → suc s * x + c ≤ suc s * y + d → d ≤ s → x ≤ y
 first_of_two s x y c d h l = elim (cases_lt y x) [
   | inl k ↦ let a : suc s * suc y ≤ suc s * x = mul-le-mul_left (suc s) k in absurd (omega arith)
@@ -37,7 +40,8 @@ first_of_two s x y c d h l = elim (cases_lt y x) [
 second_of_two : (s x y c d : ℕ) → suc s * x + c ≤ suc s * y + d → x ≡ y → c ≤ d
 second_of_two s x y c d h e = let a = ap (λ z. suc s * z) e in omega arith
 
--- the weight for which a heaviest matching is best: the lowered one many times over, and one for each edge inside that has weight
+-- the weight for which a heaviest matching is best: the lowered one many times over, and one for
+-- each edge inside that has weight
 abbrev ranked : Graph → (ℕ → ℕ) → Set → ℕ → ℕ
 ranked g w k e = suc (size g) * lowered w (inside g k) e + bit (inside g k e && nat_lt 0 (w e))
 

@@ -1,5 +1,5 @@
--- No matching weighs more than a cover, and where one weighs as much the cover is exact at its edges and its sets.
--- The weight of a cover is summed vertex by vertex and set by set.
+-- No matching weighs more than a cover, and where one weighs as much the cover is exact at its
+-- edges and its sets. The weight of a cover is summed vertex by vertex and set by set.
 use Rattle.std.proofs.Common.{◌≡◌, ℕ, suc, zero, ◌+◌, ◌*◌, ◌/◌, ◌≤◌, Bool, true, false, ◌&&◌, List, refl, sym, ap₂, ◌∙◌, arith}
 use Rattle.std.specs.Prelude.{All}
 use Rattle.std.proofs.lemmas.Bool.{both_ways}

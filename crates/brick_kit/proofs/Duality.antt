@@ -1,6 +1,7 @@
--- Each weight has a matching and a cover of the same weight.
--- By induction on the sum of all weights. Where each heaviest matching meets some vertex, the edges at that vertex are lowered; else
--- a component of the edges that have weight is an odd set, and the edges inside it are lowered.
+-- Each weight has a matching and a cover of the same weight. By induction on the sum of all
+-- weights. Where each heaviest matching meets some vertex, the edges at that vertex are lowered;
+-- else a component of the edges that have weight is an odd set, and the edges inside it are
+-- lowered.
 use Rattle.std.proofs.Common.{◌≡◌, ℕ, suc, zero, ◌+◌, ◌*◌, ◌≤◌, ◌<◌, true, ◌⊎◌, List, [], refl, sym, ◌∙◌, arith, inl, inr}
 use Rattle.std.proofs.lemmas.Bool.{and_from, cases_lt}
 use Rattle.std.proofs.lemmas.List.Elements.{All-nil}

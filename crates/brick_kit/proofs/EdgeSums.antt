@@ -1,5 +1,5 @@
--- Weights as sums over the edges: of sums, multiples, flat weights and tests, and with one edge more.
--- Term by term over the edges.
+-- Weights as sums over the edges: of sums, multiples, flat weights and tests, and with one edge
+-- more. Term by term over the edges.
 use Rattle.std.proofs.Common.{◌≡◌, ℕ, ◌+◌, ◌*◌, ◌≤◌, ◌<◌, Bool, true, false, ◌&&◌, List, [], ◌∷◌, refl, sym, ap, ◌∙◌, arith, mul-add, inl, inr}
 use Rattle.counting.proofs.Counts.{bit-and}
 use Rattle.std.proofs.lemmas.Bool.{both_ways, cases_lt}

@@ -1,5 +1,5 @@
--- Numbers of the vertices times their degrees in an edge set add up to the numbers at the ends of its edges.
--- The double sum is taken in the other order, for the first ends and for the second.
+-- Numbers of the vertices times their degrees in an edge set add up to the numbers at the ends of
+-- its edges. The double sum is taken in the other order, for the first ends and for the second.
 use Rattle.std.proofs.Common.{◌≡◌, ℕ, ◌+◌, ◌*◌, Bool, true, false, ◌==◌, ◌&&◌, sym, ap, ap₂, ◌∙◌, arith, mul-add}
 use Rattle.counting.proofs.Totals.{total_add, total_at, total_congr, total_mul, total_swap}
 use Rattle.counting.specs.Counts.{Within, bit, count, total}

@@ -1,6 +1,7 @@
--- A vertex that each heaviest matching meets gets one more in a cover of the weight that is lowered at its edges.
--- The cover's value rises by one. The heaviest weight does too: else a matching that is heaviest for the lowered weight would be
--- heaviest for the weight, and have an edge at the vertex where the two differ.
+-- A vertex that each heaviest matching meets gets one more in a cover of the weight that is
+-- lowered at its edges. The cover's value rises by one. The heaviest weight does too: else a
+-- matching that is heaviest for the lowered weight would be heaviest for the weight, and have an
+-- edge at the vertex where the two differ.
 use Rattle.std.proofs.Common.{◌≡◌, ℕ, ◌+◌, ◌/◌, ◌≤◌, ◌<◌, Bool, true, false, ◌==◌, ◌&&◌, ◌||◌, sym, arith, nat_lt, inl, inr, eq-eqb}
 use Rattle.std.proofs.lemmas.Bool.{cases_lt, or_left, or_right}
 use Rattle.counting.proofs.SetSizes.{count_singleton}

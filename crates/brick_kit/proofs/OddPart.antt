@@ -1,6 +1,7 @@
--- Where each vertex of a part is missed by some heaviest matching, the part is odd and a best matching fills it but for one vertex.
--- By induction on a walk between two vertices that a best matching would miss: the swap makes another one miss a vertex of
--- the walk. So the part goes into a cover of the lowered weights, and makes it a cover of the weights.
+-- Where each vertex of a part is missed by some heaviest matching, the part is odd and a best
+-- matching fills it but for one vertex. By induction on a walk between two vertices that a best
+-- matching would miss: the swap makes another one miss a vertex of the walk. So the part goes
+-- into a cover of the lowered weights, and makes it a cover of the weights.
 use Rattle.std.proofs.Common.{◌≡◌, ◌≢◌, ℕ, suc, ◌+◌, ◌*◌, ◌/◌, ◌≤◌, ◌<◌, Bool, true, false, cond, ◌==◌, ◌&&◌, not, ◌⊎◌, nat_lt, List, [], ◌∷◌, sym, ap, ◌∙◌, arith, inl, inr, eqb-true, eq-eqb, subst}
 use Rattle.std.proofs.lemmas.Bool.{and_from, and_parts, cases_eq}
 use Rattle.std.proofs.lemmas.List.Elements.{All-cons}

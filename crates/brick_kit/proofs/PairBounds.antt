@@ -1,5 +1,6 @@
--- The numbers of two vertices of a bicritical graph are bounded by twice s and the members that part them.
--- The sums over a perfect matching and over one without the two vertices differ by the two numbers.
+-- The numbers of two vertices of a bicritical graph are bounded by twice s and the members that
+-- part them. The sums over a perfect matching and over one without the two vertices differ by the
+-- two numbers.
 use Rattle.std.proofs.Common.{◌≡◌, ℕ, suc, zero, ◌+◌, ◌*◌, ◌≤◌, ◌≢◌, Bool, true, false, ◌==◌, ◌&&◌, ◌||◌, not, List, [], ◌∷◌, refl, sym, ap, ap₂, ◌∙◌, arith, mul-add, eqb-true}
 use Rattle.std.specs.Prelude.{All}
 use Rattle.std.proofs.lemmas.Bool.{both_ways}

@@ -1,5 +1,6 @@
--- Two edges of the cut of a member without a common end: another member parts the one from the other.
--- The numbers at the four ends say that the members part the ends of the edges less often than the ends on the two sides.
+-- Two edges of the cut of a member without a common end: another member parts the one from the
+-- other. The numbers at the four ends say that the members part the ends of the edges less often
+-- than the ends on the two sides.
 use Rattle.std.proofs.Common.{◌≡◌, ℕ, ◌+◌, ◌≤◌, ◌<◌, ◌≢◌, Bool, true, false, ◌&&◌, ◌||◌, not, List, [], ◌∷◌, refl, sym, ap, ap₂, ◌∙◌, arith, inl, inr, add_comm}
 use Rattle.std.specs.Prelude.{All}
 use Rattle.std.proofs.lemmas.Bool.{cases_lt, true≢false}

@@ -1,5 +1,6 @@
--- Two matchings exchanged inside a set that no edge of either leaves.
--- The set has nearly as many edges inside as vertices, so that the matching that misses one of its vertices has no more edges there.
+-- Two matchings exchanged inside a set that no edge of either leaves. The set has nearly as many
+-- edges inside as vertices, so that the matching that misses one of its vertices has no more
+-- edges there.
 use Rattle.std.proofs.Common.{◌≡◌, ℕ, suc, zero, ◌+◌, ◌*◌, ◌≤◌, ◌≢◌, Bool, true, false, cond, ◌==◌, ◌&&◌, ◌||◌, not, ◌⊎◌, refl, sym, ap, ap₂, ◌∙◌, arith, inl, inr, add_comm, eqb-true, eq-eqb}
 use Rattle.std.proofs.lemmas.Bool.{and_from, and_parts, cases_Bool, true≢false, and_left, and_right}
 use Rattle.counting.proofs.Counts.{count_congr}
@@ -12,7 +13,8 @@ use Rattle.graph_core.specs.Graph.{Graph, IsGraph, degree, first_end, in_cut, in
 use Rattle.graph_core.specs.Matchings.{IsMatching}
 use Rattle.brick_kit.specs.Weights.{weight_of}
 
--- a set with t inside k, which no edge of m or n leaves, with nearly as many edges of m and of n inside as it has vertices
+-- a set with t inside k, which no edge of m or n leaves, with nearly as many edges of m and of n
+-- inside as it has vertices
 pub record Swaps (g : Graph) (k m n : Set) (t : ℕ) (c : Set) : Type 0 where
   pub inside_k : (v : ℕ) → c v ≡ true → k v ≡ true
   pub holds : c t ≡ true

@@ -1,5 +1,6 @@
 -- A balanced list with two members uncrossed is balanced, and its members part fewer pairs.
--- Vertex by vertex the meet and the union part as often as the two members, and twice less where these cross.
+-- Vertex by vertex the meet and the union part as often as the two members, and twice less where
+-- these cross.
 use Rattle.std.proofs.Common.{◌≡◌, ℕ, ◌+◌, ◌*◌, ◌≤◌, ◌<◌, Bool, true, false, ◌&&◌, ◌||◌, not, List, ◌∷◌, refl, ap, ◌∙◌, arith}
 use Rattle.std.proofs.lemmas.List.Elements.{All-cons, All-head, All-tail}
 use Rattle.counting.proofs.Totals.{total_congr, total_le}

@@ -1,5 +1,6 @@
--- Lists of blocks as the code goes through them: the place of a block found by a scan, a block put in by its name, and how
--- many blocks pass a test. Each is a recursion along the list, as the definition is.
+-- Lists of blocks as the code goes through them: the place of a block found by a scan, a block
+-- put in by its name, and how many blocks pass a test. Each is a recursion along the list, as the
+-- definition is.
 use Rattle.std.proofs.Common.{◌≡◌, ℕ, ◌+◌, ◌-◌, ◌≤◌, ◌<◌, Bool, true, false, not, cond, nat_lt, List, [], ◌∷◌, length, refl, sym, ap, ◌∙◌, arith, zero, suc, get_or, insert, count_by, Option, Some, None, position, MatchOption, IfSome, IfNone, unwrap_or, if◌then◌else◌, subst}
 use Rattle.std.specs.List.{position_or_len}
 use Rattle.std.proofs.lemmas.List.{get_or-map, length-map}

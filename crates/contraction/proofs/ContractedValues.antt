@@ -1,5 +1,5 @@
--- What the value of a quotient says: as many lists of remembered edges as edges, each that of its edge, and the union of the
--- blocks at the places of a set.
+-- What the value of a quotient says: as many lists of remembered edges as edges, each that of its
+-- edge, and the union of the blocks at the places of a set.
 use Rattle.std.proofs.Common.{◌≡◌, ℕ, ◌-◌, ◌≤◌, true, ◌&&◌, List, [], length, sym, ap, ◌∙◌, arith}
 use Rattle.std.proofs.lemmas.Bool.{and_parts}
 use Rattle.std.proofs.lemmas.List.{get_or-map, length-map}

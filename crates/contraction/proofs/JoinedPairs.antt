@@ -1,5 +1,6 @@
--- The pairs of vertices that edges join, in lexicographic order: the rows of later neighbours give them, none comes twice, and
--- there are no more than edges. A pair goes to its least edge, and no other pair goes there.
+-- The pairs of vertices that edges join, in lexicographic order: the rows of later neighbours
+-- give them, none comes twice, and there are no more than edges. A pair goes to its least edge,
+-- and no other pair goes there.
 use Rattle.std.proofs.Common.{◌≡◌, ℕ, ◌+◌, ◌-◌, ◌*◌, ◌≤◌, ◌<◌, ◌==◌, Bool, true, false, cond, ◌&&◌, List, [], ◌∷◌, ◌++◌, length, refl, sym, ap, ap₂, ◌∙◌, arith, ◌⊎◌, inl, inr, filter, map, flat_map, nat_lt, get_or, eq-eqb, subst, suc, zero}
 use Rattle.std.specs.List.{list_any}
 use Rattle.std.proofs.lemmas.Bool.{both_ways, cases_lt, cases_order, and_parts, or_left, or_right, false_from_ne_true}

@@ -1,5 +1,6 @@
--- Each edge of the quotient has a least remembered edge, and the places that are marked row by row are the lifted matching.
--- A list of rows is gone through one row at a time; a row is found by its edge.
+-- Each edge of the quotient has a least remembered edge, and the places that are marked row by
+-- row are the lifted matching. A list of rows is gone through one row at a time; a row is found
+-- by its edge.
 use Rattle.std.proofs.Common.{◌≡◌, ℕ, ◌+◌, ◌<◌, Bool, true, false, ◌&&◌, ◌||◌, ◌==◌, List, [], ◌∷◌, length, map, take, get_or, refl, sym, ap, ◌∙◌, inl, inr, subst, eq-eqb, eqb-true}
 use Rattle.std.specs.Prelude.{All, Some, slice_get, slice_index}
 use Rattle.std.specs.List.{list_any}
@@ -48,7 +49,7 @@ any-more t rows i row q =
     ∙ list_any-append t (take i rows) (get_or rows i row ∷ [])
     ∙ ap (λ (b : Bool). list_any t (take i rows) || b) (or_false (t (get_or rows i row)) ∙ ap t (get_or_from_slice_get rows i row row q))
 
--- some row passes exactly where some edge of the rows does
+-- some row passes exactly when some edge of the rows does
 pub any-edge : (n : ℕ) (t : ℕ → Bool) (rows : List MatchRow) → All (λ (row : MatchRow). Within n row.edge) rows → list_any (λ (row : MatchRow). t row.edge) rows ≡ some n (λ k. mem (map edge_of rows) k && t k)
 any-edge n t rows all = same_tests _ _ (there rows all) (λ h. let r = some_true n (λ k. mem (map edge_of rows) k && t k) h in let b = and_parts (mem (map edge_of rows) r.0) (t r.0) r.2 in back rows r.0 b.0 b.1)
   where

@@ -1,5 +1,6 @@
--- A perfect matching of the quotient is lifted to a perfect matching at the partition, each edge to its least remembered edge.
--- That edge joins the two blocks, so the matching is carried over along the identity of places.
+-- A perfect matching of the quotient is lifted to a perfect matching at the partition, each edge
+-- to its least remembered edge. That edge joins the two blocks, so the matching is carried over
+-- along the identity of places.
 use Rattle.std.proofs.Common.{◌≡◌, ℕ, ◌<◌, length, true, false, not, ◌&&◌, ◌==◌, List, [], ◌∷◌, refl, sym, ◌∙◌, arith, subst, eq-eqb}
 use Rattle.std.specs.Prelude.{slice_index}
 use Rattle.std.proofs.lemmas.Bool.{both_ways, and_parts, or_left}

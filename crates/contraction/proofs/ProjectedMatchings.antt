@@ -1,5 +1,6 @@
--- A perfect matching at a partition is projected to a perfect matching of the quotient, each edge to the edge between its two
--- blocks, of which there is one; the cut of a set of blocks has as many edges of it before and after, down and up.
+-- A perfect matching at a partition is projected to a perfect matching of the quotient, each edge
+-- to the edge between its two blocks, of which there is one; the cut of a set of blocks has as
+-- many edges of it before and after, down and up.
 use Rattle.std.proofs.Common.{◌≡◌, ◌≢◌, ℕ, ◌-◌, ◌<◌, true, ◌==◌, ◌&&◌, List, get_or, refl, sym, ap, ◌∙◌, arith, inl, inr, ◌⊎◌, subst, eq-eqb, eqb-true}
 use Rattle.counting.proofs.Booleans.{same_tests}
 use Rattle.std.specs.Prelude.{slice_index}

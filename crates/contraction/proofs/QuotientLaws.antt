@@ -1,5 +1,5 @@
--- The quotient and the contracted graph have the same adjacent pairs, so both are matching covered or neither is, and a union of
--- blocks is tight in the one where it is in the other.
+-- The quotient and the contracted graph have the same adjacent pairs, so both are matching
+-- covered or neither is, and a union of blocks is tight in the one where it is in the other.
 use Rattle.std.proofs.Common.{◌≡◌, ℕ, ◌<◌, ◌≢◌, true, not, ◌==◌, List, length, refl, sym, ap, ◌∙◌, arith, inl, inr, subst, ne_eqb}
 use Rattle.std.proofs.lemmas.Bool.{and_parts, and_from, cases_order}
 use Rattle.counting.proofs.Tests.{some_true, true_some}

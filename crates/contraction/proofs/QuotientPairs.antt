@@ -1,5 +1,6 @@
--- The edges of the quotient as the code finds them: each edge of the graph goes to the places of its ends, each place has a row of
--- later neighbours, and the rows in order give the adjacent pairs in lexicographic order, each once.
+-- The edges of the quotient as the code finds them: each edge of the graph goes to the places of
+-- its ends, each place has a row of later neighbours, and the rows in order give the adjacent
+-- pairs in lexicographic order, each once.
 use Rattle.std.proofs.Common.{◌≡◌, ◌≢◌, ℕ, ◌+◌, ◌<◌, cond, List, [], ◌∷◌, ◌++◌, length, sym, ap, ap₂, ◌∙◌, arith, map, get_or, suc}
 use Rattle.std.proofs.lemmas.Simd.{map-map}
 use Rattle.counting.specs.Lists.{rising_list}
@@ -14,7 +15,7 @@ pub ends-contracted : (n : ℕ) (p : List (List ℕ)) (edges ends : List Ends) �
 unfolding contracted
 ends-contracted n p edges ends h = ap (λ (ks : List (ℕ × ℕ)). record { order = length p; ends = ks }) (h ∙ sym (map-map (λ (k : ℕ × ℕ). (place p k.0, place p k.1)) pair_of edges))
 
--- the next edge goes behind those before it where it has the two ends
+-- the next edge goes after those before it where it has the two ends
 pub edges-more : (es : List Ends) (a b k : ℕ) (before after : List ℕ) (d : Ends) → k < length es → before ≡ rising_list k (has_ends (graph_of 0 es) a b) → after ≡ before ++ cond (are_ends a b (get_or es k d)) ((k + 1) ∷ []) [] → after ≡ rising_list (k + 1) (has_ends (graph_of 0 es) a b)
 edges-more es a b k before after d l old new =
     let e : suc k ≡ k + 1 = omega arith in

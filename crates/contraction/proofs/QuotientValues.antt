@@ -1,5 +1,6 @@
--- The value that the code makes is the quotient with its remembered edges: the joined pairs of the contracted graph are the
--- edges of the quotient, since a pair of places a < b has two different blocks.
+-- The value that the code makes is the quotient with its remembered edges: the joined pairs of
+-- the contracted graph are the edges of the quotient, since a pair of places a < b has two
+-- different blocks.
 use Rattle.std.proofs.Common.{◌≡◌, ℕ, ◌≤◌, ◌==◌, Bool, true, false, not, cond, ◌&&◌, List, [], ◌∷◌, length, refl, sym, ap, ap₂, ◌∙◌, arith, inl, inr, filter, map, nat_lt, subst}
 use Rattle.std.proofs.lemmas.Bool.Decides.{nat_tests}
 use Rattle.counting.proofs.Pairs.{HasPair, rows_only}

@@ -1,12 +1,13 @@
--- The quotient of a graph at a partition as contracts see it: the quotient graph, the blocks that its vertices stand for, and
--- for each of its edges the edges of the graph that it stands for.
+-- The quotient of a graph at a partition as contracts see it: the quotient graph, the blocks that
+-- its vertices stand for, and for each of its edges the edges of the graph that it stands for.
 use Rattle.std.specs.Prelude.{◌≡◌, ℕ, List, map}
 use Rattle.graph_core.specs.Graph.{Graph, size}
 use Rattle.graph_core.specs.Partitions.{IsPartition}
 use Rattle.graph_core.specs.Quotients.{edges_between, quotient}
 use Rattle.graph_core.specs.View.{IsWithinLimits}
 
--- the numbers of vertices and edges of the graph, the blocks, the quotient graph and the remembered edges of its edges
+-- the numbers of vertices and edges of the graph, the blocks, the quotient graph and the
+-- remembered edges of its edges
 pub record ContractedValue : Type 0 where
   pub order : ℕ
   pub size : ℕ

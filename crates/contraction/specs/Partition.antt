@@ -1,4 +1,5 @@
--- Partitions as contracts see them: the number of vertices and the blocks; and the unions of blocks among the sets.
+-- Partitions as contracts see them: the number of vertices and the blocks; and the unions of
+-- blocks among the sets.
 use Rattle.std.specs.Prelude.{ℕ, ◌≤◌, List}
 use Rattle.counting.specs.Lists.{mem, IsRisingIn}
 use Rattle.graph_core.specs.Partitions.{IsPartition}

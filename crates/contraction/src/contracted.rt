@@ -21,9 +21,10 @@ use std::alloc::{AllocError as Memory, Global};
 use std::marker::Model;
 use vset_core::{MOST_VERTICES, VSet};
 
-/// The quotient of a graph at a partition: the graph with one vertex for each block, by place, and one edge for each two
-/// adjacent blocks, in lexicographic order of their places. Each edge of it remembers the edges of the graph between its two
-/// blocks. Contracts see the quotient graph, the blocks and the remembered edges.
+/// The quotient of a graph at a partition: the graph with one vertex for each block, by place,
+/// and one edge for each two adjacent blocks, in lexicographic order of their places. Each edge
+/// of it remembers the edges of the graph between its two blocks. Contracts see the quotient
+/// graph, the blocks and the remembered edges.
 #[derive(Drop)]
 pub struct Contracted {
     order: u32,
@@ -45,8 +46,8 @@ impl Model for Contracted {
 }
 
 impl Contracted {
-    /// The law that this is the quotient of some multigraph at some partition. It does nothing: a caller states it where it
-    /// needs it.
+    /// The law that this is the quotient of some multigraph at some partition. It does nothing: a
+    /// caller states it where it needs it.
     pub fn keeps_contraction(&self)
         ensures { KeepsContraction self.now }
     {
@@ -60,7 +61,8 @@ impl Contracted {
         &self.graph
     }
 
-    /// The edges of g between the two blocks that edge `e` of the quotient joins, in rising order. Takes no memory.
+    /// The edges of g between the two blocks that edge `e` of the quotient joins, in rising
+    /// order. Takes no memory.
     pub fn remembered(&self, e: u32) -> &[u32]
         requires { Within (size self.now.graph) e }
         ensures value { result.now ≡ item self.now.edges e }
@@ -81,7 +83,8 @@ impl Contracted {
         union
     }
 
-    /// The least of the edges of the graph between the two blocks that edge `e` of the quotient joins.
+    /// The least of the edges of the graph between the two blocks that edge `e` of the quotient
+    /// joins.
     pub(crate) fn least(&self, e: u32) -> u32
         requires { Within (size self.now.graph) e }
         ensures value { result ≡ least_at self.now e }
@@ -127,8 +130,8 @@ fn union_at(blocks: &[VSet], s: VSet) -> VSet
     union
 }
 
-/// The quotient of `g` at `p`, a partition of its vertices, with one edge for each two adjacent blocks, in lexicographic order of
-/// their places, and its remembered edges.
+/// The quotient of `g` at `p`, a partition of its vertices, with one edge for each two adjacent
+/// blocks, in lexicographic order of their places, and its remembered edges.
 pub fn quotient(alloc: Global, g: &MultiGraph, p: &Partition) -> Result<Contracted, Memory>
     requires { p.now.order ≡ g.now.order }
     ensures { IfOk result (λ q. q ≡ contraction g.now p.now.blocks) }
@@ -139,7 +142,8 @@ pub fn quotient(alloc: Global, g: &MultiGraph, p: &Partition) -> Result<Contract
     quotient_by(alloc, g, p, &ends, &pairs)
 }
 
-// The quotient, from the ends of the edges as places of blocks, and the pairs of places that they join.
+// The quotient, from the ends of the edges as places of blocks, and the pairs of places that they
+// join.
 fn quotient_by(
     alloc: Global,
     g: &MultiGraph,

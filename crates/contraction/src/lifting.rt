@@ -18,8 +18,9 @@ use graph_core::{MOST_EDGES, Numbers};
 use match_core::Matching;
 use std::alloc::{AllocError as Memory, Global};
 
-/// The matching `m` of the quotient graph lifted to the graph: the least remembered edge of each row, in rising order. Where
-/// `m` is perfect, the lifted edges are a perfect matching at the partition: each block has an end of exactly one of them.
+/// The matching `m` of the quotient graph lifted to the graph: the least remembered edge of each
+/// row, in rising order. Where `m` is perfect, the lifted edges are a perfect matching at the
+/// partition: each block has an end of exactly one of them.
 pub fn lift(alloc: Global, q: &Contracted, m: &Matching) -> Result<Numbers, Memory>
     requires { IsOf q.now.graph m.now }
     ensures edges { (g : Graph) (p : List (List ℕ)) → q.now ≡ contraction g p →

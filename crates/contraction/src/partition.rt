@@ -13,8 +13,8 @@ use std::alloc::{AllocError as Memory, Global};
 use std::marker::Model;
 use vset_core::{MOST_VERTICES, VSet};
 
-/// A partition of the vertices 1 to n into blocks. The name of a block is its greatest vertex, and blocks stand by rising
-/// name. Contracts see it as n and the list of the blocks.
+/// A partition of the vertices 1 to n into blocks. The name of a block is its greatest vertex,
+/// and blocks stand by rising name. Contracts see it as n and the list of the blocks.
 #[derive(Drop)]
 pub struct Partition {
     order: u32,
@@ -44,8 +44,8 @@ impl Partition {
         })
     }
 
-    /// The law that the blocks are a partition: each of 1 to n is in exactly one, none is empty, and the names rise. It does
-    /// nothing: a caller states it where it needs it.
+    /// The law that the blocks are a partition: each of 1 to n is in exactly one, none is empty,
+    /// and the names rise. It does nothing: a caller states it where it needs it.
     pub fn keeps_partition(&self)
         ensures { KeepsPartition self.now }
     {

@@ -1,4 +1,5 @@
--- Each two derivations of a graph have as many leaves, as many bricks and as many braces, since their leaves are paired (Lovász 1987).
+-- Each two derivations of a graph have as many leaves, as many bricks and as many braces, since
+-- their leaves are paired (Lovász 1987).
 use Rattle.std.proofs.Common.{List, [], ap, arith, get_or, inl, inr, length, not, subst, sym, ℕ, ◌-◌, ◌==◌, ◌∙◌, ◌≡◌}
 use Rattle.std.specs.Prelude.{count_by}
 use Rattle.counting.specs.Counts.{Within, count}

@@ -1,4 +1,5 @@
--- Two leaves that are the same by names of blocks are of one kind: the sides of the one are the images of those of the other.
+-- Two leaves that are the same by names of blocks are of one kind: the sides of the one are the
+-- images of those of the other.
 use Rattle.std.proofs.Common.{List, refl, sym, ℕ, ◌≡◌, ◌∙◌}
 use Rattle.graph_core.specs.Graph.{Graph, IsBipartite, IsGraph}
 use Rattle.graph_core.specs.Partitions.{IsPartition}

@@ -6,12 +6,14 @@ ghost use Rattle.list_lines.specs.Standings.{IsCounted};
 ghost use Rattle.list_lines.specs.Selecting.{HasProperty, LacksProperty};
 ghost use Rattle.list_lines.specs.declared.query.Property.{Property};
 
-/// The leaves of each two derivations of a graph are as many, and as many of them are bricks, and braces (Lovász 1987).
+/// The leaves of each two derivations of a graph are as many, and as many of them are bricks, and
+/// braces (Lovász 1987).
 pub fn counts_law()
     ensures { (g : Graph) (s t : Tally) → IsGraph g → IsCounted g s → IsCounted g t → s ≡ t }
 {}
 
-/// A graph that lacks a property has it not: of a number of bricks too, which is then that of each derivation.
+/// A graph that lacks a property has it not: of a number of bricks too, which is then that of
+/// each derivation.
 pub fn selection_law()
     ensures { (g : Graph) (property : Property) → IsGraph g → LacksProperty g property →
         ¬ HasProperty g property }

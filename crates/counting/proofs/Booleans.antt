@@ -1,5 +1,6 @@
--- Laws of tests that hold whatever they test: one of two, both, the first but not the second, exactly one, and tests as the numbers 0 and 1.
--- Those of one and of both that the standard library has are not said again.
+-- Laws of tests that hold whatever they test: one of two, both, the first but not the second,
+-- exactly one, and tests as the numbers 0 and 1. Those of one and of both that the standard
+-- library has are not said again.
 use Rattle.std.proofs.Common.{◌≡◌, ℕ, Bool, true, false, not, ◌&&◌, ◌||◌, ◌+◌, ◌*◌, ◌≤◌, arith}
 use Rattle.counting.specs.Counts.{bit}
 

@@ -1,5 +1,5 @@
--- A test of sets that goes by 1 to n alone is passed by some set or by none, and the search over all sets finds out.
--- By induction on n: the sets with n and those without.
+-- A test of sets that goes by 1 to n alone is passed by some set or by none, and the search over
+-- all sets finds out. By induction on n: the sets with n and those without.
 use Rattle.std.proofs.Common.{◌≡◌, ℕ, suc, zero, ◌+◌, ◌≢◌, Bool, true, false, ◌==◌, refl, sym, ap, ◌∙◌, arith, ◌||◌, not, eq-eqb, ne_eqb, ◌⊎◌, inl, inr, ◌*◌}
 use Rattle.std.proofs.lemmas.Bool.{cases_eq, cases_Bool, or_cases, or_parts, both_ways, not-true, not-false}
 use Rattle.counting.proofs.Totals.{total_add, total_at, total_congr}
@@ -73,7 +73,8 @@ count_put k m i b w = let a = total_put k m i b (λ e. 1) w in
     let c : total k (λ e. bit (put m i b e) * 1) ≡ count k (put m i b) = total_congr k _ _ (λ e u. omega arith) in
     let d : total k (λ e. bit (m e) * 1) ≡ count k m = total_congr k _ _ (λ e u. omega arith) in omega arith
 
--- The tests say what the relations say. Idea: each goes by the numbers 1 to n alone, so the search over sets misses none.
+-- The tests say what the relations say. Idea: each goes by the numbers 1 to n alone, so the
+-- search over sets misses none.
 
 -- a set that passes is found
 pub set_found : (n : ℕ) (p : Set → Bool) → Respects n p → (m : Set) → p m ≡ true → some_set n p ≡ true

@@ -1,5 +1,5 @@
--- How many of 1 to n pass a test: counts of unions, complements, of one number, and of tests that agree.
--- Each is a sum over 1 to n of truth values, split number by number.
+-- How many of 1 to n pass a test: counts of unions, complements, of one number, and of tests that
+-- agree. Each is a sum over 1 to n of truth values, split number by number.
 use Rattle.std.proofs.Common.{◌≡◌, ℕ, ◌+◌, ◌*◌, Bool, true, false, ◌==◌, refl, sym, ap, ◌∙◌, arith, ◌&&◌, ◌||◌, not, eq-eqb, ne_eqb, suc, zero, inl, inr, ◌≤◌, ◌<◌}
 use Rattle.std.proofs.lemmas.Bool.{cases_Bool, true≢false, false_from_ne_true}
 use Rattle.counting.proofs.Totals.{at_le_total, total_add, total_at, total_congr, total_none, two_le_total}

@@ -1,5 +1,5 @@
--- Rising lists as sets: a rising list of numbers 1 to n has as many items as its test counts, and is fixed by its test.
--- By induction on the list, with the least number that may still come.
+-- Rising lists as sets: a rising list of numbers 1 to n has as many items as its test counts, and
+-- is fixed by its test. By induction on the list, with the least number that may still come.
 use Rattle.std.proofs.Common.{◌≡◌, ℕ, ◌+◌, ◌≤◌, ◌<◌, Bool, true, false, ◌==◌, ◌||◌, ◌&&◌, List, [], ◌∷◌, length, refl, sym, ap, ap₂, ◌∙◌, arith, ◌⊎◌, inl, inr, eq-eqb, ne_eqb, cond, subst, true≢false, suc, zero, ◌*◌, ◌++◌, eqb-true, sum_by, filter, take, get_or}
 use Rattle.std.specs.Prelude.{slice_index, slice_index_or, All}
 use Rattle.std.specs.List.Sorted.{IsStrictlyIncreasing}

@@ -1,12 +1,13 @@
--- The list of pairs in lexicographic order holds each pair a < b once, and a filter keeps those that pass.
--- By induction on the first number, row by row.
+-- The list of pairs in lexicographic order holds each pair a < b once, and a filter keeps those
+-- that pass. By induction on the first number, row by row.
 use Rattle.std.proofs.Common.{◌≡◌, ℕ, suc, zero, ◌<◌, Bool, true, false, cond, ◌==◌, List, [], ◌∷◌, ◌++◌, length, map, refl, sym, ap, ap₂, ◌∙◌, arith, ◌⊎◌, inl, inr, subst, eq-eqb, eqb-true, get_or, filter, nat_lt, flat_map}
 use Rattle.std.proofs.lemmas.Bool.{both_ways, or_cases, or_right, or_left}
 use Rattle.counting.proofs.Lists.{rising_holds, rising_only}
 use Rattle.counting.specs.Counts.{Within}
 use Rattle.counting.specs.Lists.{mem, pair_with, rising_list}
 
--- The edges of a quotient are the adjacent pairs of places. Idea: membership in a list of pairs, step by step through its making.
+-- The edges of a quotient are the adjacent pairs of places. Idea: membership in a list of pairs,
+-- step by step through its making.
 
 -- the pair_set i, j is in the list
 abbrev pub HasPair : List (ℕ × ℕ) → ℕ → ℕ → Type 0

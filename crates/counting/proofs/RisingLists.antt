@@ -1,5 +1,6 @@
--- Rising lists of numbers 1 to n and their tests: the list is fixed by its test, the test by the list, and the length is the
--- count. A list is read from its first item on, and `rising_list` is made from its last item on; `Rises` joins the two.
+-- Rising lists of numbers 1 to n and their tests: the list is fixed by its test, the test by the
+-- list, and the length is the count. A list is read from its first item on, and `rising_list` is
+-- made from its last item on; `Rises` joins the two.
 use Rattle.std.proofs.Common.{◌≡◌, ℕ, ◌+◌, ◌≤◌, ◌<◌, Bool, true, false, ◌==◌, ◌||◌, ◌&&◌, not, List, [], ◌∷◌, length, ◌↔◌, refl, sym, ap, ap₂, ◌∙◌, arith, inl, inr, eq-eqb, ne_eqb, cond, subst, suc, zero, ◌++◌, eqb-true}
 use Rattle.std.specs.Prelude.{slice_index, slice_index_or, All}
 use Rattle.std.specs.List.Sorted.{IsStrictlyIncreasing}

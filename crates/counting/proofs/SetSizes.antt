@@ -1,5 +1,6 @@
--- Sizes of sets given as rising lists, after a number comes or goes, and of two sets' union, common part and difference: each
--- length is the count of a test, and the counts add up number by number.
+-- Sizes of sets given as rising lists, after a number comes or goes, and of two sets' union,
+-- common part and difference: each length is the count of a test, and the counts add up number by
+-- number.
 use Rattle.std.proofs.Common.{◌≡◌, ℕ, ◌+◌, ◌≤◌, Bool, true, false, List, length, refl, sym, ◌∙◌, arith}
 use Rattle.counting.proofs.Counts.{count_le, count_more, count_of_one}
 use Rattle.counting.proofs.Lists.{count_mem_length}

@@ -1,4 +1,5 @@
--- "Some" and "each" over the numbers 1 to n, and over all sets of such numbers, as tests that compute.
+-- "Some" and "each" over the numbers 1 to n, and over all sets of such numbers, as tests that
+-- compute.
 use Rattle.std.specs.Prelude.{ℕ, zero, suc, ◌<◌, Bool, true, false, ◌&&◌, ◌||◌, not}
 use Rattle.counting.specs.Counts.{Within}
 use Rattle.counting.specs.Sets.{Set, none, put}

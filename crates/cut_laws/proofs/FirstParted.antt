@@ -1,5 +1,6 @@
--- The pair that the third part takes at an edge is the first that a tight set parts: the search takes the first pair of a list that passes
--- its test, the list is in lexicographic order, and the test says what the words say.
+-- The pair that the third part takes at an edge is the first that a tight set parts: the search
+-- takes the first pair of a list that passes its test, the list is in lexicographic order, and
+-- the test says what the words say.
 use Rattle.std.proofs.Common.{◌≡◌, ℕ, ◌⊎◌, true, Option, Some, None, refl, ap, ap₂, inl, inr, arith}
 use Rattle.std.proofs.lemmas.Bool.{both_ways, cases_lt, false_from_ne_true}
 use Rattle.counting.specs.Counts.{Within}

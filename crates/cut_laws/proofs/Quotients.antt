@@ -1,5 +1,6 @@
--- A leaf and its quotient: a set of blocks is the set of the vertices in them, so no set of blocks is tight and nontrivial in the quotient
--- exactly where no union of blocks is at the partition. And each graph is bipartite or not, since its sets can be looked through.
+-- A leaf and its quotient: a set of blocks is the set of the vertices in them, so no set of
+-- blocks is tight and nontrivial in the quotient exactly when no union of blocks is at the
+-- partition. And each graph is bipartite or not, since its sets can be looked through.
 use Rattle.std.proofs.Common.{◌≡◌, ℕ, not, ◌&&◌, ◌||◌, List, length, sym, ap, ap₂, ◌∙◌, subst, inl, inr, ◌⊎◌}
 use Rattle.std.proofs.lemmas.Bool.{both_ways}
 use Rattle.std.specs.Prelude.{All}

@@ -1,5 +1,5 @@
--- The paths to the nodes of a tree, listed down the tree: first the path that ends at the root, then those that go to `kept`, and then
--- those that go to `merged`.
+-- The paths to the nodes of a tree, listed down the tree: first the path that ends at the root,
+-- then those that go to `kept`, and then those that go to `merged`.
 use Rattle.std.proofs.Common.{◌≡◌, ℕ, ◌+◌, List, [], ◌∷◌, ◌++◌, length, map, refl, sym, ap, ap₂, ◌∙◌, subst, inl, inr, ◌⊎◌, arith}
 use Rattle.std.proofs.lemmas.List.{length-append, length-map}
 use Rattle.std.specs.List.{AllZip}
@@ -83,7 +83,8 @@ below-kept ks ms a i = in-left (Kept ∷ a) (behind Kept ks) (behind Merged ms) 
 below-merged : (ks ms : List (List Side)) (a : List Side) → IsIn a ms → IsIn (Merged ∷ a) (below ks ms)
 below-merged ks ms a i = in-right (Merged ∷ a) (behind Kept ks) (behind Merged ms) (in-behind Merged ms a i)
 
--- the paths to the nodes of a cut of which P holds, where the root is none of them, and where it is one
+-- the paths to the nodes of a cut of which P holds, where the root is none of them, and where it
+-- is one
 lists-below : (P : List Side → Type 0) (ks ms : List (List Side)) → (P [] → ⊥) → ListsPaths ks (λ a. P (Kept ∷ a)) → ListsPaths ms (λ a. P (Merged ∷ a)) → ListsPaths (below ks ms) P
 lists-below P ks ms none k m = record {
   order = below-order ks ms k.order m.order;
@@ -127,7 +128,7 @@ lists-one P here none = record {
     found [] h = inl refl
     found (side ∷ a) h = absurd (none side a h)
 
--- what two lists have place by place, in a row and behind one more step
+-- what two lists have place by place, in a row and after one more step
 zip-append : {A B : Type 0} (R : A → B → Type 0) (xs ys : List A) (us vs : List B) → AllZip R xs us → AllZip R ys vs → AllZip R (xs ++ ys) (us ++ vs)
 zip-append R [] ys [] vs h k = k
 zip-append R [] ys (u ∷ us) vs h k = absurd h
@@ -174,7 +175,7 @@ node_paths-lists n p (cut x k m) =
     lists-root (λ path. (q : List (List ℕ)) × (s : Shape) × LeadsTo n path p (cut x k m) q s) (node_paths k) (node_paths m) (p, cut x k m, (refl, refl))
     (node_paths-lists n (kept_at n p x) k) (node_paths-lists n (merged_at n p x) m)
 
--- a leaf is no cut
+-- a leaf is not a cut
 leaf-cut : (x : List ℕ) (k m : Shape) → cut x k m ≡ leaf → ⊥
 leaf-cut x k m e = cc
 

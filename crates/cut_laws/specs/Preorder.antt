@@ -4,7 +4,8 @@ use Rattle.counting.specs.Lists.{IsIn}
 use Rattle.tree_core.specs.declared.path.Side.{Side}
 use Rattle.tree_core.specs.declared.path.Side.TheVariants.{Kept, Merged}
 
--- a comes before b in preorder: b goes on where a ends, or a goes to `kept` and b to `merged` where they part
+-- a comes before b in preorder: b goes on where a ends, or a goes to `kept` and b to `merged`
+-- where they part
 abbrev pub IsEarlier : List Side → List Side → Type 0
 IsEarlier [] [] = ⊥
 IsEarlier [] (side ∷ b) = Unit {0}
@@ -14,7 +15,7 @@ IsEarlier (Kept ∷ a) (Merged ∷ b) = Unit {0}
 IsEarlier (Merged ∷ a) (Kept ∷ b) = ⊥
 IsEarlier (Merged ∷ a) (Merged ∷ b) = IsEarlier a b
 
--- each path comes before all that stand behind it
+-- each path comes before all that stand after it
 abbrev pub AreInPreorder : List (List Side) → Type 0
 AreInPreorder [] = Unit {0}
 AreInPreorder (a ∷ paths) = ((b : List Side) → IsIn b paths → IsEarlier a b) × AreInPreorder paths

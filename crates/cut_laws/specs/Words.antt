@@ -1,4 +1,5 @@
--- Bricks and braces (Lovász 1987; Lucchesi and Murty, "Perfect Matchings"), and the pairs of vertices that tight sets part.
+-- Bricks and braces (Lovász 1987; Lucchesi and Murty, "Perfect Matchings"), and the pairs of
+-- vertices that tight sets part.
 use Rattle.std.specs.Prelude.{◌≢◌, ℕ, List, ◌⊎◌}
 use Rattle.counting.specs.Counts.{Within}
 use Rattle.counting.specs.Lists.{ComesBefore}
@@ -22,7 +23,8 @@ IsBrick g = IsCovered g × IsKind g kind.Brick
 abbrev pub EndsInBrickOrBrace : Graph → List (List ℕ) → Type 0
 EndsInBrickOrBrace g p = IsBrick (quotient g p) ⊎ IsBrace (quotient g p)
 
--- both vertices of the pair differ from a and b, and some tight set has a and the first of them and neither b nor the second
+-- both vertices of the pair differ from a and b, and some tight set has a and the first of them
+-- and neither b nor the second
 abbrev pub IsParted : Graph → (a b : ℕ) → ℕ × ℕ → Type 0
 IsParted g a b k = ((k.0 ≢ a) × (k.0 ≢ b)) × ((k.1 ≢ a) × (k.1 ≢ b)) × ((z : Set) × PartsTightly g a b k z)
 

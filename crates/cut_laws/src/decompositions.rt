@@ -1,4 +1,5 @@
-//! Where does a tight cut decomposition end? Each law here is the contract of a function that does nothing.
+//! Where does a tight cut decomposition end? Each law here is the contract of a function that
+//! does nothing.
 ghost use Rattle.std.specs.Prelude.{ℕ, List, ◌↔◌, All};
 ghost use Rattle.graph_core.specs.Graph.{Graph, IsGraph};
 ghost use Rattle.graph_core.specs.Partitions.{AreBlocks};
@@ -9,15 +10,15 @@ ghost use Rattle.tree_core.specs.Leaves.{leaves};
 ghost use Rattle.tree_core.specs.Shapes.{Shape, shores};
 ghost use Rattle.cut_laws.specs.Words.{EndsInBrickOrBrace};
 
-/// A partition is a leaf exactly where its quotient has no nontrivial tight cut.
+/// A partition is a leaf exactly when its quotient has no nontrivial tight cut.
 pub fn leaf_law()
     ensures { (g : Graph) (p : List (List ℕ)) → IsGraph g → AreBlocks g.order p →
         (IsLeafAt g p ↔ HasNoTightCut (quotient g p)) }
 {}
 
-/// A tight cut decomposition ends in bricks and braces (Lovász 1987): each shore of a derivation is a nontrivial tight shore of the graph
-/// itself, and the quotient at each leaf is a brace or a brick, that is a matching covered graph without nontrivial tight cut, bipartite
-/// or not.
+/// A tight cut decomposition ends in bricks and braces (Lovász 1987): each shore of a derivation
+/// is a nontrivial tight shore of the graph itself, and the quotient at each leaf is a brace or a
+/// brick, that is a matching covered graph without nontrivial tight cut, bipartite or not.
 pub fn bricks_and_braces_law()
     ensures cuts { (g : Graph) (t : Shape) → IsGraph g → IsDerivation g t →
         All (IsTightShore g) (shores t) }

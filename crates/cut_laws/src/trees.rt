@@ -1,4 +1,5 @@
-//! What are the nodes, the leaves and the cuts of a tree? The law is the contract of a function that does nothing.
+//! What are the nodes, the leaves and the cuts of a tree? The law is the contract of a function
+//! that does nothing.
 ghost use Rattle.std.specs.Prelude.{◌≡◌, ℕ, List, length};
 ghost use Rattle.std.specs.List.{AllZip};
 ghost use Rattle.graph_core.specs.Partitions.{singles};
@@ -7,8 +8,9 @@ ghost use Rattle.tree_core.specs.Shapes.{Shape, cut, cut_count, leaf, leaf_count
 ghost use Rattle.tree_core.specs.declared.path.Side.{Side};
 ghost use Rattle.cut_laws.specs.Preorder.{ListsPaths};
 
-/// The numbers and the lists of a tree, by the paths from its root in preorder, `kept` before `merged`: there are as many nodes, leaves and
-/// cuts as paths that lead to one, and the list of leaves and that of shores have at each place what the path of that place leads to.
+/// The numbers and the lists of a tree, by the paths from its root in preorder, `kept` before
+/// `merged`: there are as many nodes, leaves and cuts as paths that lead to one, and the list of
+/// leaves and that of shores have at each place what the path of that place leads to.
 pub fn tree_nodes_law()
     ensures nodes { (n : ℕ) (t : Shape) → (paths : List (List Side)) × (length paths ≡ node_count t)
         × ListsPaths paths (λ path. (q : List (List ℕ)) × (s : Shape) ×

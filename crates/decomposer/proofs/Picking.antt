@@ -1,5 +1,6 @@
--- Steps of a decomposition. A candidate at a partition is a cut there; where an order takes the first candidate, its shore is picked;
--- and a cut with two trees is the tree that the order picks, and a derivation, where both trees are.
+-- Steps of a decomposition. A candidate at a partition is a cut there; where an order takes the
+-- first candidate, its shore is picked; and a cut with two trees is the tree that the order
+-- picks, and a derivation, where both trees are.
 use Rattle.std.proofs.Common.{◌≡◌, ℕ, zero, suc, ◌+◌, ◌≤◌, ◌<◌, ◌^◌, List, [], ◌∷◌, length, map, All, get_or, refl, sym, ap, ◌∙◌, arith, subst, slice_get, Option, Some, true, false, ◌==◌, ◌↔◌, eqb-true, ◌*◌}
 use Rattle.std.proofs.lemmas.Bool.{both_ways}
 use Rattle.std.proofs.lemmas.List.{length-map, nil_from_length}
@@ -65,7 +66,8 @@ some-stored stored list shows some = let l = length-map stored candidate_of in l
 pub stored-length : (stored : List StoredCandidate) (list : List Candidate) (place : ℕ) → map candidate_of stored ≡ list → place < length stored → place < length list
 stored-length stored list place shows l = let a = length-map stored candidate_of in let e = ap length shows in omega arith
 
--- where an order takes the first candidate, the shore that the order of the first candidates picks is one that it picks
+-- where an order takes the first candidate, the shore that the order of the first candidates
+-- picks is one that it picks
 pub first-picked : (picks : List Candidate → ℕ → ℕ → Type 0) (g : Graph) (p : List (List ℕ)) (k : ℕ) (o : Option (List ℕ)) → ((list : List Candidate) → 0 < length list → picks list k 0) →
     IsPickedShore (NamedPicks First) g p k o → IsPickedShore picks g p k o
 first-picked picks g p k o takes is = record {

@@ -26,11 +26,13 @@ pub record PicksBalanced (list : List Candidate) (place : ℕ) : Type 0 where
   pub shows : map candidate_of stored ≡ list
   pub balanced : IsBalanced stored place
 
--- the answer counts as the place: it is the place where it is one of so many, and else the place is the first
+-- the answer counts as the place: it is the place where it is one of so many, and else the place
+-- is the first
 abbrev pub CountsAs : (answer places place : ℕ) → Type 0
 CountsAs answer places place = ((answer < places) × (place ≡ answer)) ⊎ ((places ≤ answer) × (place ≡ 0))
 
--- a call of the function on these candidates and this number of cuts may answer what counts as this place
+-- a call of the function on these candidates and this number of cuts may answer what counts as
+-- this place
 pub record PicksAsked (post : Bor (List StoredCandidate) → ℕ → ℕ → Type 0) (list : List Candidate) (cuts place : ℕ) : Type 0 where
   pub shown : Bor (List StoredCandidate)
   pub shows : map candidate_of shown.now ≡ list

@@ -1,5 +1,5 @@
--- The orders of choice that have names, and those of lists of picks: which candidate each picks at a node, of the list of candidates
--- there, with so many cuts before the node in preorder.
+-- The orders of choice that have names, and those of lists of picks: which candidate each picks
+-- at a node, of the list of candidates there, with so many cuts before the node in preorder.
 use Rattle.std.specs.Prelude.{◌≡◌, ℕ, ◌-◌, ◌%◌, List, length, slice_index_or, codes, if◌then◌else◌}
 use Rattle.std.specs.declared.option.Option.{Option}
 use Rattle.std.specs.declared.option.Option.TheVariants.{Some, None}
@@ -22,7 +22,8 @@ NamedPicks First list cuts place = place ≡ 0
 NamedPicks Last list cuts place = place ≡ length list - 1
 NamedPicks Balanced list cuts place = PicksBalanced list place
 
--- the number that a list of picks has for the node behind so many cuts, modulo the number of candidates; 0 where it has none
+-- the number that a list of picks has for the node after so many cuts, modulo the number of
+-- candidates; 0 where it has none
 abbrev pub scripted_place : List ℕ → (cuts candidates : ℕ) → ℕ
 scripted_place picks cuts candidates = slice_index_or picks cuts 0 % candidates
 

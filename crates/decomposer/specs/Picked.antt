@@ -1,4 +1,5 @@
--- The tree that an order picks from a graph (Lovász 1987: any order leads to the same leaves, up to multiplicities of edges).
+-- The tree that an order picks from a graph (Lovász 1987: any order leads to the same leaves, up
+-- to multiplicities of edges).
 use Rattle.std.specs.Prelude.{◌≡◌, ℕ, ◌+◌, List, [], Option, Some, None, slice_get}
 use Rattle.graph_core.specs.Graph.{Graph}
 use Rattle.graph_core.specs.Partitions.{singles}
@@ -11,15 +12,17 @@ use Rattle.tree_core.specs.Derivations.{IsCutAt, IsLeafAt, kept_at, merged_at}
 abbrev pub PicksShore : (List Candidate → ℕ → ℕ → Type 0) → List Candidate → ℕ → List ℕ → Type 0
 PicksShore picks list k x = (place : ℕ) × (c : Candidate) × picks list k place × (slice_get list place ≡ Some c) × (c.shore ≡ x)
 
--- the shore of the candidate that is picked at p with k cuts before it, a cut there; none, and p is a leaf, where there is no candidate
+-- the shore of the candidate that is picked at p with k cuts before it, a cut there; none, and p
+-- is a leaf, where there is no candidate
 pub record IsPickedShore (picks : List Candidate → ℕ → ℕ → Type 0) (g : Graph) (p : List (List ℕ)) (k : ℕ) (shore : Option (List ℕ)) : Type 0 where
   pub none : shore ≡ None → candidates_at g p ≡ []
   pub leaf : shore ≡ None → IsLeafAt g p
   pub picked : (x : List ℕ) → shore ≡ Some x → PicksShore picks (candidates_at g p) k x
   pub cut : (x : List ℕ) → shore ≡ Some x → IsCutAt g p x
 
--- the tree that is picked at p, with k cuts before it in preorder: a leaf if and only if no candidate is there, else the cut of the
--- picked candidate, with the `kept` tree before the `merged` one
+-- the tree that is picked at p, with k cuts before it in preorder: a leaf if and only if no
+-- candidate is there, else the cut of the picked candidate, with the `kept` tree before the
+-- `merged` one
 abbrev pub IsPickedAt : (List Candidate → ℕ → ℕ → Type 0) → Graph → List (List ℕ) → ℕ → Shape → Type 0
 IsPickedAt picks g p k leaf = candidates_at g p ≡ []
 IsPickedAt picks g p k (cut x kept merged) =

@@ -5,11 +5,12 @@ ghost use Rattle.decomposer.specs.Choices.{PicksAsked};
 use crate::orders::Order;
 use tight_cuts::Candidate;
 
-/// A function that answers a place in a list of candidates, given how many cuts stand before the node in preorder.
+/// A function that answers a place in a list of candidates, given how many cuts stand before the
+/// node in preorder.
 pub type Function = Box<dyn Fn(&[Candidate], usize) -> usize + Drop>;
 
-/// The order of a function, as a closure that owns what it captures. An answer that is not a place in the list counts as the first
-/// place.
+/// The order of a function, as a closure that owns what it captures. An answer that is not a
+/// place in the list counts as the first place.
 #[derive(Drop)]
 pub struct ByFunction {
     pub function: Function,
@@ -18,7 +19,8 @@ pub struct ByFunction {
 }
 
 impl ByFunction {
-    /// The order that asks the function, which may be called with each nonempty list. Takes no memory.
+    /// The order that asks the function, which may be called with each nonempty list. Takes no
+    /// memory.
     pub fn new(function: Function) -> ByFunction
         requires { (list : _) (cuts : ℕ) → 0 < length list.now → Function.pre function list cuts }
         ensures { result.function ≡ function }

@@ -35,9 +35,10 @@ pub enum Refused {
     Memory,
 }
 
-/// The tree of tight cuts that `order` picks from `g`. At the node with k cuts before it in preorder the order is asked with the
-/// candidates there and with k; the node is the cut of the candidate that it picks, and a leaf if and only if there is none.
-/// `NotCovered` comes if and only if `g` is not matching covered, with the first reason.
+/// The tree of tight cuts that `order` picks from `g`. At the node with k cuts before it in
+/// preorder the order is asked with the candidates there and with k; the node is the cut of the
+/// candidate that it picks, and a leaf if and only if there is none. `NotCovered` comes if and
+/// only if `g` is not matching covered, with the first reason.
 pub fn decompose<O: Order>(alloc: Global, g: &MultiGraph, order: &O) -> Result<Tree, Refused>
     ensures derivation { IfOk result (λ tree. IsDerivation g.now (shape_of tree)) }
     ensures picked { IfOk result (λ tree. IsPicked (O.picks order.now) g.now (shape_of tree)) }
@@ -77,7 +78,8 @@ fn cut_tree(alloc: Global, shore: VSet, kept: Tree, merged: Tree) -> Result<Tree
     })
 }
 
-// The tree that the order picks at p with so many cuts before it, and the number of cuts before what follows it.
+// The tree that the order picks at p with so many cuts before it, and the number of cuts before
+// what follows it.
 #[cycle(decomposing)]
 fn decompose_at<O: Order>(
     alloc: Global,

@@ -1,12 +1,15 @@
 //! Tight cut decompositions of matching covered graphs, in any order of choice.
 //!
-//! `decompose` cuts a matching covered graph by tight cuts until no quotient has a nontrivial one. At each node it asks an `Order`
-//! for one of the candidates there: one of the orders that have names (`NamedOrder`), the order of a list of picks (`Scripted`), that
-//! of a function (`ByFunction`), or any type with an `impl Order`. The tree is a derivation of the graph (`IsDerivation` of
-//! `tree_core`) and exactly one that the order picks (`IsPicked` of `specs/Picked`), with cuts counted in preorder.
+//! `decompose` cuts a matching covered graph by tight cuts until no quotient has a nontrivial
+//! one. At each node it asks an `Order` for one of the candidates there: one of the orders that
+//! have names (`NamedOrder`), the order of a list of picks (`Scripted`), that of a function
+//! (`ByFunction`), or any type with an `impl Order`. The tree is a derivation of the graph
+//! (`IsDerivation` of `tree_core`) and exactly one that the order picks (`IsPicked` of
+//! `specs/Picked`), with cuts counted in preorder.
 //!
-//! Stands on `tight_cuts` for the candidates at a partition and on `tree_core` for trees. Source: Lovász, "Matching structure and
-//! the matching lattice" (1987); Lucchesi and Murty, "Perfect Matchings".
+//! Stands on `tight_cuts` for the candidates at a partition and on `tree_core` for trees. Source:
+//! Lovász, "Matching structure and the matching lattice" (1987); Lucchesi and Murty, "Perfect
+//! Matchings".
 #![tactic(auto)]
 
 mod by_function;

@@ -7,12 +7,14 @@ ghost use Rattle.decomposer.specs.Orders.{NamedPicks, ScriptPicks, order_named, 
 
 use tight_cuts::Candidate;
 
-/// A rule that picks one of a nonempty list of candidates, given how many cuts stand before the node in preorder.
+/// A rule that picks one of a nonempty list of candidates, given how many cuts stand before the
+/// node in preorder.
 ///
-/// That the answer is a place in the list is a clause of the trait. So whoever is lent an order uses its answer without a test, and asks
-/// for nothing.
+/// That the answer is a place in the list is a clause of the trait. So whoever is lent an order
+/// uses its answer without a test, and asks for nothing.
 pub trait Order {
-    // The order may pick, of these candidates and with so many cuts before the node, the one at this place.
+    // The order may pick, of these candidates and with so many cuts before the node, the one at
+    // this place.
     ghost picks: { Self → List Candidate → ℕ → ℕ → Type 0 };
 
     /// The place, counted from 0, of the candidate that is picked.
@@ -21,8 +23,9 @@ pub trait Order {
         ensures in_range { result < length list.now }
         ensures picks { picks self.now (map candidate_of list.now) cuts result };
 
-    /// Whether the order may pick the first candidate with so many cuts before the node, whatever the others are. Where it says so, no
-    /// other candidate is looked for, and `pick` is not asked.
+    /// Whether the order may pick the first candidate with so many cuts before the node, whatever
+    /// the others are. Where it says so, no other candidate is looked for, and `pick` is not
+    /// asked.
     fn takes_first(&self, _cuts: usize) -> bool
         ensures { IsTrue result →
             (list : _) → 0 < length list → picks self.now list _cuts 0 }
@@ -43,8 +46,8 @@ impl<'a, O: Order> Order for &'a O {
     }
 }
 
-/// The orders that have names: at each node the first candidate is picked, the last, or the first of those whose sides differ least in
-/// size.
+/// The orders that have names: at each node the first candidate is picked, the last, or the first
+/// of those whose sides differ least in size.
 #[derive(Clone, Copy, Debug, PartialEq, Eq)]
 pub enum NamedOrder {
     First,
@@ -98,8 +101,9 @@ fn balanced_place(list: &[Candidate]) -> usize
     best
 }
 
-/// The order of a list of picks: at the node with k cuts before it the number at place k, counted from 0, is taken modulo the number of
-/// candidates; past the end of the list the first candidate is picked.
+/// The order of a list of picks: at the node with k cuts before it the number at place k, counted
+/// from 0, is taken modulo the number of candidates; past the end of the list the first candidate
+/// is picked.
 #[derive(Clone, Copy)]
 pub struct Scripted<'a> {
     pub picks: &'a [u32],

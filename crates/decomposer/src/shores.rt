@@ -1,4 +1,5 @@
-//! The cut of a node: the candidate that an order picks. Where the order takes the first one, no other is looked for.
+//! The cut of a node: the candidate that an order picks. Where the order takes the first one, no
+//! other is looked for.
 ghost use Rattle.std.specs.Prelude.{◌≡◌, IfOk};
 ghost use Rattle.graph_core.specs.Covered.{IsCovered};
 ghost use Rattle.graph_core.specs.Quotients.{quotient};
@@ -12,7 +13,8 @@ use std::alloc::{AllocError, Global};
 use tight_cuts::{candidates_at, first_candidate_at};
 use vset_core::VSet;
 
-/// The shore of the candidate at `p` that the order picks, with so many cuts before it; none if and only if there is no candidate.
+/// The shore of the candidate at `p` that the order picks, with so many cuts before it; none if
+/// and only if there is no candidate.
 pub(crate) fn picked_shore<O: Order>(
     alloc: Global,
     g: &MultiGraph,

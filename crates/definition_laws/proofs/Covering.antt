@@ -1,5 +1,6 @@
--- Each vertex outside the removed set is in exactly one listed component, and each vertex of a covered graph in exactly one listed class.
--- The list of the least vertices holds the one that stands for it, and holds it once.
+-- Each vertex outside the removed set is in exactly one listed component, and each vertex of a
+-- covered graph in exactly one listed class. The list of the least vertices holds the one that
+-- stands for it, and holds it once.
 use Rattle.std.proofs.Common.{◌≡◌, ℕ, suc, ◌<◌, true, false, List, [], ◌∷◌, length, map, refl, sym, ap, ◌∙◌, arith, inl, inr, ◌&&◌, ◌==◌, not, eqb-true, nat_lt, lt-ltb, ltb-true}
 use Rattle.std.proofs.lemmas.Bool.{and_from, and_parts, both_ways, cases_order, false_from_ne_true, or_cases, true≢false, not-true}
 use Rattle.std.proofs.lemmas.List.{get_or-map, length-map}
@@ -45,7 +46,8 @@ components-cover g s is v w out =
     let l = leader g s is v w out in
     any_mapped (λ u. rising_list g.order (joined g s u)) (rising_list g.order (is_least g s)) l.0 v (rising_holds g.order (is_least g s) l.0 l.1 l.2) (rising_holds g.order (joined g s l.0) v w (walk_joined g s is l.0 v l.1 l.3))
 
--- each vertex of a covered graph is in a class of the list: the least vertex equivalent to it is the least of its class
+-- each vertex of a covered graph is in a class of the list: the least vertex equivalent to it is
+-- the least of its class
 pub classes-cover : (g : Graph) → IsGraph g → IsCovered g → (a : ℕ) → Within g.order a → Any (λ (c : List ℕ). mem c a ≡ true) (classes g)
 unfolding classes
 classes-cover g is cov a w =

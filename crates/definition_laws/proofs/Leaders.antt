@@ -1,5 +1,6 @@
--- The components by least vertex are the components: each vertex is joined to exactly one least vertex.
--- The test for a least vertex looks at the vertices below it, and the lists are those of the test for a walk.
+-- The components by least vertex are the components: each vertex is joined to exactly one least
+-- vertex. The test for a least vertex looks at the vertices below it, and the lists are those of
+-- the test for a walk.
 use Rattle.std.proofs.Common.{◌≡◌, ℕ, ◌≤◌, ◌<◌, true, false, ap, ◌∙◌, sym, arith, ◌&&◌, not, nat_lt, lt-ltb, ltb-true, inl, inr, refl}
 use Rattle.std.proofs.lemmas.Bool.{and_parts, and_from, both_ways, cases_order, false_from_ne_true, not-true}
 use Rattle.std.proofs.lemmas.List.Elements.{All-map}

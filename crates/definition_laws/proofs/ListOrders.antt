@@ -1,5 +1,6 @@
--- The lists of components and of classes stand by their least vertices: each is the list of what belongs to its least vertex, and the
--- least vertices stand in rising order. The odd lists are counted at these vertices.
+-- The lists of components and of classes stand by their least vertices: each is the list of what
+-- belongs to its least vertex, and the least vertices stand in rising order. The odd lists are
+-- counted at these vertices.
 use Rattle.std.proofs.Common.{◌≡◌, ℕ, zero, suc, ◌+◌, Bool, true, false, cond, ◌&&◌, ◌∷◌, [], List, length, map, refl, sym, ap, ◌∙◌, arith, inl, inr, nat_lt, lt-ltb, subst, ◌≤◌}
 use Rattle.std.proofs.lemmas.Bool.{and_from, both_ways, cases_order, false_from_ne_true, not-true, true≢false}
 use Rattle.std.proofs.lemmas.List.{map-append}

@@ -1,5 +1,6 @@
--- The test for a matching with so many edges is true exactly where there is one.
--- Like the tests for perfect matchings it searches through all edge sets, and its condition goes by the edge numbers alone.
+-- The test for a matching with so many edges is true exactly when there is one. Like the tests
+-- for perfect matchings it searches through all edge sets, and its condition goes by the edge
+-- numbers alone.
 use Rattle.std.proofs.Common.{◌≡◌, ℕ, true, ◌==◌, ap, ap₂, ◌&&◌, eq-eqb, eqb-true}
 use Rattle.std.proofs.lemmas.Bool.{and_from, and_parts}
 use Rattle.counting.proofs.Choice.{set_found, some_set_found}

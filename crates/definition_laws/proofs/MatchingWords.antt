@@ -1,5 +1,6 @@
--- Matchings by degrees are matchings in the words of a textbook: no edge has an end in the removed set, each vertex is met once.
--- A degree is a sum of ends over the edges, so an edge with an end at a vertex of degree 1 is its only one, and the other way round.
+-- Matchings by degrees are matchings in the words of a textbook: no edge has an end in the
+-- removed set, each vertex is met once. A degree is a sum of ends over the edges, so an edge with
+-- an end at a vertex of degree 1 is its only one, and the other way round.
 use Rattle.std.proofs.Common.{◌≡◌, ℕ, ◌*◌, ◌≤◌, ◌≢◌, Bool, true, false, refl, sym, ap, ◌∙◌, arith, inl, inr, eq-eqb, ne_eqb}
 use Rattle.std.proofs.lemmas.Bool.{cases_eq, true≢false}
 use Rattle.counting.proofs.Totals.{total_at, total_none}

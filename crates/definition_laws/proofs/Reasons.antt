@@ -1,5 +1,6 @@
--- A graph is matching covered or there is a reason why not, never both, and no two reasons.
--- Each reason denies a part of being covered and asserts the parts before it; each part is decided, and each graph has a Berge set.
+-- A graph is matching covered or there is a reason why not, never both, and no two reasons. Each
+-- reason denies a part of being covered and asserts the parts before it; each part is decided,
+-- and each graph has a Berge set.
 use Rattle.std.proofs.Common.{◌≡◌, ℕ, suc, zero, ◌+◌, ◌≤◌, ◌⊎◌, ◌||◌, inl, inr, refl, sym, ap, ap₂, ◌∙◌, arith, List, nat_le, leb-true, subst}
 use Rattle.std.proofs.lemmas.Bool.{cases_Bool, cases_eq, leb-false}
 use Rattle.barrier_kit.proofs.ClassLaw.{perfect_or_not}

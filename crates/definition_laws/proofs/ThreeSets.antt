@@ -1,5 +1,5 @@
--- Each vertex is in exactly one of the Gallai-Edmonds sets D, A and C.
--- Whether some maximum matching misses a vertex is decided, and so is whether a vertex is adjacent to such a one.
+-- Each vertex is in exactly one of the Gallai-Edmonds sets D, A and C. Whether some maximum
+-- matching misses a vertex is decided, and so is whether a vertex is adjacent to such a one.
 use Rattle.std.proofs.Common.{◌≡◌, ℕ, true, ◌⊎◌, inl, inr, arith}
 use Rattle.std.proofs.lemmas.Bool.{both_ways, cases_Bool}
 use Rattle.counting.proofs.Tests.{scan}

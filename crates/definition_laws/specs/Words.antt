@@ -1,5 +1,5 @@
--- The words of a textbook for what graph_core defines by degrees, counts and tests. The laws of this crate say that they agree.
--- Any textbook (Lovász and Plummer, "Matching Theory").
+-- The words of a textbook for what graph_core defines by degrees, counts and tests. The laws of
+-- this crate say that they agree. Any textbook (Lovász and Plummer, "Matching Theory").
 use Rattle.std.specs.Prelude.{◌≡◌, ◌≢◌, ◌<◌, ◌⊎◌, ◌↔◌, ℕ, true, false, List, [], length}
 use Rattle.counting.specs.Counts.{Within}
 use Rattle.counting.specs.Lists.{mem, ComesBefore, IsRisingIn}
@@ -31,7 +31,8 @@ without_berge (Parted a b) = Parted a b
 without_berge (Unmatched berge) = Unmatched []
 without_berge (Unallowed edge) = Unallowed edge
 
--- c is a component of g without s: a rising list of the vertices that walks join to one of them, outside s
+-- c is a component of g without s: a rising list of the vertices that walks join to one of them,
+-- outside s
 abbrev pub IsComponent : Graph → Set → List ℕ → Type 0
 IsComponent g s c = IsRisingIn g.order c × ((u : ℕ) × Within g.order u × (s u ≡ false) × (mem c u ≡ true) × ((v : ℕ) → Within g.order v → ((mem c v ≡ true) ↔ Joined g s u v)))
 

@@ -1,5 +1,6 @@
--- What does a stage with an ear match? The odd edges of an ear meet each of its vertices once, and the even ones each but its two
--- ends; so a perfect matching of the stage with the even edges is one of the new stage, and only the odd edges are left to ask.
+-- What does a stage with an ear match? The odd edges of an ear meet each of its vertices once,
+-- and the even ones each but its two ends; so a perfect matching of the stage with the even edges
+-- is one of the new stage, and only the odd edges are left to ask.
 use Rattle.std.proofs.Common.{◌≡◌, ℕ, ◌+◌, ◌≤◌, Bool, true, false, ◌==◌, refl, sym, ap, ◌∙◌, arith, ◌||◌, eq-eqb, ne_eqb, ◌⊎◌, inl, inr, subst, ◌++◌, List}
 use Rattle.std.proofs.lemmas.Bool.{cases_eq, cases_Bool, both_ways, true≢false, false_from_ne_true, or_left, or_right, or_parts, or_cases, or_from}
 use Rattle.counting.proofs.Lists.{times_mem}

@@ -1,4 +1,5 @@
--- Ears of bipartite graphs. An ear has its ends on opposite sides, since its length is odd; so it serves, and single ears do.
+-- Ears of bipartite graphs. An ear has its ends on opposite sides, since its length is odd; so it
+-- serves, and single ears do.
 use Rattle.std.proofs.Common.{◌≡◌, ℕ, Bool, true, false, cond, ◌==◌, refl, sym, ap, ap₂, ◌∙◌, arith, ◌&&◌, ◌||◌, not, eq-eqb, ne_eqb, eqb-true, inl, inr, [], ◌∷◌, List, length}
 use Rattle.std.proofs.lemmas.Bool.{cases_eq, cases_Bool, and_parts, and_from, true≢false, or_cases}
 use Rattle.barrier_kit.proofs.Matched.{perfect_congr}

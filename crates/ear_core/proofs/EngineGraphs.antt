@@ -1,5 +1,6 @@
--- The edges of a stage in a graph of their own. The degree by rank is the degree in g, so a perfect matching of the listed edges is one of
--- the graph of the stage; and an edge lies in one where its two ends may be left out.
+-- The edges of a stage in a graph of their own. The degree by rank is the degree in g, so a
+-- perfect matching of the listed edges is one of the graph of the stage; and an edge lies in one
+-- where its two ends may be left out.
 use Rattle.std.proofs.Common.{◌≡◌, ℕ, suc, zero, ◌+◌, ◌*◌, ◌≢◌, Bool, true, false, cond, ◌==◌, refl, sym, ap, ◌∙◌, arith, ◌&&◌, not, eq-eqb, ne_eqb, eqb-true, inl, inr, [], ◌∷◌, ◌++◌, length, ◌↔◌}
 use Rattle.counting.proofs.Booleans.{same_tests}
 use Rattle.std.proofs.lemmas.Bool.{cases_eq, or_right, cases_Bool, and_parts, true_from_ne_false, and_from, both_ways, false_from_ne_true, not-true, or_left, or_cases, or_parts, or_from}

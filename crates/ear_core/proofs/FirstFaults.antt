@@ -1,5 +1,5 @@
--- What the code's tests of an ear say of the definitions: the first test that fails, the vertices met by marks, and inner vertices
--- that are free.
+-- What the code's tests of an ear say of the definitions: the first test that fails, the vertices
+-- met by marks, and inner vertices that are free.
 use Rattle.std.proofs.Common.{◌≡◌, ℕ, suc, true, false, ◌==◌, refl, sym, ap, ap₂, ◌∙◌, arith, ◌&&◌, ◌||◌, not, eq-eqb, ne_eqb, Some, None, [], ◌∷◌, List, length, All, subst, inl, inr}
 use Rattle.counting.proofs.Booleans.{same_tests}
 use Rattle.std.proofs.lemmas.Bool.{and_parts, and_from, both_ways, or_cases, or_left, or_right, false_from_ne_true, true≢false}
@@ -74,7 +74,7 @@ free-length inner taken (x ∷ common) is =
 pub new-behind : (f : Set) (ds : List ℕ) (e : ℕ) (rest others : List ℕ) → rest ≡ e ∷ others → f e ≡ false → mem ds e ≡ false → has_new_edges f ds rest ≡ has_new_edges f ds others
 new-behind f ds e rest others begins h k = ap (has_new_edges f ds) begins ∙ rw (h, k) refl
 
--- what holds of all items holds of the first one, and of those behind it
+-- what holds of all items holds of the first one, and of those after it
 pub first-item : (P : ℕ → Type 0) (e : ℕ) (rest others : List ℕ) → rest ≡ e ∷ others → All P rest → P e
 first-item P e rest others begins all = subst (All P) begins all 0 0 (omega arith)
 

@@ -1,5 +1,5 @@
--- One edge is a stage: its two ends are joined, and it is itself the perfect matching. And the edges of steps that are taken are more
--- and more: each step adds one.
+-- One edge is a stage: its two ends are joined, and it is itself the perfect matching. And the
+-- edges of steps that are taken are more and more: each step adds one.
 use Rattle.std.proofs.Common.{◌≡◌, ℕ, ◌+◌, ◌≤◌, Bool, true, false, ◌==◌, refl, sym, ap, ◌∙◌, arith, ◌&&◌, ◌||◌, eq-eqb, ne_eqb, eqb-true, ◌⊎◌, inl, inr, subst, [], ◌∷◌, List, length}
 use Rattle.std.proofs.lemmas.Bool.{cases_eq, and_from, true≢false, or_left, or_right, or_cases}
 use Rattle.counting.proofs.Counts.{count_more}

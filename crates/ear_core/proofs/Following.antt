@@ -1,4 +1,5 @@
--- The walk along two perfect matchings as the code makes it: the edges are appended one by one, and the vertices used are those passed.
+-- The walk along two perfect matchings as the code makes it: the edges are appended one by one,
+-- and the vertices used are those passed.
 use Rattle.std.proofs.Common.{◌≡◌, ℕ, suc, zero, ◌+◌, ◌≤◌, Bool, true, false, cond, ◌==◌, ◌||◌, not, refl, sym, ap, ◌∙◌, arith, subst, List, [], ◌∷◌, ◌++◌, drop, Some}
 use Rattle.std.specs.Prelude.{slice_get}
 use Rattle.std.proofs.Math.Path.{fun_ext}
@@ -21,7 +22,7 @@ use Rattle.ear_core.proofs.Mates.{AreMates}
 use Rattle.ear_core.proofs.MatedPaths.{path_ends, path_goes_on, passed_too, next_is_clear, fewer_left}
 use Rattle.ear_core.proofs.Rounds.{with_trail, one-more, none-left, passed-too, left-clear, path-mated}
 
--- the row at place i decides, or those behind it
+-- the row at place i decides, or those after it
 row-behind : (rows : List MatchRow) (i : ℕ) (row : MatchRow) (v : ℕ) → slice_get rows i ≡ Some row → row_edge (drop i rows) v ≡ cond (row.a == v || row.b == v) row.edge (row_edge (drop (suc i) rows) v)
 row-behind [] i row v is = cc
 row-behind (r ∷ rows) zero row v is = let e : r ≡ row = cc in ap (λ (r : MatchRow). cond (r.a == v || r.b == v) r.edge (row_edge rows v)) e

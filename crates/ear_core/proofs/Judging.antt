@@ -1,5 +1,6 @@
--- The answer to a list of steps, step by step: what is answered of the steps behind one that is taken is answered of all. And the answer
--- to a list is right both ways, since a list of steps has no refusal or leads not to all edges.
+-- The answer to a list of steps, step by step: what is answered of the steps after one that is
+-- taken is answered of all. And the answer to a list is right both ways, since a list of steps
+-- has no refusal or leads not to all edges.
 use Rattle.std.proofs.Common.{◌≡◌, ◌↔◌, ℕ, ◌+◌, ◌<◌, ◌≤◌, Bool, true, false, ◌||◌, ◌==◌, List, ◌∷◌, length, Option, Some, None, Result, IfOk, refl, sym, ap, ap₂, ◌∙◌, subst, inr}
 use Rattle.std.specs.Prelude.{slice_set, replicate}
 use Rattle.std.proofs.Math.Path.{fun_ext}

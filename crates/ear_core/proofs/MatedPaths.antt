@@ -1,5 +1,6 @@
--- Paths of two perfect matchings. From v the edges of m and n are followed in turn; the vertices passed hold their mates, so a new vertex
--- comes each time, and the path ends at a vertex of the stage.
+-- Paths of two perfect matchings. From v the edges of m and n are followed in turn; the vertices
+-- passed hold their mates, so a new vertex comes each time, and the path ends at a vertex of the
+-- stage.
 use Rattle.std.proofs.Common.{◌≡◌, ℕ, ◌+◌, ◌≤◌, ◌≢◌, Bool, true, false, ◌==◌, refl, sym, ap, ◌∙◌, arith, ◌||◌, not, eq-eqb, ne_eqb, eqb-true, ◌⊎◌, inl, inr, subst, [], ◌∷◌, List, length}
 use Rattle.std.proofs.lemmas.Bool.{cases_eq, cases_Bool, both_ways, true≢false, false_from_ne_true, not-true, or_left, or_right, or_cases}
 use Rattle.counting.proofs.Counts.{count_more}

@@ -1,5 +1,5 @@
--- The mates of a perfect matching: each vertex has one edge of it, and the other end of that edge has the same one. So a vertex is the mate
--- of its mate.
+-- The mates of a perfect matching: each vertex has one edge of it, and the other end of that edge
+-- has the same one. So a vertex is the mate of its mate.
 use Rattle.std.proofs.Common.{◌≡◌, ℕ, suc, ◌≢◌, Bool, true, false, cond, ◌==◌, refl, sym, ap, ◌∙◌, arith, ◌||◌, eq-eqb, ne_eqb, eqb-true, inl, inr, List, [], ◌∷◌, map, All}
 use Rattle.std.proofs.lemmas.Bool.{cases_eq, or_left, or_right, or_cases, true≢false}
 use Rattle.barrier_kit.proofs.Matched.{loop_free}
@@ -42,7 +42,8 @@ other_end-within g is e v w = go (first_end g e == v)
     go true = (is e w).1
     go false = (is e w).0
 
--- what is used of the edges of a perfect matching: each vertex has one, which is that of its other end too
+-- what is used of the edges of a perfect matching: each vertex has one, which is that of its
+-- other end too
 pub record AreMates (g : Graph) (m : ℕ → ℕ) : Type 0 where
   pub within : (v : ℕ) → Within g.order v → Within (size g) (m v)
   pub at : (v : ℕ) → Within g.order v → joins g (m v) v ≡ true

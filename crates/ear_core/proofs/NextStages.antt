@@ -1,5 +1,5 @@
--- Steps from a stage. Whether an edge lies in a perfect matching of a stage is decided, and the second ear of a step is an ear of the
--- stage with the first.
+-- Steps from a stage. Whether an edge lies in a perfect matching of a stage is decided, and the
+-- second ear of a step is an ear of the stage with the first.
 use Rattle.std.proofs.Common.{◌≡◌, ℕ, Bool, true, ◌==◌, arith, ◌&&◌, ◌||◌, not, inl, inr, subst, List}
 use Rattle.std.proofs.lemmas.Bool.{both_ways, false_from_ne_true, or_left, or_from}
 use Rattle.counting.specs.Counts.{Within}

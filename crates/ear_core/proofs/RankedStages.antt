@@ -1,5 +1,6 @@
--- The graph of a stage with its vertices numbered by rank; edges keep their numbers, and those off the stage are loops. It is matching
--- covered, and its perfect matchings are those of the stage. So the two-ear theorem holds for pairs of vertices of a stage.
+-- The graph of a stage with its vertices numbered by rank; edges keep their numbers, and those
+-- off the stage are loops. It is matching covered, and its perfect matchings are those of the
+-- stage. So the two-ear theorem holds for pairs of vertices of a stage.
 use Rattle.std.proofs.Common.{◌≡◌, ℕ, suc, zero, ◌+◌, ◌-◌, ◌≤◌, ◌≢◌, Bool, true, false, cond, ◌==◌, refl, sym, ap, ap₂, ◌∙◌, arith, ◌&&◌, ◌||◌, not, eq-eqb, ne_eqb, inl, inr, subst, [], ◌∷◌, ◌++◌, List, length, slice_index_or}
 use Rattle.std.proofs.lemmas.Bool.{cases_eq, cases_Bool, cases_order, and_parts, true≢false, true_from_ne_false}
 use Rattle.std.proofs.lemmas.List.{length-append, get_or_append_left, get_or-append-add}
@@ -29,8 +30,8 @@ abbrev pub tab : ℕ → (ℕ → ℕ × ℕ) → List (ℕ × ℕ)
 tab zero f = []
 tab (suc n) f = tab n f ++ f (suc n) ∷ []
 
--- the graph of the edges f, its vertices numbered by their rank among those that f meets; the edges keep their numbers, and those outside f
--- are loops at 1
+-- the graph of the edges f, its vertices numbered by their rank among those that f meets; the
+-- edges keep their numbers, and those outside f are loops at 1
 abbrev pub stage_graph : Graph → Set → Graph
 stage_graph g f = record {
   order = count g.order (is_met g f);

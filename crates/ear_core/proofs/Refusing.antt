@@ -1,5 +1,6 @@
--- A list of steps from a stage leads to all edges, or has exactly one first refusal. The tests of a step say that it is a step; then
--- only the odd edges of its ears are left to ask, and the new stage is covered exactly where no edge of it is refused.
+-- A list of steps from a stage leads to all edges, or has exactly one first refusal. The tests of
+-- a step say that it is a step; then only the odd edges of its ears are left to ask, and the new
+-- stage is covered exactly when no edge of it is refused.
 use Rattle.std.proofs.Common.{◌≡◌, ℕ, ◌+◌, Bool, true, false, if◌then◌else◌, Option, Some, None, refl, sym, ap, ◌∙◌, ◌||◌, inl, inr, [], ◌∷◌, List}
 use Rattle.std.proofs.lemmas.Bool.{both_ways}
 use Rattle.counting.proofs.Tests.{least-one}
@@ -52,7 +53,7 @@ both-none (Some why) other h = absurd (some_none why h)
 none-both : (first other : Option Why) → first ≡ None → other ≡ None → first_of first other ≡ None
 none-both first other h k = rw (h, k) refl
 
--- no test of a step fails exactly where it is a step
+-- no test of a step fails exactly when it is a step
 pub step-none : (g : Graph) (f : Set) (s : PlainStep) → step_fault g f s ≡ None → IsStep g f s
 step-none g f (one a) h = (first_passes g f a.begin a.edges).0 (passes-none g f [] [] a.begin a.edges h)
 step-none g f (two a b) h =

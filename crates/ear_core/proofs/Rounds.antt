@@ -1,6 +1,7 @@
--- The ears that two perfect matchings make at a stage. Each is an ear of the stage and no two share a vertex; each vertex of the stage that
--- the one matching leads out of it is an end of one. So the edges of this matching on the stage are a perfect matching of it without all
--- the ends.
+-- The ears that two perfect matchings make at a stage. Each is an ear of the stage and no two
+-- share a vertex; each vertex of the stage that the one matching leads out of it is an end of
+-- one. So the edges of this matching on the stage are a perfect matching of it without all the
+-- ends.
 use Rattle.std.proofs.Common.{◌≡◌, ℕ, suc, zero, ◌+◌, ◌≤◌, Bool, true, false, ◌==◌, refl, sym, ap, ◌∙◌, arith, ◌&&◌, ◌||◌, not, eq-eqb, ne_eqb, eqb-true, inl, inr, subst, [], ◌∷◌, List}
 use Rattle.std.proofs.lemmas.Bool.{cases_eq, cases_Bool, and_parts, and_from, both_ways, true≢false, false_from_ne_true, not-true, not-false, or_left, or_right, or_parts, or_cases}
 use Rattle.counting.proofs.Lists.{times_mem}

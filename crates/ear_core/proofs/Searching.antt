@@ -1,5 +1,6 @@
--- The search for ears that serve: what is found or not among the ears behind the first one and what of that one make what is found or not
--- among all. Behind the search one ear serves or two do.
+-- The search for ears that serve: what is found or not among the ears after the first one and
+-- what of that one make what is found or not among all. After the search one ear serves or two
+-- do.
 use Rattle.std.proofs.Common.{◌≡◌, ℕ, ◌+◌, ◌≤◌, true, ◌==◌, ◌||◌, ◌⊎◌, ◌↔◌, inl, inr, refl, sym, ap, ◌∙◌, arith, subst, eq-eqb, List, [], ◌∷◌, Option, Some, None, Result, Ok, Err, IfOk, IfSome, IfNone, All, get_or}
 use Rattle.std.specs.List.{AllByRecursion}
 use Rattle.counting.proofs.RisingLists.{mem-item}

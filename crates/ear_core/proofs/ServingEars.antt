@@ -1,5 +1,6 @@
--- Ears whose ends serve. Where the stage has a perfect matching without the ends of an ear, the odd edges of the ear complete it to one of
--- the new stage, so each of its edges lies in one; two ears whose ends serve together are added one after the other.
+-- Ears whose ends serve. Where the stage has a perfect matching without the ends of an ear, the
+-- odd edges of the ear complete it to one of the new stage, so each of its edges lies in one; two
+-- ears whose ends serve together are added one after the other.
 use Rattle.std.proofs.Common.{◌≡◌, ℕ, true, false, ◌==◌, refl, sym, ◌∙◌, ◌||◌, eqb-true, inl, inr, subst, List}
 use Rattle.std.proofs.lemmas.Bool.{cases_Bool, true≢false, or_left, or_right, or_cases}
 use Rattle.counting.specs.Lists.{mem}

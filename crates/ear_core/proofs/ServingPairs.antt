@@ -1,4 +1,5 @@
--- Of the candidates for a step one serves or two do, by the two-ear theorem on the graph of the stage, and then it is a step to a stage.
+-- Of the candidates for a step one serves or two do, by the two-ear theorem on the graph of the
+-- stage, and then it is a step to a stage.
 use Rattle.std.proofs.Common.{◌≡◌, ◌≢◌, ℕ, ◌+◌, ◌≤◌, Bool, true, false, ◌==◌, refl, sym, ap, ap₂, arith, ◌||◌, eq-eqb, eqb-true, inl, inr, subst, [], ◌∷◌, List}
 use Rattle.std.proofs.lemmas.Bool.{false_from_ne_true, or_left, or_right, or_cases}
 use Rattle.counting.specs.Counts.{bit}

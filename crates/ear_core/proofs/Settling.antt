@@ -1,4 +1,5 @@
--- The edges of the ears of a step, asked one by one: what an answer of the engine says of an edge, and what is known behind it.
+-- The edges of the ears of a step, asked one by one: what an answer of the engine says of an
+-- edge, and what is known after it.
 use Rattle.std.proofs.Common.{◌≡◌, ◌≢◌, ℕ, ◌<◌, ◌≤◌, arith, eqb-true, inl, inr, Bool, true, false, ◌==◌, refl, sym, ap, ap₂, ◌∙◌, ◌&&◌, ◌||◌, not, Some, None, Option, Result, Ok, Err, IfOk, ◌∷◌, List, subst, ◌↔◌}
 use Rattle.std.proofs.lemmas.Bool.{or_cases, true≢false}
 use Rattle.counting.specs.Counts.{Within}

@@ -1,5 +1,6 @@
--- The builder step by step. An edge off the stage leads out of it as long as one is left; a step of ears that hold the mates of their
--- vertices keeps this of the stage; and steps that go on from a stage make a list with those before.
+-- The builder step by step. An edge off the stage leads out of it as long as one is left; a step
+-- of ears that hold the mates of their vertices keeps this of the stage; and steps that go on
+-- from a stage make a list with those before.
 use Rattle.std.proofs.Common.{◌≡◌, ℕ, ◌+◌, ◌≤◌, Bool, true, false, cond, ◌==◌, refl, sym, ap, ◌∙◌, arith, ◌&&◌, ◌||◌, not, eq-eqb, inl, inr, subst, [], ◌∷◌, ◌++◌, List, Result, Ok, Err, IfOk, length}
 use Rattle.std.proofs.Math.Path.{fun_ext}
 use Rattle.std.proofs.lemmas.List.{append_assoc}
@@ -167,7 +168,7 @@ module _ (g : Graph) (f new : Set) (s : PlainStep) (same : (i : ℕ) → new i �
       let c = count_complement (size g) f in
       let d = count_complement (size g) new in omega arith
 
--- behind a single step
+-- after a single step
 pub all-single : (before : List PlainStep) (s : PlainStep) → AllByRecursion IsSingle before → IsSingle s → AllByRecursion IsSingle (before ++ s ∷ [])
 all-single [] s singles single = (single, tt)
 all-single (x ∷ before) s singles single = (singles.0, all-single before s singles.1 single)

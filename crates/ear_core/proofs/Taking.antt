@@ -1,4 +1,5 @@
--- A step whose tests pass and whose edges are all allowed makes a stage; the least of its edges that is not allowed is that of the stage.
+-- A step whose tests pass and whose edges are all allowed makes a stage; the least of its edges
+-- that is not allowed is that of the stage.
 use Rattle.std.proofs.Common.{◌≡◌, ℕ, true, false, List, All, get_or, Option, Some, None, IfSome, ◌∙◌, subst, inl, inr}
 use Rattle.std.proofs.Math.Path.{fun_ext}
 use Rattle.std.proofs.lemmas.Bool.{cases_Bool, or_left, or_right, or_parts, or_from, both_ways, false_from_ne_true}
@@ -38,7 +39,7 @@ pub second_fits : (n m : ℕ) (first : Ear) (second : Option Ear) → FitsStep n
 second_fits n m first None fits = tt
 second_fits n m first (Some b) fits = let other_fits = fits.1 in other_fits.1
 
--- an edge of no ear is no odd one
+-- an edge of no ear is not an odd one
 odds-asked : (s : PlainStep) (d : ℕ) → next_stage none s d ≡ false → step_odds s d ≡ false
 odds-asked (one a) d h = false_from_ne_true (mem (odds a.edges) d) (λ t. both_ways (mem a.edges d) h (mem_odds a.edges d t))
 odds-asked (two a b) d h =

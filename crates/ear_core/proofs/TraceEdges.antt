@@ -1,5 +1,6 @@
--- How often do the edges of a trace meet a vertex? The odd ones meet each vertex of the trace once, and the even ones each but
--- its two ends; the degree of a list of different edges is the number of their ends.
+-- How often do the edges of a trace meet a vertex? The odd ones meet each vertex of the trace
+-- once, and the even ones each but its two ends; the degree of a list of different edges is the
+-- number of their ends.
 use Rattle.std.proofs.Common.{◌≡◌, ℕ, suc, zero, ◌+◌, ◌*◌, ◌≤◌, Bool, true, false, cond, ◌==◌, refl, sym, ap, ap₂, arith, ◌||◌, not, eq-eqb, ne_eqb, eqb-true, ◌⊎◌, inl, inr, subst, [], ◌∷◌, List, length}
 use Rattle.std.proofs.lemmas.Bool.{cases_eq, cases_Bool, true≢false, false_from_ne_true, not-false, or_left, or_right, or_cases}
 use Rattle.counting.proofs.Totals.{total_congr, total_add, total_le, total_none}

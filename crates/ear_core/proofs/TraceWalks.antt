@@ -1,4 +1,5 @@
--- Is a trace a walk? Yes, by its edges from the start to each of its vertices; and a walk by some edges is one by more.
+-- Is a trace a walk? Yes, by its edges from the start to each of its vertices; and a walk by some
+-- edges is one by more.
 use Rattle.std.proofs.Common.{◌≡◌, ℕ, true, false, cond, ◌==◌, refl, sym, ap, ap₂, ◌∙◌, ◌&&◌, ◌||◌, eq-eqb, ne_eqb, eqb-true, inl, inr, [], ◌∷◌, List}
 use Rattle.std.proofs.lemmas.Bool.{cases_eq, and_parts, and_from, true≢false, or_left, or_right, or_cases}
 use Rattle.counting.proofs.Tests.{true_some, some_true}

@@ -1,5 +1,6 @@
--- Ears that two perfect matchings make. From a vertex of the stage that the one matching leads out of the stage its edges and those of the
--- other are followed in turn, until a vertex of the stage comes again.
+-- Ears that two perfect matchings make. From a vertex of the stage that the one matching leads
+-- out of the stage its edges and those of the other are followed in turn, until a vertex of the
+-- stage comes again.
 use Rattle.std.specs.Prelude.{◌≡◌, ◌≢◌, ◌⊎◌, ◌≤◌, ℕ, true, false, List, [], ◌∷◌, ◌++◌, ◌==◌, ◌&&◌, ◌||◌, not, cond, length}
 use Rattle.counting.specs.Counts.{Within, is_odd}
 use Rattle.counting.specs.Lists.{IsIn, mem, times}
@@ -31,7 +32,8 @@ mate g m v = other_end g (m v) v
 abbrev pub KeepsMates : Graph → (ℕ → ℕ) → Set → Type 0
 KeepsMates g n t = (w : ℕ) → Within g.order w → t w ≡ true → t (mate g n w) ≡ true
 
--- the edges es lead from v by edges of m and n in turn to the first vertex of t, off the vertices of z
+-- the edges es lead from v by edges of m and n in turn to the first vertex of t, off the vertices
+-- of z
 pub record IsAlternating (g : Graph) (t : Set) (m n : ℕ → ℕ) (z : Set) (v : ℕ) (es : List ℕ) : Type 0 where
   pub follow : Follow g v es
   pub odd : is_odd (length es) ≡ true
@@ -78,7 +80,8 @@ abbrev pub AreApart : Graph → List PlainEar → Type 0
 AreApart g ears =
     (a b : PlainEar) → IsIn a ears → IsIn b ears → (a ≡ b) ⊎ ((w : ℕ) → mem (trail g a.begin a.edges) w ≡ true → mem (trail g b.begin b.edges) w ≡ true → ⊥)
 
--- the ears that m and n make off the vertices of z: each vertex of f off z that m leads out of f is an end of one
+-- the ears that m and n make off the vertices of z: each vertex of f off z that m leads out of f
+-- is an end of one
 pub record AreMatedEars (g : Graph) (f : Set) (m n : ℕ → ℕ) (z : Set) (ears : List PlainEar) : Type 0 where
   pub each : (a : PlainEar) → IsIn a ears → IsMatedEar g f m n a
   pub avoid : (a : PlainEar) → IsIn a ears → (w : ℕ) → mem (trail g a.begin a.edges) w ≡ true → z w ≡ false

@@ -1,5 +1,6 @@
--- Ear lists (Lovász and Plummer, "Matching Theory"), over plain data: the first stage is one edge, each step adds one ear or two
--- to a matching covered stage so that the next is matching covered, and the last stage holds all edges.
+-- Ear lists (Lovász and Plummer, "Matching Theory"), over plain data: the first stage is one
+-- edge, each step adds one ear or two to a matching covered stage so that the next is matching
+-- covered, and the last stage holds all edges.
 use Rattle.std.specs.Prelude.{◌≡◌, ◌<◌, ℕ, true, List, [], ◌∷◌, All, length}
 use Rattle.std.specs.List.{AllByRecursion}
 use Rattle.counting.specs.Counts.{Within}
@@ -23,7 +24,7 @@ pub record PlainEars : Type 0 where
   pub start : ℕ
   pub steps : List PlainStep
 
--- the stage behind a step
+-- the stage after a step
 abbrev pub next_stage : Set → PlainStep → Set
 next_stage f (one a) = with_edges f a.edges
 next_stage f (two a b) = with_edges (with_edges f a.edges) b.edges

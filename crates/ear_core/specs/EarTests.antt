@@ -1,4 +1,5 @@
--- The five tests of an ear, in their order, and the first that it fails. They look at lists and at marks alone.
+-- The five tests of an ear, in their order, and the first that it fails. They look at lists and
+-- at marks alone.
 use Rattle.std.specs.Prelude.{◌≡◌, ℕ, Bool, true, false, List, [], ◌∷◌, ◌==◌, nat_le, ◌&&◌, ◌||◌, not, length, Option, Some, None, if◌then◌else◌}
 use Rattle.counting.specs.Counts.{is_odd}
 use Rattle.counting.specs.Sets.{Set}
@@ -47,7 +48,8 @@ abbrev pub is_empty : List ℕ → Bool
 is_empty [] = true
 is_empty (x ∷ xs) = false
 
--- the first test: there are edges, they follow one another from v, and no vertex comes twice other than the last equal to the first
+-- the first test: there are edges, they follow one another from v, and no vertex comes twice
+-- other than the last equal to the first
 abbrev pub is_path : Graph → ℕ → List ℕ → Bool
 is_path g v es = not (is_empty es) && (follows g v es && (not (repeats (v ∷ inner_vertices g v es)) && not (mem (inner_vertices g v es) (last_vertex g v es))))
 
@@ -59,7 +61,8 @@ has_odd_length es = is_odd (length es)
 abbrev pub has_good_ends : Graph → Set → ℕ → List ℕ → Bool
 has_good_ends g f v es = is_met g f v && (is_met g f (last_vertex g v es) && not (v == last_vertex g v es))
 
--- the fourth: no inner vertex is on the stage f or among xs, the inner vertices of the step's first ear
+-- the fourth: no inner vertex is on the stage f or among xs, the inner vertices of the step's
+-- first ear
 abbrev pub has_free_inner : Graph → Set → List ℕ → ℕ → List ℕ → Bool
 has_free_inner g f xs v es = no_member (λ w. is_met g f w || mem xs w) (inner_vertices g v es)
 

@@ -1,4 +1,5 @@
--- Ears of a stage f: paths of odd length outside f between two vertices of f, no inner vertex of which f meets.
+-- Ears of a stage f: paths of odd length outside f between two vertices of f, no inner vertex of
+-- which f meets.
 use Rattle.std.specs.Prelude.{◌≡◌, ◌≢◌, ℕ, ◌≤◌, true, false, List, [], ◌∷◌, ◌==◌, ◌||◌, cond, length}
 use Rattle.counting.specs.Counts.{Within, is_odd}
 use Rattle.counting.specs.Sets.{Set}
@@ -10,7 +11,8 @@ use Rattle.ear_core.specs.Stages.{is_met}
 abbrev pub other_end : Graph → ℕ → ℕ → ℕ
 other_end g e v = cond (first_end g e == v) (second_end g e) (first_end g e)
 
--- the edges follow one another from v: each is an edge of g, and is at the vertex where those before it end
+-- the edges follow one another from v: each is an edge of g, and is at the vertex where those
+-- before it end
 abbrev pub Follow : Graph → ℕ → List ℕ → Type 0
 Follow g v [] = Unit {0}
 Follow g v (e ∷ es) = (Within (size g) e × ((first_end g e == v || second_end g e == v) ≡ true)) × Follow g (other_end g e v) es
@@ -35,7 +37,8 @@ pub record IsEar (g : Graph) (f : Set) (v : ℕ) (es : List ℕ) : Type 0 where
   pub inner : (w : ℕ) → mem (trail g v es) w ≡ true → w ≢ v → w ≢ last_vertex g v es → is_met g f w ≡ false
   pub new : (e : ℕ) → mem es e ≡ true → f e ≡ false
 
--- two ears of f without a common inner vertex and without a common edge: a vertex of both is one that f meets
+-- two ears of f without a common inner vertex and without a common edge: a vertex of both is one
+-- that f meets
 pub record IsEarPair (g : Graph) (f : Set) (v : ℕ) (es : List ℕ) (w : ℕ) (ds : List ℕ) : Type 0 where
   pub first : IsEar g f v es
   pub second : IsEar g f w ds

@@ -1,5 +1,6 @@
--- The first refusal of an ear list: at each step the tests of its first ear and then of its second one, then whether the new stage is
--- matching covered; behind the last step whether edges are left.
+-- The first refusal of an ear list: at each step the tests of its first ear and then of its
+-- second one, then whether the new stage is matching covered; after the last step whether edges
+-- are left.
 use Rattle.std.specs.Prelude.{◌≡◌, ◌⊎◌, ℕ, ◌+◌, true, List, [], ◌∷◌, Option, Some, None}
 use Rattle.counting.specs.Sets.{Set, singleton}
 use Rattle.counting.specs.Tests.{IsLeastWithout}
@@ -29,14 +30,16 @@ IsStepRefused g f s why =
     (step_fault g f s ≡ Some why)
     ⊎ ((step_fault g f s ≡ None) × ((e : ℕ) × IsLeastUnallowed g (next_stage f s) e × (why ≡ stage_not_covered e)))
 
--- k steps were made and lead to f: the first refusal of those that follow, by the number of its step and its reason
+-- k steps were made and lead to f: the first refusal of those that follow, by the number of its
+-- step and its reason
 abbrev pub IsFirstRefusal : Graph → Set → ℕ → List PlainStep → ℕ → Why → Type 0
 IsFirstRefusal g f k [] number why = (number ≡ k) × ((e : ℕ) × IsLeastWithout (size g) (λ d. f d ≡ true) e × (why ≡ ends_early e))
 IsFirstRefusal g f k (s ∷ steps) number why =
     ((number ≡ k + 1) × IsStepRefused g f s why)
     ⊎ ((step_fault g f s ≡ None) × IsStage g (next_stage f s) × IsFirstRefusal g (next_stage f s) (k + 1) steps number why)
 
--- what is answered of steps that follow k others: nothing where they lead to all edges, else their first refusal
+-- what is answered of steps that follow k others: nothing where they lead to all edges, else
+-- their first refusal
 abbrev pub IsJudged : Graph → Set → ℕ → List PlainStep → Option (ℕ × Why) → Type 0
 IsJudged g f k steps None = AreSteps g f steps
 IsJudged g f k steps (Some refusal) = IsFirstRefusal g f k steps refusal.0 refusal.1

@@ -1,5 +1,5 @@
--- The graph that the engine is asked about: the vertices of g with the edges of a stage alone, which get numbers of their own in the
--- order of those in g.
+-- The graph that the engine is asked about: the vertices of g with the edges of a stage alone,
+-- which get numbers of their own in the order of those in g.
 use Rattle.std.specs.Prelude.{◌≡◌, ◌<◌, ◌≤◌, ℕ, zero, suc, true, List, [], ◌∷◌, ◌++◌, ◌||◌, ◌==◌, cond, Option, Some, None}
 use Rattle.counting.specs.Counts.{Within}
 use Rattle.counting.specs.Sets.{Set}
@@ -11,7 +11,8 @@ abbrev pub listed : Graph → Set → ℕ → List (ℕ × ℕ)
 listed g f zero = []
 listed g f (suc k) = cond (f (suc k)) (listed g f k ++ (first_end g (suc k), second_end g (suc k)) ∷ []) (listed g f k)
 
--- of the edges of `asked` none below the least known one lies in no perfect matching of the graph of f; that one does
+-- of the edges of `asked` none below the least known one lies in no perfect matching of the graph
+-- of f; that one does
 abbrev pub Settled : Graph → Set → Set → Option ℕ → Type 0
 Settled g f asked None = (e : ℕ) → Within (size g) e → asked e ≡ true → AllowedBy g f e
 Settled g f asked (Some d) =

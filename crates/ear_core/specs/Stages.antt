@@ -1,5 +1,6 @@
--- Stages: the graph of a set F of edges of G has these edges and the vertices that they meet. Edges and vertices keep the numbers
--- that they have in G (Lovász and Plummer, "Matching Theory", chapter 5).
+-- Stages: the graph of a set F of edges of G has these edges and the vertices that they meet.
+-- Edges and vertices keep the numbers that they have in G (Lovász and Plummer, "Matching Theory",
+-- chapter 5).
 use Rattle.std.specs.Prelude.{◌≡◌, ℕ, Bool, true, false, List, ◌==◌, not, ◌&&◌, ◌||◌}
 use Rattle.counting.specs.Counts.{Within}
 use Rattle.counting.specs.Sets.{Set}
@@ -16,7 +17,8 @@ is_met g f v = not (degree g f v == 0)
 abbrev pub adjacent_by : Graph → Set → ℕ → ℕ → Bool
 adjacent_by g f u v = some (size g) (λ e. f e && has_ends g u v e)
 
--- m is a perfect matching of the graph of f: it lies inside f, and one of its edges is at each vertex that f meets
+-- m is a perfect matching of the graph of f: it lies inside f, and one of its edges is at each
+-- vertex that f meets
 pub record IsPerfectOf (g : Graph) (f : Set) (m : Set) : Type 0 where
   pub part : (e : ℕ) → Within (size g) e → m e ≡ true → f e ≡ true
   pub once : (v : ℕ) → Within g.order v → is_met g f v ≡ true → degree g m v ≡ 1
@@ -31,7 +33,8 @@ pub record IsPerfectOff (g : Graph) (f : Set) (r : Set) (m : Set) : Type 0 where
 abbrev pub AllowedBy : Graph → Set → ℕ → Type 0
 AllowedBy g f e = (m : Set) × IsPerfectOf g f m × (m e ≡ true)
 
--- the graph of f is matching covered: it has an edge, is connected, and each of its edges lies in a perfect matching
+-- the graph of f is matching covered: it has an edge, is connected, and each of its edges lies in
+-- a perfect matching
 pub record IsStage (g : Graph) (f : Set) : Type 0 where
   pub some_edge : (e : ℕ) × Within (size g) e × (f e ≡ true)
   pub connected : (u v : ℕ) → Within g.order u → Within g.order v → is_met g f u ≡ true → is_met g f v ≡ true → (ws : List ℕ) × Walk (adjacent_by g f) u ws v

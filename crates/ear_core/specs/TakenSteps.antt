@@ -8,7 +8,8 @@ use Rattle.ear_core.specs.Stages.{IsStage}
 use Rattle.ear_core.specs.View.{why_of}
 use Rattle.ear_core.specs.declared.judgement.EarWhy.{EarWhy}
 
--- the step is refused on the stage f for the reason that is answered, or it leads to the stage `new`
+-- the step is refused on the stage f for the reason that is answered, or it leads to the stage
+-- `new`
 abbrev pub IsTaken : Graph → Set → PlainStep → Set → Option EarWhy → Type 0
 IsTaken g f s new (Some why) = IsStepRefused g f s (why_of why)
 IsTaken g f s new None = (step_fault g f s ≡ None) × IsStage g (next_stage f s) × ((i : ℕ) → new i ≡ next_stage f s i)

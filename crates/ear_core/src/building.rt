@@ -23,10 +23,11 @@ use match_core::{Matching, perfect_without};
 use std::alloc::{AllocError as Memory, Global};
 use vset_core::VSet;
 
-/// An ear list of a matching covered graph, from its edge 1; each step has one ear where the graph is bipartite. One perfect matching
-/// is kept. At each stage another one that holds an edge leading out of it makes ears together with the kept one, of which one is
-/// added that keeps the stage matching covered, else two. The numbers of the list are in range and no ear is empty. `Memory` is want of
-/// memory alone. Lovász and Plummer, "Matching Theory", section 5.4.
+/// An ear list of a matching covered graph, from its edge 1; each step has one ear where the
+/// graph is bipartite. One perfect matching is kept. At each stage another one that holds an edge
+/// leading out of it makes ears together with the kept one, of which one is added that keeps the
+/// stage matching covered, else two. The numbers of the list are in range and no ear is empty.
+/// `Memory` is want of memory alone. Lovász and Plummer, "Matching Theory", section 5.4.
 pub fn build_ears(alloc: Global, g: &MultiGraph) -> Result<EarList, Memory>
     requires { IsCovered g.now }
     ensures list { IfOk result (λ list. IsEarList g.now (ears_of list)) }
@@ -44,7 +45,8 @@ pub fn build_ears(alloc: Global, g: &MultiGraph) -> Result<EarList, Memory>
     Ok(EarList { start: 1, steps })
 }
 
-// Steps from the stage of the marked edges to all edges. The stage holds the mates of its vertices by the kept matching.
+// Steps from the stage of the marked edges to all edges. The stage holds the mates of its
+// vertices by the kept matching.
 fn steps_from(
     alloc: Global,
     g: &MultiGraph,
@@ -112,7 +114,8 @@ fn leaving_edge(g: &MultiGraph, mark: &[bool]) -> Option<u32>
     None
 }
 
-// A step from the stage of the marked edges, which holds the mates of its vertices by the kept matching. An edge leads out of it.
+// A step from the stage of the marked edges, which holds the mates of its vertices by the kept
+// matching. An edge leads out of it.
 fn next_step(
     alloc: Global,
     g: &MultiGraph,

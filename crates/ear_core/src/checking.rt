@@ -17,9 +17,11 @@ use crate::steps::take_step;
 use graph_core::MultiGraph;
 use std::alloc::{AllocError as Memory, Global};
 
-/// Whether `list` is an ear list of `g`, and where it is none its first refusal: steps are numbered from 1, and at a step its first
-/// ear is tested by 1 to 5 of `EarWhy` in order, then its second ear likewise, then its new stage. Its numbers are a vertex and edges
-/// of `g`. `Memory` is want of memory alone. The ear lists of a matching covered graph are those of Lovász and Plummer.
+/// Whether `list` is an ear list of `g`, and where it is none its first refusal: steps are
+/// numbered from 1, and at a step its first ear is tested by 1 to 5 of `EarWhy` in order, then
+/// its second ear likewise, then its new stage. Its numbers are a vertex and edges of `g`.
+/// `Memory` is want of memory alone. The ear lists of a matching covered graph are those of
+/// Lovász and Plummer.
 pub fn check_ears(alloc: Global, g: &MultiGraph, list: &EarList) -> Result<EarJudgement, Memory>
     requires { FitsEars g.now.order (size g.now) (ears_of list.now) }
     ensures accepted { IfOk result
@@ -77,7 +79,7 @@ fn least_left(g: &MultiGraph, mark: &[bool]) -> Option<u32>
     None
 }
 
-// What is answered behind the last step, from the stage of the marked edges.
+// What is answered after the last step, from the stage of the marked edges.
 fn judge_end(g: &MultiGraph, mark: &[bool], number: u32) -> EarJudgement
     requires { length mark.now ≡ size g.now + 1 }
     ensures { IsJudged g.now (marks mark.now) number [] (refusal_of result) }

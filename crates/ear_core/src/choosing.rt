@@ -19,7 +19,8 @@ use match_core::perfect_without;
 use std::alloc::{AllocError as Memory, Global};
 use vset_core::VSet;
 
-/// The graph of a stage as the matching engine is asked about it: on all vertices, beside those off the stage.
+/// The graph of a stage as the matching engine is asked about it: on all vertices, beside those
+/// off the stage.
 #[derive(Drop)]
 pub struct Asked {
     pub stage: MultiGraph,
@@ -133,8 +134,9 @@ fn double_step(
     double_step(alloc, g, asked, others)
 }
 
-/// A step of candidates on the stage of the marked edges, which meets the vertices `met`: the first ear that serves alone, else the
-/// first two that serve together. One or two do, by the two-ear theorem.
+/// A step of candidates on the stage of the marked edges, which meets the vertices `met`: the
+/// first ear that serves alone, else the first two that serve together. One or two do, by the
+/// two-ear theorem.
 pub fn choose(
     alloc: Global,
     g: &MultiGraph,

@@ -24,7 +24,8 @@ pub struct Step {
 /// A list of steps.
 pub type Steps = Listed<Step>;
 
-/// A list of ears: the edge of the first stage, and the steps. Contracts see it by its plain data (`specs/View`).
+/// A list of ears: the edge of the first stage, and the steps. Contracts see it by its plain data
+/// (`specs/View`).
 #[derive(Drop)]
 pub struct EarList {
     /// The edge that is the first stage.

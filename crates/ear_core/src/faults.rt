@@ -82,8 +82,9 @@ fn is_odd(n: usize) -> bool
     n % 2 == 1
 }
 
-/// The path that an ear is, or the first test that it fails on the stage of the marked edges, which meets the vertices `met`,
-/// beside the inner vertices and the edges of the first ear of its step.
+/// The path that an ear is, or the first test that it fails on the stage of the marked edges,
+/// which meets the vertices `met`, beside the inner vertices and the edges of the first ear of
+/// its step.
 pub fn tested(
     g: &MultiGraph,
     mark: &[bool],

@@ -1,10 +1,11 @@
 //! What a check of an ear list answers.
 
-/// Why a step is refused: the first of these that applies, the tests of the step's first ear coming before those of its second.
+/// Why a step is refused: the first of these that applies, the tests of the step's first ear
+/// coming before those of its second.
 #[derive(Clone, Copy)]
 pub enum EarWhy {
-    /// An ear has no edges, or its edges do not follow one another from its first vertex, or a vertex comes twice other than the
-    /// last equal to the first.
+    /// An ear has no edges, or its edges do not follow one another from its first vertex, or a
+    /// vertex comes twice other than the last equal to the first.
     NotPath,
     /// The number of its edges is even.
     EvenLength,
@@ -14,7 +15,8 @@ pub enum EarWhy {
     InnerOnStage,
     /// An edge is on that stage, or in the step's first ear.
     EdgeUsed,
-    /// The new stage is not matching covered: `edge` is the least of its edges in no perfect matching of the stage.
+    /// The new stage is not matching covered: `edge` is the least of its edges in no perfect
+    /// matching of the stage.
     StageNotCovered { edge: u32 },
     /// After the last step an edge is on no stage: `edge` is the least one.
     EndsEarly { edge: u32 },
@@ -25,7 +27,7 @@ pub enum EarWhy {
 pub enum EarJudgement {
     /// It is an ear list of the graph.
     Accepted,
-    /// It is none: `step` is the first step that is refused, counted from 1, and the number of steps where all are taken and
-    /// edges are left.
+    /// It is none: `step` is the first step that is refused, counted from 1, and the number of
+    /// steps where all are taken and edges are left.
     Refused { step: u32, why: EarWhy },
 }

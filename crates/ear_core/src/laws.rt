@@ -10,8 +10,8 @@ ghost use Rattle.ear_core.specs.Refusals.{step_fault, IsFirstRefusal};
 ghost use Rattle.ear_core.specs.Ears.{IsEar, IsEarPair};
 ghost use Rattle.ear_core.specs.EarTests.{Passes, Why, inner_vertices};
 
-/// The five tests of an ear say that it is an ear of the stage; those of the second ear of a step, that the two are ears without a
-/// common inner vertex and without a common edge.
+/// The five tests of an ear say that it is an ear of the stage; those of the second ear of a
+/// step, that the two are ears without a common inner vertex and without a common edge.
 pub fn ear_tests_law()
     ensures first { (g : Graph) (f : Set) (v : ℕ) (es : List ℕ) → Passes g f [] [] v es ↔
         IsEar g f v es }
@@ -19,8 +19,9 @@ pub fn ear_tests_law()
         IsEar g f v es → Passes g f (inner_vertices g v es) es w ds ↔ IsEarPair g f v es w ds }
 {}
 
-/// No test of a step fails exactly where it is a step of the stage; then the new stage is matching covered where each of its edges
-/// lies in a perfect matching of it. So behind the five tests a new stage can fail by an edge in no perfect matching alone.
+/// No test of a step fails exactly when it is a step of the stage; then the new stage is matching
+/// covered where each of its edges lies in a perfect matching of it. So after the five tests a
+/// new stage can fail by an edge in no perfect matching alone.
 pub fn new_stage_law()
     ensures tests { (g : Graph) (f : Set) (s : PlainStep) → (step_fault g f s ≡ None) ↔
         IsStep g f s }
@@ -29,7 +30,8 @@ pub fn new_stage_law()
         IsStage g (next_stage f s) }
 {}
 
-/// Steps that lead from a stage to all edges have no refusal, and others have one first refusal at most.
+/// Steps that lead from a stage to all edges have no refusal, and others have one first refusal
+/// at most.
 pub fn first_refusal_law()
     ensures none { (g : Graph) (f : Set) (k : ℕ) (steps : List PlainStep) (number : ℕ) (why : Why)
         → IsFirstRefusal g f k steps number why → AreSteps g f steps → ⊥ }
@@ -37,8 +39,9 @@ pub fn first_refusal_law()
         → IsFirstRefusal g f k steps i a → IsFirstRefusal g f k steps j b → (i ≡ j) × (a ≡ b) }
 {}
 
-/// A stage that holds every edge and meets every vertex is matching covered exactly where the graph is. So a graph without isolated
-/// vertices that has an ear list is matching covered (Lovász and Plummer).
+/// A stage that holds every edge and meets every vertex is matching covered exactly when the
+/// graph is. So a graph without isolated vertices that has an ear list is matching covered
+/// (Lovász and Plummer).
 pub fn whole_stage_law()
     ensures stage { (g : Graph) (f : Set) → IsMultigraph g →
         ((e : ℕ) → Within (size g) e → f e ≡ true)

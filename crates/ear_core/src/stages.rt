@@ -1,4 +1,5 @@
-//! Whether the stage of the marked edges is matching covered, which the matching engine is asked edge by edge.
+//! Whether the stage of the marked edges is matching covered, which the matching engine is asked
+//! edge by edge.
 ghost use Rattle.std.specs.Prelude.{◌≡◌, ◌+◌, ◌<◌, ◌≤◌, ◌||◌, ℕ, true, false, not, length, All, IfOk};
 ghost use Rattle.counting.specs.Counts.{Within};
 ghost use Rattle.counting.specs.Sets.{Set};
@@ -28,7 +29,8 @@ pub fn marked_graph(alloc: Global, g: &MultiGraph, mark: &[bool]) -> Result<Mult
     Ok(stage)
 }
 
-// Whether a marked edge lies in a perfect matching of the stage of the marked edges, which meets the vertices `met`.
+// Whether a marked edge lies in a perfect matching of the stage of the marked edges, which meets
+// the vertices `met`.
 fn is_allowed_by(
     alloc: Global,
     g: &MultiGraph,
@@ -53,7 +55,7 @@ fn is_allowed_by(
     }
 }
 
-// Whether the known edge is not behind `e`.
+// Whether the known edge is not after `e`.
 fn is_up_to(known: Option<u32>, e: u32) -> bool
     ensures yes { result ≡ true → IsUpTo e known }
     ensures no { result ≡ false → IsBehind e known }

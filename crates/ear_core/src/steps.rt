@@ -97,7 +97,8 @@ fn refused_edge(
     }
 }
 
-/// Takes a step on the stage of the marked edges: then its edges are marked too, or it is refused, with the reason.
+/// Takes a step on the stage of the marked edges: then its edges are marked too, or it is
+/// refused, with the reason.
 pub fn take_step(
     alloc: Global,
     g: &MultiGraph,

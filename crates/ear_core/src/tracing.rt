@@ -67,8 +67,8 @@ pub fn across(g: &MultiGraph, e: u32, v: u32) -> u32
     if ends.a == v { ends.b } else { ends.a }
 }
 
-// Appends the edges of `m` and `n` in turn from `v` to the first vertex of the stage, and answers the vertices used, with those of
-// the path. The stage meets the vertices `met`.
+// Appends the edges of `m` and `n` in turn from `v` to the first vertex of the stage, and answers
+// the vertices used, with those of the path. The stage meets the vertices `met`.
 fn trace(
     g: &MultiGraph,
     met: VSet,
@@ -122,8 +122,8 @@ fn left_vertex(g: &MultiGraph, mark: &[bool], met: VSet, m: &Matching, used: VSe
     None
 }
 
-/// Appends the ears that two perfect matchings make off the vertices used: `m` leads out of the stage of the marked edges, which
-/// meets the vertices `met`, and `n` keeps the stage.
+/// Appends the ears that two perfect matchings make off the vertices used: `m` leads out of the
+/// stage of the marked edges, which meets the vertices `met`, and `n` keeps the stage.
 pub fn collect(
     alloc: Global,
     g: &MultiGraph,

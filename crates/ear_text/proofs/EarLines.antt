@@ -6,7 +6,7 @@ use Rattle.text_faults.specs.declared.faults.FaultKind.TheVariants as kind
 use Rattle.ear_core.specs.EarLists.{PlainEar, PlainStep}
 use Rattle.ear_text.specs.EarFormat.{EarsSoFar, ear_at, ear_line, ear_tests, is_ear_line, is_either_ear_line, with_ear}
 
--- what is read behind an ear
+-- what is read after an ear
 abbrev pub behind_ear : ℕ → List PlainStep → Option PlainEar → List (List ℕ) → EarsSoFar
 behind_ear start steps last words = with_ear start steps last (is_ear_line words) (ear_at words)
 

@@ -1,5 +1,6 @@
--- What is read of a text can be written again. Along the lines of a text the numbers of the ears read so far are in range and no
--- ear is empty: each line keeps this, since it passed the tests of the table.
+-- What is read of a text can be written again. Along the lines of a text the numbers of the ears
+-- read so far are in range and no ear is empty: each line keeps this, since it passed the tests
+-- of the table.
 use Rattle.std.proofs.Common.{◌≡◌, ◌<◌, ◌==◌, ◌||◌, ◌&&◌, ◌++◌, codes, not, nat_le, if◌then◌else◌, ℕ, List, [], ◌∷◌, Bool, length, map, true, false, Option, Some, None, is_some, Result, Ok, Err, IfOk, refl, sym, ◌∙◌, ap, subst, arith}
 use Rattle.std.specs.List.{AllByRecursion, list_all, list_any}
 use Rattle.std.proofs.lemmas.Bool.{and_parts, or_parts, both_ways, not-false}
@@ -83,7 +84,7 @@ ear_line-keeps n m start steps last words next keeps same =
         subst (λ b. Keeps n m (if b then started start (closed steps last) (Some (ear_at words)) else started start (paired steps last (ear_at words)) None)) (sym is)
         (begins, keeps-paired n m steps last (ear_at words) kept ear (fits, three_words words long.0), tt)
 
--- and so does each line behind the header
+-- and so does each line after the header
 abbrev start_tests : ℕ → List (List ℕ) → List (Bool × FaultKind)
 start_tests m words =
     (not (has_form words 2 (codes "start" ∷ [])), kind.Word)

@@ -1,5 +1,6 @@
--- What is written of an ear list is read as this list. Line by line the tests of the table pass, since the numbers are in range and
--- no ear is empty; the ear that stands apart goes to the steps with the next line, or at the end.
+-- What is written of an ear list is read as this list. Line by line the tests of the table pass,
+-- since the numbers are in range and no ear is empty; the ear that stands apart goes to the steps
+-- with the next line, or at the end.
 use Rattle.std.proofs.Common.{◌≡◌, ◌<◌, ◌==◌, ◌&&◌, ◌^◌, ◌++◌, codes, nat_le, ℕ, List, [], ◌∷◌, All, Bool, length, map, true, false, Option, Some, None, Ok, refl, sym, ◌∙◌, ap, subst, arith, append_assoc}
 use Rattle.std.specs.List.{AllByRecursion, list_all}
 use Rattle.std.specs.Fmt.{decimal}

@@ -15,7 +15,7 @@ ear_text-line old text new keyword edges [] v none same is =
     let whole : text ≡ old ++ unwords words = sym (same ∙ append-nil text) ∙ ap (λ t. old ++ t) (sym (unwords-spaced keyword (map decimal (v ∷ edges)))) in
     is ∙ ap (λ t. t ++ 10 ∷ []) whole ∙ append_assoc old (unwords words) (10 ∷ [])
 
--- the lines of two ears, one behind the other
+-- the lines of two ears, one after the other
 pub pair_lines : (old first second : List ℕ) (a b : PlainEar) → first ≡ old ++ written (ear_words (codes "ear") a ∷ []) → second ≡ first ++ written (ear_words (codes "with") b ∷ []) → second ≡ old ++ written (step_words (two a b ∷ []))
 pair_lines old first second a b is_first is_second =
     is_second ∙ ap (λ t. t ++ written (ear_words (codes "with") b ∷ [])) is_first

@@ -1,6 +1,7 @@
--- The ear format for a graph of n vertices and m edges: a header `r mcg N M`, a line `start E`, and for each step a line
--- `ear V E1 E2 ..`, which a line `with V E1 E2 ..` may follow directly, the second ear of the step. V is the vertex where the ear
--- begins, and the edges follow in order.
+-- The ear format for a graph of n vertices and m edges: a header `r mcg N M`, a line `start E`,
+-- and for each step a line `ear V E1 E2 ..`, which a line `with V E1 E2 ..` may follow directly,
+-- the second ear of the step. V is the vertex where the ear begins, and the edges follow in
+-- order.
 use Rattle.std.specs.Prelude.{ℕ, ◌==◌, ◌&&◌, ◌||◌, not, nat_le, Bool, List, [], ◌∷◌, ◌++◌, length, map, codes, Option, Some, None, is_some, Result, Ok, Err, if◌then◌else◌}
 use Rattle.std.specs.List.{list_all, list_any}
 use Rattle.line_text.specs.Format.{Rules, checked}
@@ -11,13 +12,13 @@ use Rattle.text_faults.specs.declared.faults.FaultKind.{FaultKind}
 use Rattle.text_faults.specs.declared.faults.FaultKind.TheVariants as kind
 use Rattle.ear_core.specs.EarLists.{PlainEar, PlainStep, one, two, PlainEars}
 
--- what has been read: the header alone, or also the edge of the first stage and further lines. The last ear stands apart as long
--- as a line `with` may follow it.
+-- what has been read: the header alone, or also the edge of the first stage and further lines.
+-- The last ear stands apart as long as a line `with` may follow it.
 pub data EarsSoFar : Type 0 where
   headed : EarsSoFar
   started : (start : ℕ) (steps : List PlainStep) (last : Option PlainEar) → EarsSoFar
 
--- the words behind the second
+-- the words after the second
 abbrev pub behind_two : List (List ℕ) → List (List ℕ)
 behind_two [] = []
 behind_two (word ∷ []) = []
@@ -54,7 +55,7 @@ ears_header n m words =
     ∷ [])
     headed
 
--- the line behind the header
+-- the line after the header
 abbrev pub start_line : ℕ → List (List ℕ) → Result EarsSoFar FaultKind
 start_line m words =
     checked ((not (has_form words 2 (codes "start" ∷ [])), kind.Word)
@@ -85,12 +86,12 @@ ear_line n m start steps last words =
     checked ((not (is_either_ear_line (is_some last) words), kind.Word) ∷ ear_tests n m words)
     (with_ear start steps last (is_ear_line words) (ear_at words))
 
--- a significant line behind the header
+-- a significant line after the header
 abbrev pub line_behind : ℕ → ℕ → EarsSoFar → List (List ℕ) → Result EarsSoFar FaultKind
 line_behind n m headed words = start_line m words
 line_behind n m (started start steps last) words = ear_line n m start steps last words
 
--- the end of the text may come behind the line `start`
+-- the end of the text may come after the line `start`
 abbrev pub ears_end : EarsSoFar → Result PlainEars FaultKind
 ears_end headed = Err kind.Missing
 ears_end (started start steps last) = Ok (record { start = start; steps = closed steps last })

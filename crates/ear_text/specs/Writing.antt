@@ -13,7 +13,7 @@ header_words n m = codes "r" ∷ codes "mcg" ∷ decimal n ∷ decimal m ∷ []
 abbrev pub start_words : ℕ → List (List ℕ)
 start_words e = codes "start" ∷ decimal e ∷ []
 
--- the words of the line of an ear behind its keyword
+-- the words of the line of an ear after its keyword
 abbrev pub ear_words : List ℕ → PlainEar → List (List ℕ)
 ear_words keyword a = keyword ∷ decimal a.begin ∷ map decimal a.edges
 
@@ -23,8 +23,8 @@ step_words [] = []
 step_words (one a ∷ steps) = ear_words (codes "ear") a ∷ step_words steps
 step_words (two a b ∷ steps) = ear_words (codes "ear") a ∷ ear_words (codes "with") b ∷ step_words steps
 
--- the text of an ear list for a graph of n vertices and m edges: one space between words, a line feed behind each line, numbers in
--- decimal
+-- the text of an ear list for a graph of n vertices and m edges: one space between words, a line
+-- feed after each line, numbers in decimal
 unfoldable pub ears_text : ℕ → ℕ → PlainEars → List ℕ
 ears_text n m list = written (header_words n m ∷ start_words list.start ∷ step_words list.steps)
 

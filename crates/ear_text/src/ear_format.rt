@@ -76,7 +76,7 @@ fn is_with(words: &[&[u8]]) -> bool
     words.len() >= 3 && has_form(words, words.len(), &["with"])
 }
 
-// The words behind the second.
+// The words after the second.
 fn behind_two<'a, 'b>(words: &'a [&'b [u8]]) -> &'a [&'b [u8]]
     ensures { texts_of result.now ≡ behind_two (texts_of words.now) }
 {
@@ -96,14 +96,15 @@ fn copied(alloc: Global, items: &[u32]) -> Result<Numbers, Memory>
     Ok(list)
 }
 
-// Whether these are the words of an ear: a step's first one, or a second one behind an ear that stands apart.
+// Whether these are the words of an ear: a step's first one, or a second one after an ear that
+// stands apart.
 fn is_either_ear(stands_apart: bool, words: &[&[u8]]) -> bool
     ensures { result ≡ is_either_ear_line stands_apart (texts_of words.now) }
 {
     is_ear(words) || (stands_apart && is_with(words))
 }
 
-// The ear that a line tells behind its first word.
+// The ear that a line tells after its first word.
 fn ear_told(format: &EarFormat, words: &[&[u8]]) -> Result<Ear, Refusal<FaultKind>>
     ensures ear { IfOk result (λ ear. ear_of ear ≡ ear_at (texts_of words.now)) }
     ensures tests { (so_far : EarsSoFar) → Gives (λ _. so_far) result
@@ -145,7 +146,7 @@ fn with_ear(
     })
 }
 
-// A line behind that of the first stage.
+// A line after that of the first stage.
 fn read_ear(
     format: &EarFormat,
     start: u32,
@@ -211,9 +212,9 @@ impl LineFormat for EarFormat {
     }
 }
 
-/// Reads an ear list for a graph of `n` vertices and `m` edges: the list that the bytes stand for, or the first line outside the
-/// format with the kind of its fault. All numbers of the list are in range, and no ear is empty. Want of memory may come at any
-/// time.
+/// Reads an ear list for a graph of `n` vertices and `m` edges: the list that the bytes stand
+/// for, or the first line outside the format with the kind of its fault. All numbers of the list
+/// are in range, and no ear is empty. Want of memory may come at any time.
 pub fn read_ears(alloc: Global, bytes: &[u8], n: u32, m: u32) -> Result<EarList, TextFault>
     requires { length bytes.now < 2 ^ 32 - 1 }
     ensures fits { IfOk result (λ list. FitsEars n m (ears_of list)) }

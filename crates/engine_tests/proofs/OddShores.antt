@@ -1,5 +1,5 @@
--- A set is an odd shore where the tests say so: it is a part of the vertices, and its size leaves 1 when divided by 2.
--- The remainder says what the definition by steps of one says.
+-- A set is an odd shore where the tests say so: it is a part of the vertices, and its size leaves
+-- 1 when divided by 2. The remainder says what the definition by steps of one says.
 use Rattle.std.proofs.Common.{◌≡◌, ℕ, ◌==◌, ◌%◌, List, true, ◌∙◌, ◌↔◌}
 use Rattle.counting.proofs.Odd.{is_odd_remainder}
 use Rattle.counting.proofs.RisingLists.{all_in_true, set-narrower}

@@ -1,4 +1,5 @@
-//! Decompositions in several orders, and the graphs of their leaves, for the tests that need a derivation.
+//! Decompositions in several orders, and the graphs of their leaves, for the tests that need a
+//! derivation.
 ghost use Rattle.std.specs.Prelude.{◌≡◌, ◌<◌, ℕ, length, IfOk, Some};
 ghost use Rattle.tree_core.specs.Derivations.{IsDerivation};
 ghost use Rattle.tree_core.specs.View.{shape_of};
@@ -18,7 +19,8 @@ pub enum Choice {
     Named(NamedOrder),
     /// The order of a list of picks, with one for the root: the candidate at place 2, of three.
     Scripted,
-    /// The order of a function that answers a place past the end of the list. So the first candidate is picked.
+    /// The order of a function that answers a place past the end of the list. So the first
+    /// candidate is picked.
     PastTheEnd,
 }
 

@@ -1,4 +1,5 @@
-//! Two derivations of the cycle of eight vertices: compared, their moves made again, and a shore exposed.
+//! Two derivations of the cycle of eight vertices: compared, their moves made again, and a shore
+//! exposed.
 ghost use Rattle.tree_core.specs.Derivations.{IsDerivation};
 ghost use Rattle.tree_core.specs.View.{shape_of};
 
@@ -92,7 +93,8 @@ fn derivations_of_the_cycle_of_eight(rt: HostRuntime) -> Result<(), Fail> {
     Ok(())
 }
 
-// Whether the root shore of a derivation is brought to the root of another, with a map for each of so many leaves.
+// Whether the root shore of a derivation is brought to the root of another, with a map for each
+// of so many leaves.
 fn root_exposed(
     alloc: Global,
     g: &MultiGraph,

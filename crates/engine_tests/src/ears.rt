@@ -9,8 +9,8 @@ use std::test::Fail;
 
 const TWINS: [(u32, u32); 2] = [(1, 2), (2, 1)];
 
-// A graph, by its order and its edges, and the number of steps of one ear and of two of the list that is built; none where it is not
-// matching covered.
+// A graph, by its order and its edges, and the number of steps of one ear and of two of the list
+// that is built; none where it is not matching covered.
 static BUILT: [(u32, &[(u32, u32)], Option<(u32, u32)>); 7] = [
     (2, &TWINS, Some((1, 0))),
     (4, &K4, Some((1, 1))),

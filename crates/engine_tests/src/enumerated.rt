@@ -1,4 +1,5 @@
-//! The quick tests for bricks and braces beside the plain enumeration of all perfect matchings and all odd sets.
+//! The quick tests for bricks and braces beside the plain enumeration of all perfect matchings
+//! and all odd sets.
 ghost use Rattle.std.specs.Prelude.{◌≤◌};
 ghost use Rattle.plain_graph.specs.Small.{IsSmall};
 
@@ -42,7 +43,8 @@ fn each_crosses_once(g: &MultiGraph, matchings: &[VSet], set: VSet) -> bool
         .all(|matching| edges_in_cut(g, *matching, set) == 1)
 }
 
-// Whether some cut of a graph of at most 8 vertices is nontrivial and tight: each has a shore without the vertex 8.
+// Whether some cut of a graph of at most 8 vertices is nontrivial and tight: each has a shore
+// without the vertex 8.
 fn has_tight_cut(alloc: Global, g: &MultiGraph) -> Result<bool, Memory>
     requires { IsSmall g.now }
 {
@@ -56,7 +58,8 @@ fn has_tight_cut(alloc: Global, g: &MultiGraph) -> Result<bool, Memory>
     Ok(false)
 }
 
-// Whether the quick test for the sort of the graph finds no nontrivial tight cut; none where it does not take the graph.
+// Whether the quick test for the sort of the graph finds no nontrivial tight cut; none where it
+// does not take the graph.
 fn is_whole(alloc: Global, g: &MultiGraph) -> Result<Option<bool>, Memory> {
     if !is_covered(alloc, g)? || g.order() < 4 {
         return Ok(None);
@@ -91,7 +94,8 @@ impl Seen {
     }
 }
 
-// What was seen before, and this graph; none where the quick test and the enumeration do not agree on it.
+// What was seen before, and this graph; none where the quick test and the enumeration do not
+// agree on it.
 fn and_graph(alloc: Global, seen: Seen, g: &MultiGraph) -> Result<Option<Seen>, Memory> {
     if !is_small(g) {
         return Ok(Some(seen));
@@ -107,7 +111,8 @@ fn and_graph(alloc: Global, seen: Seen, g: &MultiGraph) -> Result<Option<Seen>, 
     }
 }
 
-// What is seen of the graphs of all numbers below a limit; none where one is found on which the two do not agree.
+// What is seen of the graphs of all numbers below a limit; none where one is found on which the
+// two do not agree.
 fn all_below(alloc: Global, order: u32, family: Family, limit: u32) -> Result<Option<Seen>, Fail>
     requires { order ≤ 128 }
 {

@@ -1,4 +1,5 @@
-//! Worked graphs: what their components and sides are, which vertices are adjacent, whether they are simple, and what `add_edge` refuses.
+//! Worked graphs: what their components and sides are, which vertices are adjacent, whether they
+//! are simple, and what `add_edge` refuses.
 
 use crate::made::{made, set_of};
 use graph_core::{AddFault, Ends, MOST_EDGES, MultiGraph, Sides};
@@ -6,7 +7,8 @@ use plain_graph::{DOUBLED_SQUARE, HEXAGON, K4, STAR, TRIANGLE, TWO_EDGES};
 use std::alloc::Global;
 use std::test::Fail;
 
-// A graph, the number of its components, and the side of its least vertices; no side where it is not bipartite.
+// A graph, the number of its components, and the side of its least vertices; no side where it is
+// not bipartite.
 struct Row {
     order: u32,
     edges: &'static [(u32, u32)],
@@ -72,7 +74,8 @@ fn are_joined(edges: &[(u32, u32)], a: u32, b: u32) -> bool {
     edges.contains(&(a, b)) || edges.contains(&(b, a))
 }
 
-// Whether this is a closed walk of odd length over these edges, whose first vertex is not repeated at the end.
+// Whether this is a closed walk of odd length over these edges, whose first vertex is not
+// repeated at the end.
 fn is_odd_walk(edges: &[(u32, u32)], walk: &[u32]) -> bool {
     if walk.len() % 2 == 0 {
         return false;
@@ -113,7 +116,8 @@ static SIMPLE: [(u32, &[(u32, u32)], bool); 7] = [
     (4, &[(1, 2), (3, 4), (2, 3), (4, 3)], false),
 ];
 
-// Whether the graph has the ends of these edges, in their order, and two vertices are adjacent exactly where one of these joins them.
+// Whether the graph has the ends of these edges, in their order, and two vertices are adjacent
+// exactly when one of these joins them.
 fn has_edges(alloc: Global, order: u32, edges: &[(u32, u32)]) -> Result<bool, Fail> {
     let graph = made(alloc, order, edges)?;
     let mut many = 0;

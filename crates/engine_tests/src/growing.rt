@@ -1,4 +1,5 @@
-//! Generated graphs edge by edge, the sizes of larger ones, and the reference words of the random generator.
+//! Generated graphs edge by edge, the sizes of larger ones, and the reference words of the random
+//! generator.
 
 use crate::made::made;
 use graph_core::Ends;
@@ -9,8 +10,9 @@ use rand_pcg::Lcg64Xsh32;
 use std::alloc::AllocError;
 use std::test::Fail;
 
-// The edges of five pieces from the seed 7, which a second program, written from the definition of the generator, gives: the complete
-// bipartite graph, the complete graph of four vertices, the complete bipartite graph, the prism and the cube.
+// The edges of five pieces from the seed 7, which a second program, written from the definition
+// of the generator, gives: the complete bipartite graph, the complete graph of four vertices, the
+// complete bipartite graph, the prism and the cube.
 static FIVE_PIECES: [Ends; 33] = [
     Ends { a: 1, b: 11 },
     Ends { a: 1, b: 5 },

@@ -1,4 +1,5 @@
-//! Generated graphs and the leaves of their decomposition: the quick tests beside the complete finder, and their ear lists.
+//! Generated graphs and the leaves of their decomposition: the quick tests beside the complete
+//! finder, and their ear lists.
 use crate::choices::{FIRST, leaf_graphs};
 use allowed_edges::together;
 use ear_core::{EarJudgement, build_ears, check_ears};
@@ -9,7 +10,8 @@ use quick_kinds::{quick_brace, quick_brick};
 use std::alloc::{AllocError as Memory, Global};
 use tight_cuts::find_any;
 
-// Whether the graph is covered, and the quick test for its sort finds a nontrivial tight cut exactly where the finder does.
+// Whether the graph is covered, and the quick test for its sort finds a nontrivial tight cut
+// exactly when the finder does.
 fn agrees(alloc: Global, g: &MultiGraph) -> Result<bool, Memory> {
     if !is_covered(alloc, g)? {
         return Ok(false);

@@ -156,7 +156,8 @@ fn move_of(alloc: Global, step: Step) -> Move {
     }
 }
 
-// The answer to moves on the cut of a hexagon with the shore 1 2 3, and none where it is no derivation.
+// The answer to moves on the cut of a hexagon with the shore 1 2 3, and none where it is not a
+// derivation.
 fn replayed_hexagon(alloc: Global, moves: &Moves) -> Result<Option<Replayed>, Fail>
     requires { length moves.now ≤ 3 }
 {
@@ -191,7 +192,8 @@ fn is_stuck(answer: &Option<Replayed>, number: u32) -> bool {
     }
 }
 
-// Whether the result of the move of that number has a root that is not tight, by a matching of these edges.
+// Whether the result of the move of that number has a root that is not tight, by a matching of
+// these edges.
 fn is_refused_move(answer: &Option<Replayed>, number: u32, edges: &[u32]) -> bool {
     match answer {
         Some(

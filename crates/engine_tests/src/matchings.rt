@@ -1,4 +1,5 @@
-//! Worked graphs: the sizes of their maximum matchings and how many vertices these miss, their Gallai-Edmonds sets, and perfect matchings on request.
+//! Worked graphs: the sizes of their maximum matchings and how many vertices these miss, their
+//! Gallai-Edmonds sets, and perfect matchings on request.
 ghost use Rattle.std.specs.Prelude.{◌≡◌, true};
 ghost use Rattle.counting.specs.Lists.{mem};
 ghost use Rattle.counting.specs.Sets.{none};
@@ -16,7 +17,8 @@ use vset_core::VSet;
 // A square 3 4 5 6 beside an edge.
 const SQUARE: [(u32, u32); 5] = [(1, 2), (3, 4), (4, 5), (5, 6), (3, 6)];
 
-// A graph, by its order and its edges, the size of its maximum matchings, and how many vertices each of these misses.
+// A graph, by its order and its edges, the size of its maximum matchings, and how many vertices
+// each of these misses.
 static SIZES: [(u32, &[(u32, u32)], usize, u32); 9] = [
     (4, &STAR, 1, 2),
     (3, &TRIANGLE, 1, 1),

@@ -45,7 +45,8 @@ fn value_of(mask: u32, rows: &[Row]) -> u64 {
     value
 }
 
-// The least value of all sets of nodes 1 to 5 with the source and without the sink, and what is in each set of that value.
+// The least value of all sets of nodes 1 to 5 with the source and without the sink, and what is
+// in each set of that value.
 fn least_of(rows: &[Row], source: u32, sink: u32) -> (u64, u32) {
     let mut least = u64::MAX;
     let mut common = 0u32;
@@ -137,7 +138,8 @@ fn amounts(rt: HostRuntime) -> Result<(), Memory> {
     Ok(())
 }
 
-// Parallel arcs, an isolated sink, no arcs, a capacity of 0, capacities near 2^62 and a flow that has to turn back.
+// Parallel arcs, an isolated sink, no arcs, a capacity of 0, capacities near 2^62 and a flow that
+// has to turn back.
 static NETS: [&[Row]; 7] = [
     &[(1, 2, 2), (2, 3, 1)],
     &[(1, 2, 1), (2, 1, 2), (2, 5, 3), (5, 2, 1)],
@@ -156,7 +158,8 @@ static NETS: [&[Row]; 7] = [
     ],
 ];
 
-// Whether the cut of the net between two nodes is the least of all sets, with the bound at its value and just below it.
+// Whether the cut of the net between two nodes is the least of all sets, with the bound at its
+// value and just below it.
 fn is_least(alloc: Global, rows: &[Row], source: u32, sink: u32) -> Result<bool, Memory>
     requires source { Within 5 source }
     requires sink { Within 5 sink }

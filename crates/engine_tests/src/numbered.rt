@@ -6,14 +6,15 @@ use plain_graph::graph_with;
 use std::alloc::{AllocError as Memory, Global};
 use std::test::Fail;
 
-/// Simple graphs in which 1 and 2 are joined, 3 and 4, 5 and 6, and so on. Each matching covered one is in them, up to the names of its
-/// vertices.
+/// Simple graphs in which 1 and 2 are joined, 3 and 4, 5 and 6, and so on. Each matching covered
+/// one is in them, up to the names of its vertices.
 #[derive(Clone, Copy)]
 pub enum Family {
     /// All of them.
     Any,
-    /// Those with the odd vertices on one side and the even ones on the other in which 1 is joined to 4 and 6 too: each bipartite covered one
-    /// that has a vertex of degree three or more, so all but the edge and the cycles.
+    /// Those with the odd vertices on one side and the even ones on the other in which 1 is
+    /// joined to 4 and 6 too: each bipartite covered one that has a vertex of degree three or
+    /// more, so all but the edge and the cycles.
     Bipartite,
 }
 
@@ -41,7 +42,8 @@ impl Family {
     }
 }
 
-// The edges that all graphs of the family have, and of those that some have the ones whose bit is set in the number, the lowest first.
+// The edges that all graphs of the family have, and of those that some have the ones whose bit is
+// set in the number, the lowest first.
 fn edges_of_number(
     alloc: Global,
     order: u32,

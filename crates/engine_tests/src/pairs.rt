@@ -1,4 +1,5 @@
-//! Worked graphs: their allowed edges, verdicts and pairs; and small graphs beside the plain program.
+//! Worked graphs: their allowed edges, verdicts and pairs; and small graphs beside the plain
+//! program.
 ghost use Rattle.counting.specs.Counts.{Within};
 ghost use Rattle.plain_graph.specs.Small.{IsSmall};
 
@@ -105,7 +106,8 @@ fn says_why_not_covered(rt: HostRuntime) -> Result<(), Fail> {
     Ok(())
 }
 
-// A graph, the pairs e < f of its edges that lie together, and the number of matchings that the table lists.
+// A graph, the pairs e < f of its edges that lie together, and the number of matchings that the
+// table lists.
 static TOGETHER: [(u32, &[(u32, u32)], &[(u32, u32)], usize); 5] = [
     (4, &K4, &[(1, 6), (2, 5), (3, 4)], 3),
     (4, &PATH, &[(1, 3)], 1),

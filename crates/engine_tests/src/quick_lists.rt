@@ -1,4 +1,5 @@
-//! The candidates beside those of the plain way by pairs: the same list in the same order, and its first.
+//! The candidates beside those of the plain way by pairs: the same list in the same order, and
+//! its first.
 ghost use Rattle.std.specs.Prelude.{◌≤◌};
 
 use crate::choices::{FIRST, leaf_graphs};
@@ -15,7 +16,8 @@ use std::alloc::{AllocError as Memory, Global};
 use std::test::Fail;
 use tight_cuts::{candidates, candidates_by_pairs, find_any, first_candidate};
 
-// Whether the graph is covered, and its candidates, the first of them and its shore are those of the plain way.
+// Whether the graph is covered, and its candidates, the first of them and its shore are those of
+// the plain way.
 fn agrees(alloc: Global, g: &MultiGraph) -> Result<bool, Memory> {
     if !is_covered(alloc, g)? {
         return Ok(false);
@@ -71,8 +73,9 @@ fn wheel(alloc: Global, rim: u32) -> Result<MultiGraph, Fail>
     Ok(graph_with(alloc, rim + 1, &edges)?)
 }
 
-// Two paths of so many vertices, each vertex of the first joined to its partner in the second. The ends of each path are joined, which
-// makes a prism; or, where it is twisted, each to the start of the other path, which makes a Möbius ladder.
+// Two paths of so many vertices, each vertex of the first joined to its partner in the second.
+// The ends of each path are joined, which makes a prism; or, where it is twisted, each to the
+// start of the other path, which makes a Möbius ladder.
 fn ladder(alloc: Global, rungs: u32, is_twisted: bool) -> Result<MultiGraph, Fail>
     requires three { 3 ≤ rungs }
     requires few { rungs ≤ 50 }

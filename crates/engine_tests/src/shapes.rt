@@ -6,7 +6,8 @@ use plain_graph::graph_with;
 use std::alloc::{AllocError as Memory, Global};
 use std::test::Fail;
 
-/// Two K3,3, each without one vertex, the three loose ends of the one tied to those of the other: 10 vertices, bipartite.
+/// Two K3,3, each without one vertex, the three loose ends of the one tied to those of the other:
+/// 10 vertices, bipartite.
 pub const TWO_K33: [(u32, u32); 15] = [
     (1, 4),
     (1, 5),
@@ -25,8 +26,9 @@ pub const TWO_K33: [(u32, u32); 15] = [
     (8, 10),
 ];
 
-/// A cycle of an even number of vertices with a chord from each odd vertex to the one so many, an odd number, further on. It is cubic and
-/// bipartite: K3,3 for 6 and 3, the cube for 8 and 3, Heawood's graph for 14 and 5, that of Möbius and Kantor for 16 and 5.
+/// A cycle of an even number of vertices with a chord from each odd vertex to the one so many, an
+/// odd number, further on. It is cubic and bipartite: K3,3 for 6 and 3, the cube for 8 and 3,
+/// Heawood's graph for 14 and 5, that of Möbius and Kantor for 16 and 5.
 pub fn chordal_ring(alloc: Global, half: u32, jump: u32) -> Result<MultiGraph, Fail>
     requires three { 3 ≤ half }
     requires few { half ≤ 50 }
@@ -43,8 +45,8 @@ pub fn chordal_ring(alloc: Global, half: u32, jump: u32) -> Result<MultiGraph, F
     Ok(graph_with(alloc, n, &edges)?)
 }
 
-// The edges of the part with the numbers 0, 1 or 2: its vertices 4 + 3k to 6 + 3k are a triangle, or each is joined to the two vertices
-// 13 + 2k and 14 + 2k.
+// The edges of the part with the numbers 0, 1 or 2: its vertices 4 + 3k to 6 + 3k are a triangle,
+// or each is joined to the two vertices 13 + 2k and 14 + 2k.
 fn add_part(edges: &mut Vec<(u32, u32)>, k: u32, is_five: bool) -> Result<(), Memory>
     requires { k < 3 }
 {
@@ -61,7 +63,8 @@ fn add_part(edges: &mut Vec<(u32, u32)>, k: u32, is_five: bool) -> Result<(), Me
     Ok(())
 }
 
-/// The barrier 1 2 3 with three odd parts, each joined to each of the three by one edge: so many parts of 5 vertices, the others triangles.
+/// The barrier 1 2 3 with three odd parts, each joined to each of the three by one edge: so many
+/// parts of 5 vertices, the others triangles.
 pub fn three_parts(alloc: Global, fives: u32) -> Result<MultiGraph, Fail>
     requires { fives ≤ 3 }
 {

@@ -186,7 +186,8 @@ fn tells_braces(rt: HostRuntime) -> Result<(), Fail> {
     Ok(())
 }
 
-// A graph that is not bipartite, and the first tight cut that the quick test finds; none of a brick.
+// A graph that is not bipartite, and the first tight cut that the quick test finds; none of a
+// brick.
 static BRICKS: [(u32, &[(u32, u32)], Option<&[u32]>); 5] = [
     (4, &K4, None),
     (6, &PRISM, None),

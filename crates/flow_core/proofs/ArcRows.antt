@@ -1,5 +1,6 @@
--- Arc by arc the rows come to list all arcs of the net: with each arc, its place goes to the rows of its two ends.
--- Idea: a row that grows at its end keeps what it has, and every other row stays.
+-- Arc by arc the rows come to list all arcs of the net: with each arc, its place goes to the rows
+-- of its two ends. Idea: a row that grows at its end keeps what it has, and every other row
+-- stays.
 use Rattle.std.proofs.Common.{◌≡◌, ℕ, ◌+◌, ◌<◌, ◌≢◌, List, [], ◌∷◌, ◌++◌, length, set, sym, ◌∙◌, subst, arith, inl, inr, length-append}
 use Rattle.std.specs.Prelude.{All, Contains}
 use Rattle.std.proofs.Math.ListN.{length-set}

@@ -1,5 +1,6 @@
--- Max flow and min cut: a flow is at most each cut, and where a set of nodes is left by no arc with room, it is the least minimum cut.
--- Idea: sum what goes out of the nodes of a set, node by node and arc by arc.
+-- Max flow and min cut: a flow is at most each cut, and where a set of nodes is left by no arc
+-- with room, it is the least minimum cut. Idea: sum what goes out of the nodes of a set, node by
+-- node and arc by arc.
 use Rattle.std.proofs.Common.{◌≡◌, ℕ, suc, zero, ◌≤◌, ◌<◌, ◌≢◌, Bool, true, false, cond, ◌==◌, refl, sym, ap, ap₂, ◌∙◌, arith, ◌&&◌, ◌||◌, not, inl, inr, List, [], ◌∷◌, length, sum_by, eq-eqb, ne_eqb}
 use Rattle.std.specs.Prelude.{All, if◌then◌else◌, ℤ, pos, neg_ℤ, ◌+ℤ◌, ◌-ℤ◌, ◌≤ℤ◌, ◌<ℤ◌, unsigned_abs}
 use Rattle.std.proofs.lemmas.Bool.{cases_Bool, true≢false, both_ways}
@@ -227,7 +228,8 @@ module _ (net : Net) (source sink : ℕ) (amounts : List ℤ) (value : ℕ) (is 
         absurd (full_stays x (arc_at net.arcs step.arc) (amount_at amounts step.arc) (AllFull-at x net.arcs amounts flow.fits (cut_full x s e) step.arc step.is_arc) w v step.joins (walk_stays x s e u w ws h r.0) t step.room)
   ]
 
-  -- the nodes that are reached from the source over arcs with room, where the sink is not among them, are the least minimum cut
+  -- the nodes that are reached from the source over arcs with room, where the sink is not among
+  -- them, are the least minimum cut
   pub reached_least : (set : List ℕ) → IsReachedSet net amounts source sink set → IsLeastCut net source sink set value
   reached_least set r = record {
     nodes = r.nodes;

@@ -1,5 +1,6 @@
--- Sending d along a path with room: each amount stays within its capacity, and only the two ends of the path see a change.
--- Idea: from the last visit back to the first, each step moves the change from a visit's node to its parent's node.
+-- Sending d along a path with room: each amount stays within its capacity, and only the two ends
+-- of the path see a change. Idea: from the last visit back to the first, each step moves the
+-- change from a visit's node to its parent's node.
 use Rattle.std.proofs.Common.{◌≡◌, ◌≢◌, ℕ, zero, suc, ◌+◌, ◌≤◌, ◌<◌, ◌^◌, ◌==◌, Bool, true, false, List, [], ◌∷◌, length, set, replicate, refl, sym, ◌∙◌, ap, subst, arith, inl, inr, eq-eqb, ne_eqb}
 use Rattle.std.specs.Prelude.{ℤ, pos, ◌+ℤ◌, ◌-ℤ◌, ◌≤ℤ◌, unsigned_abs, if◌then◌else◌}
 use Rattle.std.proofs.lemmas.Int.{ints}
@@ -90,7 +91,8 @@ sent_amount-fits arc u amount d f l = go (arc.a == u) l
     go true h = omega (arith, ints)
     go false h = omega (arith, ints)
 
--- d is sent from visit `at` on to the last visit; the arcs of the visits up to `at` have their old amounts
+-- d is sent from visit `at` on to the last visit; the arcs of the visits up to `at` have their
+-- old amounts
 pub record IsPushed (net : Net) (old amounts : List ℤ) (visits : List Visit) (d at : ℕ) : Type 0 where
   pub long : at < length visits
   pub fits : Fits net.arcs amounts

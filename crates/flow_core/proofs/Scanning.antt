@@ -1,5 +1,6 @@
--- The arcs at one node, scanned one by one: each has no room out of the node, or leads to a node that is seen then.
--- Idea: the arcs scanned so far stay scanned while the seen nodes grow, and the rows list every arc at the node.
+-- The arcs at one node, scanned one by one: each has no room out of the node, or leads to a node
+-- that is seen then. Idea: the arcs scanned so far stay scanned while the seen nodes grow, and
+-- the rows list every arc at the node.
 use Rattle.std.proofs.Common.{◌≡◌, ◌≢◌, ℕ, ◌+◌, ◌-◌, ◌≤◌, ◌<◌, ◌==◌, ◌||◌, true, false, List, [], ◌∷◌, ◌++◌, length, get_or, min, refl, sym, ◌∙◌, ap, subst, arith, inl, inr, eq-eqb, ne_eqb, below_more, length-append}
 use Rattle.std.proofs.lemmas.Bool.{or_right, or_left}
 use Rattle.std.specs.Prelude.{ℤ, pos, ◌<ℤ◌, Contains}
@@ -105,7 +106,8 @@ IsScanning-full net amounts sink head from row place visits seen s node t = reco
 abbrev pub taken : ℕ → ℕ → ℕ → ℕ → Visit
 taken node parent arc room = record { node = node; parent = parent; arc = arc; room = room }
 
--- what stands after an arc is taken to a new node: the tree with a visit more, and where the node is not the sink, a search that scans on
+-- what stands after an arc is taken to a new node: the tree with a visit more, and where the node
+-- is not the sink, a search that scans on
 pub record IsTaken (net : Net) (amounts : List ℤ) (sink head : ℕ) (from : Visit) (row : List ℕ) (place : ℕ) (visits : List Visit) (node : ℕ) (longer : List Visit) (more : List ℕ) : Type 0 where
   pub first : first_node longer ≡ first_node visits
   pub tree : IsTree net amounts longer

@@ -1,5 +1,6 @@
--- Search trees: how they grow, that each node is reached from the root over arcs with room, and that no arc is used twice.
--- Idea: a visit is at a new node, so its arc has an end that no earlier arc has.
+-- Search trees: how they grow, that each node is reached from the root over arcs with room, and
+-- that no arc is used twice. Idea: a visit is at a new node, so its arc has an end that no
+-- earlier arc has.
 use Rattle.std.proofs.Common.{◌≡◌, ◌≢◌, ℕ, zero, suc, ◌+◌, ◌-◌, ◌≤◌, ◌<◌, ◌^◌, ◌==◌, ◌||◌, Bool, true, false, cond, List, [], ◌∷◌, ◌++◌, length, get_or, refl, sym, ◌∙◌, ap, subst, arith, inl, inr, eq-eqb, ne_eqb, length-append}
 use Rattle.std.specs.Prelude.{ℤ}
 use Rattle.std.proofs.Math.Seq.{get_or-append_seam}
@@ -238,7 +239,8 @@ rising-within m n xs r h = record {
   within = λ k d l. h (get_or xs k d) (mem-item xs k d l);
 }
 
--- a search that has scanned all its visits has found the nodes that are reached from its root, and the sink is not among them
+-- a search that has scanned all its visits has found the nodes that are reached from its root,
+-- and the sink is not among them
 pub search-ends : (net : Net) (amounts : List ℤ) (source sink head : ℕ) (visits : List Visit) (seen : List ℕ) → IsSearch net amounts sink head visits seen → length visits ≤ head → node_at visits 0 ≡ source → IsRisingIn 128 seen → IsReachedSet net amounts source sink seen
 search-ends net amounts source sink head visits seen s e root r = record {
   nodes = rising-within 128 net.nodes seen r (λ v m. let k = set.seen_only v m in subst (Within net.nodes) k.2 (tree.nodes k.0 k.1));

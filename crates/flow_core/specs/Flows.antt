@@ -20,8 +20,9 @@ Fits [] (amount ∷ amounts) = ⊥
 Fits (arc ∷ arcs) [] = ⊥
 Fits (arc ∷ arcs) (amount ∷ amounts) = (unsigned_abs amount ≤ arc.capacity) × Fits arcs amounts
 
--- a flow from source to sink: amounts, positive from a to b, within the capacities; as much comes into each other node as goes
--- out; its value is what goes out of the source less what comes into it
+-- a flow from source to sink: amounts, positive from a to b, within the capacities; as much comes
+-- into each other node as goes out; its value is what goes out of the source less what comes into
+-- it
 pub record IsFlow (net : Net) (source sink : ℕ) (amounts : List ℤ) (value : ℕ) : Type 0 where
   pub fits : Fits net.arcs amounts
   pub kept : (v : ℕ) → Within net.nodes v → v ≢ source → v ≢ sink → goes_out net.arcs amounts v ≡ pos 0

@@ -8,7 +8,8 @@ use Rattle.flow_core.specs.Residual.{arc_at}
 abbrev pub HasEnd : Arc → ℕ → Type 0
 HasEnd arc v = (arc.a ≡ v) ⊎ (arc.b ≡ v)
 
--- a row for each node, 0 among them; the row of v has those of the first n arcs that have an end at v
+-- a row for each node, 0 among them; the row of v has those of the first n arcs that have an end
+-- at v
 pub record ListsArcs (net : Net) (n : ℕ) (rows : List (List ℕ)) : Type 0 where
   pub size : length rows ≡ suc net.nodes
   pub ends : (v : ℕ) → All (λ i. (i < n) × HasEnd (arc_at net.arcs i) v) (row_of rows v)

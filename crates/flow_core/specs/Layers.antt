@@ -1,4 +1,5 @@
--- Paths that go from level to level of a search, with the place in each node's row where they go on.
+-- Paths that go from level to level of a search, with the place in each node's row where they go
+-- on.
 use Rattle.std.specs.Prelude.{◌≡◌, ℕ, suc, ◌+◌, ◌-◌, ◌*◌, ◌<◌, List, length, slice_index, ℤ}
 use Rattle.counting.specs.Counts.{total}
 use Rattle.flow_core.specs.Nets.{Net}
@@ -6,7 +7,8 @@ use Rattle.counting.specs.Lists.{row_of}
 use Rattle.flow_core.specs.Search.{node_at, IsTree}
 use Rattle.flow_core.specs.declared.search.Visit.{Visit}
 
--- a path as a search tree: visit j is at level j, and the row of each node but the last has an arc at its place
+-- a path as a search tree: visit j is at level j, and the row of each node but the last has an
+-- arc at its place
 pub record IsLaid (net : Net) (rows : List (List ℕ)) (amounts : List ℤ) (levels places : List ℕ) (path : List Visit) : Type 0 where
   pub tree : IsTree net amounts path
   pub all_levels : length levels ≡ suc net.nodes
@@ -18,6 +20,7 @@ pub record IsLaid (net : Net) (rows : List (List ℕ)) (amounts : List ℤ) (lev
 abbrev pub arcs_left : ℕ → List (List ℕ) → List ℕ → ℕ
 arcs_left nodes rows places = total nodes (λ v. length (row_of rows v) - slice_index places v)
 
--- what is left to do: it falls with each step of the path, forward or back, and with each arc that is passed over
+-- what is left to do: it falls with each step of the path, forward or back, and with each arc
+-- that is passed over
 abbrev pub work_left : ℕ → List (List ℕ) → List ℕ → List Visit → ℕ
 work_left nodes rows places path = 2 * arcs_left nodes rows places + (256 - length path)

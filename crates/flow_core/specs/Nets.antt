@@ -1,4 +1,5 @@
--- Networks with undirected arcs, the value of a set of nodes, and least minimum cuts (Ford and Fulkerson, "Flows in Networks").
+-- Networks with undirected arcs, the value of a set of nodes, and least minimum cuts (Ford and
+-- Fulkerson, "Flows in Networks").
 use Rattle.std.specs.Prelude.{◌≡◌, ℕ, ◌≤◌, ◌<◌, ◌^◌, ◌≢◌, Bool, true, false, List, [], ◌∷◌, ◌++◌, ◌&&◌, ◌||◌, not, cond, sum_by, All}
 use Rattle.counting.specs.Counts.{Within}
 use Rattle.counting.specs.Sets.{Set}
@@ -58,8 +59,8 @@ pub record HasCutWithin (net : Net) (source sink above : ℕ) : Type 0 where
   pub separates : Separates source sink set
   pub within : value_of net set ≤ above
 
--- the least minimum cut: its value is the least of all sets with the source and without the sink, and it lies inside each
--- other such set of that value
+-- the least minimum cut: its value is the least of all sets with the source and without the sink,
+-- and it lies inside each other such set of that value
 pub record IsLeastCut (net : Net) (source sink : ℕ) (set : List ℕ) (value : ℕ) : Type 0 where
   pub nodes : IsRisingIn net.nodes set
   pub separates : Separates source sink (mem set)

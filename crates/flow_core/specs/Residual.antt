@@ -1,4 +1,5 @@
--- What a flow leaves on the arcs: how much more each can take, and the nodes that are reached over arcs with room.
+-- What a flow leaves on the arcs: how much more each can take, and the nodes that are reached
+-- over arcs with room.
 use Rattle.std.specs.Prelude.{◌≡◌, ℕ, ◌<◌, ◌⊎◌, true, List, [], ◌∷◌, ◌==◌, length, slice_index_or, ℤ, pos, ◌+ℤ◌, ◌-ℤ◌, ◌<ℤ◌, if◌then◌else◌}
 use Rattle.counting.specs.Sets.{Set}
 use Rattle.counting.specs.Lists.{mem, IsRisingIn}
@@ -31,7 +32,8 @@ pub record HasRoom (arcs : List Arc) (amounts : List ℤ) (u w : ℕ) : Type 0 w
   pub joins : Joins (arc_at arcs arc) u w
   pub room : pos 0 <ℤ room_from u (arc_at arcs arc) (amount_at amounts arc)
 
--- a walk from u to v over arcs with room; the list has its nodes but the last, from the last but one back to u
+-- a walk from u to v over arcs with room; the list has its nodes but the last, from the last but
+-- one back to u
 abbrev pub IsOpenWalk : List Arc → List ℤ → ℕ → List ℕ → ℕ → Type 0
 IsOpenWalk arcs amounts u [] v = u ≡ v
 IsOpenWalk arcs amounts u (w ∷ ws) v = IsOpenWalk arcs amounts u ws w × HasRoom arcs amounts w v

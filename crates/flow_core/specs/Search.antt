@@ -1,4 +1,5 @@
--- The tree of a search over arcs with room: the visits in the order in which the nodes were reached.
+-- The tree of a search over arcs with room: the visits in the order in which the nodes were
+-- reached.
 use Rattle.std.specs.Prelude.{◌≡◌, ◌≢◌, ℕ, ◌-◌, ◌≤◌, ◌<◌, ◌^◌, true, false, List, length, slice_index_or, ℤ, pos, ◌≤ℤ◌}
 use Rattle.counting.specs.Counts.{Within, count}
 use Rattle.counting.specs.Lists.{mem}
@@ -14,7 +15,8 @@ visit_at visits j = slice_index_or visits j (record { node = 0; parent = 0; arc 
 abbrev pub node_at : List Visit → ℕ → ℕ
 node_at visits j = (visit_at visits j).node
 
--- the visit comes from another over an arc with room; its own room can go all the way from the first visit
+-- the visit comes from another over an arc with room; its own room can go all the way from the
+-- first visit
 pub record IsStep (arcs : List Arc) (amounts : List ℤ) (from visit : Visit) : Type 0 where
   pub is_arc : visit.arc < length arcs
   pub joins : Joins (arc_at arcs visit.arc) from.node visit.node
@@ -27,7 +29,8 @@ pub record IsVisit (arcs : List Arc) (amounts : List ℤ) (visits : List Visit) 
   pub earlier : (visit_at visits j).parent < j
   pub step : IsStep arcs amounts (visit_at visits (visit_at visits j).parent) (visit_at visits j)
 
--- a search tree: its first visit is the root, each other comes from an earlier one, and no node is visited twice
+-- a search tree: its first visit is the root, each other comes from an earlier one, and no node
+-- is visited twice
 pub record IsTree (net : Net) (amounts : List ℤ) (visits : List Visit) : Type 0 where
   pub some : 0 < length visits
   pub root : (visit_at visits 0).room ≡ 2 ^ 63 - 1

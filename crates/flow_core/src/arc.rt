@@ -22,8 +22,9 @@ impl Arc {
         if self.a == from { self.b } else { self.a }
     }
 
-    /// How much more the arc with this amount, which is positive from `a` to `b`, can take out of its end `from`. This is at
-    /// most twice the capacity, so it needs a type wider than that of amounts.
+    /// How much more the arc with this amount, which is positive from `a` to `b`, can take out of
+    /// its end `from`. This is at most twice the capacity, so it needs a type wider than that of
+    /// amounts.
     pub fn room(self, from: u32, amount: i64) -> u64
         requires within { unsigned_abs amount ≤ self.capacity }
         requires below { self.capacity < 2 ^ 63 }

@@ -19,19 +19,22 @@ use vset_core::VSet;
 pub enum CutAnswer {
     /// The least minimum cut: its nodes, the source among them and the sink not, and its value.
     Cut { set: VSet, value: u64 },
-    /// A flow whose value is above the bound. No set of nodes with the source and without the sink has a value below it.
+    /// A flow whose value is above the bound. No set of nodes with the source and without the
+    /// sink has a value below it.
     Exceeds { flow: Flow },
 }
 
-/// The least minimum cut between source and sink, up to a bound. The sets meant here are those of nodes that hold the source and
-/// not the sink.
+/// The least minimum cut between source and sink, up to a bound. The sets meant here are those of
+/// nodes that hold the source and not the sink.
 ///
-/// The answer is `Cut` exactly where some such set has a value of at most `above`. Its value is then the least of all, and its
-/// set lies inside each other such set of that value. Otherwise the answer is `Exceeds` with a flow of a value above `above`:
-/// by the theorem of Ford and Fulkerson on flows and cuts this shows that each such set has a value above `above`.
+/// The answer is `Cut` exactly when some such set has a value of at most `above`. Its value is
+/// then the least of all, and its set lies inside each other such set of that value. Otherwise
+/// the answer is `Exceeds` with a flow of a value above `above`: by the theorem of Ford and
+/// Fulkerson on flows and cuts this shows that each such set has a value above `above`.
 ///
-/// In each round the flow grows along all shortest paths with room (Dinic), so that there are fewer rounds than nodes, whatever
-/// the capacities are; it stops as soon as it passes the bound. Out of memory is the only error.
+/// In each round the flow grows along all shortest paths with room (Dinic), so that there are
+/// fewer rounds than nodes, whatever the capacities are; it stops as soon as it passes the bound.
+/// Out of memory is the only error.
 pub fn min_cut(
     alloc: Global,
     net: &Net,

@@ -9,9 +9,10 @@ use crate::search::Visit;
 use crate::signed_list::{SignedList, zeros};
 use std::alloc::{AllocError as Memory, Global};
 
-/// A flow from a source to a sink of a net: one amount for each arc, in the order of the arcs and positive from `a` to `b`. No
-/// amount exceeds its arc's capacity in either direction, and at each node but source and sink as much comes in as goes out. Its
-/// value is what goes out of the source less what comes into it.
+/// A flow from a source to a sink of a net: one amount for each arc, in the order of the arcs and
+/// positive from `a` to `b`. No amount exceeds its arc's capacity in either direction, and at
+/// each node but source and sink as much comes in as goes out. Its value is what goes out of the
+/// source less what comes into it.
 #[derive(Drop)]
 pub struct Flow {
     pub on: SignedList,
@@ -31,7 +32,8 @@ impl Flow {
         })
     }
 
-    /// Sends as much as can go from the first visit to the last, over the arcs of the visits between them.
+    /// Sends as much as can go from the first visit to the last, over the arcs of the visits
+    /// between them.
     pub(crate) fn augment(&mut self, net: &Net, visits: &[Visit])
         requires bounded { IsBounded net.now }
         requires tree { IsTree net.now self.old.on visits.now }

@@ -6,9 +6,9 @@ ghost use Rattle.flow_core.specs.Nets.{Net, IsNet, Separates, IsLeastCut, value_
 ghost use Rattle.flow_core.specs.Flows.{IsFlow};
 ghost use Rattle.flow_core.specs.Residual.{IsReachedSet};
 
-/// Flows and cuts (Ford and Fulkerson, 1956): no flow is more than the value of a set with the source and without the sink; and
-/// where the sink is not reached from the source over arcs with room, the nodes that are reached are the least minimum cut,
-/// whose value is that of the flow.
+/// Flows and cuts (Ford and Fulkerson, 1956): no flow is more than the value of a set with the
+/// source and without the sink; and where the sink is not reached from the source over arcs with
+/// room, the nodes that are reached are the least minimum cut, whose value is that of the flow.
 pub fn flow_law()
     ensures bound { (net : Net) (source sink : ℕ) (amounts : List ℤ) (value : ℕ) → IsNet net →
         Within net.nodes source → IsFlow net source sink amounts value

@@ -17,8 +17,8 @@ use std::alloc::{AllocError as Memory, Global};
 /// The level of a node that the search has not reached.
 const FAR: u8 = u8::MAX;
 
-/// The levels of a search, and a path that goes from level to level. Each node has a place in its row: the arcs before it
-/// lead no further.
+/// The levels of a search, and a path that goes from level to level. Each node has a place in its
+/// row: the arcs before it lead no further.
 #[derive(Drop)]
 pub struct Layers {
     levels: Vec<u8>,
@@ -63,7 +63,8 @@ impl Layers {
         })
     }
 
-    /// Takes the path one step back from visit `last`, which is its last one, and passes over the arc that it came by.
+    /// Takes the path one step back from visit `last`, which is its last one, and passes over the
+    /// arc that it came by.
     fn go_back(&mut self, incidence: &Incidence, last: usize)
         requires last { length self.old.path.items ≡ last + 1 }
         requires some { 0 < last }
@@ -85,8 +86,9 @@ impl Layers {
         self.places[from as usize] = place + 1;
     }
 
-    /// Takes the next arc at the last node of the path: goes on over it where it has room and leads to the next level, and
-    /// passes it over otherwise. Where no arc is left, goes one step back; answers false where there is no step to go back.
+    /// Takes the next arc at the last node of the path: goes on over it where it has room and
+    /// leads to the next level, and passes it over otherwise. Where no arc is left, goes one step
+    /// back; answers false where there is no step to go back.
     fn go_on(
         &mut self,
         net: &Net,
@@ -136,8 +138,8 @@ impl Layers {
         Ok(true)
     }
 
-    /// Lets the flow grow along paths from level to level until there is no more, or until it is above the bound. After
-    /// `Memory` the flow is to be given up.
+    /// Lets the flow grow along paths from level to level until there is no more, or until it is
+    /// above the bound. After `Memory` the flow is to be given up.
     pub fn fill(
         &mut self,
         net: &Net,
@@ -170,8 +172,9 @@ impl Layers {
     }
 }
 
-/// Lets the flow grow along the path of a search to its last visit, and then along the other paths of its levels until there
-/// is no more, or until it is above the bound. After `Memory` the flow is to be given up.
+/// Lets the flow grow along the path of a search to its last visit, and then along the other
+/// paths of its levels until there is no more, or until it is above the bound. After `Memory` the
+/// flow is to be given up.
 pub fn grow(
     alloc: Global,
     net: &Net,

@@ -13,9 +13,11 @@ use std::alloc::{AllocError as Memory, Global};
 use std::marker::Model;
 use vset_core::MOST_VERTICES;
 
-/// A network with nodes 1 to k, k at most `MOST_VERTICES`, and undirected arcs with capacities, whose sum is below 2^63. Parallel
-/// arcs and capacities of 0 are allowed. Contracts see it as its number of nodes and its list of arcs, in the order in which they
-/// were added; the value of a set of nodes is the sum of the capacities of the arcs with exactly one node in it (`value_of`).
+/// A network with nodes 1 to k, k at most `MOST_VERTICES`, and undirected arcs with capacities,
+/// whose sum is below 2^63. Parallel arcs and capacities of 0 are allowed. Contracts see it as
+/// its number of nodes and its list of arcs, in the order in which they were added; the value of
+/// a set of nodes is the sum of the capacities of the arcs with exactly one node in it
+/// (`value_of`).
 #[derive(Drop)]
 pub struct Net {
     nodes: u32,

@@ -14,7 +14,8 @@ use crate::signed_list::SignedList;
 use std::alloc::{AllocError as Memory, Global};
 use vset_core::{MOST_VERTICES, VSet};
 
-/// A node that the search has reached: from which earlier visit, over which arc, and how much can go there from the root.
+/// A node that the search has reached: from which earlier visit, over which arc, and how much can
+/// go there from the root.
 #[derive(Clone, Copy)]
 pub struct Visit {
     pub node: u32,
@@ -30,8 +31,8 @@ pub struct Reached {
     pub seen: VSet,
 }
 
-/// What a search answers: its visits, of which the last is at the sink, or all nodes that it has reached, the sink not among
-/// them.
+/// What a search answers: its visits, of which the last is at the sink, or all nodes that it has
+/// reached, the sink not among them.
 #[derive(Drop)]
 pub enum Outcome {
     Path(Vec<Visit>),
@@ -75,8 +76,8 @@ impl Reached {
     }
 }
 
-/// Scans the arcs at visit `head`: the far end of each arc with room is visited, if it was not seen before. Stops at the sink
-/// and then answers true.
+/// Scans the arcs at visit `head`: the far end of each arc with room is visited, if it was not
+/// seen before. Stops at the sink and then answers true.
 fn scan(
     net: &Net,
     incidence: &Incidence,

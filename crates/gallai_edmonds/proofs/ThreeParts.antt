@@ -1,5 +1,6 @@
--- A set whose test says a property on 1 to n is the list of the numbers with it, and what two such sets leave is the list of the
--- numbers with neither property. Each number of a set of numbers 1 to n is one of them, and the tests decide the properties.
+-- A set whose test says a property on 1 to n is the list of the numbers with it, and what two
+-- such sets leave is the list of the numbers with neither property. Each number of a set of
+-- numbers 1 to n is one of them, and the tests decide the properties.
 use Rattle.std.proofs.Common.{◌≡◌, ℕ, List, Bool, true, false, not, ◌&&◌, ◌||◌, ◌∙◌, sym, ap, ◌↔◌, arith}
 use Rattle.std.proofs.lemmas.Bool.{both_ways, true≢false}
 use Rattle.counting.specs.Counts.{Within}

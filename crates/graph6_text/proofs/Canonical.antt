@@ -1,5 +1,6 @@
--- A text without header and line end that is accepted is the text of its graph. Idea: its bits can be read off the edges that
--- they choose, and are written again as its bytes; and the size has one form.
+-- A text without header and line end that is accepted is the text of its graph. Idea: its bits
+-- can be read off the edges that they choose, and are written again as its bytes; and the size
+-- has one form.
 use Rattle.std.proofs.Common.{◌≡◌, ℕ, ◌+◌, ◌*◌, ◌/◌, ◌%◌, ◌<◌, ◌≤◌, ◌==◌, Bool, true, false, cond, List, [], ◌∷◌, ◌++◌, length, map, take, drop, Option, Some, None, Ok, refl, sym, ap, ap₂, ◌∙◌, arith, leb, subst}
 use Rattle.std.proofs.lemmas.Bool.{and_parts, eqb-true, eqb-false, le-leb, lt-leb, leb-true, cond-true, cond-false}
 use Rattle.std.proofs.lemmas.List.{take-append-drop}

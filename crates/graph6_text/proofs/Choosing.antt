@@ -28,7 +28,7 @@ edges_all g n rest bits edges order ends stop =
     let make : ℕ → List (ℕ × ℕ) → Graph = λ k es. record { order = k; ends = es } in
     ap₂ make order same
 
--- bits behind those of the pairs choose nothing
+-- bits after those of the pairs choose nothing
 pub chosen-filled : (pairs : List (ℕ × ℕ)) (bits filling : List Bool) → length bits ≡ length pairs → chosen pairs (bits ++ filling) ≡ chosen pairs bits
 chosen-filled [] bits filling h = refl
 chosen-filled (pair ∷ pairs) [] filling h = absurd (omega arith)

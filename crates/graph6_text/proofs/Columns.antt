@@ -1,5 +1,6 @@
--- The pairs of vertices by columns are the pairs i < j of 1 to n, each once, and there are n (n - 1) / 2 of them. Idea:
--- induction on the number of columns, and within a column on the number of its pairs.
+-- The pairs of vertices by columns are the pairs i < j of 1 to n, each once, and there are n (n -
+-- 1) / 2 of them. Idea: induction on the number of columns, and within a column on the number of
+-- its pairs.
 use Rattle.std.proofs.Common.{◌≡◌, ℕ, suc, zero, ◌+◌, ◌-◌, ◌*◌, ◌/◌, ◌<◌, ◌≤◌, ◌==◌, ◌&&◌, ◌||◌, Bool, true, false, List, [], ◌∷◌, ◌++◌, length, map, get_or, refl, sym, ap, ap₂, ◌∙◌, arith, inl, inr}
 use Rattle.std.proofs.lemmas.Bool.{cases_eq, or_left, or_right}
 use Rattle.std.proofs.lemmas.Bool.Decides.{nat_tests}

@@ -1,5 +1,5 @@
--- Lists of pairs of which no two are the same two numbers. Idea: among such pairs the bits that choose some can be read off
--- the chosen ones, and each edge of a graph is chosen at most once.
+-- Lists of pairs of which no two are the same two numbers. Idea: among such pairs the bits that
+-- choose some can be read off the chosen ones, and each edge of a graph is chosen at most once.
 use Rattle.std.proofs.Common.{◌≡◌, ℕ, suc, zero, ◌+◌, ◌-◌, ◌<◌, ◌≤◌, ◌==◌, ◌&&◌, ◌||◌, Bool, true, false, cond, List, [], ◌∷◌, ◌++◌, length, map, take, get_or, refl, ap, ap₂, ◌∙◌, arith, ◌⊎◌, inl, inr}
 use Rattle.std.proofs.lemmas.Bool.{or_from, or_left, both_ways, cases_order}
 use Rattle.std.proofs.lemmas.Bool.Decides.{nat_tests}
@@ -133,7 +133,8 @@ pub any_none : (test : ℕ × ℕ → Bool) (ps : List (ℕ × ℕ)) → ((p : �
 any_none test [] h = refl
 any_none test (p ∷ ps) h = or_from (test p) (list_any test ps) (h p) (any_none test ps h)
 
--- an edge is the same two numbers as one of the distinct pairs at most, so that not more pairs than edges are present
+-- an edge is the same two numbers as one of the distinct pairs at most, so that not more pairs
+-- than edges are present
 none_else : (p e : ℕ × ℕ) (ps : List (ℕ × ℕ)) → Apart p ps → joins p.0 p.1 e ≡ true → length (chosen ps (map (λ q. joins q.0 q.1 e) ps)) ≡ 0
 none_else p e [] h s = refl
 none_else p e (q ∷ ps) h s = rw (joins-third p q e s h.0) (none_else p e ps h.1 s)

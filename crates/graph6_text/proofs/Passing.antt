@@ -1,5 +1,6 @@
--- What the checks of a body tell of it. Idea: where no fault of a list of tests is first, each test fails; and the first
--- fault of two lists of tests is that of the one, or else that of the other.
+-- What the checks of a body tell of it. Idea: where no fault of a list of tests is first, each
+-- test fails; and the first fault of two lists of tests is that of the one, or else that of the
+-- other.
 use Rattle.counting.proofs.Booleans.{and_fails_second}
 use Rattle.std.proofs.Common.{◌≡◌, ℕ, ◌+◌, ◌*◌, ◌/◌, ◌<◌, ◌≤◌, ◌==◌, Bool, true, false, cond, List, [], ◌∷◌, ◌++◌, length, take, drop, Option, Some, None, Ok, Err, refl, sym, ap, ap₂, ◌∙◌, arith, ltb, leb, nat_lt}
 use Rattle.std.proofs.lemmas.Bool.{and_parts, not-false, eqb-false, ltb-false, leb-false}

@@ -1,5 +1,6 @@
--- The text of a graph is accepted, with a graph of the same order and the same adjacent pairs. Idea: each of its bytes writes a
--- digit, so that nothing is set aside; the bits that are read are those that were written, with zeros behind them.
+-- The text of a graph is accepted, with a graph of the same order and the same adjacent pairs.
+-- Idea: each of its bytes writes a digit, so that nothing is set aside; the bits that are read
+-- are those that were written, with zeros after them.
 use Rattle.std.proofs.Common.{◌≡◌, ℕ, ◌+◌, ◌-◌, ◌/◌, ◌%◌, ◌<◌, ◌≤◌, ◌≢◌, ◌==◌, ◌&&◌, Bool, true, false, cond, List, [], ◌∷◌, ◌++◌, length, map, take, drop, None, Ok, refl, sym, ap, ap₂, ◌∙◌, arith, leb, ltb, inl, inr, subst, codes, nat_eq, get_or}
 use Rattle.std.proofs.lemmas.Bool.{and_parts, and_from, and_left, and_right, or_from, both_ways, cases_lt, cases_order, cases_Bool, false_from_ne_true, not_from_true, ne_eqb, lt-leb, le-ltb, cond-false}
 use Rattle.std.proofs.lemmas.Bool.Decides.{Decides-eqb}

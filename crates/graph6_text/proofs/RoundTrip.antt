@@ -1,5 +1,6 @@
--- Bits that are written as bytes are read again, with zeros behind them; and bytes that are read as bits are written again,
--- where only zeros stand behind the bits. Idea: six bits and a digit determine each other, by division; then six by six.
+-- Bits that are written as bytes are read again, with zeros after them; and bytes that are read
+-- as bits are written again, where only zeros stand after the bits. Idea: six bits and a digit
+-- determine each other, by division; then six by six.
 use Rattle.std.proofs.Common.{◌≡◌, ℕ, suc, zero, ◌+◌, ◌*◌, ◌/◌, ◌%◌, ◌<◌, ◌==◌, Bool, true, false, cond, List, [], ◌∷◌, ◌++◌, length, take, drop, refl, sym, ap, ap₂, ◌∙◌, arith, leb}
 use Rattle.std.proofs.lemmas.Bool.{and_parts, and_from, or_parts, or_from, leb-true, le-leb}
 use Rattle.std.proofs.lemmas.List.{append-nil, nil_from_length}
@@ -75,7 +76,7 @@ is_digit-byte_of d h = and_from (leb 63 (byte_of d)) (leb (byte_of d) 126) (le-l
 abbrev pub AreZeros : List Bool → Type 0
 AreZeros bits = list_any (λ bit. bit) bits ≡ false
 
--- bits with zeros behind them, of which there are at most five
+-- bits with zeros after them, of which there are at most five
 pub record Filled (bits whole : List Bool) : Type 0 where
   pub filling : List Bool
   pub behind : whole ≡ bits ++ filling
@@ -134,7 +135,7 @@ digits-bytes_of (a ∷ b ∷ c ∷ d ∷ []) = digit_first (a ∷ b ∷ c ∷ d 
 digits-bytes_of (a ∷ b ∷ c ∷ d ∷ e ∷ []) = digit_first (a ∷ b ∷ c ∷ d ∷ e ∷ []) [] refl
 digits-bytes_of (a ∷ b ∷ c ∷ d ∷ e ∷ f ∷ bits) = digit_first (a ∷ b ∷ c ∷ d ∷ e ∷ f ∷ []) (bytes_of bits) (digits-bytes_of bits)
 
--- where only zeros stand behind the first k bits, these weigh as much as all
+-- where only zeros stand after the first k bits, these weigh as much as all
 weight_of-take : (ws : List ℕ) (bits : List Bool) (k : ℕ) → AreZeros (drop k bits) → weight_of ws (take k bits) ≡ weight_of ws bits
 weight_of-take [] bits k h = refl
 weight_of-take (w ∷ ws) [] zero h = refl

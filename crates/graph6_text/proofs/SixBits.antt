@@ -1,5 +1,6 @@
--- Six bits and a digit below 64 determine each other, and so do bits and the bytes that write them, six bits in each. Idea:
--- the weights halve, so that a digit's quotients by them are known one after the other; then by induction in steps of six.
+-- Six bits and a digit below 64 determine each other, and so do bits and the bytes that write
+-- them, six bits in each. Idea: the weights halve, so that a digit's quotients by them are known
+-- one after the other; then by induction in steps of six.
 use Rattle.std.proofs.Common.{◌≡◌, ℕ, ◌+◌, ◌*◌, ◌<◌, ◌≤◌, Bool, true, false, cond, List, [], ◌∷◌, ◌++◌, length, take, drop, get_or, refl, sym, ap, ap₂, ◌∙◌, arith, inl, inr, min}
 use Rattle.std.proofs.lemmas.List.{drop_more, append_assoc, append-nil, length-append, take_at, drop_at, take_all, drop_all, nil_from_length}
 use Rattle.std.proofs.lemmas.Bool.{cases_lt}

@@ -1,4 +1,5 @@
--- What a graph6 text stands for, or its first fault (B. D. McKay, "Description of graph6, sparse6 and digraph6 encodings").
+-- What a graph6 text stands for, or its first fault (B. D. McKay, "Description of graph6, sparse6
+-- and digraph6 encodings").
 use Rattle.std.specs.Prelude.{◌≡◌, ℕ, ◌+◌, ◌*◌, ◌-◌, ◌/◌, ◌==◌, ◌&&◌, not, nat_le, nat_lt, nat_eq, Bool, if◌then◌else◌, List, [], ◌∷◌, length, take, drop, slice_index, codes, Option, Some, None, Result, Ok, Err}
 use Rattle.std.specs.List.{list_all, list_any, starts_with, ends_with}
 use Rattle.graph_core.specs.Graph.{Graph, size}
@@ -11,7 +12,8 @@ use Rattle.graph6_text.specs.Pairs.{column_pairs, chosen}
 abbrev pub without_header : List ℕ → List ℕ
 without_header text = if starts_with nat_eq text (codes ">>graph6<<") then drop 10 text else text
 
--- a text without the line end that it may end with: a carriage return and a line feed, or a line feed alone
+-- a text without the line end that it may end with: a carriage return and a line feed, or a line
+-- feed alone
 abbrev pub without_line_end : List ℕ → List ℕ
 without_line_end text =
     if ends_with nat_eq text (codes "\r\n") then take (length text - 2) text else
@@ -38,7 +40,7 @@ unfoldable pub order_of : List ℕ → ℕ
 order_of body =
     if is_long body then digit_at body 1 * 4096 + digit_at body 2 * 64 + digit_at body 3 else digit_at body 0
 
--- the bytes behind the size
+-- the bytes after the size
 unfoldable pub data_of : List ℕ → List ℕ
 data_of body = drop (if is_long body then 4 else 1) body
 
@@ -50,7 +52,7 @@ pair_count n = n * (n - 1) / 2
 abbrev pub data_len : ℕ → ℕ
 data_len n = (pair_count n + 5) / 6
 
--- the filling bits: those behind the bits of the pairs
+-- the filling bits: those after the bits of the pairs
 abbrev pub filling_of : List ℕ → List Bool
 filling_of body = drop (pair_count (order_of body)) (bits_of (data_of body))
 

@@ -1,4 +1,5 @@
--- The graph6 text of a graph (B. D. McKay, "Description of graph6, sparse6 and digraph6 encodings").
+-- The graph6 text of a graph (B. D. McKay, "Description of graph6, sparse6 and digraph6
+-- encodings").
 use Rattle.std.specs.Prelude.{◌≡◌, ℕ, ◌/◌, ◌%◌, nat_le, if◌then◌else◌, Bool, List, [], ◌∷◌, ◌++◌, map, Ok}
 use Rattle.counting.specs.Sets.{none}
 use Rattle.graph_core.specs.Graph.{Graph}
@@ -8,7 +9,8 @@ use Rattle.graph6_text.specs.Digits.{byte_of, bytes_of}
 use Rattle.graph6_text.specs.Pairs.{column_pairs}
 use Rattle.graph6_text.specs.Reading.{outcome_of}
 
--- the size: one digit, or from 63 vertices on the byte 126 and three digits, the most significant first
+-- the size: one digit, or from 63 vertices on the byte 126 and three digits, the most significant
+-- first
 unfoldable pub size_of : ℕ → List ℕ
 size_of n =
     if nat_le n 62 then byte_of n ∷ [] else 126 ∷ byte_of (n / 4096) ∷ byte_of (n / 64 % 64) ∷ byte_of (n % 64) ∷ []

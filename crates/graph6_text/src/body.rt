@@ -70,7 +70,7 @@ fn digit(body: &[u8], k: usize) -> u32
     u32::from(body[k] - ZERO)
 }
 
-/// The bytes behind the size.
+/// The bytes after the size.
 #[tactic(auto, unfolding(crate::specs::Reading::data_of))]
 pub fn data(body: &[u8]) -> &[u8]
     requires size { 0 < length body.now }

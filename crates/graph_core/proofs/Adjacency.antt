@@ -1,5 +1,6 @@
--- Tightness and being covered depend on adjacency alone: they go over from a graph to one with the same adjacent pairs.
--- A perfect matching goes over by choosing, for each of its edges, the least edge with the same ends.
+-- Tightness and being covered depend on adjacency alone: they go over from a graph to one with
+-- the same adjacent pairs. A perfect matching goes over by choosing, for each of its edges, the
+-- least edge with the same ends.
 use Rattle.std.proofs.Common.{◌≡◌, ℕ, ◌≢◌, true, cond, ◌==◌, refl, sym, ap, ◌∙◌, arith, ◌&&◌, ◌||◌, eq-eqb, ne_eqb, ◌⊎◌, inl, inr, List, [], ◌∷◌, subst, subst₂}
 use Rattle.std.proofs.lemmas.Bool.{cases_eq, and_from}
 use Rattle.std.proofs.lemmas.Bool.Decides.{nat_tests}
@@ -16,7 +17,7 @@ use Rattle.graph_core.specs.Matchings.{Allowed}
 use Rattle.graph_core.specs.Tight.{CutIsTight}
 use Rattle.graph_core.specs.Walks.{Joined, Walk, adjacent}
 
--- h has an edge between two vertices exactly where g has one between those that move takes there
+-- h has an edge between two vertices exactly when g has one between those that move takes there
 pub record Alike (g h : Graph) (move : ℕ → ℕ) : Type 0 where
   pub order : h.order ≡ g.order
   pub within : (v : ℕ) → Within g.order v → Within h.order (move v)

@@ -1,5 +1,6 @@
--- Unions of blocks block by block: how many blocks are in them, and uncrossing at a partition.
--- A union of blocks is counted at the first vertex of each block; uncrossing is that of the contracted graph.
+-- Unions of blocks block by block: how many blocks are in them, and uncrossing at a partition. A
+-- union of blocks is counted at the first vertex of each block; uncrossing is that of the
+-- contracted graph.
 use Rattle.std.proofs.Common.{◌≡◌, ℕ, suc, zero, ◌-◌, ◌<◌, ◌+◌, ◌*◌, ◌≤◌, Bool, true, false, ◌==◌, refl, sym, ap, ap₂, ◌∙◌, arith, ◌&&◌, ◌||◌, not, eq-eqb, eqb-true, inl, inr, List, [], ◌∷◌, length}
 use Rattle.std.proofs.lemmas.Bool.{cases_Bool, both_ways, and_parts, and_from, cases_eq}
 use Rattle.std.proofs.lemmas.List.{get_or-map}

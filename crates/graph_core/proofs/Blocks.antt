@@ -1,5 +1,6 @@
--- Merging a union of blocks contracts it in the contracted graph, so the law of contraction applies.
--- Each vertex has one block, and the block of a place in the one partition goes to a place in the other.
+-- Merging a union of blocks contracts it in the contracted graph, so the law of contraction
+-- applies. Each vertex has one block, and the block of a place in the one partition goes to a
+-- place in the other.
 use Rattle.std.proofs.Common.{◌≡◌, ℕ, suc, zero, ◌+◌, ◌-◌, ◌≤◌, ◌<◌, ◌≢◌, Bool, true, false, cond, ◌==◌, refl, sym, ap, ◌∙◌, arith, ◌&&◌, ◌||◌, eq-eqb, eqb-true, inl, inr, List, [], ◌∷◌, length, get_or, subst}
 use Rattle.std.proofs.lemmas.Bool.{cases_Bool, both_ways, true≢false, or_cases, and_from, and_left}
 use Rattle.std.proofs.lemmas.List.{get_or-map, length-map}

@@ -1,5 +1,5 @@
--- A perfect matching goes over along a map of vertices and a choice of edges, and so do the edges in a cut.
--- Sums over the images are sums over the originals.
+-- A perfect matching goes over along a map of vertices and a choice of edges, and so do the edges
+-- in a cut. Sums over the images are sums over the originals.
 use Rattle.std.proofs.Common.{◌≡◌, ℕ, ◌+◌, ◌*◌, ◌≤◌, ◌≢◌, Bool, true, false, ◌==◌, refl, sym, ap, ap₂, ◌∙◌, arith, ◌&&◌, ◌||◌, not, eq-eqb, ne_eqb, eqb-true, inl, inr, mul_comm}
 use Rattle.std.proofs.lemmas.Bool.{cases_eq, and_parts, true≢false}
 use Rattle.counting.proofs.Counts.{bit-and, count_le_one, some_le_count}
@@ -44,7 +44,7 @@ total_image k l m pick f inside apart =
         total_at l (λ i. bit (m e && (pick e == i)) * f i) (pick e) (inside e w t) (λ i u d. rw (t, ne_eqb (pick e) i (λ q. d (sym q))) (omega arith)) ∙ rw (t, eq-eqb (pick e) (pick e) refl) refl
     each e w false t = total_none l _ (λ i u. rw t (omega arith)) ∙ omega arith
 
--- h has an edge wherever g has one that is no loop, at vertices that move says
+-- h has an edge wherever g has one that is not a loop, at vertices that move says
 module _ (g h : Graph) (is_g : IsGraph g) (move pick : ℕ → ℕ)
     (apart : (u v : ℕ) → Within g.order u → Within g.order v → move u ≡ move v → u ≡ v)
     (onto : (w : ℕ) → Within h.order w → (v : ℕ) × Within g.order v × (move v ≡ w))

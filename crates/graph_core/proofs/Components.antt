@@ -1,5 +1,6 @@
--- The test for a walk against walks, and each vertex in exactly one component, which its least vertex stands for.
--- A walk of as many steps as there are vertices is enough, and two least vertices of one component are one.
+-- The test for a walk against walks, and each vertex in exactly one component, which its least
+-- vertex stands for. A walk of as many steps as there are vertices is enough, and two least
+-- vertices of one component are one.
 use Rattle.std.proofs.Common.{◌≡◌, ℕ, ◌≤◌, true, false, refl, ap, ◌∙◌, length, arith, ◌&&◌, not, inl, inr, nat_lt, lt-ltb, ltb-true}
 use Rattle.std.proofs.lemmas.Bool.{cases_Bool, and_parts, and_from, both_ways}
 use Rattle.std.proofs.lemmas.List.{length-map}

@@ -1,5 +1,6 @@
--- Contracting a tight shore of a covered graph: perfect matchings go down, tight cuts go both ways, covered goes down.
--- A perfect matching has one edge in the cut, so each vertex outside keeps its one edge and the new vertex gets one.
+-- Contracting a tight shore of a covered graph: perfect matchings go down, tight cuts go both
+-- ways, covered goes down. A perfect matching has one edge in the cut, so each vertex outside
+-- keeps its one edge and the new vertex gets one.
 use Rattle.std.proofs.Common.{◌≡◌, ℕ, suc, ◌+◌, ◌*◌, ◌≤◌, ◌<◌, ◌≢◌, Bool, true, false, cond, ◌==◌, refl, sym, ap, ap₂, ◌∙◌, arith, ◌&&◌, ◌||◌, not, eq-eqb, ne_eqb, eqb-true, ◌⊎◌, inl, inr, List, [], ◌∷◌, subst₂}
 use Rattle.std.proofs.lemmas.Bool.{cases_eq, and_parts, and_from, true≢false, false_from_ne_true, both_ways, not-true}
 use Rattle.std.proofs.lemmas.Bool.Decides.{nat_tests}

@@ -1,5 +1,5 @@
--- An edge joins two vertices where an item of the list of ends has them. Idea: edge e is item e - 1, so that "some of the
--- first k edges" is "some of the first k items", by induction on k.
+-- An edge joins two vertices where an item of the list of ends has them. Idea: edge e is item e -
+-- 1, so that "some of the first k edges" is "some of the first k items", by induction on k.
 use Rattle.std.proofs.Common.{◌≡◌, ℕ, suc, zero, ◌+◌, ◌-◌, ◌≤◌, Bool, ◌==◌, ◌&&◌, ◌||◌, List, length, take, take_all, get_or, refl, sym, ap, ap₂, ◌∙◌, arith, le_refl}
 use Rattle.std.specs.List.{list_any}
 use Rattle.std.proofs.lemmas.List.Folds.{list_any_more}

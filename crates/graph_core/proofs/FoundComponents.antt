@@ -1,5 +1,6 @@
--- A search takes one component after another, each from the least vertex that is left. What does the list hold at the end?
--- The components, in the order of their least vertices, and the trees of the searches are one forest.
+-- A search takes one component after another, each from the least vertex that is left. What does
+-- the list hold at the end? The components, in the order of their least vertices, and the trees
+-- of the searches are one forest.
 use Rattle.std.proofs.Common.{◌≡◌, ℕ, suc, zero, ◌+◌, ◌<◌, Bool, true, false, ◌==◌, refl, sym, ap, ap₂, ◌∙◌, arith, ◌&&◌, ◌||◌, not, ◌⊎◌, inl, inr, List, [], ◌∷◌, ◌++◌, subst, eq-eqb, eqb-true, ne_eqb, cond, map, append_assoc, append-nil, nat_lt, ltb-true}
 use Rattle.std.proofs.lemmas.Bool.{and_from, and_parts, both_ways, cases_Bool, cases_eq, false_from_ne_true, not-true, not-false, not_from_false, true≢false, or_parts}
 use Rattle.counting.specs.Counts.{Within}
@@ -58,7 +59,8 @@ module _ (g : Graph) (s : Set) (is : IsGraph g) where
       same false true h = h refl
       same false false h = refl
 
-  -- the vertices of the component of u, which is the first that is left, are those that a walk in what is left leads to
+  -- the vertices of the component of u, which is the first that is left, are those that a walk in
+  -- what is left leads to
   joined_in_left : (left : Set) → ((v : ℕ) → left v ≡ true → Within g.order v × (s v ≡ false)) → ((u v : ℕ) → adjacent g s u v ≡ true → left u ≡ left v) → (u v : ℕ) → left u ≡ true → joined g (complement left) u v ≡ joined g s u v
   unfolding Joined
   joined_in_left left vertices closed u v lu = same_tests (joined g (complement left) u v) (joined g s u v)

@@ -1,6 +1,6 @@
--- A search from one vertex takes vertices from the set that is left and hangs each on one that was found before. What has it
--- found when no found vertex has a neighbour left? A component: it is closed under steps, and the tree gives a walk to each
--- of its vertices.
+-- A search from one vertex takes vertices from the set that is left and hangs each on one that
+-- was found before. What has it found when no found vertex has a neighbour left? A component: it
+-- is closed under steps, and the tree gives a walk to each of its vertices.
 use Rattle.std.proofs.Common.{◌≡◌, ℕ, ◌+◌, ◌≤◌, true, false, ◌==◌, refl, sym, ap, ◌∙◌, arith, ◌&&◌, not, inl, inr, subst, eq-eqb, eqb-true, ne_eqb}
 use Rattle.std.proofs.lemmas.Bool.{and_from, and_parts, both_ways, cases_eq, or_right, not-true, not-false, not_from_false}
 use Rattle.counting.specs.Counts.{Within, count}

@@ -1,5 +1,5 @@
--- Unions of blocks before and after a merge, how many blocks they hold, and the law of contraction for them.
--- The merged blocks are one block then, and all others stay.
+-- Unions of blocks before and after a merge, how many blocks they hold, and the law of
+-- contraction for them. The merged blocks are one block then, and all others stay.
 use Rattle.std.proofs.Common.{◌≡◌, ℕ, ◌+◌, ◌≢◌, Bool, true, false, refl, sym, ap, ◌∙◌, arith, ◌⊎◌, inl, inr, List, length}
 use Rattle.std.proofs.lemmas.Bool.{cases_Bool, both_ways}
 use Rattle.counting.proofs.Totals.{total_at}

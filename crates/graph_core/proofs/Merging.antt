@@ -9,7 +9,8 @@ use Rattle.graph_core.proofs.Blocks.{place_in, place_is}
 use Rattle.graph_core.specs.Partitions.{AreBlocks, IsMerge, block, insert_block, merged, place}
 use Rattle.graph_core.specs.Shores.{IsUnion}
 
--- Merging a union of blocks gives a partition. Idea: count, for each vertex, the blocks that hold it, along the list.
+-- Merging a union of blocks gives a partition. Idea: count, for each vertex, the blocks that hold
+-- it, along the list.
 
 -- how many blocks of the list hold v
 abbrev held : List (List ℕ) → ℕ → ℕ

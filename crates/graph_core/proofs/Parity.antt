@@ -1,5 +1,5 @@
--- The vertices of a set are the edges of a perfect matching in its cut and twice those inside; two cuts against their meet and union.
--- Degrees are summed vertex by vertex and edge by edge.
+-- The vertices of a set are the edges of a perfect matching in its cut and twice those inside;
+-- two cuts against their meet and union. Degrees are summed vertex by vertex and edge by edge.
 use Rattle.std.proofs.Common.{◌≡◌, ℕ, ◌+◌, ◌*◌, Bool, true, false, ◌==◌, refl, sym, ap, mul-add, ap₂, ◌∙◌, arith, ◌&&◌, ◌||◌, not}
 use Rattle.counting.proofs.Counts.{bit-and, count_of_one}
 use Rattle.counting.proofs.Totals.{total_add, total_congr, total_mul, total_swap}
@@ -47,7 +47,8 @@ module _ (g : Graph) (is : IsGraph g) (m : Set) where
   pub parity : (x : Set) → IsPerfect g none m → count g.order x ≡ count (size g) (λ e. m e && in_cut g x e) + 2 * count (size g) (λ e. m e && inside g x e)
   parity x perfect = total_congr g.order _ _ (λ v w. omega (arith, ap (λ k. bit (x v) * k) (perfect.once v w refl))) ∙ degrees x
 
--- two cuts: each edge is in the cuts of x and y as often as in those of the meet and the union, and twice where it joins the differences
+-- two cuts: each edge is in the cuts of x and y as often as in those of the meet and the union,
+-- and twice where it joins the differences
 bits_of_cuts : (k a b c d : Bool) →
     bit (k && ((a && not b) || (not a && b))) + bit (k && ((c && not d) || (not c && d)))
     ≡ bit (k && (((a && c) && not (b && d)) || (not (a && c) && (b && d)))) + bit (k && (((a || c) && not (b || d)) || (not (a || c) && (b || d))))

@@ -1,4 +1,4 @@
--- A set of blocks is tight in the quotient exactly where it is in the contracted graph.
+-- A set of blocks is tight in the quotient exactly when it is in the contracted graph.
 -- Perfect matchings go over both ways by the least edge with the same ends.
 use Rattle.std.proofs.Common.{◌≡◌, ℕ, ◌<◌, ◌≢◌, true, not, ◌==◌, List, length, refl, sym, ap, ◌∙◌, arith, inl, inr, subst, ne_eqb}
 use Rattle.std.proofs.lemmas.Bool.{and_parts, and_from, cases_lt}

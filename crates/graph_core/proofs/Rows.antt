@@ -1,4 +1,5 @@
--- What a row of the adjacency matrix, met with the set of the vertices that are left, tells of the neighbours that are left.
+-- What a row of the adjacency matrix, met with the set of the vertices that are left, tells of
+-- the neighbours that are left.
 use Rattle.std.proofs.Common.{◌≡◌, ℕ, ◌-◌, true, false, ◌&&◌, sym, ap, ◌∙◌, arith, List, [], length, get_or}
 use Rattle.std.proofs.lemmas.Bool.{and_parts, both_ways, false_from_ne_true, and_from}
 use Rattle.std.proofs.lemmas.List.{get_or_read}

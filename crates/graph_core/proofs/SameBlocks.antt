@@ -1,5 +1,5 @@
--- A partition is fixed by its relation "in the same block": two partitions with the same relation are equal as lists.
--- They have the same blocks, and names that rise leave one order.
+-- A partition is fixed by its relation "in the same block": two partitions with the same relation
+-- are equal as lists. They have the same blocks, and names that rise leave one order.
 use Rattle.std.proofs.Common.{List, [], ap, ap₂, arith, inl, inr, refl, subst, suc, sym, true, ℕ, ◌+◌, ◌-◌, ◌<◌, ◌∙◌, ◌∷◌, ◌≡◌}
 use Rattle.counting.proofs.Booleans.{same_tests}
 use Rattle.std.specs.List.Sorted.{IsStrictlyIncreasing}

@@ -1,5 +1,5 @@
--- A tight shore as a list: it is not empty, and the list of the other numbers is the other shore, which is tight as well.
--- An odd number of blocks is at least one, and each block has a vertex.
+-- A tight shore as a list: it is not empty, and the list of the other numbers is the other shore,
+-- which is tight as well. An odd number of blocks is at least one, and each block has a vertex.
 use Rattle.std.proofs.Common.{ℕ, ◌<◌, ◌≤◌, List, length, sym, arith}
 use Rattle.counting.proofs.Counts.{bit_true}
 use Rattle.counting.proofs.Lists.{some-member}

@@ -1,5 +1,5 @@
--- The law of contraction for shores at a partition and at a merge of it.
--- A union of the new blocks is a union of the old ones, block by block, so the contracted graphs can be compared.
+-- The law of contraction for shores at a partition and at a merge of it. A union of the new
+-- blocks is a union of the old ones, block by block, so the contracted graphs can be compared.
 use Rattle.std.proofs.Common.{◌≡◌, ℕ, sym, ap, ◌∙◌, List}
 use Rattle.counting.specs.Counts.{Within}
 use Rattle.counting.specs.Sets.{Set}

@@ -1,5 +1,6 @@
--- At the partition into single vertices the contracted graph is the graph itself, so what is said at that partition is what is
--- said of the graph; at any partition the edges in the cut of a union of blocks are those of the graph.
+-- At the partition into single vertices the contracted graph is the graph itself, so what is said
+-- at that partition is what is said of the graph; at any partition the edges in the cut of a
+-- union of blocks are those of the graph.
 use Rattle.std.proofs.Common.{◌≡◌, ℕ, suc, ◌+◌, ◌-◌, ◌&&◌, ◌||◌, not, List, [], ◌∷◌, length, map, cond, get_or, refl, sym, ap, ap₂, ◌∙◌, arith, subst, le-leb}
 use Rattle.std.proofs.lemmas.List.{get_or-map}
 use Rattle.counting.proofs.Counts.{count_congr}

@@ -1,5 +1,5 @@
--- The single vertices are a partition: block i is that of i alone, and the place of a vertex is its number.
--- By induction on the number of vertices.
+-- The single vertices are a partition: block i is that of i alone, and the place of a vertex is
+-- its number. By induction on the number of vertices.
 use Rattle.std.proofs.Common.{◌≡◌, ℕ, suc, zero, ◌+◌, ◌-◌, ◌≤◌, ◌<◌, Bool, true, false, cond, ◌==◌, ◌||◌, List, [], ◌∷◌, ◌++◌, length, refl, sym, ap, ◌∙◌, arith, inl, inr, eq-eqb, eqb-true, get_or, zero-add, nat_le, length-append, le-leb, subst}
 use Rattle.std.proofs.lemmas.Bool.{lt-leb, cases_lt}
 use Rattle.std.proofs.lemmas.Bool.Decides.{nat_tests}

@@ -1,5 +1,5 @@
--- A matching by degrees is a set of edges of which no two share an end.
--- Two edges at a vertex would make its degree two; where no two are there, a sum of ends is at most one.
+-- A matching by degrees is a set of edges of which no two share an end. Two edges at a vertex
+-- would make its degree two; where no two are there, a sum of ends is at most one.
 use Rattle.std.proofs.Common.{◌≡◌, ℕ, suc, zero, ◌+◌, ◌*◌, ◌≤◌, ◌≢◌, Bool, true, false, ◌==◌, refl, sym, ap, ◌∙◌, arith, inl, inr, eq-eqb, ne_eqb}
 use Rattle.std.proofs.lemmas.Bool.{cases_eq, true≢false}
 use Rattle.counting.proofs.Totals.{total_none}
@@ -23,7 +23,7 @@ matching_apart g m mm e f v we wf wv me mf ee ff = elim (cases_eq e f) [
   | inr q ↦ let a = two_ends_le_degree g m e f v we wf q me mf in let b = one_end g e v ee in let c = one_end g f v ff in let d = mm.once v wv in absurd (omega arith)
 ]
 
--- an edge that is no loop has at most one end at a vertex
+-- an edge that is not a loop has at most one end at a vertex
 pub ends_one : (g : Graph) (e v : ℕ) → first_end g e ≢ second_end g e → ends_of g e v ≤ 1
 ends_one g e v d = let a = ends_of_is g e (first_end g e) (second_end g e) (inl (refl, refl)) v in
     let b = sum_one (first_end g e) (second_end g e) v d in omega arith

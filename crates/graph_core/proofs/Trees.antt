@@ -1,5 +1,6 @@
--- A search tree hangs its vertices on those that were found before, so the way up from a vertex is a walk to a root, as long
--- as the vertex is deep. Two ways up from the ends of an edge, closed by the edge, are an odd walk where the depths are alike.
+-- A search tree hangs its vertices on those that were found before, so the way up from a vertex
+-- is a walk to a root, as long as the vertex is deep. Two ways up from the ends of an edge,
+-- closed by the edge, are an odd walk where the depths are alike.
 use Rattle.std.proofs.Common.{◌≡◌, ℕ, suc, zero, ◌+◌, ◌<◌, Bool, true, false, refl, ap, ◌∙◌, arith, ◌&&◌, not, inl, inr, List, [], ◌∷◌, ◌++◌, length, nat_lt, lt-ltb}
 use Rattle.std.proofs.lemmas.Bool.{and_from, and_parts, both_ways, cases_order}
 use Rattle.std.proofs.lemmas.List.{length-append}

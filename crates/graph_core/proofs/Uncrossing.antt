@@ -1,5 +1,6 @@
--- Uncrossing in one graph: the meet and the union of two tight shores are tight, and no edge joins their differences.
--- The edges of a perfect matching in the two cuts are those in the cuts of meet and union and twice those between the differences.
+-- Uncrossing in one graph: the meet and the union of two tight shores are tight, and no edge
+-- joins their differences. The edges of a perfect matching in the two cuts are those in the cuts
+-- of meet and union and twice those between the differences.
 use Rattle.std.proofs.Common.{◌≡◌, ℕ, ◌+◌, ◌≤◌, Bool, true, false, cond, refl, sym, ap, ◌∙◌, arith, ◌&&◌, ◌||◌, not, inl, inr}
 use Rattle.std.proofs.lemmas.Bool.{cases_Bool, both_ways}
 use Rattle.counting.proofs.Counts.{count_meet_union}

@@ -1,5 +1,5 @@
--- The code's list of edges and the graph that it stands for: edge e of the graph is item e - 1 of the list, so that "some
--- edge" of the graph is "some item" of the list.
+-- The code's list of edges and the graph that it stands for: edge e of the graph is item e - 1 of
+-- the list, so that "some edge" of the graph is "some item" of the list.
 use Rattle.std.proofs.Common.{◌≡◌, ℕ, ◌+◌, ◌-◌, ◌≤◌, ◌<◌, ◌||◌, refl, sym, ap, ap₂, ◌∙◌, arith, suc, zero, List, length, get_or, map, take, take_all, le_refl, subst, eq-eqb, true}
 use Rattle.std.specs.List.{list_any, All, Contains}
 use Rattle.std.proofs.lemmas.List.{get_or-map, length-map}

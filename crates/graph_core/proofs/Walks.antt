@@ -1,5 +1,5 @@
--- Walks: they join, turn back and stay in a set that no step leaves; whether one leads on is decided.
--- A set that grows step by step stops growing after as many steps as there are vertices.
+-- Walks: they join, turn back and stay in a set that no step leaves; whether one leads on is
+-- decided. A set that grows step by step stops growing after as many steps as there are vertices.
 use Rattle.std.proofs.Common.{◌≡◌, ℕ, suc, zero, ◌+◌, ◌≤◌, Bool, true, false, ◌==◌, refl, sym, ap, ◌∙◌, arith, ◌&&◌, ◌||◌, not, eq-eqb, eqb-true, ◌⊎◌, inl, inr, List, [], ◌∷◌, ◌++◌, subst, ◌↔◌}
 use Rattle.std.proofs.lemmas.Bool.{cases_Bool, or_cases, or_left, or_right, and_parts, and_from, false_from_ne_true, both_ways}
 use Rattle.std.proofs.lemmas.Bool.Decides.{nat_tests}

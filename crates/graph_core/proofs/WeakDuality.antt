@@ -1,5 +1,6 @@
--- Weak duality: a matching misses at least as many vertices as there are odd components more than the removed set has vertices.
--- Each odd component has a vertex that is missed or is matched into the set.
+-- Weak duality: a matching misses at least as many vertices as there are odd components more than
+-- the removed set has vertices. Each odd component has a vertex that is missed or is matched into
+-- the set.
 use Rattle.std.proofs.Common.{◌≡◌, ℕ, ◌+◌, ◌*◌, ◌≤◌, Bool, true, false, ◌==◌, refl, sym, ap, ◌∙◌, arith, ◌&&◌, ◌||◌, not, inl, inr, [], ◌∷◌, nat_lt, le_trans, le_of_eq, mul-add, mul-le-mul_left}
 use Rattle.std.proofs.lemmas.Bool.{cases_Bool, and_parts, both_ways}
 use Rattle.std.proofs.lemmas.Bool.Decides.{nat_tests}
@@ -154,7 +155,8 @@ berge_raw g s m is mm =
     at_most : (v : ℕ) → Within g.order v → bit (loose g s m v) * count g.order (λ u. is_least g s u && joined g s u v) ≤ bit (loose g s m v)
     at_most v w = omega (arith, mul-le-mul_left (bit (loose g s m v)) (one_leader g s is v w))
 
--- a matching of g without r misses at least as many vertices as there are odd components more than s has vertices
+-- a matching of g without r misses at least as many vertices as there are odd components more
+-- than s has vertices
 pub berge_bound : (g : Graph) (r s m : Set) → IsGraph g → IsMatching g r m → odd_component_count g (union r s) ≤ missed_count g r m + count g.order s
 unfolding missed_count
 berge_bound g r s m is mm =

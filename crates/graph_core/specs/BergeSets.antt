@@ -6,7 +6,8 @@ use Rattle.graph_core.specs.Graph.{Graph}
 use Rattle.graph_core.specs.Matchings.{IsMatching, missed_count}
 use Rattle.graph_core.specs.Components.{odd_component_count}
 
--- m misses exactly o(S) - |S| vertices of g without r, written as a sum, since the difference may not be below 0
+-- m misses exactly o(S) - |S| vertices of g without r, written as a sum, since the difference may
+-- not be below 0
 abbrev pub Attains : Graph → Set → Set → Set → Type 0
 Attains g r s m = missed_count g r m + count g.order s ≡ odd_component_count g (union r s)
 

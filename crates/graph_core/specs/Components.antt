@@ -1,5 +1,5 @@
--- Components of a graph G without a vertex set S: the sets of vertices that walks join. Any textbook; a component is
--- counted at its least vertex.
+-- Components of a graph G without a vertex set S: the sets of vertices that walks join. Any
+-- textbook; a component is counted at its least vertex.
 use Rattle.std.specs.Prelude.{ℕ, List, ◌&&◌, not, nat_lt, map}
 use Rattle.counting.specs.Counts.{count, is_odd, Within}
 use Rattle.counting.specs.Sets.{Set, none}

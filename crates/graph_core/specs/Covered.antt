@@ -1,5 +1,5 @@
--- Matching covered graphs (Lovász and Plummer; Lucchesi and Murty, "Perfect Matchings"), and the first reason why a graph
--- is not matching covered.
+-- Matching covered graphs (Lovász and Plummer; Lucchesi and Murty, "Perfect Matchings"), and the
+-- first reason why a graph is not matching covered.
 use Rattle.std.specs.Prelude.{◌≡◌, ◌≢◌, ℕ, ◌≤◌, ◌<◌, List}
 use Rattle.counting.specs.Counts.{Within}
 use Rattle.counting.specs.Sets.{none}
@@ -11,8 +11,8 @@ use Rattle.graph_core.specs.Walks.{Joined}
 use Rattle.graph_core.specs.Components.{IsConnected}
 use Rattle.graph_core.specs.BergeSets.{IsBergeSet}
 
--- matching covered: at least two vertices, connected, and each edge lies in a perfect matching. Of a contracted graph it
--- is said of the edges that are no loops; a multigraph has no others.
+-- matching covered: at least two vertices, connected, and each edge lies in a perfect matching.
+-- Of a contracted graph it is said of the edges that are not loops; a multigraph has no others.
 pub record IsCovered (g : Graph) : Type 0 where
   pub two : 2 ≤ g.order
   pub connected : IsConnected g
@@ -25,8 +25,9 @@ pub data Reason : Type 0 where
   Unmatched : (berge : List ℕ) → Reason
   Unallowed : (edge : ℕ) → Reason
 
--- the reason is the first that applies, in this order: fewer than two vertices; not connected, b being the least vertex
--- outside the component of 1; no perfect matching, with any Berge set; the least edge that is in no perfect matching
+-- the reason is the first that applies, in this order: fewer than two vertices; not connected, b
+-- being the least vertex outside the component of 1; no perfect matching, with any Berge set; the
+-- least edge that is in no perfect matching
 abbrev pub IsReason : Graph → Reason → Type 0
 IsReason g Small = g.order < 2
 IsReason g (Parted a b) = (2 ≤ g.order) × (a ≡ 1) × IsLeastWithout g.order (Joined g none 1) b

@@ -1,5 +1,6 @@
--- Graphs, their edges and cuts. Any textbook; differs in that a graph is a list of pairs and that loops are allowed,
--- so that a contracted graph is a graph again. Edges keep their numbers, and parallel edges are different edges.
+-- Graphs, their edges and cuts. Any textbook; differs in that a graph is a list of pairs and that
+-- loops are allowed, so that a contracted graph is a graph again. Edges keep their numbers, and
+-- parallel edges are different edges.
 use Rattle.std.specs.Prelude.{◌≡◌, ◌≢◌, ℕ, ◌+◌, ◌-◌, Bool, true, List, [], ◌∷◌, ◌++◌, length, ◌==◌, ◌&&◌, ◌||◌, ◌⊎◌, not, slice_index_or}
 use Rattle.counting.specs.Counts.{count, Within}
 use Rattle.counting.specs.Sets.{Set}

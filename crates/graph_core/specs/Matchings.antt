@@ -1,5 +1,6 @@
--- Matchings of a graph G without a vertex set R, as sets of edges. Any textbook; a matching of G - R is a set of edges of
--- G of which at most one is at each vertex outside R, and none at a vertex of R.
+-- Matchings of a graph G without a vertex set R, as sets of edges. Any textbook; a matching of G
+-- - R is a set of edges of G of which at most one is at each vertex outside R, and none at a
+-- vertex of R.
 use Rattle.std.specs.Prelude.{◌≡◌, ℕ, ◌≤◌, ◌⊎◌, Bool, true, false, ◌==◌, ◌&&◌, not, cond, nat_le}
 use Rattle.counting.specs.Counts.{count, Within}
 use Rattle.counting.specs.Sets.{Set, none}
@@ -15,7 +16,8 @@ pub record IsMatching (g : Graph) (r m : Set) : Type 0 where
 abbrev pub IsEnd : Graph → ℕ → ℕ → Type 0
 IsEnd g e v = (first_end g e ≡ v) ⊎ (second_end g e ≡ v)
 
--- two edges of m that share an end are one edge: what a textbook asks of a matching of a graph without loops
+-- two edges of m that share an end are one edge: what a textbook asks of a matching of a graph
+-- without loops
 abbrev pub ShareNoEnd : Graph → Set → Type 0
 ShareNoEnd g m = (e f v : ℕ) → Within (size g) e → Within (size g) f → Within g.order v → m e ≡ true → m f ≡ true → IsEnd g e v → IsEnd g f v → e ≡ f
 
@@ -29,7 +31,8 @@ pub record IsMaximum (g : Graph) (r m : Set) : Type 0 where
   pub is : IsMatching g r m
   pub most : (k : Set) → IsMatching g r k → count (size g) k ≤ count (size g) m
 
--- how many vertices outside r the edges of m miss; for a maximum matching this is the deficiency of g without r
+-- how many vertices outside r the edges of m miss; for a maximum matching this is the deficiency
+-- of g without r
 unfoldable pub missed_count : Graph → Set → Set → ℕ
 missed_count g r m = count g.order (λ v. not (r v) && (degree g m v == 0))
 

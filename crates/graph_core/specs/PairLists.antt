@@ -1,4 +1,5 @@
--- Lists of perfect matchings that show which pairs of edges lie together in one. No notion of the literature.
+-- Lists of perfect matchings that show which pairs of edges lie together in one. No notion of the
+-- literature.
 use Rattle.std.specs.Prelude.{◌≡◌, ℕ, ◌-◌, true, false, List, ◌&&◌, length, All, Any}
 use Rattle.counting.specs.Counts.{Within}
 use Rattle.counting.specs.Sets.{none}
@@ -6,13 +7,15 @@ use Rattle.counting.specs.Lists.{mem, item, IsRisingIn}
 use Rattle.graph_core.specs.Graph.{Graph, size}
 use Rattle.graph_core.specs.Matchings.{IsPerfect, Together}
 
--- perfect matchings, among them for each two edges that lie together one with both (for e = f, one with e)
+-- perfect matchings, among them for each two edges that lie together one with both (for e = f,
+-- one with e)
 pub record IsPairList (g : Graph) (ms : List (List ℕ)) : Type 0 where
   pub rising : All (IsRisingIn (size g)) ms
   pub perfect : All (λ m. IsPerfect g none (mem m)) ms
   pub both : (e f : ℕ) → Within (size g) e → Within (size g) f → Together g e f → Any (λ m. (mem m e ≡ true) × (mem m f ≡ true)) ms
 
--- matching k of the list, counted from 1, holds an edge or a pair of edges that no earlier one holds
+-- matching k of the list, counted from 1, holds an edge or a pair of edges that no earlier one
+-- holds
 pub record HoldsNew (ms : List (List ℕ)) (k : ℕ) : Type 0 where
   pub one : ℕ
   pub other : ℕ

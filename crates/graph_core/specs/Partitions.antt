@@ -1,5 +1,6 @@
--- Partitions of the vertices into blocks, and the graph with each block made one vertex. A block's name is its greatest
--- vertex, and blocks stand by rising name. Lovász 1987; differs in that the blocks are listed, so that a partition is one list.
+-- Partitions of the vertices into blocks, and the graph with each block made one vertex. A
+-- block's name is its greatest vertex, and blocks stand by rising name. Lovász 1987; differs in
+-- that the blocks are listed, so that a partition is one list.
 use Rattle.std.specs.Prelude.{◌≡◌, ℕ, zero, suc, ◌+◌, ◌-◌, true, false, List, [], ◌∷◌, ◌++◌, map, length, filter, cond, not, nat_lt, slice_index_or, All}
 use Rattle.std.specs.List.Sorted.{IsStrictlyIncreasing}
 use Rattle.counting.specs.Counts.{count, Within}
@@ -58,10 +59,12 @@ pub record IsMerge (n : ℕ) (p : List (List ℕ)) (x : Set) (q : List (List ℕ
   pub new : (c : ℕ) × Within (length q) c × ((v : ℕ) → Within n v → mem (block q c) v ≡ x v)
   pub old : (u v : ℕ) → Within n u → Within n v → x u ≡ false → x v ≡ false → (place q u ≡ place q v → place p u ≡ place p v) × (place p u ≡ place p v → place q u ≡ place q v)
 
--- g with each block made one vertex, by place; the edges keep their numbers, and those inside a block are loops
+-- g with each block made one vertex, by place; the edges keep their numbers, and those inside a
+-- block are loops
 unfoldable pub contracted : Graph → List (List ℕ) → Graph
 contracted g p = record { order = length p; ends = map (λ e. (place p e.0, place p e.1)) g.ends }
 
--- a perfect matching at p: a set of edges of g, none inside a block, of which each block holds an end of exactly one
+-- a perfect matching at p: a set of edges of g, none inside a block, of which each block holds an
+-- end of exactly one
 abbrev pub IsPerfectAt : Graph → List (List ℕ) → Set → Type 0
 IsPerfectAt g p m = IsPerfect (contracted g p) none m

@@ -1,6 +1,7 @@
--- The quotient at a partition: one vertex for each block, one edge for each adjacent pair of blocks, and for each edge of
--- the quotient the edges of the graph that it stands for. Contraction as in Lovász 1987; differs in that parallel edges become
--- one edge, which changes no tight cut.
+-- The quotient at a partition: one vertex for each block, one edge for each adjacent pair of
+-- blocks, and for each edge of the quotient the edges of the graph that it stands for.
+-- Contraction as in Lovász 1987; differs in that parallel edges become one edge, which changes no
+-- tight cut.
 use Rattle.std.specs.Prelude.{ℕ, ◌==◌, ◌&&◌, not, Bool, List, length, filter, slice_index}
 use Rattle.counting.specs.Sets.{Set}
 use Rattle.counting.specs.Tests.{some}
@@ -32,6 +33,7 @@ union_of_blocks g p x = rising_list g.order (λ v. some (length p) (λ i. x i &&
 abbrev pub lifted : Graph → List (List ℕ) → Set → List ℕ
 lifted g p m = rising_list (size g) (λ e. some (size (quotient g p)) (λ k. m k && (slice_index (remembered g p k) 0 == e)))
 
--- a set of edges of the graph projected: the edges of the quotient of which it holds a remembered edge
+-- a set of edges of the graph projected: the edges of the quotient of which it holds a remembered
+-- edge
 abbrev pub projected : Graph → List (List ℕ) → Set → Set
 projected g p m k = some (size g) (λ e. m e && mem (remembered g p k) e)

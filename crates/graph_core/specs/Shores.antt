@@ -19,8 +19,8 @@ blocks_in p x i = all_in (block p i) x
 abbrev pub block_count : List (List ℕ) → Set → ℕ
 block_count p x = count (length p) (blocks_in p x)
 
--- x is a union of blocks and tight at p: the number of blocks is odd inside and outside, and each perfect matching at p has
--- exactly one edge in the cut of x
+-- x is a union of blocks and tight at p: the number of blocks is odd inside and outside, and each
+-- perfect matching at p has exactly one edge in the cut of x
 pub record IsTightAt (g : Graph) (p : List (List ℕ)) (x : Set) : Type 0 where
   pub union : IsUnion g.order p x
   pub tight : IsTight (contracted g p) (blocks_in p x)

@@ -1,5 +1,5 @@
--- The two sides of a bipartite graph. Any textbook; differs in that the left side is fixed: it holds the least vertex of each
--- component.
+-- The two sides of a bipartite graph. Any textbook; differs in that the left side is fixed: it
+-- holds the least vertex of each component.
 use Rattle.std.specs.Prelude.{◌≡◌, ◌≢◌, ℕ, true, List}
 use Rattle.counting.specs.Counts.{Within}
 use Rattle.counting.specs.Sets.{Set, none}
@@ -10,11 +10,12 @@ use Rattle.graph_core.specs.Walks.{IsOddClosedWalk}
 use Rattle.graph_core.specs.declared.sides.Sides.{Sides}
 use Rattle.graph_core.specs.declared.sides.Sides.TheVariants.{Even, Odd}
 
--- x is one side of g: each edge that is no loop has one end in x
+-- x is one side of g: each edge that is not a loop has one end in x
 abbrev pub IsSide : Graph → Set → Type 0
 IsSide g x = (e : ℕ) → Within (size g) e → first_end g e ≢ second_end g e → in_cut g x e ≡ true
 
--- a vertex set as a rising list: each edge has exactly one end in it, and the least vertex of each component is in it
+-- a vertex set as a rising list: each edge has exactly one end in it, and the least vertex of
+-- each component is in it
 pub record IsLeftSide (g : Graph) (left : List ℕ) : Type 0 where
   pub rising : IsRisingIn g.order left
   pub cut : (e : ℕ) → Within (size g) e → in_cut g (mem left) e ≡ true

@@ -1,5 +1,5 @@
--- The structure of a graph with perfect matchings: the canonical partition, barriers, bicritical graphs and cut pairs
--- (Kotzig 1959, Lovász 1972; Lucchesi and Murty, "Perfect Matchings").
+-- The structure of a graph with perfect matchings: the canonical partition, barriers, bicritical
+-- graphs and cut pairs (Kotzig 1959, Lovász 1972; Lucchesi and Murty, "Perfect Matchings").
 use Rattle.std.specs.Prelude.{◌≡◌, ◌≢◌, ℕ, ◌≤◌, ◌⊎◌, Bool, true, List, Option, ◌==◌, ◌&&◌, ◌||◌, not, nat_lt, nat_le, map, find, is_none}
 use Rattle.counting.specs.Counts.{count, Within}
 use Rattle.counting.specs.Sets.{Set, pair_set}

@@ -10,7 +10,8 @@ use Rattle.graph_core.specs.Matchings.{IsPerfect, is_perfect}
 abbrev pub CutIsTight : Graph → Set → Type 0
 CutIsTight g x = (m : Set) → IsPerfect g none m → edges_in_cut g m x ≡ 1
 
--- x is a tight shore: an odd number of vertices on both sides, and each perfect matching has one edge in the cut
+-- x is a tight shore: an odd number of vertices on both sides, and each perfect matching has one
+-- edge in the cut
 pub record IsTight (g : Graph) (x : Set) : Type 0 where
   pub odd : is_odd (count g.order x) ≡ true
   pub odd_complement : is_odd (count g.order (complement x)) ≡ true

@@ -22,7 +22,8 @@ pub record IsWithinLimits (g : Graph) : Type 0 where
   pub edges : size g ≤ 2048
   pub multigraph : IsMultigraph g
 
--- what the code's multigraph keeps: the limits of size, and beside its ends the rows of its adjacency matrix
+-- what the code's multigraph keeps: the limits of size, and beside its ends the rows of its
+-- adjacency matrix
 pub record IsKept (g : Graph) (rows : List (List ℕ)) : Type 0 where
   pub limits : IsWithinLimits g
   pub neighbours : AreRows g rows

@@ -23,7 +23,8 @@ abbrev pub reaches : ℕ → (ℕ → ℕ → Bool) → ℕ → ℕ → ℕ → 
 reaches n adj u zero v = u == v
 reaches n adj u (suc k) v = reaches n adj u k v || some n (λ w. reaches n adj u k w && adj w v)
 
--- the vertices that a walk of g without s leads to from u, as a test: a walk of as many steps as there are vertices does
+-- the vertices that a walk of g without s leads to from u, as a test: a walk of as many steps as
+-- there are vertices does
 unfoldable pub joined : Graph → Set → ℕ → Set
 joined g s u = reaches g.order (adjacent g s) u g.order
 

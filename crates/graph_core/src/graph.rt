@@ -21,9 +21,10 @@ use vset_core::{MOST_VERTICES, VSet};
 /// The most edges that a graph may have.
 pub const MOST_EDGES: u32 = 2048;
 
-/// A finite undirected multigraph without loops, of at most `MOST_VERTICES` vertices and `MOST_EDGES` edges. Vertices and
-/// edges are numbered from 1; parallel edges are different edges. Contracts see it as its order and its list of ends. Beside
-/// the ends it keeps for each vertex the set of its neighbours, which `add_edge` alone changes.
+/// A finite undirected multigraph without loops, of at most `MOST_VERTICES` vertices and
+/// `MOST_EDGES` edges. Vertices and edges are numbered from 1; parallel edges are different
+/// edges. Contracts see it as its order and its list of ends. Beside the ends it keeps for each
+/// vertex the set of its neighbours, which `add_edge` alone changes.
 #[derive(Drop)]
 pub struct MultiGraph {
     order: u32,
@@ -58,7 +59,8 @@ impl MultiGraph {
         })
     }
 
-    /// The law that the graph is a multigraph within the limits of size. It does nothing: a caller states it where it needs it.
+    /// The law that the graph is a multigraph within the limits of size. It does nothing: a
+    /// caller states it where it needs it.
     pub fn keeps_limits(&self)
         ensures { IsWithinLimits self.now }
     {
@@ -118,8 +120,9 @@ impl MultiGraph {
         Ok(forest.parts)
     }
 
-    /// Whether the graph is bipartite, with what shows it: `Even` comes exactly where it is, with the left side, which holds the
-    /// least vertex of each component, and `Odd` exactly where it is not, with a closed walk of odd length (König 1916).
+    /// Whether the graph is bipartite, with what shows it: `Even` comes exactly when it is, with
+    /// the left side, which holds the least vertex of each component, and `Odd` exactly when it
+    /// is not, with a closed walk of odd length (König 1916).
     pub fn two_sides(&self, alloc: Global) -> Result<Sides, Memory>
         ensures even { IfOk result (λ sides. IsEven sides ↔ IsBipartite self.now) }
         ensures sides { IfOk result (AreSides self.now) }
@@ -136,16 +139,17 @@ impl MultiGraph {
         &self.edges
     }
 
-    /// For each vertex, in order, the set of its neighbours: the rows of the adjacency matrix. Takes no memory.
+    /// For each vertex, in order, the set of its neighbours: the rows of the adjacency matrix.
+    /// Takes no memory.
     pub fn rows(&self) -> &[VSet]
         ensures { AreRows self.now result.now }
     {
         &self.rows
     }
 
-    /// Appends an edge and answers its number. `Range` comes exactly where an end is no vertex, `Loop` exactly where both
-    /// are vertices and equal, `TooMany` exactly where neither holds and there are `MOST_EDGES` edges; the graph is then
-    /// unchanged, and after `Memory` too.
+    /// Appends an edge and answers its number. `Range` comes exactly when an end is not a vertex,
+    /// `Loop` exactly when both are vertices and equal, `TooMany` exactly when neither holds and
+    /// there are `MOST_EDGES` edges; the graph is then unchanged, and after `Memory` too.
     pub fn add_edge(&mut self, a: u32, b: u32) -> Result<u32, AddFault>
         ensures ok { IfOk result (λ e. (self.new ≡ with_edge self.old a b) × (e ≡ size self.new)) }
         ensures err { OnErr result (self.new ≡ self.old) }
@@ -172,7 +176,8 @@ impl MultiGraph {
         Ok(self.edges.len() as u32)
     }
 
-    /// Appends an edge between two different vertices, for which there is room. After `Memory` the graph is unchanged.
+    /// Appends an edge between two different vertices, for which there is room. After `Memory`
+    /// the graph is unchanged.
     pub fn push_edge(&mut self, edge: Ends) -> Result<(), Memory>
         requires first { Within self.old.order edge.a }
         requires second { Within self.old.order edge.b }

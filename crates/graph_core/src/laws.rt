@@ -19,7 +19,8 @@ pub fn matching_law()
     ensures { (g : Graph) (m : Set) → IsMultigraph g → (IsMatching g none m ↔ ShareNoEnd g m) }
 {}
 
-/// The vertices of a set are as many as the edges of a perfect matching in its cut, and twice those inside.
+/// The vertices of a set are as many as the edges of a perfect matching in its cut, and twice
+/// those inside.
 #[tactic(auto, using(crate::proofs::Parity::parity))]
 pub fn parity_law()
     ensures { (g : Graph) (m x : Set) → IsGraph g → IsPerfect g none m →
@@ -32,7 +33,8 @@ pub fn walk_law()
         ((joined g s u v ≡ true) ↔ Joined g s u v) }
 {}
 
-/// A graph has at most one left side: the least vertex of each component fixes the side of each vertex.
+/// A graph has at most one left side: the least vertex of each component fixes the side of each
+/// vertex.
 pub fn left_side_law()
     ensures { (g : Graph) (xs ys : List ℕ) → IsGraph g → IsLeftSide g xs → IsLeftSide g ys →
         xs ≡ ys }
@@ -43,14 +45,16 @@ pub fn perfect_matching_law()
     ensures { (g : Graph) (r : Set) → ((has_perfect g r ≡ true) ↔ HasPerfect g r) }
 {}
 
-/// Weak duality: a matching of G - R misses at least as many vertices as G - R - S has odd components, less |S|.
+/// Weak duality: a matching of G - R misses at least as many vertices as G - R - S has odd
+/// components, less |S|.
 pub fn weak_duality_law()
     ensures { (g : Graph) (r s m : Set) → IsGraph g → IsMatching g r m →
         odd_component_count g (union r s) ≤ missed_count g r m + count g.order s }
 {}
 
-/// Uncrossing: where X and Y are tight shores at a partition whose quotient is covered, and an odd number of blocks is in
-/// both, then the intersection and the union are tight, and no edge joins the two differences.
+/// Uncrossing: where X and Y are tight shores at a partition whose quotient is covered, and an
+/// odd number of blocks is in both, then the intersection and the union are tight, and no edge
+/// joins the two differences.
 pub fn uncrossing_law()
     ensures tight { (g : Graph) (p : List (List ℕ)) (x y : Set) → IsGraph g → AreBlocks g.order p →
         IsCovered (contracted g p) →
@@ -68,8 +72,9 @@ pub fn complement_law()
         IsTightAt g p x → IsTightAt g p (complement x) }
 {}
 
-/// A tight shore as a list is not empty, and the list of the other vertices is the other shore, which is tight as well: so what
-/// is said of merging a tight shore is said of merging the other one too.
+/// A tight shore as a list is not empty, and the list of the other vertices is the other shore,
+/// which is tight as well: so what is said of merging a tight shore is said of merging the other
+/// one too.
 pub fn other_shore_law()
     ensures nonempty { (g : Graph) (p : List (List ℕ)) (x : List ℕ) → IsGraph g →
         AreBlocks g.order p → IsTightAt g p (mem x) → 0 < length x }
@@ -81,7 +86,8 @@ pub fn other_shore_law()
         IsTightAt g p (mem (complement_of g.order x)) }
 {}
 
-/// Merging a nonempty union of blocks gives a partition, in which the union is one block and all other blocks are as before.
+/// Merging a nonempty union of blocks gives a partition, in which the union is one block and all
+/// other blocks are as before.
 pub fn merge_law()
     ensures partition { (n : ℕ) (p : List (List ℕ)) (x : List ℕ) → IsPartition n p →
         IsRisingIn n x → 0 < length x → IsUnion n p (mem x) →
@@ -91,8 +97,8 @@ pub fn merge_law()
         IsMerge n p (mem x) (merged p x) }
 {}
 
-/// The single vertices of a graph are a partition, at which the graph is contracted to itself: a matching is perfect at it, and a
-/// shore tight at it, exactly where it is in the graph.
+/// The single vertices of a graph are a partition, at which the graph is contracted to itself: a
+/// matching is perfect at it, and a shore tight at it, exactly when it is in the graph.
 pub fn singles_law()
     ensures partition { (n : ℕ) → IsPartition n (singles n) }
     ensures same { (g : Graph) → IsGraph g → contracted g (singles g.order) ≡ g }
@@ -109,8 +115,9 @@ pub fn cut_at_law()
         edges_in_cut (contracted g p) m (blocks_in p x) ≡ edges_in_cut g m x }
 {}
 
-/// Contraction: where a tight shore X of a partition with a covered quotient is merged, the quotient stays covered, a shore
-/// that is tight then was tight before, and a shore that was tight and is a union of the new blocks is tight then.
+/// Contraction: where a tight shore X of a partition with a covered quotient is merged, the
+/// quotient stays covered, a shore that is tight then was tight before, and a shore that was
+/// tight and is a union of the new blocks is tight then.
 pub fn contraction_law()
     ensures covered { (g : Graph) (p : List (List ℕ)) (x : List ℕ) → IsGraph g →
         AreBlocks g.order p → IsRisingIn g.order x →
@@ -125,7 +132,7 @@ pub fn contraction_law()
         IsUnion g.order (merged p x) y → IsTightAt g (merged p x) y }
 {}
 
-/// A set of blocks is tight in the quotient exactly where it is in the contracted graph.
+/// A set of blocks is tight in the quotient exactly when it is in the contracted graph.
 pub fn quotient_law()
     ensures { (g : Graph) (p : List (List ℕ)) (y : Set) → IsGraph g → AreBlocks g.order p →
         (IsTight (quotient g p) y ↔ IsTight (contracted g p) y) }

@@ -1,4 +1,5 @@
-//! The search through a graph without a vertex set: its components, and for each of them a search tree.
+//! The search through a graph without a vertex set: its components, and for each of them a search
+//! tree.
 ghost use Rattle.std.specs.Prelude.{◌≡◌, ◌≢◌, ◌≤◌, ◌<◌, ◌+◌, ◌^◌, ◌==◌, ◌&&◌, ◌||◌, ℕ, true, false, [], All, IfOk, OnOk, length};
 ghost use Rattle.counting.specs.Counts.{Within};
 ghost use Rattle.counting.specs.Lists.{mem, item};
@@ -40,7 +41,8 @@ fn plant(nodes: &mut [TreeNode], v: u32)
     };
 }
 
-/// Takes the component of `root` out of the vertices of `within`, grows a tree on it, and answers those that are left.
+/// Takes the component of `root` out of the vertices of `within`, grows a tree on it, and answers
+/// those that are left.
 fn grow(rows: &[VSet], nodes: &mut [TreeNode], within: VSet, root: u32) -> VSet
     requires few { length rows.now ≤ MOST_VERTICES }
     requires graph { (g : Graph) × IsGraph g × AreRows g rows.now }
@@ -68,8 +70,8 @@ fn grow(rows: &[VSet], nodes: &mut [TreeNode], within: VSet, root: u32) -> VSet
     left
 }
 
-/// The components of the graph without `removed`, by least vertex. Writes for each vertex outside `removed` its place in the
-/// search tree of its component.
+/// The components of the graph without `removed`, by least vertex. Writes for each vertex outside
+/// `removed` its place in the search tree of its component.
 fn search(
     alloc: Global,
     rows: &[VSet],
@@ -97,7 +99,8 @@ fn search(
     Ok(parts)
 }
 
-/// What a search finds: the components by least vertex, and for each vertex its place in the search tree of its component.
+/// What a search finds: the components by least vertex, and for each vertex its place in the
+/// search tree of its component.
 #[derive(Drop)]
 pub(crate) struct Forest {
     pub(crate) parts: SetList,

@@ -17,7 +17,8 @@ use vset_core::{MOST_VERTICES, VSet};
 /// Whether a graph is bipartite, with what shows it.
 #[derive(Drop)]
 pub enum Sides {
-    /// Each edge has exactly one end in `left`, a rising list that holds the least vertex of each component.
+    /// Each edge has exactly one end in `left`, a rising list that holds the least vertex of each
+    /// component.
     Even { left: Numbers },
     /// A closed walk of odd length, its first vertex not repeated at the end.
     Odd { walk: Numbers },
@@ -92,7 +93,7 @@ fn set_of(numbers: &[u32]) -> VSet
     set
 }
 
-/// One side of a bipartite graph; `None` exactly where the graph is not bipartite.
+/// One side of a bipartite graph; `None` exactly when the graph is not bipartite.
 pub fn side_of(alloc: Global, g: &MultiGraph) -> Result<Option<VSet>, Memory>
     ensures some { IfOk result (λ o. (side : _) → o ≡ Some side → IsSide g.now (mem side)) }
     ensures none { IfOk result (λ o. (o ≡ None) ↔ ¬ (IsBipartite g.now)) }

@@ -8,8 +8,8 @@ ghost use Rattle.graph_core.specs.Trees.{way_up, way_down};
 use crate::Numbers;
 use std::alloc::{AllocError as Memory, Global};
 
-/// What a search keeps of a vertex: its parent in the search tree, and how many steps below the root it lies. A root has
-/// depth 0.
+/// What a search keeps of a vertex: its parent in the search tree, and how many steps below the
+/// root it lies. A root has depth 0.
 #[derive(Clone, Copy)]
 pub(crate) struct TreeNode {
     pub(crate) parent: u32,

@@ -17,7 +17,8 @@ pub enum Reason {
 /// Whether a graph is matching covered (Lovász and Plummer, "Matching Theory", chapter 5).
 #[derive(Clone, Copy, PartialEq, Eq)]
 pub enum Verdict {
-    /// It is: it has at least two vertices and is connected, and each edge is in a perfect matching.
+    /// It is: it has at least two vertices and is connected, and each edge is in a perfect
+    /// matching.
     Covered,
     /// It is not, for this reason.
     NotCovered(Reason),

@@ -104,7 +104,7 @@ impl<'g> Covered<'g> {
         let _ = self.facts.graph();
     }
 
-    /// One side; `None` exactly where the graph is not bipartite.
+    /// One side; `None` exactly when the graph is not bipartite.
     pub fn side(&self) -> Option<VSet>
         ensures some { (side : _) → result ≡ Some side → IsSide self.now (mem side) }
         ensures none { (result ≡ None) ↔ ¬ (IsBipartite self.now) }

@@ -92,7 +92,7 @@ impl<'g> Facts<'g> {
         self.parts.len() as u32
     }
 
-    /// One side; `None` exactly where the graph is not bipartite.
+    /// One side; `None` exactly when the graph is not bipartite.
     pub fn side(&self) -> Option<VSet>
         ensures some { (side : _) → result ≡ Some side → IsSide self.now (mem side) }
         ensures none { (result ≡ None) ↔ ¬ (IsBipartite self.now) }
@@ -118,7 +118,7 @@ impl<'g> Facts<'g> {
         &self.frame
     }
 
-    /// The table of partners, `None` exactly where the graph has no perfect matching.
+    /// The table of partners, `None` exactly when the graph has no perfect matching.
     pub fn table(&self) -> &Option<PartnerTable>
         ensures table { IfSome result.now (ArePartners self.now none) }
         ensures perfect { (result.now ≡ None) ↔ ¬ (HasPerfect self.now none) }

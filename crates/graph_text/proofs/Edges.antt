@@ -1,5 +1,5 @@
--- The edges of a multigraph, one by one down its list of ends: what holds of the ends of each edge by its number holds of
--- each pair of the list.
+-- The edges of a multigraph, one by one down its list of ends: what holds of the ends of each
+-- edge by its number holds of each pair of the list.
 use Rattle.std.proofs.Common.{◌≡◌, ◌≢◌, ◌<◌, ◌-◌, ℕ, suc, List, [], ◌∷◌, length, get_or, arith, subst}
 use Rattle.std.specs.List.{AllByRecursion}
 use Rattle.counting.specs.Counts.{Within}

@@ -1,5 +1,5 @@
--- Lists of different names: a word of the form of a name is ASCII, hence UTF-8; a word that is none of the names has no
--- place among them; and a further one keeps the names different.
+-- Lists of different names: a word of the form of a name is ASCII, hence UTF-8; a word that is
+-- none of the names has no place among them; and a further one keeps the names different.
 use Rattle.std.proofs.Common.{◌≡◌, ◌≢◌, ◌<◌, ◌+◌, inl, inr, ℕ, suc, zero, Bool, true, false, not, cond, nat_lt, ◌||◌, List, [], ◌∷◌, ◌++◌, length, map, get_or, Some, None, refl, sym, ◌∙◌, ap, ap₂, arith, subst, position, String, Global, Result, Ok, Err, IfOk, OnErr, is_some}
 use Rattle.std.specs.List.{list_any, list_all, position_or_len, AllByRecursion}
 use Rattle.std.specs.Str.{bytes_eq, IsUtf8, IsAscii}
@@ -107,7 +107,7 @@ AreNames-more names name are is none few = record { each = each-more names name 
           are.differ i j before less (sym (get_or-append names (name ∷ []) [] i (omega arith)) ∙ same ∙ get_or-append names (name ∷ []) [] j less)
     ]
 
--- a new text goes behind the others of a set
+-- a new text goes after the others of a set
 module _ (same : String Global → String Global → Bool) (tells : (a b : String Global) → same a b ≡ bytes_eq (string_bytes a) (string_bytes b)) where
   absent : (keys : List (String Global)) (text : String Global) → is_among (map string_bytes keys) (string_bytes text) ≡ false → list_any (same text) keys ≡ false
   absent [] text none = refl
@@ -126,7 +126,7 @@ module _ (same : String Global → String Global → Bool) (tells : (a b : Strin
       subst AreNames (sym (ap (map string_bytes) keys ∙ keys-inserted old text name text_is none)) (AreNames-more (map string_bytes old) name are is none few)
   AreNames-inserted (Err e) old new text name keys err text_is is none few are = subst AreNames (sym (ap (map string_bytes) err)) are
 
--- a word has a place exactly where it is one of the names
+-- a word has a place exactly when it is one of the names
 place-within : (names : List (List ℕ)) (word : List ℕ) → nat_lt (position_or_len (bytes_eq word) names) (length names) ≡ is_among names word
 place-within [] word = refl
 place-within (name ∷ names) word = elim (cases_Bool (bytes_eq word name)) [

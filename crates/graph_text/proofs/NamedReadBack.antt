@@ -1,5 +1,6 @@
--- What is written of a graph with names is read as this graph with these names: the header leads to no names and no edges, the
--- lines of the names put them one behind the other, and the line of each edge adds it, since different names have different places.
+-- What is written of a graph with names is read as this graph with these names: the header leads
+-- to no names and no edges, the lines of the names put them one after the other, and the line of
+-- each edge adds it, since different names have different places.
 use Rattle.std.proofs.Common.{inl, inr, nat_le, ◌≡◌, ◌≢◌, ◌+◌, ◌-◌, ◌≤◌, ◌<◌, ◌==◌, ◌||◌, ◌&&◌, not, ℕ, List, [], ◌∷◌, ◌++◌, length, map, get_or, codes, true, false, Some, Ok, refl, sym, ◌∙◌, ap, subst, arith, append_assoc}
 use Rattle.std.specs.List.{AllByRecursion, list_all}
 use Rattle.std.specs.Str.{bytes_eq}

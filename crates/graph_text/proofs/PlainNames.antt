@@ -1,5 +1,6 @@
--- The plain names `v1`, `v2` and so on are different names: a number below 10 ^ 9 is written in one to nine digits, and is read
--- again, so that equal names have equal numbers. Each name behind the others is therefore new, by induction over their number.
+-- The plain names `v1`, `v2` and so on are different names: a number below 10 ^ 9 is written in
+-- one to nine digits, and is read again, so that equal names have equal numbers. Each name after
+-- the others is therefore new, by induction over their number.
 use Rattle.std.proofs.Common.{◌≡◌, ◌≤◌, ◌<◌, ◌^◌, ℕ, zero, suc, true, false, [], ◌∷◌, ◌++◌, length, inl, inr, refl, sym, ◌∙◌, ap, ap₂, ◌||◌, arith, Some}
 use Rattle.std.specs.Fmt.{decimal}
 use Rattle.std.specs.Str.{bytes_eq}

@@ -1,5 +1,6 @@
--- What is written of a graph in version 1 is read as this graph: the header leads to the graph without edges, and the line
--- of each edge adds it, by induction over the edges. No test of the tables applies.
+-- What is written of a graph in version 1 is read as this graph: the header leads to the graph
+-- without edges, and the line of each edge adds it, by induction over the edges. No test of the
+-- tables applies.
 use Rattle.std.proofs.Common.{◌≡◌, ◌+◌, ◌≤◌, ◌<◌, ℕ, List, [], ◌∷◌, ◌++◌, length, map, true, Some, Ok, refl, ap, subst, arith, append_assoc}
 use Rattle.std.specs.List.{AllByRecursion}
 use Rattle.std.proofs.lemmas.Bool.Decides.{nat_tests}
@@ -57,7 +58,7 @@ Stands-graph_text g fits =
     (body g.order (size g) [], header-taken g.order (size g) vertices edges, edges-taken g.order (size g) [] g.ends (omega arith) (omega arith) each)
     (grind (arith, nat_tests))
 
--- comments behind it change nothing
+-- comments after it change nothing
 pub Stands-commented : (g : Graph) (comments : List ℕ) → FitsVersionOne g → AllByRecursion (λ line. is_skipped (words_of line) ≡ true) (lines_of comments) → Stands version_one (graph_text g ++ comments) g
 unfolding graph_text
 Stands-commented g comments fits skipped =

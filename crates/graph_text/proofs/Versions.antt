@@ -1,6 +1,7 @@
--- Version 1 within both versions. Where the header is not one of version 2, the two formats say the same to each line, so by
--- induction over the lines the same comes of the text. A header of version 2 is none of version 1; behind it names are kept,
--- so that no graph without names comes of the text.
+-- Version 1 within both versions. Where the header is not one of version 2, the two formats say
+-- the same to each line, so by induction over the lines the same comes of the text. A header of
+-- version 2 is none of version 1; after it names are kept, so that no graph without names comes
+-- of the text.
 use Rattle.std.proofs.Common.{◌≡◌, ◌↔◌, ℕ, ◌+◌, ◌==◌, ◌&&◌, ◌||◌, not, nat_lt, Bool, true, false, cond, codes, List, [], ◌∷◌, ◌++◌, length, Option, Some, None, is_some, Result, Ok, Err, IfOk, inl, inr, refl, sym, ◌∙◌, ap, ap₂, subst}
 use Rattle.std.specs.Result.{result_map_both}
 use Rattle.std.specs.Str.{bytes_eq}
@@ -40,7 +41,7 @@ seen-step : (number : ℕ) (lines : List SignificantLine) (count : ℕ) (stepped
 seen-step number lines count (Ok body) rest = rest body
 seen-step number lines count (Err kind) rest = refl
 
--- the lines behind a header of version 1
+-- the lines after a header of version 1
 reading-nameless : (body : GraphSoFar) (lines : List SignificantLine) (count : ℕ) → reading_from either_version (Some (nameless body)) lines count ≡ seen (reading_from version_one (Some body) lines count)
 reading-nameless body [] count = seen-end (count + 1) (graph_end body)
 reading-nameless body (line ∷ lines) count =
@@ -92,7 +93,7 @@ refused number false rest next is = refl
 refused-named : (line : SignificantLine) (lines : List SignificantLine) (count : ℕ) → is_named_header line.words ≡ true → reading_from version_one None (line ∷ lines) count ≡ Err (line.number, kind.Header)
 refused-named line lines count is = refused line.number (is_plain_header line.words) _ _ (header-named line.words is)
 
--- behind it names are kept
+-- after it names are kept
 abbrev HasNames : EitherSoFar → Type 0
 HasNames either = is_some either.names ≡ true
 

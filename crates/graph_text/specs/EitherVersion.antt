@@ -1,5 +1,5 @@
--- Both versions of the graph format. The second word of the header tells which one it is: version 2 has a header `p mcg2 N M`,
--- N lines `v NAME` and M lines `e X Y` between names.
+-- Both versions of the graph format. The second word of the header tells which one it is: version
+-- 2 has a header `p mcg2 N M`, N lines `v NAME` and M lines `e X Y` between names.
 use Rattle.std.specs.Prelude.{ℕ, ◌==◌, ◌&&◌, ◌||◌, not, nat_lt, Bool, false, List, [], ◌∷◌, ◌++◌, codes, length, Option, Some, None, Result, Ok, Err, if◌then◌else◌}
 use Rattle.std.specs.Str.{bytes_eq}
 use Rattle.std.specs.Result.{result_map_both}
@@ -81,13 +81,14 @@ named_edge_line body names words =
     ∷ [])
     (named_so_far (record body { graph = with_edge body.graph (vertex_of names x) (vertex_of names y) }) names)
 
--- a line behind the header in version 2: the names of all vertices come first, then the edges, then nothing
+-- a line after the header in version 2: the names of all vertices come first, then the edges,
+-- then nothing
 abbrev pub named_line : GraphSoFar → List (List ℕ) → List (List ℕ) → Result EitherSoFar FaultKind
 named_line body names words =
     if nat_lt (length names) body.graph.order then vertex_line body names words
     else (if size body.graph == body.edges then Err kind.Extra else named_edge_line body names words)
 
--- a significant line behind the header
+-- a significant line after the header
 abbrev pub line_behind : GraphSoFar → Option (List (List ℕ)) → List (List ℕ) → Result EitherSoFar FaultKind
 line_behind body None words = result_map_both (λ next. record { so_far = next; names = None }) (λ k. k) (graph_line body words)
 line_behind body (Some names) words = named_line body names words
@@ -113,6 +114,7 @@ abbrev pub begin_named : List SignificantLine → Bool
 begin_named [] = false
 begin_named (line ∷ lines) = is_named_header line.words
 
--- a text is judged by version 2 exactly where its first significant line is a header of that version, and else by version 1
+-- a text is judged by version 2 exactly when its first significant line is a header of that
+-- version, and else by version 1
 abbrev pub is_version_two : List ℕ → Bool
 is_version_two text = begin_named (significant_lines_of text)

@@ -1,4 +1,5 @@
--- The lines that both versions of the graph format share: what has been read so far, and an edge between numbered vertices.
+-- The lines that both versions of the graph format share: what has been read so far, and an edge
+-- between numbered vertices.
 use Rattle.std.specs.Prelude.{ℕ, ◌==◌, ◌&&◌, ◌||◌, not, List, [], ◌∷◌, codes, Result, Ok, Err, if◌then◌else◌}
 use Rattle.line_text.specs.Format.{checked}
 use Rattle.line_text.specs.Words.{has_form, word_at}
@@ -25,7 +26,7 @@ edge_line body words =
     ∷ [])
     (record body { graph = with_edge body.graph a b })
 
--- a significant line behind the header is an edge, or too much where all edges have been read
+-- a significant line after the header is an edge, or too much where all edges have been read
 abbrev pub graph_line : GraphSoFar → List (List ℕ) → Result GraphSoFar FaultKind
 graph_line body words = if size body.graph == body.edges then Err kind.Extra else edge_line body words
 

@@ -13,15 +13,18 @@ edge_words edge = codes "e" ∷ decimal edge.0 ∷ decimal edge.1 ∷ []
 abbrev pub header_words : ℕ → ℕ → List (List ℕ)
 header_words order edges = codes "p" ∷ codes "mcg" ∷ decimal order ∷ decimal edges ∷ []
 
--- the words of the lines of a graph in version 1: the header, and a line for each edge in the order of their numbers
+-- the words of the lines of a graph in version 1: the header, and a line for each edge in the
+-- order of their numbers
 abbrev pub graph_words : Graph → List (List (List ℕ))
 graph_words g = header_words g.order (size g) ∷ map edge_words g.ends
 
--- the text of a graph in version 1: one space between words, a line feed behind each line, numbers in decimal
+-- the text of a graph in version 1: one space between words, a line feed after each line, numbers
+-- in decimal
 unfoldable pub graph_text : Graph → List ℕ
 graph_text g = written (graph_words g)
 
--- the words of the header of version 2, of the line of a name, and of the line of an edge between named vertices
+-- the words of the header of version 2, of the line of a name, and of the line of an edge between
+-- named vertices
 abbrev pub named_header_words : ℕ → ℕ → List (List ℕ)
 named_header_words order edges = codes "p" ∷ codes "mcg2" ∷ decimal order ∷ decimal edges ∷ []
 
@@ -32,7 +35,8 @@ abbrev pub named_edge_words : List (List ℕ) → ℕ × ℕ → List (List ℕ)
 named_edge_words names edge =
     codes "e" ∷ slice_index_or names (edge.0 - 1) [] ∷ slice_index_or names (edge.1 - 1) [] ∷ []
 
--- the words of the lines of a graph in version 2: the header, a line for each name and a line for each edge
+-- the words of the lines of a graph in version 2: the header, a line for each name and a line for
+-- each edge
 abbrev pub named_words : Graph → List (List ℕ) → List (List (List ℕ))
 named_words g names = named_header_words g.order (size g) ∷ map name_words names ++ map (named_edge_words names) g.ends
 

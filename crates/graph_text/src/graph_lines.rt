@@ -35,7 +35,7 @@ fn add_edge(body: &mut Body, words: &[&[u8]]) -> Result<(), Refusal<FaultKind>>
     }
 }
 
-/// A significant line behind the header.
+/// A significant line after the header.
 pub fn read_edge(body: &mut Body, words: &[&[u8]]) -> Result<(), Refusal<FaultKind>>
     ensures { Gives (λ _. so_far body.new) result
         (graph_line (so_far body.old) (texts_of words.now)) }

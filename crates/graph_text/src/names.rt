@@ -38,8 +38,8 @@ fn has_form_of_name(word: &[u8]) -> bool
     !word.is_empty() && word.len() <= MOST_BYTES && are_name_bytes(word)
 }
 
-/// The word as a name, or `None` exactly where it does not have the form of one: 1 to 16 bytes, each an ASCII letter, a digit,
-/// `_`, `-` or `.`.
+/// The word as a name, or `None` exactly when it does not have the form of one: 1 to 16 bytes,
+/// each an ASCII letter, a digit, `_`, `-` or `.`.
 pub fn name_of(word: &[u8]) -> Option<&str>
     ensures is { is_some result ≡ is_name word.now }
     ensures same { IfSome result (λ name. name.now ≡ word.now) }
@@ -50,8 +50,8 @@ pub fn name_of(word: &[u8]) -> Option<&str>
     str::from_utf8(word).ok()
 }
 
-/// The names of the vertices of a graph, at most 128: the k-th is that of vertex k. Contracts see a list of different names, each of
-/// 1 to 16 ASCII letters, digits, `_`, `-` or `.`.
+/// The names of the vertices of a graph, at most 128: the k-th is that of vertex k. Contracts see
+/// a list of different names, each of 1 to 16 ASCII letters, digits, `_`, `-` or `.`.
 #[derive(Drop)]
 pub struct Names {
     names: IndexSet<String>,
@@ -81,7 +81,8 @@ impl Names {
         }
     }
 
-    /// The law that these are different names. It does nothing: a caller states it where it needs it.
+    /// The law that these are different names. It does nothing: a caller states it where it needs
+    /// it.
     pub fn are_names(&self)
         ensures { AreNames self.now }
     {
@@ -103,7 +104,8 @@ impl Names {
         self.names.as_slice()[i].as_str()
     }
 
-    /// The place of the name that the word is, counted from 0, or `None` exactly where it is none of the names. Takes no memory.
+    /// The place of the name that the word is, counted from 0, or `None` exactly when it is none
+    /// of the names. Takes no memory.
     pub fn place(&self, word: &[u8]) -> Option<usize>
         ensures { result ≡ position (bytes_eq word.now) self.now }
     {
@@ -119,7 +121,8 @@ impl Names {
         self.place(word).is_some()
     }
 
-    /// The number of the vertex whose name the word is, or `None` exactly where it is none of the names. Takes no memory.
+    /// The number of the vertex whose name the word is, or `None` exactly when it is none of the
+    /// names. Takes no memory.
     pub fn vertex(&self, word: &[u8]) -> Option<u32>
         ensures none { is_some result ≡ is_among self.now word.now }
         ensures some { IfSome result (λ v. v ≡ vertex_of self.now word.now) }
@@ -130,7 +133,7 @@ impl Names {
         Some(place as u32 + 1)
     }
 
-    /// Puts a further name behind the others.
+    /// Puts a further name after the others.
     pub fn push(&mut self, alloc: Global, name: &str) -> Result<(), Memory>
         requires is { is_name name.now ≡ true }
         requires new { is_among self.old name.now ≡ false }
@@ -146,7 +149,7 @@ impl Names {
     }
 }
 
-// Puts the plain name of a vertex behind the others.
+// Puts the plain name of a vertex after the others.
 fn push_plain(alloc: Global, names: &mut Names, vertex: u32) -> Result<(), Memory>
     requires new { is_among names.old (plain_name vertex) ≡ false }
     requires few { length names.old < MOST_VERTICES }
@@ -157,7 +160,8 @@ fn push_plain(alloc: Global, names: &mut Names, vertex: u32) -> Result<(), Memor
     names.push(alloc, &name)
 }
 
-/// The plain names of `n` vertices: `v1`, `v2` and so on, that of vertex k being `v` and k in decimal.
+/// The plain names of `n` vertices: `v1`, `v2` and so on, that of vertex k being `v` and k in
+/// decimal.
 pub fn plain_names(alloc: Global, n: u32) -> Result<Names, Memory>
     requires { n ≤ MOST_VERTICES }
     ensures names { IfOk result (λ names. names ≡ plain_names n) }

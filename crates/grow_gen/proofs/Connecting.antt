@@ -1,6 +1,7 @@
--- A splice of two covered cubic graphs is connected. Idea: let no edge leave a set S of its vertices. By parity each of the
--- joined edges is inside S where S has an odd number of old vertices, and else each is outside; so S, with the vertex that
--- was given up put on that side, is all or nothing in both graphs.
+-- A splice of two covered cubic graphs is connected. Idea: let no edge leave a set S of its
+-- vertices. By parity each of the joined edges is inside S where S has an odd number of old
+-- vertices, and else each is outside; so S, with the vertex that was given up put on that side,
+-- is all or nothing in both graphs.
 use Rattle.std.proofs.Common.{◌≡◌, ℕ, suc, ◌+◌, ◌≤◌, ◌≢◌, Bool, true, false, cond, ◌==◌, ◌&&◌, ◌||◌, not, inl, inr, List, [], ◌∷◌, length, map, filter, refl, sym, ap, ap₂, ◌∙◌, arith, subst, eq-eqb, ne_eqb}
 use Rattle.counting.specs.Counts.{Within, bit}
 use Rattle.counting.specs.Sets.{Set, none}
@@ -88,7 +89,8 @@ crosses-none b x e h = ap (λ p. bit (b && ((p && not (x e.1)) || (not p && x e.
     clear true false = refl
     clear false s = refl
 
--- where no edge of the splice leaves x, the edges of g that leave x without w are those at w with their new end in x
+-- where no edge of the splice leaves x, the edges of g that leave x without w are those at w with
+-- their new end in x
 pub sum_edges-crossing : (n w : ℕ) (x : Set) (ts : List ℕ) (bs : List Bool) (es : List (ℕ × ℕ)) → Each (IsEdge n) es → Each (Stays x) (rehung_edges w ts es) → length bs ≡ length es → length (flags_at w bs es) ≤ length ts →
     sum_edges (λ b e. bit (b && crosses (without w x) e)) bs es ≡ caught x (flags_at w bs es) ts
 sum_edges-crossing n w x ts bs [] c s l f = refl
@@ -137,7 +139,8 @@ each-stays_old n w x s (t ∷ ts) (e ∷ es) c k l h = by_test (is_at w e)
       | inr p ↦ answer-other w e.0 s x p.1 ∙ subst (Stays x) p.2 z ∙ q ∙ sym (answer-own w e.1 s x p.0)
     ]
 
--- with 1 put where its neighbours are, no edge of h leaves the set of vertices whose new numbers are in x
+-- with 1 put where its neighbours are, no edge of h leaves the set of vertices whose new numbers
+-- are in x
 pub each-stays_new : (k n w : ℕ) (x : Set) (s : Bool) (es : List (ℕ × ℕ)) → Each (IsEdge k) es → Each (Stays x) (map (renumbered_edge n w) (kept_edges es)) → Each (λ v. x (new_number n w v) ≡ s) (ends_beside 1 es) → Each (Stays (with_answer 1 s (λ v. x (new_number n w v)))) es
 each-stays_new k n w x s [] c z b = tt
 each-stays_new k n w x s (e ∷ es) c z b = by_test (is_at 1 e)

@@ -1,5 +1,5 @@
--- A splice of two covered cubic graphs is covered. Idea: its edges are allowed, and it is connected since a set that no edge
--- leaves holds the new ends of all joined edges or of none.
+-- A splice of two covered cubic graphs is covered. Idea: its edges are allowed, and it is
+-- connected since a set that no edge leaves holds the new ends of all joined edges or of none.
 use Rattle.std.proofs.Common.{◌≡◌, ℕ, suc, zero, ◌+◌, ◌-◌, ◌*◌, ◌≤◌, ◌<◌, ◌≢◌, Bool, true, false, ◌&&◌, inl, inr, List, [], ◌∷◌, map, refl, sym, ap, ap₂, ◌∙◌, arith, subst, cond, not}
 use Rattle.std.specs.Prelude.{slice_index_or}
 use Rattle.counting.specs.Counts.{Within, bit, count, is_odd}

@@ -1,5 +1,6 @@
--- Sums over the edges of a graph, taken along the list of edges with a list of marks for a set of edges.
--- Idea: a sum from 1 on is its first term and the sum that begins one later, so it follows the list.
+-- Sums over the edges of a graph, taken along the list of edges with a list of marks for a set of
+-- edges. Idea: a sum from 1 on is its first term and the sum that begins one later, so it follows
+-- the list.
 use Rattle.std.proofs.Common.{◌≡◌, ℕ, suc, zero, ◌+◌, ◌-◌, ◌≤◌, ◌<◌, Bool, true, false, cond, ◌==◌, ◌&&◌, List, [], ◌∷◌, ◌++◌, length, filter, refl, sym, ap, ap₂, ◌∙◌, arith, subst}
 use Rattle.std.specs.Prelude.{slice_index_or}
 use Rattle.std.proofs.lemmas.List.{get_or_append_left, get_or-append-add}
@@ -127,7 +128,7 @@ length-marks_where p (b ∷ bs) (e ∷ es) l = by_test (p e) (λ s. length (cond
 abbrev pub StandsAt : (ℕ × ℕ → Bool) → List (ℕ × ℕ) → ℕ → ℕ → Type 0
 StandsAt p es c i = Within (length es) i × ((bs : List Bool) → length bs ≡ length es → slice_index_or (marks_where p bs es) c false ≡ marked bs i)
 
--- the same behind one edge more, of which the test is known
+-- the same after one edge more, of which the test is known
 abbrev StandsBehind : (ℕ × ℕ → Bool) → List (ℕ × ℕ) → ℕ → ℕ → Bool → Type 0
 StandsBehind p es c i s = Within (suc (length es)) i × ((b : Bool) (bs : List Bool) → length bs ≡ length es → slice_index_or (cond s (b ∷ marks_where p bs es) (marks_where p bs es)) c false ≡ marked (b ∷ bs) i)
 

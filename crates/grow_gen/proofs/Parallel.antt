@@ -1,5 +1,6 @@
--- A splice of graphs without parallel edges has none. Idea: two vertices of one side are joined by at most the edges that
--- joined them, and an old and a new vertex only by the one edge at w whose target the new vertex is.
+-- A splice of graphs without parallel edges has none. Idea: two vertices of one side are joined
+-- by at most the edges that joined them, and an old and a new vertex only by the one edge at w
+-- whose target the new vertex is.
 use Rattle.std.proofs.Common.{◌≡◌, ℕ, suc, ◌+◌, ◌-◌, ◌≤◌, ◌<◌, ◌≢◌, Bool, true, false, cond, ◌==◌, ◌&&◌, ◌||◌, not, ◌⊎◌, inl, inr, List, [], ◌∷◌, ◌++◌, length, map, filter, refl, sym, ap, ap₂, ◌∙◌, arith, subst, eq-eqb, ne_eqb, eqb-true, le_trans}
 use Rattle.std.specs.Prelude.{slice_index_or}
 use Rattle.std.proofs.lemmas.Bool.{or_cases, or_from, or_left, or_right, and_parts, and_from, and_left, and_right}
@@ -83,7 +84,7 @@ link_count-append : (u v : ℕ) (es fs : List (ℕ × ℕ)) → link_count u v (
 link_count-append u v [] fs = omega arith
 link_count-append u v (e ∷ es) fs = omega (arith, link_count-append u v es fs)
 
--- a new end joins no two vertices that are no targets
+-- a new end joins no two vertices that are not targets
 links-rehung_old : (w u v : ℕ) (ts : List ℕ) (es : List (ℕ × ℕ)) → ((t : ℕ) → mem ts t ≡ true → (t ≢ u) × (t ≢ v)) → link_count u v (rehung_edges w ts es) ≤ link_count u v es
 links-rehung_old w u v ts [] h = omega arith
 links-rehung_old w u v [] (e ∷ es) h = omega arith

@@ -1,5 +1,5 @@
--- A list of three items in the order of a permutation: what does it keep? Its members, how many marks are true, and how many of its
--- items that pass are marked.
+-- A list of three items in the order of a permutation: what does it keep? Its members, how many
+-- marks are true, and how many of its items that pass are marked.
 use Rattle.std.proofs.Common.{◌≡◌, ℕ, suc, zero, ◌-◌, ◌<◌, Bool, true, false, ◌==◌, ◌||◌, ◌⊎◌, inl, inr, List, [], ◌∷◌, length, map, refl, sym, arith, eqb-true}
 use Rattle.std.specs.Prelude.{slice_index, slice_index_or}
 use Rattle.std.proofs.lemmas.Bool.{or_cases, true≢false}

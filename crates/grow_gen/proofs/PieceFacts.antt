@@ -1,5 +1,5 @@
--- The pieces are cubic, matching covered multigraphs. Idea: tests that compute, with three perfect matchings that hold all
--- edges, and all vertices reached from vertex 1 along the edges.
+-- The pieces are cubic, matching covered multigraphs. Idea: tests that compute, with three
+-- perfect matchings that hold all edges, and all vertices reached from vertex 1 along the edges.
 use Rattle.std.proofs.Common.{◌≡◌, ℕ, ◌≤◌, Bool, true, false, cond, ◌==◌, ◌&&◌, ◌||◌, not, inl, inr, List, [], ◌∷◌, refl, sym, ap, ◌∙◌, arith, eqb-true, nat_le, leb-true}
 use Rattle.std.proofs.lemmas.Bool.{and_parts, or_cases, eqb-false, not-true, true≢false}
 use Rattle.counting.specs.Counts.{Within}

@@ -1,4 +1,5 @@
--- One step along the edges, where those at w get new ends: what is done and what is still to be done make up the whole.
+-- One step along the edges, where those at w get new ends: what is done and what is still to be
+-- done make up the whole.
 use Rattle.std.proofs.Common.{◌≡◌, ℕ, ◌+◌, ◌<◌, true, false, cond, List, [], ◌∷◌, ◌++◌, length, get_or, set, take, drop, map, sym, ap, ap₂, ◌∙◌, arith, append_assoc, ◌⊎◌, inl, inr}
 use Rattle.std.proofs.lemmas.List.{take_more, take_more_set, drop_more, drop-set-lt, map-append}
 use Rattle.graph_core.specs.View.{pair_of}

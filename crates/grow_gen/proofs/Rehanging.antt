@@ -1,5 +1,6 @@
--- What changes where the edges at w get other ends in the place of w: nothing at the other vertices, and a new end meets
--- the edges that were given it. Idea: along the list of edges, with the marks of the edges at w taken out in order.
+-- What changes where the edges at w get other ends in the place of w: nothing at the other
+-- vertices, and a new end meets the edges that were given it. Idea: along the list of edges, with
+-- the marks of the edges at w taken out in order.
 use Rattle.std.proofs.Common.{◌≡◌, ℕ, suc, ◌+◌, ◌≤◌, ◌<◌, ◌≢◌, Bool, true, false, cond, ◌==◌, ◌&&◌, ◌⊎◌, inl, inr, List, [], ◌∷◌, length, refl, sym, ap, ap₂, ◌∙◌, arith, subst, eq-eqb, ne_eqb, eqb-true}
 use Rattle.std.proofs.lemmas.Bool.{cases_eq, or_cases, or_parts, both_ways, or_left, or_right}
 use Rattle.counting.specs.Counts.{Within, bit}
@@ -74,7 +75,7 @@ sum_edges-rehung_elsewhere w v (t ∷ ts) (b ∷ bs) (e ∷ es) d h l =
       | inr p ↦ ap (ends_at v b) p.2 ∙ ap (λ k. bit (b && (e.0 == v)) + k) (no_end b t v (h t (member-first t ts)) ∙ sym (no_end b e.1 v (λ q. d (sym q ∙ p.0))))
     ]
 
--- y is no end of the edge but perhaps in the place of w, and the edge is no loop
+-- y is not an end of the edge but perhaps in the place of w, and the edge is not a loop
 abbrev pub IsClear : ℕ → ℕ → ℕ × ℕ → Type 0
 IsClear w y e = (e.0 ≡ y → e.0 ≡ w) × (e.1 ≡ y → e.1 ≡ w) × (e.0 ≢ e.1)
 

@@ -1,5 +1,6 @@
--- The edges that a spliced graph brings in: those not at its vertex 1, with new numbers for their ends. Idea: a vertex has
--- all its edges, once those to vertex 1 are counted among the edges that got new ends.
+-- The edges that a spliced graph brings in: those not at its vertex 1, with new numbers for their
+-- ends. Idea: a vertex has all its edges, once those to vertex 1 are counted among the edges that
+-- got new ends.
 use Rattle.std.proofs.Common.{◌≡◌, ℕ, ◌+◌, ◌-◌, ◌≤◌, ◌<◌, ◌≢◌, Bool, true, cond, ◌==◌, ◌&&◌, not, ◌⊎◌, inl, inr, List, [], ◌∷◌, length, map, filter, refl, sym, ap, ap₂, ◌∙◌, arith, subst, eq-eqb, ne_eqb}
 use Rattle.std.proofs.lemmas.Bool.{cases_eq, cases_lt}
 use Rattle.counting.specs.Counts.{Within, bit}

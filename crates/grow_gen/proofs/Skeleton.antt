@@ -1,4 +1,5 @@
--- The classes of the skeleton as rising lists. Idea: a rising list is fixed by its members, and all of them are vertices.
+-- The classes of the skeleton as rising lists. Idea: a rising list is fixed by its members, and
+-- all of them are vertices.
 use Rattle.std.proofs.Common.{◌≡◌, ℕ, suc, zero, ◌+◌, ◌-◌, ◌≤◌, ◌<◌, Bool, true, false, cond, ◌==◌, ◌&&◌, ◌||◌, not, ◌⊎◌, inl, inr, List, [], ◌∷◌, length, get_or, take, map, refl, sym, ap, ◌∙◌, arith, eqb-true, eq-eqb}
 use Rattle.std.proofs.lemmas.Bool.{cases_lt, or_cases, or_left, or_right, and_parts, true≢false, false_from_ne_true}
 use Rattle.std.proofs.lemmas.List.{take_more, map-append}

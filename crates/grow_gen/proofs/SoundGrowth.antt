@@ -1,5 +1,6 @@
--- A graph that grows stays a covered cubic multigraph, and each piece finds a vertex. Idea: class A gets at least two vertices
--- with each bipartite piece and gives up at most one with each other piece, and no two others come in a row.
+-- A graph that grows stays a covered cubic multigraph, and each piece finds a vertex. Idea: class
+-- A gets at least two vertices with each bipartite piece and gives up at most one with each other
+-- piece, and no two others come in a row.
 use Rattle.std.proofs.Common.{◌≡◌, ℕ, suc, zero, ◌+◌, ◌-◌, ◌*◌, ◌/◌, ◌%◌, ◌≤◌, ◌<◌, ◌≢◌, Bool, true, false, cond, ◌==◌, ◌&&◌, ◌||◌, not, inl, inr, List, [], ◌∷◌, length, map, filter, refl, sym, ap, ap₂, ◌∙◌, arith, eq-eqb, ne_eqb}
 use Rattle.std.specs.Prelude.{slice_index, slice_index_or}
 use Rattle.std.proofs.lemmas.List.{length-append, length-map}

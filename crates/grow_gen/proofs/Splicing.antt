@@ -1,5 +1,6 @@
--- Is a splice of two covered cubic graphs a covered cubic graph? Yes: a perfect matching of each that agree on the edges
--- that are joined give one of the splice, and each edge is in such a pair since each of the joined edges is allowed.
+-- Is a splice of two covered cubic graphs a covered cubic graph? Yes: a perfect matching of each
+-- that agree on the edges that are joined give one of the splice, and each edge is in such a pair
+-- since each of the joined edges is allowed.
 use Rattle.std.proofs.Common.{◌≡◌, ℕ, ◌+◌, ◌-◌, ◌≤◌, ◌<◌, ◌≢◌, Bool, true, ◌==◌, ◌&&◌, not, ◌⊎◌, inl, inr, List, [], ◌∷◌, ◌++◌, length, map, filter, refl, sym, ap, ap₂, ◌∙◌, arith, subst}
 use Rattle.std.specs.Prelude.{slice_index_or}
 use Rattle.std.proofs.lemmas.List.{length-append, length-map}
@@ -123,7 +124,8 @@ module _ (g h : Graph) (w i : ℕ) (mg : IsMultigraph g) (mh : IsMultigraph h) (
       same s t u = ap₂ ◌+◌ (ap (λ z. bit (s && z)) (new_number-same g.order w ww beside.0 x beside-in_range.0.0 a))
           (ap₂ ◌+◌ (ap (λ z. bit (t && z)) (new_number-same g.order w ww beside.1 x beside-in_range.1.0 a)) (ap₂ ◌+◌ (ap (λ z. bit (u && z)) (new_number-same g.order w ww beside.2 x beside-in_range.2.0 a)) refl))
 
-  -- each vertex of the splice has as many ends as it has in its graph, if all in their graphs have k
+  -- each vertex of the splice has as many ends as it has in its graph, if all in their graphs
+  -- have k
   degree-both : (k : ℕ) (bs cs : List Bool) → length bs ≡ size g → length cs ≡ size h → Agree bs cs → ((v : ℕ) → Within g.order v → degree g (marked bs) v ≡ k) → ((v : ℕ) → Within h.order v → degree h (marked cs) v ≡ k) →
       (v : ℕ) → Within (g.order + h.order - 2) v → degree (splice g w h (permutation i)) (marked (both_marks bs cs)) v ≡ k
   degree-both k bs cs lb lc agree dg dh v u = elim (old_or_new g.order w ww h.order v two u) [

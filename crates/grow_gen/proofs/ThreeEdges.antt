@@ -1,5 +1,5 @@
--- The three edges at a vertex of a cubic graph. Idea: the marks of the edges at a vertex are a list of three, and
--- exactly one of them is true for a perfect matching.
+-- The three edges at a vertex of a cubic graph. Idea: the marks of the edges at a vertex are a
+-- list of three, and exactly one of them is true for a perfect matching.
 use Rattle.std.proofs.Common.{◌≡◌, ℕ, suc, zero, ◌+◌, ◌<◌, Bool, true, false, cond, ◌==◌, ◌&&◌, inl, inr, List, [], ◌∷◌, length, filter, refl, sym, ap, ◌∙◌, arith, eq-eqb}
 use Rattle.std.specs.Prelude.{slice_index_or}
 use Rattle.std.proofs.lemmas.Bool.{true≢false}

@@ -1,4 +1,5 @@
--- The pieces of a generated graph: K3,3, K4, the triangular prism and the cube, which are cubic and matching covered.
+-- The pieces of a generated graph: K3,3, K4, the triangular prism and the cube, which are cubic
+-- and matching covered.
 use Rattle.std.specs.Prelude.{ℕ, ◌%◌, Bool, true, false, List, [], ◌∷◌, slice_index_or}
 use Rattle.graph_core.specs.Graph.{Graph}
 use Rattle.grow_gen.specs.declared.pieces.Piece.{Piece}
@@ -29,8 +30,8 @@ is_bipartite_piece K4 = false
 is_bipartite_piece Prism = false
 is_bipartite_piece Cube = true
 
--- the vertices 2 and on of a bipartite piece that are on the side of the neighbours of vertex 1, or on the side of vertex 1;
--- none of a piece that is not bipartite
+-- the vertices 2 and on of a bipartite piece that are on the side of the neighbours of vertex 1,
+-- or on the side of vertex 1; none of a piece that is not bipartite
 abbrev pub side : Piece → Bool → List ℕ
 side K33 true = 4 ∷ 5 ∷ 6 ∷ []
 side K33 false = 2 ∷ 3 ∷ []

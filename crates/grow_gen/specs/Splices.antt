@@ -1,5 +1,6 @@
--- Splicing (Lucchesi and Murty, "Perfect Matchings"): a vertex of one graph and a vertex of another are taken away, and the
--- edges that ended there are joined in pairs. Here the second graph gives up its vertex 1.
+-- Splicing (Lucchesi and Murty, "Perfect Matchings"): a vertex of one graph and a vertex of
+-- another are taken away, and the edges that ended there are joined in pairs. Here the second
+-- graph gives up its vertex 1.
 use Rattle.std.specs.Prelude.{ℕ, ◌+◌, ◌-◌, Bool, List, [], ◌∷◌, ◌++◌, ◌==◌, ◌||◌, not, map, filter, slice_index, slice_index_or, if◌then◌else◌}
 use Rattle.graph_core.specs.Graph.{Graph}
 
@@ -23,8 +24,8 @@ permutations = (1 ∷ 2 ∷ 3 ∷ []) ∷ (1 ∷ 3 ∷ 2 ∷ []) ∷ (2 ∷ 1 �
 abbrev pub permutation : ℕ → List ℕ
 permutation i = slice_index_or permutations i []
 
--- the number that vertex x of a graph gets when it is spliced at w into a graph of n vertices: 2 becomes w, and 3 and the
--- further ones follow n
+-- the number that vertex x of a graph gets when it is spliced at w into a graph of n vertices: 2
+-- becomes w, and 3 and the further ones follow n
 abbrev pub new_number : ℕ → ℕ → ℕ → ℕ
 new_number n w x = if x == 2 then w else n + x - 2
 
@@ -46,8 +47,8 @@ targets_of n w h order = map (λ p. new_number n w (slice_index (neighbours h 1)
 abbrev pub renumbered_edge : ℕ → ℕ → ℕ × ℕ → ℕ × ℕ
 renumbered_edge n w e = (new_number n w e.0, new_number n w e.1)
 
--- h spliced with its vertex 1 into g at w: the i-th edge at w ends at the neighbour of vertex 1 that the permutation names at
--- place i, and the edges of h that are not at vertex 1 follow
+-- h spliced with its vertex 1 into g at w: the i-th edge at w ends at the neighbour of vertex 1
+-- that the permutation names at place i, and the edges of h that are not at vertex 1 follow
 unfoldable pub splice : Graph → ℕ → Graph → List ℕ → Graph
 splice g w h order = record {
   order = g.order + h.order - 2;

@@ -112,7 +112,8 @@ impl Piece {
         }
     }
 
-    /// The vertices that take part in the skeleton: of a bipartite piece those opposite to vertex 1, or the others but 1.
+    /// The vertices that take part in the skeleton: of a bipartite piece those opposite to vertex
+    /// 1, or the others but 1.
     pub fn side(self, opposite: bool) -> &'static [u32]
         ensures { result.now ≡ side self opposite }
     {

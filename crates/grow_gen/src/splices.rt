@@ -9,7 +9,8 @@ use graph_core::Ends;
 use std::alloc::AllocError as Memory;
 use vset_core::MOST_VERTICES;
 
-/// The number that vertex `x`, 2 or greater, of a piece gets when it is spliced at `w` into a graph of `n` vertices.
+/// The number that vertex `x`, 2 or greater, of a piece gets when it is spliced at `w` into a
+/// graph of `n` vertices.
 pub fn new_number(n: u32, w: u32, x: u32) -> u32
     requires { n + x < 2 ^ 32 }
     ensures { result ≡ new_number n w x }

@@ -1,4 +1,5 @@
--- The kind of a covered graph: brace, brick or composite (Lovász 1987; Lucchesi and Murty, "Perfect Matchings").
+-- The kind of a covered graph: brace, brick or composite (Lovász 1987; Lucchesi and Murty,
+-- "Perfect Matchings").
 use Rattle.std.specs.Prelude.{ℕ, ◌≤◌, List, Option, Some, None}
 use Rattle.counting.specs.Lists.{mem}
 use Rattle.graph_core.specs.Graph.{Graph, IsBipartite}
@@ -7,7 +8,8 @@ use Rattle.graph_core.specs.Tight.{IsTight, IsNontrivial, HasNoTightCut}
 use Rattle.graph_core.specs.declared.verdict.Kind.{Kind}
 use Rattle.graph_core.specs.declared.verdict.Kind.TheVariants.{Brace, Brick, Composite}
 
--- a brace is bipartite and a brick is not, and neither has a nontrivial tight cut; a composite graph is shown by the shore of one
+-- a brace is bipartite and a brick is not, and neither has a nontrivial tight cut; a composite
+-- graph is shown by the shore of one
 abbrev pub IsKind : Graph → Kind → Type 0
 IsKind g Brace = IsBipartite g × HasNoTightCut g
 IsKind g Brick = (¬ IsBipartite g) × HasNoTightCut g

@@ -13,8 +13,8 @@ use std::alloc::{AllocError as Memory, Global};
 use tight_cuts::first_cut;
 use vset_core::VSet;
 
-/// The kind of a covered graph: composite exactly where it has a nontrivial tight cut, shown by the
-/// shore that `find_any` gives, and otherwise a brace exactly where it is bipartite, and a brick
+/// The kind of a covered graph: composite exactly when it has a nontrivial tight cut, shown by the
+/// shore that `find_any` gives, and otherwise a brace exactly when it is bipartite, and a brick
 /// where it is not (Lovász 1987). A graph called a brick has at least four vertices, is bicritical
 /// and has no cut pair.
 pub fn kind(alloc: Global, g: &MultiGraph) -> Result<Kind, Memory>

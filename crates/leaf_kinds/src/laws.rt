@@ -4,7 +4,8 @@ ghost use Rattle.graph_core.specs.Graph.{Graph, IsMultigraph};
 ghost use Rattle.graph_core.specs.declared.verdict.Kind.TheVariants.{Brick};
 ghost use Rattle.leaf_kinds.specs.LeafKinds.{IsKind, IsSolid};
 
-/// A brick has at least four vertices, is bicritical and has no cut pair (Edmonds, Lovász and Pulleyblank 1982; Lovász 1987).
+/// A brick has at least four vertices, is bicritical and has no cut pair (Edmonds, Lovász and
+/// Pulleyblank 1982; Lovász 1987).
 pub fn brick_law()
     ensures { (g : Graph) → IsMultigraph g → IsCovered g → IsKind g Brick → IsSolid g }
 {}

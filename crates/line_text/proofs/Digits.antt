@@ -1,5 +1,5 @@
--- Reading digits from the front: each digit more takes ten times the number and leaves one place less, so that the
--- number of nine digits at most stays below 10 ^ 9.
+-- Reading digits from the front: each digit more takes ten times the number and leaves one place
+-- less, so that the number of nine digits at most stays below 10 ^ 9.
 use Rattle.std.proofs.Common.{◌≡◌, ℕ, zero, suc, ◌+◌, ◌-◌, ◌*◌, ◌^◌, ◌≤◌, ◌<◌, List, [], ◌∷◌, true, false, arith, subst, sym, ap, refl, length, get_or, None}
 use Rattle.std.specs.Char.{is_ascii_digit}
 use Rattle.std.specs.List.{list_all}

@@ -1,5 +1,6 @@
--- Reading line by line and the two relations on the whole text say the same. Each step of a good beginning is forced by
--- the line, so an induction over the significant lines, for every state, leads from one to the other.
+-- Reading line by line and the two relations on the whole text say the same. Each step of a good
+-- beginning is forced by the line, so an induction over the significant lines, for every state,
+-- leads from one to the other.
 use Rattle.std.proofs.Common.{◌≡◌, ◌⊎◌, inl, inr, ℕ, ◌+◌, List, [], ◌∷◌, ◌++◌, length, map, Option, Some, None, Result, Ok, Err, IfOk, IfErr, refl, sym, ◌∙◌, ap, subst}
 use Rattle.line_text.specs.Lines.{lines_of}
 use Rattle.line_text.specs.Words.{SignificantLine, significant_lines_of}
@@ -86,7 +87,7 @@ module _ {Body Value Kind : Type 0} (rules : Rules Body Value Kind) where
   explains from (line ∷ lines) count =
       explains-cons from line lines count _ refl (λ body. explains (Some body) lines count)
 
-  -- reading gives the value exactly where the text stands for it
+  -- reading gives the value exactly when the text stands for it
   pub Stands-reading_of : (text : List ℕ) (value : Value) → Stands rules text value → reading_of rules text ≡ Ok value
   Stands-reading_of text value stands = reading_from-value None _ _ stands.reached value stands.begins stands.ends
 
@@ -98,7 +99,7 @@ module _ {Body Value Kind : Type 0} (rules : Rules Body Value Kind) where
   pub Stands-from_reading : (text : List ℕ) (value : Value) → reading_of rules text ≡ Ok value → Stands rules text value
   Stands-from_reading text value is = Stands-from_explains text _ (explains None _ _) value is
 
-  -- and the fault exactly where it is the first one
+  -- and the fault exactly when it is the first one
   pub FirstFault-reading_of : (text : List ℕ) (number : ℕ) (kind : Kind) → FirstFault rules text number kind → reading_of rules text ≡ Err (number, kind)
   FirstFault-reading_of text number kind (inl at) =
       ap (λ (ls : List SignificantLine). reading_from rules None ls (length (lines_of text))) at.cut ∙ reading_from-at_line None at.before at.line at.after _ at.reached kind at.begins at.breaks ∙ ap (λ (n : ℕ). Err (n, kind)) at.numbered
@@ -123,7 +124,8 @@ module _ {Body Value Kind : Type 0} (rules : Rules Body Value Kind) where
   pub FirstFault-from_reading : (text : List ℕ) (number : ℕ) (kind : Kind) → reading_of rules text ≡ Err (number, kind) → FirstFault rules text number kind
   FirstFault-from_reading text number kind is = FirstFault-from_explains text _ (explains None _ _) number kind is
 
-  -- so a reader whose answer comes of the text names the value that it stands for, or its first fault
+  -- so a reader whose answer comes of the text names the value that it stands for, or its first
+  -- fault
   pub IfOk-reads : {X : Type 0} (meaning : X → Value) (text : List ℕ) (result : Result X (LineFault Kind)) → Reads meaning result (reading_of rules text) → IfOk result (λ x. Stands rules text (meaning x))
   IfOk-reads meaning text (Ok x) reads = Stands-from_reading text (meaning x) reads
   IfOk-reads meaning text (Err failed) reads = tt

@@ -1,5 +1,5 @@
--- The first words of a line are compared with keywords pair by pair, as far as the shorter list goes: a pair that
--- differs decides, and so does a keyword to which no word is left.
+-- The first words of a line are compared with keywords pair by pair, as far as the shorter list
+-- goes: a pair that differs decides, and so does a keyword to which no word is left.
 use Rattle.std.proofs.Common.{◌≡◌, ℕ, ◌<◌, ◌≤◌, List, [], ◌∷◌, length, false, ◌&&◌, refl, ap, arith}
 use Rattle.std.specs.Borrow.{Bor}
 use Rattle.std.specs.List.{list_all, zip}

@@ -1,5 +1,5 @@
--- One line more: a skipped line changes nothing, and what the format says to a significant line decides what comes of
--- it and the lines behind it.
+-- One line more: a skipped line changes nothing, and what the format says to a significant line
+-- decides what comes of it and the lines after it.
 use Rattle.std.proofs.Common.{◌≡◌, ℕ, ◌+◌, List, [], ◌∷◌, Bool, true, false, cond, Option, Some, Result, Ok, Err, refl, ◌∙◌, ap}
 use Rattle.std.specs.Result.{result_map_both}
 use Rattle.line_text.specs.declared.format.Refusal.{Refusal}
@@ -14,7 +14,7 @@ Fails-placed number (refusal.Fault kind) given outcome refuses follows = follows
 Fails-placed number refusal.Memory given outcome refuses follows = tt
 
 module _ {Body Value Kind : Type 0} (rules : Rules Body Value Kind) (from : Option Body) (number : ℕ) (count : ℕ) where
-  -- what comes of the lines behind this one
+  -- what comes of the lines after this one
   abbrev onward : List (List ℕ) → Option Body → Result Value (ℕ × Kind)
   onward lines next = reading_from rules next (significant_from (number + 1) lines) count
 

@@ -1,5 +1,6 @@
--- A text is cut into lines from the front: up to the first line feed stands the first line, behind it the others.
--- What stands behind a line feed has parts of its own, so the part before it is a line, even an empty one.
+-- A text is cut into lines from the front: up to the first line feed stands the first line, after
+-- it the others. What stands after a line feed has parts of its own, so the part before it is a
+-- line, even an empty one.
 use Rattle.std.proofs.Common.{◌≡◌, inl, inr, ℕ, ◌+◌, ◌<◌, ◌≤◌, List, [], ◌∷◌, ◌++◌, length, position, unwrap_or, Bool, true, false, cond, refl, sym, ◌∙◌, ap, arith}
 use Rattle.std.specs.List.{slice_split, onto_first, position_or_len, before_first, after_first}
 use Rattle.std.proofs.lemmas.Bool.{cases_Bool, cases_lt, lt-ltb}
@@ -62,7 +63,7 @@ pub lines_of-nil : lines_of [] ≡ []
 unfolding lines_of
 lines_of-nil = refl
 
--- a text that is not empty has a first line, and the lines of what stands behind its line feed
+-- a text that is not empty has a first line, and the lines of what stands after its line feed
 pub lines_of-first : (text : List ℕ) → 0 < length text → lines_of text ≡ before_first is_line_feed text ∷ lines_of (after_first is_line_feed text)
 lines_of-first text some = elim (cases_lt (position_or_len is_line_feed text) (length text)) [
   | inl fed ↦ lines_of-fed text fed

@@ -1,5 +1,6 @@
--- What is written is read as it was meant: lines by line feeds, words by spaces, numbers by their digits. Byte by byte,
--- a line feed begins a new line, and any other byte stands at the front of the first line of what follows it.
+-- What is written is read as it was meant: lines by line feeds, words by spaces, numbers by their
+-- digits. Byte by byte, a line feed begins a new line, and any other byte stands at the front of
+-- the first line of what follows it.
 use Rattle.std.proofs.Common.{◌≡◌, inl, inr, ℕ, ◌+◌, List, [], ◌∷◌, ◌++◌, length, map, filter, Bool, true, false, not, ◌||◌, ◌==◌, cond, Option, Some, None, Ok, refl, sym, ◌∙◌, ap, subst, arith}
 use Rattle.std.specs.List.{slice_split, onto_first, list_all, AllByRecursion, All}
 use Rattle.std.proofs.lemmas.Bool.{cases_Bool, and_parts, and_from, or_parts, not-true}
@@ -22,7 +23,7 @@ lines_of-line (byte ∷ line) rest one =
     let each = and_parts (not (is_line_feed byte)) (is_one_line line) one in
     lines_of-byte byte (line ++ 10 ∷ rest) (not-true _ each.0) ∙ ap (onto_first byte) (lines_of-line line rest each.1)
 
--- more text behind a closed one has lines of its own
+-- more text after a closed one has lines of its own
 pub lines_of-append : (text tail : List ℕ) → is_closed text ≡ true → lines_of (text ++ tail) ≡ lines_of text ++ lines_of tail
 lines_of-append [] tail closed = rw lines_of-nil refl
 lines_of-append (byte ∷ []) tail closed =

@@ -1,4 +1,5 @@
--- A table of tests that gives a value: none of its tests applies, and the value is that of the table.
+-- A table of tests that gives a value: none of its tests applies, and the value is that of the
+-- table.
 use Rattle.std.proofs.Common.{◌≡◌, List, [], ◌∷◌, Bool, true, false, if◌then◌else◌, Result, Ok, Err, refl, sym, ◌∙◌, ap}
 use Rattle.std.specs.List.{AllByRecursion}
 use Rattle.std.proofs.lemmas.Bool.{both_ways}

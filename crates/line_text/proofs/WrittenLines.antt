@@ -1,5 +1,5 @@
--- The text of a list of lines is that of the first and then that of the others, and a line is its first word and each further
--- word behind a space.
+-- The text of a list of lines is that of the first and then that of the others, and a line is its
+-- first word and each further word after a space.
 use Rattle.std.proofs.Common.{◌≡◌, ◌+◌, ◌<◌, ℕ, suc, List, [], ◌∷◌, ◌++◌, length, get_or, map, take, refl, sym, ◌∙◌, ap, arith, append_assoc}
 use Rattle.std.proofs.Math.Seq.{take-suc}
 use Rattle.std.proofs.lemmas.List.{append-nil, map-append}
@@ -21,7 +21,7 @@ written-more words_of before xs i d less =
     ∙ ap written (sym (append_assoc before (map words_of (take i xs)) (words_of (get_or xs i d) ∷ [])))
     ∙ written-append (before ++ map words_of (take i xs)) (words_of (get_or xs i d) ∷ [])
 
--- words, each behind a space
+-- words, each after a space
 abbrev pub spaced : List (List ℕ) → List ℕ
 spaced [] = []
 spaced (word ∷ words) = 32 ∷ (word ++ spaced words)

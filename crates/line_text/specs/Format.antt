@@ -3,8 +3,9 @@ use Rattle.std.specs.Prelude.{◌≡◌, ◌⊎◌, ℕ, ◌+◌, List, [], ◌�
 use Rattle.line_text.specs.Lines.{lines_of}
 use Rattle.line_text.specs.Words.{SignificantLine, significant_lines_of}
 
--- a format: a rule each for the header, for a line behind the header and for the end of the text, which goes on with
--- what has been read so far or names a fault, and the fault of a text without a header
+-- a format: a rule each for the header, for a line after the header and for the end of the text,
+-- which goes on with what has been read so far or names a fault, and the fault of a text without
+-- a header
 pub record Rules (Body Value Kind : Type 0) : Type 0 where
   pub header : List (List ℕ) → Result Body Kind
   pub line : Body → List (List ℕ) → Result Body Kind
@@ -32,7 +33,8 @@ module _ {Body Value Kind : Type 0} (rules : Rules Body Value Kind) where
   Begins from [] to = to ≡ from
   Begins from (words ∷ lines) to = (body : Body) × (step from words ≡ Ok body) × Begins (Some body) lines to
 
-  -- the text stands for the value: its significant lines are a good beginning, at whose end the format has this value
+  -- the text stands for the value: its significant lines are a good beginning, at whose end the
+  -- format has this value
   pub record Stands (text : List ℕ) (value : Value) : Type 0 where
     pub reached : Option Body
     pub begins : Begins None (map (λ line. line.words) (significant_lines_of text)) reached
@@ -49,7 +51,7 @@ module _ {Body Value Kind : Type 0} (rules : Rules Body Value Kind) where
     pub begins : Begins None (map (λ l. l.words) before) reached
     pub breaks : step reached line.words ≡ Err kind
 
-  -- all significant lines are a good beginning, but the text ends too early, behind its last line
+  -- all significant lines are a good beginning, but the text ends too early, after its last line
   pub record BreaksAtEnd (text : List ℕ) (number : ℕ) (kind : Kind) : Type 0 where
     pub numbered : number ≡ length (lines_of text) + 1
     pub reached : Option Body

@@ -40,11 +40,12 @@ go_on number (Ok body) next = next body
 go_on number (Err kind) next = Err (number, kind)
 
 module _ {Body Value Kind : Type 0} (rules : Rules Body Value Kind) where
-  -- the state behind a line with these words, which says nothing where it is skipped
+  -- the state after a line with these words, which says nothing where it is skipped
   abbrev pub state_after : Option Body → List (List ℕ) → Result (Option Body) Kind
   state_after from words = if is_skipped words then Ok from else result_map_both (λ body. Some body) (λ kind. kind) (step rules from words)
 
-  -- what comes of further significant lines in a text of so many lines: the value, or the first fault's line and kind
+  -- what comes of further significant lines in a text of so many lines: the value, or the first
+  -- fault's line and kind
   abbrev pub reading_from : Option Body → List SignificantLine → ℕ → Result Value (ℕ × Kind)
   reading_from from [] count = go_on (count + 1) (finish rules from) (λ value. Ok value)
   reading_from from (line ∷ lines) count =

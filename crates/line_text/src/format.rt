@@ -3,8 +3,8 @@ ghost use Rattle.std.specs.Prelude.{◌≡◌};
 
 use std::alloc::{AllocError, AllocFailed};
 
-/// Why a rule of a format does not go on: a fault of the text, by its kind, or memory. `?` makes `Memory` of an
-/// allocator's error.
+/// Why a rule of a format does not go on: a fault of the text, by its kind, or memory. `?` makes
+/// `Memory` of an allocator's error.
 #[derive(Clone, Copy, Debug, PartialEq, Eq, Drop)]
 pub enum Refusal<K> {
     /// The line, or the end of the text, breaks the format in this way.
@@ -36,8 +36,8 @@ impl<K, T: Drop> From<AllocFailed<T>> for Refusal<K> {
 /// Why a text is not read.
 #[derive(Clone, Copy, Debug, PartialEq, Eq, Drop)]
 pub enum LineFault<K> {
-    /// The first fault of the text and the number of its line, counted from 1. Where the text ends too early, that is the
-    /// number of its lines plus one.
+    /// The first fault of the text and the number of its line, counted from 1. Where the text
+    /// ends too early, that is the number of its lines plus one.
     At { line: u32, kind: K },
     /// Memory ran out, whatever the text says.
     Memory,
@@ -45,10 +45,11 @@ pub enum LineFault<K> {
 
 /// A format of texts, line by line, with its parameters: a value of the type is one format.
 ///
-/// The ghost member `rules` says what the format is, over plain values: a `State` for what has been read so far, seen by
-/// `state`, and a `Meaning` for what a text stands for, seen by `meaning`. Each method answers what its rule says, or
-/// that memory ran out. The tests within a line are made in the order of the rule's table, each for all words of the
-/// line before the next.
+/// The ghost member `rules` says what the format is, over plain values: a `State` for what has
+/// been read so far, seen by `state`, and a `Meaning` for what a text stands for, seen by
+/// `meaning`. Each method answers what its rule says, or that memory ran out. The tests within a
+/// line are made in the order of the rule's table, each for all words of the line before the
+/// next.
 pub trait LineFormat {
     ghost use Rattle.line_text.specs.Format.{Rules};
     ghost use Rattle.line_text.specs.Reading.{Gives};
@@ -77,7 +78,8 @@ pub trait LineFormat {
     fn header(&self, words: &[&[u8]]) -> Result<Self::Body, Refusal<Self::Kind>>
         ensures { Gives state result ((rules self.now).header (texts_of words.now)) };
 
-    /// What has been read once a further line is, by the words of the line, after what had been read before it.
+    /// What has been read once a further line is, by the words of the line, after what had been
+    /// read before it.
     fn line(&self, body: Self::Body, words: &[&[u8]]) -> Result<Self::Body, Refusal<Self::Kind>>
         ensures { Gives state result ((rules self.now).line (state body) (texts_of words.now)) };
 

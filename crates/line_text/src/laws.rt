@@ -1,4 +1,5 @@
-//! Laws of formats: a text stands for one value or has one first fault, and comments change neither.
+//! Laws of formats: a text stands for one value or has one first fault, and comments change
+//! neither.
 ghost use Rattle.std.specs.Prelude.{◌≡◌, ◌<◌, ◌⊎◌, ◌^◌, ℕ, List, ◌++◌, true, Option, Some, None, Ok};
 ghost use Rattle.std.specs.Fmt.{decimal};
 ghost use Rattle.std.specs.List.{AllByRecursion};
@@ -21,8 +22,8 @@ pub fn reading_tells<F: LineFormat>()
     ensures { (format : F) (text : List ℕ) → ReadingTells (F.rules format) text }
 {}
 
-/// A text that is written line by line stands for the value that the format has at the end of these lines, whatever
-/// comments follow.
+/// A text that is written line by line stands for the value that the format has at the end of
+/// these lines, whatever comments follow.
 pub fn written_text_stands<F: LineFormat>()
     ensures { (format : F) (lines comments : List (List (List ℕ))) (reached : Option F.State)
         (value : F.Meaning)

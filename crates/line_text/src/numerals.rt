@@ -33,9 +33,11 @@ fn value_of_digits(digits: &[u8]) -> u32
     value
 }
 
-/// The number that a word writes in decimal, from 0 to 999,999,999: one to nine ASCII digits, leading zeros allowed.
+/// The number that a word writes in decimal, from 0 to 999,999,999: one to nine ASCII digits,
+/// leading zeros allowed.
 ///
-/// `None` exactly where the word is no number: where it has no byte, more than nine, or one that is no ASCII digit.
+/// `None` exactly when the word is not a number: where it has no byte, more than nine, or one
+/// that is no ASCII digit.
 #[tactic(auto, unfolding(crate::specs::Numerals::number_of))]
 pub fn number(word: &[u8]) -> Option<u32>
     ensures { result ≡ number_of word.now }
@@ -47,7 +49,8 @@ pub fn number(word: &[u8]) -> Option<u32>
     }
 }
 
-/// The numbers that words write, in their order, or `None` exactly where one of the words is no number.
+/// The numbers that words write, in their order, or `None` exactly when one of the words is not a
+/// number.
 pub fn numbers(alloc: Global, words: &[&[u8]]) -> Result<Option<Vec<u32>>, Memory>
     ensures { IfOk result
         (λ found. option_map (λ values. values.items) found ≡ numbers_of (texts_of words.now)) }

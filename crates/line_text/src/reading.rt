@@ -1,5 +1,5 @@
-//! One reader for all formats: it takes the significant lines in order, and answers the value that the text stands for, or its first
-//! fault.
+//! One reader for all formats: it takes the significant lines in order, and answers the value
+//! that the text stands for, or its first fault.
 ghost use Rattle.std.specs.Prelude.{◌≡◌, ◌<◌, ◌-◌, ◌^◌, ℕ, map, length, IfOk, IfErr, Ok, Err};
 ghost use Rattle.std.specs.Option.{option_map};
 ghost use Rattle.line_text.specs.Words.{words_of};
@@ -80,16 +80,17 @@ fn read_lines<F: LineFormat>(
 
 /// What a text stands for in a format, or its first fault.
 ///
-/// `Ok` comes exactly where the text stands for a value, which is then the answer, and `LineFault::At` exactly where it
-/// has a first fault, with its line and kind; `LineFault::Memory` may come in place of either. Nothing but `header`, `line`
-/// and `close` of the format is asked, each once for a line that is not skipped and once for the end, and the time of
-/// the rest grows with the number of bytes.
+/// `Ok` comes exactly when the text stands for a value, which is then the answer, and
+/// `LineFault::At` exactly when it has a first fault, with its line and kind; `LineFault::Memory`
+/// may come in place of either. Nothing but `header`, `line` and `close` of the format is asked,
+/// each once for a line that is not skipped and once for the end, and the time of the rest grows
+/// with the number of bytes.
 pub fn read<F: LineFormat>(
     alloc: Global,
     format: &F,
     text: &[u8],
 ) -> Result<F::Value, LineFault<F::Kind>>
-    // The number of a line, and that behind the last, fits 32 bits.
+    // The number of a line, and that after the last, fits 32 bits.
     requires { length text.now < 2 ^ 32 - 1 }
     ensures value { IfOk result (λ value. Stands (F.rules format.now) text.now (F.meaning value)) }
     ensures fault { IfErr result (IsFirst (F.rules format.now) text.now) }

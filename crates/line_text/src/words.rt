@@ -13,7 +13,8 @@ fn is_blank(byte: u8) -> bool
     matches!(byte, b' ' | b'\t' | b'\r')
 }
 
-/// The words of a line, as pieces of it: its longest runs of bytes that are neither space, tab nor carriage return.
+/// The words of a line, as pieces of it: its longest runs of bytes that are neither space, tab
+/// nor carriage return.
 ///
 /// Takes memory for the list of the pieces alone.
 pub fn split_words(alloc: Global, line: &[u8]) -> Result<Vec<&[u8]>, Memory>
@@ -24,7 +25,8 @@ pub fn split_words(alloc: Global, line: &[u8]) -> Result<Vec<&[u8]>, Memory>
         .collect(alloc)
 }
 
-/// Whether a line with these words is skipped: it has none, or its first word is exactly `c`, which marks a comment.
+/// Whether a line with these words is skipped: it has none, or its first word is exactly `c`,
+/// which marks a comment.
 pub fn is_skipped(words: &[&[u8]]) -> bool
     ensures { result ≡ is_skipped (texts_of words.now) }
 {

@@ -1,6 +1,7 @@
--- What is left of a matching when the edges with an end in a set are taken out, and how many vertices it then misses.
--- A row is left exactly where its edge has no end in the set. If the set holds the ends of edges of a perfect matching and of
--- one more edge, then at most one edge more is taken out than there are such edges, since that one has two ends.
+-- What is left of a matching when the edges with an end in a set are taken out, and how many
+-- vertices it then misses. A row is left exactly when its edge has no end in the set. If the set
+-- holds the ends of edges of a perfect matching and of one more edge, then at most one edge more
+-- is taken out than there are such edges, since that one has two ends.
 use Rattle.std.proofs.Common.{◌≡◌, ℕ, suc, zero, ◌+◌, ◌*◌, ◌≤◌, ◌<◌, ◌≢◌, Bool, true, false, ◌==◌, ◌&&◌, ◌||◌, ◌⊎◌, not, refl, sym, ap, ap₂, ◌∙◌, arith, List, [], ◌∷◌, length, map, filter, cond, inl, inr, eqb-true, eq-eqb, subst}
 use Rattle.std.specs.Prelude.{All}
 use Rattle.std.proofs.lemmas.Bool.{both_ways, cases_Bool, cases_eq, and_parts, or_cases, or_left, or_right, not-true}
@@ -119,7 +120,8 @@ end_at g k v h = elim h [
   | inr q ↦ let z = ap bit (eq-eqb (second_end g k) v q) in omega arith
 ]
 
--- p is perfect, the edges c share no vertex, met are their ends, and all of c but e, which is one of them, are in p
+-- p is perfect, the edges c share no vertex, met are their ends, and all of c but e, which is one
+-- of them, are in p
 module _ (g : Graph) (is : IsGraph g) (p c met : Set) (e : ℕ) (perfect : IsPerfect g none p) (once : MeetOnce g c met) (we : Within (size g) e) (ce : c e ≡ true) (others : (i : ℕ) → Within (size g) i → c i ≡ true → i ≢ e → p i ≡ true) where
   abbrev taken : Set
   taken = meet p (has_end_in g met)

@@ -1,5 +1,6 @@
--- What a matching with a frame is: maximum, with the Gallai-Edmonds sets as its outer and inner vertices; perfect exactly
--- where there is no outer vertex. A missed vertex is outer, and an outer vertex is missed by some matching as large.
+-- What a matching with a frame is: maximum, with the Gallai-Edmonds sets as its outer and inner
+-- vertices; perfect exactly where there is no outer vertex. A missed vertex is outer, and an
+-- outer vertex is missed by some matching as large.
 use Rattle.std.proofs.Common.{◌≡◌, ℕ, suc, zero, ◌≤◌, ◌<◌, ◌≢◌, Bool, true, false, ◌==◌, ◌↔◌, refl, sym, ap, ◌∙◌, arith, List, [], ◌∷◌, length, subst, inl, inr, eq-eqb}
 use Rattle.std.proofs.lemmas.Bool.{both_ways, true≢false, false_from_ne_true}
 use mathlib.Core.Path.{fun_ext}
@@ -35,7 +36,8 @@ whole_matching g r m mm = record { once = mm.once; away = λ v w q. absurd (true
 pub listed_marks : (g : Graph) (m : Set) (e : ℕ) → Within (size g) e → mem (rising_list (size g) m) e ≡ m e
 listed_marks g m e w = mem-rising_list (size g) m e w
 
--- the marks of a perfect matching are passed on, and made a list of edges: this is a perfect matching again
+-- the marks of a perfect matching are passed on, and made a list of edges: this is a perfect
+-- matching again
 module _ (g : Graph) (r : Set) (mark passed : List Bool) (passed_is : passed ≡ mark) (p : IsPerfect g r (marks mark)) where
   pub passed_matching : IsMatching g none (marks passed)
   passed_matching = subst (λ (row : List Bool). IsMatching g none (marks row)) (sym passed_is) (whole_matching g r (marks mark) (perfect_matching g r (marks mark) p))
@@ -116,7 +118,7 @@ module _ (g : Graph) (is : IsGraph g) (removed : List ℕ) (b : Best) (nothing :
     pub inner_rises : IsRisingIn 128 b.sets.inner → IsRisingIn g.order b.sets.inner
     inner_rises rises = set-narrower 128 g.order b.sets.inner rises (λ v q. ((best.sets v).1 q).1)
 
--- a matching with a frame is perfect exactly where there is no outer vertex
+-- a matching with a frame is perfect exactly when there is no outer vertex
 module _ (g : Graph) (is : IsGraph g) (r m outer inner : Set) (mm : IsMatching g r m) (frame : Frame g r (count (size g) m) outer inner) where
   no_outer-perfect : ((v : ℕ) → outer v ≡ false) → IsPerfect g r m
   no_outer-perfect h = record { once = λ v w rv. one (degree g m v) (mm.once v w) (λ z. met v w rv z); away = mm.away }
@@ -149,7 +151,7 @@ some-mem : (xs : List ℕ) → 0 < length xs → (v : ℕ) × (mem xs v ≡ true
 some-mem [] l = absurd (omega arith)
 some-mem (x ∷ xs) l = (x, Rattle.std.proofs.lemmas.Bool.or_left (x == x) (mem xs x) (eq-eqb x x refl))
 
--- what the engine answers is perfect exactly where its list of outer vertices is empty
+-- what the engine answers is perfect exactly when its list of outer vertices is empty
 module _ (g : Graph) (is : IsGraph g) (r : Set) (b : Best) (best : IsBest g r b) where
   pub no_outer-best_perfect : length b.sets.outer ≡ 0 → IsPerfect g r (marks b.mark.items)
   no_outer-best_perfect nothing = no_outer-perfect g is r (marks b.mark.items) (mem b.sets.outer) (mem b.sets.inner) best.matching best.frame (empty-mem b.sets.outer nothing)

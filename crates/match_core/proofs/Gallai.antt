@@ -1,5 +1,6 @@
--- Gallai's lemma: where each vertex is missed by some maximum matching, none misses two vertices of one component.
--- By induction on a walk between the two, and an exchange of one edge that makes two maximum matchings share one edge more.
+-- Gallai's lemma: where each vertex is missed by some maximum matching, none misses two vertices
+-- of one component. By induction on a walk between the two, and an exchange of one edge that
+-- makes two maximum matchings share one edge more.
 use Rattle.std.proofs.Common.{◌≡◌, ℕ, suc, zero, ◌+◌, ◌*◌, ◌≤◌, ◌<◌, ◌≢◌, Bool, true, false, cond, ◌==◌, refl, sym, ap, ◌∙◌, arith, ◌&&◌, not, eq-eqb, ne_eqb, eqb-true, inl, inr, subst, List, [], ◌∷◌}
 use Rattle.std.proofs.lemmas.Bool.{cases_eq, cases_Bool, cases_order, both_ways, true≢false}
 use Rattle.std.proofs.lemmas.Bool.Decides.{nat_tests}
@@ -15,7 +16,8 @@ use Rattle.graph_core.specs.Graph.{Graph, IsGraph, degree, size, HasEnds}
 use Rattle.graph_core.specs.Matchings.{IsMaximum, missed_count}
 use Rattle.graph_core.specs.Walks.{Walk, adjacent}
 
--- two maximum matchings, of which one misses u and v and the other t: the second can be made more like the first
+-- two maximum matchings, of which one misses u and v and the other t: the second can be made more
+-- like the first
 module _ (g : Graph) (is : IsGraph g) (r m n : Set) (mm : IsMaximum g r m) (nn : IsMaximum g r n) where
   same_count : count (size g) m ≡ count (size g) n
   same_count = let a = mm.most n nn.is in let b = nn.most m mm.is in omega arith

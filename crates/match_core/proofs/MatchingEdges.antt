@@ -1,5 +1,6 @@
--- The edges of the rows of a matching are a matching: a vertex stands in the rows as often as edges meet it.
--- A degree is a sum over the edges in the set, and that sum goes along the rising list of the rows.
+-- The edges of the rows of a matching are a matching: a vertex stands in the rows as often as
+-- edges meet it. A degree is a sum over the edges in the set, and that sum goes along the rising
+-- list of the rows.
 use Rattle.std.proofs.lemmas.Bool.{both_ways, cases_Bool, false_from_ne_true, or_cases}
 use Rattle.std.proofs.Common.{length, inr, eqb-true, ◌||◌, ◌≡◌, ℕ, suc, ◌+◌, ◌≤◌, Bool, true, false, ◌==◌, refl, sym, ap, ap₂, ◌∙◌, arith, List, [], ◌∷◌, ◌++◌, map, filter, cond, subst, inl}
 use Rattle.std.specs.Prelude.{All, sum_by, slice_index_or}

@@ -1,5 +1,6 @@
--- A certificate has as many classes as there are odd components, and a frame gives the Gallai-Edmonds sets.
--- A class is a union of components, one of them odd; a matching of the certified size is tight at each vertex.
+-- A certificate has as many classes as there are odd components, and a frame gives the
+-- Gallai-Edmonds sets. A class is a union of components, one of them odd; a matching of the
+-- certified size is tight at each vertex.
 use Rattle.std.proofs.Common.{◌≡◌, ℕ, suc, zero, ◌+◌, ◌*◌, ◌≤◌, ◌<◌, Bool, true, false, ◌==◌, refl, sym, ap, ◌∙◌, arith, ◌&&◌, eqb-true, ◌⊎◌, inl, inr, subst, nat_lt, List, [], ◌∷◌, ltb-true}
 use Rattle.std.proofs.lemmas.Bool.{cases_Bool, both_ways, true≢false, false_from_ne_true, or_parts, or_from}
 use Rattle.counting.proofs.Odd.{odd_pos, odd_total}
@@ -110,7 +111,8 @@ module _ (g : Graph) (is : IsGraph g) (x : Set) (label : ℕ → ℕ) (p : ℕ) 
       let d = total_le g.order (λ u. bit (nat_lt 0 (label u)) * bit (is_least g x u && is_odd (count g.order (joined g x u)))) (λ u. bit (is_least g x u && is_odd (count g.order (joined g x u)))) (λ u w. bit_times_le (nat_lt 0 (label u)) (bit (is_least g x u && is_odd (count g.order (joined g x u))))) in
       omega arith
 
--- a certificate that a matching of k edges meets: its classes are as many as the odd components, and the matching is maximum
+-- a certificate that a matching of k edges meets: its classes are as many as the odd components,
+-- and the matching is maximum
 pub certificate_components : (g : Graph) (r s : Set) (k : ℕ) (label : ℕ → ℕ) (p : ℕ) → IsGraph g → IsCertificate g r k s label p → (m : Set) → IsMatching g r m → count (size g) m ≡ k → (odd_component_count g (union r s) ≡ p) × (missed_count g r m + count g.order s ≡ odd_component_count g (union r s))
 certificate_components g r s k label p is cert m mm full =
     let a = classes_components g is (union r s) label p cert.labels in
@@ -143,7 +145,8 @@ best_from (suc n) g r f is mm l = elim (step g r f is mm) [
 pub best : (g : Graph) (r : Set) → IsGraph g → Best g r
 best g r is = best_from (suc (count g.order (complement r))) g r none is (none_matching g r) (omega arith)
 
--- the outer vertices of a frame are those that some maximum matching misses, the inner ones their other neighbours
+-- the outer vertices of a frame are those that some maximum matching misses, the inner ones their
+-- other neighbours
 module _ (g : Graph) (is : IsGraph g) (r : Set) (k : ℕ) (outer inner : Set) (frame : Frame g r k outer inner) (m : Set) (mm : IsMatching g r m) (full : count (size g) m ≡ k) where
   pub outer_free : (v : ℕ) → Within g.order v → outer v ≡ true → union r inner v ≡ false
   outer_free v w t = false_from_ne_true (union r inner v) (λ q. let a = frame.certificate.labels.away v w q in let b = ltb-true 0 (frame.label v) (sym (frame.labelled v w) ∙ t) in absurd (omega arith))

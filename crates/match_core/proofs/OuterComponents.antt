@@ -1,5 +1,6 @@
--- The outer vertices of a frame are those in odd components of G - R without the inner ones.
--- Odd components ranked by least vertex are a labelling; an even component put outside the classes leaves them odd.
+-- The outer vertices of a frame are those in odd components of G - R without the inner ones. Odd
+-- components ranked by least vertex are a labelling; an even component put outside the classes
+-- leaves them odd.
 use Rattle.std.proofs.Common.{◌≡◌, ℕ, ◌+◌, ◌*◌, ◌≤◌, Bool, true, false, cond, ◌==◌, refl, sym, ap, ap₂, ◌∙◌, arith, ◌&&◌, not, eq-eqb, ne_eqb, inl, inr, nat_lt, [], ◌∷◌, le-ltb, zero-mul, one-mul}
 use Rattle.std.proofs.lemmas.Bool.{cases_Bool, both_ways, true≢false, false_from_ne_true, and_parts, and_from, or_parts}
 use Rattle.counting.proofs.Counts.{bit_true, count_congr, only_one}
@@ -156,7 +157,8 @@ module _ (g : Graph) (is : IsGraph g) (x : Set) (label : ℕ → ℕ) (p : ℕ) 
               parity true t p q = refl
               parity false t p q = absurd (both_ways t p q)
 
--- the outer vertices of a frame are those in odd components of what is left without r and the inner ones
+-- the outer vertices of a frame are those in odd components of what is left without r and the
+-- inner ones
 module _ (g : Graph) (is : IsGraph g) (r : Set) (k : ℕ) (outer inner : Set) (frame : Frame g r k outer inner) (m : Set) (mm : IsMatching g r m) (full : count (size g) m ≡ k) where
   pub outer_odd : (v : ℕ) → Within g.order v → outer v ≡ true → is_odd (count g.order (joined g (union r inner) v)) ≡ true
   outer_odd v w t = elim (cases_Bool (is_odd (count g.order (joined g (union r inner) v)))) [

@@ -1,7 +1,9 @@
--- The outer vertices of a maximum matching that misses one vertex are exactly the vertices without which there is a perfect matching.
--- A matching as large that misses v misses v alone, so it is perfect without v; and a perfect matching without v is as large, since
--- both leave one vertex of an odd number. Where more than one vertex is missed, no matching misses one alone. A perfect matching
--- without two vertices misses just these, so where there are partners, a maximum matching misses none or two.
+-- The outer vertices of a maximum matching that misses one vertex are exactly the vertices
+-- without which there is a perfect matching. A matching as large that misses v misses v alone, so
+-- it is perfect without v; and a perfect matching without v is as large, since both leave one
+-- vertex of an odd number. Where more than one vertex is missed, no matching misses one alone. A
+-- perfect matching without two vertices misses just these, so where there are partners, a maximum
+-- matching misses none or two.
 use Rattle.std.proofs.Common.{◌≡◌, ◌≢◌, ℕ, zero, suc, ◌+◌, ◌-◌, ◌*◌, ◌≤◌, ◌↔◌, List, length, Bool, true, false, ◌==◌, ◌&&◌, ◌||◌, not, refl, sym, ap, ◌∙◌, arith, inl, inr, eq-eqb, eqb-true, ne_eqb}
 use Rattle.counting.proofs.Booleans.{or_false}
 use Rattle.std.proofs.lemmas.Bool.{both_ways, cases_Bool, cases_eq, false_from_ne_true, and_from, and_parts, not-true, or_left, or_right}

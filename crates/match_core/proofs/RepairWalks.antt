@@ -1,6 +1,6 @@
--- The walk from one missed vertex to the other, edge by edge of a perfect matching and of the given one in turn, in rows: how does
--- it go on, and where does it end? Each turn makes the path longer by two edges; where the given matching ends, the path is
--- whole and repairs it.
+-- The walk from one missed vertex to the other, edge by edge of a perfect matching and of the
+-- given one in turn, in rows: how does it go on, and where does it end? Each turn makes the path
+-- longer by two edges; where the given matching ends, the path is whole and repairs it.
 use Rattle.std.proofs.Common.{◌≡◌, ℕ, suc, zero, ◌+◌, ◌-◌, ◌<◌, ◌≢◌, Bool, true, false, ◌==◌, ◌&&◌, not, refl, sym, ap, ap₂, ◌∙◌, arith, List, [], ◌∷◌, ◌++◌, length, inl, inr, ◌⊎◌, subst}
 use Rattle.std.proofs.lemmas.Bool.{cases_eq, cases_lt, cases_order, false_from_ne_true, and_right}
 use Rattle.std.proofs.Math.ListN.{get_or-append}

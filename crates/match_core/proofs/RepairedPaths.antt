@@ -1,5 +1,5 @@
--- The given matching is exchanged along a whole row: how does the repaired one differ from it? By the path of the row, from one
--- missed vertex to the other.
+-- The given matching is exchanged along a whole row: how does the repaired one differ from it? By
+-- the path of the row, from one missed vertex to the other.
 use Rattle.std.proofs.Common.{◌≡◌, ℕ, suc, zero, ◌+◌, ◌-◌, ◌/◌, ◌≤◌, ◌<◌, ◌≢◌, Bool, true, false, cond, not, refl, sym, ap, ap₂, ◌∙◌, arith, List, length, inl, inr, subst, nat_lt, lt-ltb}
 use Rattle.std.proofs.lemmas.Bool.{le-ltb, both_ways, cases_eq, cases_lt}
 use mathlib.Core.Path.{fun_ext}

@@ -1,5 +1,6 @@
--- The law of Tutte and Berge for every graph and every removed set.
--- By induction on the vertices that are left: a vertex that all maximum matchings meet joins the set; else Gallai's lemma counts each component.
+-- The law of Tutte and Berge for every graph and every removed set. By induction on the vertices
+-- that are left: a vertex that all maximum matchings meet joins the set; else Gallai's lemma
+-- counts each component.
 use Rattle.std.proofs.Common.{◌≡◌, ℕ, suc, zero, ◌+◌, ◌*◌, ◌≤◌, ◌<◌, ◌≢◌, Bool, true, false, ◌==◌, refl, sym, ap, ◌∙◌, arith, ◌&&◌, ◌||◌, not, eq-eqb, ne_eqb, eqb-true, ◌⊎◌, inl, inr, [], ◌∷◌}
 use Rattle.std.proofs.lemmas.Bool.{cases_eq, cases_Bool, and_parts, or_cases, or_right, both_ways, true≢false, false_from_ne_true}
 use mathlib.Core.Path.{fun_ext}

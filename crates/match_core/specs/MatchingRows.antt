@@ -20,8 +20,8 @@ ends_at (row ∷ rows) v = bit (row.a == v) + bit (row.b == v) + ends_at rows v
 abbrev pub edges_of : MatchingValue → List ℕ
 edges_of m = map (λ row. row.edge) m.rows
 
--- the edge numbers rise, the ends are 1 to the order, and no vertex stands twice; edges and vertices are within the limits
--- of a multigraph
+-- the edge numbers rise, the ends are 1 to the order, and no vertex stands twice; edges and
+-- vertices are within the limits of a multigraph
 pub record KeepsMatching (m : MatchingValue) : Type 0 where
   pub few : m.order ≤ 128
   pub edges : IsRisingIn 2048 (edges_of m)

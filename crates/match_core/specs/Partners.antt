@@ -1,4 +1,5 @@
--- Partners: the vertices that can be missed together (Lovász and Plummer, "Matching Theory", chapter 5).
+-- Partners: the vertices that can be missed together (Lovász and Plummer, "Matching Theory",
+-- chapter 5).
 use Rattle.std.specs.Prelude.{◌≡◌, ℕ, Bool, true, false, List, ◌==◌, ◌&&◌, not, length}
 use Rattle.counting.specs.Counts.{Within}
 use Rattle.counting.specs.Sets.{Set, pair_set, union}
@@ -6,7 +7,8 @@ use Rattle.counting.specs.Lists.{item, mem}
 use Rattle.graph_core.specs.Graph.{Graph}
 use Rattle.graph_core.specs.Matchings.{has_perfect}
 
--- u and v are two different vertices outside r, and g without r and without these two has a perfect matching
+-- u and v are two different vertices outside r, and g without r and without these two has a
+-- perfect matching
 abbrev pub are_partners : Graph → Set → ℕ → ℕ → Bool
 are_partners g r u v = not (r u) && not (r v) && not (u == v) && has_perfect g (union r (pair_set u v))
 

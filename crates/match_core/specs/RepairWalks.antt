@@ -7,7 +7,8 @@ use Rattle.graph_core.specs.declared.ends.Ends.{Ends}
 use Rattle.match_search.specs.GraphRows.{IsGraphRow, NamesEdges}
 use Rattle.match_search.specs.RepairPaths.{Misses}
 
--- the matching m misses x and one vertex more, w is perfect, and for each vertex the rows name its edges of m and of w
+-- the matching m misses x and one vertex more, w is perfect, and for each vertex the rows name
+-- its edges of m and of w
 pub record StartsWalk (n : ℕ) (r m w : Set) (ends : List Ends) (at other : List ℕ) (x : ℕ) : Type 0 where
   pub row : IsGraphRow n ends
   pub at_long : length at ≡ n + 1

@@ -15,16 +15,18 @@ use match_search::{Best, FinalSets, find_best};
 use std::alloc::{AllocError as Memory, Global};
 use vset_core::VSet;
 
-/// A maximum matching and a Berge set, which shows it to be maximum: the matching misses exactly o(S) - |S| vertices, where
-/// o(S) counts the components with an odd number of vertices that are left without S.
+/// A maximum matching and a Berge set, which shows it to be maximum: the matching misses exactly
+/// o(S) - |S| vertices, where o(S) counts the components with an odd number of vertices that are
+/// left without S.
 #[derive(Drop)]
 pub struct Found {
     pub matching: Matching,
     pub berge: VSet,
 }
 
-/// A maximum matching with the Gallai-Edmonds sets: `outer` is D, the vertices that some maximum matching misses, and
-/// `inner` is A, the other vertices adjacent to these, which is the Berge set of `found`.
+/// A maximum matching with the Gallai-Edmonds sets: `outer` is D, the vertices that some maximum
+/// matching misses, and `inner` is A, the other vertices adjacent to these, which is the Berge
+/// set of `found`.
 #[derive(Drop)]
 pub struct FrameSets {
     pub found: Found,
@@ -32,8 +34,8 @@ pub struct FrameSets {
     pub inner: VSet,
 }
 
-/// A maximum matching of `g` and a Berge set: the matching misses exactly o(berge) - |berge| vertices (Tutte 1947, Berge
-/// 1958; found as by Edmonds 1965).
+/// A maximum matching of `g` and a Berge set: the matching misses exactly o(berge) - |berge|
+/// vertices (Tutte 1947, Berge 1958; found as by Edmonds 1965).
 pub fn maximum(alloc: Global, g: &MultiGraph) -> Result<Found, Memory>
     ensures of { IfOk result (λ f. IsOf g.now f.matching) }
     ensures maximum { IfOk result (λ f. IsMaximum g.now none (mem (edges_of f.matching))) }
@@ -44,9 +46,10 @@ pub fn maximum(alloc: Global, g: &MultiGraph) -> Result<Found, Memory>
     Ok(frame(alloc, g)?.found)
 }
 
-/// A maximum matching of `g` with the Gallai-Edmonds sets, read off the last forest of the search (Lovász and Plummer,
-/// "Matching Theory", chapter 3): `outer` is the union of the odd components of g - inner and holds the vertices that some
-/// maximum matching misses; `inner` holds the other vertices adjacent to an outer one and is the Berge set.
+/// A maximum matching of `g` with the Gallai-Edmonds sets, read off the last forest of the search
+/// (Lovász and Plummer, "Matching Theory", chapter 3): `outer` is the union of the odd components
+/// of g - inner and holds the vertices that some maximum matching misses; `inner` holds the other
+/// vertices adjacent to an outer one and is the Berge set.
 pub fn frame(alloc: Global, g: &MultiGraph) -> Result<FrameSets, Memory>
     ensures of { IfOk result (λ f. IsOf g.now f.found.matching) }
     ensures maximum { IfOk result (λ f. IsMaximum g.now none (mem (edges_of f.found.matching))) }

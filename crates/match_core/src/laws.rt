@@ -3,8 +3,9 @@ ghost use Rattle.counting.specs.Sets.{Set, Outside};
 ghost use Rattle.graph_core.specs.Graph.{Graph, IsGraph};
 ghost use Rattle.graph_core.specs.BergeSets.{IsBergeSet};
 
-/// The law of Tutte and Berge: for every graph G and removed set R some set S outside R is a Berge set of G - R, that is,
-/// some matching of G - R misses exactly as many vertices as G - R - S has odd components, less |S|.
+/// The law of Tutte and Berge: for every graph G and removed set R some set S outside R is a
+/// Berge set of G - R, that is, some matching of G - R misses exactly as many vertices as G - R -
+/// S has odd components, less |S|.
 pub fn tutte_berge_law()
     ensures { (g : Graph) (r : Set) → IsGraph g → (s : Set) × Outside r s × IsBergeSet g r s }
 {}

@@ -4,7 +4,7 @@
 //! Berge set S: it misses exactly o(S) - |S| vertices, so no matching misses fewer (`Attains`,
 //! `IsMaximum`). `frame` answers the Gallai-Edmonds sets beside it, read off the last forest of
 //! the search. `perfect_without` and `perfect_with` answer a perfect matching under conditions,
-//! and `None` exactly where there is none; `Matching::cleared` and `Matching::joined` take rows
+//! and `None` exactly when there is none; `Matching::cleared` and `Matching::joined` take rows
 //! out of a matching and put one in. `partners` answers the table of the pairs of vertices that
 //! can be missed together (`ArePartners`).
 //!

@@ -24,8 +24,9 @@ pub struct MatchRow {
     pub b: u32,
 }
 
-/// A matching: an order and rows with rising edge numbers, whose ends are 1 to the order; no vertex stands twice. It is "of
-/// g" if its order is that of g and each row is an edge of g with its ends. Contracts see the order and the list of rows.
+/// A matching: an order and rows with rising edge numbers, whose ends are 1 to the order; no
+/// vertex stands twice. It is "of g" if its order is that of g and each row is an edge of g with
+/// its ends. Contracts see the order and the list of rows.
 #[derive(Drop)]
 pub struct Matching {
     order: u32,
@@ -58,16 +59,16 @@ impl Matching {
         self.rows[i]
     }
 
-    /// The law that the edge numbers rise, that the ends are 1 to the order, and that no vertex stands twice. It does
-    /// nothing: a caller states it where it needs it.
+    /// The law that the edge numbers rise, that the ends are 1 to the order, and that no vertex
+    /// stands twice. It does nothing: a caller states it where it needs it.
     pub fn keeps_matching(&self)
         ensures { KeepsMatching self.now }
     {
         let _ = &self.rows;
     }
 
-    /// The matching with the same order and those rows that meet no vertex of `removed`. Of each graph that it was of, it is
-    /// a matching without `removed`.
+    /// The matching with the same order and those rows that meet no vertex of `removed`. Of each
+    /// graph that it was of, it is a matching without `removed`.
     pub fn cleared(&self, alloc: Global, removed: VSet) -> Result<Matching, Memory>
         ensures order { IfOk result (λ m. m.order ≡ self.now.order) }
         ensures rows { IfOk result (λ m. m.rows ≡ filter (is_clear (mem removed)) self.now.rows) }

@@ -1,14 +1,17 @@
 //! Which two vertices can be missed together?
 //!
-//! Two vertices u and v outside a set R are partners if G - R - u - v has a perfect matching. A table of them tells much of the
-//! structure of a graph: an edge is allowed exactly where its ends are partners, the class of u in the canonical partition is
-//! what is left outside its row, and G is bicritical exactly where each row has all vertices but its own.
+//! Two vertices u and v outside a set R are partners if G - R - u - v has a perfect matching. A
+//! table of them tells much of the structure of a graph: an edge is allowed exactly when its ends
+//! are partners, the class of u in the canonical partition is what is left outside its row, and G
+//! is bicritical exactly when each row has all vertices but its own.
 //!
-//! The table is made from a maximum matching of G - R. A perfect matching without two vertices misses just these two, so where a
-//! maximum matching misses another number than none or two, no vertex has a partner, and no row is searched. Else a row costs one
-//! search. Where none is missed, the matching less its edge at u misses one vertex of G - R - u, the mate of u; no step can enlarge
-//! it, so the first step answers a frame, and the outer vertices of a frame are exactly those that some matching as large misses.
-//! Where two are missed, a row costs one augmentation more at most.
+//! The table is made from a maximum matching of G - R. A perfect matching without two vertices
+//! misses just these two, so where a maximum matching misses another number than none or two, no
+//! vertex has a partner, and no row is searched. Else a row costs one search. Where none is
+//! missed, the matching less its edge at u misses one vertex of G - R - u, the mate of u; no step
+//! can enlarge it, so the first step answers a frame, and the outer vertices of a frame are
+//! exactly those that some matching as large misses. Where two are missed, a row costs one
+//! augmentation more at most.
 ghost use Rattle.std.specs.Prelude.{◌≡◌, ℕ, ◌+◌, ◌-◌, ◌≤◌, ◌==◌, ◌&&◌, ◌||◌, not, true, length, IfOk};
 ghost use Rattle.counting.specs.Counts.{Within, count};
 ghost use Rattle.counting.specs.Sets.{none, singleton, union};
@@ -28,7 +31,8 @@ use std::alloc::{AllocError as Memory, Global};
 use std::marker::Model;
 use vset_core::VSet;
 
-/// For each vertex of a graph the set of its partners. Contracts see the list of these sets, by vertex.
+/// For each vertex of a graph the set of its partners. Contracts see the list of these sets, by
+/// vertex.
 #[derive(Drop)]
 pub struct PartnerTable {
     rows: Vec<VSet>,
@@ -52,10 +56,11 @@ impl PartnerTable {
     }
 }
 
-/// The partners of each vertex in G - removed, from any matching `m` of `g`: two vertices outside `removed` are partners if there
-/// is a perfect matching without `removed` and these two. The row of a vertex of `removed` is empty. `m` is made maximum
-/// without `removed` once. Where it then misses another number of vertices than none or two, no row is searched; else a row
-/// costs one search, after one augmentation at most.
+/// The partners of each vertex in G - removed, from any matching `m` of `g`: two vertices outside
+/// `removed` are partners if there is a perfect matching without `removed` and these two. The row
+/// of a vertex of `removed` is empty. `m` is made maximum without `removed` once. Where it then
+/// misses another number of vertices than none or two, no row is searched; else a row costs one
+/// search, after one augmentation at most.
 pub fn partners(
     alloc: Global,
     g: &MultiGraph,
@@ -106,7 +111,8 @@ fn empty_rows(alloc: Global, n: u32) -> Result<PartnerTable, Memory>
     Ok(PartnerTable { rows })
 }
 
-/// The partners of each vertex of `g`: of two different vertices, where there is a perfect matching without them.
+/// The partners of each vertex of `g`: of two different vertices, where there is a perfect
+/// matching without them.
 pub fn all_partners(alloc: Global, g: &MultiGraph) -> Result<PartnerTable, Memory>
     ensures { IfOk result (ArePartners g.now none) }
 {
@@ -135,7 +141,8 @@ fn partners_of(
     missable_alone(alloc, g, removed.with(u), m)
 }
 
-// The vertices without which G - removed has a perfect matching: the outer vertices of a maximum matching that misses one.
+// The vertices without which G - removed has a perfect matching: the outer vertices of a maximum
+// matching that misses one.
 fn missable_alone(
     alloc: Global,
     g: &MultiGraph,

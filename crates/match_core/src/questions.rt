@@ -15,7 +15,8 @@ use match_search::{Best, falses, find_best, is_addable, is_marked, mark_place, m
 use std::alloc::{AllocError as Memory, Global};
 use vset_core::VSet;
 
-/// A perfect matching of G - removed, as a matching of `g`; `None` exactly where G - removed has none.
+/// A perfect matching of G - removed, as a matching of `g`; `None` exactly when G - removed has
+/// none.
 pub fn perfect_without(
     alloc: Global,
     g: &MultiGraph,
@@ -32,7 +33,7 @@ pub fn perfect_without(
     }
 }
 
-/// A perfect matching of `g` that holds all the edges; `None` exactly where there is none.
+/// A perfect matching of `g` that holds all the edges; `None` exactly when there is none.
 pub fn perfect_with(
     alloc: Global,
     g: &MultiGraph,

@@ -26,8 +26,9 @@ pub struct Mate {
     pub vertex: u32,
 }
 
-/// A perfect matching of G - removed, where `m` is a matching of it that misses exactly two vertices: the edges in exactly one
-/// of the two matchings form one path between these vertices. `None` exactly where G - removed has no perfect matching.
+/// A perfect matching of G - removed, where `m` is a matching of it that misses exactly two
+/// vertices: the edges in exactly one of the two matchings form one path between these vertices.
+/// `None` exactly when G - removed has no perfect matching.
 pub fn repair(
     alloc: Global,
     g: &MultiGraph,
@@ -54,8 +55,8 @@ pub fn repair(
     }
 }
 
-// The marks of the repaired matching. The engine enlarges the given one, if it can; its exchange with what is found then is
-// the path.
+// The marks of the repaired matching. The engine enlarges the given one, if it can; its exchange
+// with what is found then is the path.
 fn repaired_marks(
     alloc: Global,
     n: u32,
@@ -89,8 +90,8 @@ fn repaired_marks(
     Ok(None)
 }
 
-// Exchanges the marks along a path, whose edges are a part of a row, pair by pair: the first edge of each pair is
-// marked, the second no more.
+// Exchanges the marks along a path, whose edges are a part of a row, pair by pair: the first edge
+// of each pair is marked, the second no more.
 fn exchange(mark: &mut [bool], edges: &[u32], from: usize, pairs: usize)
     requires long { from + (pairs + pairs) ≤ length edges.now }
     requires in_mark { (k : ℕ) → k < pairs + pairs →
@@ -120,7 +121,8 @@ fn flipped_along(mark: Vec<bool>, edges: &[u32]) -> Vec<bool>
     flipped
 }
 
-// The edges of the path from one missed vertex to the other, by edges of the found matching and of the given one in turn.
+// The edges of the path from one missed vertex to the other, by edges of the found matching and
+// of the given one in turn.
 fn repair_path(
     alloc: Global,
     n: u32,
@@ -207,7 +209,7 @@ fn free(n: u32, removed: VSet, at: &[u32]) -> VSet
     outer
 }
 
-// The edge of the row at a vertex with its other end; none exactly where the row has 0 there.
+// The edge of the row at a vertex with its other end; none exactly when the row has 0 there.
 fn mate_at(ends: &[Ends], at: &[u32], v: u32) -> Option<Mate>
     requires within { v < length at.now }
     requires real { numbers at.now v ≢ 0 → Within (length ends.now) (numbers at.now v) }

@@ -1,5 +1,5 @@
--- Paths, forests, matchings and cycles are what stands at their places.
--- Each condition speaks of places within range alone, so functions that agree there meet the same conditions.
+-- Paths, forests, matchings and cycles are what stands at their places. Each condition speaks of
+-- places within range alone, so functions that agree there meet the same conditions.
 use Rattle.std.proofs.Common.{◌≡◌, ℕ, suc, ◌+◌, ◌≤◌, ◌<◌, true, sym, ap, ◌∙◌, arith, subst}
 use Rattle.counting.specs.Counts.{Within}
 use Rattle.counting.specs.Sets.{Set}

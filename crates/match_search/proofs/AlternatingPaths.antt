@@ -1,5 +1,6 @@
--- An even alternating path exchanged moves the missed vertex to its other end; two disjoint ones and an edge augment.
--- By pairs of edges from the front: each pair moves the missed vertex by two places, and all other degrees stay.
+-- An even alternating path exchanged moves the missed vertex to its other end; two disjoint ones
+-- and an edge augment. By pairs of edges from the front: each pair moves the missed vertex by two
+-- places, and all other degrees stay.
 use Rattle.std.proofs.Common.{◌≡◌, ℕ, suc, zero, ◌+◌, ◌*◌, ◌≤◌, ◌<◌, ◌≢◌, Bool, true, false, cond, ◌==◌, refl, sym, ap, ◌∙◌, arith, not, eq-eqb, ne_eqb, inl, inr, subst}
 use Rattle.std.proofs.lemmas.Bool.{cases_eq, both_ways}
 use Rattle.counting.proofs.Choice.{count_put}

@@ -1,6 +1,6 @@
--- A blossom is shrunk to its base: which matchings has the smaller graph, by mates, and what are they in the graph? Where the base is
--- exposed, a matching misses the blossom; where it has a mate, the edge between them can be put at a vertex of the blossom that
--- the mate touches.
+-- A blossom is shrunk to its base: which matchings has the smaller graph, by mates, and what are
+-- they in the graph? Where the base is exposed, a matching misses the blossom; where it has a
+-- mate, the edge between them can be put at a vertex of the blossom that the mate touches.
 use Rattle.std.proofs.Common.{◌≡◌, ◌≢◌, ℕ, suc, zero, ◌+◌, ◌*◌, ◌≤◌, ◌<◌, true, false, ◌==◌, refl, sym, ap, ◌∙◌, arith, eq-eqb, ne_eqb, eqb-true, inl, inr, not, ◌&&◌, ◌||◌, subst, List}
 use mathlib.Core.Path.{fun_ext}
 use Rattle.std.proofs.lemmas.Bool.{cases_Bool, cases_eq, both_ways, not-true, false_from_ne_true, and_from, or_right}

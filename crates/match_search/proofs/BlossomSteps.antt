@@ -1,5 +1,6 @@
--- Is the step of the graph with a blossom shrunk one of the graph, by mates? The matching of the smaller graph leaves the blossom at its
--- base or at a neighbour of some vertex of it; it is completed there.
+-- Is the step of the graph with a blossom shrunk one of the graph, by mates? The matching of the
+-- smaller graph leaves the blossom at its base or at a neighbour of some vertex of it; it is
+-- completed there.
 use Rattle.std.proofs.Common.{◌≡◌, ◌≢◌, ℕ, ◌+◌, ◌≤◌, true, refl, sym, ap, ◌∙◌, arith, inl, inr, ◌||◌, subst, subst₂, List}
 use mathlib.Core.Path.{fun_ext}
 use Rattle.std.proofs.lemmas.Bool.{or_cases}

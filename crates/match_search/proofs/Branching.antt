@@ -1,5 +1,6 @@
--- Where the search branches: from an outer vertex it reaches one that is left, and neither outer nor inner.
--- The rows have room for the branch, the forest holds again, and the search is one step nearer to its end.
+-- Where the search branches: from an outer vertex it reaches one that is left, and neither outer
+-- nor inner. The rows have room for the branch, the forest holds again, and the search is one
+-- step nearer to its end.
 use Rattle.std.proofs.Common.{◌≡◌, ◌≢◌, ℕ, ◌+◌, ◌-◌, ◌*◌, ◌≤◌, ◌<◌, true, false, ◌==◌, arith, not, ◌&&◌, ◌||◌, List, [], length}
 use Rattle.std.proofs.lemmas.Bool.{both_ways, false_from_ne_true}
 use Rattle.counting.specs.Counts.{Within, count}

@@ -1,5 +1,6 @@
 -- An odd labelling of G - R - S with enough classes shows that no matching of G - R is larger.
--- Each class has a vertex that the matching misses or an edge to S; summed over the classes and compared term by term.
+-- Each class has a vertex that the matching misses or an edge to S; summed over the classes and
+-- compared term by term.
 use Rattle.std.proofs.Common.{◌≡◌, ℕ, suc, zero, ◌+◌, ◌*◌, ◌≤◌, ◌≢◌, Bool, true, false, ◌==◌, refl, sym, ap, ap₂, ◌∙◌, arith, ◌&&◌, ◌||◌, not, eq-eqb, ne_eqb, eqb-true, inl, inr, nat_lt, mul-add, lt-ltb}
 use Rattle.std.proofs.lemmas.Bool.{cases_eq, both_ways, true≢false, false_from_ne_true, or_from}
 use Rattle.counting.proofs.Counts.{count_le_one}

@@ -1,5 +1,5 @@
--- The ring of a blossom, as the code reads it off two closing ways, with its members and with the mates that are left.
--- What is proved of the places on the ways is so said of the ring.
+-- The ring of a blossom, as the code reads it off two closing ways, with its members and with the
+-- mates that are left. What is proved of the places on the ways is so said of the ring.
 use Rattle.std.proofs.Common.{◌≡◌, ◌≢◌, ℕ, suc, ◌+◌, ◌-◌, ◌/◌, ◌≤◌, ◌<◌, ap, ap₂, ◌∙◌, arith, subst, length, List}
 use mathlib.Core.Path.{fun_ext}
 use Rattle.counting.specs.Counts.{Within}

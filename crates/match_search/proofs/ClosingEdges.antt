@@ -1,5 +1,6 @@
--- An edge between two outer vertices whose paths meet closes an odd cycle that begins at a vertex which can be missed.
--- The paths meet last at an outer vertex; from there along one path, over the edge and back along the other.
+-- An edge between two outer vertices whose paths meet closes an odd cycle that begins at a vertex
+-- which can be missed. The paths meet last at an outer vertex; from there along one path, over
+-- the edge and back along the other.
 use Rattle.std.proofs.Common.{◌≡◌, ℕ, suc, zero, ◌+◌, ◌-◌, ◌≤◌, ◌<◌, ◌≢◌, Bool, true, false, cond, ◌==◌, refl, sym, ap, ap₂, ◌∙◌, arith, ◌&&◌, ◌||◌, not, eq-eqb, ne_eqb, eqb-true, ◌⊎◌, inl, inr, subst, nat_lt, nat_le, le-ltb}
 use Rattle.counting.proofs.Booleans.{not_not}
 use Rattle.std.proofs.lemmas.Bool.{cases_eq, cases_Bool, cases_lt, cases_order, both_ways, true≢false, and_parts, le-leb, lt-leb}

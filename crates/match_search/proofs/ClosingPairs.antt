@@ -1,5 +1,6 @@
--- Two closing ways by mates: where they do not meet, the exchanged pairs and the pair of their last vertices are a matching
--- with one edge more; where they meet, the mates without the blossom are those of the opened matching.
+-- Two closing ways by mates: where they do not meet, the exchanged pairs and the pair of their
+-- last vertices are a matching with one edge more; where they meet, the mates without the blossom
+-- are those of the opened matching.
 use Rattle.std.proofs.Common.{◌≡◌, ◌≢◌, ℕ, suc, ◌+◌, ◌-◌, ◌*◌, ◌/◌, ◌≤◌, ◌<◌, Bool, true, false, cond, ◌==◌, refl, sym, ap, ◌∙◌, arith, ne_eqb, inl, inr, subst, length, List, ◌&&◌, not}
 use mathlib.Core.Path.{fun_ext}
 use Rattle.std.proofs.lemmas.Bool.{cases_Bool, cases_eq, both_ways, and_parts, false_from_ne_true}

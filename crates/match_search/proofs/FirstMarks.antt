@@ -1,5 +1,5 @@
--- The marks that the engine begins with, and the bound on its augmentations.
--- An edge between two free vertices is added: it meets these two alone, so all other free vertices stay free.
+-- The marks that the engine begins with, and the bound on its augmentations. An edge between two
+-- free vertices is added: it meets these two alone, so all other free vertices stay free.
 use Rattle.std.proofs.Common.{◌≡◌, ℕ, ◌+◌, ◌≤◌, ◌≢◌, Bool, true, false, ◌==◌, ◌||◌, ◌&&◌, not, sym, ap, ap₂, ◌∙◌, arith}
 use Rattle.std.proofs.lemmas.Bool.{both_ways, or_left, or_right, false_from_ne_true}
 use Rattle.counting.proofs.Counts.{count_le}

@@ -1,5 +1,6 @@
--- A forest grows by a vertex outside it that an edge joins to an outer one, and by the mate of this vertex.
--- The new path is that of the outer vertex with two more edges; every other part of the forest stays.
+-- A forest grows by a vertex outside it that an edge joins to an outer one, and by the mate of
+-- this vertex. The new path is that of the outer vertex with two more edges; every other part of
+-- the forest stays.
 use Rattle.std.proofs.Common.{◌≡◌, ℕ, suc, ◌+◌, ◌≤◌, ◌≢◌, Bool, true, false, cond, ◌==◌, refl, sym, ap, ◌∙◌, arith, not, eq-eqb, eqb-true, inl, inr, subst}
 use Rattle.std.proofs.lemmas.Bool.{cases_eq, both_ways, false_from_ne_true}
 use Rattle.counting.proofs.Choice.{count_put}

@@ -1,4 +1,5 @@
--- The ways to the two ends of a closing edge: they are paths of the forest, with outer and inner vertices in turn.
+-- The ways to the two ends of a closing edge: they are paths of the forest, with outer and inner
+-- vertices in turn.
 use Rattle.std.proofs.Common.{◌≡◌, ℕ, suc, ◌+◌, ◌≤◌, ◌<◌, true, refl, sym, ap, ◌∙◌, arith, subst, length, List, get_or}
 use Rattle.counting.specs.Counts.{is_odd}
 use Rattle.counting.specs.Sets.{Set}

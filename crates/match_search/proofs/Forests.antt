@@ -1,5 +1,6 @@
--- Alternating forests: the first one, how many outer vertices there are, and the frame of a forest that is closed.
--- Outer and covered inner vertices are paired by the matching; in a closed forest each outer vertex is a class by itself.
+-- Alternating forests: the first one, how many outer vertices there are, and the frame of a
+-- forest that is closed. Outer and covered inner vertices are paired by the matching; in a closed
+-- forest each outer vertex is a class by itself.
 use Rattle.std.proofs.Common.{◌≡◌, ℕ, suc, zero, ◌+◌, ◌*◌, ◌≤◌, ◌≢◌, Bool, true, false, cond, ◌==◌, refl, sym, ap, ◌∙◌, arith, ◌&&◌, not, eq-eqb, ne_eqb, eqb-true, inl, inr, nat_lt, nat_le, lt-ltb, le-ltb}
 use Rattle.std.proofs.lemmas.Bool.{cases_eq, cases_order, and_parts, and_from, both_ways, true≢false, false_from_ne_true, le-leb, lt-leb}
 use Rattle.counting.proofs.Totals.{at_le_total, total_add, total_congr}

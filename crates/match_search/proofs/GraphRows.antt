@@ -87,7 +87,7 @@ ends_here n ends k l = (
     back : (k : ℕ) → suc k - 1 ≡ k
     back k = omega arith
 
--- a vertex has no edge in the row exactly where the matching misses it
+-- a vertex has no edge in the row exactly when the matching misses it
 pub free_degree : (n : ℕ) (ends : List Ends) (m : Set) (at : List ℕ) → NamesEdges ends m at (length ends) → (u : ℕ) → (numbers at u == 0) ≡ (degree (graph_of n ends) m u == 0)
 free_degree n ends m at mates u = elim (cases_eq (numbers at u) 0) [
   | inl q ↦ eq-eqb (numbers at u) 0 q ∙ sym (eq-eqb (degree (graph_of n ends) m u) 0 (missed_degree n ends m at mates u q))

@@ -1,5 +1,6 @@
--- The least edges of the pairs of mates are a matching with these mates. Each pair has an edge, so one of its ends is seen in
--- the end; a marked edge joins mates, and the mate of a mate is the vertex itself, so that edge is the one of the pair.
+-- The least edges of the pairs of mates are a matching with these mates. Each pair has an edge,
+-- so one of its ends is seen in the end; a marked edge joins mates, and the mate of a mate is the
+-- vertex itself, so that edge is the one of the pair.
 use Rattle.std.proofs.Common.{◌≡◌, ◌≢◌, ℕ, suc, ◌==◌, ◌||◌, ◌⊎◌, true, false, refl, sym, ap, ◌∙◌, arith, inl, inr, subst, eq-eqb, ne_eqb}
 use Rattle.std.proofs.lemmas.Bool.{both_ways, cases_eq, cases_Bool, or_from, or_left, or_right}
 use Rattle.counting.specs.Counts.{Within, bit}

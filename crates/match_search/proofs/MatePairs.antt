@@ -1,5 +1,6 @@
--- Matchings by mates: mates are mates of each other, and a path exchanged by mates is the path exchanged by edges.
--- Two edges of a matching at one vertex are one edge, so the mate of a mate is the vertex itself.
+-- Matchings by mates: mates are mates of each other, and a path exchanged by mates is the path
+-- exchanged by edges. Two edges of a matching at one vertex are one edge, so the mate of a mate
+-- is the vertex itself.
 use Rattle.std.proofs.Common.{◌≡◌, ◌≢◌, ℕ, zero, suc, ◌+◌, ◌≤◌, Bool, true, false, cond, ◌==◌, refl, sym, ap, ◌∙◌, arith, eq-eqb, ne_eqb, inl, inr, subst, ◌⊎◌}
 use Rattle.std.proofs.lemmas.Bool.{cases_eq}
 use Rattle.counting.specs.Counts.{Within, bit}

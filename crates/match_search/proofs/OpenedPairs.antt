@@ -1,5 +1,6 @@
--- A blossom opened by mates: an edge is taken out, another is put in its place at the tip, and the cycle is paired round from there.
--- Each change is one of a few edges, so the mates change at their ends alone.
+-- A blossom opened by mates: an edge is taken out, another is put in its place at the tip, and
+-- the cycle is paired round from there. Each change is one of a few edges, so the mates change at
+-- their ends alone.
 use Rattle.std.proofs.Common.{◌≡◌, ◌≢◌, ℕ, zero, suc, ◌+◌, ◌*◌, ◌≤◌, Bool, true, false, cond, ◌==◌, refl, sym, ap, ◌∙◌, arith, eq-eqb, ne_eqb, eqb-true, inl, inr, ◌⊎◌, not, ◌&&◌, ◌||◌, subst}
 use Rattle.std.proofs.lemmas.Bool.{cases_Bool, cases_eq, both_ways, and_parts, and_from, true≢false, false_from_ne_true}
 use Rattle.counting.proofs.Choice.{count_put}

@@ -1,5 +1,6 @@
--- The opening of a blossom after its shrinking, in the words of what its caller knows.
--- Where the base is free, the ring is paired round from it; else the mate of the base is near a vertex of the ring, its tip.
+-- The opening of a blossom after its shrinking, in the words of what its caller knows. Where the
+-- base is free, the ring is paired round from it; else the mate of the base is near a vertex of
+-- the ring, its tip.
 use Rattle.std.proofs.Common.{◌≡◌, ◌≢◌, ℕ, suc, ◌≤◌, ◌∙◌, true, arith, length, List, get_or}
 use Rattle.std.proofs.lemmas.Grind.{get_or_default_zero}
 use Rattle.counting.specs.Counts.{Within}

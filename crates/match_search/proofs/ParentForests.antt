@@ -1,5 +1,5 @@
--- Forests by parents: the first one, one more branch, and the last one as a frame.
--- The path of a new outer vertex is that of its grandparent, and on by its mate; all other paths stay.
+-- Forests by parents: the first one, one more branch, and the last one as a frame. The path of a
+-- new outer vertex is that of its grandparent, and on by its mate; all other paths stay.
 use Rattle.std.proofs.Common.{◌≡◌, ◌≢◌, ℕ, suc, ◌+◌, Bool, true, false, cond, ◌==◌, refl, sym, ap, ◌∙◌, arith, eq-eqb, eqb-true, ne_eqb, inl, inr, not, ◌&&◌, ◌||◌, nat_lt, nat_le, length, List}
 use Rattle.std.proofs.lemmas.Bool.{cases_Bool, cases_eq, both_ways, and_from, and_parts, false_from_ne_true, leb-true}
 use Rattle.counting.specs.Counts.{Within, count}

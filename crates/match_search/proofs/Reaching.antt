@@ -1,4 +1,5 @@
--- What the neighbours of an outer vertex that are left and not inner tell, and that a branch more is a step nearer to the end.
+-- What the neighbours of an outer vertex that are left and not inner tell, and that a branch more
+-- is a step nearer to the end.
 use Rattle.std.proofs.Common.{◌≡◌, ◌≢◌, ℕ, suc, ◌+◌, ◌-◌, ◌*◌, ◌≤◌, ◌<◌, true, false, ◌==◌, sym, ap, ◌∙◌, arith, eq-eqb, ne_eqb, inl, inr, not, ◌&&◌, ◌||◌, List, []}
 use Rattle.std.proofs.lemmas.Bool.{cases_Bool, both_ways, and_parts, and_from, not-true, false_from_ne_true}
 use Rattle.counting.proofs.Counts.{count_le}

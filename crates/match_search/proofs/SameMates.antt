@@ -29,7 +29,8 @@ same_mates_count g is r m n mate hm hn =
     let b = missed_edges g r n is hn.matching in
     let c = same_mates_missed g r m n mate hm hn in omega arith
 
--- the exposed vertices outside r, by their mates, and twice the edges of the matching are the vertices outside r
+-- the exposed vertices outside r, by their mates, and twice the edges of the matching are the
+-- vertices outside r
 pub exposed_mates : (g : Graph) → IsGraph g → (r m : Set) (mate : ℕ → ℕ) → HasMates g r m mate → count g.order (λ v. not (r v) && (mate v == 0)) + 2 * count (size g) m ≡ count g.order (complement r)
 unfolding missed_count
 exposed_mates g is r m mate has =

@@ -1,5 +1,5 @@
--- A set C is shrunk to one vertex z of it. What are the degrees in the shrunk graph? Outside C they stay, those in C sum to the
--- degree of z, and a vertex of C but z has none.
+-- A set C is shrunk to one vertex z of it. What are the degrees in the shrunk graph? Outside C
+-- they stay, those in C sum to the degree of z, and a vertex of C but z has none.
 use Rattle.std.proofs.Common.{◌≡◌, ℕ, ◌+◌, ◌*◌, ◌≤◌, ◌<◌, ◌≢◌, Bool, true, false, cond, ◌==◌, refl, sym, ap, ap₂, ◌∙◌, arith, ◌&&◌, ◌||◌, not, eq-eqb, ne_eqb, inl, inr, List, mul-add, subst}
 use Rattle.std.proofs.lemmas.Bool.{cases_eq, cases_order, both_ways}
 use Rattle.counting.proofs.Counts.{count_congr}

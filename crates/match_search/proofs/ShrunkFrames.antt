@@ -1,5 +1,5 @@
--- A set C is shrunk to one vertex z of it. Do labellings and frames of the shrunk graph go up? Yes: each vertex of C gets the label
--- of z, and is outer.
+-- A set C is shrunk to one vertex z of it. Do labellings and frames of the shrunk graph go up?
+-- Yes: each vertex of C gets the label of z, and is outer.
 use Rattle.std.proofs.Common.{◌≡◌, ℕ, suc, ◌+◌, ◌*◌, ◌≤◌, Bool, true, false, cond, ◌==◌, refl, sym, ap, ap₂, ◌∙◌, arith, ◌||◌, not, eq-eqb, ne_eqb, inl, inr, nat_lt, List}
 use Rattle.std.proofs.lemmas.Bool.{cases_eq, cases_Bool, both_ways, false_from_ne_true, or_from}
 use Rattle.counting.proofs.Odd.{odd-add, odd-double}

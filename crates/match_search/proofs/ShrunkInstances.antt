@@ -1,6 +1,6 @@
--- An instance with a blossom shrunk is the graph with the blossom's vertices made one.
--- The base has the neighbours and the members of the blossom's vertices: what one of them touched it touches, and what touched
--- one of them touches it.
+-- An instance with a blossom shrunk is the graph with the blossom's vertices made one. The base
+-- has the neighbours and the members of the blossom's vertices: what one of them touched it
+-- touches, and what touched one of them touches it.
 use Rattle.std.proofs.Common.{◌≡◌, ◌≢◌, ℕ, Bool, true, false, cond, ◌==◌, refl, sym, ap, ◌∙◌, arith, eq-eqb, eqb-true, ne_eqb, inl, inr, not, ◌&&◌, ◌||◌, List, subst, nat_lt, nat_le}
 use Rattle.std.proofs.lemmas.Bool.{and_parts, cases_Bool, cases_eq, both_ways, or_cases, true≢false, false_from_ne_true}
 use Rattle.counting.specs.Counts.{Within}
@@ -50,7 +50,8 @@ module _ (g : Graph) (c : Set) (z : ℕ) (es : List (ℕ × ℕ)) (pulls : IsShr
     | inr t ↦ absurd (both_ways (c u) t (ap c (sym (kept_vertex u t) ∙ q) ∙ cz))
   ]
 
-  -- edges between vertices outside c stay, and a vertex outside c is joined to z where it was joined to one of c
+  -- edges between vertices outside c stay, and a vertex outside c is joined to z where it was
+  -- joined to one of c
   pub edge_stays : (x y d : ℕ) → c x ≡ false → c y ≡ false → Within (size g) d → HasEnds H d x y → HasEnds g d x y
   edge_stays x y d cx cy w ends = let o = origin_ends d x y w ends in subst (λ (v : ℕ). HasEnds g d x v) (origin_out o.1 y o.4 cy) (subst (λ (u : ℕ). HasEnds g d u o.1) (origin_out o.0 x o.3 cx) o.2)
 

@@ -1,5 +1,6 @@
--- A set C that has a near-perfect matching for each of its vertices is shrunk to one vertex z of it. Which matchings go down and up?
--- Down goes one that misses z, without its edges in C; up goes each, with a near-perfect set of C for the end of its edge at z.
+-- A set C that has a near-perfect matching for each of its vertices is shrunk to one vertex z of
+-- it. Which matchings go down and up? Down goes one that misses z, without its edges in C; up
+-- goes each, with a near-perfect set of C for the end of its edge at z.
 use Rattle.std.proofs.Common.{◌≡◌, ℕ, suc, ◌+◌, ◌*◌, ◌≤◌, ◌≢◌, Bool, true, false, cond, ◌==◌, refl, sym, ap, ap₂, ◌∙◌, arith, ◌&&◌, not, eq-eqb, ne_eqb, inl, inr, List}
 use Rattle.std.proofs.lemmas.Bool.{cases_eq, cases_Bool, both_ways, false_from_ne_true}
 use Rattle.counting.proofs.Totals.{total_at, total_congr, total_none}

@@ -1,5 +1,5 @@
--- A matching of G - R can be made larger by one edge, or has a frame.
--- Induction on the vertices outside R and on the forest: a closing edge augments, or its cycle is shrunk.
+-- A matching of G - R can be made larger by one edge, or has a frame. Induction on the vertices
+-- outside R and on the forest: a closing edge augments, or its cycle is shrunk.
 use Rattle.std.proofs.Common.{◌≡◌, ℕ, suc, zero, ◌+◌, ◌-◌, ◌≤◌, ◌<◌, ◌≢◌, Bool, true, false, ◌==◌, refl, sym, ap, ap₂, ◌∙◌, arith, ◌&&◌, not, eq-eqb, ne_eqb, eqb-true, ◌⊎◌, inl, inr, subst, List, length}
 use Rattle.std.proofs.lemmas.Bool.{cases_eq, cases_Bool, both_ways, and_parts, and_from, not-true}
 use Rattle.std.proofs.lemmas.List.{get_or-map, length-map}
@@ -57,7 +57,8 @@ on_path n q z = elim (greatest n (λ t. z ≡ q t) (λ t. z ≢ q t) (λ t. case
   | inr f ↦ inr f
 ]
 
--- an odd cycle with every other edge in a matching that misses its first vertex: the step of the shrunk graph gives one of g
+-- an odd cycle with every other edge in a matching that misses its first vertex: the step of the
+-- shrunk graph gives one of g
 module _ (g : Graph) (is : IsGraph g) (r f : Set) (n : ℕ) (c e : ℕ → ℕ) (cyc : IsOddCycle g r n c e) (f1 : Set) (mm : IsMatching g r f1) (same : count (size g) f1 ≡ count (size g) f) (free : degree g f1 (c 1) ≡ 0)
     (holds : (d : ℕ) → Within (size g) d → picked n (every_other 1) e d ≡ true → f1 d ≡ true)
     (smaller : (h : Graph) → IsGraph h → (s k : Set) → IsMatching h s k → count h.order (complement s) < count g.order (complement r) → Step h s k) where

@@ -1,4 +1,5 @@
--- How the code keeps an alternating forest: an inner vertex names its parent, and the way goes on from there by mates.
+-- How the code keeps an alternating forest: an inner vertex names its parent, and the way goes on
+-- from there by mates.
 use Rattle.std.specs.Prelude.{◌≢◌, ◌≡◌, ℕ, suc, ◌+◌, ◌≤◌, ◌==◌, ◌&&◌, ◌||◌, true, length, List, Some, None}
 use Rattle.counting.specs.Sets.{Set}
 use Rattle.counting.specs.Lists.{mem}
@@ -39,7 +40,8 @@ pub record GoesUp (mate : List ℕ) (t : AlternatingForest) (v : ℕ → ℕ →
   pub inner : v u (suc (numbers t.pairs.items p + numbers t.pairs.items p)) ≡ numbers mate u
   pub before : (j : ℕ) → j ≤ numbers t.pairs.items p + numbers t.pairs.items p → v u j ≡ v p j
 
--- the sets, the parents and the mates are a forest for f in g without r; v and e are the vertices and edges of its paths
+-- the sets, the parents and the mates are a forest for f in g without r; v and e are the vertices
+-- and edges of its paths
 pub record HoldsAlternating (g : Graph) (r f : Set) (mate : List ℕ) (t : AlternatingForest) : Type 0 where
   pub v : ℕ → ℕ → ℕ
   pub e : ℕ → ℕ → ℕ

@@ -1,5 +1,5 @@
--- What an edge between two outer vertices closes: a path that augments the matching, or a blossom, an odd cycle with as many
--- edges of the matching as it may have.
+-- What an edge between two outer vertices closes: a path that augments the matching, or a
+-- blossom, an odd cycle with as many edges of the matching as it may have.
 use Rattle.std.specs.Prelude.{◌≡◌, ◌≢◌, ℕ, suc, ◌+◌, ◌-◌, ◌≤◌, ◌⊎◌, true, false, length, List, Option, Some, None}
 use Rattle.counting.specs.Counts.{Within, count, is_odd}
 use Rattle.counting.specs.Sets.{Set}
@@ -36,8 +36,8 @@ pub record ClosesForest (g : Graph) (r f : Set) (mate : List ℕ) (t : Alternati
 abbrev pub second_start : Ways → ℕ
 second_start w = suc (w.first + w.first)
 
--- the row holds two alternating paths for the matching f, which has these mates, with outer and inner vertices in turn; an
--- edge outside f joins their last vertices
+-- the row holds two alternating paths for the matching f, which has these mates, with outer and
+-- inner vertices in turn; an edge outside f joins their last vertices
 pub record AreClosingWays (g : Graph) (r f : Set) (mate : List ℕ) (w : Ways) : Type 0 where
   pub graph : IsGraph g
   pub few : g.order ≤ 128
@@ -61,8 +61,8 @@ pub record AreClosingWays (g : Graph) (r f : Set) (mate : List ℕ) (w : Ways) :
 abbrev pub blossom_length : Blossom → ℕ
 blossom_length b = length b.ring.items - 1
 
--- the blossom is an odd cycle, and the mates are those of a matching m that misses it: m is f with the path to the base, the
--- first vertex, exchanged, and without its edges in the cycle
+-- the blossom is an odd cycle, and the mates are those of a matching m that misses it: m is f
+-- with the path to the base, the first vertex, exchanged, and without its edges in the cycle
 pub record HoldsBlossom (g : Graph) (r f : Set) (mate : List ℕ) (b : Blossom) : Type 0 where
   pub members : (v : ℕ) → mem b.members v ≡ listed (blossom_length b) (numbers b.ring.items) v
   pub m : Set
@@ -96,7 +96,8 @@ without_blossom g b = with_ends g (shrunk_ends g (listed (blossom_length b) (num
 abbrev pub removed_with : Set → Blossom → Set
 removed_with r b = shrunk_removed r (listed (blossom_length b) (numbers b.ring.items)) (numbers b.ring.items 1)
 
--- the instance is g without r, the blossom was opened as m, and the mates are those of a matching n of g with it shrunk
+-- the instance is g without r, the blossom was opened as m, and the mates are those of a matching
+-- n of g with it shrunk
 pub record MayOpen (g : Graph) (r f m n : Set) (s : Instance) (mate : List ℕ) (b : Blossom) : Type 0 where
   pub instance_is : IsInstance g r s
   pub long : length mate ≡ suc g.order
@@ -104,6 +105,7 @@ pub record MayOpen (g : Graph) (r f m n : Set) (s : Instance) (mate : List ℕ) 
   pub opened : IsOpened g r f m (blossom_length b) (numbers b.ring.items) edge
   pub mates : HasMates (without_blossom g b) (removed_with r b) n (numbers mate)
 
--- the mates are those of a matching of g without r that has as many edges more than f as n has more than m
+-- the mates are those of a matching of g without r that has as many edges more than f as n has
+-- more than m
 abbrev pub IsCompleted : Graph → Set → Set → Set → Set → List ℕ → Type 0
 IsCompleted g r f m n mate = (full : Set) × HasMates g r full (numbers mate) × (count (size g) full + count (size g) m ≡ count (size g) n + count (size g) f)

@@ -1,4 +1,5 @@
--- Alternating paths and forests (Edmonds 1965), by places: a path has an even number of edges, told in pairs.
+-- Alternating paths and forests (Edmonds 1965), by places: a path has an even number of edges,
+-- told in pairs.
 use Rattle.std.specs.Prelude.{◌≡◌, ℕ, zero, suc, ◌+◌, ◌≤◌, ◌<◌, true, false, not}
 use Rattle.counting.specs.Counts.{Within, is_odd}
 use Rattle.counting.specs.Sets.{Set, put}
@@ -23,7 +24,8 @@ pub record IsAlternating (g : Graph) (r f : Set) (k : ℕ) (v e : ℕ → ℕ) :
   pub free : degree g f (v 0) ≡ 0
   pub turns : (i : ℕ) → i < k + k → f (e i) ≡ is_odd i
 
--- outer vertices, each with a path that ends in it, and inner vertices, which f pairs with outer ones
+-- outer vertices, each with a path that ends in it, and inner vertices, which f pairs with outer
+-- ones
 pub record IsForest (g : Graph) (r f : Set) (outer inner : Set) (k : ℕ → ℕ) (v e : ℕ → ℕ → ℕ) : Type 0 where
   pub outer_in : (u : ℕ) → outer u ≡ true → Within g.order u × (r u ≡ false)
   pub inner_in : (u : ℕ) → inner u ≡ true → Within g.order u × (r u ≡ false) × (degree g f u ≡ 1)

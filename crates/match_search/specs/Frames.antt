@@ -1,5 +1,6 @@
--- Frames: why a matching of G - R is maximum, with the vertices that some maximum matching misses (Edmonds 1965; Lovász
--- and Plummer, "Matching Theory", chapters 1 and 3), and the shrinking of a vertex set to one of its vertices.
+-- Frames: why a matching of G - R is maximum, with the vertices that some maximum matching misses
+-- (Edmonds 1965; Lovász and Plummer, "Matching Theory", chapters 1 and 3), and the shrinking of a
+-- vertex set to one of its vertices.
 use Rattle.std.specs.Prelude.{◌≡◌, ℕ, ◌+◌, ◌*◌, ◌≤◌, true, false, List, ◌==◌, nat_lt, ◌&&◌, ◌||◌, not, length, map, cond}
 use Rattle.counting.specs.Counts.{Within, bit, count, is_odd}
 use Rattle.counting.specs.Sets.{Set, complement, union}
@@ -24,25 +25,28 @@ shrunk_ends g c z = map (λ d. (shrunk_vertex c z d.0, shrunk_vertex c z d.1)) g
 abbrev pub shrunk_removed : Set → Set → ℕ → Set
 shrunk_removed r c z v = r v || (c v && not (v == z))
 
--- the edges of e meet each vertex of c once, but t, and no other vertex: a near-perfect matching of c
+-- the edges of e meet each vertex of c once, but t, and no other vertex: a near-perfect matching
+-- of c
 pub record IsNearPerfect (g : Graph) (c : Set) (t : ℕ) (e : Set) : Type 0 where
   pub degrees : (v : ℕ) → Within g.order v → degree g e v ≡ bit (c v && not (v == t))
 
--- the labels 1 to k mark classes of odd size, such that no edge of g without x leaves a class; 0 marks no class
+-- the labels 1 to k mark classes of odd size, such that no edge of g without x leaves a class; 0
+-- marks no class
 pub record IsOddLabelling (g : Graph) (x : Set) (label : ℕ → ℕ) (k : ℕ) : Type 0 where
   pub low : (v : ℕ) → Within g.order v → label v ≤ k
   pub away : (v : ℕ) → Within g.order v → x v ≡ true → label v ≡ 0
   pub along : (e : ℕ) → Within (size g) e → x (first_end g e) ≡ false → x (second_end g e) ≡ false → label (first_end g e) ≡ label (second_end g e)
   pub odd : (j : ℕ) → Within k j → is_odd (count g.order (λ v. label v == j)) ≡ true
 
--- why no matching of g without r has more than k edges: p classes outside s, where p - |s| vertices at least are missed
+-- why no matching of g without r has more than k edges: p classes outside s, where p - |s|
+-- vertices at least are missed
 pub record IsCertificate (g : Graph) (r : Set) (k : ℕ) (s : Set) (label : ℕ → ℕ) (p : ℕ) : Type 0 where
   pub outside : (v : ℕ) → Within g.order v → s v ≡ true → r v ≡ false
   pub labels : IsOddLabelling g (union r s) label p
   pub sizes : count g.order (complement r) + count g.order s ≡ 2 * k + p
 
--- a certificate for k edges, whose classes are the outer vertices: each is missed by some matching of k edges, and each
--- inner vertex is next to an outer one
+-- a certificate for k edges, whose classes are the outer vertices: each is missed by some
+-- matching of k edges, and each inner vertex is next to an outer one
 pub record Frame (g : Graph) (r : Set) (k : ℕ) (outer inner : Set) : Type 0 where
   pub label : ℕ → ℕ
   pub classes : ℕ

@@ -1,5 +1,5 @@
--- Matchings by mates: for each vertex the other end of its edge, 0 where it is exposed. Which of parallel edges joins two
--- mates is not told.
+-- Matchings by mates: for each vertex the other end of its edge, 0 where it is exposed. Which of
+-- parallel edges joins two mates is not told.
 use Rattle.std.specs.Prelude.{◌≡◌, ◌≢◌, ℕ, zero, suc, ◌+◌, ◌<◌, ◌⊎◌, ◌==◌, cond, true, false, List}
 use Rattle.counting.specs.Counts.{Within}
 use Rattle.counting.specs.Sets.{Set, none}
@@ -23,8 +23,8 @@ with_mate mate v w u = cond (u == v) w (mate u)
 abbrev pub with_pair : (ℕ → ℕ) → ℕ → ℕ → ℕ → ℕ
 with_pair mate v w = with_mate (with_mate mate v w) w v
 
--- the mates after the first k pairs of edges of a path over v 0, v 1, ..: v 0 and v 1 are a pair, v 2 and v 3, .., and
--- v (k + k) is exposed
+-- the mates after the first k pairs of edges of a path over v 0, v 1, ..: v 0 and v 1 are a pair,
+-- v 2 and v 3, .., and v (k + k) is exposed
 abbrev pub flipped_mates : (ℕ → ℕ) → (ℕ → ℕ) → ℕ → ℕ → ℕ
 flipped_mates mate v zero = mate
 flipped_mates mate v (suc k) = with_mate (with_pair (flipped_mates mate v k) (v (k + k)) (v (suc (k + k)))) (v (suc (suc (k + k)))) 0
@@ -33,13 +33,14 @@ flipped_mates mate v (suc k) = with_mate (with_pair (flipped_mates mate v k) (v 
 abbrev pub cleared_mates : (ℕ → ℕ) → ℕ → (ℕ → ℕ) → ℕ → ℕ
 cleared_mates mate n c u = cond (listed n c u) 0 (mate u)
 
--- the mates where of the first k vertices of the cycle c 1 to c n every other one, on the way round from place t, is paired
--- with the next
+-- the mates where of the first k vertices of the cycle c 1 to c n every other one, on the way
+-- round from place t, is paired with the next
 abbrev pub paired_round : (ℕ → ℕ) → ℕ → (ℕ → ℕ) → ℕ → ℕ → ℕ → ℕ
 paired_round mate n c t zero u = mate u
 paired_round mate n c t (suc k) u = cond (every_other t (suc k)) (with_pair (paired_round mate n c t k) (c (suc k)) (c (next n (suc k))) u) (paired_round mate n c t k u)
 
--- of the first k edges of a row, each vertex with a mate has a marked one that joins it to its mate, and one with the mate 0 none
+-- of the first k edges of a row, each vertex with a mate has a marked one that joins it to its
+-- mate, and one with the mate 0 none
 pub record NamesMates (ends : List Ends) (m : Set) (mate : List ℕ) (k : ℕ) : Type 0 where
   pub met : (v : ℕ) → numbers mate v ≢ 0 → (j : ℕ) × (j < k) × (m (j + 1) ≡ true) × (((end_a ends j ≡ v) × (end_b ends j ≡ numbers mate v)) ⊎ ((end_a ends j ≡ numbers mate v) × (end_b ends j ≡ v)))
   pub missed : (v : ℕ) → numbers mate v ≡ 0 → (j : ℕ) → j < k → m (j + 1) ≡ true → (end_a ends j ≢ v) × (end_b ends j ≢ v)
@@ -48,8 +49,8 @@ pub record NamesMates (ends : List Ends) (m : Set) (mate : List ℕ) (k : ℕ) :
 abbrev pub JoinsMates : Graph → (ℕ → ℕ) → Set → ℕ → Type 0
 JoinsMates g mate m v = (e w : ℕ) × Within (size g) e × (m e ≡ true) × HasEnds g e v w × ((mate v ≡ w) ⊎ (mate w ≡ v))
 
--- of the first k edges of g, those that join two mates have an end in the set `seen`, and the vertices of this set are the ends
--- of the marked edges, which are a matching and join mates
+-- of the first k edges of g, those that join two mates have an end in the set `seen`, and the
+-- vertices of this set are the ends of the marked edges, which are a matching and join mates
 pub record MarksMates (g : Graph) (mate : ℕ → ℕ) (m seen : Set) (k : ℕ) : Type 0 where
   pub matching : IsMatching g none m
   pub free : (v : ℕ) → Within g.order v → seen v ≡ false → (none v ≡ false) × (degree g m v ≡ 0)

@@ -18,7 +18,8 @@ pub record Misses (g : Graph) (r m : Set) (v : ℕ) : Type 0 where
 abbrev pub difference : Set → Set → Set
 difference m n e = not (same_answer (m e) (n e))
 
--- the edges d form one path from x to y: its vertices are different, and each edge joins a vertex to the next
+-- the edges d form one path from x to y: its vertices are different, and each edge joins a vertex
+-- to the next
 pub record FormPath (g : Graph) (d : Set) (x y : ℕ) : Type 0 where
   pub edges : ℕ
   pub vertex : ℕ → ℕ
@@ -53,8 +54,8 @@ pub record RepairPath (g : Graph) (r m : Set) (x y : ℕ) : Type 0 where
   pub off : m edge ≡ false
   pub perfect : IsPerfect g r (put (flipped m e k) edge true)
 
--- a walk from x by edges of n and of m in turn, which has come to v; the edges of n among them are an even number of places
--- from the start
+-- a walk from x by edges of n and of m in turn, which has come to v; the edges of n among them
+-- are an even number of places from the start
 pub record IsWalk (g : Graph) (r m n : Set) (x : ℕ) (es : List ℕ) (v : ℕ) : Type 0 where
   pub pairs : ℕ
   pub vertex : ℕ → ℕ

@@ -30,7 +30,8 @@ pub record IsUnshrunk (s : Instance) (base : ℕ) (before : Unshrunk) : Type 0 w
   pub blossoms : before.blossoms ≡ s.blossoms
   pub left : before.left ≡ s.left
 
--- h is s with the row and the members of the base, and with the blossoms and the vertices left, from before
+-- h is s with the row and the members of the base, and with the blossoms and the vertices left,
+-- from before
 pub record IsPutBack (s : Instance) (base : ℕ) (before : Unshrunk) (h : Instance) : Type 0 where
   pub rows_long : length h.rows.items ≡ length s.rows.items
   pub members_long : length h.members.items ≡ length s.members.items

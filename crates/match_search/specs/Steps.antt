@@ -1,4 +1,5 @@
--- What a step of the matching engine answers: a matching with one edge more or a frame. An odd cycle is opened for its shrinking.
+-- What a step of the matching engine answers: a matching with one edge more or a frame. An odd
+-- cycle is opened for its shrinking.
 use Rattle.std.specs.Prelude.{◌≡◌, ℕ, ◌+◌, true}
 use Rattle.counting.specs.Counts.{count, Within}
 use Rattle.counting.specs.Sets.{Set, minus, union}
@@ -11,8 +12,8 @@ use Rattle.match_search.specs.declared.answer.FinalSets.{FinalSets}
 use Rattle.match_search.specs.declared.answer.Answer.{Answer}
 use Rattle.match_search.specs.declared.answer.Answer.TheVariants.{Grown, Final}
 
--- m is f with the path to an odd cycle exchanged, so that its first vertex is missed, and with the edges at even places of
--- the cycle taken out
+-- m is f with the path to an odd cycle exchanged, so that its first vertex is missed, and with
+-- the edges at even places of the cycle taken out
 pub record IsOpened (g : Graph) (r f m : Set) (n : ℕ) (c e : ℕ → ℕ) : Type 0 where
   pub cycle : IsOddCycle g r n c e
   pub stem : Set

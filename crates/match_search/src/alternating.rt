@@ -1,8 +1,9 @@
 //! Alternating forests by parents.
 //!
-//! A vertex is outer if an alternating path of an even number of edges leads to it from an exposed vertex, and inner if it is
-//! the vertex before an outer one on such a path. An outer vertex is exposed, a root, or hangs on its mate, which is inner; an
-//! inner vertex hangs on its parent, an outer neighbour.
+//! A vertex is outer if an alternating path of an even number of edges leads to it from an
+//! exposed vertex, and inner if it is the vertex before an outer one on such a path. An outer
+//! vertex is exposed, a root, or hangs on its mate, which is inner; an inner vertex hangs on its
+//! parent, an outer neighbour.
 ghost use Rattle.std.specs.Prelude.{◌≡◌, ℕ, ◌+◌, ◌<◌, ◌≤◌, ◌==◌, ◌&&◌, true, false, length, suc, IfOk};
 ghost use Rattle.counting.specs.Counts.{Within};
 ghost use Rattle.counting.specs.Lists.{mem};
@@ -12,8 +13,8 @@ ghost use Rattle.match_search.specs.Rows.{numbers};
 use std::alloc::{AllocError as Memory, Global};
 use vset_core::{MOST_VERTICES, VSet};
 
-/// An alternating forest: its outer and its inner vertices, for each inner vertex its parent, and for each outer vertex the
-/// number of pairs of edges on its way to the root.
+/// An alternating forest: its outer and its inner vertices, for each inner vertex its parent, and
+/// for each outer vertex the number of pairs of edges on its way to the root.
 #[derive(Drop)]
 pub struct AlternatingForest {
     pub outer: VSet,
@@ -65,7 +66,8 @@ impl AlternatingForest {
         })
     }
 
-    /// The forest in which the vertices of a set are the roots, and all outer vertices. It keeps the memory of this one.
+    /// The forest in which the vertices of a set are the roots, and all outer vertices. It keeps
+    /// the memory of this one.
     pub fn with_roots(self, roots: VSet) -> AlternatingForest
         requires { (v : ℕ) → mem roots v ≡ true → v < length self.pairs.items }
         ensures outer { result.outer ≡ roots }
@@ -85,7 +87,8 @@ impl AlternatingForest {
         }
     }
 
-    /// Hangs the vertex `y`, which becomes inner, on the outer vertex `x`, and its mate `z`, which becomes outer, on `y`.
+    /// Hangs the vertex `y`, which becomes inner, on the outer vertex `x`, and its mate `z`,
+    /// which becomes outer, on `y`.
     pub fn branch(&mut self, x: u32, y: u32, z: u32)
         requires x_in { x < length self.old.pairs.items }
         requires y_in { y < length self.old.parent.items }

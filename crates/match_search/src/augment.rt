@@ -1,12 +1,14 @@
 //! One augmentation on rows of neighbours, by mates.
 //!
-//! From the exposed vertices a forest of alternating paths grows. An edge between two of its outer vertices gives a path that
-//! augments the matching, or a blossom. A blossom is shrunk to its base: a matching of the smaller graph can be completed in
-//! it, and a proof that there is no larger one holds for the graph too. Where no edge leaves the forest, its inner vertices
-//! show that the matching is maximum: without them each outer vertex, a blossom or not, is in an odd component of its own.
+//! From the exposed vertices a forest of alternating paths grows. An edge between two of its
+//! outer vertices gives a path that augments the matching, or a blossom. A blossom is shrunk to
+//! its base: a matching of the smaller graph can be completed in it, and a proof that there is no
+//! larger one holds for the graph too. Where no edge leaves the forest, its inner vertices show
+//! that the matching is maximum: without them each outer vertex, a blossom or not, is in an odd
+//! component of its own.
 //!
-//! After a shrinking the forest is grown anew. That takes few steps: the pairs on the way to the base were exchanged, so the
-//! base is exposed and a root, and the rest of the blossom is gone.
+//! After a shrinking the forest is grown anew. That takes few steps: the pairs on the way to the
+//! base were exchanged, so the base is exposed and a root, and the rest of the blossom is gone.
 ghost use Rattle.std.specs.Prelude.{◌≡◌, ◌<◌, length, IfOk, OnOk, Some};
 ghost use Rattle.counting.specs.Sets.{Set};
 ghost use Rattle.graph_core.specs.Graph.{Graph};
@@ -23,9 +25,10 @@ use crate::ways::ways_to;
 use std::alloc::{AllocError as Memory, Global};
 use vset_core::VSet;
 
-/// Makes the matching with these mates larger by one edge, or answers a frame, which shows that none is larger; the mates may
-/// then be those of another matching of the same size. The exposed vertices are looked for among the candidates. What is
-/// shrunk meanwhile is put back. The forests are grown in the memory of one that means nothing.
+/// Makes the matching with these mates larger by one edge, or answers a frame, which shows that
+/// none is larger; the mates may then be those of another matching of the same size. The exposed
+/// vertices are looked for among the candidates. What is shrunk meanwhile is put back. The
+/// forests are grown in the memory of one that means nothing.
 pub fn augment_once(
     alloc: Global,
     instance: &mut Instance,

@@ -1,6 +1,6 @@
-//! A maximum matching of G - removed, with the frame that shows it to be one: a matching is enlarged by one edge after the other
-//! until a step answers a frame instead. Each step leaves two exposed vertices less, so there are at most half as many as
-//! vertices.
+//! A maximum matching of G - removed, with the frame that shows it to be one: a matching is
+//! enlarged by one edge after the other until a step answers a frame instead. Each step leaves
+//! two exposed vertices less, so there are at most half as many as vertices.
 ghost use Rattle.std.specs.Prelude.{◌≡◌, ◌+◌, ◌==◌, ◌&&◌, not, length, IfOk};
 ghost use Rattle.counting.specs.Counts.{Within};
 ghost use Rattle.counting.specs.Lists.{mem};
@@ -31,7 +31,8 @@ pub struct Best {
     pub sets: FinalSets,
 }
 
-/// Makes a maximum matching of G - removed: one edge after the other at first, then by augmentations.
+/// Makes a maximum matching of G - removed: one edge after the other at first, then by
+/// augmentations.
 pub fn find_best(alloc: Global, g: &MultiGraph, removed: VSet) -> Result<Best, Memory>
     ensures { IfOk result (λ b. IsBest g.now (mem removed) b) }
 {
@@ -41,8 +42,8 @@ pub fn find_best(alloc: Global, g: &MultiGraph, removed: VSet) -> Result<Best, M
     best_from(alloc, n, ends, g.rows(), removed, &mark)
 }
 
-/// Enlarges a matching of G - removed, given by its marks, until it is maximum. It is enlarged by mates; the edges are read
-/// at the beginning and at the end alone.
+/// Enlarges a matching of G - removed, given by its marks, until it is maximum. It is enlarged by
+/// mates; the edges are read at the beginning and at the end alone.
 pub fn best_from(
     alloc: Global,
     n: u32,
@@ -90,7 +91,8 @@ fn enlarge(
     }
 }
 
-// The marks of a matching that no single edge enlarges: each edge in turn, if both its ends are free.
+// The marks of a matching that no single edge enlarges: each edge in turn, if both its ends are
+// free.
 fn first_marks(alloc: Global, n: u32, ends: &[Ends], removed: VSet) -> Result<Vec<bool>, Memory>
     requires { IsGraphRow n ends.now }
     ensures long { IfOk result (λ mark. length mark.items ≡ length ends.now + 1) }

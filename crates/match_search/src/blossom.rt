@@ -1,6 +1,7 @@
-//! Blossoms: where the ways to two adjacent outer vertices meet, an odd cycle closes. Its first vertex, where they meet last, is
-//! the base. Each vertex of a blossom can be the one that the edges inside it miss, so the blossom may be shrunk to its base: a
-//! matching of the smaller graph leaves it at one vertex, and is completed round the cycle from there.
+//! Blossoms: where the ways to two adjacent outer vertices meet, an odd cycle closes. Its first
+//! vertex, where they meet last, is the base. Each vertex of a blossom can be the one that the
+//! edges inside it miss, so the blossom may be shrunk to its base: a matching of the smaller
+//! graph leaves it at one vertex, and is completed round the cycle from there.
 ghost use Rattle.std.specs.Prelude.{◌≡◌, ◌≢◌, ℕ, ◌+◌, ◌-◌, ◌<◌, ◌≤◌, true, length, suc, IfOk, Some};
 ghost use Rattle.counting.specs.Counts.{Within};
 ghost use Rattle.counting.specs.Sets.{Set};
@@ -17,14 +18,16 @@ use crate::ways::Ways;
 use std::alloc::{AllocError as Memory, Global};
 use vset_core::{MOST_VERTICES, VSet};
 
-/// A blossom: the vertices of an odd cycle in order, from place 1 on, the base first, and their set. Place 0 means nothing.
+/// A blossom: the vertices of an odd cycle in order, from place 1 on, the base first, and their
+/// set. Place 0 means nothing.
 #[derive(Drop)]
 pub struct Blossom {
     pub ring: Vec<u32>,
     pub members: VSet,
 }
 
-/// The blossom of two ways that meet. The pairs are exchanged along the way to the base, and the vertices of the blossom exposed.
+/// The blossom of two ways that meet. The pairs are exchanged along the way to the base, and the
+/// vertices of the blossom exposed.
 pub fn blossom_of(
     alloc: Global,
     ways: &Ways,
@@ -75,8 +78,8 @@ fn augment(ways: &Ways, mate: &mut [u32])
     );
 }
 
-/// Closes two ways: the matching is augmented along them, or, where they meet, a blossom is answered and its vertices are
-/// exposed.
+/// Closes two ways: the matching is augmented along them, or, where they meet, a blossom is
+/// answered and its vertices are exposed.
 pub fn close(alloc: Global, ways: &Ways, mate: &mut [u32]) -> Result<Option<Blossom>, Memory>
     requires { (g : Graph) × (r : Set) × (f : Set) × AreClosingWays g r f mate.old ways.now }
     ensures closed { IfOk result (λ b. (g : Graph) (r f : Set) →
@@ -112,8 +115,9 @@ fn place_in(row: VSet, ring: &[u32]) -> usize
     1
 }
 
-/// Opens a blossom after its shrinking: where the base has a mate, this becomes the mate of a neighbour of it in the ring, and
-/// the other vertices of the ring are paired round from there; else they are paired round from the base.
+/// Opens a blossom after its shrinking: where the base has a mate, this becomes the mate of a
+/// neighbour of it in the ring, and the other vertices of the ring are paired round from there;
+/// else they are paired round from the base.
 pub fn open(instance: &Instance, blossom: &Blossom, mate: &mut [u32])
     requires { (g : Graph) × (r : Set) × (f : Set) × (m : Set) × (n : Set) ×
         MayOpen g r f m n instance.now mate.old blossom.now }

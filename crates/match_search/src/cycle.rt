@@ -41,7 +41,8 @@ pub fn last_meeting(
     None
 }
 
-/// The vertices of a cycle from place 1 on: a part of a row, and another part backwards. A 0 stands at place 0.
+/// The vertices of a cycle from place 1 on: a part of a row, and another part backwards. A 0
+/// stands at place 0.
 pub fn cycle_vertices(
     alloc: Global,
     row: &[u32],

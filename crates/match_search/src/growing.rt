@@ -1,6 +1,7 @@
-//! The search of the engine: an alternating forest grows until an edge joins two of its outer vertices, or no edge leads from
-//! an outer vertex to one that is not inner. The last forest of a search without such an edge shows that the matching is
-//! maximum: without its inner vertices each of its outer vertices is a component by itself.
+//! The search of the engine: an alternating forest grows until an edge joins two of its outer
+//! vertices, or no edge leads from an outer vertex to one that is not inner. The last forest of a
+//! search without such an edge shows that the matching is maximum: without its inner vertices
+//! each of its outer vertices is a component by itself.
 ghost use Rattle.std.specs.Prelude.{◌≡◌, ℕ, ◌+◌, ◌<◌, ◌≤◌, length, suc, IfOk};
 ghost use Rattle.counting.specs.Sets.{Set};
 ghost use Rattle.counting.specs.Lists.{mem};
@@ -19,15 +20,16 @@ pub struct Adjacent {
     pub w: u32,
 }
 
-/// What a search ends with: a forest, and two of its outer vertices that are adjacent, if there are such.
+/// What a search ends with: a forest, and two of its outer vertices that are adjacent, if there
+/// are such.
 #[derive(Drop)]
 pub struct Growth {
     pub forest: AlternatingForest,
     pub closing: Option<Adjacent>,
 }
 
-/// Grows the forest of the matching with these mates from its exposed vertices. It is written into the memory of a forest that
-/// means nothing.
+/// Grows the forest of the matching with these mates from its exposed vertices. It is written
+/// into the memory of a forest that means nothing.
 pub fn grow_forest(
     instance: &Instance,
     unused: AlternatingForest,

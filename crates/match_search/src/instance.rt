@@ -1,9 +1,12 @@
-//! A graph without its removed vertices as the search reads it, and the shrinking of a blossom to its base.
+//! A graph without its removed vertices as the search reads it, and the shrinking of a blossom to
+//! its base.
 //!
-//! A vertex that is left stands for its members: at first itself alone, and after a shrinking all vertices that became it. Its
-//! row keeps the neighbours that its members had before any shrinking. So two vertices are adjacent where the row of one holds
-//! a member of the other (`Touches`), and a shrinking writes no more than the row and the members of the base, each as the
-//! union over the blossom. No neighbour is told of it, and it is undone by putting back what stood there.
+//! A vertex that is left stands for its members: at first itself alone, and after a shrinking all
+//! vertices that became it. Its row keeps the neighbours that its members had before any
+//! shrinking. So two vertices are adjacent where the row of one holds a member of the other
+//! (`Touches`), and a shrinking writes no more than the row and the members of the base, each as
+//! the union over the blossom. No neighbour is told of it, and it is undone by putting back what
+//! stood there.
 ghost use Rattle.std.specs.Prelude.{◌≡◌, ◌≢◌, ℕ, ◌+◌, ◌-◌, ◌<◌, ◌≤◌, true, false, length, IfOk, ◌∷◌, [], ◌↔◌};
 ghost use Rattle.counting.specs.Counts.{Within};
 ghost use Rattle.counting.specs.Sets.{Set};
@@ -16,9 +19,10 @@ ghost use Rattle.match_search.specs.Shrinkings.{IsGathered, IsPutBack, IsShrinki
 use std::alloc::{AllocError as Memory, Global};
 use vset_core::{MOST_VERTICES, VSet};
 
-/// The graph: for each vertex its members, which are the vertices that became it by shrinkings, and the neighbours that these
-/// had before any shrinking; the vertices that a blossom was shrunk to; and the vertices that are left. What stands at a
-/// removed vertex, and which removed vertices the rows hold, means nothing.
+/// The graph: for each vertex its members, which are the vertices that became it by shrinkings,
+/// and the neighbours that these had before any shrinking; the vertices that a blossom was shrunk
+/// to; and the vertices that are left. What stands at a removed vertex, and which removed
+/// vertices the rows hold, means nothing.
 #[derive(Drop)]
 pub struct Instance {
     pub rows: Vec<VSet>,
@@ -124,7 +128,8 @@ fn gather(rows: &mut [VSet], ring: VSet, base: u32) -> VSet
     before
 }
 
-/// What a shrinking takes from an instance: the row and the members of the base, and the sets of blossoms and of vertices left.
+/// What a shrinking takes from an instance: the row and the members of the base, and the sets of
+/// blossoms and of vertices left.
 #[derive(Clone, Copy, Drop)]
 pub struct Unshrunk {
     pub row: VSet,
@@ -134,8 +139,9 @@ pub struct Unshrunk {
 }
 
 impl Instance {
-    /// Shrinks a ring of vertices to its base: the base has then the neighbours and the members of the ring, and the other
-    /// vertices of the ring are removed. Takes no memory, and answers what `unshrink` puts back.
+    /// Shrinks a ring of vertices to its base: the base has then the neighbours and the members
+    /// of the ring, and the other vertices of the ring are removed. Takes no memory, and answers
+    /// what `unshrink` puts back.
     pub fn shrink(&mut self, ring: VSet, base: u32) -> Unshrunk
         requires few { length self.old.rows.items ≤ MOST_VERTICES }
         requires one_each { length self.old.members.items ≡ length self.old.rows.items }

@@ -31,8 +31,8 @@ pub fn join(mate: &mut [u32], v: u32, w: u32)
     mate[w as usize] = v;
 }
 
-/// Exchanges the pairs along a path, whose vertices are a part of a row: the first two become a pair, the next two, and so on,
-/// and the last vertex is exposed.
+/// Exchanges the pairs along a path, whose vertices are a part of a row: the first two become a
+/// pair, the next two, and so on, and the last vertex is exposed.
 pub fn flip(mate: &mut [u32], way: &[u32], from: usize, pairs: usize)
     requires long { from + (pairs + pairs) < length way.now }
     requires in_mates { (j : ℕ) → j ≤ pairs + pairs → numbers way.now (from + j) < length mate.old }
@@ -67,7 +67,8 @@ fn place_after(places: usize, place: usize) -> usize
     if place == places { 1 } else { place + 1 }
 }
 
-// Pairs the vertex at a place of a cycle with the next, if it is every other one on the way round from the tip.
+// Pairs the vertex at a place of a cycle with the next, if it is every other one on the way round
+// from the tip.
 fn pair_place(mate: &mut [u32], ring: &[u32], tip: usize, place: usize)
     requires within { Within (length ring.now - 1) place }
     requires few { length ring.now ≤ 2 ^ 32 }
@@ -83,7 +84,8 @@ fn pair_place(mate: &mut [u32], ring: &[u32], tip: usize, place: usize)
     }
 }
 
-/// Pairs the vertices of a cycle of odd length round from one of them, which is left out: they stand in a row from place 1 on.
+/// Pairs the vertices of a cycle of odd length round from one of them, which is left out: they
+/// stand in a row from place 1 on.
 pub fn pair_round(mate: &mut [u32], ring: &[u32], tip: usize)
     requires some { 1 ≤ length ring.now }
     requires few { length ring.now ≤ 2 ^ 32 }

@@ -1,4 +1,5 @@
-//! The ways of an alternating forest: the path from the root to an outer vertex, read from the vertex up to the root.
+//! The ways of an alternating forest: the path from the root to an outer vertex, read from the
+//! vertex up to the root.
 ghost use Rattle.std.specs.Prelude.{◌≡◌, ℕ, ◌+◌, ◌<◌, ◌≤◌, true, length, suc, IfOk};
 ghost use Rattle.counting.specs.Sets.{Set};
 ghost use Rattle.counting.specs.Lists.{mem};
@@ -45,8 +46,8 @@ pub fn write_way(row: &mut [u32], start: usize, forest: &AlternatingForest, mate
     row[start] = v;
 }
 
-/// The ways to two outer vertices, one after the other in a row: the vertices of each from its root on, and the numbers of
-/// pairs of their edges.
+/// The ways to two outer vertices, one after the other in a row: the vertices of each from its
+/// root on, and the numbers of pairs of their edges.
 #[derive(Drop)]
 pub struct Ways {
     pub row: Vec<u32>,
@@ -54,7 +55,8 @@ pub struct Ways {
     pub second: usize,
 }
 
-// Writes the way to the first of two vertices at the start of a row, and the way to the second after it.
+// Writes the way to the first of two vertices at the start of a row, and the way to the second
+// after it.
 fn write_ways(
     row: &mut [u32],
     start: usize,

@@ -1,5 +1,6 @@
--- How a vertex set of a bipartite graph stands to a perfect matching: it has as many vertices more on the one side as edges
--- leave it from there more than from the other. So a tight set has one vertex more of one side, and all edges of its cut leave it there.
+-- How a vertex set of a bipartite graph stands to a perfect matching: it has as many vertices
+-- more on the one side as edges leave it from there more than from the other. So a tight set has
+-- one vertex more of one side, and all edges of its cut leave it there.
 use Rattle.std.proofs.Common.{◌≡◌, ℕ, ◌+◌, Bool, true, false, refl, sym, ap, arith, ◌&&◌, ◌||◌, not, inl, inr}
 use Rattle.std.proofs.lemmas.Bool.{cases_eq, true≢false, and_parts}
 use Rattle.barrier_kit.proofs.Matched.{inner, loop_free}
@@ -107,7 +108,8 @@ module _ (g : Graph) (is : IsGraph g) where
         second true false true false true h = refl
         second true false true false false h = refl
 
-    -- where each perfect matching leaves y by one edge and y has one vertex more on the left, no edge leaves it from the and_fails_second
+    -- where each perfect matching leaves y by one edge and y has one vertex more on the left, no
+    -- edge leaves it from the and_fails_second
     pub none_right : IsCovered g → (y : Set) → CutIsTight g y → count g.order (meet y x) ≡ count g.order (minus y x) + 1 → (e : ℕ) → Within (size g) e → leaves_right y e ≡ false
     none_right cov y tight more e w = elim (cases_eq (first_end g e) (second_end g e)) [
       | inl l ↦ loop (x (first_end g e)) (x (second_end g e)) (y (first_end g e)) (y (second_end g e)) (ap x l) (ap y l)

@@ -1,5 +1,6 @@
--- Tight shores of a bipartite covered graph are the vertex sets that no arc of the digraph of a perfect matching leaves, but from
--- one vertex a of the side: then only the edge of the matching at a leaves the set from the side, and none from the other.
+-- Tight shores of a bipartite covered graph are the vertex sets that no arc of the digraph of a
+-- perfect matching leaves, but from one vertex a of the side: then only the edge of the matching
+-- at a leaves the set from the side, and none from the other.
 use Rattle.std.proofs.Common.{◌≡◌, ◌≢◌, ℕ, ◌+◌, ◌≤◌, Bool, true, false, cond, ◌==◌, refl, sym, ap, ◌∙◌, arith, ◌&&◌, ◌||◌, not, eq-eqb, ne_eqb, inl, inr, ◌⊎◌, subst}
 use Rattle.std.proofs.lemmas.Bool.{cases_eq, cases_Bool, true≢false, both_ways, and_parts, and_from, false_from_ne_true, not-true, and_right}
 use Rattle.graph_core.specs.Sides.{IsSide}

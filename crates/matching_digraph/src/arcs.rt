@@ -65,7 +65,8 @@ fn add_mates(rows: &mut [VSet], m: &Matching)
     }
 }
 
-/// The arcs of the digraph of a matching: from each vertex of the side to its mates, from each other vertex to its neighbours.
+/// The arcs of the digraph of a matching: from each vertex of the side to its mates, from each
+/// other vertex to its neighbours.
 pub(crate) fn arcs_of(
     alloc: Global,
     g: &MultiGraph,

@@ -10,8 +10,9 @@ ghost use Rattle.graph_core.specs.Walks.{Walk};
 ghost use Rattle.graph_core.specs.Sides.{IsSide};
 ghost use Rattle.matching_digraph.specs.Digraph.{NoArcLeaves, NoneParts, Spans, arc, are_mates, reached_past, step_past};
 
-/// The tight shores of a bipartite covered graph with the vertex a of the side and without its mate are exactly the vertex sets with
-/// a and without its mate that no arc of the digraph of the matching leaves, but the arc of a.
+/// The tight shores of a bipartite covered graph with the vertex a of the side and without its
+/// mate are exactly the vertex sets with a and without its mate that no arc of the digraph of the
+/// matching leaves, but the arc of a.
 pub fn tight_shores_law()
     ensures { (g : Graph) (x m : Set) (a b : ℕ) (y : Set) →
         IsGraph g → IsCovered g → IsSide g x → IsPerfect g none m → x a ≡ true →
@@ -19,16 +20,18 @@ pub fn tight_shores_law()
         y a ≡ true → y b ≡ false → IsTight g y ↔ NoArcLeaves g x m a y }
 {}
 
-/// What is reached from r past a is a itself, and the vertices that walks from r lead to, no step of which begins at a.
+/// What is reached from r past a is a itself, and the vertices that walks from r lead to, no step
+/// of which begins at a.
 pub fn reached_law()
     ensures { (g : Graph) (x m : Set) (a r v : ℕ) → IsGraph g → Within g.order r →
         (reached_past g.order (arc g x m) a r v ≡ true)
         ↔ ((a ≡ v) ⊎ ((ws : List ℕ) × Walk (step_past a (arc g x m)) r ws v)) }
 {}
 
-/// No nontrivial tight shore has a and lacks its mate b exactly where all vertices but b are reached past a from any one other vertex
-/// r, and all but a past b in the digraph of the other side: where the digraph without the edge ab of the matching, with the ends
-/// of each other edge of it as one node, is strongly connected.
+/// No nontrivial tight shore has a and lacks its mate b exactly when all vertices but b are
+/// reached past a from any one other vertex r, and all but a past b in the digraph of the other
+/// side: where the digraph without the edge ab of the matching, with the ends of each other edge
+/// of it as one node, is strongly connected.
 pub fn unparted_law()
     ensures { (g : Graph) (x m : Set) (a b r : ℕ) →
         IsGraph g → IsCovered g → IsSide g x → IsPerfect g none m → x a ≡ true →
@@ -38,8 +41,8 @@ pub fn unparted_law()
         ↔ (Spans g.order (arc g x m) a r b × Spans g.order (arc g (complement x) m) b r a) }
 {}
 
-/// A bipartite covered graph has no nontrivial tight cut exactly where no nontrivial tight shore parts a vertex of the side from its mate
-/// in one perfect matching.
+/// A bipartite covered graph has no nontrivial tight cut exactly when no nontrivial tight shore
+/// parts a vertex of the side from its mate in one perfect matching.
 pub fn parted_mates_law()
     ensures { (g : Graph) (x m : Set) → IsGraph g → IsCovered g → IsSide g x → IsPerfect g none m →
         HasNoTightCut g

@@ -1,4 +1,5 @@
--- Two lists side by side, and orders: lists of numbers that hold k + 1 to k + n once each and no other number.
+-- Two lists side by side, and orders: lists of numbers that hold k + 1 to k + n once each and no
+-- other number.
 use Rattle.std.proofs.Common.{◌≡◌, ℕ, suc, zero, ◌+◌, ◌≤◌, ◌<◌, cond, List, [], ◌∷◌, ◌++◌, length, ◌⊎◌, inl, inr, refl, sym, ap, ap₂, ◌∙◌, arith, eq-eqb, ne_eqb}
 use Rattle.std.specs.Prelude.{slice_index, slice_index_or}
 use Rattle.std.proofs.lemmas.Bool.{cases_lt}

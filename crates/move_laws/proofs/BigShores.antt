@@ -1,5 +1,5 @@
--- Big shores at a partition: tight, with at least three blocks inside and outside. Two apart ones may be merged in either order, which
--- is all that Rotate needs.
+-- Big shores at a partition: tight, with at least three blocks inside and outside. Two apart ones
+-- may be merged in either order, which is all that Rotate needs.
 use Rattle.std.proofs.Common.{Bool, List, ap, arith, false, inl, inr, not, refl, subst, sym, true, ℕ, ◌&&◌, ◌+◌, ◌∙◌, ◌≡◌, ◌≤◌}
 use Rattle.std.proofs.lemmas.Bool.{both_ways, cases_Bool}
 use Rattle.counting.proofs.RisingLists.{same_rising_list}

@@ -1,5 +1,5 @@
--- Carrying there and back: a tree whose shores are canonical unions of blocks is carried back to itself, so what is carried to a
--- derivation was one.
+-- Carrying there and back: a tree whose shores are canonical unions of blocks is carried back to
+-- itself, so what is carried to a derivation was one.
 use Rattle.std.proofs.Common.{◌≡◌, ℕ, ◌-◌, Bool, true, false, not, List, refl, ap, ◌∙◌, arith, subst}
 use Rattle.counting.proofs.Lists.{mem-within, member-of_set}
 use Rattle.counting.proofs.RisingLists.{mem-outside, mem-rising_list, rising_list-rises, same_rising_list}
@@ -24,7 +24,8 @@ use Rattle.move_laws.proofs.Switches.{Each, each_up, same_cut}
 use Rattle.move_laws.specs.Isomorphisms.{Isomorphism, carry, carry_cut}
 use Rattle.move_laws.specs.Scripts.{AreRising}
 
--- where the shores of a tree stand, each is a canonical union of blocks of the partition at its root, and a rising list
+-- where the shores of a tree stand, each is a canonical union of blocks of the partition at its
+-- root, and a rising list
 each-stands : (n : ℕ) (p : List (List ℕ)) (t : Shape) → IsPartition n p → Fits n t → StandsAt n p t → Each n p t × AreRising n t
 each-stands n p leaf pp fits stands = (tt, tt)
 each-stands n p (cut x k m) pp fits stands =

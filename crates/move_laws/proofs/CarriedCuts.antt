@@ -1,5 +1,6 @@
--- A cut carried along an isomorphism of blocks: the isomorphism goes down to merged partitions; the image of a shore or the image's
--- complement is a cut again, and each side of the cut at the one partition has its image as a side of that at the other.
+-- A cut carried along an isomorphism of blocks: the isomorphism goes down to merged partitions;
+-- the image of a shore or the image's complement is a cut again, and each side of the cut at the
+-- one partition has its image as a side of that at the other.
 use Rattle.std.proofs.Common.{Bool, List, ap, arith, false, inl, inr, length, not, refl, sym, true, ℕ, ◌∙◌, ◌≡◌, ◌≤◌}
 use Rattle.counting.proofs.Counts.{bit_true}
 use Rattle.counting.proofs.RisingLists.{mem-rising_list, rising_list-rises}
@@ -165,7 +166,8 @@ module _ (g : Graph) (is : IsGraph g) (h k : ℕ → ℕ) (p q : List (List ℕ)
     rest-rises : IsRisingIn g.order rest
     rest-rises = rising_list-rises g.order (λ v. not (mem x (k v)))
 
-    -- the image is the shore of the carried cut where the greatest vertex is in no image, and else the complement is
+    -- the image is the shore of the carried cut where the greatest vertex is in no image, and
+    -- else the complement is
     pub image-cut : mem x (k g.order) ≡ false → IsCutAt g q image
     image-cut off = record { set = image-rises; tight = image_is_tight; nontrivial = image_is_nontrivial; canonical = image-mem g.order greatest ∙ off }
 

@@ -1,5 +1,5 @@
--- The leaves of a carried tree: they are those of the tree, as same leaves by the names of the images of blocks, and two parts change
--- their places where the complement of an image is taken.
+-- The leaves of a carried tree: they are those of the tree, as same leaves by the names of the
+-- images of blocks, and two parts change their places where the complement of an image is taken.
 use Rattle.std.proofs.Common.{Bool, List, ap, arith, false, length, not, refl, sym, true, ℕ, ◌∙◌, ◌≡◌, cond, map, subst, ◌+◌, ◌-◌}
 use Rattle.std.proofs.lemmas.List.{get_or-map, length-map, map-append}
 use Rattle.std.specs.Prelude.{[], ◌++◌}
@@ -35,13 +35,15 @@ carry_order n f k (cut x a b) = cond (mem x (f n)) (carry_order n f (k + leaf_co
 abbrev pub NamesImages : Graph → (h k : ℕ → ℕ) → (List ℕ → ℕ) → List (List ℕ) → Type 0
 NamesImages g h k name_of base = (r s : List (List ℕ)) → IsPartition g.order r → IsPartition g.order s → Isomorphism g r s h k → Finer g.order base r → (i : ℕ) → Within (length r) i → name_of (block r i) ≡ last_of (block s (place s (h (rep r i))))
 
--- named by their images, its blocks make a coarser partition the same leaf as the one that it is carried to
+-- named by their images, its blocks make a coarser partition the same leaf as the one that it is
+-- carried to
 pub images-same_leaf : (g : Graph) → IsGraph g → (h k : ℕ → ℕ) (name_of : List ℕ → ℕ) (base p q : List (List ℕ)) → NamesImages g h k name_of base → IsPartition g.order p → IsPartition g.order q → Isomorphism g p q h k → Finer g.order base p → IsSameLeaf g p q (map name_of p)
 images-same_leaf g is h k name_of base p q names lp lq iso finer =
     iso_same_leaf g is p q h k lp.partition lq.partition iso (map name_of p) (length-map p name_of) (λ i w.
     get_or-map name_of p (i - 1) [] 0 (omega arith) ∙ names p q lp lq iso finer i w ∙ ap (λ j. last_of (block q j)) (sym (move_is g is p q h k lp.partition lq.partition iso i)))
 
--- the leaves of the tree and of the carried tree, wherever the first partition is coarser than the base
+-- the leaves of the tree and of the carried tree, wherever the first partition is coarser than
+-- the base
 abbrev pub LeafParts : Graph → (h k : ℕ → ℕ) → (List ℕ → ℕ) → List (List ℕ) → Shape → Type 0
 LeafParts g h k name_of base t = (l : ℕ) (p q : List (List ℕ)) → IsPartition g.order p → IsPartition g.order q → IsCovered (contracted g p) → Isomorphism g p q h k → Finer g.order base p → AreRising g.order t → IsDerivationAt g p t →
     Part g l (leaves_at g.order p t) (leaves_at g.order q (carry g.order k t)) (carry_order g.order k l t) (map (λ (r : List (List ℕ)). map name_of r) (leaves_at g.order p t))

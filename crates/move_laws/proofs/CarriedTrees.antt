@@ -1,4 +1,5 @@
--- The law of carrying: along an isomorphism of blocks a derivation at one partition is carried to a derivation at the other.
+-- The law of carrying: along an isomorphism of blocks a derivation at one partition is carried to
+-- a derivation at the other.
 use Rattle.std.proofs.Common.{Bool, List, false, not, refl, true, ℕ, ◌≡◌}
 use Rattle.counting.specs.Lists.{mem, rising_list}
 use Rattle.graph_core.specs.Graph.{Graph, IsGraph}

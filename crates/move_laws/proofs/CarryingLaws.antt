@@ -1,4 +1,5 @@
--- What one leaf under names of blocks carries to the other: tight shores, derivations, merged partitions; and the names turned round.
+-- What one leaf under names of blocks carries to the other: tight shores, derivations, merged
+-- partitions; and the names turned round.
 use Rattle.std.proofs.Common.{◌≡◌, ◌↔◌, ℕ, ◌-◌, ◌<◌, List, [], length, map, sym, ap, ◌∙◌, arith}
 use Rattle.std.proofs.lemmas.List.{get_or-map, length-map}
 use Rattle.counting.proofs.Lists.{mem-within, member-of_set}

@@ -1,4 +1,5 @@
--- Merges of apart or nested unions of blocks commute: the order of the two changes no pair of vertices that share a block.
+-- Merges of apart or nested unions of blocks commute: the order of the two changes no pair of
+-- vertices that share a block.
 use Rattle.std.proofs.Common.{Bool, List, false, inl, inr, refl, sym, true, ℕ, ◌∙◌, ◌≡◌}
 use Rattle.std.proofs.lemmas.Bool.{both_ways, cases_Bool}
 use Rattle.counting.specs.Counts.{Within}

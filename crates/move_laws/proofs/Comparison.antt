@@ -1,5 +1,5 @@
--- Two derivations at one partition are turned into one another: the root shore of the second is exposed in the first, and then the
--- same below it on both sides.
+-- Two derivations at one partition are turned into one another: the root shore of the second is
+-- exposed in the first, and then the same below it on both sides.
 use Rattle.tree_core.specs.Moves.{below}
 use Rattle.move_laws.specs.Scripts.{AreRising}
 use Rattle.std.proofs.Common.{List, [], ap, arith, map, mul-add, mul_comm, refl, sym, ℕ, ◌*◌, ◌++◌, ◌+◌, ◌≡◌, ◌≤◌}

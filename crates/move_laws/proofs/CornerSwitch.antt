@@ -1,4 +1,5 @@
--- A Switch of the two corners of a crossing shore, each of which is one block: the shore, or its complement, becomes the root shore.
+-- A Switch of the two corners of a crossing shore, each of which is one block: the shore, or its
+-- complement, becomes the root shore.
 use Rattle.std.proofs.Common.{Bool, List, None, Some, [], ap, ap₂, arith, false, if◌then◌else◌, inl, inr, not, refl, subst, sym, true, ℕ, ◌&&◌, ◌||◌, ◌∙◌, ◌∷◌, ◌≡◌, ◌⊎◌}
 use Rattle.counting.proofs.RisingLists.{mem-rising_list, rising_list-rises, same_rising_list, true_all_in, all_in_false}
 use Rattle.counting.specs.Counts.{Within}

@@ -1,5 +1,6 @@
--- The corners of two crossing shores x and y. In one form for both cases: z is y or its complement, such that x and z share an odd
--- number of blocks; the inner corner is what they share and the outer corner is what is outside both.
+-- The corners of two crossing shores x and y. In one form for both cases: z is y or its
+-- complement, such that x and z share an odd number of blocks; the inner corner is what they
+-- share and the outer corner is what is outside both.
 use Rattle.std.proofs.Common.{Bool, List, ap, ap₂, arith, false, inl, inr, length, not, subst, suc, sym, true, zero, ℕ, ◌&&◌, ◌||◌, ◌∙◌, ◌≡◌, ◌≤◌, ◌⊎◌}
 use Rattle.std.proofs.lemmas.Bool.{true≢false, and_left, and_right}
 use Rattle.counting.proofs.Counts.{only_one}

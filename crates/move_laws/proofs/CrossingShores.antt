@@ -1,5 +1,6 @@
--- Exposing a shore that crosses the root shore: the inner and the outer corner are exposed first where they are no single blocks,
--- a Switch exchanges them, and Rotate brings the shore back over both.
+-- Exposing a shore that crosses the root shore: the inner and the outer corner are exposed first
+-- where they are no single blocks, a Switch exchanges them, and Rotate brings the shore back over
+-- both.
 use Rattle.std.proofs.Common.{Bool, List, None, Some, ap, arith, cond, false, if◌then◌else◌, inl, inr, not, refl, sym, true, ℕ, ◌&&◌, ◌∙◌, ◌≡◌, Option}
 use Rattle.counting.proofs.Odd.{odd-add}
 use Rattle.counting.specs.Counts.{Within, is_odd}

@@ -1,5 +1,6 @@
--- The exchange law: where a block on each side of a tight shore is exchanged and the new shore is tight, the four parts are regions
--- as the exchange of blocks asks, so the partitions below the two shores are the same leaves.
+-- The exchange law: where a block on each side of a tight shore is exchanged and the new shore is
+-- tight, the four parts are regions as the exchange of blocks asks, so the partitions below the
+-- two shores are the same leaves.
 use Rattle.std.proofs.Common.{Bool, List, ap, arith, cond, false, inl, inr, length, not, refl, suc, sym, true, ℕ, ◌&&◌, ◌+◌, ◌||◌, ◌∙◌, ◌≡◌, ◌≢◌}
 use Rattle.std.proofs.lemmas.Bool.{both_ways, cases_Bool}
 use Rattle.counting.proofs.Totals.{total_at}
@@ -113,7 +114,8 @@ module _ (g : Graph) (is : IsGraph g) (p : List (List ℕ)) (pp : AreBlocks g.or
       edge false u v true false v' h k q = grind arith
       edge false u v false u' v' h k q = grind arith
 
-  -- below `kept` of x: the partition with the complement merged, and that with u and the outer part merged
+  -- below `kept` of x: the partition with the complement merged, and that with u and the outer
+  -- part merged
   pub exchange_kept : (r q : List (List ℕ)) → IsMerge g.order p (union outer_part v) r → IsMerge g.order p (union outer_part u) q → Isomorphism g r q (λ w. cond (outer_part w) t w) (λ w. cond (outer_part w) s w)
   exchange_kept r q mr mq = exchange g is p r q inner_part u outer_part v s t pp cov four even_outer mr mq
 

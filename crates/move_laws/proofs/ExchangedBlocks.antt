@@ -1,5 +1,6 @@
--- The exchange of two blocks between two sides of a partition into four regions: the merged partitions are the same leaf. The hard
--- pair of blocks goes by parity, all others by a case split on the regions.
+-- The exchange of two blocks between two sides of a partition into four regions: the merged
+-- partitions are the same leaf. The hard pair of blocks goes by parity, all others by a case
+-- split on the regions.
 use Rattle.std.proofs.Common.{Bool, List, ap, ap₂, arith, cond, false, inl, inr, refl, sym, true, ℕ, ◌&&◌, ◌+◌, ◌||◌, ◌∙◌, ◌≡◌, ◌≢◌}
 use Rattle.std.proofs.lemmas.Bool.{and_parts, both_ways, cases_Bool, or_cases}
 use Rattle.counting.specs.Counts.{Within, bit, is_odd}

@@ -1,4 +1,5 @@
--- The exchange law by names: the two pairs of partitions are the same leaves by the names of the images.
+-- The exchange law by names: the two pairs of partitions are the same leaves by the names of the
+-- images.
 use Rattle.std.proofs.Common.{◌≡◌, ℕ, Bool, true, false, ◌||◌, ◌&&◌, not, List, map, sym, ap, ◌∙◌, arith}
 use Rattle.std.proofs.lemmas.Bool.{or_right}
 use Rattle.counting.proofs.RisingLists.{mem-rising_list, rising_list-rises}

@@ -1,5 +1,6 @@
--- The exchange law at a list of blocks: x is a tight shore, u a block inside and v a block outside, and u with the rest of the outside is
--- tight too. Nothing more is asked of x: it may be trivial, and it may have the greatest vertex.
+-- The exchange law at a list of blocks: x is a tight shore, u a block inside and v a block
+-- outside, and u with the rest of the outside is tight too. Nothing more is asked of x: it may be
+-- trivial, and it may have the greatest vertex.
 use Rattle.std.proofs.Common.{List, ap, cond, not, ℕ, Bool, true, false, ◌&&◌, ◌||◌, ◌∙◌, ◌≡◌, arith}
 use Rattle.counting.proofs.RisingLists.{mem-rising_list}
 use Rattle.counting.specs.Counts.{Within}

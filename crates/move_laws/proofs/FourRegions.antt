@@ -1,5 +1,6 @@
--- Four regions of a matching covered graph, two of them single blocks u and v: where b has an even number of blocks and no edge to a,
--- a perfect matching with an edge from u to b shows an edge from v to b.
+-- Four regions of a matching covered graph, two of them single blocks u and v: where b has an
+-- even number of blocks and no edge to a, a perfect matching with an edge from u to b shows an
+-- edge from v to b.
 use Rattle.std.proofs.Common.{Bool, List, ap, ap₂, arith, eq-eqb, false, inl, inr, ne_eqb, not, refl, suc, sym, true, ℕ, ◌&&◌, ◌+◌, ◌==◌, ◌||◌, ◌∙◌, ◌≡◌, ◌≢◌, ◌≤◌}
 use Rattle.std.proofs.lemmas.Bool.{and_from, both_ways, cases_Bool}
 use Rattle.std.specs.Prelude.{◌≡◌, ℕ, ◌+◌, true, false, List}
@@ -24,7 +25,8 @@ use Rattle.tree_core.specs.Moves.{IsBlockOf}
 abbrev pub Link : Graph → Set → Set → Type 0
 Link g x y = (e : ℕ) × Within (size g) e × (connects g x y e ≡ true)
 
--- four regions, each vertex in one of them: a and b have no edge between them, and u and v are blocks
+-- four regions, each vertex in one of them: a and b have no edge between them, and u and v are
+-- blocks
 pub record FourRegions (g : Graph) (p : List (List ℕ)) (a u b v : Set) (s t : ℕ) : Type 0 where
   pub first : IsUnion g.order p a
   pub second : IsUnion g.order p b

@@ -1,4 +1,5 @@
--- Images under an isomorphism of blocks: tight shores, their numbers of blocks and being covered go over, both ways.
+-- Images under an isomorphism of blocks: tight shores, their numbers of blocks and being covered
+-- go over, both ways.
 use Rattle.std.proofs.Common.{Bool, List, ap, arith, false, inl, inr, length, refl, subst₂, suc, sym, true, zero, ℕ, ◌∙◌, ◌≡◌, ◌≢◌}
 use Rattle.std.proofs.lemmas.Bool.{both_ways}
 use Rattle.counting.proofs.Tests.{some_true, true_some}

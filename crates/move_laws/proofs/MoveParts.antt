@@ -1,5 +1,6 @@
--- The leaves under a move, down its path: below the node they are those that the move gives, and elsewhere they stay. So the maps of a
--- proper move pair the leaves of a derivation with those of the next.
+-- The leaves under a move, down its path: below the node they are those that the move gives, and
+-- elsewhere they stay. So the maps of a proper move pair the leaves of a derivation with those of
+-- the next.
 use Rattle.move_laws.specs.Scripts.{AreRising}
 use Rattle.std.proofs.Common.{◌≡◌, ℕ, ◌+◌, Bool, true, false, ◌&&◌, not, List, [], ◌∷◌, ◌++◌, length, map, Some, None, if◌then◌else◌, refl, sym, ap, ◌∙◌, arith, subst, subst₂}
 use Rattle.std.proofs.lemmas.List.{length-append, map-append}

@@ -1,5 +1,5 @@
--- Exposing a shore that is nested with the root shore or apart from it: it is exposed in the child that holds it, and Rotate brings it
--- over the root shore.
+-- Exposing a shore that is nested with the root shore or apart from it: it is exposed in the
+-- child that holds it, and Rotate brings it over the root shore.
 use Rattle.move_laws.specs.Scripts.{AreRising, IsProperScript}
 use Rattle.std.proofs.Common.{Bool, List, None, Some, [], ap, arith, cond, false, if◌then◌else◌, inl, inr, length, map, not, refl, subst, suc, sym, true, zero, ℕ, ◌&&◌, ◌*◌, ◌++◌, ◌+◌, ◌∙◌, ◌∷◌, ◌≡◌, ◌≤◌, ◌⊎◌}
 use Rattle.std.proofs.lemmas.Bool.{and_parts, both_ways, cases_Bool, not-true}

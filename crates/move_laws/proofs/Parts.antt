@@ -1,5 +1,6 @@
--- A part of the leaves of a tree and what a move makes of it: the new leaves with the old numbers in their order, and for each old
--- leaf the names that make it the same leaf as its partner. Parts are joined as trees are, and a whole one gives a pairing.
+-- A part of the leaves of a tree and what a move makes of it: the new leaves with the old numbers
+-- in their order, and for each old leaf the names that make it the same leaf as its partner.
+-- Parts are joined as trees are, and a whole one gives a pairing.
 use Rattle.std.proofs.Common.{◌≡◌, ℕ, suc, zero, ◌+◌, ◌-◌, ◌≤◌, ◌<◌, inl, ◌==◌, List, [], ◌∷◌, ◌++◌, length, map, refl, sym, ap, ◌∙◌, arith, eq-eqb, ne_eqb, subst, subst₂, All}
 use Rattle.std.specs.Prelude.{slice_index, slice_index_or}
 use Rattle.std.proofs.lemmas.List.{get_or_append_left, get_or-append-add, get_or-map, length-append, length-map}

@@ -1,4 +1,5 @@
--- The position of a number in a list: it is one where the number stands, and the only one where the list has no number twice.
+-- The position of a number in a list: it is one where the number stands, and the only one where
+-- the list has no number twice.
 use Rattle.std.proofs.Common.{◌≡◌, ℕ, suc, zero, ◌+◌, ◌-◌, Bool, true, false, cond, ◌==◌, ◌||◌, List, [], ◌∷◌, length, refl, sym, ap, ◌∙◌, arith, eqb-true}
 use Rattle.std.specs.Prelude.{slice_index}
 use Rattle.std.proofs.lemmas.Bool.{both_ways}

@@ -1,4 +1,5 @@
--- A same leaf by names is an isomorphism by maps of vertices, and an isomorphism is a same leaf by the names of the images.
+-- A same leaf by names is an isomorphism by maps of vertices, and an isomorphism is a same leaf
+-- by the names of the images.
 use Rattle.std.proofs.Common.{Bool, List, ap, ap₂, arith, eq-eqb, eqb-true, false, inl, inr, length, map, ne_eqb, not, refl, subst, subst₂, sym, true, ℕ, ◌&&◌, ◌-◌, ◌<◌, ◌==◌, ◌||◌, ◌∙◌, ◌≡◌, ◌≢◌}
 use Rattle.std.proofs.lemmas.Bool.{and_from, and_parts, both_ways, cases_eq}
 use Rattle.std.proofs.lemmas.List.{get_or-map, length-map}

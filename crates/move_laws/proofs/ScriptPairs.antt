@@ -1,4 +1,5 @@
--- The maps of a script pair the leaves: those of no move do, and a pairing followed by the pairing of a move is a pairing.
+-- The maps of a script pair the leaves: those of no move do, and a pairing followed by the
+-- pairing of a move is a pairing.
 use Rattle.move_laws.specs.Scripts.{AreRising, IsProperScript}
 use Rattle.std.proofs.Common.{◌≡◌, ℕ, ◌-◌, ◌<◌, Bool, true, ◌==◌, List, [], ◌∷◌, length, map, unwrap_or, sym, ap, ap₂, ◌∙◌, arith, eq-eqb, ne_eqb, eqb-true, subst}
 use Rattle.std.proofs.lemmas.List.{get_or-map, length-map}

@@ -1,4 +1,5 @@
--- Proper scripts: scripts of proper moves through derivations at a partition, one after the other, and below a side of a cut.
+-- Proper scripts: scripts of proper moves through derivations at a partition, one after the
+-- other, and below a side of a cut.
 use Rattle.move_laws.specs.Scripts.{AreRising, IsProperScript}
 use Rattle.std.proofs.Common.{List, Some, [], ap, arith, length, map, option_map, refl, subst, sym, ℕ, ◌++◌, ◌+◌, ◌∙◌, ◌∷◌, ◌≡◌}
 use Rattle.std.proofs.lemmas.Option.{none-some}

@@ -1,5 +1,5 @@
--- The images of blocks under a Switch: the lists that the table of the maps gives are the blocks that the exchange of blocks takes
--- them to, so their last numbers are the names of the images.
+-- The images of blocks under a Switch: the lists that the table of the maps gives are the blocks
+-- that the exchange of blocks takes them to, so their last numbers are the names of the images.
 use Rattle.std.proofs.Common.{◌≡◌, ℕ, Bool, true, false, cond, ◌||◌, ◌&&◌, not, List, length, refl, sym, ap, ap₂, ◌∙◌, arith}
 use Rattle.counting.proofs.Booleans.{same_tests}
 use Rattle.std.proofs.lemmas.Bool.{or_right}

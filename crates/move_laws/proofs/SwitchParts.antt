@@ -1,4 +1,5 @@
--- The leaves under a Switch, at its node: those of the two trees, in the order and by the names that the maps give.
+-- The leaves under a Switch, at its node: those of the two trees, in the order and by the names
+-- that the maps give.
 use Rattle.move_laws.specs.Scripts.{AreRising}
 use Rattle.std.proofs.Common.{◌≡◌, ℕ, ◌+◌, Bool, true, false, cond, ◌||◌, ◌&&◌, not, List, [], ◌++◌, map, if◌then◌else◌, refl, sym, ap, ap₂, ◌∙◌, arith, subst}
 use Rattle.std.proofs.lemmas.Bool.{and_parts, not-true}

@@ -1,5 +1,5 @@
--- What the steps of a turning ask of the tree: tests of two shores, the two forms of Rotate in `merged`, and the shape of a carried
--- tree.
+-- What the steps of a turning ask of the tree: tests of two shores, the two forms of Rotate in
+-- `merged`, and the shape of a carried tree.
 use Rattle.std.proofs.Common.{Bool, List, None, Some, [], ap, arith, false, if◌then◌else◌, not, refl, true, ℕ, ◌&&◌, ◌∙◌, ◌≡◌}
 use Rattle.counting.proofs.RisingLists.{rising_list-rises, true_all_in}
 use Rattle.counting.specs.Lists.{IsRisingIn, is_apart, is_subset, mem}

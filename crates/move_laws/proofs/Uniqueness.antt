@@ -1,5 +1,5 @@
--- The laws in their last form: what a same leaf carries along, and that any two derivations of a graph are joined by few moves
--- (Lovász 1987).
+-- The laws in their last form: what a same leaf carries along, and that any two derivations of a
+-- graph are joined by few moves (Lovász 1987).
 use Rattle.move_laws.specs.Scripts.{AreRising, IsProperScript}
 use Rattle.std.proofs.Common.{List, [], length, ℕ, ◌*◌, ◌+◌, ◌∷◌, ◌≡◌, ◌≤◌}
 use Rattle.counting.specs.Lists.{IsRisingIn}
@@ -26,7 +26,8 @@ use Rattle.move_laws.proofs.ScriptPairs.{script_pairs}
 use Rattle.move_laws.specs.Pairings.{IsPairing}
 use Rattle.move_laws.proofs.SingleVertices.{singles_stage}
 
--- expose: a script of at most 3 c − 2 moves through derivations, each Switch proper, whose last tree has the shore at its root
+-- expose: a script of at most 3 c − 2 moves through derivations, each Switch proper, whose last
+-- tree has the shore at its root
 pub expose_law : (g : Graph) (t : Shape) → Exposes g t
 expose_law g t = expose g (crossed g) t
 
@@ -39,7 +40,8 @@ pub script_through : (g : Graph) (s : Shape) (ms : List PlainMove) (t : Shape) �
 script_through g s [] t c w = w
 script_through g s (m ∷ ms) t c w = (w.0, w.1, record { covered = c; derives = w.3 }, script_through g w.0 ms t c w.6)
 
--- two derivations of a covered graph: a script of at most 5 c² moves leads from one to the other, each tree between a derivation
+-- two derivations of a covered graph: a script of at most 5 c² moves leads from one to the other,
+-- each tree between a derivation
 pub compare_through : (g : Graph) (s t : Shape) → IsGraph g → AreRising g.order s → IsDerivation g s → AreRising g.order t → IsDerivation g t → (ms : List PlainMove) × TurnsThrough g s ms t × (length ms ≤ 5 * (cut_count s * cut_count s))
 compare_through g s t is fs ds ft dt = let r = compare_law g (singles g.order) s t (singles_stage g is ds.covered) fs ds.derives ft dt.derives in (r.0, script_through g s r.0 t ds.covered r.1, r.2)
 

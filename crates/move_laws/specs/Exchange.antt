@@ -6,7 +6,8 @@ use Rattle.graph_core.specs.Graph.{Graph}
 use Rattle.graph_core.specs.Shores.{IsTightAt}
 use Rattle.tree_core.specs.Moves.{IsBlockOf}
 
--- a tight shore x with a block u inside and a block v outside, such that u with all that is outside x and v is tight too
+-- a tight shore x with a block u inside and a block v outside, such that u with all that is
+-- outside x and v is tight too
 pub record Corner (g : Graph) (p : List (List ℕ)) (x u v : Set) (s t : ℕ) : Type 0 where
   pub shore : IsTightAt g p x
   pub left : IsBlockOf g.order p u s

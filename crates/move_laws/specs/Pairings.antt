@@ -1,11 +1,13 @@
--- Paired derivations: a one-to-one pairing of two lists of leaves, with names that make each two partners the same leaf.
+-- Paired derivations: a one-to-one pairing of two lists of leaves, with names that make each two
+-- partners the same leaf.
 use Rattle.std.specs.Prelude.{◌≡◌, ℕ, ◌==◌, List, length}
 use Rattle.counting.specs.Counts.{count, Within}
 use Rattle.graph_core.specs.Graph.{Graph}
 use Rattle.tree_core.specs.LeafMaps.{PlainLeafMap, map_at, leaf_at}
 use Rattle.move_laws.specs.SameLeaf.{IsSameLeaf}
 
--- one entry for each leaf of the first list, its places those of the second, each once, and its names make the two the same leaf
+-- one entry for each leaf of the first list, its places those of the second, each once, and its
+-- names make the two the same leaf
 pub record IsPairing (g : Graph) (ps qs : List (List (List ℕ))) (maps : List PlainLeafMap) : Type 0 where
   pub one_each : length maps ≡ length ps
   pub within : (i : ℕ) → Within (length ps) i → Within (length qs) (map_at maps i).to

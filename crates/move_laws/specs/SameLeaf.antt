@@ -1,5 +1,5 @@
--- One leaf under names of blocks: two partitions of one graph whose blocks correspond so that adjacency is kept (Lovász 1987, "up to
--- multiplicities of edges").
+-- One leaf under names of blocks: two partitions of one graph whose blocks correspond so that
+-- adjacency is kept (Lovász 1987, "up to multiplicities of edges").
 use Rattle.std.specs.Prelude.{◌≡◌, ℕ, ◌==◌, List, length, map}
 use Rattle.counting.specs.Counts.{count, Within}
 use Rattle.counting.specs.Lists.{last_of, mem, rising_list}
@@ -12,7 +12,8 @@ use Rattle.tree_core.specs.LeafMaps.{name, position}
 abbrev pub image : List (List ℕ) → List ℕ → ℕ → ℕ
 image q names i = place q (name names i)
 
--- the names give each block of p, in order, a block of q, each block of q once, and keep adjacency both ways
+-- the names give each block of p, in order, a block of q, each block of q once, and keep
+-- adjacency both ways
 pub record IsSameLeaf (g : Graph) (p q : List (List ℕ)) (names : List ℕ) : Type 0 where
   pub one_each : length names ≡ length p
   pub named : (i : ℕ) → Within (length p) i → Within (length q) (image q names i) × (last_of (block q (image q names i)) ≡ name names i)
@@ -35,6 +36,7 @@ turned_names p q names = map (λ b. from_name p q names (last_of b)) q
 abbrev pub image_shore : ℕ → (p q : List (List ℕ)) → List ℕ → List ℕ → List ℕ
 image_shore n p q names x = rising_list n (λ v. mem x (from_name p q names v))
 
--- the names after blocks of p were merged to r and their images to s: for each block of r the name of the block of s with its image
+-- the names after blocks of p were merged to r and their images to s: for each block of r the
+-- name of the block of s with its image
 abbrev pub merged_names : (p r s : List (List ℕ)) → List ℕ → List ℕ
 merged_names p r s names = map (λ b. last_of (block s (place s (to_name p names (last_of b))))) r

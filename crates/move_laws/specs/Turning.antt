@@ -1,5 +1,5 @@
--- How a shore is brought to the root of a tree of cuts, from its two trees in which corners were brought to the root before: partial
--- functions on plain trees, with the moves that they make.
+-- How a shore is brought to the root of a tree of cuts, from its two trees in which corners were
+-- brought to the root before: partial functions on plain trees, with the moves that they make.
 use Rattle.std.specs.Prelude.{ℕ, List, [], ◌∷◌, ◌++◌, map, Option, Some, None, option_map, option_and_then, if◌then◌else◌}
 use Rattle.counting.specs.Lists.{is_subset}
 use Rattle.tree_core.specs.Moves.{PlainMove, below, rotate_at, rotate_result_at, switch_at, switch_result_at}
@@ -32,7 +32,8 @@ raised_kept x k b = followed (map (below Kept) k.moves) (raised Kept (cut x k.tr
 abbrev pub raised_merged : List ℕ → Shape → PlainTurned → Option PlainTurned
 raised_merged x a m = followed (map (below Merged) m.moves) (raised Merged (cut x a m.tree))
 
--- with the outer corner, or its complement, at the root: u and v are exchanged in the child that holds x, and its new root is brought up
+-- with the outer corner, or its complement, at the root: u and v are exchanged in the child that
+-- holds x, and its new root is brought up
 abbrev pub switched_below : ℕ → (x u v : List ℕ) → Shape → Option PlainTurned
 switched_below n x u v leaf = None
 switched_below n x u v (cut top c d) =
@@ -40,12 +41,14 @@ switched_below n x u v (cut top c d) =
     then option_and_then (λ w. raised_kept top w d) (switched n u v c)
     else option_and_then (λ w. raised_merged top c w) (switched n u v d)
 
--- the shore of u and v at the root x: exchanged at once, or after moves in `merged` that brought the outer corner to its root
+-- the shore of u and v at the root x: exchanged at once, or after moves in `merged` that brought
+-- the outer corner to its root
 abbrev pub over_outer : ℕ → (x u v : List ℕ) → Shape → Shape → Option (List PlainMove) → Option PlainTurned
 over_outer n x u v a b None = switched n u v (cut x a b)
 over_outer n x u v a b (Some ms) = option_and_then (λ r. followed r.moves (switched_below n x u v r.tree)) (raised_merged x a (record { tree = b; moves = ms }))
 
--- with the inner corner at the root: the same in the child that holds x, and its new root is brought up
+-- with the inner corner at the root: the same in the child that holds x, and its new root is
+-- brought up
 abbrev pub outer_below : ℕ → (x u v : List ℕ) → Option (List PlainMove) → Shape → Option PlainTurned
 outer_below n x u v moved leaf = None
 outer_below n x u v moved (cut top c leaf) = None

@@ -1,4 +1,5 @@
--- The word of a path writes this path, and the word of a set its vertices: what stands between two commas is the decimal of one vertex.
+-- The word of a path writes this path, and the word of a set its vertices: what stands between
+-- two commas is the decimal of one vertex.
 use Rattle.std.proofs.Common.{◌≡◌, ◌≤◌, ◌<◌, ◌||◌, ◌^◌, not, nat_le, ℕ, suc, List, [], ◌∷◌, Bool, length, map, true, false, refl, ◌∙◌, ap, arith}
 use Rattle.std.specs.Fmt.{decimal}
 use Rattle.std.specs.List.{All as AllOf, list_all, slice_split}

@@ -1,5 +1,6 @@
--- What is read of a text can be written again. Along the lines of a text the moves read so far keep the limits, and their sets are
--- nonempty and rise within 1 to n: each line keeps this, since it passed the tests of the table.
+-- What is read of a text can be written again. Along the lines of a text the moves read so far
+-- keep the limits, and their sets are nonempty and rise within 1 to n: each line keeps this,
+-- since it passed the tests of the table.
 use Rattle.std.proofs.Common.{◌≡◌, ◌≤◌, ◌<◌, ◌==◌, ◌&&◌, ◌||◌, ◌^◌, codes, not, nat_le, if◌then◌else◌, ℕ, List, [], ◌∷◌, ◌++◌, Bool, length, map, true, false, Option, Some, None, Result, Ok, Err, IfOk, refl, sym, ◌∙◌, ap, subst, arith}
 use Rattle.std.specs.List.{AllByRecursion, list_all, list_any}
 use Rattle.std.specs.Str.{bytes_eq}
@@ -27,7 +28,7 @@ record Keeps (n : ℕ) (moves : List PlainMove) : Type 0 where
   sets : AllByRecursion (HasSets n) moves
   rising : AllByRecursion SetsRise moves
 
--- what not-false of each item and of one more behind
+-- what not-false of each item and of one more after
 all-more : {X : Type 0} (P : X → Type 0) (xs : List X) (x : X) → AllByRecursion P xs → P x → AllByRecursion P (xs ++ x ∷ [])
 all-more P [] x each last = (last, tt)
 all-more P (y ∷ xs) x each last = (each.0, all-more P xs x each.1 last)

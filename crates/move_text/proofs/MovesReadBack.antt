@@ -1,5 +1,5 @@
--- What is written of moves is read as these moves. The header leads to no moves, and the line of a move adds it to the moves before,
--- since no test of the table applies.
+-- What is written of moves is read as these moves. The header leads to no moves, and the line of
+-- a move adds it to the moves before, since no test of the table applies.
 use Rattle.std.proofs.Common.{◌≡◌, ◌+◌, ◌≤◌, ◌<◌, ◌^◌, codes, nat_le, ℕ, List, [], ◌∷◌, ◌++◌, All, length, map, true, false, Some, Ok, refl, ◌∙◌, ap, subst, arith, append_assoc}
 use Rattle.std.specs.List.{AllByRecursion, list_all, list_any}
 use Rattle.std.proofs.lemmas.Bool.Decides.{nat_tests}

@@ -1,6 +1,7 @@
--- The move format for a graph of order n: a header `m mcg N`, and a line for each move, `rotate PATH` or `switch PATH U V`. A path is
--- a word with a letter for each step, `k` to the `kept` tree and `m` to the `merged` tree; the path of no steps is `.`. U and V are
--- sets of vertices, written in rising order with a comma between each and the next.
+-- The move format for a graph of order n: a header `m mcg N`, and a line for each move, `rotate
+-- PATH` or `switch PATH U V`. A path is a word with a letter for each step, `k` to the `kept`
+-- tree and `m` to the `merged` tree; the path of no steps is `.`. U and V are sets of vertices,
+-- written in rising order with a comma between each and the next.
 use Rattle.std.specs.Prelude.{ℕ, ◌==◌, ◌&&◌, ◌||◌, not, nat_le, Bool, List, [], ◌∷◌, ◌++◌, length, map, codes, Result, Ok, Err, if◌then◌else◌}
 use Rattle.std.specs.List.{list_all, list_any, slice_split}
 use Rattle.std.specs.Str.{bytes_eq}
@@ -72,11 +73,11 @@ moves_header n words =
     ∷ [])
     []
 
--- the line of a Rotate, behind these moves
+-- the line of a Rotate, after these moves
 abbrev pub rotate_line : List PlainMove → List (List ℕ) → Result (List PlainMove) FaultKind
 rotate_line moves words = Ok (moves ++ rotate_at (path_of (word_at words 1)) ∷ [])
 
--- the line of a Switch, behind these moves, by the words of its path and of its two sets
+-- the line of a Switch, after these moves, by the words of its path and of its two sets
 abbrev pub switch_line : ℕ → List PlainMove → (path u v : List ℕ) → Result (List PlainMove) FaultKind
 switch_line n moves path u v =
     checked ((not (are_numbers u && are_numbers v), kind.Number)
@@ -85,7 +86,8 @@ switch_line n moves path u v =
     ∷ [])
     (moves ++ switch_at (path_of path) (vertices_of u) (vertices_of v) ∷ [])
 
--- a significant line behind the header, behind these moves: too much behind the most moves, a Rotate or a Switch
+-- a significant line after the header, after these moves: too much after the most moves, a Rotate
+-- or a Switch
 abbrev pub move_line : ℕ → List PlainMove → List (List ℕ) → Result (List PlainMove) FaultKind
 move_line n moves words =
     if nat_le most_moves (length moves) then Err kind.Limit
@@ -93,6 +95,6 @@ move_line n moves words =
     else (if is_switch_line words then switch_line n moves (word_at words 1) (word_at words 2) (word_at words 3)
     else Err kind.Word))
 
--- the format: the text may end behind each line
+-- the format: the text may end after each line
 abbrev pub move_format : ℕ → Rules (List PlainMove) (List PlainMove) FaultKind
 move_format n = record { header = moves_header n; line = move_line n; close = λ moves. Ok moves; headless = kind.Header }

@@ -24,7 +24,7 @@ abbrev pub path_word : List Side → List ℕ
 path_word [] = codes "."
 path_word (side ∷ path) = letter_of side ∷ map letter_of path
 
--- numbers, each behind a comma
+-- numbers, each after a comma
 abbrev pub behind_commas : List ℕ → List ℕ
 behind_commas [] = []
 behind_commas (v ∷ vertices) = 44 ∷ (decimal v ++ behind_commas vertices)
@@ -39,7 +39,8 @@ abbrev pub move_words : PlainMove → List (List ℕ)
 move_words (rotate_at path) = codes "rotate" ∷ path_word path ∷ []
 move_words (switch_at path u v) = codes "switch" ∷ path_word path ∷ set_word u ∷ set_word v ∷ []
 
--- the text of moves on trees over 1 to n: one space between words, a line feed behind each line, numbers in decimal
+-- the text of moves on trees over 1 to n: one space between words, a line feed after each line,
+-- numbers in decimal
 unfoldable pub moves_text : ℕ → List PlainMove → List ℕ
 moves_text n moves = written (header_words n ∷ map move_words moves)
 
@@ -58,8 +59,8 @@ abbrev pub SetsRise : PlainMove → Type 0
 SetsRise (rotate_at path) = Unit {0}
 SetsRise (switch_at path u v) = IsStrictlyIncreasing u × IsStrictlyIncreasing v
 
--- moves that can be written: there are not too many, their paths are not too long, and their sets are nonempty rising lists of
--- vertices
+-- moves that can be written: there are not too many, their paths are not too long, and their sets
+-- are nonempty rising lists of vertices
 pub record IsWritable (n : ℕ) (moves : List PlainMove) : Type 0 where
   pub order : n < 10 ^ 9
   pub few : length moves ≤ most_moves

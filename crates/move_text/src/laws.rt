@@ -13,8 +13,8 @@ pub fn written_moves_stand()
         StandsAlone (move_format n) (moves_text n moves) }
 {}
 
-/// What a text stands for can be written: there are at most 20,000 moves, each path has at most 127 steps, and the sets are nonempty
-/// rising lists of vertices.
+/// What a text stands for can be written: there are at most 20,000 moves, each path has at most
+/// 127 steps, and the sets are nonempty rising lists of vertices.
 pub fn read_moves_fit()
     ensures { (n : ℕ) (text : List ℕ) (moves : List PlainMove) → n < 10 ^ 9 →
         Stands (move_format n) text moves → IsWritable n moves }

@@ -38,7 +38,8 @@ fn widest_place(g: &MultiGraph, list: &[Candidate]) -> usize
     best
 }
 
-/// The order of the widest cuts of a graph: at each node the first candidate is picked whose cut has the most edges.
+/// The order of the widest cuts of a graph: at each node the first candidate is picked whose cut
+/// has the most edges.
 #[derive(Clone, Copy)]
 pub struct Widest<'g> {
     pub graph: &'g MultiGraph,

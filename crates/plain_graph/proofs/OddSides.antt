@@ -1,4 +1,5 @@
--- A number is odd where division by two leaves one, and what is outside of a set is the order less what is inside.
+-- A number is odd where division by two leaves one, and what is outside of a set is the order
+-- less what is inside.
 use Rattle.std.proofs.Common.{◌≡◌, ℕ, ◌-◌, ◌%◌, ◌==◌, true, false, ◌&&◌, sym, ap, ◌∙◌, arith, eq-eqb, ne_eqb}
 use Rattle.counting.specs.Counts.{count, is_odd}
 use Rattle.counting.specs.Sets.{Set, complement}

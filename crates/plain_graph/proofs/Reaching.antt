@@ -1,4 +1,5 @@
--- The vertices that a walk of one step more reaches, and those that a walk of as many steps as there are vertices reaches.
+-- The vertices that a walk of one step more reaches, and those that a walk of as many steps as
+-- there are vertices reaches.
 use Rattle.std.proofs.Common.{◌≡◌, ℕ, suc, ◌+◌, ◌&&◌, ◌||◌, ◌==◌, not, true, false, ap, ap₂, sym, ◌∙◌, arith, List, [], length, Option, None, Some, unwrap_or, nat_lt, ltb-true, lt-ltb, eq-eqb, ne_eqb, inl, inr}
 use Rattle.std.specs.Prelude.{IfSome, IfNone}
 use Rattle.std.proofs.lemmas.Bool.{and_from, and_parts, and_right, both_ways, cases_eq, cases_lt, false_from_ne_true, not_from_false}
@@ -33,7 +34,8 @@ first_of : (o : Option ℕ) (xs : List ℕ) (u : ℕ) → IfSome o (IsLeastOf xs
 first_of None xs u some m none = absurd (both_ways (mem xs u) (ap (λ ys. mem ys u) none) m)
 first_of (Some x) xs u some m none = some
 
--- a vertex outside s is the least of its component where it is the first of the vertices that it is joined to
+-- a vertex outside s is the least of its component where it is the first of the vertices that it
+-- is joined to
 pub least-first : (g : Graph) (s : Set) (u : ℕ) (part : List ℕ) (o : Option ℕ) → Within g.order u → s u ≡ false → ((v : ℕ) → Within g.order v → mem part v ≡ joined g s u v) → ((v : ℕ) → mem part v ≡ true → Within g.order v) →
     IfSome o (IsLeastOf part) → IfNone o (part ≡ []) → (unwrap_or o u == u) ≡ is_least g s u
 unfolding joined

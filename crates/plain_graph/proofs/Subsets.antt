@@ -1,5 +1,6 @@
--- Each set of numbers 1 to n is in the list of all of them, as its rising list: the sets without n come first, then the same
--- sets with n added. So a test that passes for a set passes for an item of the list.
+-- Each set of numbers 1 to n is in the list of all of them, as its rising list: the sets without
+-- n come first, then the same sets with n added. So a test that passes for a set passes for an
+-- item of the list.
 use Rattle.std.proofs.Common.{◌≡◌, ℕ, suc, zero, ◌+◌, ◌≤◌, ◌<◌, Bool, true, false, ◌==◌, ◌||◌, refl, sym, ap, ap₂, ◌∙◌, arith, List, [], ◌∷◌, ◌++◌, length, map, filter, get_or, subst, cond, append-nil, eq-eqb, ne_eqb}
 use Rattle.std.specs.Prelude.{All, Contains}
 use Rattle.std.proofs.lemmas.Bool.{or_right}

@@ -1,5 +1,5 @@
--- What a trial of all sets of edges tells of the tests that quantify over sets: a matching is on the list as its rising list, and
--- a test of a set of edges sees nothing but the edges.
+-- What a trial of all sets of edges tells of the tests that quantify over sets: a matching is on
+-- the list as its rising list, and a test of a set of edges sees nothing but the edges.
 use Rattle.std.proofs.Common.{◌≡◌, ℕ, ◌+◌, ◌≤◌, ◌<◌, ◌==◌, ◌&&◌, true, false, not, refl, sym, ap, ap₂, ◌∙◌, arith, List, [], length, get_or, eq-eqb, eqb-true, ne_eqb, subst, inl, inr, max}
 use Rattle.counting.proofs.Booleans.{same_tests}
 use Rattle.std.specs.List.{list_all, list_any}

@@ -1,4 +1,5 @@
-//! What most calls ask of a graph first: whether it is matching covered, and whether it is bipartite.
+//! What most calls ask of a graph first: whether it is matching covered, and whether it is
+//! bipartite.
 ghost use Rattle.std.specs.Prelude.{◌↔◌, IsTrue, IfOk};
 ghost use Rattle.graph_core.specs.Covered.{IsCovered};
 ghost use Rattle.graph_core.specs.Graph.{IsBipartite};

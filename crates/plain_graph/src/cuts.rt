@@ -69,8 +69,8 @@ fn each_has_one(graph: &MultiGraph, sets: &[VSet], shore: VSet) -> bool
     sets.iter().all(|set| edges_in_cut(graph, *set, shore) == 1)
 }
 
-/// Whether the shore is tight: an odd number of vertices inside and outside, and exactly one edge of each perfect matching in
-/// its cut.
+/// Whether the shore is tight: an odd number of vertices inside and outside, and exactly one edge
+/// of each perfect matching in its cut.
 pub fn is_tight(alloc: Global, graph: &MultiGraph, shore: VSet) -> Result<bool, Memory>
     requires { IsSmall graph.now }
     ensures { IfOk result (λ tight. tight ≡ is_tight graph.now (mem shore)) }

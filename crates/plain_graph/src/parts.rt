@@ -97,7 +97,8 @@ fn begins_odd_part(graph: &MultiGraph, removed: VSet, u: u32) -> bool
     is_least(graph, removed, u) && is_in_odd_part(graph, removed, u)
 }
 
-/// o(S): the number of components of the graph without `removed` that have an odd number of vertices.
+/// o(S): the number of components of the graph without `removed` that have an odd number of
+/// vertices.
 #[tactic(auto, unfolding(graph_core::specs::Components::odd_component_count, crate::specs::Parts::begins_odd_part))]
 pub fn odd_component_count(graph: &MultiGraph, removed: VSet) -> u32
     ensures { result ≡ odd_component_count graph.now (mem removed) }

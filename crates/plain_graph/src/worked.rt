@@ -1,4 +1,5 @@
-//! Graphs of the literature, by the ends of their edges: each is a constant, the edges in the order of their numbers.
+//! Graphs of the literature, by the ends of their edges: each is a constant, the edges in the
+//! order of their numbers.
 ghost use Rattle.std.specs.Prelude.{◌≡◌, ℕ, ◌<◌, ◌≤◌, length, IfOk, OnOk, IsErrOf};
 ghost use Rattle.counting.specs.Counts.{Within};
 ghost use Rattle.plain_graph.specs.EdgeFaults.{IsReached, JoinsTwo, pair_at};
@@ -40,7 +41,8 @@ pub const CYCLE_OF_8: [(u32, u32); 8] = [
 /// The cycle of four with one edge doubled.
 pub const DOUBLED_SQUARE: [(u32, u32); 5] = [(1, 2), (1, 2), (2, 3), (3, 4), (4, 1)];
 
-/// Three odd cycles, each around the one before, and a stem, on 8 vertices: 1 2 3, then 4 5 with it, then 6 7 with these; and 8 at 7.
+/// Three odd cycles, each around the one before, and a stem, on 8 vertices: 1 2 3, then 4 5 with
+/// it, then 6 7 with these; and 8 at 7.
 pub const FLOWER: [(u32, u32); 10] = [
     (1, 2),
     (4, 5),
@@ -149,9 +151,10 @@ pub const TWO_K4: [(u32, u32); 11] = [
     (5, 6),
 ];
 
-/// The graph of `order` vertices with these edges, numbered in their order. A fault is that of the first edge that has one: `Range`
-/// where an end is no vertex, `Loop` where the two ends are one vertex, `TooMany` where there are `MOST_EDGES` edges before it; without
-/// a fault there is no error but `Memory`.
+/// The graph of `order` vertices with these edges, numbered in their order. A fault is that of
+/// the first edge that has one: `Range` where an end is not a vertex, `Loop` where the two ends
+/// are one vertex, `TooMany` where there are `MOST_EDGES` edges before it; without a fault there
+/// is no error but `Memory`.
 pub fn graph_with(alloc: Global, order: u32, edges: &[(u32, u32)]) -> Result<MultiGraph, AddFault>
     requires { order ≤ MOST_VERTICES }
     ensures graph { IfOk result (λ g. g ≡ record { order = order; ends = edges.now }) }

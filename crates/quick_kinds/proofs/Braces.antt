@@ -1,5 +1,5 @@
--- Which bipartite covered graphs are braces? The theorem on braces: there is no nontrivial tight cut exactly where a perfect matching
--- is left without any two vertices of each side.
+-- Which bipartite covered graphs are braces? The theorem on braces: there is no nontrivial tight
+-- cut exactly when a perfect matching is left without any two vertices of each side.
 use Rattle.std.proofs.Common.{inl, inr, ◌↔◌}
 use Rattle.graph_core.specs.Sides.{IsSide}
 use Rattle.counting.specs.Sets.{Set}

@@ -1,6 +1,7 @@
--- Has a bipartite covered graph a nontrivial tight cut, where a perfect matching is left without any two vertices of each side?
--- No: a tight set has one vertex more of one side, and no edge leaves it from the other; so two of the larger side in it, and two
--- of the other side outside it, leave no perfect matching.
+-- Has a bipartite covered graph a nontrivial tight cut, where a perfect matching is left without
+-- any two vertices of each side? No: a tight set has one vertex more of one side, and no edge
+-- leaves it from the other; so two of the larger side in it, and two of the other side outside
+-- it, leave no perfect matching.
 use Rattle.std.proofs.Common.{◌≡◌, ℕ, suc, zero, ◌+◌, ◌*◌, ◌≤◌, ◌≢◌, Bool, true, false, ◌==◌, refl, sym, ap, ◌∙◌, arith, ◌&&◌, ◌||◌, not, ne_eqb, eqb-true}
 use Rattle.std.proofs.lemmas.Bool.{true≢false, and_parts, not-false, not-true}
 use Rattle.barrier_kit.proofs.Matched.{perfect_congr}
@@ -24,7 +25,8 @@ use Rattle.graph_core.specs.Tight.{IsTight, IsNontrivial}
 
 module _ (g : Graph) (is : IsGraph g) (cov : IsCovered g) where
   module _ (x : Set) (two : IsSide g x) where
-    -- a nontrivial tight set with more on the left: four_set vertices that leave no perfect matching
+    -- a nontrivial tight set with more on the left: four_set vertices that leave no perfect
+    -- matching
     more_left : (y : Set) → IsTight g y → IsNontrivial g.order y → count g.order (meet y x) ≡ count g.order (minus y x) + 1 →
         ((a c b d : ℕ) → Within g.order a → Within g.order c → Within g.order b → Within g.order d → a ≢ c → b ≢ d → x a ≡ true → x c ≡ true → x b ≡ false → x d ≡ false → (m : Set) × IsPerfect g (four_set a c b d) m) → ⊥
     more_left y t n more match =

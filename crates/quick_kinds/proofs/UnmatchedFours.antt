@@ -1,5 +1,6 @@
--- Which cut of a bipartite covered graph is tight, where two vertices of each side leave no perfect matching? Hall's condition fails
--- for some vertices, and these with their neighbours are a nontrivial tight set.
+-- Which cut of a bipartite covered graph is tight, where two vertices of each side leave no
+-- perfect matching? Hall's condition fails for some vertices, and these with their neighbours are
+-- a nontrivial tight set.
 use Rattle.std.proofs.Common.{◌≡◌, ℕ, ◌+◌, ◌*◌, ◌≤◌, ◌<◌, ◌≢◌, Bool, true, false, ◌==◌, refl, sym, ap, ap₂, ◌∙◌, arith, ◌&&◌, ◌||◌, not, eq-eqb, ne_eqb, eqb-true, nat_lt, ltb-true, ltb-false, ◌⊎◌, inl, inr}
 use Rattle.std.proofs.lemmas.Bool.{cases_Bool, true≢false, both_ways, and_parts, and_from, or_cases}
 use Rattle.barrier_kit.proofs.Families.{glue_family}

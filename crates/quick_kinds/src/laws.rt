@@ -7,8 +7,9 @@ ghost use Rattle.graph_core.specs.Tight.{HasNoTightCut};
 ghost use Rattle.graph_core.specs.Sides.{IsSide};
 ghost use Rattle.quick_kinds.specs.Braces.{AreFoursMatched};
 
-/// The theorem on braces: a covered graph with the sides x and its complement has no nontrivial tight cut exactly where it
-/// has a perfect matching without any two vertices of each side (Lovász and Plummer, "Matching Theory").
+/// The theorem on braces: a covered graph with the sides x and its complement has no nontrivial
+/// tight cut exactly when it has a perfect matching without any two vertices of each side (Lovász
+/// and Plummer, "Matching Theory").
 pub fn brace_law()
     ensures { (g : Graph) (x : Set) → IsGraph g → IsCovered g → IsSide g x → HasNoTightCut g ↔
         AreFoursMatched g x }

@@ -1,5 +1,5 @@
--- The lines behind the text of a decomposition, and those that name vertices behind it, are comments: each is written of words, the
--- first of which is `c`.
+-- The lines after the text of a decomposition, and those that name vertices after it, are
+-- comments: each is written of words, the first of which is `c`.
 use Rattle.std.proofs.Common.{◌≡◌, ◌∙◌, ℕ, zero, suc, ◌-◌, ◌<◌, ◌≤◌, ◌^◌, ◌==◌, not, Bool, true, List, [], ◌∷◌, ◌++◌, length, map, get_or, All, ap, refl, sym, subst, append_assoc, arith, inl, inr}
 use Rattle.std.specs.Prelude.{codes}
 use Rattle.std.specs.Fmt.{decimal}
@@ -29,7 +29,7 @@ use Rattle.tree_core.specs.declared.tallies.LeafKind.TheVariants.{Brick, Brace}
 use Rattle.tree_core.specs.declared.tallies.Tally.{Tally}
 use Rattle.report_text.proofs.Comments.{commented-both, commented-line, commented-more, commented-none, commented-tail}
 
--- the numbers of a line, each behind a space
+-- the numbers of a line, each after a space
 numbers-spaced : (ns : List ℕ) → numbers_text ns ≡ spaced (map decimal ns)
 numbers-spaced [] = refl
 numbers-spaced (n ∷ ns) = ap (λ (t : List ℕ). 32 ∷ (decimal n ++ t)) (numbers-spaced ns)
@@ -83,7 +83,7 @@ name-commented vertex name small word =
     (record { skipped = refl; each = (refl, (refl, (is_word-decimal vertex small, (word, tt)))) })
     (simp append_assoc)
 
--- an item of a list, or 0 or the empty list behind it
+-- an item of a list, or 0 or the empty list after it
 within-default : {X : Type 0} (P : X → Type 0) (xs : List X) (d : X) (i : ℕ) → P d → All P xs → P (get_or xs i d)
 within-default P xs d i plain all = elim (cases_lt i (length xs)) [
   | inl less ↦ All-get_or P xs i d less all
@@ -155,7 +155,7 @@ leaves-commented g ps kinds (suc k) few some =
     (whole_leaf-commented g (suc k) (leaf_at ps (suc k)) (kind_at kinds (suc k)) (omega arith) few.edges
     (blocks-small g.order (leaf_at ps (suc k)) few.order (All-get_or (IsPartition g.order) ps (suc k - 1) [] (omega arith) few.partitions)))
 
--- what stands behind the text of a decomposition
+-- what stands after the text of a decomposition
 pub derivation-commented : (text : List ℕ) (g : Graph) (ps : List (List (List ℕ))) (kinds : List LeafKind) → HasFewLeaves g ps kinds → IsCommented text (derivation_text text g ps kinds)
 unfolding derivation_text
 derivation-commented text g ps kinds few =

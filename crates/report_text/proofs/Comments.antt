@@ -1,5 +1,5 @@
--- Comments behind a text: they join, a line of words that begin with `c` is one, and a text that stands for a value stands for it
--- with comments behind it.
+-- Comments after a text: they join, a line of words that begin with `c` is one, and a text that
+-- stands for a value stands for it with comments after it.
 use Rattle.std.proofs.Common.{◌≡◌, ◌∙◌, ℕ, List, [], ◌∷◌, ◌++◌, true, ap, sym, subst, append_assoc}
 use Rattle.std.specs.List.{AllByRecursion}
 use Rattle.std.proofs.lemmas.List.{append-nil}
@@ -15,11 +15,11 @@ both : (lines more : List (List (List ℕ))) → AllByRecursion IsComment lines 
 both [] more first second = second
 both (words ∷ lines) more first second = (first.0, both lines more first.1 second)
 
--- a text with no comments behind it
+-- a text with no comments after it
 pub commented-none : (text : List ℕ) → IsCommented text text
 commented-none text = record { lines = []; each = tt; is = sym (append-nil text) }
 
--- comments behind comments
+-- comments after comments
 pub commented-more : (text between report : List ℕ) → IsCommented text between → IsCommented between report → IsCommented text report
 commented-more text between report first second = record {
   lines = first.lines ++ second.lines;

@@ -1,4 +1,5 @@
--- Steps of the loops that write the lines of a leaf, and of the leaves: what is written and one more line are the lines with one more.
+-- Steps of the loops that write the lines of a leaf, and of the leaves: what is written and one
+-- more line are the lines with one more.
 use Rattle.std.proofs.Common.{◌≡◌, ℕ, suc, ◌-◌, ◌∙◌, List, [], ◌++◌, length, map, ap, sym, subst, append_assoc, slice_get, get_or, Some, arith}
 use Rattle.std.proofs.lemmas.Option.{get_or_from_slice_get, slice_get-map}
 use Rattle.std.specs.Prelude.{codes}
@@ -15,7 +16,7 @@ use Rattle.tree_core.specs.Tallies.{kind_at}
 use Rattle.tree_core.specs.declared.tallies.LeafKind.{LeafKind}
 use Rattle.tree_core.specs.declared.tallies.LeafKind.TheVariants.{Brick}
 
--- one more line behind those that are written
+-- one more line after those that are written
 pub one-more : (start lines line now next : List ℕ) → now ≡ start ++ lines → next ≡ now ++ line → next ≡ start ++ (lines ++ line)
 one-more start lines line now next first second = second ∙ ap (λ (t : List ℕ). t ++ line) first ∙ append_assoc start lines line
 
@@ -41,7 +42,8 @@ adjacent-written g p q h i a b x y edges start now next is same first_is second_
     one-more start (adjacent_lines g p i) (adjacent_line (name_at p (first_end (quotient g p) (suc i))) (name_at p (second_end (quotient g p) (suc i))) (remembered g p (suc i))) now next first
     (second ∙ ap (λ (l : List ℕ). now ++ l) (ap (λ (v : ℕ). adjacent_line v y edges) xs ∙ ap (λ (v : ℕ). adjacent_line (name_at p (first_end (quotient g p) (suc i))) v edges) ys ∙ ap (λ (es : List ℕ). adjacent_line (name_at p (first_end (quotient g p) (suc i))) (name_at p (second_end (quotient g p) (suc i))) es) edges_are))
 
--- the lines of a leaf: its own, those of its blocks, and those of the pairs of adjacent blocks, which are the edges of its quotient
+-- the lines of a leaf: its own, those of its blocks, and those of the pairs of adjacent blocks,
+-- which are the edges of its quotient
 pub leaf_text-written : (g : Graph) (p : List (List ℕ)) (number : ℕ) (kind : LeafKind) (start first second end : List ℕ) →
     first ≡ start ++ leaf_line number kind → second ≡ first ++ block_lines p (length p) → end ≡ second ++ adjacent_lines g p (size (quotient g p)) → end ≡ start ++ leaf_text g number p kind
 unfolding leaf_text

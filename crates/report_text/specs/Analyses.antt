@@ -15,15 +15,15 @@ graph_lines lines = (graph_line lines.order lines.size ++ components_line lines.
 abbrev pub numbers_told : AnalysisLines → List ℕ
 numbers_told lines = (graph_lines lines ++ matching_line lines.matching) ++ deficiency_line lines.deficiency
 
--- the lines of the Gallai-Edmonds sets behind others
+-- the lines of the Gallai-Edmonds sets after others
 abbrev pub with_three_sets : List ℕ → AnalysisLines → List ℕ
 with_three_sets before lines = ((before ++ list_line (codes "D") lines.d) ++ list_line (codes "A") lines.a) ++ list_line (codes "C") lines.c
 
--- the lines of the allowed edges and of the verdict behind others
+-- the lines of the allowed edges and of the verdict after others
 abbrev pub with_verdict : List ℕ → AnalysisLines → List ℕ
 with_verdict before lines = (before ++ list_line (codes "allowed") lines.allowed) ++ verdict_text lines.verdict
 
--- the lines on the structure behind others, where there is one
+-- the lines on the structure after others, where there is one
 abbrev pub with_structure : List ℕ → Option Structure → List ℕ
 with_structure before None = before
 with_structure before (Some structure) = before ++ structure_text structure

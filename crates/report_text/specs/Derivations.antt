@@ -1,6 +1,7 @@
--- The report of `decompose` on a matching covered graph, as a function of the values that it tells: a text, which is that of the
--- tree, and behind it comments: for each leaf its kind, its blocks, and for each two adjacent blocks the edges of the graph between
--- them; and last how many leaves there are.
+-- The report of `decompose` on a matching covered graph, as a function of the values that it
+-- tells: a text, which is that of the tree, and after it comments: for each leaf its kind, its
+-- blocks, and for each two adjacent blocks the edges of the graph between them; and last how many
+-- leaves there are.
 use Rattle.std.specs.Prelude.{ℕ, zero, suc, List, [], ◌++◌, length, slice_index_or, codes}
 use Rattle.std.specs.Fmt.{decimal}
 use Rattle.counting.specs.Lists.{last_of}
@@ -36,7 +37,8 @@ adjacent_line a b edges = codes "c edge " ++ decimal a ++ codes " " ++ decimal b
 abbrev pub name_at : List (List ℕ) → ℕ → ℕ
 name_at p i = last_of (block p i)
 
--- the lines of the first pairs of adjacent blocks, so many, in lexicographic order of their places: the edges of the quotient
+-- the lines of the first pairs of adjacent blocks, so many, in lexicographic order of their
+-- places: the edges of the quotient
 abbrev pub adjacent_lines : Graph → List (List ℕ) → ℕ → List ℕ
 adjacent_lines g p zero = []
 adjacent_lines g p (suc k) =
@@ -56,6 +58,6 @@ leaf_lines g ps kinds (suc k) = leaf_lines g ps kinds k ++ leaf_text g (suc k) (
 abbrev pub tally_line : Tally → List ℕ
 tally_line tally = codes "c leaves " ++ decimal tally.leaves ++ codes " bricks " ++ decimal tally.bricks ++ codes " braces " ++ decimal tally.braces ++ codes "\n"
 
--- a text, and behind it the lines of the leaves and of their counts
+-- a text, and after it the lines of the leaves and of their counts
 unfoldable pub derivation_text : List ℕ → Graph → List (List (List ℕ)) → List LeafKind → List ℕ
 derivation_text text g ps kinds = (text ++ leaf_lines g ps kinds (length ps)) ++ tally_line (tally_of kinds)

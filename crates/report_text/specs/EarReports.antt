@@ -1,5 +1,6 @@
--- The report of `ears` on a matching covered graph, as a function of the values that it tells: a text, which is that of the ear
--- list, and behind it a comment with the number of its steps, of those of one ear, and of those of two.
+-- The report of `ears` on a matching covered graph, as a function of the values that it tells: a
+-- text, which is that of the ear list, and after it a comment with the number of its steps, of
+-- those of one ear, and of those of two.
 use Rattle.std.specs.Prelude.{ℕ, List, ◌++◌, codes}
 use Rattle.std.specs.Fmt.{decimal}
 
@@ -8,6 +9,6 @@ abbrev pub steps_line : (steps single double : ℕ) → List ℕ
 steps_line steps single double =
     codes "c steps " ++ decimal steps ++ codes " single " ++ decimal single ++ codes " double " ++ decimal double ++ codes "\n"
 
--- a text, and behind it the line of the numbers of steps
+-- a text, and after it the line of the numbers of steps
 unfoldable pub ears_report_text : List ℕ → (steps single double : ℕ) → List ℕ
 ears_report_text text steps single double = text ++ steps_line steps single double

@@ -1,5 +1,6 @@
--- The report of `grow`, as a function of the values that it tells: a text, which is that of the graph, and behind it as comments the
--- leaves of two of its decompositions, counted, and how many leaves their comparison pairs.
+-- The report of `grow`, as a function of the values that it tells: a text, which is that of the
+-- graph, and after it as comments the leaves of two of its decompositions, counted, and how many
+-- leaves their comparison pairs.
 use Rattle.std.specs.Prelude.{ℕ, List, ◌++◌, codes}
 use Rattle.std.specs.Fmt.{decimal}
 use Rattle.tree_core.specs.declared.tallies.Tally.{Tally}
@@ -17,6 +18,6 @@ pairs_line pairs = codes "c pairs " ++ decimal pairs ++ codes "\n"
 abbrev pub growth_lines : (first last : Tally) → (pairs : ℕ) → List ℕ
 growth_lines first last pairs = (order_line (codes "first") first ++ order_line (codes "last") last) ++ pairs_line pairs
 
--- a text, and behind it the comments
+-- a text, and after it the comments
 unfoldable pub grown_text : List ℕ → (first last : Tally) → (pairs : ℕ) → List ℕ
 grown_text text first last pairs = text ++ growth_lines first last pairs

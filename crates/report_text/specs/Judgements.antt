@@ -24,7 +24,8 @@ accepted_line tally = codes "accepted leaves " ++ decimal tally.leaves ++ codes 
 unfoldable pub numbered : List ℕ → ℕ → List ℕ
 numbered words number = words ++ decimal number
 
--- a line that words and a number begin, and that tells the refusal of a tree: the node, the reason, and what shows it
+-- a line that words and a number begin, and that tells the refusal of a tree: the node, the
+-- reason, and what shows it
 abbrev pub refused_line : (words : List ℕ) (number node why : ℕ) → Shown → List ℕ
 refused_line words number node why what =
     (((numbered words number ++ numbered (codes " refused node ") node) ++ numbered (codes " why ") why) ++ shown_text what) ++ codes "\n"

@@ -1,4 +1,5 @@
--- The lines of the reports as functions of the values that they tell; the report of `analyse` is in Analyses.antt.
+-- The lines of the reports as functions of the values that they tell; the report of `analyse` is
+-- in Analyses.antt.
 use Rattle.std.specs.Prelude.{ℕ, zero, suc, List, [], ◌∷◌, ◌++◌, length, slice_index_or, Bool, if◌then◌else◌, codes}
 use Rattle.std.specs.Fmt.{decimal}
 use Rattle.graph_core.specs.declared.verdict.Reason.{Reason}
@@ -59,7 +60,8 @@ matching_line edges = count_line (codes "matching") edges
 abbrev pub deficiency_line : ℕ → List ℕ
 deficiency_line missed = count_line (codes "deficiency") missed
 
--- the report of a file that is outside its format: its place among the named files, the line and the kind of the fault
+-- the report of a file that is outside its format: its place among the named files, the line and
+-- the kind of the fault
 unfoldable pub bad_input_text : (file line kind : ℕ) → List ℕ
 bad_input_text file line kind = codes "file " ++ decimal file ++ codes " line " ++ decimal line ++ codes " kind " ++ decimal kind ++ codes "\n"
 

@@ -1,5 +1,6 @@
--- The reports on scripts of moves, as functions of the values that they tell: of a script that was made its text and how many leaves
--- and moves there are; of one that was replayed the text of the last tree and the number of moves, or the move that fails.
+-- The reports on scripts of moves, as functions of the values that they tell: of a script that
+-- was made its text and how many leaves and moves there are; of one that was replayed the text of
+-- the last tree and the number of moves, or the move that fails.
 use Rattle.std.specs.Prelude.{ℕ, List, ◌++◌, codes}
 use Rattle.std.specs.Fmt.{decimal}
 use Rattle.report_text.specs.Judgements.{refused_line}
@@ -9,7 +10,7 @@ use Rattle.report_text.specs.declared.judgements.Shown.{Shown}
 abbrev pub script_line : (leaves moves : ℕ) → List ℕ
 script_line leaves moves = codes "c leaves " ++ decimal leaves ++ codes " moves " ++ decimal moves ++ codes "\n"
 
--- a text, and behind it that line
+-- a text, and after it that line
 unfoldable pub script_report_text : List ℕ → (leaves moves : ℕ) → List ℕ
 script_report_text text leaves moves = text ++ script_line leaves moves
 
@@ -17,7 +18,7 @@ script_report_text text leaves moves = text ++ script_line leaves moves
 abbrev pub moves_line : ℕ → List ℕ
 moves_line moves = codes "c moves " ++ decimal moves ++ codes "\n"
 
--- a text, and behind it that line
+-- a text, and after it that line
 unfoldable pub replayed_text : List ℕ → (moves : ℕ) → List ℕ
 replayed_text text moves = text ++ moves_line moves
 
@@ -25,6 +26,7 @@ replayed_text text moves = text ++ moves_line moves
 unfoldable pub stuck_text : (move : ℕ) → List ℕ
 stuck_text move = codes "move " ++ decimal move ++ codes " stuck\n"
 
--- the line on a move, counted from 1, whose result is refused: the node, the reason, and what shows it
+-- the line on a move, counted from 1, whose result is refused: the node, the reason, and what
+-- shows it
 unfoldable pub refused_move_text : (move node why : ℕ) → Shown → List ℕ
 refused_move_text move node why what = refused_line (codes "move ") move node why what

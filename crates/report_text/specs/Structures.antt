@@ -1,4 +1,5 @@
--- The lines on the structure of a matching covered graph, as functions of the values that they tell.
+-- The lines on the structure of a matching covered graph, as functions of the values that they
+-- tell.
 use Rattle.std.specs.Prelude.{ℕ, List, [], ◌∷◌, ◌++◌, length, codes}
 use Rattle.std.specs.declared.option.Option.{Option}
 use Rattle.std.specs.declared.option.Option.TheVariants.{Some, None}

@@ -35,7 +35,7 @@ pub struct AnalysisLines {
     pub allowed: Numbers,
     /// Whether the graph is matching covered, and if not, why.
     pub verdict: Verdict,
-    /// The structure, exactly where the graph is matching covered.
+    /// The structure, exactly when the graph is matching covered.
     pub structure: Option<Structure>,
 }
 
@@ -112,7 +112,8 @@ fn push_any_structure(text: &mut String, structure: &Option<Structure>) -> Resul
     }
 }
 
-/// Writes the lines of `analyse`: those of every graph, and then those on the structure, where there is one.
+/// Writes the lines of `analyse`: those of every graph, and then those on the structure, where
+/// there is one.
 #[tactic(auto, unfolding(crate::specs::Analyses::analysis_text))]
 pub fn analysis(alloc: Global, lines: &AnalysisLines) -> Result<Vec<u8>, Memory>
     ensures { IfOk result (λ text. text.items ≡ analysis_text lines.now) }

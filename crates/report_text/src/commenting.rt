@@ -1,9 +1,9 @@
-//! Comments behind the text that a report begins with.
+//! Comments after the text that a report begins with.
 ghost use Rattle.std.specs.Prelude.{◌≡◌, ◌++◌, IfOk};
 
 use std::alloc::{AllocError as Memory, Global};
 
-/// The text, and the comments behind it.
+/// The text, and the comments after it.
 pub fn commented(alloc: Global, text: &[u8], comments: &str) -> Result<Vec<u8>, Memory>
     ensures { IfOk result (λ report. report.items ≡ text.now ++ comments.now) }
 {

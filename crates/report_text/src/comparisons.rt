@@ -114,9 +114,10 @@ fn push_maps(text: &mut String, maps: &[MapLine]) -> Result<(), Memory>
     Ok(())
 }
 
-/// Writes how many leaves there are and how many moves, the moves in order, and for each leaf its partner and, for each of its blocks,
-/// the block's name and that of its image. Where a leaf has more names than images, or the other way round, what has no partner at the
-/// same place is left out.
+/// Writes how many leaves there are and how many moves, the moves in order, and for each leaf its
+/// partner and, for each of its blocks, the block's name and that of its image. Where a leaf has
+/// more names than images, or the other way round, what has no partner at the same place is left
+/// out.
 #[tactic(auto, unfolding(crate::specs::Comparisons::pairing_text))]
 pub fn pairing(alloc: Global, moves: &Moves, maps: &MapLines) -> Result<Vec<u8>, Memory>
     ensures { IfOk result (λ text. text.items ≡ pairing_text (moves_of moves.now) maps.now) }

@@ -170,9 +170,10 @@ fn leaf_comments(alloc: Global, g: &MultiGraph, leaves: &Partitions) -> Result<S
     Ok(comments)
 }
 
-/// Writes the text and then comments on the leaves, which are at these partitions of the vertices of `g`: for each its number and
-/// kind, its blocks, and for each two adjacent blocks their names and the edges of `g` between them; last how many leaves there are.
-/// A leaf is called a brace exactly where its quotient is bipartite, and a brick otherwise.
+/// Writes the text and then comments on the leaves, which are at these partitions of the vertices
+/// of `g`: for each its number and kind, its blocks, and for each two adjacent blocks their names
+/// and the edges of `g` between them; last how many leaves there are. A leaf is called a brace
+/// exactly when its quotient is bipartite, and a brick otherwise.
 #[tactic(auto, unfolding(crate::specs::Derivations::derivation_text))]
 pub fn derivation(
     alloc: Global,

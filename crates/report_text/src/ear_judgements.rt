@@ -13,7 +13,8 @@ pub enum EarLine {
         single: u32,
         double: u32,
     },
-    /// It is refused at a step, counted from 1, for the reason of this number, which may name an edge.
+    /// It is refused at a step, counted from 1, for the reason of this number, which may name an
+    /// edge.
     Refused {
         step: u32,
         why: u32,

@@ -27,7 +27,7 @@ fn push_pairs(text: &mut String, pairs: u32) -> Result<(), Memory>
     write!(text, "c pairs {pairs}\n")
 }
 
-// The comments behind the graph.
+// The comments after the graph.
 fn growth_comments(alloc: Global, first: Tally, last: Tally, pairs: u32) -> Result<String, Memory>
     ensures { IfOk result (λ comments. string_bytes comments ≡ growth_lines first last pairs) }
 {
@@ -38,8 +38,8 @@ fn growth_comments(alloc: Global, first: Tally, last: Tally, pairs: u32) -> Resu
     Ok(comments)
 }
 
-/// Writes the text and then, as comments, the numbers of the leaves of a first and of a last decomposition, and how many leaves their
-/// comparison pairs.
+/// Writes the text and then, as comments, the numbers of the leaves of a first and of a last
+/// decomposition, and how many leaves their comparison pairs.
 #[tactic(auto, unfolding(crate::specs::Growths::grown_text))]
 pub fn grown(
     alloc: Global,

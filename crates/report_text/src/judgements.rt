@@ -25,7 +25,8 @@ pub enum TreeLine {
     Accepted {
         tally: Tally,
     },
-    /// The tree of this place, counted from 1, is refused at a node, counted from 1 in preorder, for the reason of this number.
+    /// The tree of this place, counted from 1, is refused at a node, counted from 1 in preorder,
+    /// for the reason of this number.
     Refused {
         tree: u32,
         node: u32,
@@ -111,7 +112,8 @@ fn push_judgement(text: &mut String, line: &TreeLine) -> Result<(), Memory>
     }
 }
 
-/// Writes the line on a tree: how many leaves it has, or where and why it is refused, and what shows it.
+/// Writes the line on a tree: how many leaves it has, or where and why it is refused, and what
+/// shows it.
 pub fn judgement(alloc: Global, line: &TreeLine) -> Result<Vec<u8>, Memory>
     ensures { IfOk result (λ text. text.items ≡ judgement_text line.now) }
 {

@@ -4,8 +4,8 @@
 //! stated function of them (`analysis_text` with `structure_text` for a covered graph,
 //! `derivation_text`, `judgement_text`, `ear_judgement_text`, `ears_report_text`, `pairing_text`,
 //! `script_report_text`, `replayed_text`, `stuck_text`, `refused_move_text`, `grown_text`,
-//! `bad_input_text`, in specs/). `with_names` and `graph6_line` put further lines behind a report.
-//! What stands behind the text of a decomposition, and the names behind it, are comments
+//! `bad_input_text`, in specs/). `with_names` and `graph6_line` put further lines after a report.
+//! What stands after the text of a decomposition, and the names after it, are comments
 //! (`IsCommented`): `laws::derivation_comments_law`, `with_names`. What the values mean is said
 //! where they are computed: this crate knows no theory. The kinds of leaves and their counts are
 //! those of `tree_core`. Words of a line stand with one space between them, a list of numbers has

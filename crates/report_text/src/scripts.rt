@@ -48,8 +48,8 @@ pub fn replay_stuck(alloc: Global, at: u32) -> Result<Vec<u8>, Memory>
     Ok(text.into_bytes())
 }
 
-/// Writes the line on a move, by its number counted from 1, whose result is refused: at which node, counted from 1 in preorder, for
-/// the reason of which number, and what shows it.
+/// Writes the line on a move, by its number counted from 1, whose result is refused: at which
+/// node, counted from 1 in preorder, for the reason of which number, and what shows it.
 #[tactic(auto, unfolding(crate::specs::Scripts::refused_move_text))]
 pub fn replay_refused(
     alloc: Global,

@@ -1,5 +1,6 @@
--- The components at a cut pair of a bicritical graph give nontrivial tight cuts, and a brick has four vertices, is
--- bicritical and has no cut pair. Each fact of a brick is the tight cut that there would be else.
+-- The components at a cut pair of a bicritical graph give nontrivial tight cuts, and a brick has
+-- four vertices, is bicritical and has no cut pair. Each fact of a brick is the tight cut that
+-- there would be else.
 use Rattle.std.proofs.Common.{◌≡◌, ℕ, ◌≤◌, false, arith}
 use Rattle.barrier_kit.proofs.BarrierCuts.{leads_out}
 use Rattle.graph_core.specs.Sides.{IsSide}

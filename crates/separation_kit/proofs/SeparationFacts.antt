@@ -1,5 +1,6 @@
--- What holds of the cuts at cut pairs: each is tight, there is one where a bicritical graph has a cut pair, and none where it
--- has none. What holds of each component at each cut pair holds of each item of the list.
+-- What holds of the cuts at cut pairs: each is tight, there is one where a bicritical graph has a
+-- cut pair, and none where it has none. What holds of each component at each cut pair holds of
+-- each item of the list.
 use Rattle.std.proofs.Common.{◌≡◌, ◌≢◌, ◌↔◌, ℕ, ◌≤◌, ◌<◌, Bool, true, false, ◌==◌, ◌&&◌, ◌||◌, not, refl, sym, ap, arith, inl, inr, List, [], map, filter, flat_map, nat_le, nat_lt, lt-ltb, leb-true, subst, ap₂, get_or, Option, Some, None}
 use Rattle.std.specs.Prelude.{All, find, is_none, if◌then◌else◌}
 use Rattle.std.proofs.lemmas.Bool.{both_ways, cases_lt, false_from_ne_true, le-leb, true≢false, not-false}
@@ -41,7 +42,7 @@ pair_holds n P all a b wa wb l =
     rising_all n (nat_lt a) (λ b. P (a, b)) (map_all P (pair_with a) (rising_list n (nat_lt a))
     (rising_all n everything (λ a. All P (map (pair_with a) (rising_list n (nat_lt a)))) (flat_all P (λ a. map (pair_with a) (rising_list n (nat_lt a))) (rising_list n everything) all) a wa refl)) b wb (lt-ltb a b l)
 
--- no pair is unlike exactly where the graph is bicritical
+-- no pair is unlike exactly when the graph is bicritical
 pub unlike-none : (g : Graph) → (unlike_pair g ≡ None) ↔ IsBicritical g
 unfolding unlike_pair
 unlike-none g = (
@@ -60,7 +61,7 @@ unlike-none g = (
     matched e a b wa wb l = has_perfect_says g (pair_set a b) (not-false (has_perfect g (pair_set a b))
         (pair_holds g.order (λ k. not (has_perfect g (pair_set k.0 k.1)) ≡ false) (all_unfound (λ k. not (has_perfect g (pair_set k.0 k.1))) (rising_pairs g.order) e) a b wa wb l))
 
--- the first cut pair is there exactly where there is one
+-- the first cut pair is there exactly when there is one
 pub cut_pair-none : (g : Graph) → (cut_pair g ≡ None) ↔ ((u v : ℕ) → IsCutPair g u v → ⊥)
 unfolding cut_pair
 cut_pair-none g = (

@@ -1,5 +1,6 @@
--- Two vertices u and v without which there is a perfect matching: each component without them is even, and the cut of each
--- together with u is tight. A perfect matching has an edge or two at u and v, and an odd shore has an odd number in its cut.
+-- Two vertices u and v without which there is a perfect matching: each component without them is
+-- even, and the cut of each together with u is tight. A perfect matching has an edge or two at u
+-- and v, and an odd shore has an odd number in its cut.
 use Rattle.std.proofs.Common.{◌≡◌, ℕ, suc, zero, ◌+◌, ◌*◌, ◌≤◌, ◌≢◌, Bool, true, false, ◌==◌, refl, sym, ap, ap₂, ◌∙◌, arith, ◌&&◌, ◌||◌, not, eq-eqb, ne_eqb, eqb-true, inl, inr}
 use Rattle.std.proofs.lemmas.Bool.{true≢false, false_from_ne_true, both_ways, or_cases}
 use Rattle.barrier_kit.proofs.BarrierCuts.{leads_out, leader_of, leader_same, part_step, part_out, part_same}

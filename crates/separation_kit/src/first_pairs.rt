@@ -80,7 +80,7 @@ impl<'c, 'g> FirstPairs<'c, 'g> {
         self.covered.is_bipartite()
     }
 
-    /// The first pair without which the graph has no perfect matching: none exactly where it is
+    /// The first pair without which the graph has no perfect matching: none exactly when it is
     /// bicritical.
     pub fn unlike(&self) -> Option<Pair>
         ensures { option_map pair_of result ≡ unlike_pair self.now }

@@ -12,7 +12,7 @@ ghost use Rattle.graph_core.specs.Walks.{joined};
 ghost use Rattle.graph_core.specs.CanonicalCuts.{IsCanonicalCut};
 ghost use Rattle.separation_kit.specs.SeparationShores.{separation_cuts, separation_shores};
 
-/// There is no first pair exactly where there is none: a graph is bicritical where none is unlike,
+/// There is no first pair exactly when there is none: a graph is bicritical where none is unlike,
 /// and no two vertices separate it where there is no cut pair.
 pub fn first_pairs_law()
     ensures bicritical { (g : Graph) → (unlike_pair g ≡ None) ↔ IsBicritical g }

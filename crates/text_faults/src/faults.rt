@@ -50,7 +50,7 @@ impl FaultKind {
 }
 
 /// Why a text was not read: the first line outside its format with the kind of its fault, or want
-/// of memory. Lines are counted from 1; where lines are wanting at the end, the line is one more
+/// of memory. Lines are counted from 1; where lines are missing at the end, the line is one more
 /// than there are.
 #[derive(Clone, Copy, Debug, PartialEq, Eq, Error)]
 pub enum TextFault {

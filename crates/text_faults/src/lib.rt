@@ -4,7 +4,7 @@
 //! formats of this program share one table of kinds, `FaultKind`, with a number for each
 //! (`kind_number`), and answer `TextFault`. `read_text` is the one reader of them all: it answers
 //! the value that the text stands for, or the line and the kind of its first fault, and each
-//! exactly where the rules say so; a fault of memory alone is free. `is_out_of_range` is the test
+//! exactly when the rules say so; a fault of memory alone is free. `is_out_of_range` is the test
 //! of a number that formats of graphs share.
 //!
 //! Stands on `line_text`.

@@ -8,8 +8,8 @@ use crate::faults::{FaultKind, TextFault};
 use line_text::{LineFault, LineFormat, read};
 use std::alloc::Global;
 
-/// Reads a text by the rules of a format: the value that it stands for, or the first line outside the format with the kind of
-/// its fault. Want of memory may come at any time.
+/// Reads a text by the rules of a format: the value that it stands for, or the first line outside
+/// the format with the kind of its fault. Want of memory may come at any time.
 pub fn read_text<F: LineFormat<Kind = FaultKind>>(
     alloc: Global,
     format: &F,

@@ -1,5 +1,5 @@
--- The graph of the edges that lie together with one edge, made edge by edge.
--- Idea: each edge of it comes from one of the edges so far, and each of these that lies together with e is in it.
+-- The graph of the edges that lie together with one edge, made edge by edge. Idea: each edge of
+-- it comes from one of the edges so far, and each of these that lies together with e is in it.
 use Rattle.std.proofs.Common.{◌≡◌, ℕ, ◌+◌, ◌≤◌, ◌<◌, ◌≢◌, [], ◌∷◌, ◌++◌, length, ap, ◌∙◌, arith, inl, inr, subst, ◌-◌, length-append, slice_index_or}
 use Rattle.std.proofs.lemmas.Bool.{cases_lt}
 use Rattle.std.proofs.lemmas.List.{get_or_append_left}

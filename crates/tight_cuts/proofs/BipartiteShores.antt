@@ -1,6 +1,6 @@
 -- What an edge of a bipartite graph gives, by the digraph of a perfect matching that holds it.
--- Idea: the least tight shore with an end of the edge and x, and without the other end, is the intersection of all; and a pair is
--- parted by a nontrivial one alone.
+-- Idea: the least tight shore with an end of the edge and x, and without the other end, is the
+-- intersection of all; and a pair is parted by a nontrivial one alone.
 use Rattle.std.proofs.Common.{IfOk, Result, Ok, Err, ◌≡◌, ℕ, true, ◌==◌, sym, ap, ◌∙◌, List, Some, None, eq-eqb}
 use Rattle.counting.proofs.Booleans.{same_tests}
 use Rattle.std.proofs.lemmas.Bool.{both_ways, false_from_ne_true, or_left, or_right}

@@ -1,5 +1,6 @@
--- Lists of candidates as the code makes them: one shore more, and the candidates of a list of canonical shores.
--- Idea: a candidate goes by its shore alone, and a set and its rising list have the same numbers on both sides.
+-- Lists of candidates as the code makes them: one shore more, and the candidates of a list of
+-- canonical shores. Idea: a candidate goes by its shore alone, and a set and its rising list have
+-- the same numbers on both sides.
 use Rattle.std.proofs.Common.{◌≡◌, ℕ, ◌-◌, Bool, true, false, refl, sym, ap, ap₂, ◌∙◌, arith, ◌&&◌, ◌||◌, not, List, [], ◌∷◌, ◌++◌, map, length}
 use Rattle.std.specs.Prelude.{if◌then◌else◌, fold}
 use Rattle.std.specs.List.{list_any}

@@ -1,4 +1,5 @@
--- The candidates: none twice, each tight where the shores of the first two parts are, and each edge of a nontrivial tight cut in a candidate's cut.
+-- The candidates: none twice, each tight where the shores of the first two parts are, and each
+-- edge of a nontrivial tight cut in a candidate's cut.
 use Rattle.std.proofs.Common.{◌≡◌, ℕ, true, refl, sym, ap, ◌∙◌, arith, List, [], ◌∷◌, ◌↔◌, subst}
 use Rattle.std.proofs.lemmas.Bool.{true≢false, not-true}
 use Rattle.std.proofs.lemmas.List.Elements.{All-map, All-nil, All-head, All-tail}
@@ -66,7 +67,7 @@ shore_edge g x is cov nt =
     let v = count_member g.order (complement x) (omega arith) in
     cut_edge g x u.0 v.0 is cov u.1 v.1 u.2 (not-true (x v.0) v.2)
 
--- there is no candidate exactly where no nontrivial shore is tight
+-- there is no candidate exactly when no nontrivial shore is tight
 pub candidates_none : (g : Graph) → IsGraph g → IsCovered g → (candidates g ≡ []) ↔ ((x : Set) → IsTight g x → IsNontrivial g.order x → ⊥)
 candidates_none g is cov = (
   λ q x t nt. let e = shore_edge g x is cov nt in true≢false (sym (candidates_cover g is cov x e.0 e.1 t nt e.2) ∙ ap (list_any (cuts g e.0)) q),

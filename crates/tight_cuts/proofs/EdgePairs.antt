@@ -1,5 +1,5 @@
--- The search over pairs in lexicographic order finds the first pair that is parted.
--- Idea: a pair of which a vertex does not lead its piece is parted only if the earlier pair of the leaders is.
+-- The search over pairs in lexicographic order finds the first pair that is parted. Idea: a pair
+-- of which a vertex does not lead its piece is parted only if the earlier pair of the leaders is.
 use Rattle.std.proofs.Common.{◌≡◌, ℕ, ◌+◌, ◌<◌, Bool, true, false, ◌==◌, refl, sym, ap, ap₂, ◌∙◌, arith, not, ◌&&◌, inl, inr, ◌⊎◌, List, Option, Some, None, subst, eq-eqb, eqb-true}
 use Rattle.std.proofs.lemmas.Bool.{and_parts, cases_eq, cases_lt, not-true, true≢false, both_ways, false_from_ne_true}
 use Rattle.counting.specs.Counts.{Within}

@@ -1,5 +1,6 @@
--- What the pairs with one first vertex x give, by one set: the intersection of all tight sets that have x and an end of the edge, not the other.
--- Idea: that intersection is one of these sets, so a pair (x, y) is parted exactly where it lacks y, and then it is the common shore.
+-- What the pairs with one first vertex x give, by one set: the intersection of all tight sets
+-- that have x and an end of the edge, not the other. Idea: that intersection is one of these
+-- sets, so a pair (x, y) is parted exactly when it lacks y, and then it is the common shore.
 use Rattle.std.proofs.Common.{◌≡◌, ◌≢◌, ℕ, ◌+◌, true, false, ◌==◌, refl, sym, ap, ◌∙◌, arith, inl, inr, List, Option, Some, None, eq-eqb, ne_eqb}
 use Rattle.counting.proofs.Booleans.{same_tests}
 use Rattle.std.proofs.lemmas.Bool.{cases_lt, true≢false, both_ways, false_from_ne_true, or_from, or_right}

@@ -1,5 +1,6 @@
--- What the groups of two pieces, or of one, give as the code finds it: a least cut of their network within the length of the pair list.
--- Idea: the network of the rows is the contracted network of the pair list, and the leaders give its groups.
+-- What the groups of two pieces, or of one, give as the code finds it: a least cut of their
+-- network within the length of the pair list. Idea: the network of the rows is the contracted
+-- network of the pair list, and the leaders give its groups.
 use Rattle.std.proofs.Common.{◌≡◌, ℕ, suc, zero, ◌*◌, ◌≤◌, ◌<◌, ◌^◌, ◌≢◌, true, false, refl, sym, ap, ap₂, ◌∙◌, arith, inl, inr, List, [], ◌∷◌, ◌++◌, length, subst, Option, Some, None, ◌↔◌}
 use Rattle.std.proofs.lemmas.Bool.{cases_lt, false_from_ne_true}
 use Rattle.std.proofs.lemmas.List.Sums.{sum_by-cons}

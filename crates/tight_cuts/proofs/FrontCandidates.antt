@@ -1,5 +1,6 @@
--- The candidates of the first two parts, as the code makes them, and the steps of the loop over the edges.
--- Idea: a bicritical graph has no barrier cut, and one that is not has no separation shore.
+-- The candidates of the first two parts, as the code makes them, and the steps of the loop over
+-- the edges. Idea: a bicritical graph has no barrier cut, and one that is not has no separation
+-- shore.
 use Rattle.std.proofs.Common.{◌≡◌, ℕ, suc, ◌+◌, ◌<◌, Bool, true, false, refl, sym, ap, ◌∙◌, arith, ◌&&◌, not, List, [], ◌∷◌, ◌++◌, map, nat_le, Option, Some, slice_get, subst}
 use Rattle.std.specs.Prelude.{All, fold, if◌then◌else◌, is_none}
 use Rattle.std.specs.List.{list_any}

@@ -1,6 +1,6 @@
--- A covered graph that is not bipartite and has no candidate of the first two parts has none at all.
--- It is bicritical, since else a barrier gives a cut, and has no cut pair, since else a separation does; so by the theorem on bricks
--- no nontrivial shore is tight.
+-- A covered graph that is not bipartite and has no candidate of the first two parts has none at
+-- all. It is bicritical, since else a barrier gives a cut, and has no cut pair, since else a
+-- separation does; so by the theorem on bricks no nontrivial shore is tight.
 use Rattle.std.proofs.Common.{◌≡◌, ◌≤◌, ℕ, Option, Some, None, [], refl, sym, ◌∙◌, arith}
 use Rattle.barrier_kit.proofs.CriticalPairs.{no_sides}
 use Rattle.barrier_kit.proofs.ShoreFacts.{bicritical_no_cuts, some_cut}

@@ -1,5 +1,5 @@
--- The leader of a vertex is the least vertex of its component.
--- Idea: in the list of components one alone holds the vertex, and a component's list begins with its least vertex.
+-- The leader of a vertex is the least vertex of its component. Idea: in the list of components
+-- one alone holds the vertex, and a component's list begins with its least vertex.
 use Rattle.std.proofs.Common.{◌≡◌, ℕ, ◌≤◌, Bool, true, false, cond, ◌==◌, refl, sym, ap, ◌∙◌, arith, ◌&&◌, not, inl, inr, ◌⊎◌, List, [], ◌∷◌, map, subst, eq-eqb, eqb-true, nat_lt}
 use Rattle.std.specs.Prelude.{All}
 use Rattle.std.proofs.lemmas.Bool.{cases_lt, cases_Bool, and_parts, or_cases, or_left, or_right, true≢false, both_ways, lt-ltb, false_from_ne_true, not-true}

@@ -87,7 +87,7 @@ module _ (g h : Graph) (is : IsGraph g) (a b e : ℕ) (wa : Within g.order a) (w
   pub value_bound : (u : Set) → Separates a b u → length ms ≤ value_of (contracted_net g ms group r) u
   value_bound u s = let c = value_cut g ms group r u in let l = pair_list_bound g ms is list (back u) (back_odd u s).0 in omega arith
 
-  -- and is the length exactly where the vertices are tight
+  -- and is the length exactly when the vertices are tight
   pub value_tight : (u : Set) → Separates a b u → (value_of (contracted_net g ms group r) u ≡ length ms) ↔ IsTight g (back u)
   value_tight u s = let o = back_odd u s in let c = value_cut g ms group r u in
       (λ v. pair_list_tight g ms is list (back u) o.0 o.1 (sym c ∙ v), λ t. c ∙ tight_pair_list g ms is list (back u) o.0 t)

@@ -1,5 +1,6 @@
--- Two tests of tightness: no two edges of the cut lie together; a pair list meets the cut as often as it is long.
--- Idea: an odd set is met by each perfect matching, so one with an odd cut that is not tight is met twice by some.
+-- Two tests of tightness: no two edges of the cut lie together; a pair list meets the cut as
+-- often as it is long. Idea: an odd set is met by each perfect matching, so one with an odd cut
+-- that is not tight is met twice by some.
 use Rattle.std.proofs.Common.{◌≡◌, ℕ, suc, ◌+◌, ◌≤◌, ◌≢◌, Bool, true, false, refl, sym, ap, ◌∙◌, arith, ◌&&◌, ◌||◌, not, inl, inr, List, [], ◌∷◌, length, sum_by, get_or}
 use Rattle.std.proofs.lemmas.Bool.{cases_lt, and_parts, and_from, true≢false, false_from_ne_true}
 use Rattle.std.proofs.lemmas.List.Elements.{All-head, All-tail, All-cons, All-nil}
@@ -21,8 +22,8 @@ use Rattle.graph_core.specs.PairLists.{IsPairList}
 use Rattle.graph_core.specs.Tight.{IsTight}
 use Rattle.tight_cuts.specs.PairSums.{cut_sum, NoTwoTogether}
 
--- Tests of tightness: by pairs of edges, and by a pair list. Idea: an odd set meets each perfect matching, so a cut that is not tight is neighbours twice.
--- two edges of one matching in one cut
+-- Tests of tightness: by pairs of edges, and by a pair list. Idea: an odd set meets each perfect
+-- matching, so a cut that is not tight is neighbours twice. two edges of one matching in one cut
 pub two_in_cut : (g : Graph) (m x : Set) (e f : ℕ) → Within (size g) e → Within (size g) f → e ≢ f → m e ≡ true → m f ≡ true → in_cut g x e ≡ true → in_cut g x f ≡ true → 2 ≤ edges_in_cut g m x
 two_in_cut g m x e f we wf d me mf ce cf = two_members (size g) (λ e. m e && in_cut g x e) e f we wf d (and_from (m e) (in_cut g x e) me ce) (and_from (m f) (in_cut g x f) mf cf)
 

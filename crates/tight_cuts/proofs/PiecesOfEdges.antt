@@ -1,5 +1,5 @@
--- The pieces of an edge.
--- Idea: an edge that lies together with it meets neither of its ends, so it stays in one piece, and a tight set has it on one side.
+-- The pieces of an edge. Idea: an edge that lies together with it meets neither of its ends, so
+-- it stays in one piece, and a tight set has it on one side.
 use Rattle.std.proofs.Common.{◌≡◌, ℕ, ◌≤◌, ◌≢◌, Bool, true, false, ◌==◌, refl, sym, ap, ap₂, ◌∙◌, arith, ◌&&◌, ◌||◌, not, inl, inr, ne_eqb}
 use Rattle.std.proofs.lemmas.Bool.{or_from, both_ways, not-true}
 use Rattle.barrier_kit.proofs.BarrierCuts.{part_step}

@@ -1,5 +1,6 @@
--- Names of blocks. The greatest vertex is in the last block; a partition with as many blocks as vertices is the one into single
--- vertices: its names are all vertices, so each vertex names its own block, and no block has a second one.
+-- Names of blocks. The greatest vertex is in the last block; a partition with as many blocks as
+-- vertices is the one into single vertices: its names are all vertices, so each vertex names its
+-- own block, and no block has a second one.
 use Rattle.std.proofs.Common.{◌≡◌, ℕ, suc, ◌+◌, ◌-◌, ◌≤◌, ◌<◌, true, false, ◌==◌, ◌||◌, List, [], ◌∷◌, ◌++◌, length, get_or, refl, sym, ap, ◌∙◌, arith, subst, zero, eq-eqb, eqb-true, inl, inr}
 use Rattle.counting.proofs.Booleans.{same_tests}
 use Rattle.std.proofs.lemmas.Bool.{or_cases}

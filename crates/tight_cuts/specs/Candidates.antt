@@ -1,6 +1,6 @@
--- The candidates of a matching covered graph: a list of nontrivial tight cuts, empty exactly where the graph has none.
--- Barrier and separation cuts: Edmonds, Lovász and Pulleyblank 1982; tight cuts: Lovász 1987. The third part finds, edge by
--- edge, what the first two leave.
+-- The candidates of a matching covered graph: a list of nontrivial tight cuts, empty exactly when
+-- the graph has none. Barrier and separation cuts: Edmonds, Lovász and Pulleyblank 1982; tight
+-- cuts: Lovász 1987. The third part finds, edge by edge, what the first two leave.
 use Rattle.std.specs.Prelude.{◌≡◌, ◌≢◌, false, ℕ, Bool, List, [], ◌∷◌, ◌++◌, Option, Some, None, ◌&&◌, ◌||◌, not, map, find, fold, min, max, if◌then◌else◌}
 use Rattle.std.specs.List.{list_any}
 use Rattle.counting.specs.Counts.{count}
@@ -34,7 +34,8 @@ candidate n origin x = record { shore = rising_list n x; inside = count n x; out
 abbrev pub shores_of : List Candidate → List (List ℕ)
 shores_of list = map (λ (c : Candidate). c.shore) list
 
--- the list with the cut of x, by its canonical shore; it is left out where it is trivial or in the list
+-- the list with the cut of x, by its canonical shore; it is left out where it is trivial or in
+-- the list
 abbrev pub with_shore : ℕ → Origin → List Candidate → Set → List Candidate
 with_shore n origin list x =
     let y = canonical_shore n x in
@@ -72,7 +73,8 @@ lesser_end g e = min (first_end g e) (second_end g e)
 abbrev pub greater_end : Graph → ℕ → ℕ
 greater_end g e = max (first_end g e) (second_end g e)
 
--- the first pair, in lexicographic order, that some tight set with the lesser end of e and without the greater one parts
+-- the first pair, in lexicographic order, that some tight set with the lesser end of e and
+-- without the greater one parts
 abbrev pub first_parted : Graph → ℕ → Option (ℕ × ℕ)
 first_parted g e = find (is_parted g (lesser_end g e) (greater_end g e)) (ordered_pairs g.order)
 
@@ -88,7 +90,8 @@ front_candidates g = fold (with_list g.order Separation) (fold (with_list g.orde
 unfoldable pub candidates : Graph → List Candidate
 candidates g = fold (with_edge_cut g) (front_candidates g) (rising_list (size g) everything)
 
--- the shore is a tight, nontrivial and canonical one, as a rising list, and the two numbers are those of its sides
+-- the shore is a tight, nontrivial and canonical one, as a rising list, and the two numbers are
+-- those of its sides
 pub record IsTightCandidate (g : Graph) (c : Candidate) : Type 0 where
   pub rising : IsRisingIn g.order c.shore
   pub tight : IsTight g (mem c.shore)

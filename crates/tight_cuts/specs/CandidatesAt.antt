@@ -1,5 +1,6 @@
--- The candidates at a partition: those of the quotient, their shores led back to vertices of the graph and their sides counted in
--- blocks. At the partition into single vertices they are those of the graph itself, in the order of its own edges.
+-- The candidates at a partition: those of the quotient, their shores led back to vertices of the
+-- graph and their sides counted in blocks. At the partition into single vertices they are those
+-- of the graph itself, in the order of its own edges.
 use Rattle.std.specs.Prelude.{◌≡◌, ℕ, false, List, length, map, ◌==◌, if◌then◌else◌}
 use Rattle.counting.specs.Counts.{count}
 use Rattle.counting.specs.Sets.{complement}
@@ -10,7 +11,8 @@ use Rattle.graph_core.specs.Quotients.{quotient, union_of_blocks}
 use Rattle.graph_core.specs.Shores.{IsTightAt, blocks_in}
 use Rattle.tight_cuts.specs.Candidates.{Candidate, candidates}
 
--- a candidate of the quotient with its shore led back to vertices; inside and outside stay the numbers of blocks
+-- a candidate of the quotient with its shore led back to vertices; inside and outside stay the
+-- numbers of blocks
 abbrev pub lifted_candidate : Graph → List (List ℕ) → Candidate → Candidate
 lifted_candidate g p c = record { shore = union_of_blocks g p (mem c.shore); inside = c.inside; outside = c.outside; origin = c.origin }
 
@@ -18,7 +20,8 @@ lifted_candidate g p c = record { shore = union_of_blocks g p (mem c.shore); ins
 unfoldable pub candidates_at : Graph → List (List ℕ) → List Candidate
 candidates_at g p = if length p == g.order then candidates g else map (lifted_candidate g p) (candidates (quotient g p))
 
--- the shore is tight at p, nontrivial and canonical, as a rising list, and the two numbers are those of the blocks on its sides
+-- the shore is tight at p, nontrivial and canonical, as a rising list, and the two numbers are
+-- those of the blocks on its sides
 pub record IsCandidateAt (g : Graph) (p : List (List ℕ)) (c : Candidate) : Type 0 where
   pub rising : IsRisingIn g.order c.shore
   pub tight : IsTightAt g p (mem c.shore)

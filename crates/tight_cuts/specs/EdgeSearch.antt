@@ -27,14 +27,16 @@ pub record AreWeights (g : Graph) (weights : List ℕ) (bound : ℕ) : Type 0 wh
   pub each : (e : ℕ) → Within (size g) e → at_place weights e ≡ weight list e
   pub is : bound ≡ length list
 
--- the row has for each vertex the least vertex of its piece at edge e; an end of e stands for itself
+-- the row has for each vertex the least vertex of its piece at edge e; an end of e stands for
+-- itself
 pub record AreLeaders (g : Graph) (e : ℕ) (leaders : List ℕ) : Type 0 where
   pub beside : Graph
   pub is : IsBeside g e beside
   pub long : length leaders ≡ g.order + 1
   pub each : (v : ℕ) → Within g.order v → at_place leaders v ≡ leader (components beside (pair_set (lesser_end g e) (greater_end g e))) v
 
--- the table tells which edges of the graph lie together in a perfect matching, and the row has the weights of the edges
+-- the table tells which edges of the graph lie together in a perfect matching, and the row has
+-- the weights of the edges
 pub record AreRowsOf (g : Graph) (pairs : PairsValue) (weights : List ℕ) (bound : ℕ) : Type 0 where
   pub edge_count : pairs.size ≡ size g
   pub both : (e f : ℕ) → Within (size g) e → Within (size g) f → (holds_both (edge_lists pairs) e f ≡ true) ↔ Together g e f
@@ -51,7 +53,8 @@ pub record AreRowsAt (g : Graph) (e : ℕ) (weights : List ℕ) (bound : ℕ) (l
 abbrev pub arc_between : ℕ → ℕ → ℕ → List Arc
 arc_between a b capacity = cond (a == b) [] (record { a = a; b = b; capacity = capacity } ∷ [])
 
--- the arcs of the edges 1 to e that join different groups, with the numbers of the row as capacities
+-- the arcs of the edges 1 to e that join different groups, with the numbers of the row as
+-- capacities
 abbrev pub arcs_by : Graph → List ℕ → (ℕ → ℕ) → ℕ → List Arc
 arcs_by g weights group zero = []
 arcs_by g weights group (suc e) = arcs_by g weights group e ++ arc_between (group (first_end g (suc e))) (group (second_end g (suc e))) (at_place weights (suc e))
@@ -87,17 +90,20 @@ pub record IsCutOfGroups (g : Graph) (weights leaders : List ℕ) (bound a b x y
   pub some : (s : List ℕ) → answer ≡ Some s → (set : List ℕ) × (value : ℕ) × IsLeastCut (group_net g weights leaders a b x y) a b set value × (value ≤ bound) × ((v : ℕ) → Within g.order v → mem s v ≡ mem set (row_group a b x y leaders v))
   pub none : answer ≡ None → HasCutWithin (group_net g weights leaders a b x y) a b bound → ⊥
 
--- the intersection of all tight sets with a and the first vertex of the pair and with neither b nor the second, where there is one
+-- the intersection of all tight sets with a and the first vertex of the pair and with neither b
+-- nor the second, where there is one
 pub record IsCommonShore (g : Graph) (a b : ℕ) (k : ℕ × ℕ) (answer : Option (List ℕ)) : Type 0 where
   pub some : (s : List ℕ) → answer ≡ Some s → ((z : Set) × PartsTightly g a b k z) × ((v : ℕ) → Within g.order v → mem s v ≡ common_shore g a b k v)
   pub none : answer ≡ None → (z : Set) → PartsTightly g a b k z → ⊥
 
--- what a pair gives at edge e: the common shore where the pair is parted, and nothing where it is not
+-- what a pair gives at edge e: the common shore where the pair is parted, and nothing where it is
+-- not
 pub record IsShoreOfPair (g : Graph) (e : ℕ) (k : ℕ × ℕ) (answer : Option (List ℕ)) : Type 0 where
   pub some : (s : List ℕ) → answer ≡ Some s → (is_parted g (lesser_end g e) (greater_end g e) k ≡ true) × ((v : ℕ) → Within g.order v → mem s v ≡ common_shore g (lesser_end g e) (greater_end g e) k v)
   pub none : answer ≡ None → is_parted g (lesser_end g e) (greater_end g e) k ≡ false
 
--- what edge e gives: the common shore of the first pair that is parted, and nothing where there is none
+-- what edge e gives: the common shore of the first pair that is parted, and nothing where there
+-- is none
 pub record IsShoreOfEdge (g : Graph) (e : ℕ) (answer : Option (List ℕ)) : Type 0 where
   pub some : (s : List ℕ) → answer ≡ Some s → (k : ℕ × ℕ) × (first_parted g e ≡ Some k) × ((v : ℕ) → Within g.order v → mem s v ≡ common_shore g (lesser_end g e) (greater_end g e) k v)
   pub none : answer ≡ None → first_parted g e ≡ None

@@ -1,4 +1,5 @@
--- Tight cuts through one edge: the pieces of the edge, and the network in which each piece is one node.
+-- Tight cuts through one edge: the pieces of the edge, and the network in which each piece is one
+-- node.
 use Rattle.std.specs.Prelude.{◌≡◌, ℕ, zero, suc, ◌≢◌, ◌⊎◌, true, false, List, [], ◌∷◌, ◌++◌, ◌==◌, ◌||◌, cond}
 use Rattle.counting.specs.Counts.{Within}
 use Rattle.counting.specs.Sets.{Set, pair_set}
@@ -37,8 +38,8 @@ contracted_net g ms group k = record { nodes = k; arcs = arcs_of g ms group (siz
 abbrev pub with_piece : Graph → (a b : ℕ) → ℕ → ℕ → Set
 with_piece h a b c x v = (c == v) || joined h (pair_set a b) x v
 
--- the vertices in groups, each named by a node 1 to r: a with the piece of k.0 is one and named a, b with the piece of k.1 is one
--- and named b, and each other piece is one
+-- the vertices in groups, each named by a node 1 to r: a with the piece of k.0 is one and named
+-- a, b with the piece of k.1 is one and named b, and each other piece is one
 pub record IsGrouping (g h : Graph) (a b : ℕ) (k : ℕ × ℕ) (r : ℕ) (group : ℕ → ℕ) : Type 0 where
   pub nodes : (v : ℕ) → Within g.order v → Within r (group v)
   pub source : (v : ℕ) → Within g.order v → with_piece h a b a k.0 v ≡ true → group v ≡ a
@@ -58,6 +59,7 @@ abbrev pub leader : List (List ℕ) → ℕ → ℕ
 leader [] v = v
 leader (p ∷ ps) v = cond (mem p v) (head_or p v) (leader ps v)
 
--- the group of a vertex whose piece is led by l, where x and y lead the pieces of the first and the second vertex
+-- the group of a vertex whose piece is led by l, where x and y lead the pieces of the first and
+-- the second vertex
 abbrev pub group_of : (a b x y l : ℕ) → ℕ
 group_of a b x y l = cond (l == x) a (cond (l == y) b l)

@@ -1,4 +1,5 @@
--- What the test of one cut answers: the cut is tight, or a perfect matching crosses it more than once.
+-- What the test of one cut answers: the cut is tight, or a perfect matching crosses it more than
+-- once.
 use Rattle.std.specs.Prelude.{◌≡◌, ℕ, ◌<◌, ◌≤◌, true}
 use Rattle.counting.specs.Sets.{Set, none}
 use Rattle.counting.specs.Lists.{mem}

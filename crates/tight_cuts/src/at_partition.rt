@@ -20,10 +20,11 @@ use graph_facts::Covered;
 use separation_kit::FirstPairs;
 use std::alloc::{AllocError as Memory, Global};
 
-/// The candidates at the partition `p` of the vertices of `g`, whose quotient is matching covered: at single vertices those of `g`
-/// itself, in the order of its own edges, else those of the quotient, each shore led back to vertices of `g`, with `inside` and
-/// `outside` counted in blocks. Each is a canonical nontrivial shore that is tight at `p`, and the list is empty exactly where no
-/// nontrivial shore is tight at `p` (Lovász 1987).
+/// The candidates at the partition `p` of the vertices of `g`, whose quotient is matching
+/// covered: at single vertices those of `g` itself, in the order of its own edges, else those of
+/// the quotient, each shore led back to vertices of `g`, with `inside` and `outside` counted in
+/// blocks. Each is a canonical nontrivial shore that is tight at `p`, and the list is empty
+/// exactly when no nontrivial shore is tight at `p` (Lovász 1987).
 pub fn candidates_at(alloc: Global, g: &MultiGraph, p: &Partition) -> Result<CandidateList, Memory>
     requires order { p.now.order ≡ g.now.order }
     requires covered { IsCovered (quotient g.now p.now.blocks) }
@@ -71,8 +72,8 @@ fn first_at(alloc: Global, g: &MultiGraph, p: &Partition) -> Result<Option<Candi
     }
 }
 
-/// The first candidate at the partition `p` of the vertices of `g`, whose quotient is matching covered, and `None` exactly where no
-/// nontrivial shore is tight at `p`. The search ends with it.
+/// The first candidate at the partition `p` of the vertices of `g`, whose quotient is matching
+/// covered, and `None` exactly when no nontrivial shore is tight at `p`. The search ends with it.
 pub fn first_candidate_at(
     alloc: Global,
     g: &MultiGraph,

@@ -1,4 +1,5 @@
-//! The search at one edge of a bipartite graph for tight cuts through it, by floods in the digraph of a perfect matching.
+//! The search at one edge of a bipartite graph for tight cuts through it, by floods in the
+//! digraph of a perfect matching.
 ghost use Rattle.std.specs.Prelude.{◌≡◌, ◌+◌, true, Some, None, IfOk};
 ghost use Rattle.counting.specs.Counts.{Within};
 ghost use Rattle.counting.specs.Lists.{mem};
@@ -32,8 +33,9 @@ fn side_with(g: &MultiGraph, side: VSet, a: u32) -> VSet
     VSet::full(g.order()).minus(side)
 }
 
-/// The search at the edges of a bipartite covered graph: one of its sides, and a perfect matching. At an edge two floods in the
-/// digraph of a perfect matching that holds it say whether any pair is parted, and then one for each vertex finds the first.
+/// The search at the edges of a bipartite covered graph: one of its sides, and a perfect
+/// matching. At an edge two floods in the digraph of a perfect matching that holds it say whether
+/// any pair is parted, and then one for each vertex finds the first.
 #[derive(Drop)]
 pub(crate) struct FloodSearch {
     side: VSet,

@@ -1,4 +1,5 @@
-//! The candidates of a matching covered graph in the plain way: a minimum cut for each pair of pieces of each edge.
+//! The candidates of a matching covered graph in the plain way: a minimum cut for each pair of
+//! pieces of each edge.
 ghost use Rattle.std.specs.Prelude.{◌≡◌, ◌≢◌, ℕ, ◌+◌, [], ◌↔◌, true, All, IfOk, OnOk, Some, None};
 ghost use Rattle.std.specs.List.{AllPairs, list_any};
 ghost use Rattle.counting.specs.Counts.{Within};
@@ -20,7 +21,8 @@ use graph_facts::Covered;
 use std::alloc::{AllocError as Memory, Global};
 use vset_core::VSet;
 
-// What the pair (x, y) gives, where no pair before it is parted; nothing unless y leads a piece of its own.
+// What the pair (x, y) gives, where no pair before it is parted; nothing unless y leads a piece
+// of its own.
 fn shore_at(
     alloc: Global,
     g: &MultiGraph,
@@ -73,9 +75,9 @@ impl PieceSearch for ByPairs {
     }
 }
 
-/// What `candidates` answers, the same list in the same order, by another way: at each edge that is in the cut of no earlier candidate
-/// a minimum cut is made for each pair of pieces, whatever the graph is. The quick answers are compared with it in tests, and nothing
-/// else calls it.
+/// What `candidates` answers, the same list in the same order, by another way: at each edge that
+/// is in the cut of no earlier candidate a minimum cut is made for each pair of pieces, whatever
+/// the graph is. The quick answers are compared with it in tests, and nothing else calls it.
 pub fn candidates_by_pairs(alloc: Global, g: &MultiGraph) -> Result<CandidateList, Memory>
     requires { IsCovered g.now }
     ensures list { IfOk result (λ list. list ≡ candidates g.now) }

@@ -20,12 +20,13 @@ pub enum Origin {
     Barrier,
     /// A component of the graph without a cut pair, with the lesser vertex of the pair.
     Separation,
-    /// The common shore of all tight sets that part two pairs of vertices, found by a minimum cut or by floods.
+    /// The common shore of all tight sets that part two pairs of vertices, found by a minimum cut
+    /// or by floods.
     Flow,
 }
 
-/// A nontrivial tight cut by its canonical shore, the one without the greatest vertex, with the numbers of vertices inside and
-/// outside.
+/// A nontrivial tight cut by its canonical shore, the one without the greatest vertex, with the
+/// numbers of vertices inside and outside.
 #[derive(Clone, Copy, PartialEq, Eq, Drop)]
 pub struct Candidate {
     pub shore: VSet,
@@ -116,8 +117,8 @@ impl CandidateList {
     }
 }
 
-/// Appends the candidate of the cut of `shore`, a set of the vertices 1 to `n`. It is left out where the cut is trivial or in the
-/// list.
+/// Appends the candidate of the cut of `shore`, a set of the vertices 1 to `n`. It is left out
+/// where the cut is trivial or in the list.
 pub(crate) fn add_shore(
     list: &mut CandidateList,
     n: u32,

@@ -1,9 +1,11 @@
 //! The search at one edge for tight cuts through it: one least minimum cut for each piece.
 //!
-//! Let a and b be the ends of the edge. The tight sets with a and without b are closed under union and intersection. So let S(x) be the
-//! intersection of those that hold x, where there is one: it is a least minimum cut of a and the piece of x against b. A pair (x, y) is
-//! parted exactly where S(x) is there and lacks y, and S(x) is then the common shore of all that part it. Hence the first pair is the
-//! first x whose S(x) is there and is not everything but b, with the least y that S(x) lacks (Picard and Queyranne 1980).
+//! Let a and b be the ends of the edge. The tight sets with a and without b are closed under
+//! union and intersection. So let S(x) be the intersection of those that hold x, where there is
+//! one: it is a least minimum cut of a and the piece of x against b. A pair (x, y) is parted
+//! exactly when S(x) is there and lacks y, and S(x) is then the common shore of all that part it.
+//! Hence the first pair is the first x whose S(x) is there and is not everything but b, with the
+//! least y that S(x) lacks (Picard and Queyranne 1980).
 ghost use Rattle.std.specs.Prelude.{◌≡◌, ◌≢◌, ℕ, ◌+◌, ◌<◌, ◌≤◌, ◌==◌, ◌&&◌, ◌↔◌, All, not, true, false, length, Some, None, IfNone, IfOk, IfSome};
 ghost use Rattle.counting.specs.Counts.{Within};
 ghost use Rattle.counting.specs.Lists.{mem};
@@ -43,8 +45,8 @@ fn leader_in(pieces: &[VSet], v: u32) -> u32
     v
 }
 
-// For each vertex the least vertex of its component in `h` without `a` and `b`; these two stand for themselves. The row is by
-// vertex number.
+// For each vertex the least vertex of its component in `h` without `a` and `b`; these two stand
+// for themselves. The row is by vertex number.
 fn leaders_of(alloc: Global, h: &MultiGraph, a: u32, b: u32) -> Result<Vec<u32>, Memory>
     requires first { Within h.now.order a }
     requires second { Within h.now.order b }
@@ -81,8 +83,9 @@ fn leaders_at(alloc: Global, g: &MultiGraph, pairs: &PairTable, e: u32) -> Resul
 
 /// A way to ask the pairs (x, y) of one x.
 pub(crate) trait PieceSearch {
-    /// What the pairs (x, y) give at edge `e`, for the x of `groups`, which leads a piece, and all y, where no pair before them is
-    /// parted: the common shore of all tight sets that part the first pair that any parts.
+    /// What the pairs (x, y) give at edge `e`, for the x of `groups`, which leads a piece, and
+    /// all y, where no pair before them is parted: the common shore of all tight sets that part
+    /// the first pair that any parts.
     fn shore_of_piece(
         &self,
         alloc: Global,
@@ -135,7 +138,7 @@ pub(crate) fn leads(leaders: &[u32], a: u32, b: u32, x: u32) -> bool
     x != a && x != b && leaders[x as usize] == x
 }
 
-/// The least vertex other than `b` that the shore lacks; `None` exactly where it lacks none.
+/// The least vertex other than `b` that the shore lacks; `None` exactly when it lacks none.
 pub(crate) fn first_lacking(shore: VSet, n: u32, b: u32) -> Option<u32>
     requires few { n ≤ MOST_VERTICES }
     requires vertex { Within n b }
@@ -145,7 +148,8 @@ pub(crate) fn first_lacking(shore: VSet, n: u32, b: u32) -> Option<u32>
     VSet::full(n).minus(shore).without(b).first()
 }
 
-// What the pairs (x, y) give, for one x and all y, where no pair before them is parted; nothing unless x leads a piece.
+// What the pairs (x, y) give, for one x and all y, where no pair before them is parted; nothing
+// unless x leads a piece.
 fn shore_from<P: PieceSearch>(
     alloc: Global,
     g: &MultiGraph,
@@ -171,7 +175,8 @@ fn shore_from<P: PieceSearch>(
     search.shore_of_piece(alloc, g, weights, leaders, Grouping { a, b, x, y: b }, e)
 }
 
-// What the pairs give in order. Only pairs of vertices that lead pieces are asked: a pair is parted by its pieces alone.
+// What the pairs give in order. Only pairs of vertices that lead pieces are asked: a pair is
+// parted by its pieces alone.
 fn first_shore<P: PieceSearch>(
     alloc: Global,
     g: &MultiGraph,
@@ -192,8 +197,8 @@ fn first_shore<P: PieceSearch>(
     Ok(None)
 }
 
-/// The search at the edges of any covered graph: the pairs of edges that lie together, how often the matchings of that table hold
-/// each edge, and the way to ask the pairs of one x.
+/// The search at the edges of any covered graph: the pairs of edges that lie together, how often
+/// the matchings of that table hold each edge, and the way to ask the pairs of one x.
 #[derive(Drop)]
 pub(crate) struct NetworkSearch<P> {
     pairs: PairTable,

@@ -14,8 +14,9 @@ use graph_core::MultiGraph;
 use std::alloc::{AllocError as Memory, Global};
 use vset_core::{MOST_VERTICES, VSet};
 
-/// The ends `a` and `b` of an edge, and the vertices `x` and `y` that lead two of its pieces: `a` and the piece of `x` make one
-/// group, `b` and the piece of `y` another, and each other piece is a group. Where `y` is `b`, `b` alone is a group.
+/// The ends `a` and `b` of an edge, and the vertices `x` and `y` that lead two of its pieces: `a`
+/// and the piece of `x` make one group, `b` and the piece of `y` another, and each other piece is
+/// a group. Where `y` is `b`, `b` alone is a group.
 #[derive(Clone, Copy, Drop)]
 pub(crate) struct Grouping {
     pub(crate) a: u32,
@@ -100,7 +101,8 @@ fn vertices_of(set: VSet, leaders: &[u32], n: u32, groups: Grouping) -> VSet
     vertices
 }
 
-// The vertices of the least minimum cut of the groups' network, if its value is at most the number of matchings in the pair list.
+// The vertices of the least minimum cut of the groups' network, if its value is at most the
+// number of matchings in the pair list.
 fn cut_of_groups(
     alloc: Global,
     g: &MultiGraph,
@@ -124,8 +126,8 @@ fn cut_of_groups(
     }
 }
 
-/// The common shore of all tight sets that have `a` and `x` and neither `b` nor `y`, where there is one. Here `x` leads a piece of
-/// edge `e`, and `y` leads another or is `b` itself.
+/// The common shore of all tight sets that have `a` and `x` and neither `b` nor `y`, where there
+/// is one. Here `x` leads a piece of edge `e`, and `y` leads another or is `b` itself.
 pub(crate) fn common_shore(
     alloc: Global,
     g: &MultiGraph,

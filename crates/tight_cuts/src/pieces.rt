@@ -1,5 +1,5 @@
-//! What the search at an edge stands on: how often the matchings of a pair list hold each edge, and the graph of the edges that
-//! lie together with one edge.
+//! What the search at an edge stands on: how often the matchings of a pair list hold each edge,
+//! and the graph of the edges that lie together with one edge.
 ghost use Rattle.std.specs.Prelude.{◌≡◌, ℕ, ◌+◌, ◌<◌, ◌≤◌, ◌-◌, ◌^◌, ◌↔◌, true, All, IfOk, length, map};
 ghost use Rattle.counting.specs.Counts.{Within, bit};
 ghost use Rattle.counting.specs.Lists.{mem};
@@ -17,7 +17,8 @@ use graph_core::MultiGraph;
 use match_core::Matching;
 use std::alloc::{AllocError as Memory, Global};
 
-/// How many matchings of a pair list hold each edge, by edge number, and how many matchings the list has.
+/// How many matchings of a pair list hold each edge, by edge number, and how many matchings the
+/// list has.
 #[derive(Drop)]
 pub(crate) struct Weights {
     pub(crate) row: Vec<u64>,
@@ -63,7 +64,8 @@ pub(crate) fn weights_of(
     })
 }
 
-/// The graph with the vertices of `g` and, for edges, those that lie together with edge `e`, without `e` itself.
+/// The graph with the vertices of `g` and, for edges, those that lie together with edge `e`,
+/// without `e` itself.
 pub(crate) fn graph_beside(
     alloc: Global,
     g: &MultiGraph,

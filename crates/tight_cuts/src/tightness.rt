@@ -25,11 +25,13 @@ pub enum Tightness {
     Crossed { matching: Matching },
 }
 
-/// Whether the cut of `shore`, an odd number of the vertices of the matching covered graph `g`, is tight. `Tight` comes exactly
-/// where it is; `Crossed` comes with a perfect matching of `g` that has at least two edges in the cut.
+/// Whether the cut of `shore`, an odd number of the vertices of the matching covered graph `g`,
+/// is tight. `Tight` comes exactly where it is; `Crossed` comes with a perfect matching of `g`
+/// that has at least two edges in the cut.
 ///
-/// An odd cut is tight exactly where no two of its edges lie together in a perfect matching. So each two edges of the cut are
-/// asked for, by one augmentation from a perfect matching that holds the first of them.
+/// An odd cut is tight exactly when no two of its edges lie together in a perfect matching. So
+/// each two edges of the cut are asked for, by one augmentation from a perfect matching that
+/// holds the first of them.
 pub fn is_tight(alloc: Global, g: &MultiGraph, shore: VSet) -> Result<Tightness, Memory>
     requires covered { IsCovered g.now }
     requires shore { IsRisingIn g.now.order shore }
@@ -46,8 +48,8 @@ pub fn is_tight(alloc: Global, g: &MultiGraph, shore: VSet) -> Result<Tightness,
     }
 }
 
-// A perfect matching with two edges of the cut, from a perfect matching; none exactly where no edge of the cut lies together
-// with a later one.
+// A perfect matching with two edges of the cut, from a perfect matching; none exactly when no
+// edge of the cut lies together with a later one.
 fn crossing(
     alloc: Global,
     g: &MultiGraph,
@@ -69,8 +71,8 @@ fn crossing(
     Ok(None)
 }
 
-// A perfect matching with edge e and a later edge of the cut, from a perfect matching; none exactly where e is not in the cut or no
-// later edge of the cut lies together with it.
+// A perfect matching with edge e and a later edge of the cut, from a perfect matching; none
+// exactly when e is not in the cut or no later edge of the cut lies together with it.
 fn crossing_with(
     alloc: Global,
     g: &MultiGraph,
@@ -116,8 +118,8 @@ fn crossing_from(
     Ok(None)
 }
 
-// A perfect matching with the edge e of the cut and the later edge f of it, from one that holds e; none exactly where f is not in the
-// cut or the two do not lie together.
+// A perfect matching with the edge e of the cut and the later edge f of it, from one that holds
+// e; none exactly when f is not in the cut or the two do not lie together.
 fn crossing_by(
     alloc: Global,
     g: &MultiGraph,

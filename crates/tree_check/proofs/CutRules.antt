@@ -1,5 +1,6 @@
--- What the rules of a cut show. The test of tightness is made on the quotient, at the places of the blocks in the shore: a cut that is
--- tight there is tight at the partition, and a perfect matching with two edges in it is lifted to one at the partition.
+-- What the rules of a cut show. The test of tightness is made on the quotient, at the places of
+-- the blocks in the shore: a cut that is tight there is tight at the partition, and a perfect
+-- matching with two edges in it is lifted to one at the partition.
 use Rattle.std.proofs.Common.{◌≡◌, ◌≢◌, ◌⊎◌, ◌↔◌, IsTrue, ◌%◌, ◌==◌, Option, Some, unwrap_or, ℕ, zero, suc, ◌+◌, ◌*◌, ◌-◌, ◌≤◌, ◌<◌, Bool, true, false, not, ◌&&◌, ◌||◌, List, length, refl, sym, ap, ap₂, ◌∙◌, arith, subst, inl, inr}
 use Rattle.std.specs.List.{list_all}
 use Rattle.std.proofs.lemmas.Bool.{both_ways, cases_Bool, cases_lt}
@@ -50,7 +51,8 @@ is-cut g p x rises tight nontrivial = record {
 }
 
 module _ (g : Graph) (p : List (List ℕ)) (x : Set) (is : IsGraph g) (pp : AreBlocks g.order p) where
-  -- the places of the blocks in the shore are an odd set of vertices of the quotient where their number is odd
+  -- the places of the blocks in the shore are an odd set of vertices of the quotient where their
+  -- number is odd
   pub places-rise : IsRisingIn (quotient g p).order (rising_list (length p) (blocks_in p x))
   places-rise = subst (λ n. IsRisingIn n (rising_list (length p) (blocks_in p x))) (sym (quotient-order g p)) (rising_list-rises (length p) (blocks_in p x))
 
@@ -98,7 +100,8 @@ module _ (g : Graph) (p : List (List ℕ)) (x : Set) (is : IsGraph g) (pp : AreB
         double : (b : ℕ) → block_count p x ≡ 0 + 2 * b → block_count p x ≡ b + b
         double b sum = omega arith
 
-        -- the number of blocks inside is that of the edges in the cut and twice that of those inside
+        -- the number of blocks inside is that of the edges in the cut and twice that of those
+        -- inside
         at_least_two : (a b : ℕ) → a ≢ 1 → block_count p x ≡ a + 2 * b → 2 ≤ a
         at_least_two zero b other sum = absurd (both_ways (is_odd (block_count p x)) (ap is_odd (double b sum) ∙ odd-double b) odd)
         at_least_two (suc zero) b other sum = absurd (other refl)

@@ -1,4 +1,5 @@
--- What the rule of a leaf shows: there is no candidate at a partition exactly where no nontrivial shore is tight at it.
+-- What the rule of a leaf shows: there is no candidate at a partition exactly when no nontrivial
+-- shore is tight at it.
 use Rattle.std.proofs.Common.{◌≡◌, ◌⊎◌, ℕ, List, [], ◌∷◌, length, Option, Some, None, unwrap_or, refl, sym, ap, ◌∙◌, arith, inl, inr}
 use Rattle.std.proofs.lemmas.Option.{none-some, same_Some}
 use Rattle.counting.specs.Sets.{Set}

@@ -1,5 +1,5 @@
--- The three answers to a script exclude one another, and each is determined: a move has one result at most, so two replays go through
--- the same trees, and a derivation has no refusal.
+-- The three answers to a script exclude one another, and each is determined: a move has one
+-- result at most, so two replays go through the same trees, and a derivation has no refusal.
 use Rattle.std.proofs.Common.{◌≡◌, ◌↔◌, ◌+◌, ℕ, List, [], ◌∷◌, inl, inr, refl, sym, ◌∙◌, ap, subst, arith}
 use Rattle.std.proofs.lemmas.Option.{none-some, same_Some}
 use Rattle.graph_core.specs.Graph.{Graph, IsGraph}

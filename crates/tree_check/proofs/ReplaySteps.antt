@@ -1,5 +1,5 @@
--- A replay as far as it has come: the first moves turn the first tree through derivations into the tree that is reached. The next move
--- goes on, or it is the first failing one.
+-- A replay as far as it has come: the first moves turn the first tree through derivations into
+-- the tree that is reached. The next move goes on, or it is the first failing one.
 use Rattle.std.proofs.Common.{◌≡◌, ◌+◌, ℕ, zero, suc, List, [], ◌∷◌, slice_get, take, Some, None, refl, ◌∙◌, ap, subst, inl, inr, arith}
 use Rattle.std.proofs.lemmas.Option.{none-some, same_Some}
 use Rattle.graph_core.specs.Graph.{Graph}
@@ -38,7 +38,7 @@ module _ (g : Graph) where
   stuck-next s t (x ∷ ms) (suc i) at m is number turns result =
       inr (turns.0, turns.1, turns.2, (i + 1, omega arith, stuck-next turns.0 t ms i (i + 1) m is refl turns.3 result))
 
-  -- the result of the next move is no derivation
+  -- the result of the next move is not a derivation
   pub refused_move-next : (s t r : Shape) (ms : List Move) (i at node : ℕ) (why : Why) (m : Move) → slice_get ms i ≡ Some m → at ≡ i + 1 → TurnsThrough g s (moves_of (take i ms)) t → move_result g.order t (move_of m) ≡ Some r → IsRefused g r node why → IsRefusedMoveAt g s (moves_of ms) at node why
   refused_move-next s t r [] i at node why m is number turns result refused = absurd (none-some _ is)
   refused_move-next s t r (x ∷ ms) zero at node why m is number turns result refused =

@@ -1,5 +1,5 @@
--- Steps of the scan of a tree: what is found below a cut, said of the tree that the cut makes; and the numbers of its nodes, which
--- stay below those of the blocks.
+-- Steps of the scan of a tree: what is found below a cut, said of the tree that the cut makes;
+-- and the numbers of its nodes, which stay below those of the blocks.
 use Rattle.std.proofs.Common.{◌≡◌, ℕ, ◌+◌, ◌≤◌, List, length, refl, sym, arith, subst, inl, inr}
 use Rattle.counting.proofs.Counts.{count_complement}
 use Rattle.counting.specs.Counts.{count}

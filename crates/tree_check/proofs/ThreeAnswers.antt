@@ -1,4 +1,5 @@
--- The three answers to a tree exclude one another: a graph with a reason is not matching covered, and a refused tree is no derivation.
+-- The three answers to a tree exclude one another: a graph with a reason is not matching covered,
+-- and a refused tree is not a derivation.
 use Rattle.std.proofs.Common.{◌≡◌, ◌↔◌, refl, arith}
 use Rattle.graph_core.proofs.Decide.{covered_perfect}
 use Rattle.graph_core.specs.Covered

@@ -18,8 +18,8 @@ why_of Trivial = trivial
 why_of (NotTight m) = not_tight m
 why_of (NotLeaf c) = not_leaf c
 
--- the judgement is right: the graph is not matching covered, for its first reason; or it is and the tree is a derivation; or it is and
--- the tree is not, by its first refusal
+-- the judgement is right: the graph is not matching covered, for its first reason; or it is and
+-- the tree is a derivation; or it is and the tree is not, by its first refusal
 abbrev pub IsJudgement : Graph → Shape → Judgement → Type 0
 IsJudgement g t judgement.Accepted = IsDerivation g t
 IsJudgement g t (judgement.NotCovered reason) = IsReason g (reason_of reason)

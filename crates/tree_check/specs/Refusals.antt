@@ -1,6 +1,7 @@
--- The first refusal of a tree of cuts: the first node in preorder that breaks a rule of derivations, and the first rule that it breaks.
--- At a cut the rules are that the shore is a union of blocks, has an odd number of them, at least three inside and outside, and is
--- tight (Lovász 1987); at a leaf, that there is no nontrivial tight cut.
+-- The first refusal of a tree of cuts: the first node in preorder that breaks a rule of
+-- derivations, and the first rule that it breaks. At a cut the rules are that the shore is a
+-- union of blocks, has an odd number of them, at least three inside and outside, and is tight
+-- (Lovász 1987); at a leaf, that there is no nontrivial tight cut.
 use Rattle.std.specs.Prelude.{◌≡◌, ◌⊎◌, ℕ, ◌+◌, ◌-◌, ◌≤◌, true, false, List, [], length, Some}
 use Rattle.counting.specs.Counts.{is_odd}
 use Rattle.counting.specs.Lists.{mem, IsRisingIn}
@@ -39,13 +40,15 @@ without_matching trivial = trivial
 without_matching (not_tight m) = not_tight []
 without_matching (not_leaf c) = not_leaf c
 
--- edges of g in rising order that are a perfect matching at p with at least two edges in the cut of x
+-- edges of g in rising order that are a perfect matching at p with at least two edges in the cut
+-- of x
 pub record CrossesAt (g : Graph) (p : List (List ℕ)) (x : Set) (m : List ℕ) : Type 0 where
   pub rising : IsRisingIn (size g) m
   pub perfect : IsPerfectAt g p (mem m)
   pub twice : 2 ≤ edges_in_cut g (mem m) x
 
--- the first rule that a cut with the shore x breaks at p: each reason says that the rules before it are kept
+-- the first rule that a cut with the shore x breaks at p: each reason says that the rules before
+-- it are kept
 abbrev pub BreaksCut : Graph → List (List ℕ) → Set → Why → Type 0
 BreaksCut g p x not_blocks = IsUnion g.order p x → ⊥
 BreaksCut g p x even = IsUnion g.order p x × (is_odd (block_count p x) ≡ false)
@@ -66,8 +69,9 @@ abbrev pub HasShores : ℕ → Shape → Type 0
 HasShores n leaf = Unit {0}
 HasShores n (cut x k m) = IsRisingIn (n - 1) x × HasShores n k × HasShores n m
 
--- the first node in preorder, counted from 1, of the tree at p that breaks a rule, and the first rule that it breaks: the node itself,
--- or one in the `kept` tree, or one in the `merged` tree where the `kept` one is a derivation
+-- the first node in preorder, counted from 1, of the tree at p that breaks a rule, and the first
+-- rule that it breaks: the node itself, or one in the `kept` tree, or one in the `merged` tree
+-- where the `kept` one is a derivation
 abbrev pub IsRefusedAt : Graph → List (List ℕ) → Shape → ℕ → Why → Type 0
 IsRefusedAt g p leaf node why = (node ≡ 1) × BreaksLeaf g p why
 IsRefusedAt g p (cut x k m) node why =

@@ -1,4 +1,5 @@
--- Replays of scripts: the moves are made in order, and each tree that they make is to be a derivation of the graph.
+-- Replays of scripts: the moves are made in order, and each tree that they make is to be a
+-- derivation of the graph.
 use Rattle.std.specs.Prelude.{◌≡◌, ◌⊎◌, ℕ, ◌+◌, List, [], ◌∷◌, Some, None}
 use Rattle.graph_core.specs.Graph.{Graph}
 use Rattle.tree_core.specs.Derivations.{IsDerivation}
@@ -12,15 +13,16 @@ use Rattle.tree_check.specs.declared.replaying.Replayed.TheVariants as replayed
 use Rattle.tree_check.specs.declared.replaying.Moved.{Moved}
 use Rattle.tree_check.specs.declared.replaying.Moved.TheVariants as moved
 
--- the first failing move of the script on s, counted from 1, has no result; each move before it has one that is a derivation of g
+-- the first failing move of the script on s, counted from 1, has no result; each move before it
+-- has one that is a derivation of g
 abbrev pub IsStuckAt : Graph → Shape → List PlainMove → ℕ → Type 0
 IsStuckAt g s [] at = ⊥
 IsStuckAt g s (m ∷ ms) at =
     ((at ≡ 1) × (move_result g.order s m ≡ None))
     ⊎ ((r : Shape) × (move_result g.order s m ≡ Some r) × IsDerivation g r × ((j : ℕ) × (at ≡ 1 + j) × IsStuckAt g r ms j))
 
--- the first failing move of the script on s has a result that is no derivation of g, and this node with this reason is the first
--- refusal of that tree
+-- the first failing move of the script on s has a result that is not a derivation of g, and this
+-- node with this reason is the first refusal of that tree
 abbrev pub IsRefusedMoveAt : Graph → Shape → List PlainMove → (at node : ℕ) → Why → Type 0
 IsRefusedMoveAt g s [] at node why = ⊥
 IsRefusedMoveAt g s (m ∷ ms) at node why =

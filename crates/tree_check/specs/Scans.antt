@@ -8,8 +8,8 @@ use Rattle.tree_check.specs.Refusals.{IsRefusedAt}
 use Rattle.tree_check.specs.declared.scan.Scanned.{Scanned}
 use Rattle.tree_check.specs.declared.scan.Scanned.TheVariants as scanned
 
--- the tree at p, whose first node has this number, is a derivation, and `next` is the number of the node after it; or its first refusal is
--- that of the node of this number
+-- the tree at p, whose first node has this number, is a derivation, and `next` is the number of
+-- the node after it; or its first refusal is that of the node of this number
 abbrev pub IsScanned : Graph → List (List ℕ) → Shape → ℕ → Scanned → Type 0
 IsScanned g p t node (scanned.Passed next) = IsDerivationAt g p t × (next ≡ node + node_count t)
 IsScanned g p t node (scanned.Refused number why) = (j : ℕ) × (number + 1 ≡ node + j) × IsRefusedAt g p t j (why_of why)

@@ -2,7 +2,8 @@
 use graph_core::{Numbers, Reason};
 use vset_core::VSet;
 
-/// Why a node is refused: the first of these that applies. A cut is refused by the first four, a leaf by the last.
+/// Why a node is refused: the first of these that applies. A cut is refused by the first four, a
+/// leaf by the last.
 #[derive(Drop)]
 pub enum Why {
     /// The shore is not a union of blocks at this node.
@@ -11,9 +12,11 @@ pub enum Why {
     Even,
     /// Fewer than three blocks are inside the shore, or outside.
     Trivial,
-    /// The cut is not tight: the edges listed are a perfect matching at the node's partition with at least two edges in the cut.
+    /// The cut is not tight: the edges listed are a perfect matching at the node's partition with
+    /// at least two edges in the cut.
     NotTight { matching: Numbers },
-    /// A leaf stands where there is a nontrivial tight cut: `cut` is the shore of the first candidate there.
+    /// A leaf stands where there is a nontrivial tight cut: `cut` is the shore of the first
+    /// candidate there.
     NotLeaf { cut: VSet },
 }
 
@@ -24,6 +27,7 @@ pub enum Judgement {
     Accepted,
     /// The graph is not matching covered, for this reason.
     NotCovered(Reason),
-    /// The tree is no derivation of the graph: `node` is the first node in preorder, counted from 1, that breaks a rule.
+    /// The tree is not a derivation of the graph: `node` is the first node in preorder, counted
+    /// from 1, that breaks a rule.
     Refused { node: u32, why: Why },
 }

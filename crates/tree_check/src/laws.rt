@@ -16,8 +16,9 @@ ghost use Rattle.tree_check.specs.declared.replaying.Replayed.TheVariants.{Done,
 ghost use Rattle.tree_check.specs.Replays.{IsReplay, IsStuckAt, IsRefusedMoveAt};
 ghost use Rattle.tree_check.specs.Refusals.{Why, HasShores, IsRefused, without_matching};
 
-/// A derivation of a graph has no refusal, and each other tree of a matching covered graph has exactly one: the node and the reason are
-/// determined, and what the reason shows, but for the perfect matching that crosses a cut.
+/// A derivation of a graph has no refusal, and each other tree of a matching covered graph has
+/// exactly one: the node and the reason are determined, and what the reason shows, but for the
+/// perfect matching that crosses a cut.
 pub fn first_refusal_law()
     ensures none { (g : Graph) (t : Shape) (node : ℕ) (why : Why) → IsGraph g → IsDerivation g t →
         IsRefused g t node why → ⊥ }
@@ -27,8 +28,9 @@ pub fn first_refusal_law()
         IsDerivation g t ⊎ ((node : ℕ) × (why : Why) × IsRefused g t node why) }
 {}
 
-/// A right judgement accepts a tree exactly where it is a derivation of the graph, and says that the graph is not matching covered
-/// exactly where it is not; so it refuses exactly the other trees of matching covered graphs.
+/// A right judgement accepts a tree exactly when it is a derivation of the graph, and says that
+/// the graph is not matching covered exactly when it is not; so it refuses exactly the other
+/// trees of matching covered graphs.
 pub fn judgement_law()
     ensures accepted { (g : Graph) (t : Shape) (answer : Judgement) → IsMultigraph g →
         IsJudgement g t answer → (answer ≡ Accepted) ↔ IsDerivation g t }
@@ -37,10 +39,11 @@ pub fn judgement_law()
         (IsCovered g → ⊥) }
 {}
 
-/// A right answer to a script of moves is `Done` exactly where the script turns the tree through derivations into some tree, `Stuck` or
-/// `Refused` at a move exactly where this is the first failing one and has no result, or one that is no derivation. The last tree is
-/// determined, and so are the first failing move and the node and the reason of its result, but for the perfect matching that
-/// crosses a cut.
+/// A right answer to a script of moves is `Done` exactly when the script turns the tree through
+/// derivations into some tree, `Stuck` or `Refused` at a move exactly when this is the first
+/// failing one and has no result, or one that is not a derivation. The last tree is determined,
+/// and so are the first failing move and the node and the reason of its result, but for the
+/// perfect matching that crosses a cut.
 pub fn replay_law()
     ensures done { (g : Graph) (s : Shape) (ms : List PlainMove) (answer : Replayed) → IsGraph g →
         IsReplay g s ms answer → ((tree : Tree) × (answer ≡ Done tree)) ↔

@@ -1,22 +1,26 @@
 //! Whether a tree is a derivation of a graph.
 //!
-//! `check` accepts exactly the derivations of a matching covered graph (`IsDerivation` of `tree_core`). Of another tree it names the
-//! first node in preorder that breaks a rule, with the first of the rules 1 to 5 that it breaks and what shows it (`IsRefused` of
-//! `specs/Refusals`): a perfect matching at the node's partition with at least two edges in a cut that is not tight, or a nontrivial
-//! tight cut where a leaf stands. Of a graph that is not matching covered it gives the first reason. `check_covered` answers the same
-//! of a graph that is known to be covered, and doesn't ask that again.
+//! `check` accepts exactly the derivations of a matching covered graph (`IsDerivation` of
+//! `tree_core`). Of another tree it names the first node in preorder that breaks a rule, with the
+//! first of the rules 1 to 5 that it breaks and what shows it (`IsRefused` of `specs/Refusals`):
+//! a perfect matching at the node's partition with at least two edges in a cut that is not tight,
+//! or a nontrivial tight cut where a leaf stands. Of a graph that is not matching covered it
+//! gives the first reason. `check_covered` answers the same of a graph that is known to be
+//! covered, and doesn't ask that again.
 //!
-//! `replay` makes a script of moves on a derivation and judges each tree on the way: it gives the last tree exactly where all are
-//! derivations, and else names the first failing move, with what `check` answers where its result is no derivation (`IsReplay` of
-//! `specs/Replays`).
+//! `replay` makes a script of moves on a derivation and judges each tree on the way: it gives the
+//! last tree exactly when all are derivations, and else names the first failing move, with what
+//! `check` answers where its result is not a derivation (`IsReplay` of `specs/Replays`).
 //!
-//! `laws::first_refusal_law`: a derivation has no refusal, and each other tree of a matching covered graph has exactly one, up to the
-//! perfect matching that it shows. `laws::judgement_law`: the three answers exclude one another, and by
-//! `laws::replay_law` so do those of `replay`.
+//! `laws::first_refusal_law`: a derivation has no refusal, and each other tree of a matching
+//! covered graph has exactly one, up to the perfect matching that it shows.
+//! `laws::judgement_law`: the three answers exclude one another, and by `laws::replay_law` so do
+//! those of `replay`.
 //!
-//! Stands on `allowed_edges` for the verdict, on `contraction` for quotients, on `tight_cuts` for the test of a cut and for the
-//! candidates at a partition, and on `tree_core` for trees. Source: Lovász, "Matching structure and the matching lattice" (1987);
-//! Lucchesi and Murty, "Perfect Matchings".
+//! Stands on `allowed_edges` for the verdict, on `contraction` for quotients, on `tight_cuts` for
+//! the test of a cut and for the candidates at a partition, and on `tree_core` for trees. Source:
+//! Lovász, "Matching structure and the matching lattice" (1987); Lucchesi and Murty, "Perfect
+//! Matchings".
 #![tactic(auto)]
 
 mod judgement;

@@ -18,8 +18,8 @@ pub enum Replayed {
     Done { tree: Tree },
     /// The first failing move has no result.
     Stuck { at: u32 },
-    /// The first failing move has a result that is no derivation of the graph: `node` is the first node in preorder, counted from 1,
-    /// that breaks a rule.
+    /// The first failing move has a result that is not a derivation of the graph: `node` is the
+    /// first node in preorder, counted from 1, that breaks a rule.
     Refused { at: u32, node: u32, why: Why },
 }
 
@@ -30,7 +30,7 @@ enum Moved {
     Passed { tree: Tree },
     // Nothing.
     Stuck,
-    // A tree that is no derivation, with the first node that breaks a rule.
+    // A tree that is not a derivation, with the first node that breaks a rule.
     Refused { node: u32, why: Why },
 }
 
@@ -48,9 +48,10 @@ fn step(alloc: Global, g: &MultiGraph, tree: Tree, item: &Move) -> Result<Moved,
     }
 }
 
-/// Makes the moves in order on `tree`, a derivation of `g`. `Done` comes exactly where each move has a result that is a derivation of
-/// `g`, with the last tree. `Stuck` names the first failing move where it has no result, and `Refused` where its result is no
-/// derivation, with what `check` answers of it. After `Memory` the tree is given up.
+/// Makes the moves in order on `tree`, a derivation of `g`. `Done` comes exactly when each move
+/// has a result that is a derivation of `g`, with the last tree. `Stuck` names the first failing
+/// move where it has no result, and `Refused` where its result is no derivation, with what
+/// `check` answers of it. After `Memory` the tree is given up.
 pub fn replay(alloc: Global, g: &MultiGraph, tree: Tree, moves: &Moves) -> Result<Replayed, Memory>
     requires derivation { IsDerivation g.now (shape_of tree) }
     requires few { length moves.now < 2 ^ 32 - 1 }

@@ -19,8 +19,8 @@ use std::alloc::{AllocError as Memory, Global};
 use tight_cuts::{Tightness, first_candidate_at, is_tight};
 use vset_core::VSet;
 
-/// The first rule that the cut of `shore` breaks at `p`, whose quotient is matching covered; `None` exactly where `shore` is a canonical
-/// nontrivial shore that is tight at `p`.
+/// The first rule that the cut of `shore` breaks at `p`, whose quotient is matching covered;
+/// `None` exactly when `shore` is a canonical nontrivial shore that is tight at `p`.
 pub(crate) fn cut_fault(
     alloc: Global,
     g: &MultiGraph,
@@ -52,8 +52,8 @@ pub(crate) fn cut_fault(
     }
 }
 
-// A perfect matching at p with at least two edges in the cut of the shore, a union of an odd number of blocks; none exactly where the
-// shore is tight at p.
+// A perfect matching at p with at least two edges in the cut of the shore, a union of an odd
+// number of blocks; none exactly when the shore is tight at p.
 fn crossing_at(
     alloc: Global,
     g: &MultiGraph,
@@ -112,7 +112,8 @@ fn places_in(p: &Partition, shore: VSet) -> VSet
     places
 }
 
-/// The shore of the first candidate at `p`, whose quotient is matching covered; where there is none, no nontrivial shore is tight at `p`.
+/// The shore of the first candidate at `p`, whose quotient is matching covered; where there is
+/// none, no nontrivial shore is tight at `p`.
 pub(crate) fn first_cut_at(
     alloc: Global,
     g: &MultiGraph,

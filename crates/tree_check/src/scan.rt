@@ -21,9 +21,10 @@ use std::alloc::{AllocError as Memory, Global};
 use tree_core::{Tree, kept_partition, merged_partition, root_partition};
 use vset_core::VSet;
 
-/// Whether `tree`, whose shores lie below the order of `g`, is a derivation of `g`. `NotCovered` comes exactly where `g` is not matching
-/// covered, with the first reason; `Accepted` exactly where it is and the tree is a derivation of it; else `Refused` names the first
-/// node in preorder that breaks a rule, and the first rule that it breaks.
+/// Whether `tree`, whose shores lie below the order of `g`, is a derivation of `g`. `NotCovered`
+/// comes exactly when `g` is not matching covered, with the first reason; `Accepted` exactly when
+/// it is and the tree is a derivation of it; else `Refused` names the first node in preorder that
+/// breaks a rule, and the first rule that it breaks.
 pub fn check(alloc: Global, g: &MultiGraph, tree: &Tree) -> Result<Judgement, Memory>
     requires { Fits g.now.order (shape_of tree.now) }
     ensures { IfOk result (IsJudgement g.now (shape_of tree.now)) }
@@ -34,8 +35,9 @@ pub fn check(alloc: Global, g: &MultiGraph, tree: &Tree) -> Result<Judgement, Me
     }
 }
 
-/// Whether `tree`, whose shores lie below the order of `g`, is a derivation of `g`, a graph that is known to be matching covered: the
-/// answer of `check`, without its search for an edge that lies in no perfect matching.
+/// Whether `tree`, whose shores lie below the order of `g`, is a derivation of `g`, a graph that
+/// is known to be matching covered: the answer of `check`, without its search for an edge that
+/// lies in no perfect matching.
 pub fn check_covered(alloc: Global, g: &MultiGraph, tree: &Tree) -> Result<Judgement, Memory>
     requires covered { IsCovered g.now }
     requires fits { Fits g.now.order (shape_of tree.now) }
@@ -60,7 +62,8 @@ pub(crate) fn scan_covered(alloc: Global, g: &MultiGraph, tree: &Tree) -> Result
 /// What a scan of a tree finds.
 #[derive(Drop)]
 pub(crate) enum Scanned {
-    /// Each node keeps its rules; `next` is the number of the node that follows the tree in preorder.
+    /// Each node keeps its rules; `next` is the number of the node that follows the tree in
+    /// preorder.
     Passed { next: u32 },
     /// The first node that breaks a rule, and the first rule that it breaks.
     Refused { node: u32, why: Why },

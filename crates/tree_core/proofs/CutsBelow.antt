@@ -1,5 +1,6 @@
--- What stands below a cut: both partitions are partitions, their quotients are matching covered where that of the node is, and each
--- has one block for the merged side and the blocks of the other side. So a tree of cuts has few leaves, by induction.
+-- What stands below a cut: both partitions are partitions, their quotients are matching covered
+-- where that of the node is, and each has one block for the merged side and the blocks of the
+-- other side. So a tree of cuts has few leaves, by induction.
 use Rattle.std.proofs.lemmas.List.Elements.{All-append}
 use Rattle.std.proofs.Common.{◌≡◌, ℕ, zero, suc, ◌+◌, ◌*◌, ◌≤◌, ◌<◌, ◌-◌, List, length, All, subst, refl, sym, ap, ◌∙◌, arith}
 use Rattle.counting.proofs.Counts.{count_congr, count_complement}
@@ -110,7 +111,8 @@ covered-leaves_at g p (cut x k m) is pp covered derives =
 pub covered-leaves : (g : Graph) (t : Shape) → IsGraph g → IsDerivation g t → All (λ (p : List (List ℕ)). IsCovered (quotient g p)) (leaves g.order t)
 covered-leaves g t is derives = covered-leaves_at g (singles g.order) t is (singles-partition g.order) (root-covered g (singles g.order) is refl derives.covered) derives.derives
 
--- what the code is asked and answers at a cut, for a partition whose number of vertices is that of the graph
+-- what the code is asked and answers at a cut, for a partition whose number of vertices is that
+-- of the graph
 module _ (g : Graph) (n : ℕ) (p : List (List ℕ)) (x : List ℕ) (is : IsGraph g) (pp : IsPartition n p) (same : n ≡ g.order) (cuts : IsCutAt g p x) where
   own : IsPartition g.order p
   own = subst (λ k. IsPartition k p) same pp

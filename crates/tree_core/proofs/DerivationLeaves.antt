@@ -1,5 +1,5 @@
--- The leaves of a derivation, by induction down the tree: the partition at each is one, since merging keeps partitions, and no
--- nontrivial shore is tight there.
+-- The leaves of a derivation, by induction down the tree: the partition at each is one, since
+-- merging keeps partitions, and no nontrivial shore is tight there.
 use Rattle.std.proofs.Common.{ℕ, List, [], ◌∷◌, All, zero, suc, arith}
 use Rattle.std.proofs.lemmas.List.Elements.{All-append}
 use Rattle.graph_core.specs.Graph.{Graph}

@@ -1,5 +1,6 @@
--- Each shore of a derivation is a nontrivial tight shore of the graph itself. What is tight at a merged partition was tight before, so
--- down the tree each tight shore is tight in the graph; and a union of blocks has at least as many vertices as blocks.
+-- Each shore of a derivation is a nontrivial tight shore of the graph itself. What is tight at a
+-- merged partition was tight before, so down the tree each tight shore is tight in the graph; and
+-- a union of blocks has at least as many vertices as blocks.
 use Rattle.std.proofs.Common.{◌≡◌, ℕ, ◌≤◌, ◌&&◌, ◌==◌, not, List, [], ◌∷◌, ◌++◌, length, All, refl, subst, sym, ap, ◌∙◌, arith, eq-eqb, eqb-true}
 use Rattle.std.proofs.lemmas.Bool.{and_from, and_parts}
 use Rattle.std.proofs.lemmas.List.Elements.{All-append}
@@ -55,7 +56,8 @@ nontrivial-vertices n p pp x union t =
     let outside = t.outside in
     record { inside = omega arith; outside = omega arith }
 
--- the cuts that a derivation may name at the single vertices are the canonical nontrivial tight shores
+-- the cuts that a derivation may name at the single vertices are the canonical nontrivial tight
+-- shores
 pub cut-shore : (g : Graph) (x : List ℕ) → IsGraph g → IsCutAt g (singles g.order) x → IsTightShore g x
 cut-shore g x is cuts = record {
   set = cuts.set;

@@ -1,5 +1,6 @@
--- The shores of a derivation stand where they should: at each node the blocks are a partition, so that a nontrivial shore is a
--- nonempty union of blocks, and merging it or its complement leaves a partition again. By induction down the tree.
+-- The shores of a derivation stand where they should: at each node the blocks are a partition, so
+-- that a nontrivial shore is a nonempty union of blocks, and merging it or its complement leaves
+-- a partition again. By induction down the tree.
 use Rattle.std.proofs.Common.{◌≡◌, ℕ, ◌-◌, ◌<◌, List, [], ◌∷◌, length, All, arith, refl, ◌∙◌}
 use Rattle.counting.specs.Counts.{Within, bit, count}
 use Rattle.counting.specs.Sets.{none}

@@ -12,7 +12,7 @@ use Rattle.tree_core.specs.Turns.{MayTurn}
 use Rattle.tree_core.specs.declared.turns.Turn.{Turn}
 use Rattle.tree_core.specs.declared.turns.Turn.TheVariants.{Rotate, Switch}
 
--- x lies in what it keeps without y exactly where the two have no common vertex
+-- x lies in what it keeps without y exactly when the two have no common vertex
 pub apart-test : (x y z : List ℕ) → ((v : ℕ) → mem z v ≡ (mem x v && not (mem y v))) → is_subset x z ≡ is_apart x y
 apart-test x y z e = same_tests (is_subset x z) (is_apart x y)
     (λ h. true_all_in x (minus everything (mem y)) (λ v m. (and_parts (mem x v) (not (mem y v)) (sym (e v) ∙ all_in_true x (mem z) h v m)).1))

@@ -1,5 +1,5 @@
--- Shores in a tree over 1 to n. A rising list lies below n exactly where its greatest number does; the complement of a shore
--- below n holds n, so it is not empty.
+-- Shores in a tree over 1 to n. A rising list lies below n exactly when its greatest number does;
+-- the complement of a shore below n holds n, so it is not empty.
 use Rattle.std.proofs.Common.{◌≡◌, ◌↔◌, ℕ, ◌-◌, ◌≤◌, ◌<◌, List, [], ◌∷◌, length, true, false, not, ◌&&◌, IsTrue, nat_lt, All, get_or, arith, sym, ◌∙◌, ap}
 use Rattle.std.proofs.lemmas.Bool.{and_parts, both_ways}
 use Rattle.std.proofs.lemmas.Bool.Decides.{nat_tests}

@@ -1,4 +1,5 @@
--- The maps of moves and of scripts: where each leaf of a tree goes, and for each of its blocks the name of the image.
+-- The maps of moves and of scripts: where each leaf of a tree goes, and for each of its blocks
+-- the name of the image.
 use Rattle.std.specs.Prelude.{ℕ, zero, suc, ◌+◌, ◌-◌, List, [], ◌∷◌, ◌++◌, ◌==◌, cond, map, unwrap_or, slice_index, slice_index_or, if◌then◌else◌}
 use Rattle.counting.specs.Lists.{mem, last_of, is_subset}
 use Rattle.graph_core.specs.Partitions.{place, singles, names_of}
@@ -9,7 +10,8 @@ use Rattle.tree_core.specs.Moves.{PlainMove, rotate_at, switch_at, move_result, 
 use Rattle.tree_core.specs.declared.path.Side.{Side}
 use Rattle.tree_core.specs.declared.path.Side.TheVariants.{Kept, Merged}
 
--- for one leaf the place of its partner, counted from 1, and for each of its blocks in order the name of the image
+-- for one leaf the place of its partner, counted from 1, and for each of its blocks in order the
+-- name of the image
 pub record PlainLeafMap : Type 0 where
   pub to : ℕ
   pub images : List ℕ
@@ -31,21 +33,24 @@ abbrev pub numbers : ℕ → ℕ → List ℕ
 numbers k zero = []
 numbers k (suc n) = numbers k n ++ (k + suc n) ∷ []
 
--- the old numbers of the leaves in the order of the new tree, where the part at the end of the path changes; k leaves stand before
+-- the old numbers of the leaves in the order of the new tree, where the part at the end of the
+-- path changes; k leaves stand before
 abbrev pub order_at : (ℕ → Shape → List ℕ) → List Side → ℕ → Shape → List ℕ
 order_at f [] k t = f k t
 order_at f (side ∷ path) k leaf = numbers k 1
 order_at f (Kept ∷ path) k (cut x a b) = order_at f path k a ++ numbers (k + leaf_count a) (leaf_count b)
 order_at f (Merged ∷ path) k (cut x a b) = numbers k (leaf_count a) ++ order_at f path (k + leaf_count a) b
 
--- Rotate keeps the order, but where the two shores have no common vertex the leaves of the first two trees exchange their places
+-- Rotate keeps the order, but where the two shores have no common vertex the leaves of the first
+-- two trees exchange their places
 abbrev pub rotate_order : Side → ℕ → Shape → List ℕ
 rotate_order Merged k (cut x a (cut y b c)) =
     if is_subset x y then numbers k (leaf_count a + leaf_count b + leaf_count c)
     else numbers (k + leaf_count a) (leaf_count b) ++ numbers k (leaf_count a) ++ numbers (k + leaf_count a + leaf_count b) (leaf_count c)
 rotate_order side k t = numbers k (leaf_count t)
 
--- below `kept`, where the greatest vertex stays: a shore that contains u changes the places of its two trees
+-- below `kept`, where the greatest vertex stays: a shore that contains u changes the places of
+-- its two trees
 abbrev pub kept_order_if_greatest_stays : List ℕ → ℕ → Shape → List ℕ
 kept_order_if_greatest_stays u k leaf = numbers k 1
 kept_order_if_greatest_stays u k (cut s a b) =
@@ -53,7 +58,8 @@ kept_order_if_greatest_stays u k (cut s a b) =
     then kept_order_if_greatest_stays u (k + leaf_count a) b ++ kept_order_if_greatest_stays u k a
     else kept_order_if_greatest_stays u k a ++ kept_order_if_greatest_stays u (k + leaf_count a) b
 
--- Switch exchanges the two trees where the greatest vertex n comes in, with v, and else turns the leaves of `kept`
+-- Switch exchanges the two trees where the greatest vertex n comes in, with v, and else turns the
+-- leaves of `kept`
 abbrev pub switch_order : ℕ → (u v : List ℕ) → ℕ → Shape → List ℕ
 switch_order n u v k leaf = numbers k 1
 switch_order n u v k (cut x a b) =
@@ -67,14 +73,15 @@ move_order n (rotate_at []) t = numbers 0 (leaf_count t)
 move_order n (rotate_at (side ∷ path)) t = order_at (rotate_order (last_step side path)) (parent_path side path) 0 t
 move_order n (switch_at path u v) t = order_at (switch_order n u v) path 0 t
 
--- the image of a block t below `kept` of x: what of it is in x and not in u; u with the rest of the outer side, if t contains u;
--- and v, if t contains the complement of x
+-- the image of a block t below `kept` of x: what of it is in x and not in u; u with the rest of
+-- the outer side, if t contains u; and v, if t contains the complement of x
 abbrev pub kept_image : ℕ → (x u v t : List ℕ) → List ℕ
 kept_image n x u v t =
     union_list n (meet_list n t (inner_rest n x u))
     (union_list n (list_if (is_subset u t) (union_list n (outer_rest n x v) u)) (list_if (is_subset (union_list n (outer_rest n x v) v) t) v))
 
--- and below `merged`: what of it is neither in x nor in v; v with the rest of x, if t contains v; and u, if t contains x
+-- and below `merged`: what of it is neither in x nor in v; v with the rest of x, if t contains v;
+-- and u, if t contains x
 abbrev pub merged_image : ℕ → (x u v t : List ℕ) → List ℕ
 merged_image n x u v t =
     union_list n (meet_list n t (outer_rest n x v))

@@ -28,7 +28,8 @@ StandsAt n p (cut x k m) =
 abbrev pub partitions_of : ℕ → List (List (List ℕ)) → List PartitionValue
 partitions_of n ps = map (λ p. record { order = n; blocks = p }) ps
 
--- the path leads from the root of t, which stands at the partition p, to the root of s, which stands at q
+-- the path leads from the root of t, which stands at the partition p, to the root of s, which
+-- stands at q
 abbrev pub LeadsTo : ℕ → List Side → List (List ℕ) → Shape → List (List ℕ) → Shape → Type 0
 LeadsTo n [] p t q s = (p ≡ q) × (t ≡ s)
 LeadsTo n (side ∷ path) p leaf q s = ⊥

@@ -1,9 +1,10 @@
--- The two moves on trees of cuts, Rotate and Switch, as partial functions on plain trees, and scripts of moves. Uncrossing of
--- tight cuts as in Lovász (1987) and Lucchesi and Murty, "Perfect Matchings"; the moves are this workbench's own. docs/FORMATS.md has
--- both rules in words, and an example by hand.
+-- The two moves on trees of cuts, Rotate and Switch, as partial functions on plain trees, and
+-- scripts of moves. Uncrossing of tight cuts as in Lovász (1987) and Lucchesi and Murty, "Perfect
+-- Matchings"; the moves are this workbench's own. docs/FORMATS.md has both rules in words, and an
+-- example by hand.
 --
--- Rotate brings the lower of two cuts above. The cuts keep their shores, and the three trees below them are hung on anew; the left
--- branch is `kept`:
+-- Rotate brings the lower of two cuts above. The cuts keep their shores, and the three trees
+-- below them are hung on anew; the left branch is `kept`:
 --
 --   the lower cut in `kept`        in `merged`, x inside y        in `merged`, x and y apart
 --
@@ -13,21 +14,25 @@
 --    / \              / \             / \        / \                 / \            / \
 --   a   b            b   c           b   c      a   b               b   c          a   c
 --
--- Switch exchanges a part u of the shore x and a part v of the other side. The rests p (`inner_rest`) and q (`outer_rest`) stay:
+-- Switch exchanges a part u of the shore x and a part v of the other side. The rests p
+-- (`inner_rest`) and q (`outer_rest`) stay:
 --
 --        inside x        outside x              inside         outside
 --      +-----+-----+   +-----+-----+          +-----+-----+   +-----+-----+
 --      |  p  |  u  |   |  v  |  q  |    to    |  p  |  v  |   |  u  |  q  |
 --      +-----+-----+   +-----+-----+          +-----+-----+   +-----+-----+
 --
--- The greatest vertex n is outside x, in q or in v. If it stays outside, in q, then p with v is the new shore, and `kept` stays `kept`.
--- If it comes in, with v, then the other side is written as the shore, u with q, and the two trees change places. Below, in `kept` the
--- block u becomes u with q, and the block of the other side becomes v; in `merged` the block x becomes u, and v becomes p with v. A
--- shore s there becomes what its blocks become or, if this holds n, the complement of that, and then its two trees change places:
+-- The greatest vertex n is outside x, in q or in v. If it stays outside, in q, then p with v is
+-- the new shore, and `kept` stays `kept`. If it comes in, with v, then the other side is written
+-- as the shore, u with q, and the two trees change places. Below, in `kept` the block u becomes u
+-- with q, and the block of the other side becomes v; in `merged` the block x becomes u, and v
+-- becomes p with v. A shore s there becomes what its blocks become or, if this holds n, the
+-- complement of that, and then its two trees change places:
 --
 --   n       s in the old `kept`                                        s in the old `merged`
---   stays   where u is in s: x without s, with v, the trees changed    what of s is in q, with u if x is in s, with p and v if v is in s
---   comes   where u is in s: s with q                                  where x is in s: u in place of x
+--   stays   where u is in s: x without s, with v, the trees changed    what of s is in q, with u
+--   if x is in s, with p and v if v is in s comes   where u is in s: s with q
+--   where x is in s: u in place of x
 use Rattle.std.specs.Prelude.{◌≡◌, ℕ, Bool, true, List, [], ◌∷◌, ◌&&◌, not, cond, Option, Some, None, option_map, option_and_then, if◌then◌else◌}
 use Rattle.counting.specs.Counts.{Within}
 use Rattle.counting.specs.Sets.{Set, union, meet, minus}
@@ -40,8 +45,8 @@ use Rattle.tree_core.specs.Derivations.{IsDerivation, kept_at, merged_at}
 use Rattle.tree_core.specs.declared.path.Side.{Side}
 use Rattle.tree_core.specs.declared.path.Side.TheVariants.{Kept, Merged}
 
--- a move, with the path from the root to its node: Rotate brings the cut at the node over its parent; Switch exchanges the sets u
--- and v between the shore of the node and its complement
+-- a move, with the path from the root to its node: Rotate brings the cut at the node over its
+-- parent; Switch exchanges the sets u and v between the shore of the node and its complement
 pub data PlainMove : Type 0 where
   rotate_at : (path : List Side) → PlainMove
   switch_at : (path : List Side) (u v : List ℕ) → PlainMove
@@ -120,7 +125,8 @@ outer_rest n x v = minus_list n (complement_of n x) v
 abbrev pub list_if : Bool → List ℕ → List ℕ
 list_if t x = cond t x []
 
--- below `kept`, where the greatest vertex comes: a shore that contains u gains the rest of the outer side
+-- below `kept`, where the greatest vertex comes: a shore that contains u gains the rest of the
+-- outer side
 abbrev pub kept_if_greatest_comes : ℕ → (x u v : List ℕ) → Shape → Shape
 kept_if_greatest_comes n x u v leaf = leaf
 kept_if_greatest_comes n x u v (cut s a b) = cut (if is_subset u s then union_list n s (outer_rest n x v) else s) (kept_if_greatest_comes n x u v a) (kept_if_greatest_comes n x u v b)
@@ -130,8 +136,8 @@ abbrev pub merged_if_greatest_comes : ℕ → (x u : List ℕ) → Shape → Sha
 merged_if_greatest_comes n x u leaf = leaf
 merged_if_greatest_comes n x u (cut s a b) = cut (if is_subset x s then union_list n (minus_list n s x) u else s) (merged_if_greatest_comes n x u a) (merged_if_greatest_comes n x u b)
 
--- below `kept`, where the greatest vertex stays: a shore s that contains u becomes x without s, with v, and its two trees change
--- places
+-- below `kept`, where the greatest vertex stays: a shore s that contains u becomes x without s,
+-- with v, and its two trees change places
 abbrev pub kept_if_greatest_stays : ℕ → (x u v : List ℕ) → Shape → Shape
 kept_if_greatest_stays n x u v leaf = leaf
 kept_if_greatest_stays n x u v (cut s a b) =
@@ -139,8 +145,8 @@ kept_if_greatest_stays n x u v (cut s a b) =
     then cut (union_list n (minus_list n x s) v) (kept_if_greatest_stays n x u v b) (kept_if_greatest_stays n x u v a)
     else cut s (kept_if_greatest_stays n x u v a) (kept_if_greatest_stays n x u v b)
 
--- below `merged`, where the greatest vertex stays: what of s is outside x and v, with u if s contains x, and with v and the rest of
--- x if s contains v
+-- below `merged`, where the greatest vertex stays: what of s is outside x and v, with u if s
+-- contains x, and with v and the rest of x if s contains v
 abbrev pub merged_shore_if_greatest_stays : ℕ → (x u v s : List ℕ) → List ℕ
 merged_shore_if_greatest_stays n x u v s = union_list n (minus_list n (minus_list n s x) v) (union_list n (list_if (is_subset x s) u) (list_if (is_subset v s) (union_list n (inner_rest n x u) v)))
 

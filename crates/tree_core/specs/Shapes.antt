@@ -2,7 +2,8 @@
 use Rattle.std.specs.Prelude.{ℕ, ◌+◌, ◌-◌, List, [], ◌∷◌, ◌++◌, max, All}
 use Rattle.counting.specs.Counts.{Within}
 
--- a tree of cuts: a leaf, or a cut by its shore with two trees, one where the shore is kept and one where it is merged
+-- a tree of cuts: a leaf, or a cut by its shore with two trees, one where the shore is kept and
+-- one where it is merged
 pub data Shape : Type 0 where
   leaf : Shape
   cut : (shore : List ℕ) (kept merged : Shape) → Shape

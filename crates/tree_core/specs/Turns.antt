@@ -17,7 +17,8 @@ abbrev pub MayTurn : Turn → Shape → Type 0
 MayTurn (Rotate side) t = Unit {0}
 MayTurn (Switch n u v) t = Fits n t
 
--- what is answered of the tree t, which a partial function turns into `made`: that tree, or else the same one
+-- what is answered of the tree t, which a partial function turns into `made`: that tree, or else
+-- the same one
 abbrev pub IsAnswer : Option Shape → Shape → Result Tree Tree → Type 0
 IsAnswer made t (Ok tree) = made ≡ Some (shape_of tree)
 IsAnswer made t (Err tree) = (made ≡ None) × (shape_of tree ≡ t)

@@ -1,4 +1,5 @@
--- How the code's tree is seen: by its plain shape. Two trees that say the same may stand in different boxes.
+-- How the code's tree is seen: by its plain shape. Two trees that say the same may stand in
+-- different boxes.
 use Rattle.tree_core.specs.declared.tree.Tree.{Tree, Leaf, Cut'}
 use Rattle.tree_core.specs.Shapes.{Shape, leaf, cut}
 

@@ -16,8 +16,8 @@ use graph_core::MultiGraph;
 use std::alloc::{AllocError as Memory, Global};
 use vset_core::VSet;
 
-/// The partition at which the root of a derivation stands: the single vertices. The quotient at it is the graph itself up to parallel edges,
-/// and so matching covered.
+/// The partition at which the root of a derivation stands: the single vertices. The quotient at
+/// it is the graph itself up to parallel edges, and so matching covered.
 pub fn root_partition(alloc: Global, g: &MultiGraph) -> Result<Partition, Memory>
     requires { IsCovered g.now }
     ensures order { IfOk result (λ p. p.order ≡ g.now.order) }
@@ -30,8 +30,9 @@ pub fn root_partition(alloc: Global, g: &MultiGraph) -> Result<Partition, Memory
     Ok(root)
 }
 
-/// The partition below a cut where the shore is kept: the complement of `shore`, a canonical nontrivial shore that is tight at `p`,
-/// becomes one block. The quotient at it is matching covered again.
+/// The partition below a cut where the shore is kept: the complement of `shore`, a canonical
+/// nontrivial shore that is tight at `p`, becomes one block. The quotient at it is matching
+/// covered again.
 pub fn kept_partition(
     alloc: Global,
     g: &MultiGraph,
@@ -55,8 +56,8 @@ pub fn kept_partition(
     Ok(q)
 }
 
-/// The partition below a cut where the shore is merged: `shore`, a canonical nontrivial shore that is tight at `p`, becomes one block.
-/// The quotient at it is matching covered again.
+/// The partition below a cut where the shore is merged: `shore`, a canonical nontrivial shore
+/// that is tight at `p`, becomes one block. The quotient at it is matching covered again.
 pub fn merged_partition(
     alloc: Global,
     g: &MultiGraph,

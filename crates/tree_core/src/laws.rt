@@ -9,15 +9,16 @@ ghost use Rattle.tree_core.specs.Derivations.{IsCutAt, IsDerivation, IsLeafAt, I
 ghost use Rattle.tree_core.specs.Leaves.{LeadsTo, StandsAt, leaves};
 ghost use Rattle.tree_core.specs.declared.path.Side.{Side};
 
-/// A derivation of a graph fits the graph's order, and each of its shores is a nonempty union of blocks where it stands. So its
-/// leaves may be asked for.
+/// A derivation of a graph fits the graph's order, and each of its shores is a nonempty union of
+/// blocks where it stands. So its leaves may be asked for.
 pub fn derivation_stands()
     ensures fits { (g : Graph) (t : Shape) → IsDerivation g t → Fits g.order t }
     ensures stands { (g : Graph) (t : Shape) → IsDerivation g t →
         StandsAt g.order (singles g.order) t }
 {}
 
-/// Each leaf of a derivation is a partition at which no nontrivial shore is tight, and its quotient is matching covered.
+/// Each leaf of a derivation is a partition at which no nontrivial shore is tight, and its
+/// quotient is matching covered.
 pub fn derivation_leaves()
     ensures partitions { (g : Graph) (t : Shape) → IsDerivation g t →
         All (IsPartition g.order) (leaves g.order t) }
@@ -27,8 +28,9 @@ pub fn derivation_leaves()
         All (λ (p : List (List ℕ)). IsCovered (quotient g p)) (leaves g.order t) }
 {}
 
-/// Each shore of a derivation is a canonical nontrivial tight shore of the graph itself, and not only at the partition where it
-/// stands (Lovász 1987). At the partition into single vertices a cut of a derivation names nothing else.
+/// Each shore of a derivation is a canonical nontrivial tight shore of the graph itself, and not
+/// only at the partition where it stands (Lovász 1987). At the partition into single vertices a
+/// cut of a derivation names nothing else.
 pub fn derivation_shores()
     ensures root { (g : Graph) (x : List ℕ) → IsGraph g →
         (IsCutAt g (singles g.order) x ↔ IsTightShore g x) }
@@ -43,8 +45,9 @@ pub fn tree_sizes()
     ensures list { (n : ℕ) (t : Shape) → length (leaves n t) ≡ leaf_count t }
 {}
 
-/// What a tree has, by the paths from its root: the leaves are the partitions of the leaves that some path leads to, the shores those
-/// of the cuts that some path leads to, and the depth is the greatest number of nodes on a path to a leaf.
+/// What a tree has, by the paths from its root: the leaves are the partitions of the leaves that
+/// some path leads to, the shores those of the cuts that some path leads to, and the depth is the
+/// greatest number of nodes on a path to a leaf.
 pub fn tree_paths()
     ensures leaf { (n : ℕ) (t : Shape) (q : List (List ℕ)) →
         (Any (λ (p : List (List ℕ)). p ≡ q) (leaves n t) ↔
@@ -59,8 +62,8 @@ pub fn tree_paths()
         (length path + 1 ≡ depth t) }
 {}
 
-/// A derivation of a graph with at least four vertices has at most half as many leaves as vertices, less one: n vertices and c leaves
-/// keep 2 c + 2 at most n (Lovász 1987).
+/// A derivation of a graph with at least four vertices has at most half as many leaves as
+/// vertices, less one: n vertices and c leaves keep 2 c + 2 at most n (Lovász 1987).
 pub fn derivation_size()
     ensures { (g : Graph) (t : Shape) → IsGraph g → IsDerivation g t → 4 ≤ g.order →
         2 * leaf_count t + 2 ≤ g.order }

@@ -49,7 +49,8 @@ fn gather(alloc: Global, tree: &Tree, p: Partition, found: &mut Partitions) -> R
     }
 }
 
-/// The complement of a shore that does not hold the greatest vertex; a union of blocks again. Takes no memory.
+/// The complement of a shore that does not hold the greatest vertex; a union of blocks again.
+/// Takes no memory.
 pub fn complement_in(p: &Partition, shore: VSet) -> VSet
     requires fits { All (Within (p.now.order - 1)) shore }
     requires nonempty { 0 < length shore }

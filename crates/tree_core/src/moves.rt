@@ -54,8 +54,8 @@ impl Move {
 #[derive(Clone, Copy, Debug, PartialEq, Eq)]
 pub struct Stuck;
 
-/// What the move makes of the tree over 1 to `n`, as `rotate` and `switch` do. `Stuck` comes exactly where the move has no result
-/// and hands back the same tree. Takes no memory.
+/// What the move makes of the tree over 1 to `n`, as `rotate` and `switch` do. `Stuck` comes
+/// exactly when the move has no result and hands back the same tree. Takes no memory.
 pub fn apply(tree: Tree, n: u32, m: &Move) -> Result<Tree, (Tree, Stuck)>
     requires { Fits n (shape_of tree) }
     ensures ok { IfOk result

@@ -18,8 +18,8 @@ use crate::turns::{Turn, turn_along};
 use std::mem;
 use vset_core::VSet;
 
-// What a Switch at a cut over 1 to n exchanges: u leaves the shore x, and v comes in its place. The greatest vertex n comes in with v, or
-// stays outside.
+// What a Switch at a cut over 1 to n exchanges: u leaves the shore x, and v comes in its place.
+// The greatest vertex n comes in with v, or stays outside.
 #[derive(Drop)]
 struct Exchange {
     n: u32,
@@ -29,7 +29,8 @@ struct Exchange {
     greatest_comes: bool,
 }
 
-// A shore below `kept` where the greatest vertex comes: one that contains u gains the rest of the outer side.
+// A shore below `kept` where the greatest vertex comes: one that contains u gains the rest of the
+// outer side.
 #[tactic(auto, using(crate::proofs::SwitchSets::all_wider))]
 fn kept_shore_greatest_comes(e: &Exchange, s: VSet) -> VSet
     requires greatest { mem e.now.v e.now.n ≡ true }
@@ -57,7 +58,8 @@ fn merged_shore_greatest_comes(e: &Exchange, s: VSet) -> VSet
     }
 }
 
-// A shore below `kept` where the greatest vertex stays: one that contains u becomes x without it, with v.
+// A shore below `kept` where the greatest vertex stays: one that contains u becomes x without it,
+// with v.
 fn kept_shore_greatest_stays(e: &Exchange, s: VSet) -> VSet
     requires whole { All (Within e.now.n) e.now.x }
     requires other { All (Within e.now.n) e.now.v }
@@ -101,7 +103,8 @@ fn shore_after(e: &Exchange, side: Side, s: VSet) -> VSet
     }
 }
 
-// Whether the trees below a shore of the tree on the side change places: the shore becomes a part of what was its complement.
+// Whether the trees below a shore of the tree on the side change places: the shore becomes a part
+// of what was its complement.
 fn is_turned(e: &Exchange, side: Side, s: VSet) -> bool
     ensures { result ≡ is_turned e.now.greatest_comes side e.now.u s }
 {
@@ -191,9 +194,9 @@ pub(crate) fn switch_here(tree: Tree, n: u32, u: VSet, v: VSet) -> Result<Tree, 
     }
 }
 
-/// Exchanges `u`, a part of the shore at the end of the path, and `v`, a part of its complement. `Stuck` comes exactly where there
-/// is no result: the path leads to no cut, or one of the two is not a nonempty proper subset there. Then the same tree is handed
-/// back. Takes no memory.
+/// Exchanges `u`, a part of the shore at the end of the path, and `v`, a part of its complement.
+/// `Stuck` comes exactly when there is not a result: the path leads to no cut, or one of the two
+/// is not a nonempty proper subset there. Then the same tree is handed back. Takes no memory.
 pub fn switch(tree: Tree, n: u32, path: &Path, u: VSet, v: VSet) -> Result<Tree, (Tree, Stuck)>
     requires { Fits n (shape_of tree) }
     ensures ok { IfOk result

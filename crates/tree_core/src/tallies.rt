@@ -32,7 +32,7 @@ pub struct Tally {
     pub braces: u32,
 }
 
-/// The kind of a leaf with this quotient: a brace exactly where the quotient is bipartite, and a
+/// The kind of a leaf with this quotient: a brace exactly when the quotient is bipartite, and a
 /// brick otherwise.
 pub fn kind_of(alloc: Global, q: &MultiGraph) -> Result<LeafKind, Memory>
     ensures { IfOk result (IsKindOf q.now) }
@@ -98,7 +98,7 @@ pub fn tallied(kinds: &[LeafKind]) -> Tally
     }
 }
 
-/// Counts the leaves at these partitions of the vertices of `g`: a leaf is a brace exactly where
+/// Counts the leaves at these partitions of the vertices of `g`: a leaf is a brace exactly when
 /// its quotient is bipartite, and a brick otherwise.
 pub fn count_leaves(alloc: Global, g: &MultiGraph, leaves: &Partitions) -> Result<Tally, Memory>
     requires order { All (λ p. p.order ≡ g.now.order) leaves.now }

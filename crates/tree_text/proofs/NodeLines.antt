@@ -1,4 +1,5 @@
--- The line of a node that is one of the words of a node, and not one too many, is told by the tests of its vertices.
+-- The line of a node that is one of the words of a node, and not one too many, is told by the
+-- tests of its vertices.
 use Rattle.std.proofs.Common.{◌≡◌, ◌<◌, ◌+◌, ℕ, Bool, true, false, not, nat_le, List, ap₂, arith, Err}
 use Rattle.std.specs.Prelude.{if◌then◌else◌}
 use Rattle.std.proofs.lemmas.Bool.Decides.{nat_tests}
@@ -7,7 +8,7 @@ use Rattle.text_faults.specs.declared.faults.FaultKind.TheVariants as kind
 use Rattle.tree_text.specs.Places.{Place}
 use Rattle.tree_text.specs.TreeFormat.{TreeSoFar, is_leaf_line, is_node_line, most_nodes, node_line, shore_tests, shore_told, with_node}
 
--- what is read behind a node
+-- what is read after a node
 abbrev pub behind_node : ℕ → Place → List (List ℕ) → TreeSoFar
 behind_node nodes place words = record { nodes = nodes + 1; reading = with_node place (is_leaf_line words) (shore_told words) }
 

@@ -1,5 +1,6 @@
--- Lists of vertices as the reader walks over them: what goes into the set is taken off the list, and a set with the numbers of a
--- rising list is this list. A list that passes the tests of the format rises and lies in range.
+-- Lists of vertices as the reader walks over them: what goes into the set is taken off the list,
+-- and a set with the numbers of a rising list is this list. A list that passes the tests of the
+-- format rises and lies in range.
 use Rattle.std.proofs.Common.{◌≡◌, ◌||◌, ◌==◌, ◌+◌, ◌≤◌, ◌<◌, ℕ, suc, List, [], ◌∷◌, All, Bool, true, false, length, nat_lt, refl, sym, ◌∙◌, ap, subst, arith}
 use Rattle.std.specs.List.{list_any}
 use Rattle.std.proofs.lemmas.Bool.{and_parts, or_parts}
@@ -21,7 +22,7 @@ pub moved : (vertices shore next behind rest : List ℕ) (v : ℕ) → rest ≡ 
 moved vertices shore next behind rest v front gains same w =
     same w ∙ ap (λ (xs : List ℕ). mem shore w || mem xs w) front ∙ or-moves (mem shore w) (v == w) (mem behind w) ∙ ap (λ b. b || mem behind w) (sym (gains w))
 
--- what holds of a list holds of what is behind its first number
+-- what holds of a list holds of what is after its first number
 pub all-behind : (n : ℕ) (rest behind : List ℕ) (v : ℕ) → rest ≡ v ∷ behind → All (Within n) rest → All (Within n) behind
 all-behind n rest behind v front all k d less = subst (All (Within n)) front all (suc k) d (omega arith)
 

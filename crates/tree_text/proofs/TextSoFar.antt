@@ -18,7 +18,7 @@ pub tree_text-lines : (n : ℕ) (t : Shape) (head text : List ℕ) → head ≡ 
 unfolding tree_text
 tree_text-lines n t head text is_head is_text = is_text ∙ ap (λ h. h ++ written (node_words t)) is_head ∙ sym (written-append (header_words n ∷ []) (node_words t))
 
--- the lines of a cut, of its `kept` tree and of its `merged` tree, one behind the other
+-- the lines of a cut, of its `kept` tree and of its `merged` tree, one after the other
 pub cut_lines : (old first second third : List ℕ) (x : List ℕ) (k m : Shape) → first ≡ old ++ written (cut_words x ∷ []) → second ≡ first ++ written (node_words k) → third ≡ second ++ written (node_words m) → third ≡ old ++ written (node_words (cut x k m))
 cut_lines old first second third x k m is_first is_second is_third =
     is_third ∙ ap (λ t. t ++ written (node_words m)) is_second ∙ append_assoc first (written (node_words k)) (written (node_words m))

@@ -1,5 +1,6 @@
--- What is read of a text can be written again. Along the lines of a text the shores read so far are nonempty, rise and lie below n,
--- and the nodes are counted: each line keeps this, since it passed the tests of the table, and so does a tree put at a place.
+-- What is read of a text can be written again. Along the lines of a text the shores read so far
+-- are nonempty, rise and lie below n, and the nodes are counted: each line keeps this, since it
+-- passed the tests of the table, and so does a tree put at a place.
 use Rattle.std.proofs.Common.{◌≡◌, ◌+◌, ◌-◌, ◌≤◌, ◌<◌, ◌==◌, codes, ◌||◌, ◌^◌, not, nat_le, if◌then◌else◌, ℕ, List, [], ◌∷◌, All, Bool, length, map, true, false, Option, Some, None, Result, Ok, Err, IfOk, refl, sym, ◌∙◌, ap, subst, arith}
 use Rattle.std.specs.List.{list_all, list_any}
 use Rattle.std.specs.List.Sorted.{IsStrictlyIncreasing}

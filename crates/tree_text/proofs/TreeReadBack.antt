@@ -1,6 +1,7 @@
--- What is written of a tree is read as this tree. The header leads to the root, and by induction the lines of a tree lead from any
--- place to this tree put at the place: the line of a cut leads below it, its `kept` tree put there leads to the place of its
--- `merged` tree, and this one put there makes the cut whole. No test of the table applies.
+-- What is written of a tree is read as this tree. The header leads to the root, and by induction
+-- the lines of a tree lead from any place to this tree put at the place: the line of a cut leads
+-- below it, its `kept` tree put there leads to the place of its `merged` tree, and this one put
+-- there makes the cut whole. No test of the table applies.
 use Rattle.std.proofs.Common.{◌≡◌, ◌+◌, ◌-◌, ◌≤◌, ◌<◌, ◌==◌, ◌&&◌, ◌^◌, nat_lt, ℕ, suc, List, [], ◌∷◌, ◌++◌, All, Bool, length, map, get_or, codes, true, false, Some, Ok, refl, sym, subst, arith}
 use Rattle.std.specs.Fmt.{decimal}
 use Rattle.std.specs.List.{AllByRecursion, list_all, list_any}
@@ -57,7 +58,7 @@ without-greatest : (n : ℕ) (x : List ℕ) → IsStrictlyIncreasing x → All (
 without-greatest n x rising within =
     false_from_ne_true (mem x n) (λ held. let high = mem-within (n - 1) x (record { rising = rising; within = within }) n held in omega arith)
 
--- the words of a cut are no leaf's
+-- the words of a cut are not leaf's
 not-leaf : (words : List (List ℕ)) → is_leaf_line (codes "cut" ∷ words) ≡ false
 unfolding has_form
 not-leaf [] = refl
@@ -113,7 +114,7 @@ Stands-tree_text n t is =
     (at 0 (wanted root), header-taken n is.order, nodes-taken n 0 root t (omega arith) is.order is.fits is.vertices is.rising)
     refl
 
--- comments behind it change nothing
+-- comments after it change nothing
 pub Stands-commented : (n : ℕ) (t : Shape) (comments : List ℕ) → IsWritable n t → AllByRecursion (λ line. is_skipped (words_of line) ≡ true) (lines_of comments) → Stands (tree_format n) (tree_text n t ++ comments) t
 unfolding tree_text
 Stands-commented n t comments is skipped =

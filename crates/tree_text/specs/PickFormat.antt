@@ -1,4 +1,5 @@
--- The pick format: a header `s mcg K`, and K lines `pick P`. The text stands for the list of the K numbers.
+-- The pick format: a header `s mcg K`, and K lines `pick P`. The text stands for the list of the
+-- K numbers.
 use Rattle.std.specs.Prelude.{ℕ, ◌==◌, not, nat_lt, List, [], ◌∷◌, ◌++◌, length, codes, Result, Ok, Err, if◌then◌else◌}
 use Rattle.line_text.specs.Format.{Rules, checked}
 use Rattle.line_text.specs.Words.{has_form, word_at}
@@ -25,7 +26,7 @@ pick_header words =
     ∷ [])
     (record { count = count; picks = [] })
 
--- a significant line behind the header is a pick, or too much where all have been read
+-- a significant line after the header is a pick, or too much where all have been read
 abbrev pub pick_line : PicksSoFar → List (List ℕ) → Result PicksSoFar FaultKind
 pick_line body words =
     checked ((length body.picks == body.count, kind.Extra)

@@ -1,5 +1,6 @@
--- The derivation format for a graph of order n: a header `t mcg N`, and a line for each node in preorder, `leaf`, or `cut` and
--- the vertices of the shore; behind a cut come the nodes of its `kept` tree and then those of its `merged` tree.
+-- The derivation format for a graph of order n: a header `t mcg N`, and a line for each node in
+-- preorder, `leaf`, or `cut` and the vertices of the shore; after a cut come the nodes of its
+-- `kept` tree and then those of its `merged` tree.
 use Rattle.std.specs.Prelude.{ℕ, ◌+◌, ◌==◌, ◌&&◌, ◌||◌, not, nat_lt, nat_le, Bool, true, List, [], ◌∷◌, length, map, codes, Result, Ok, Err, if◌then◌else◌}
 use Rattle.std.specs.List.{list_all, list_any}
 use Rattle.counting.specs.Lists.{mem}
@@ -21,7 +22,7 @@ pub record TreeSoFar : Type 0 where
   pub nodes : ℕ
   pub reading : Reading
 
--- the words behind the first
+-- the words after the first
 abbrev pub behind_first : List (List ℕ) → List (List ℕ)
 behind_first [] = []
 behind_first (word ∷ words) = words
@@ -53,7 +54,7 @@ tree_header n words =
 abbrev pub is_node_line : List (List ℕ) → Bool
 is_node_line words = is_leaf_line words || is_cut_line words
 
--- the vertices that a line names behind its first word
+-- the vertices that a line names after its first word
 abbrev pub shore_told : List (List ℕ) → List ℕ
 shore_told words = map value_of (behind_first words)
 
@@ -66,17 +67,17 @@ shore_tests n words =
     ∷ (mem (shore_told words) n, kind.HasGreatest)
     ∷ []
 
--- what is read behind a node at a place
+-- what is read after a node at a place
 abbrev pub with_node : Place → (is_leaf : Bool) → List ℕ → Reading
 with_node place is_leaf shore = if is_leaf then put place leaf else wanted (in_kept shore place)
 
--- the line of a node at a place, behind so many nodes
+-- the line of a node at a place, after so many nodes
 abbrev pub node_line : ℕ → ℕ → Place → List (List ℕ) → Result TreeSoFar FaultKind
 node_line n nodes place words =
     checked ((nat_le most_nodes nodes, kind.Limit) ∷ (not (is_node_line words), kind.Word) ∷ shore_tests n words)
     (record { nodes = nodes + 1; reading = with_node place (is_leaf_line words) (shore_told words) })
 
--- a significant line behind the header is a node, or too much where the tree is whole
+-- a significant line after the header is a node, or too much where the tree is whole
 abbrev pub line_behind : ℕ → ℕ → Reading → List (List ℕ) → Result TreeSoFar FaultKind
 line_behind n nodes (whole t) words = Err kind.Extra
 line_behind n nodes (wanted place) words = node_line n nodes place words

@@ -19,7 +19,8 @@ abbrev pub node_words : Shape → List (List (List ℕ))
 node_words leaf = (codes "leaf" ∷ []) ∷ []
 node_words (cut x k m) = cut_words x ∷ node_words k ++ node_words m
 
--- the text of a tree over 1 to n: one space between words, a line feed behind each line, numbers in decimal
+-- the text of a tree over 1 to n: one space between words, a line feed after each line, numbers
+-- in decimal
 unfoldable pub tree_text : ℕ → Shape → List ℕ
 tree_text n t = written (header_words n ∷ node_words t)
 
@@ -33,7 +34,8 @@ abbrev pub ShoresRise : Shape → Type 0
 ShoresRise leaf = Unit {0}
 ShoresRise (cut x k m) = IsStrictlyIncreasing x × ShoresRise k × ShoresRise m
 
--- a tree that can be written: it fits n, each shore is a nonempty rising list, and there are not too many nodes
+-- a tree that can be written: it fits n, each shore is a nonempty rising list, and there are not
+-- too many nodes
 pub record IsWritable (n : ℕ) (t : Shape) : Type 0 where
   pub order : n < 10 ^ 9
   pub fits : Fits n t

@@ -16,14 +16,15 @@ pub fn written_tree_stands()
         StandsAlone (tree_format n) (tree_text n t) }
 {}
 
-/// A tail of comments behind the text of a tree changes nothing.
+/// A tail of comments after the text of a tree changes nothing.
 pub fn comments_change_nothing()
     ensures { (n : ℕ) (t : Shape) (comments : List ℕ) → IsWritable n t
         → AllByRecursion (λ line. is_skipped (words_of line) ≡ true) (lines_of comments)
         → Stands (tree_format n) (tree_text n t ++ comments) t }
 {}
 
-/// What a text stands for can be written: the tree fits n, its shores are nonempty and rise, and it has at most 127 nodes.
+/// What a text stands for can be written: the tree fits n, its shores are nonempty and rise, and
+/// it has at most 127 nodes.
 pub fn read_tree_fits()
     ensures { (n : ℕ) (text : List ℕ) (t : Shape) → n < 10 ^ 9 → Stands (tree_format n) text t →
         IsWritable n t }

@@ -8,7 +8,8 @@ use std::alloc::{AllocError as Memory, Global};
 use tree_core::Tree;
 use vset_core::VSet;
 
-/// The cuts above a node that is still to be read, from the lowest on, with the trees that hang on them already.
+/// The cuts above a node that is still to be read, from the lowest on, with the trees that hang
+/// on them already.
 #[derive(Drop)]
 pub enum Above {
     Root,

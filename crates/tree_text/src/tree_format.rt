@@ -47,7 +47,7 @@ fn is_cut(words: &[&[u8]]) -> bool
     words.len() >= 2 && has_form(words, words.len(), &["cut"])
 }
 
-// The words behind the first.
+// The words after the first.
 fn behind_first<'a, 'b>(words: &'a [&'b [u8]]) -> &'a [&'b [u8]]
     ensures { texts_of result.now ≡ behind_first (texts_of words.now) }
 {
@@ -61,7 +61,7 @@ fn is_node(words: &[&[u8]]) -> bool
     has_form(words, 1, &["leaf"]) || is_cut(words)
 }
 
-// The vertices that a line names behind its first word.
+// The vertices that a line names after its first word.
 #[tactic(auto, using(crate::proofs::ShoreLists::rising_shore))]
 fn read_shore(alloc: Global, n: u32, words: &[&[u8]]) -> Result<VSet, Refusal<FaultKind>>
     requires { n ≤ MOST_VERTICES }
@@ -97,7 +97,7 @@ fn with_node(alloc: Global, above: Above, is_leaf: bool, shore: VSet) -> Result<
     Ok(Progress::Wanted(Above::InKept { shore, above }))
 }
 
-// The line of a node that stands below these cuts, behind so many nodes.
+// The line of a node that stands below these cuts, after so many nodes.
 fn read_node(
     alloc: Global,
     n: u32,
@@ -168,8 +168,9 @@ impl LineFormat for TreeFormat {
     }
 }
 
-/// Reads a tree of cuts over 1 to `n`: the tree that the bytes stand for, or the first line outside the format with the kind of
-/// its fault. The tree fits `n`, its shores are not empty, and it has at most 127 nodes. Want of memory may come at any time.
+/// Reads a tree of cuts over 1 to `n`: the tree that the bytes stand for, or the first line
+/// outside the format with the kind of its fault. The tree fits `n`, its shores are not empty,
+/// and it has at most 127 nodes. Want of memory may come at any time.
 pub fn read_tree(alloc: Global, bytes: &[u8], n: u32) -> Result<Tree, TextFault>
     requires order { n ≤ MOST_VERTICES }
     requires length { length bytes.now < 2 ^ 32 - 1 }

@@ -1,4 +1,5 @@
--- Further edges at the end of the list of edges: the old ones keep their numbers and ends, and a degree grows by the new edges that are used.
+-- Further edges at the end of the list of edges: the old ones keep their numbers and ends, and a
+-- degree grows by the new edges that are used.
 use Rattle.std.proofs.Common.{◌≡◌, ℕ, suc, ◌+◌, ◌*◌, ◌-◌, ◌≤◌, Bool, true, false, ◌==◌, refl, sym, ap, ap₂, ◌∙◌, arith, ◌&&◌, ◌||◌, inl, inr, nat_lt, lt-ltb, le-ltb, [], ◌∷◌, ◌++◌, List, length, slice_index_or}
 use Rattle.std.proofs.lemmas.Bool.{cases_eq, or_right}
 use Rattle.std.proofs.lemmas.List.{length-append, get_or_append_left, get_or-append-add}

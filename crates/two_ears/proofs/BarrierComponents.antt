@@ -1,5 +1,6 @@
--- A barrier of a covered graph without further edges: each component is odd, and each perfect matching has one edge that leaves it. A
--- part of a barrier leaves no more components than it has vertices, and parts that leave as many have such a meet.
+-- A barrier of a covered graph without further edges: each component is odd, and each perfect
+-- matching has one edge that leaves it. A part of a barrier leaves no more components than it has
+-- vertices, and parts that leave as many have such a meet.
 use Rattle.std.proofs.Common.{◌≡◌, ℕ, suc, zero, ◌+◌, ◌*◌, ◌≤◌, ◌≢◌, Bool, true, false, refl, sym, ap, ◌∙◌, arith, ◌&&◌, ◌||◌, not, inl, inr, nat_lt, lt-ltb, List}
 use Rattle.counting.proofs.Booleans.{same_tests}
 use Rattle.std.proofs.lemmas.Bool.{cases_Bool, and_parts, and_from, both_ways, true≢false, false_from_ne_true, not-true}
@@ -86,7 +87,8 @@ module _ (g : Graph) (is : IsGraph g) (cov : IsCovered g) where
 
   module _ (s : Set) (bar : IsBarrier g s) (xs : List (ℕ × ℕ)) (h : KeepsEdges g xs) (a : Set) (less : (v : ℕ) → Within g.order v → a v ≡ true → s v ≡ true)
       (a0 : ℕ) (w0 : Within g.order a0) (in0 : a a0 ≡ true) where
-    -- the components of g without s in one of x without a: one for each vertex of s in it, and one for each edge of m that leaves it
+    -- the components of g without s in one of x without a: one for each vertex of s in it, and
+    -- one for each edge of m that leaves it
     pub exact : (u : ℕ) → Within g.order u → a u ≡ false → (m : Set) → IsPerfect g none m →
         count g.order (λ w. is_least g s w && joined (with_ends g xs) a u w) ≡ count g.order (λ v. joined (with_ends g xs) a u v && s v) + edges_in_cut g m (joined (with_ends g xs) a u)
     exact u wu ou m p =
@@ -220,7 +222,8 @@ module _ (g : Graph) (is : IsGraph g) (cov : IsCovered g) where
     meet_less : (v : ℕ) → Within g.order v → meet a b v ≡ true → s v ≡ true
     meet_less v w t = less_a v w (and_parts (a v) (b v) t).0
 
-    -- sets that leave as many components as they have vertices: so does their meet, if it has a vertex
+    -- sets that leave as many components as they have vertices: so does their meet, if it has a
+    -- vertex
     pub meet_full : component_count (with_ends g xs) a ≡ count g.order a → component_count (with_ends g xs) b ≡ count g.order b → (c : ℕ) → Within g.order c → a c ≡ true → b c ≡ true → component_count (with_ends g xs) (meet a b) ≡ count g.order (meet a b)
     meet_full fa fb c wc ac bc =
         let i = submodular (with_ends g xs) s a b h.graph apart less_a less_b in

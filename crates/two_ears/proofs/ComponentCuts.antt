@@ -1,5 +1,5 @@
--- The edges of a matching that leave the components without b, component by component: together they are those that leave b, and an odd
--- component has one.
+-- The edges of a matching that leave the components without b, component by component: together
+-- they are those that leave b, and an odd component has one.
 use Rattle.std.proofs.Common.{◌≡◌, ℕ, ◌+◌, ◌*◌, ◌≤◌, Bool, true, false, cond, refl, sym, ap, ◌∙◌, arith, ◌&&◌, ◌||◌, not, nat_lt, le_trans, le_of_eq, List}
 use Rattle.counting.proofs.Booleans.{same_tests}
 use Rattle.std.proofs.lemmas.Bool.{and_parts, and_from, both_ways, true≢false, false_from_ne_true, not-true}
@@ -161,7 +161,8 @@ odd_leaving g r m k is p out = ap is_odd (total_congr g.order _ _ (λ v w. each 
         same true = refl
         same false = refl
 
--- b holds r: the vertices of b are those of r, the edges that leave it, and two for each edge inside
+-- b holds r: the vertices of b are those of r, the edges that leave it, and two for each edge
+-- inside
 pub count_in : (g : Graph) (r m b : Set) → IsGraph g → IsPerfect g r m → ((v : ℕ) → Within g.order v → r v ≡ true → b v ≡ true) → count g.order b ≡ count g.order r + (edges_in_cut g m b + 2 * count (size g) (λ e. m e && inside g b e))
 count_in g r m b is p less = total_congr g.order _ _ (λ v w. each v w (r v) (b v) refl refl) ∙ total_add g.order (λ v. bit (r v)) (λ v. bit (b v) * degree g m v) ∙ ap (λ k. count g.order r + k) (degrees g is m b)
   where

@@ -1,5 +1,5 @@
--- The two-ear theorem for edges: of further edges that keep a covered graph covered one does, or two do. Take a perfect matching that
--- holds one of them.
+-- The two-ear theorem for edges: of further edges that keep a covered graph covered one does, or
+-- two do. Take a perfect matching that holds one of them.
 use Rattle.std.proofs.Common.{◌≡◌, ℕ, suc, zero, ◌+◌, ◌*◌, ◌≤◌, ◌≢◌, Bool, true, false, cond, ◌==◌, refl, sym, ap, ap₂, ◌∙◌, arith, ◌&&◌, ◌||◌, not, eqb-true, ◌⊎◌, inl, inr, nat_lt, lt-ltb, le-ltb, subst, [], ◌∷◌, List, length}
 use Rattle.std.proofs.lemmas.Bool.{cases_eq, cases_Bool, cases_lt, and_from, true≢false, not-false, or_right, or_cases, or_parts}
 use Rattle.counting.specs.Counts.{Within, bit}

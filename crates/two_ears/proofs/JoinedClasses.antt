@@ -1,5 +1,6 @@
--- Being joined without s is an equivalence, whose classes are the components without s and the vertices of s alone. So the number of
--- components is submodular over sets of vertices no two of which an edge joins.
+-- Being joined without s is an equivalence, whose classes are the components without s and the
+-- vertices of s alone. So the number of components is submodular over sets of vertices no two of
+-- which an edge joins.
 use Rattle.std.proofs.Common.{◌≡◌, ℕ, ◌+◌, ◌≤◌, ◌≢◌, Bool, true, false, ◌==◌, refl, sym, ap, ap₂, ◌∙◌, arith, ◌&&◌, not, eq-eqb, eqb-true, ◌⊎◌, inl, inr, nat_lt, ltb-true, [], ◌∷◌, List}
 use Rattle.std.proofs.lemmas.Bool.{cases_eq, and_parts, and_from, both_ways, true≢false, false_from_ne_true}
 use Rattle.counting.proofs.Counts.{count_meet_union}
@@ -90,7 +91,8 @@ joined_more g xs s a is h less u v wu wv = joined_steps g xs s a is h.graph (λ 
 pub keeps-itself : (g : Graph) → IsGraph g → KeepsEdges g g.ends
 keeps-itself g is = record { graph = is; old = λ e w. true_some (size g) (has_ends g (first_end g e) (second_end g e)) e w (has_ends-own g e) }
 
--- the number of components without a, for sets a of vertices no two of which an edge joins; loops do no harm
+-- the number of components without a, for sets a of vertices no two of which an edge joins; loops
+-- do no harm
 pub submodular : (g : Graph) (s a b : Set) → IsGraph g → ((e : ℕ) → Within (size g) e → first_end g e ≢ second_end g e → (s (first_end g e) && s (second_end g e)) ≡ false) →
     ((v : ℕ) → Within g.order v → a v ≡ true → s v ≡ true) → ((v : ℕ) → Within g.order v → b v ≡ true → s v ≡ true) →
     component_count g a + component_count g b ≤ component_count g (union a b) + component_count g (meet a b)

@@ -1,5 +1,5 @@
--- Partitions of 1 to n as labels: how many labels are in use? A coarser partition has no more of them, and one that joins
--- two classes of the other has one less.
+-- Partitions of 1 to n as labels: how many labels are in use? A coarser partition has no more of
+-- them, and one that joins two classes of the other has one less.
 use Rattle.std.proofs.Common.{◌≡◌, ℕ, ◌+◌, ◌≤◌, ◌≢◌, Bool, true, false, cond, ◌==◌, refl, sym, ap, ◌∙◌, arith, ◌&&◌, not, eq-eqb, ne_eqb, eqb-true, ◌⊎◌, inl, inr, le_trans, le_of_eq}
 use Rattle.counting.proofs.Booleans.{same_tests}
 use Rattle.std.proofs.lemmas.Bool.{cases_eq, cases_Bool, and_parts, and_from, both_ways, false_from_ne_true, not-true}

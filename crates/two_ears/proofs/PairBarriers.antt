@@ -1,5 +1,6 @@
--- A pair outside a barrier that serves together with no pair inside: some part of the barrier leaves as many components as it has
--- vertices and joins the two vertices of the pair. So it is for a list of pairs at once.
+-- A pair outside a barrier that serves together with no pair inside: some part of the barrier
+-- leaves as many components as it has vertices and joins the two vertices of the pair. So it is
+-- for a list of pairs at once.
 use Rattle.std.proofs.Common.{◌≡◌, ℕ, suc, ◌+◌, ◌*◌, ◌≤◌, ◌≢◌, Bool, true, false, ◌==◌, refl, sym, ap, ap₂, ◌∙◌, arith, ◌&&◌, ◌||◌, not, eq-eqb, eqb-true, inl, inr, nat_lt, lt-ltb, le-ltb, [], ◌∷◌, ◌++◌, List}
 use Rattle.std.proofs.lemmas.Bool.{cases_eq, cases_Bool, and_parts, and_from, both_ways, true≢false, false_from_ne_true, or_left, or_parts, or_cases}
 use Rattle.barrier_kit.proofs.Barriers.{equivalent_barrier}
@@ -24,7 +25,8 @@ use Rattle.counting.specs.Lists.{IsIn}
 use Rattle.counting.proofs.Booleans.{but_not}
 use Rattle.two_ears.specs.VertexPairs.{vertices_of}
 
--- a part b of s that holds u and v, leaves as many components as it has vertices, and keeps x and y together
+-- a part b of s that holds u and v, leaves as many components as it has vertices, and keeps x and
+-- y together
 pub record PairBarrier (g : Graph) (s : Set) (u v : ℕ) (P : Set → Type 0) : Type 0 where
   pub b : Set
   pub less : (w : ℕ) → Within g.order w → b w ≡ true → s w ≡ true

@@ -1,5 +1,6 @@
--- The two-ear theorem. If no pair serves alone and no two do together, each pair lies in a class or outside it; the parts of a class that
--- keep the pairs outside joined are united, and the union leaves too many components.
+-- The two-ear theorem. If no pair serves alone and no two do together, each pair lies in a class
+-- or outside it; the parts of a class that keep the pairs outside joined are united, and the
+-- union leaves too many components.
 use Rattle.std.proofs.Common.{◌≡◌, ℕ, suc, zero, ◌+◌, ◌*◌, ◌≤◌, ◌≢◌, Bool, true, false, cond, ◌==◌, refl, sym, ap, ◌∙◌, arith, ◌&&◌, ◌||◌, not, eq-eqb, ne_eqb, eqb-true, ◌⊎◌, inl, inr, subst, [], ◌∷◌, List, length}
 use Rattle.counting.proofs.Booleans.{same_tests}
 use Rattle.std.proofs.lemmas.Bool.{cases_eq, and_left, true≢false, not-true, not-false, or_left, or_right, or_cases}

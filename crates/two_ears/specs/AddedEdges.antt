@@ -1,4 +1,4 @@
--- A graph with further edges, which get the numbers behind those of its own.
+-- A graph with further edges, which get the numbers after those of its own.
 use Rattle.std.specs.Prelude.{◌≡◌, ℕ, true, List, [], ◌∷◌, ◌++◌}
 use Rattle.counting.specs.Counts.{Within}
 use Rattle.counting.specs.Tests.{some}

@@ -1,4 +1,5 @@
--- The images of blocks: what of a set lies in 1 to n is the list of its test, and from such lists the names of images are made.
+-- The images of blocks: what of a set lies in 1 to n is the list of its test, and from such lists
+-- the names of images are made.
 use Rattle.std.proofs.Common.{◌≡◌, ◌↔◌, ◌<◌, ◌+◌, ℕ, Bool, true, ◌&&◌, List, [], ◌∷◌, ◌++◌, Some, length, map, take, get_or, slice_get, ap, sym, ◌∙◌}
 use Rattle.std.proofs.lemmas.Bool.{and_parts}
 use Rattle.std.proofs.lemmas.List.{map-append, take_more}

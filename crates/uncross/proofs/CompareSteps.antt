@@ -1,5 +1,5 @@
--- The steps of turning a derivation into another, as the code takes them: what its two calls below the root may ask, and that the whole
--- is a script of few moves.
+-- The steps of turning a derivation into another, as the code takes them: what its two calls
+-- below the root may ask, and that the whole is a script of few moves.
 use Rattle.std.proofs.Common.{◌≡◌, ℕ, ◌+◌, ◌*◌, ◌≤◌, List, ◌++◌, length, map, sym, arith, subst}
 use Rattle.graph_core.specs.Covered.{IsCovered}
 use Rattle.graph_core.specs.Graph.{Graph, IsGraph}
@@ -25,8 +25,8 @@ both_leaves g n p (cut x a b) t is e list cov l ds dt =
     let st = stage_of g n p is e list cov in
     absurd (leaf_not g p x st (subst (IsDerivationAt g p) l dt) (cut_big g p st x ds.0.set ds.0) ds.0.canonical)
 
--- where the shore y of t was exposed in s: what may be asked of the two pairs of trees below it, and that the moves that turn the one
--- into the other make a script of few moves from s to t
+-- where the shore y of t was exposed in s: what may be asked of the two pairs of trees below it,
+-- and that the moves that turn the one into the other make a script of few moves from s to t
 pub record IsCompared (g : Graph) (p : List (List ℕ)) (s t : Shape) (y : List ℕ) (k1 r1 k2 r2 : Shape) (ms : List PlainMove) : Type 0 where
   pub kept : (q : List (List ℕ)) (a b : Shape) → q ≡ kept_at g.order p y → a ≡ k1 → b ≡ k2 → IsDerivationAt g q a × IsDerivationAt g q b
   pub merged : (q : List (List ℕ)) (a b : Shape) → q ≡ merged_at g.order p y → a ≡ r1 → b ≡ r2 → IsDerivationAt g q a × IsDerivationAt g q b

@@ -1,5 +1,5 @@
--- The steps of exposing a shore in a tree, as the code takes them: what its two calls below the root may ask, that what comes back fits,
--- and that the whole is exposed.
+-- The steps of exposing a shore in a tree, as the code takes them: what its two calls below the
+-- root may ask, that what comes back fits, and that the whole is exposed.
 use Rattle.std.proofs.Common.{◌≡◌, ℕ, List, Option, Some, None, sym, ap, ◌∙◌, subst}
 use Rattle.contraction.proofs.QuotientLaws.{covered_down}
 use Rattle.graph_core.specs.Covered.{IsCovered}
@@ -24,7 +24,7 @@ stage_of g n p is e list cov =
     let at = subst (λ n. IsPartition n p) e list in
     record { graph = is; list = at; covered = covered_down g p is at.partition cov }
 
--- a derivation at the root of which there is a shore to expose is no leaf
+-- a derivation at the root of which there is a shore to expose is not a leaf
 pub leaf_exposes : (g : Graph) (n : ℕ) (p : List (List ℕ)) (y : List ℕ) (s : Shape) (t : Shape) (o : Option (List ℕ)) → IsGraph g → n ≡ g.order → IsPartition n p → IsCovered (quotient g p) → s ≡ leaf → IsDerivationAt g p s → o ≡ Some y → CutIf g p o → IsExposed g p s o t None
 leaf_exposes g n p y s t o is e list cov l d so c =
     let st = stage_of g n p is e list cov in

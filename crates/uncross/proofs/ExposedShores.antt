@@ -1,4 +1,5 @@
--- What exposing a shore in a derivation of a graph gives: a script of few moves to a derivation with the shore at its root.
+-- What exposing a shore in a derivation of a graph gives: a script of few moves to a derivation
+-- with the shore at its root.
 use Rattle.std.proofs.Common.{List, None, Option, Some, ap, arith, option_map, subst, subst₂, sym, unwrap_or, ℕ, ◌≡◌, ◌∙◌}
 use Rattle.graph_core.specs.Graph.{Graph}
 use Rattle.graph_core.specs.Partitions.{singles}
@@ -35,7 +36,7 @@ brought g p s y t found other ms e h x k l is =
     let same : cut y k l ≡ t = ap (λ (r : Shape). cut y (left_of r) (right_of r)) (sym is ∙ up.root.2) ∙ sym up.root.2 in
     record { script = subst (IsProperScript g p s (moves_of ms)) (sym same) up.script; few = up.few }
 
--- and it is no leaf
+-- and it is not a leaf
 pub brought_no_leaf : (g : Graph) (p : List (List ℕ)) (s : Shape) (y : List ℕ) (t : Shape) (found : Option (List Move)) (other ms : List Move) → ms ≡ unwrap_or found other → IsExposed g p s (Some y) t (option_map moves_of found) →
     t ≡ leaf → (k l : Shape) → IsBrought g p s y k l (moves_of ms)
 brought_no_leaf g p s y t found other ms e h is k l =

@@ -1,5 +1,5 @@
--- Two pairings, one after the other, can be composed: each map of the first leads to a leaf of the second, by names of blocks that have a
--- place there.
+-- Two pairings, one after the other, can be composed: each map of the first leads to a leaf of
+-- the second, by names of blocks that have a place there.
 use Rattle.std.proofs.Common.{All, List, [], ◌∙◌, ◌∷◌, ap, ap₂, arith, get_or, length, map, refl, subst, subst₂, sym, ℕ, ◌+◌, ◌-◌, ◌≡◌, ◌≤◌}
 use Rattle.std.proofs.lemmas.List.{length-map}
 use Rattle.std.proofs.lemmas.List.Elements.{All-from_get_or}

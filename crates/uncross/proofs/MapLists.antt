@@ -1,5 +1,6 @@
--- Lists of leaf maps, by induction: the maps from two lists of names, one behind the other, are those from the joined list, where
--- the second begins with the number that the first has come to. At a cut the names of the leaves are such a joined list.
+-- Lists of leaf maps, by induction: the maps from two lists of names, one after the other, are
+-- those from the joined list, where the second begins with the number that the first has come to.
+-- At a cut the names of the leaves are such a joined list.
 use Rattle.std.proofs.Common.{◌≡◌, ℕ, ◌+◌, List, [], ◌∷◌, ◌++◌, Result, OnOk, length, ap, subst, refl, sym, ◌∙◌, arith, append_assoc}
 use Rattle.std.proofs.lemmas.List.{length-append, length-map}
 use Rattle.std.proofs.lemmas.Result.{on_ok_weaker}

@@ -1,4 +1,5 @@
--- A list made of another, item by item from its front: what is made so far, followed by what the rest gives, is the whole.
+-- A list made of another, item by item from its front: what is made so far, followed by what the
+-- rest gives, is the whole.
 use Rattle.std.proofs.Common.{All, List, [], ap, map, sym, ◌++◌, ◌∙◌, ◌∷◌, ◌≡◌}
 use Rattle.std.proofs.lemmas.List.{append_assoc}
 use Rattle.std.proofs.lemmas.List.Elements.{All-rest}

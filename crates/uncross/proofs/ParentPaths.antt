@@ -1,4 +1,5 @@
--- The order of the leaves under a Rotate: its path taken apart before the last step, where the path of the parent ends.
+-- The order of the leaves under a Rotate: its path taken apart before the last step, where the
+-- path of the parent ends.
 use Rattle.std.proofs.Common.{◌≡◌, ℕ, List, [], ◌∷◌, ◌++◌, ap, ap₂, refl, ◌∙◌}
 use Rattle.tree_core.proofs.RotateSteps.{last_step-end, parent_path-end}
 use Rattle.tree_core.specs.LeafMaps.{move_order, order_at, rotate_order}

@@ -1,4 +1,5 @@
--- The place of a vertex among the blocks from one on: the first of them where it holds the vertex, and else one more than among the rest.
+-- The place of a vertex among the blocks from one on: the first of them where it holds the
+-- vertex, and else one more than among the rest.
 use Rattle.std.proofs.Common.{Bool, List, Some, [], ap, arith, cond, drop, false, get_or, sym, true, ℕ, ◌+◌, ◌-◌, ◌∙◌, ◌≡◌}
 use Rattle.std.proofs.lemmas.List.{at_drop_more}
 use Rattle.std.proofs.lemmas.Option.{get_or_from_slice_get, slice_get_within}

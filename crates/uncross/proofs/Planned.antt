@@ -1,4 +1,5 @@
--- The plan for exposing a shore is carried out: what is exposed first in the two trees is a cut there, and then the root is the shore.
+-- The plan for exposing a shore is carried out: what is exposed first in the two trees is a cut
+-- there, and then the root is the shore.
 use Rattle.std.proofs.Common.{◌≡◌, ℕ, ◌≤◌, ◌<◌, Bool, true, false, not, ◌&&◌, List, [], ◌∷◌, ◌++◌, map, Option, Some, None, ◌⊎◌, inl, inr, if◌then◌else◌, nat_lt, refl, sym, ap, ap₂, ◌∙◌, arith, subst}
 use Rattle.std.proofs.lemmas.Bool.Decides.{nat_tests}
 use Rattle.std.proofs.lemmas.Bool.{not-true}

@@ -40,8 +40,9 @@ derivation_script_pairs g s t ms is d w = script_pairs g s t ms (singles_stage g
 pub script_derives : (g : Graph) (s t : Shape) (ms : List PlainMove) → IsDerivation g s → IsProperScript g (singles g.order) s ms t → IsDerivation g t
 script_derives g s t ms d w = record { covered = d.covered; derives = (script_end g (singles g.order) s ms t d.derives (rising-derivation_at g (singles g.order) s d.derives) w).0 }
 
--- after some moves of a script on the tree `first`: the tree `current` is a derivation, the moves left lead on from it, the maps pair
--- the leaves of the first tree with its leaves, and followed by the maps of the moves left they are those of the script
+-- after some moves of a script on the tree `first`: the tree `current` is a derivation, the moves
+-- left lead on from it, the maps pair the leaves of the first tree with its leaves, and followed
+-- by the maps of the moves left they are those of the script
 pub record Remains (g : Graph) (first current : Shape) (ms left : List PlainMove) (maps : List PlainLeafMap) : Type 0 where
   pub derives : IsDerivation g current
   pub script : (t : Shape) × IsProperScript g (singles g.order) current left t

@@ -12,7 +12,7 @@ pub after_raised : (f : Shape → Option PlainTurned) (o : Option PlainTurned) (
 after_raised f None up after before none h s e = absurd (none-some _ e)
 after_raised f (Some q) up after before none h s e = let m = h q refl in ap₂ (λ (ms : List PlainMove) (t : Shape). followed ms (f t)) (m.1 ∙ ap (λ (ms : List PlainMove). ms ++ q.moves) none) m.0 ∙ e
 
--- a turned child of the root, and its root brought up, behind other moves
+-- a turned child of the root, and its root brought up, after other moves
 pub raised_after : (o : Option PlainTurned) (t : PlainTurned) → ((s : PlainTurned) → o ≡ Some s → t ≡ s) → (top : List ℕ) (c tree : Shape) (before after : List PlainMove) →
     ((s : PlainTurned) → followed (map (below Merged) t.moves) (raised Merged (cut top c t.tree)) ≡ Some s → IsMade tree after before s) → (s : PlainTurned) → followed before (option_and_then (λ w. raised_merged top c w) o) ≡ Some s → record { tree = tree; moves = after } ≡ s
 raised_after None t h top c tree before after r s e = absurd (none-some _ e)

@@ -17,7 +17,8 @@ pub record IsNamed (q : List (List ℕ)) (names : List ℕ) (b : ℕ) : Type 0 w
   pub within : Within 128 b
   pub given : Within (length names) (place q b)
 
--- a leaf map to one of the leaves qs, by names of its blocks, each of which the leaf's own map gives a name
+-- a leaf map to one of the leaves qs, by names of its blocks, each of which the leaf's own map
+-- gives a name
 pub record IsFollowed (qs : List (List (List ℕ))) (seconds : List PlainLeafMap) (first : PlainLeafMap) : Type 0 where
   pub within : Within (length qs) first.to
   pub named : All (IsNamed (leaf_at qs first.to) (map_at seconds first.to).images) first.images

@@ -15,7 +15,8 @@ map_of m = record { to = m.to; images = m.images }
 abbrev pub maps_of : List LeafMap → List PlainLeafMap
 maps_of ms = map map_of ms
 
--- the image of a block t: what of it stays; what is gained, if t contains what leaves; and what comes, if t contains the far side
+-- the image of a block t: what of it stays; what is gained, if t contains what leaves; and what
+-- comes, if t contains the far side
 abbrev pub moved_image : ℕ → (staying leaving gained far coming t : List ℕ) → List ℕ
 moved_image n staying leaving gained far coming t =
     union_list n (meet_list n t staying) (union_list n (list_if (is_subset leaving t) gained) (list_if (is_subset far t) coming))

@@ -1,4 +1,5 @@
--- How a shore y is exposed in a tree with the root shore x: what is exposed first in its two trees, and what is done at the root then.
+-- How a shore y is exposed in a tree with the root shore x: what is exposed first in its two
+-- trees, and what is done at the root then.
 use Rattle.std.specs.Prelude.{◌≡◌, ◌+◌, ◌*◌, ◌≤◌, ℕ, true, false, List, [], length, Option, Some, None, ◌⊎◌, if◌then◌else◌, nat_lt}
 use Rattle.counting.specs.Lists.{is_apart, is_subset, mem}
 use Rattle.graph_core.specs.Graph.{Graph}
@@ -10,8 +11,9 @@ use Rattle.move_laws.specs.Corners.{outer_of, outer_shore, partner}
 use Rattle.move_laws.specs.Scripts.{IsProperScript}
 use Rattle.move_laws.specs.Turning.{PlainTurned, over_inner, raised_kept, raised_merged}
 
--- y is the root shore; or it is exposed in `kept` or in `merged` first; or it crosses the root shore with the corners u and v, of which
--- those with three blocks or more are exposed first, as the shores inner and outer
+-- y is the root shore; or it is exposed in `kept` or in `merged` first; or it crosses the root
+-- shore with the corners u and v, of which those with three blocks or more are exposed first, as
+-- the shores inner and outer
 pub data PlainPlan : Type 0 where
   here : PlainPlan
   in_kept : PlainPlan
@@ -57,7 +59,8 @@ abbrev pub CutIf : Graph → List (List ℕ) → Option (List ℕ) → Type 0
 CutIf g p None = Unit {0}
 CutIf g p (Some y) = IsCutAt g p y
 
--- the tree t is s where nothing is to be exposed, and else one that has the shore at its root, with a script of few moves from s
+-- the tree t is s where nothing is to be exposed, and else one that has the shore at its root,
+-- with a script of few moves from s
 abbrev pub IsExposed : Graph → List (List ℕ) → Shape → Option (List ℕ) → Shape → Option (List PlainMove) → Type 0
 IsExposed g p s None t None = t ≡ s
 IsExposed g p s None t (Some ms) = ⊥

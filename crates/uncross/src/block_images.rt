@@ -64,7 +64,8 @@ fn minus_of(x: VSet, y: VSet, n: u32) -> VSet
     part_within(x.minus(y), n)
 }
 
-/// The images of the blocks below `kept` of a cut with the shore x, where u leaves the shore and v comes in its place.
+/// The images of the blocks below `kept` of a cut with the shore x, where u leaves the shore and
+/// v comes in its place.
 pub fn kept_images(n: u32, x: VSet, u: VSet, v: VSet) -> Images
     requires { n ≤ MOST_VERTICES }
     ensures { result ≡ kept_images n x u v }
@@ -79,7 +80,8 @@ pub fn kept_images(n: u32, x: VSet, u: VSet, v: VSet) -> Images
     }
 }
 
-/// The images of the blocks below `merged` of a cut with the shore x, where u leaves the shore and v comes in its place.
+/// The images of the blocks below `merged` of a cut with the shore x, where u leaves the shore
+/// and v comes in its place.
 pub fn merged_images(n: u32, x: VSet, u: VSet, v: VSet) -> Images
     requires { n ≤ MOST_VERTICES }
     ensures { result ≡ merged_images n x u v }

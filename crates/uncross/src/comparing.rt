@@ -82,7 +82,7 @@ fn bring(
     }
 }
 
-// Moves, and behind them those made in the two trees below the root, each one step further down.
+// Moves, and after them those made in the two trees below the root, each one step further down.
 fn with_both(alloc: Global, moves: Moves, kept: Moves, merged: Moves) -> Result<Moves, Memory>
     ensures { IfOk result
         (λ ms. moves_of ms ≡ (moves_of moves ++ map (below Side.Kept) (moves_of kept)) ++
@@ -94,8 +94,9 @@ fn with_both(alloc: Global, moves: Moves, kept: Moves, merged: Moves) -> Result<
     Ok(all)
 }
 
-/// The moves that turn the first derivation at p into the second, through derivations at p: the root shore of the second is exposed in
-/// the first, then the same is done in the two trees `kept`, and then in the two trees `merged`.
+/// The moves that turn the first derivation at p into the second, through derivations at p: the
+/// root shore of the second is exposed in the first, then the same is done in the two trees
+/// `kept`, and then in the two trees `merged`.
 pub fn compare_at(
     alloc: Global,
     g: &MultiGraph,
@@ -134,9 +135,9 @@ pub fn compare_at(
     }
 }
 
-/// The moves that turn the first derivation of the graph into the second, in order and with paths from the root of the whole tree.
-/// Each Switch among them is proper, and each tree between is a derivation of the graph. There are at most 5 c * c moves for a tree of c
-/// cuts.
+/// The moves that turn the first derivation of the graph into the second, in order and with paths
+/// from the root of the whole tree. Each Switch among them is proper, and each tree between is a
+/// derivation of the graph. There are at most 5 c * c moves for a tree of c cuts.
 pub fn moves_between(
     alloc: Global,
     g: &MultiGraph,
@@ -164,17 +165,19 @@ pub fn moves_between(
 /// How the leaves of two derivations of a graph are paired, and the moves between them.
 #[derive(Drop)]
 pub struct Pairing {
-    /// One map for each leaf of the first tree in preorder: the place of its partner among the leaves of the second, and for each of
-    /// its blocks the name of a block of the partner.
+    /// One map for each leaf of the first tree in preorder: the place of its partner among the
+    /// leaves of the second, and for each of its blocks the name of a block of the partner.
     pub maps: LeafMaps,
-    /// The moves that turn the first tree into the second, in order and with paths from the root of the whole tree.
+    /// The moves that turn the first tree into the second, in order and with paths from the root
+    /// of the whole tree.
     pub moves: Moves,
 }
 
-/// Compares two derivations of a graph: pairs each leaf of the first with one of the second, each with its partner the same leaf by
-/// names of blocks (Lovász 1987), and answers moves that turn the first tree into the second. The maps are those of the moves, each
-/// tree between is a derivation of the graph, and there are at most 5 c * c moves for a first tree of c cuts. The only error is
-/// `Memory`.
+/// Compares two derivations of a graph: pairs each leaf of the first with one of the second, each
+/// with its partner the same leaf by names of blocks (Lovász 1987), and answers moves that turn
+/// the first tree into the second. The maps are those of the moves, each tree between is a
+/// derivation of the graph, and there are at most 5 c * c moves for a first tree of c cuts. The
+/// only error is `Memory`.
 pub fn compare(
     alloc: Global,
     g: &MultiGraph,

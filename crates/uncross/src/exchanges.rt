@@ -1,4 +1,5 @@
-//! What a move does below a node: how the blocks of the leaves there go over to blocks of their partners.
+//! What a move does below a node: how the blocks of the leaves there go over to blocks of their
+//! partners.
 ghost use Rattle.std.specs.Prelude.{◌≡◌, ◌≤◌, ◌++◌, ◌∷◌, ℕ, List, [], map};
 ghost use Rattle.tree_core.specs.Derivations.{kept_at, merged_at};
 ghost use Rattle.tree_core.specs.Shapes.{Shape, cut, leaf};
@@ -36,8 +37,8 @@ impl Exchange {
         }
     }
 
-    /// Where the node is a cut over 1 to `n` with this shore: the path behind its first step, and what happens below `kept` and
-    /// below `merged`.
+    /// Where the node is a cut over 1 to `n` with this shore: the path after its first step, and
+    /// what happens below `kept` and below `merged`.
     pub fn at_cut<'a>(
         &self,
         path: &'a [Side],

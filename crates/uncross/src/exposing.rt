@@ -170,8 +170,8 @@ pub struct Exposed {
     pub tree: Tree,
     /// The moves that turn the tree as it was into this one, in order and with paths from the root.
     pub moves: Moves,
-    /// One map for each leaf of the tree as it was, in preorder: the place of its partner among the leaves of this one, and for each
-    /// of its blocks the name of a block of the partner.
+    /// One map for each leaf of the tree as it was, in preorder: the place of its partner among
+    /// the leaves of this one, and for each of its blocks the name of a block of the partner.
     pub maps: LeafMaps,
 }
 
@@ -189,9 +189,10 @@ fn bring_up(alloc: Global, g: &MultiGraph, tree: Tree, shore: VSet) -> Result<Tu
     Ok(Turned { tree, moves })
 }
 
-/// Brings a canonical nontrivial tight shore to the root of a derivation of a graph by moves, through derivations, and pairs each leaf
-/// of the tree with one of the new tree by the maps of these moves. There are at most 5 c moves for a tree of c cuts. The only error
-/// is `Memory`; after it the tree is given up.
+/// Brings a canonical nontrivial tight shore to the root of a derivation of a graph by moves,
+/// through derivations, and pairs each leaf of the tree with one of the new tree by the maps of
+/// these moves. There are at most 5 c moves for a tree of c cuts. The only error is `Memory`;
+/// after it the tree is given up.
 pub fn expose(alloc: Global, g: &MultiGraph, tree: Tree, shore: VSet) -> Result<Exposed, Memory>
     requires derives { IsDerivation g.now (shape_of tree) }
     requires shore { IsCutAt g.now (singles g.now.order) shore }

@@ -1,4 +1,5 @@
-//! Leaf maps: where each leaf of a tree goes, and its blocks; and what two of them, one after the other, give.
+//! Leaf maps: where each leaf of a tree goes, and its blocks; and what two of them, one after the
+//! other, give.
 ghost use Rattle.std.specs.Prelude.{◌≡◌, length, ◌+◌, All, IfOk, map};
 ghost use Rattle.counting.specs.Counts.{Within};
 ghost use Rattle.graph_core.specs.Partitions.{place};
@@ -16,7 +17,8 @@ use vset_core::MOST_VERTICES;
 /// The map of one leaf.
 #[derive(Drop)]
 pub struct LeafMap {
-    /// The place of the leaf's partner among the leaves of the other tree, counted from 1 in preorder.
+    /// The place of the leaf's partner among the leaves of the other tree, counted from 1 in
+    /// preorder.
     pub to: u32,
     /// For each block of the leaf, in order, the name of its image.
     pub images: Numbers,
@@ -84,7 +86,8 @@ fn map_after(
     })
 }
 
-/// Leaf maps followed by the leaf maps `seconds` of their partners, which stand at the partitions `leaves`.
+/// Leaf maps followed by the leaf maps `seconds` of their partners, which stand at the partitions
+/// `leaves`.
 pub(crate) fn followed_by(
     alloc: Global,
     firsts: &LeafMaps,

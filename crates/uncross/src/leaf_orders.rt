@@ -1,4 +1,5 @@
-//! The order of the leaves under a move: the old numbers of the leaves in the order of the new tree.
+//! The order of the leaves under a move: the old numbers of the leaves in the order of the new
+//! tree.
 ghost use Rattle.std.specs.Prelude.{◌≡◌, ◌≤◌, ◌+◌, ◌++◌, IfOk, OnOk, length};
 ghost use Rattle.tree_core.specs.LeafMaps.{kept_order_if_greatest_stays, move_order, numbers, order_at, rotate_order, switch_order};
 ghost use Rattle.tree_core.specs.MoveView.{move_of};
@@ -35,8 +36,8 @@ pub fn push_numbers(order: &mut Numbers, k: u32, count: u32) -> Result<(), Memor
     Ok(())
 }
 
-// Appends the order below `kept` where the greatest vertex stays: where a shore contains u the two trees change places. k leaves stand
-// before the tree.
+// Appends the order below `kept` where the greatest vertex stays: where a shore contains u the
+// two trees change places. k leaves stand before the tree.
 fn push_kept_order(order: &mut Numbers, u: VSet, k: u32, tree: &Tree) -> Result<(), Memory>
     requires { k + leaf_count (shape_of tree.now) ≤ 255 }
     ensures order { OnOk result

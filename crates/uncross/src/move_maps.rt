@@ -69,7 +69,8 @@ fn split(alloc: Global, p: &Partition, shore: VSet) -> Result<PartitionsBelow, M
     Ok(PartitionsBelow { kept, merged })
 }
 
-// Appends the maps of the leaves of the tree at p, below whose root this happens, at the end of the path.
+// Appends the maps of the leaves of the tree at p, below whose root this happens, at the end of
+// the path.
 fn push_leaves(
     alloc: Global,
     tree: &Tree,
@@ -106,7 +107,8 @@ fn push_leaves(
     }
 }
 
-// The maps of the leaves of a tree, with the order of the new tree and what happens below the root, at the end of the path.
+// The maps of the leaves of a tree, with the order of the new tree and what happens below the
+// root, at the end of the path.
 fn maps_with(
     alloc: Global,
     n: u32,
@@ -150,8 +152,8 @@ pub fn own_maps(alloc: Global, n: u32, tree: &Tree) -> Result<LeafMaps, Memory>
     maps_with(alloc, n, tree, &[], &Exchange::Made(Images::Own), &order)
 }
 
-/// The maps of a move that has a result on the tree: for each leaf, in preorder, its place among the leaves of the result and the
-/// names of the images of its blocks.
+/// The maps of a move that has a result on the tree: for each leaf, in preorder, its place among
+/// the leaves of the result and the names of the images of its blocks.
 #[tactic(auto, unfolding(tree_core::specs::LeafMaps::move_maps))]
 pub fn move_maps(alloc: Global, n: u32, tree: &Tree, m: &Move) -> Result<LeafMaps, Memory>
     requires order { n ≤ MOST_VERTICES }
@@ -208,8 +210,8 @@ fn maps_onward(
     Ok(after)
 }
 
-/// The maps of a script of moves that leads through derivations of the graph, each Switch proper: where each leaf of the tree goes,
-/// and its blocks.
+/// The maps of a script of moves that leads through derivations of the graph, each Switch proper:
+/// where each leaf of the tree goes, and its blocks.
 pub fn script_maps(
     alloc: Global,
     g: &MultiGraph,

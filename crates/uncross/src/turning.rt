@@ -82,8 +82,8 @@ fn switch_root(alloc: Global, n: u32, tree: Tree, u: VSet, v: VSet) -> Result<Tu
     }
 }
 
-// With the outer corner, or its complement, at the root: u and v are exchanged in the child that holds x, and its new root is brought
-// up. The moves made so far come first.
+// With the outer corner, or its complement, at the root: u and v are exchanged in the child that
+// holds x, and its new root is brought up. The moves made so far come first.
 fn switch_below(
     alloc: Global,
     n: u32,
@@ -124,7 +124,8 @@ fn switch_below(
     }
 }
 
-// The shore of u and v is brought to the root x: at once, or after moves in `merged` that brought the outer corner to its root.
+// The shore of u and v is brought to the root x: at once, or after moves in `merged` that brought
+// the outer corner to its root.
 fn turn_over_outer(
     alloc: Global,
     n: u32,
@@ -157,8 +158,8 @@ fn turn_over_outer(
     }
 }
 
-// With the inner corner at the root: the shore of u and v is brought to the root of the child that holds x, and then up. The moves
-// made so far come first.
+// With the inner corner at the root: the shore of u and v is brought to the root of the child
+// that holds x, and then up. The moves made so far come first.
 fn turn_below_inner(
     alloc: Global,
     n: u32,
@@ -213,8 +214,9 @@ fn turn_below_inner(
     }
 }
 
-/// The shore of u and v is brought to the root x, after moves in `kept` that brought the inner corner to its root, if any, and moves in
-/// `merged` that brought the outer corner to its root, if any.
+/// The shore of u and v is brought to the root x, after moves in `kept` that brought the inner
+/// corner to its root, if any, and moves in `merged` that brought the outer corner to its root,
+/// if any.
 pub fn turn_over_inner(
     alloc: Global,
     n: u32,

@@ -1,5 +1,6 @@
--- The least and the greatest member, and the least above a number, by the places of ones in the word: a one with zeros before it,
--- a one with nothing above it, and the lowest one after a shift. The word of all numbers 1 to n has ones below n.
+-- The least and the greatest member, and the least above a number, by the places of ones in the
+-- word: a one with zeros before it, a one with nothing above it, and the lowest one after a
+-- shift. The word of all numbers 1 to n has ones below n.
 use Rattle.std.proofs.Common.{◌≡◌, ℕ, zero, suc, ◌+◌, ◌-◌, ◌*◌, ◌/◌, ◌%◌, ◌^◌, ◌≤◌, ◌<◌, List, [], ◌↔◌, refl, sym, ◌∙◌, ap, arith, true, false, subst, inl, inr}
 use Rattle.std.specs.Int.{bit_at, w128, trailing_zeros}
 use Rattle.std.specs.Int.Count.{count_leading_zeros}
@@ -14,7 +15,7 @@ use Rattle.vset_core.specs.Words.{in_word, members}
 use Rattle.vset_core.specs.WordLaws.{members-rise, mem-members}
 use Rattle.vset_core.proofs.Words.{members-zero, seen}
 
--- a bit that is 0 is no member
+-- a bit that is 0 is not a member
 no_bit : (word v : ℕ) → ((i : ℕ) → v ≡ suc i → bit_at word i ≡ 0) → in_word word v ≡ false
 no_bit word zero h = refl
 no_bit word (suc i) h = rw (h i refl) refl

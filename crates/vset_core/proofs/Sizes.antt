@@ -1,5 +1,5 @@
--- A word has as many ones as its set has members: with one bit more at the top, the ones below and that bit are counted apart,
--- as the members up to n and the number n + 1 are.
+-- A word has as many ones as its set has members: with one bit more at the top, the ones below
+-- and that bit are counted apart, as the members up to n and the number n + 1 are.
 use Rattle.std.proofs.Common.{◌≡◌, ℕ, zero, suc, ◌+◌, ◌-◌, ◌*◌, ◌/◌, ◌%◌, ◌^◌, ◌<◌, ◌==◌, length, refl, sym, ◌∙◌, ap, arith, subst}
 use Rattle.std.specs.Int.Count.{ones, ones_cat}
 use Rattle.std.proofs.lemmas.Nat.{mod_below, pow_pos, shr_below, shr_split}

@@ -11,7 +11,8 @@ use std::marker::Model;
 /// The most vertices that a graph may have.
 pub const MOST_VERTICES: u32 = 128;
 
-/// A set of numbers from 1 to `MOST_VERTICES`, which contracts see as the list of its members in rising order.
+/// A set of numbers from 1 to `MOST_VERTICES`, which contracts see as the list of its members in
+/// rising order.
 #[derive(Clone, Copy)]
 pub struct VSet {
     word: u128,
@@ -63,7 +64,8 @@ impl VSet {
         }
     }
 
-    /// The law that the members rise and lie from 1 to `MOST_VERTICES`. It does nothing: a caller states it where it needs it.
+    /// The law that the members rise and lie from 1 to `MOST_VERTICES`. It does nothing: a caller
+    /// states it where it needs it.
     pub fn rises(self)
         ensures { IsRisingIn MOST_VERTICES self }
     {
@@ -139,7 +141,7 @@ impl VSet {
         self.word.count_ones()
     }
 
-    /// The least member; `None` exactly where the set is empty.
+    /// The least member; `None` exactly when the set is empty.
     pub fn first(self) -> Option<u32>
         ensures some { IfSome result (IsLeastOf self) }
         ensures within { IfSome result (Within MOST_VERTICES) }
@@ -151,7 +153,7 @@ impl VSet {
         Some(self.word.trailing_zeros() + 1)
     }
 
-    /// The greatest member; `None` exactly where the set is empty.
+    /// The greatest member; `None` exactly when the set is empty.
     pub fn last(self) -> Option<u32>
         ensures some { IfSome result (IsGreatestOf self) }
         ensures within { IfSome result (Within MOST_VERTICES) }
@@ -163,7 +165,7 @@ impl VSet {
         Some(u128::BITS - self.word.leading_zeros())
     }
 
-    /// The least member above `v`; `None` exactly where no member is above `v`.
+    /// The least member above `v`; `None` exactly when no member is above `v`.
     pub fn next_after(self, v: u32) -> Option<u32>
         requires { v ≤ MOST_VERTICES }
         ensures some { IfSome result (IsNextAfter self v) }
@@ -181,7 +183,7 @@ impl VSet {
         Some(v + above.trailing_zeros() + 1)
     }
 
-    /// The least member and the set of the others; `None` exactly where the set is empty.
+    /// The least member and the set of the others; `None` exactly when the set is empty.
     pub fn split_first(self) -> Option<(u32, VSet)>
         ensures some { IfSome result (λ p. self ≡ p.0 ∷ p.1) }
         ensures within { IfSome result (λ p. Within MOST_VERTICES p.0) }

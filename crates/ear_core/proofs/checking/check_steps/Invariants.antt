@@ -10,7 +10,8 @@ use Rattle.ear_core.specs.Stages.{IsStage}
 use Rattle.ear_core.specs.View.{step_of}
 use Rattle.ear_core.proofs.checking.check_steps.Given as goal
 
--- what is answered of the steps that are left is answered of all; each step so far has marked an edge
+-- what is answered of the steps that are left is answered of all; each step so far has marked an
+-- edge
 abbrev pub invariant-steps : goal.invariant-steps
 invariant-steps l = record {
   long : length l.mark.items ≡ size l.g + 1;

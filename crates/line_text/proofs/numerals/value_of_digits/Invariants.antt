@@ -4,7 +4,8 @@ use Rattle.std.specs.List.{list_all}
 use Rattle.std.specs.Str.Parse.{digits_value_after}
 use Rattle.line_text.proofs.numerals.value_of_digits.Given as goal
 
--- the digits that are left, read behind the number so far, make the whole number, which has room for them
+-- the digits that are left, read after the number so far, make the whole number, which has room
+-- for them
 abbrev pub invariant-digits : goal.invariant-digits
 invariant-digits l = record {
   digits : list_all is_ascii_digit l.rest ≡ true;

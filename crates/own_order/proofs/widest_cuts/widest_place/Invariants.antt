@@ -1,4 +1,5 @@
--- The best place so far is before the place, no earlier cut is wider, and those before it are narrower.
+-- The best place so far is before the place, no earlier cut is wider, and those before it are
+-- narrower.
 use Rattle.std.proofs.Common.{◌≤◌, ◌<◌, ℕ}
 use Rattle.own_order.specs.WidestCuts.{width}
 use Rattle.own_order.proofs.widest_cuts.widest_place.Given as goal

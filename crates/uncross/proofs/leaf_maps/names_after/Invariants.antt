@@ -1,4 +1,5 @@
--- The names so far, followed by those of the rest, are all of them; and the rest are names of blocks.
+-- The names so far, followed by those of the rest, are all of them; and the rest are names of
+-- blocks.
 use Rattle.std.proofs.Common.{◌≡◌, ◌++◌, All, length, map, ℕ}
 use Rattle.graph_core.specs.Partitions.{place}
 use Rattle.tree_core.specs.LeafMaps.{name}

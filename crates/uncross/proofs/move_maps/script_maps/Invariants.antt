@@ -1,4 +1,5 @@
--- The tree is a derivation, the moves left lead on from it, and the maps so far are those of the moves made.
+-- The tree is a derivation, the moves left lead on from it, and the maps so far are those of the
+-- moves made.
 use Rattle.std.proofs.Common.{length}
 use Rattle.tree_core.specs.MoveView.{moves_of}
 use Rattle.tree_core.specs.View.{shape_of}
