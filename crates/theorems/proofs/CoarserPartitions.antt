@@ -2,26 +2,26 @@
 -- Idea: each block is replaced by the set of the places of its parts. Names keep their order,
 -- since names rise with places; so merging first and then passing to places is the same as the
 -- other way.
-use Rattle.std.proofs.Common.{◌≡◌, ◌≢◌, ◌∙◌, ℕ, zero, suc, ◌+◌, ◌-◌, ◌≤◌, ◌<◌, Bool, true, false, cond, List, [], ◌∷◌, All, map, length, get_or, inl, inr, le-leb, refl, sym, ap, ap₂, arith, subst}
-use Rattle.std.proofs.lemmas.Bool.{both_ways, cases_eq, cases_lt, false_from_ne_true}
+use Rattle.std.proofs.Common.{[], ◌≡◌, ◌∙◌, ℕ, zero, suc, ◌+◌, ◌-◌, ◌<◌, Bool, true, false, cond, List, ◌∷◌, map, length, get_or, inl, inr, le-leb, refl, sym, ap, ap₂, arith, subst}
+use Rattle.std.proofs.lemmas.Bool.{cases_eq, cases_lt, false_from_ne_true}
 use Rattle.std.proofs.lemmas.List.{get_or-map, length-map}
 use Rattle.std.proofs.lemmas.List.Elements.{All-map}
 use Rattle.std.specs.List.Sorted.{IsStrictlyIncreasing}
 use Rattle.std.specs.Prelude.{slice_index}
 use Rattle.counting.proofs.Booleans.{same_tests}
 use Rattle.counting.proofs.Counts.{count_congr}
-use Rattle.counting.proofs.Lists.{mem-within, member-of_set}
+use Rattle.counting.proofs.Lists.{mem-within}
 use Rattle.counting.proofs.RisingLists.{all_in_true, last-greatest, last_is_greatest, mem-rising_list, rising_list-rises}
 use Rattle.counting.specs.Counts.{Within, count}
-use Rattle.counting.specs.Lists.{IsGreatestOf, IsRisingIn, last_of, mem, rising_list}
-use Rattle.graph_core.proofs.BlockSets.{at_place, place_rep, rep, rep_in, rep_place}
+use Rattle.counting.specs.Lists.{IsRisingIn, last_of, mem, rising_list}
+use Rattle.graph_core.proofs.BlockSets.{at_place, rep, rep_in, rep_place}
 use Rattle.graph_core.proofs.Blocks.{place_in, place_is}
 use Rattle.graph_core.proofs.MergeOrder.{merged_blocks}
 use Rattle.graph_core.proofs.MergedShores.{Some, alike_down, alike_in, alike_up, same_side}
 use Rattle.graph_core.proofs.Merging.{Has, block_has, has_block, mem_last, merged_merges}
 use Rattle.graph_core.proofs.SameBlocks.{block_rises, same_blocks}
 use Rattle.graph_core.proofs.SingleBlocks.{union-singles}
-use Rattle.graph_core.proofs.Singles.{length-singles, place_singles, singles-partition}
+use Rattle.graph_core.proofs.Singles.{place_singles, singles-partition}
 use Rattle.graph_core.specs.Partitions.{AreBlocks, IsMerge, IsPartition, block, merged, names_of, place, singles}
 use Rattle.graph_core.specs.Shores.{IsUnion, blocks_in}
 

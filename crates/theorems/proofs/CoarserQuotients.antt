@@ -1,9 +1,9 @@
 -- The quotient at a coarser partition is the quotient of the quotient.
 -- Idea: an edge of the graph between two blocks of q lies between two blocks of p, so an edge of
 -- the quotient at p stands for it, between the same blocks of q; and the other way round.
-use Rattle.std.proofs.Common.{◌≡◌, ◌≢◌, ◌∙◌, ℕ, ◌<◌, Bool, true, not, ◌&&◌, ◌||◌, ◌==◌, List, [], length, filter, inl, inr, ◌⊎◌, refl, sym, ap, ap₂, arith, eq-eqb, subst}
+use Rattle.std.proofs.Common.{◌≡◌, ◌≢◌, ◌∙◌, ℕ, ◌<◌, Bool, true, not, ◌&&◌, ◌==◌, List, length, filter, inl, inr, ◌⊎◌, sym, ap, ap₂, arith, eq-eqb, subst}
 use Rattle.std.proofs.Math.Path.{fun_ext}
-use Rattle.std.proofs.lemmas.Bool.{and_from, and_parts, cases_eq, or_left, or_right}
+use Rattle.std.proofs.lemmas.Bool.{and_from, and_parts, or_left, or_right}
 use Rattle.std.proofs.lemmas.Bool.Decides.{nat_tests}
 use Rattle.contraction.proofs.QuotientLaws.{same_pairs}
 use Rattle.counting.proofs.Booleans.{same_tests}

@@ -2,7 +2,7 @@
 -- Idea: an ear with k edges has k + 1 vertices, of which two are on the stage; so with each ear
 -- the edges less the vertices grow by one, from one edge with two vertices to all edges with all
 -- vertices that they meet.
-use Rattle.std.proofs.Common.{◌≡◌, ℕ, suc, ◌+◌, ◌≤◌, ◌≢◌, Bool, true, false, ◌==◌, ◌&&◌, ◌||◌, not, refl, sym, ap, ap₂, ◌∙◌, arith, eq-eqb, ne_eqb, eqb-true, inl, inr, List, [], ◌∷◌, length, ◌⊎◌, subst}
+use Rattle.std.proofs.Common.{[], ◌≡◌, ℕ, suc, ◌+◌, ◌≤◌, ◌≢◌, Bool, true, false, ◌==◌, ◌&&◌, ◌||◌, not, refl, sym, ap, ap₂, ◌∙◌, arith, eq-eqb, ne_eqb, eqb-true, inl, inr, List, ◌∷◌, length, ◌⊎◌, subst}
 use Rattle.std.proofs.lemmas.Bool.{cases_eq, cases_Bool, both_ways, true≢false, or_left, or_right}
 use Rattle.barrier_kit.proofs.Matched.{cut_edge}
 use Rattle.counting.proofs.Counts.{count_congr, count_of_one}

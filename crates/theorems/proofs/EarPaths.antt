@@ -2,7 +2,7 @@
 -- Idea: from a vertex that the one matching leads out of the stage the two matchings are followed
 -- in turn; the vertices passed hold their mates, so a new one comes each time, and the path ends
 -- on the stage.
-use Rattle.std.proofs.Common.{◌≡◌, ℕ, zero, suc, ◌+◌, ◌≤◌, ◌<◌, true, false, not, ◌&&◌, refl, sym, ap, ◌∙◌, arith, inl, inr, List, [], ◌∷◌, subst, not, Bool}
+use Rattle.std.proofs.Common.{[], ◌≡◌, ℕ, zero, suc, ◌+◌, ◌≤◌, ◌<◌, true, false, not, ◌&&◌, refl, sym, ap, ◌∙◌, arith, inl, inr, List, ◌∷◌, subst, not, Bool}
 use Rattle.std.proofs.lemmas.Bool.{and_parts, both_ways, cases_Bool, cases_eq, false_from_ne_true, or_left, or_right, true≢false}
 use Rattle.counting.proofs.Counts.{count_more}
 use Rattle.counting.proofs.Members.{count_member, count_zero}

@@ -1,5 +1,6 @@
--- Each list of ears of a graph is an ear list, or has a first refusal.
--- Each rule is decided: the tests compute, and whether the graph of a stage has a perfect matching with an edge is asked of the listed edges.
+-- Each list of ears of a graph is an ear list, or has a first refusal. Each rule is decided: the
+-- tests compute, and whether the graph of a stage has a perfect matching with an edge is asked of
+-- the listed edges.
 use Rattle.std.proofs.Common.{◌≡◌, ◌⊎◌, ◌↔◌, ℕ, zero, suc, ◌+◌, ◌≤◌, true, List, [], ◌∷◌, Option, Some, None, refl, sym, subst, arith, inl, inr}
 use Rattle.std.proofs.lemmas.Bool.{both_ways, cases_Bool, cases_eq}
 use Rattle.counting.specs.Counts.{Within}

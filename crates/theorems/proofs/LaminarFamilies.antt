@@ -1,5 +1,6 @@
--- The shores of a derivation are a maximal family of which no two cross, and each such family is that of a derivation.
--- By induction: the members inside a cut are such a family of its kept side, and those not inside it one of its merged side.
+-- The shores of a derivation are a maximal family of which no two cross, and each such family is
+-- that of a derivation. By induction: the members inside a cut are such a family of its kept
+-- side, and those not inside it one of its merged side.
 use Rattle.std.proofs.Common.{◌≡◌, ◌⊎◌, ◌↔◌, ℕ, zero, suc, ◌≤◌, Bool, true, false, cond, not, ◌&&◌, List, [], ◌∷◌, ◌++◌, filter, length, refl, sym, ap, ◌∙◌, arith, inl, inr, subst}
 use Rattle.std.proofs.lemmas.Bool.{and_parts, and_from, both_ways, cases_Bool, false_from_ne_true}
 use Rattle.counting.proofs.RisingLists.{all_in_true, true_all_in}
@@ -66,7 +67,8 @@ cut_at g p x st c = record { big = cut_big g p st x c.set c; canonical = c.canon
 
 -- a cut with its two sides: a family at each side, and the cut, are a family at p
 module _ (g : Graph) (p : List (List ℕ)) (st : Stage g p) (x : List ℕ) (cx : CutAt g p x) (ka mb : List (List ℕ)) (fa : FamilyAt g (kept_at g.order p x) ka) (fb : FamilyAt g (merged_at g.order p x) mb) where
-  -- a member of the kept side is inside each member of the merged side that holds x, and apart from each other
+  -- a member of the kept side is inside each member of the merged side that holds x, and apart
+  -- from each other
   inner_outer : (z w : List ℕ) → IsIn z ka → IsIn w mb → Nested g.order (mem z) (mem w)
   inner_outer z w hz hw =
       let b = (kept_down g p st x cx z (fa.cuts z hz)).1 in

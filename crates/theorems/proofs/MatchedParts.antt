@@ -1,5 +1,6 @@
--- How a maximum matching meets the sets D, A and C, and that the components of G[D] are factor-critical.
--- Each odd component of G - A has a missed vertex or an edge that leaves it; the bound of Berge is attained at A, so it has one of these.
+-- How a maximum matching meets the sets D, A and C, and that the components of G[D] are
+-- factor-critical. Each odd component of G - A has a missed vertex or an edge that leaves it; the
+-- bound of Berge is attained at A, so it has one of these.
 use Rattle.std.proofs.Common.{◌≡◌, ℕ, zero, suc, ◌+◌, ◌*◌, ◌≤◌, Bool, true, false, cond, ◌==◌, refl, sym, ap, ap₂, ◌∙◌, arith, ◌&&◌, ◌||◌, not, eq-eqb, eqb-true, mul-add, subst, inl, inr}
 use Rattle.std.proofs.lemmas.Bool.{cases_Bool, both_ways, true≢false, false_from_ne_true, and_parts, and_from, not-false, not-true}
 use mathlib.Core.Path.{fun_ext}
@@ -26,7 +27,8 @@ use Rattle.match_search.proofs.Certificates.{ends_total}
 use Rattle.theorems.proofs.ThreeSets.{attains, component_is, components_odd, d_odd, d_out, d_step, ends_within, odd_d, turn_ends}
 use Rattle.theorems.specs.Matchings.{AreThreeSets, HasPerfectWithin, IsFactorCritical, MatchesAllButOne, MatchesWithin, component_in}
 
--- edges that meet each vertex of x once, of which none crosses x: those inside x are a perfect matching of G[X]
+-- edges that meet each vertex of x once, of which none crosses x: those inside x are a perfect
+-- matching of G[X]
 pub perfect_within : (g : Graph) (m x : Set) → ((v : ℕ) → Within g.order v → x v ≡ true → degree g m v ≡ 1) → ((e : ℕ) → Within (size g) e → (m e && in_cut g x e) ≡ false) → MatchesWithin g m x
 perfect_within g m x met no_cross = record {
   once = λ v w o. keep v (not-false (x v) o) ∙ met v w (not-false (x v) o);
@@ -228,7 +230,8 @@ module _ (g : Graph) (is : IsGraph g) (d a c : Set) (sets : AreThreeSets g d a c
   tight_edge : (e : ℕ) → Within (size g) e → bit (m e && a (first_end g e)) + bit (m e && a (second_end g e)) ≡ bit (m e && in_cut g d e)
   tight_edge = total_tight (size g) (λ e. bit (m e && a (first_end g e)) + bit (m e && a (second_end g e))) (λ e. bit (m e && in_cut g d e)) into_a (omega (arith, lead_bound, open_sum, missed_sum, cut_sum, missed_few, edge_sum, a_bound, all_leads))
 
-  -- the component of a vertex of D has one missed vertex and no edge that leaves it, or none and one
+  -- the component of a vertex of D has one missed vertex and no edge that leaves it, or none and
+  -- one
   one_open : (u : ℕ) → Within g.order u → d u ≡ true → missed u + leaving u ≡ 1
   one_open u w du =
       let l = leader_of g a is u w (d_out g is d a c sets u w du) in
@@ -296,7 +299,8 @@ module _ (g : Graph) (is : IsGraph g) (d a c : Set) (sets : AreThreeSets g d a c
             ]
           ]
 
-  -- where m misses a vertex v of D, its edges inside the component of v meet each other vertex of it
+  -- where m misses a vertex v of D, its edges inside the component of v meet each other vertex of
+  -- it
   critical_at : (v : ℕ) → Within g.order v → d v ≡ true → degree g m v ≡ 0 → MatchesWithin g m (minus (joined g a v) (singleton v))
   critical_at v wv dv z = perfect_within g m (minus (joined g a v) (singleton v)) met (λ e w. false_from_ne_true (m e && in_cut g (minus (joined g a v) (singleton v)) e) (λ t.
       let p = and_parts (m e) (in_cut g (minus (joined g a v) (singleton v)) e) t in

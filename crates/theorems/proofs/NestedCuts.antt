@@ -1,5 +1,6 @@
--- Cuts at a stage of a decomposition and at the two stages below it: what comes down, what comes up, and what is nested.
--- A union of merged blocks holds the new block or is apart from it, so each cut below is nested with the shore that was merged.
+-- Cuts at a stage of a decomposition and at the two stages below it: what comes down, what comes
+-- up, and what is nested. A union of merged blocks holds the new block or is apart from it, so
+-- each cut below is nested with the shore that was merged.
 use Rattle.std.proofs.Common.{◌≡◌, ◌⊎◌, ℕ, ◌≤◌, Bool, true, false, not, ◌&&◌, List, length, refl, sym, ap, ◌∙◌, arith, inl, inr, subst}
 use Rattle.std.proofs.lemmas.Bool.{and_parts, both_ways, cases_Bool, false_from_ne_true, not-true}
 use Rattle.counting.proofs.Booleans.{same_tests}

@@ -1,12 +1,14 @@
 -- A matching covered graph has a derivation, whatever rule picks the cuts.
 -- Idea: where no candidate is left, the node is a leaf; else the picked candidate is a cut, and
 -- both partitions below it have fewer blocks.
-use Rattle.std.proofs.Common.{◌≡◌, ℕ, zero, suc, ◌+◌, ◌≤◌, ◌<◌, List, [], ◌∷◌, length, All, get_or, refl, ap, arith, slice_get, Some}
+use Rattle.std.proofs.Common.{[], ◌≡◌, ℕ, zero, suc, ◌+◌, ◌<◌, List, ◌∷◌, length, get_or, refl, ap, arith}
 use Rattle.std.proofs.lemmas.Option.{slice_get-get_or}
 use Rattle.counting.proofs.Counts.{count_complement}
 use Rattle.counting.specs.Lists.{mem}
 use Rattle.decomposer.proofs.Picking.{blocks-beside, blocks-inside, cut-from_candidate}
-use Rattle.decomposer.specs.Picked.{IsPicked, IsPickedAt, PicksFirst, PicksShore}
+use Rattle.decomposer.specs.Orders.{NamedPicks}
+use Rattle.decomposer.specs.Picked.{IsPicked, IsPickedAt}
+use Rattle.decomposer.specs.declared.orders.NamedOrder.TheVariants.{First}
 use Rattle.graph_core.proofs.Singles.{singles-partition}
 use Rattle.graph_core.specs.Covered.{IsCovered}
 use Rattle.graph_core.specs.Graph.{Graph, IsGraph}
@@ -16,7 +18,7 @@ use Rattle.graph_core.specs.Shores.{blocks_in}
 use Rattle.theorems.specs.Derivations.{ChoosesPlaces, PicksChosen}
 use Rattle.tight_cuts.proofs.PartitionCandidates.{found-at, none-at}
 use Rattle.tight_cuts.specs.Candidates.{Candidate}
-use Rattle.tight_cuts.specs.CandidatesAt.{IsCandidateAt, candidates_at}
+use Rattle.tight_cuts.specs.CandidatesAt.{candidates_at}
 use Rattle.tree_core.proofs.CutsBelow.{kept-covers, kept-length, kept-partition, merged-covers, merged-length, merged-partition, root-covered}
 use Rattle.tree_core.proofs.DerivationShores.{shore-cut}
 use Rattle.tree_core.specs.Derivations.{IsCutAt, IsDerivation, IsDerivationAt, IsLeafAt, IsTightShore, kept_at, merged_at}
@@ -79,14 +81,14 @@ pub chosen-tree : (choose : List Candidate → ℕ → ℕ) (g : Graph) → Choo
 chosen-tree choose g places is covered = picked-tree (PicksChosen choose) (λ list k some. (choose list k, refl, places list k some)) g is covered
 
 -- the first place
-pub first-some : PicksSome PicksFirst
+pub first-some : PicksSome (NamedPicks First)
 first-some list k some = (0, refl, some)
 
 pub some-tree_at : (g : Graph) (p : List (List ℕ)) → IsGraph g → IsPartition g.order p → IsCovered (quotient g p) → (t : Shape) × IsDerivationAt g p t
-some-tree_at g p is pp covered = let t = picked_at PicksFirst first-some g is (length p + 1) p 0 pp covered (omega arith) in (t.0, t.1)
+some-tree_at g p is pp covered = let t = picked_at (NamedPicks First) first-some g is (length p + 1) p 0 pp covered (omega arith) in (t.0, t.1)
 
 pub some-tree : (g : Graph) → IsGraph g → IsCovered g → (t : Shape) × IsDerivation g t
-some-tree g is covered = let t = picked-tree PicksFirst first-some g is covered in (t.0, t.1)
+some-tree g is covered = let t = picked-tree (NamedPicks First) first-some g is covered in (t.0, t.1)
 
 -- a derivation that begins with a given cut
 pub first-tree : (g : Graph) (y : List ℕ) → IsGraph g → IsCovered g → IsTightShore g y → (a : Shape) × (b : Shape) × IsDerivation g (cut y a b)

@@ -1,5 +1,6 @@
--- A derivation is a tree of nontrivial tight cuts in words that do not name the contracted graph, and a pairing of leaves is a
--- bijection. An odd number of blocks follows from a perfect matching, which has exactly one edge in the cut.
+-- A derivation is a tree of nontrivial tight cuts in words that do not name the contracted graph,
+-- and a pairing of leaves is a bijection. An odd number of blocks follows from a perfect
+-- matching, which has exactly one edge in the cut.
 use Rattle.std.proofs.Common.{◌≡◌, ◌&&◌, ℕ, suc, ◌+◌, true, not, ◌==◌, List, length, refl, sym, ap, ◌∙◌, arith, eq-eqb, eqb-true}
 use Rattle.barrier_kit.proofs.Matched.{even_order}
 use Rattle.counting.proofs.Counts.{only_one}
@@ -35,7 +36,8 @@ module _ (g : Graph) (p : List (List ℕ)) (st : Stage g p) where
     once = (tight-words g p st.graph st.list.partition (mem x) c.tight).3;
   }
 
-  -- the number of blocks inside is that of the edges of a perfect matching in the cut, and twice those inside
+  -- the number of blocks inside is that of the edges of a perfect matching in the cut, and twice
+  -- those inside
   odd_inside : (x : Set) → IsTightCutAt g p x → is_odd (count (length p) (blocks_in p x)) ≡ true
   unfolding contracted
   odd_inside x c =

@@ -1,5 +1,6 @@
--- The sets D and A are the outer and the inner vertices of a frame, so that D is the union of the odd components of G - A.
--- Each maximum matching attains the bound of Berge at A, and the components of G[D] are the odd components of G - A.
+-- The sets D and A are the outer and the inner vertices of a frame, so that D is the union of the
+-- odd components of G - A. Each maximum matching attains the bound of Berge at A, and the
+-- components of G[D] are the odd components of G - A.
 use Rattle.std.proofs.Common.{◌≡◌, ◌↔◌, ℕ, ◌+◌, true, false, refl, sym, ap, ap₂, ◌∙◌, arith, ◌&&◌, not, subst, inl, inr, [], ◌∷◌, nat_lt}
 use Rattle.std.proofs.lemmas.Bool.{cases_Bool, both_ways, false_from_ne_true, and_parts, and_from, not-false}
 use mathlib.Core.Path.{fun_ext}

@@ -4,4 +4,5 @@ pub mod CubicGraphs
 pub mod Derivations
 pub mod Ears
 pub mod Matchings
+pub mod Outcomes
 pub mod TightCuts

@@ -1,5 +1,5 @@
--- The Gallai-Edmonds sets as sets, the components that they induce, and how a matching meets them (Gallai 1964; Edmonds 1965;
--- Lovász and Plummer, "Matching Theory", section 3.2).
+-- The Gallai-Edmonds sets as sets, the components that they induce, and how a matching meets them
+-- (Gallai 1964; Edmonds 1965; Lovász and Plummer, "Matching Theory", section 3.2).
 use Rattle.std.specs.Prelude.{◌≡◌, ◌↔◌, ℕ, ◌+◌, ◌*◌, ◌&&◌, true}
 use Rattle.counting.specs.Counts.{count, Within}
 use Rattle.counting.specs.Sets.{Set, complement, minus, singleton}
@@ -30,6 +30,7 @@ IsFactorCritical g k = (v : ℕ) → Within g.order v → k v ≡ true → HasPe
 abbrev pub MatchesWithin : Graph → Set → Set → Type 0
 MatchesWithin g m k = IsPerfect g (complement k) (λ e. m e && inside g k e)
 
--- the matching m matches all but one vertex of k in k: k has one vertex more than the edges of m inside k have ends
+-- the matching m matches all but one vertex of k in k: k has one vertex more than the edges of m
+-- inside k have ends
 abbrev pub MatchesAllButOne : Graph → Set → Set → Type 0
 MatchesAllButOne g m k = 2 * count (size g) (λ e. m e && inside g k e) + 1 ≡ count g.order k

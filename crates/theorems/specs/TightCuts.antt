@@ -1,5 +1,6 @@
--- Families of tight cuts of which no two cross, trees of tight cuts, and pairings of their leaves (Lovász 1987; Lucchesi and Murty,
--- "Perfect Matchings"). A cut is given by its canonical shore, the one without the greatest vertex.
+-- Families of tight cuts of which no two cross, trees of tight cuts, and pairings of their leaves
+-- (Lovász 1987; Lucchesi and Murty, "Perfect Matchings"). A cut is given by its canonical shore,
+-- the one without the greatest vertex.
 use Rattle.std.specs.Prelude.{◌≡◌, ℕ, ◌≤◌, true, false, List, [], ◌∷◌, length}
 use Rattle.counting.specs.Counts.{Within}
 use Rattle.counting.specs.Lists.{IsIn, mem}
@@ -30,16 +31,17 @@ abbrev pub AreDistinct : {A : Type 0} → List A → Type 0
 AreDistinct [] = Unit {0}
 AreDistinct (x ∷ xs) = (¬ IsIn x xs) × AreDistinct xs
 
--- a nontrivial tight cut of the graph at the stage p, where each block of p is one vertex: x is a union of blocks, at least three are
--- inside and at least three outside, and each perfect matching of the stage has exactly one edge in the cut
+-- a nontrivial tight cut of the graph at the stage p, where each block of p is one vertex: x is a
+-- union of blocks, at least three are inside and at least three outside, and each perfect
+-- matching of the stage has exactly one edge in the cut
 pub record IsTightCutAt (g : Graph) (p : List (List ℕ)) (x : Set) : Type 0 where
   pub union : IsUnion g.order p x
   pub inside : 3 ≤ block_count p x
   pub outside : 3 ≤ block_count p (complement x)
   pub once : (m : Set) → IsPerfectAt g p m → edges_in_cut g m x ≡ 1
 
--- a tree of nontrivial tight cuts from the stage p on: below a cut each side is made one block in turn, and where the tree ends the
--- stage has no nontrivial tight cut
+-- a tree of nontrivial tight cuts from the stage p on: below a cut each side is made one block in
+-- turn, and where the tree ends the stage has no nontrivial tight cut
 abbrev pub IsTightCutTreeAt : Graph → List (List ℕ) → Shape → Type 0
 IsTightCutTreeAt g p leaf = (x : Set) → ¬ IsTightCutAt g p x
 IsTightCutTreeAt g p (cut x kept merged) = IsTightCutAt g p (mem x) × IsTightCutTreeAt g (kept_at g.order p x) kept × IsTightCutTreeAt g (merged_at g.order p x) merged
@@ -50,7 +52,8 @@ pub record IsBijection (n m : ℕ) (f : ℕ → ℕ) : Type 0 where
   pub once : (i j : ℕ) → Within n i → Within n j → f i ≡ f j → i ≡ j
   pub onto : (k : ℕ) → Within m k → (i : ℕ) × Within n i × (f i ≡ k)
 
--- the leaves p and q are one graph up to multiplicities of edges: f is a bijection of their blocks that preserves adjacency
+-- the leaves p and q are one graph up to multiplicities of edges: f is a bijection of their
+-- blocks that preserves adjacency
 pub record IsSameGraph (g : Graph) (p q : List (List ℕ)) (f : ℕ → ℕ) : Type 0 where
   pub bijection : IsBijection (length p) (length q) f
   pub adjacent : (i j : ℕ) → Within (length p) i → Within (length p) j → blocks_adjacent g p i j ≡ blocks_adjacent g q (f i) (f j)

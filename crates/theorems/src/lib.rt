@@ -5,10 +5,11 @@
 //! - `braces`: braces
 //! - `bricks`: bricks and 3-connected graphs
 //! - `cubic_graphs`: cubic graphs
+//! - `cuts`: laminar families of tight cuts
 //! - `derivations`: tight cut decompositions and the number of bricks
 //! - `ears`: ear decompositions
 //! - `matchings`: the Gallai-Edmonds structure theorem
-//! - `tight_cuts`: laminar families of tight cuts
+//! - `outcomes`: what the program reports
 //!
 //! The words of a chapter that the lower crates lack stand in a file of `specs/`. No part of the
 //! program stands on this crate. `docs/THEOREMS.md` is the book that follows it.
@@ -20,15 +21,17 @@
 mod braces;
 mod bricks;
 mod cubic_graphs;
+mod cuts;
 mod derivations;
 mod ears;
 mod matchings;
-mod tight_cuts;
+mod outcomes;
 
 pub use braces::braces_law;
 pub use bricks::elp_law;
 pub use cubic_graphs::cubic_law;
-pub use derivations::derivation_exists_law;
+pub use cuts::laminar_law;
+pub use derivations::{brick_number_law, derivation_exists_law};
 pub use ears::{ear_count_law, ear_list_exists_law, hetyei_law};
 pub use matchings::gallai_edmonds_law;
-pub use tight_cuts::laminar_law;
+pub use outcomes::{headline_law, report_exists_law};

@@ -10,11 +10,12 @@ ghost use Rattle.graph_core.specs.Graph.{Graph, HasEnds, IsGraph, edges_in_cut, 
 ghost use Rattle.graph_core.specs.Matchings.{IsMaximum, missed_count};
 ghost use Rattle.theorems.specs.Matchings.{AreThreeSets, HasPerfectWithin, IsFactorCritical, MatchesAllButOne, MatchesWithin, component_in};
 
-/// The Gallai-Edmonds structure theorem: let D be the vertices that some maximum matching misses, A their other neighbours and C
-/// the rest; then the components of G[D] are factor-critical, G[C] has a perfect matching, A is a set of Berge with the deficiency
-/// c(D) - |A|, c(D) being the number of components of G[D], and each maximum matching matches C in itself, all but one vertex of
-/// each component of G[D] in it, and A into different components of G[D]. Gallai 1964; Edmonds 1965; Lovász and Plummer,
-/// "Matching Theory", theorem 3.2.1.
+/// The Gallai-Edmonds structure theorem: let D be the vertices that some maximum matching misses,
+/// A their other neighbours and C the rest; then the components of G[D] are factor-critical, G[C]
+/// has a perfect matching, A is a set of Berge with the deficiency c(D) - |A|, c(D) being the
+/// number of components of G[D], and each maximum matching matches C in itself, all but one
+/// vertex of each component of G[D] in it, and A into different components of G[D]. Gallai 1964;
+/// Edmonds 1965; Lovász and Plummer, "Matching Theory", theorem 3.2.1.
 pub fn gallai_edmonds_law()
     ensures sets { (g : Graph) → IsGraph g →
         (d : Set) × (a : Set) × (c : Set) × AreThreeSets g d a c }

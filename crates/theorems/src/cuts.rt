@@ -9,9 +9,10 @@ ghost use Rattle.tree_core.specs.Derivations.{IsDerivation};
 ghost use Rattle.tree_core.specs.Shapes.{Shape, cut, shores};
 ghost use Rattle.theorems.specs.TightCuts.{AreDistinct, IsMaximalLaminar};
 
-/// The cuts of a tight cut decomposition are a maximal family of nontrivial tight cuts of which no two cross, and no cut comes twice;
-/// and each such family of a matching covered graph is that of a decomposition, whichever of its cuts is to come first. Lovász 1987;
-/// Lucchesi and Murty, "Perfect Matchings".
+/// The cuts of a tight cut decomposition are a maximal family of nontrivial tight cuts of which
+/// no two cross, and no cut comes twice; and each such family of a matching covered graph is that
+/// of a decomposition, whichever of its cuts is to come first. Lovász 1987; Lucchesi and Murty,
+/// "Perfect Matchings".
 pub fn laminar_law()
     ensures shores { (g : Graph) (t : Shape) → IsGraph g → IsDerivation g t →
         IsMaximalLaminar g (shores t) }

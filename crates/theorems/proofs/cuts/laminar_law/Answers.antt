@@ -1,5 +1,5 @@
 use Rattle.theorems.proofs.LaminarFamilies.{distinct-shores, laminar-first, laminar-shores, laminar-tree}
-use Rattle.theorems.proofs.tight_cuts.laminar_law.Goals as goal
+use Rattle.theorems.proofs.cuts.laminar_law.Goals as goal
 
 pub returns : goal.returns
 returns c = record {

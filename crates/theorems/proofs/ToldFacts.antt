@@ -1,0 +1,191 @@
+-- What an outcome of each command tells, in the words of a textbook: its records give it, and
+-- where a task succeeds it is not refused. The files say what the command works on, and the
+-- outcome computes to the record of its task.
+use Rattle.std.proofs.Common.{◌≡◌, ◌∙◌, ◌↔◌, ℕ, List, [], ◌∷◌, Option, Some, None, option_map, refl, sym, ap, subst, inl, inr}
+use Rattle.std.specs.Prelude.{codes}
+use Rattle.outside.specs.Shelf.{Named}
+use Rattle.brick_kit.proofs.Bricks.{brick_or_not}
+use Rattle.counting.specs.Lists.{mem}
+use Rattle.cut_laws.proofs.Quotients.{bricks-and_braces}
+use Rattle.ear_text.specs.EarFormat.{ear_format}
+use Rattle.graph_core.specs.Covered.{IsCovered}
+use Rattle.graph_core.specs.Graph.{Graph, IsBipartite, IsMultigraph, size}
+use Rattle.graph_core.specs.Partitions.{singles}
+use Rattle.graph_core.specs.Tight.{HasNoTightCut, IsNontrivial, IsTight}
+use Rattle.graph_core.specs.declared.verdict.Kind.{Kind}
+use Rattle.graph_core.specs.declared.verdict.Kind.TheVariants.{Brace, Brick, Composite}
+use Rattle.graph_core.specs.declared.verdict.Verdict.{Verdict}
+use Rattle.graph_core.specs.declared.verdict.Verdict.TheVariants.{Covered, NotCovered}
+use Rattle.graph_core.specs.Verdicts.{IsVerdict, reason_of}
+use Rattle.graph_core.proofs.Decide.{reason-uncovered}
+use Rattle.graph_text.specs.EitherVersion.{NamedGraph}
+use Rattle.leaf_kinds.specs.LeafKinds.{IsKind}
+use Rattle.line_text.specs.Format.{Stands}
+use Rattle.move_laws.proofs.SingleVertices.{singles_stage}
+use Rattle.report_text.specs.declared.structures.Structure.{Structure}
+use Rattle.tight_cuts.specs.Candidates.{Candidate}
+use Rattle.tree_core.specs.Derivations.{IsDerivation}
+use Rattle.tree_core.specs.Leaves.{leaves}
+use Rattle.tree_core.specs.Shapes.{Shape}
+use Rattle.bench_tasks.specs.Commands.{Compare, Decompose, Script, order_named}
+use Rattle.bench_tasks.specs.Loading.{All, Loaded, and_then, graph_file, loaded_as, pick_file, trees_given}
+use Rattle.bench_tasks.specs.Tasks.{Task}
+use Rattle.bench_tasks.specs.Tasks as task
+use Rattle.decomposer.specs.declared.orders.NamedOrder.{NamedOrder}
+use Rattle.bench_outcomes.specs.Comparisons.{CompareGives, Compared, ScriptGives, Scripted}
+use Rattle.bench_outcomes.specs.EarChecks.{EarsGives}
+use Rattle.bench_outcomes.specs.Facts.{IsStructure, TellsStructure}
+use Rattle.bench_outcomes.specs.Outcome.{Analysed, CommandGives, DecomposeGives, LoadedGives, Outcome, ResultOf}
+use Rattle.bench_outcomes.specs.declared.status.Status.{Status}
+use Rattle.bench_outcomes.specs.declared.status.Status.TheVariants.{Done, Negative}
+use Rattle.bench_top.proofs.LoadedGraphs.{Holds, graph-holds}
+use Rattle.bench_top.proofs.ReadGraphs.{HasGraph, IsRead}
+use Rattle.bench_top.proofs.Completeness.{done-given}
+use Rattle.bench_top.proofs.TextsStand.{stands-ears}
+use Rattle.theorems.proofs.PlainDecompositions.{pairing-words, tree-words}
+use Rattle.theorems.specs.Outcomes.{TellsDecomposition, TellsEars, TellsKind, TellsPairing, TellsScript, TellsSets}
+
+graph-read : (files : List Named) (graph : List ℕ) (named : NamedGraph) → graph_file files graph ≡ All named → IsRead named.graph
+graph-read files graph named is = subst (Holds HasGraph) is (graph-holds files graph)
+
+-- what a command makes of what is held
+of_held : {A : Type 0} (make : A → Task) (held : Loaded A) (a : A) (status : Status) (output : List ℕ) → held ≡ All a → LoadedGives (loaded_as make held) status output → ResultOf (make a) status output
+of_held make held a status output is gives = subst (λ h. LoadedGives (loaded_as make h) status output) is gives
+
+-- no status is both
+never : (status : Status) → status ≡ Done → status ≡ Negative → ⊥
+never status done negative = let no : Done ≡ Negative = sym done ∙ negative in cc no
+
+-- `analyse`: the sets
+analysed : (files : List Named) (graph : List ℕ) (named : NamedGraph) (status : Status) (output : List ℕ) → graph_file files graph ≡ All named → Outcome (codes "analyse" ∷ graph ∷ []) files status output → Analysed named status output
+analysed files graph named status output held gives = of_held task.Analyse (graph_file files graph) named status output held gives
+
+pub told-sets : (files : List Named) (graph : List ℕ) (named : NamedGraph) (status : Status) (output : List ℕ) → graph_file files graph ≡ All named → Outcome (codes "analyse" ∷ graph ∷ []) files status output → (status ≡ Done) × TellsSets named output
+told-sets files graph named status output held gives =
+    let r = analysed files graph named status output held gives in
+    (r.done, record { lines = r.lines; d = r.right.d; a = r.right.a; c = r.right.c; text = r.text })
+
+-- `analyse`: the kind of a covered graph
+covered-structure : (g : Graph) (verdict : Verdict) (structure : Option Structure) → IsMultigraph g → IsCovered g → IsVerdict g verdict → TellsStructure g verdict structure → (s : Structure) × (structure ≡ Some s) × IsStructure g s
+covered-structure g Covered None is cov right told = absurd told
+covered-structure g Covered (Some s) is cov right told = (s, refl, told)
+covered-structure g (NotCovered reason) structure is cov right told = absurd (reason-uncovered g (reason_of reason) is right cov)
+
+brace-kind : (g : Graph) (k : Kind) → IsKind g k → (k ≡ Brace) ↔ (IsBipartite g × HasNoTightCut g)
+brace-kind g Brace h = (λ e. h, λ q. refl)
+brace-kind g Brick h = (λ e. cc e, λ q. absurd (h.0 q.0))
+brace-kind g (Composite x) h = (λ e. cc e, λ q. absurd (q.1 _ h.0 h.1))
+
+brick-kind : (g : Graph) (k : Kind) → IsKind g k → (k ≡ Brick) ↔ ((¬ IsBipartite g) × HasNoTightCut g)
+brick-kind g Brace h = (λ e. cc e, λ q. absurd (q.0 h.0))
+brick-kind g Brick h = (λ e. h, λ q. refl)
+brick-kind g (Composite x) h = (λ e. cc e, λ q. absurd (q.1 _ h.0 h.1))
+
+composite-kind : (g : Graph) (k : Kind) → IsKind g k → (x : List ℕ) → k ≡ Composite x → IsTight g (mem x) × IsNontrivial g.order (mem x)
+composite-kind g k h x e = subst (IsKind g) e h
+
+pub told-kind : (files : List Named) (graph : List ℕ) (named : NamedGraph) (status : Status) (output : List ℕ) → graph_file files graph ≡ All named → IsCovered named.graph → Outcome (codes "analyse" ∷ graph ∷ []) files status output → (status ≡ Done) × TellsKind named output
+told-kind files graph named status output held cov gives =
+    let r = analysed files graph named status output held gives in
+    let read = graph-read files graph named held in
+    let is : IsMultigraph named.graph = record { ends = read.ends; no_loop = read.no_loop } in
+    let s = covered-structure named.graph r.lines.verdict r.lines.structure is cov r.right.verdict r.right.structure in
+    let k = brick-kind named.graph s.0.kind s.2.kind in (
+      r.done,
+      record {
+        lines = r.lines;
+        structure = s.0;
+        told = s.1;
+        brace = brace-kind named.graph s.0.kind s.2.kind;
+        brick = k;
+        solid = (
+          (λ e. let q = k.0 e in let b = (brick_or_not named.graph is cov q.0).0 q.1 in (q.0, b.0, b.1)),
+          (λ q. k.1 (q.0, (brick_or_not named.graph is cov q.0).1 (q.1, q.2))),
+        );
+        composite = composite-kind named.graph s.0.kind s.2.kind;
+        text = r.text;
+      },
+    )
+
+-- `decompose`: a tree of cuts
+decomposed : (picks : List Candidate → ℕ → ℕ → Type 0) (named : NamedGraph) (status : Status) (output : List ℕ) → IsRead named.graph → IsCovered named.graph → DecomposeGives picks named status output → (status ≡ Done) × TellsDecomposition named.graph output
+decomposed picks named status output read cov (inr not_covered) = absurd (not_covered.uncovered cov)
+decomposed picks named status output read cov (inl made) =
+    let d = made.told.derivation in (
+      made.told.done,
+      record {
+        tree = made.tree;
+        cuts = tree-words named.graph (singles named.graph.order) made.tree (singles_stage named.graph read.ends cov) d.derives;
+        ends = bricks-and_braces named.graph made.tree read.ends d;
+        stands = made.told.stands;
+      },
+    )
+
+in-order : (files : List Named) (graph : List ℕ) (named : NamedGraph) (status : Status) (output : List ℕ) → graph_file files graph ≡ All named → IsCovered named.graph → (order : Option NamedOrder) → CommandGives files (option_map (Decompose graph) order) status output → (status ≡ Done) × TellsDecomposition named.graph output
+in-order files graph named status output held cov None gives = absurd gives
+in-order files graph named status output held cov (Some order) gives =
+    decomposed _ named status output (graph-read files graph named held) cov (of_held (λ named. task.Decompose named order) (graph_file files graph) named status output held gives)
+
+pub told-decomposition : (files : List Named) (graph order : List ℕ) (named : NamedGraph) (status : Status) (output : List ℕ) → graph_file files graph ≡ All named → IsCovered named.graph → Outcome (codes "decompose" ∷ graph ∷ order ∷ []) files status output → (status ≡ Done) × TellsDecomposition named.graph output
+told-decomposition files graph order named status output held cov gives = in-order files graph named status output held cov (order_named order) gives
+
+pub told-picked : (files : List Named) (graph picks list : List ℕ) (named : NamedGraph) (status : Status) (output : List ℕ) → graph_file files graph ≡ All named → pick_file files picks ≡ All list → IsCovered named.graph → Outcome (codes "decompose" ∷ graph ∷ codes "script" ∷ picks ∷ []) files status output → (status ≡ Done) × TellsDecomposition named.graph output
+told-picked files graph picks list named status output held listed cov gives =
+    decomposed _ named status output (graph-read files graph named held) cov
+    (of_held (task.DecomposeBy named) (pick_file files picks) list status output listed
+    (subst (λ (h : Loaded NamedGraph). LoadedGives (and_then h (λ named. loaded_as (task.DecomposeBy named) (pick_file files picks))) status output) held gives))
+
+-- `compare` and `script`: where both trees are derivations neither is refused
+abbrev compare_task : NamedGraph × (Shape × Shape) → Task
+compare_task given = task.Compare given.0 given.1.0 given.1.1
+
+abbrev script_task : NamedGraph × (Shape × Shape) → Task
+script_task given = task.Script given.0 given.1.0 given.1.1
+
+compared : (named : NamedGraph) (s t : Shape) (status : Status) (output : List ℕ) → status ≡ Done → CompareGives named.graph s t status output → Compared named.graph s t status output
+compared named s t status output done (inl made) = made
+compared named s t status output done (inr (inl first)) = absurd (never status done first.negative)
+compared named s t status output done (inr (inr (inl second))) = absurd (never status done second.1.negative)
+compared named s t status output done (inr (inr (inr not_covered))) = absurd (never status done not_covered.negative)
+
+scripted : (named : NamedGraph) (s t : Shape) (status : Status) (output : List ℕ) → status ≡ Done → ScriptGives named.graph s t status output → Scripted named.graph s t status output
+scripted named s t status output done (inl made) = made
+scripted named s t status output done (inr (inl first)) = absurd (never status done first.negative)
+scripted named s t status output done (inr (inr (inl second))) = absurd (never status done second.1.negative)
+scripted named s t status output done (inr (inr (inr not_covered))) = absurd (never status done not_covered.negative)
+
+pub told-pairing : (files : List Named) (graph first second : List ℕ) (named : NamedGraph) (s t : Shape) (status : Status) (output : List ℕ) → trees_given files graph first second ≡ All (named, (s, t)) → IsDerivation named.graph s → IsDerivation named.graph t → Outcome (codes "compare" ∷ graph ∷ first ∷ second ∷ []) files status output → (status ≡ Done) × TellsPairing named.graph s t output
+told-pairing files graph first second named s t status output held ds dt gives =
+    let done = (done-given files (Compare graph first second) (task.Compare named s t) status output (ap (loaded_as compare_task) held) gives).1 (ds, dt) in
+    let r = compared named s t status output done (of_held compare_task (trees_given files graph first second) (named, (s, t)) status output held gives) in (
+      done,
+      record {
+        maps = r.maps;
+        paired = pairing-words named.graph (leaves named.graph.order s) (leaves named.graph.order t) r.maps r.paired;
+        moves = r.moves;
+        turns = r.script.turns;
+        text = r.text;
+      },
+    )
+
+pub told-script : (files : List Named) (graph first second : List ℕ) (named : NamedGraph) (s t : Shape) (status : Status) (output : List ℕ) → trees_given files graph first second ≡ All (named, (s, t)) → IsDerivation named.graph s → IsDerivation named.graph t → Outcome (codes "script" ∷ graph ∷ first ∷ second ∷ []) files status output → (status ≡ Done) × TellsScript named.graph s t output
+told-script files graph first second named s t status output held ds dt gives =
+    let done = (done-given files (Script graph first second) (task.Script named s t) status output (ap (loaded_as script_task) held) gives).1 (ds, dt) in
+    let r = scripted named s t status output done (of_held script_task (trees_given files graph first second) (named, (s, t)) status output held gives) in
+    (done, record { moves = r.moves; turns = r.script.turns; stands = r.stands })
+
+-- `ears`: an ear list
+eared : (named : NamedGraph) (status : Status) (output : List ℕ) → IsRead named.graph → IsCovered named.graph → EarsGives named.graph status output → (status ≡ Done) × TellsEars named.graph output
+eared named status output read cov (inr not_covered) = absurd (not_covered.uncovered cov)
+eared named status output read cov (inl made) = (
+  made.done,
+  record {
+    list = made.list;
+    ears = made.is;
+    single = made.single;
+    stands = subst (λ (o : List ℕ). Stands (ear_format named.graph.order (size named.graph)) o made.list) (sym made.text) (stands-ears named.graph made.list read made.is);
+  },
+)
+
+pub told-ears : (files : List Named) (graph : List ℕ) (named : NamedGraph) (status : Status) (output : List ℕ) → graph_file files graph ≡ All named → IsCovered named.graph → Outcome (codes "ears" ∷ graph ∷ []) files status output → (status ≡ Done) × TellsEars named.graph output
+told-ears files graph named status output held cov gives = eared named status output (graph-read files graph named held) cov (of_held task.Ears (graph_file files graph) named status output held gives)

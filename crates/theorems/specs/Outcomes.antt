@@ -1,0 +1,86 @@
+-- What the outputs of the program tell, in the words of a textbook: the Gallai-Edmonds sets, a
+-- tight cut decomposition, a pairing of the leaves of two decompositions, the kind of a graph, an
+-- ear decomposition, a script of moves.
+use Rattle.std.specs.Prelude.{◌≡◌, ◌↔◌, ℕ, List, All, Some, false}
+use Rattle.std.specs.List.{AllByRecursion}
+use Rattle.counting.specs.Lists.{Lists, mem}
+use Rattle.graph_core.specs.GallaiEdmonds.{InA, InC, InD}
+use Rattle.graph_core.specs.Graph.{Graph, IsBipartite, size}
+use Rattle.graph_core.specs.Partitions.{singles}
+use Rattle.graph_core.specs.Structure.{IsBicritical, IsCutPair}
+use Rattle.graph_core.specs.Tight.{HasNoTightCut, IsNontrivial, IsTight}
+use Rattle.graph_core.specs.declared.verdict.Kind.TheVariants.{Brace, Brick, Composite}
+use Rattle.graph_text.specs.EitherVersion.{NamedGraph}
+use Rattle.tree_core.specs.LeafMaps.{PlainLeafMap, leaf_at, map_at}
+use Rattle.tree_core.specs.Leaves.{leaves}
+use Rattle.tree_core.specs.Moves.{PlainMove, TurnsThrough}
+use Rattle.tree_core.specs.Shapes.{Shape}
+use Rattle.tree_text.specs.TreeFormat.{tree_format}
+use Rattle.line_text.specs.Format.{Stands}
+use Rattle.move_laws.specs.SameLeaf.{image}
+use Rattle.move_text.specs.MoveFormat.{move_format}
+use Rattle.ear_core.specs.EarLists.{IsEarList, IsSingle, PlainEars}
+use Rattle.ear_text.specs.EarFormat.{ear_format}
+use Rattle.report_text.specs.Analyses.{analysis_text}
+use Rattle.report_text.specs.Comparisons.{pairing_text}
+use Rattle.report_text.specs.declared.analyses.AnalysisLines.{AnalysisLines}
+use Rattle.report_text.specs.declared.structures.Structure.{Structure}
+use Rattle.bench_outcomes.specs.Comparisons.{lines_of}
+use Rattle.bench_outcomes.specs.Outcome.{with_given_names}
+use Rattle.cut_laws.specs.Words.{EndsInBrickOrBrace}
+use Rattle.theorems.specs.TightCuts.{IsTightCutTreeAt, PairsLeaves}
+
+-- the output of `analyse` tells the sets D, A and C: the vertices that some maximum matching
+-- misses, their other neighbours, the rest
+pub record TellsSets (named : NamedGraph) (output : List ℕ) : Type 0 where
+  pub lines : AnalysisLines
+  pub d : Lists named.graph.order lines.d (InD named.graph)
+  pub a : Lists named.graph.order lines.a (InA named.graph)
+  pub c : Lists named.graph.order lines.c (InC named.graph)
+  pub text : output ≡ with_given_names (analysis_text lines) named.names false
+
+-- the output of `decompose` tells a tree of nontrivial tight cuts from single vertices on, and at
+-- its ends are bricks and braces
+pub record TellsDecomposition (g : Graph) (output : List ℕ) : Type 0 where
+  pub tree : Shape
+  pub cuts : IsTightCutTreeAt g (singles g.order) tree
+  pub ends : All (EndsInBrickOrBrace g) (leaves g.order tree)
+  pub stands : Stands (tree_format g.order) output tree
+
+-- the output of `compare` tells a one-to-one pairing of the leaves of two derivations, with
+-- bijections that preserve adjacency, and moves that turn the first derivation through
+-- derivations into the second
+pub record TellsPairing (g : Graph) (s t : Shape) (output : List ℕ) : Type 0 where
+  pub maps : List PlainLeafMap
+  pub paired : PairsLeaves g (leaves g.order s) (leaves g.order t) (λ i. (map_at maps i).to) (λ i. image (leaf_at (leaves g.order t) (map_at maps i).to) (map_at maps i).images)
+  pub moves : List PlainMove
+  pub turns : TurnsThrough g s moves t
+  pub text : output ≡ pairing_text moves (lines_of 0 (leaves g.order s) maps)
+
+-- the output of `analyse` tells the kind of a matching covered graph: a brace is bipartite and a
+-- brick is not, and neither has a nontrivial tight cut; a brick is a graph that is not bipartite,
+-- is bicritical and has no cut pair (Edmonds, Lovász and Pulleyblank); a composite graph is shown
+-- by the shore of a nontrivial tight cut
+pub record TellsKind (named : NamedGraph) (output : List ℕ) : Type 0 where
+  pub lines : AnalysisLines
+  pub structure : Structure
+  pub told : lines.structure ≡ Some structure
+  pub brace : (structure.kind ≡ Brace) ↔ (IsBipartite named.graph × HasNoTightCut named.graph)
+  pub brick : (structure.kind ≡ Brick) ↔ ((¬ IsBipartite named.graph) × HasNoTightCut named.graph)
+  pub solid : (structure.kind ≡ Brick) ↔ ((¬ IsBipartite named.graph) × IsBicritical named.graph × ((u v : ℕ) → ¬ IsCutPair named.graph u v))
+  pub composite : (x : List ℕ) → structure.kind ≡ Composite x → IsTight named.graph (mem x) × IsNontrivial named.graph.order (mem x)
+  pub text : output ≡ with_given_names (analysis_text lines) named.names false
+
+-- the output of `ears` tells an ear decomposition, of single ears where the graph is bipartite
+pub record TellsEars (g : Graph) (output : List ℕ) : Type 0 where
+  pub list : PlainEars
+  pub ears : IsEarList g list
+  pub single : IsBipartite g → AllByRecursion IsSingle list.steps
+  pub stands : Stands (ear_format g.order (size g)) output list
+
+-- the output of `script` tells moves that turn the first derivation through derivations into the
+-- second
+pub record TellsScript (g : Graph) (s t : Shape) (output : List ℕ) : Type 0 where
+  pub moves : List PlainMove
+  pub turns : TurnsThrough g s moves t
+  pub stands : Stands (move_format g.order) output moves
