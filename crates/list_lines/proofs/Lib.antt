@@ -3,3 +3,4 @@ pub mod SimpleQuotients
 pub mod SingleLeaves
 pub mod LeafTexts
 pub mod PickedTrees
+pub mod Matched
