@@ -1,7 +1,9 @@
 -- The lines that `select` keeps: those whose graph has a property.
-use Rattle.std.specs.Prelude.{◌≡◌, ◌≢◌, ℕ, ◌⊎◌, List, [], Bool, true, false}
+use Rattle.std.specs.Prelude.{◌≡◌, ◌≢◌, ℕ, ◌≤◌, ◌⊎◌, List, [], Bool, true, false}
+use Rattle.counting.specs.Sets.{none}
 use Rattle.graph_core.specs.Covered.{IsCovered}
 use Rattle.graph_core.specs.Graph.{Graph}
+use Rattle.graph_core.specs.Matchings.{HasPerfect}
 use Rattle.graph_core.specs.Structure.{IsBicritical}
 use Rattle.std.specs.declared.option.Option.{Option}
 use Rattle.std.specs.declared.option.Option.TheVariants.{Some, None}
@@ -11,20 +13,30 @@ use Rattle.leaf_kinds.specs.LeafKinds.{IsKind}
 use Rattle.tree_core.specs.declared.tallies.Tally.{Tally}
 use Rattle.list_lines.specs.Standings.{IsCounted}
 use Rattle.list_lines.specs.declared.query.Property.{Property}
-use Rattle.list_lines.specs.declared.query.Property.TheVariants.{Covered, Brick, Brace, Bicritical, Composite, Bricks}
+use Rattle.list_lines.specs.declared.query.Property.TheVariants.{Covered, Uncovered, Brick, Brace, Bicritical, Composite, Bricks, Braces}
 
--- the graph has the property; so many bricks: as the leaves of some derivation are counted
+-- a bicritical graph as the literature has it: it has an edge, so two vertices and a perfect matching at least, and there is a
+-- perfect matching without any two vertices
+pub record IsBicriticalWithEdge (g : Graph) : Type 0 where
+  pub two : 2 ≤ g.order
+  pub matched : HasPerfect g none
+  pub critical : IsBicritical g
+
+-- the graph has the property; so many bricks or braces: as the leaves of some derivation are counted
 abbrev pub HasProperty : Graph → Property → Type 0
 HasProperty g Covered = IsCovered g
+HasProperty g Uncovered = ¬ IsCovered g
 HasProperty g Brick = IsCovered g × IsKind g kind.Brick
 HasProperty g Brace = IsCovered g × IsKind g kind.Brace
-HasProperty g Bicritical = IsBicritical g
+HasProperty g Bicritical = IsBicriticalWithEdge g
 HasProperty g Composite = IsCovered g × ((cut : List ℕ) × IsKind g (kind.Composite cut))
 HasProperty g (Bricks count) = (tally : Tally) × IsCounted g tally × (tally.bricks ≡ count)
+HasProperty g (Braces count) = (tally : Tally) × IsCounted g tally × (tally.braces ≡ count)
 
--- it has not; not so many bricks: it is not covered, or the leaves of some derivation are counted otherwise
+-- it has not; not so many bricks or braces: it is not covered, or the leaves of some derivation are counted otherwise
 abbrev pub LacksProperty : Graph → Property → Type 0
 LacksProperty g (Bricks count) = (¬ IsCovered g) ⊎ ((tally : Tally) × IsCounted g tally × (tally.bricks ≢ count))
+LacksProperty g (Braces count) = (¬ IsCovered g) ⊎ ((tally : Tally) × IsCounted g tally × (tally.braces ≢ count))
 LacksProperty g property = HasProperty g property → ⊥
 
 -- the answer is right

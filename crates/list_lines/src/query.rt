@@ -7,16 +7,20 @@ use decomposer::NamedOrder;
 pub enum Property {
     /// The graph is matching covered.
     Covered,
+    /// It is not.
+    Uncovered,
     /// It is a brick: covered, not bipartite, and without a nontrivial tight cut.
     Brick,
     /// It is a brace: covered, bipartite, and without a nontrivial tight cut.
     Brace,
-    /// It is bicritical: there is a perfect matching without any two of its vertices.
+    /// It is bicritical: it has at least two vertices and a perfect matching, and there is one without any two of its vertices.
     Bicritical,
     /// It is covered and has a nontrivial tight cut.
     Composite,
     /// It is covered, and so many leaves of its tight cut decompositions are bricks.
     Bricks { count: u32 },
+    /// It is covered, and so many leaves of its tight cut decompositions are braces.
+    Braces { count: u32 },
 }
 
 /// What is asked of a graph.

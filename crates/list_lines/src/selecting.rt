@@ -1,5 +1,8 @@
 //! Whether a graph has a property.
-ghost use Rattle.std.specs.Prelude.{◌≡◌, Some, IfOk};
+ghost use Rattle.std.specs.Prelude.{◌≡◌, ◌≤◌, ◌↔◌, Some, IfOk, IsTrue};
+ghost use Rattle.counting.specs.Sets.{none};
+ghost use Rattle.graph_core.specs.Matchings.{HasPerfect};
+ghost use Rattle.graph_core.specs.Structure.{IsBicritical};
 ghost use Rattle.list_lines.specs.Selecting.{Decides, IsSelected, TellsKind, TellsTally};
 
 use crate::query::Property;
@@ -7,9 +10,11 @@ use crate::standing::counted;
 use graph_core::{Kind, MultiGraph};
 use graph_facts::Covered;
 use leaf_kinds::kind_of;
+use match_core::perfect_without;
 use separation_kit::{FirstPairs, first_pairs_law, not_bicritical};
 use std::alloc::{AllocError as Memory, Global};
 use tree_core::Tally;
+use vset_core::VSet;
 
 /// The line itself where its graph has the property, and nothing where it has not.
 pub fn selected(
@@ -33,11 +38,43 @@ fn has_property(alloc: Global, g: &MultiGraph, property: Property) -> Result<boo
 {
     match property {
         Property::Covered => is_covered(alloc, g),
+        Property::Uncovered => is_uncovered(alloc, g),
         Property::Brick => is_brick(alloc, g),
         Property::Brace => is_brace(alloc, g),
         Property::Bicritical => is_bicritical(alloc, g),
         Property::Composite => is_composite(alloc, g),
         Property::Bricks { count } => has_bricks(alloc, g, count),
+        Property::Braces { count } => has_braces(alloc, g, count),
+    }
+}
+
+// Whether the graph is not matching covered.
+fn is_uncovered(alloc: Global, g: &MultiGraph) -> Result<bool, Memory>
+    ensures { IfOk result (Decides g.now Property.Uncovered) }
+{
+    if is_covered(alloc, g)? {
+        Ok(false)
+    } else {
+        Ok(true)
+    }
+}
+
+// Whether the graph has a perfect matching.
+fn has_perfect(alloc: Global, g: &MultiGraph) -> Result<bool, Memory>
+    ensures { IfOk result (λ holds. IsTrue holds ↔ HasPerfect g.now none) }
+{
+    let found = perfect_without(alloc, g, VSet::empty())?;
+    Ok(found.is_some())
+}
+
+// Whether there is a perfect matching without any two vertices.
+fn is_critical(alloc: Global, g: &MultiGraph) -> Result<bool, Memory>
+    ensures { IfOk result (λ holds. IsTrue holds ↔ IsBicritical g.now) }
+{
+    first_pairs_law();
+    match not_bicritical(alloc, g)? {
+        Some(_) => Ok(false),
+        None => Ok(true),
     }
 }
 
@@ -45,10 +82,13 @@ fn has_property(alloc: Global, g: &MultiGraph, property: Property) -> Result<boo
 fn is_bicritical(alloc: Global, g: &MultiGraph) -> Result<bool, Memory>
     ensures { IfOk result (Decides g.now Property.Bicritical) }
 {
-    first_pairs_law();
-    match not_bicritical(alloc, g)? {
-        Some(_) => Ok(false),
-        None => Ok(true),
+    if g.order() < 2 {
+        return Ok(false);
+    }
+    if has_perfect(alloc, g)? && is_critical(alloc, g)? {
+        Ok(true)
+    } else {
+        Ok(false)
     }
 }
 
@@ -127,6 +167,16 @@ fn has_bricks(alloc: Global, g: &MultiGraph, count: u32) -> Result<bool, Memory>
 {
     match tally_if_covered(alloc, g)? {
         Some(tally) => Ok(tally.bricks == count),
+        None => Ok(false),
+    }
+}
+
+// Whether the graph is covered, and so many of its leaves are braces.
+fn has_braces(alloc: Global, g: &MultiGraph, count: u32) -> Result<bool, Memory>
+    ensures { IfOk result (Decides g.now (Property.Braces count)) }
+{
+    match tally_if_covered(alloc, g)? {
+        Some(tally) => Ok(tally.braces == count),
         None => Ok(false),
     }
 }

@@ -2,14 +2,16 @@
 ghost use Rattle.std.specs.Prelude.{◌≡◌, IfOk, Ok};
 ghost use Rattle.graph6_text.specs.Reading.{outcome_of};
 ghost use Rattle.graph_core.specs.Simple.{IsSimple};
-ghost use Rattle.list_lines.specs.Telling.{IsAnswer, IsFileAnswer};
+ghost use Rattle.graph_text.specs.Names.{plain_names};
+ghost use Rattle.graph_text.specs.Writing.{named_text};
+ghost use Rattle.list_lines.specs.Telling.{IsAnswer, file_text};
 
 use crate::kind_lines::kind_line;
 use crate::leaf_lines::leaf_lines;
 use crate::query::Query;
 use crate::selecting::selected;
 use graph_core::MultiGraph;
-use graph_text::{VERSION_ONE_EDGES, VERSION_ONE_VERTICES, write_graph};
+use graph_text::{VERSION_ONE_EDGES, VERSION_ONE_VERTICES, plain_names, write_graph, write_named};
 use graph6_text::read_graph6;
 use std::alloc::{AllocError as Memory, Global};
 use text_faults::{FaultKind, TextFault};
@@ -24,8 +26,7 @@ pub enum Told {
 }
 
 /// The answer for a line with this number, counted from 1: what the query asks of the graph that stands in the line, or the kind of
-/// the line's fault. The line may have a header before the graph6 text and a line end behind it, as `read_graph6` has it. A graph
-/// that is too large for a graph file is a fault of the kind `Limit` where its file is asked for.
+/// the line's fault. The line may have a header before the graph6 text and a line end behind it, as `read_graph6` has it.
 pub fn tell(alloc: Global, query: &Query, number: u64, line: &[u8]) -> Result<Told, Memory>
     ensures { IfOk result (IsAnswer query.now number line.now) }
 {
@@ -58,8 +59,8 @@ fn answer(
             Ok(Told::Output { bytes })
         }
         Query::Graph => {
-            let answer = file_text(alloc, g)?;
-            Ok(answer)
+            let bytes = file_text(alloc, g)?;
+            Ok(Told::Output { bytes })
         }
         Query::Select { property } => {
             let bytes = selected(alloc, g, *property, line)?;
@@ -68,14 +69,23 @@ fn answer(
     }
 }
 
-// The canonical text of the graph file, or that the graph is too large for one.
-fn file_text(alloc: Global, g: &MultiGraph) -> Result<Told, Memory>
-    ensures { IfOk result (IsFileAnswer g.now) }
+// The canonical text of the graph file: of version 1, or where that has no room of version 2 with plain names.
+#[tactic(auto, unfolding(crate::specs::Telling::file_text))]
+fn file_text(alloc: Global, g: &MultiGraph) -> Result<Vec<u8>, Memory>
+    ensures { IfOk result (λ bytes. bytes.items ≡ file_text g.now) }
 {
     if g.order() > VERSION_ONE_VERTICES || g.size() > VERSION_ONE_EDGES {
-        let kind = FaultKind::Limit;
-        return Ok(Told::Bad { kind });
+        named_file_text(alloc, g)
+    } else {
+        write_graph(alloc, g)
     }
-    let bytes = write_graph(alloc, g)?;
-    Ok(Told::Output { bytes })
+}
+
+// The canonical text of the graph file of version 2 with plain names.
+fn named_file_text(alloc: Global, g: &MultiGraph) -> Result<Vec<u8>, Memory>
+    ensures { IfOk result (λ bytes. bytes.items ≡ named_text g.now (plain_names g.now.order)) }
+{
+    g.keeps_limits();
+    let names = plain_names(alloc, g.order())?;
+    write_named(alloc, g, &names)
 }

@@ -1,88 +1,103 @@
--- What is told of some lines, and then of the lines behind them, is told of all of them.
+-- What is told of some lines, and then of the lines after them, is told of all of them.
 use Rattle.std.proofs.Common.{◌≡◌, inl, inr, ℕ, suc, ◌+◌, List, [], ◌∷◌, ◌++◌, length, take, refl, sym, subst, ◌∙◌, ap, arith, append_assoc, length-append}
 use Rattle.std.proofs.lemmas.List.{append-nil}
-use Rattle.text_faults.specs.Kinds.{kind_number}
+use Rattle.std.specs.declared.option.Option.{Option}
+use Rattle.std.specs.declared.option.Option.TheVariants.{Some, None}
 use Rattle.text_faults.specs.declared.faults.FaultKind.{FaultKind}
+use Rattle.list_reader.specs.declared.ending.BadLine.{BadLine}
 use Rattle.list_reader.specs.declared.ending.Ending.{Ending}
 use Rattle.list_reader.specs.declared.ending.Ending.TheVariants.{Done, Bad, ReadFault, WriteFault, Memory}
-use Rattle.list_reader.specs.Told.{LineTold, LineBad, NamesBad, fault_line}
-use Rattle.list_reader.specs.Lists.{AllTold, BeginningTold, ToldToBad, CutShort}
+use Rattle.list_reader.specs.declared.place.Place.{Place}
+use Rattle.list_reader.specs.Places.{place_after, place_behind}
+use Rattle.list_reader.specs.Told.{LineTold, NamesBad}
+use Rattle.list_reader.specs.Lists.{AllTold, BeginningTold, WholeTold, HasBadLine, LacksLine, ToldToBad, CutShort}
 use Rattle.list_reader.specs.Endings.{Gives}
 
+pub place_behind-append : (n : Place) (xs ys : List (List ℕ)) → place_behind n (xs ++ ys) ≡ place_behind (place_behind n xs) ys
+place_behind-append n [] ys = refl
+place_behind-append n (x ∷ xs) ys = place_behind-append (place_after n x) xs ys
+
 pub AllTold-append :
-    (tells : ℕ → List ℕ → List ℕ → Type 0) (n m : ℕ) (xs ys : List (List ℕ)) (a b : List ℕ) →
-    m ≡ n + length xs → AllTold tells n xs a → AllTold tells m ys b → AllTold tells n (xs ++ ys) (a ++ b)
-AllTold-append tells n m [] ys a b place told behind =
-    let same : m ≡ n = omega arith in
+    (tells : Place → List ℕ → List ℕ → Type 0) (n : Place) (xs ys : List (List ℕ)) (a b : List ℕ) →
+    AllTold tells n xs a → AllTold tells (place_behind n xs) ys b → AllTold tells n (xs ++ ys) (a ++ b)
+AllTold-append tells n [] ys a b told behind =
     let out : a ++ b ≡ b = ap (λ (t : List ℕ). t ++ b) told in
-    subst (λ (t : List ℕ). AllTold tells n ys t) (sym out) (subst (λ (k : ℕ). AllTold tells k ys b) same behind)
-AllTold-append tells n m (x ∷ xs) ys a b place (first, others, one, rest, out) behind = (
+    subst (λ (t : List ℕ). AllTold tells n ys t) (sym out) behind
+AllTold-append tells n (x ∷ xs) ys a b (first, others, one, rest, out) behind = (
   first,
   others ++ b,
   one,
-  AllTold-append tells (n + 1) m xs ys others b (omega arith) rest behind,
+  AllTold-append tells (place_after n x) xs ys others b rest behind,
   ap (λ (t : List ℕ). t ++ b) out ∙ append_assoc first others b,
 )
 
 -- one line
 pub AllTold-one :
-    (tells : ℕ → List ℕ → List ℕ → Type 0) (n : ℕ) (line output : List ℕ) →
+    (tells : Place → List ℕ → List ℕ → Type 0) (n : Place) (line output : List ℕ) →
     LineTold tells n line output → AllTold tells n (line ∷ []) output
 AllTold-one tells n line output told = (output, [], told, refl, sym (append-nil output))
 
 pub BeginningTold-none :
-    (tells : ℕ → List ℕ → List ℕ → Type 0) (n : ℕ) (lines : List (List ℕ)) → BeginningTold tells n lines []
+    (tells : Place → List ℕ → List ℕ → Type 0) (n : Place) (lines : List (List ℕ)) → BeginningTold tells n lines []
 BeginningTold-none tells n lines = record { before = []; behind = lines; cut = refl; told = refl }
 
 pub BeginningTold-behind :
-    (tells : ℕ → List ℕ → List ℕ → Type 0) (n m : ℕ) (xs ys : List (List ℕ)) (a b : List ℕ) →
-    m ≡ n + length xs → AllTold tells n xs a → BeginningTold tells m ys b → BeginningTold tells n (xs ++ ys) (a ++ b)
-BeginningTold-behind tells n m xs ys a b place told behind = record {
+    (tells : Place → List ℕ → List ℕ → Type 0) (n : Place) (xs ys : List (List ℕ)) (a b : List ℕ) →
+    AllTold tells n xs a → BeginningTold tells (place_behind n xs) ys b → BeginningTold tells n (xs ++ ys) (a ++ b)
+BeginningTold-behind tells n xs ys a b told behind = record {
   before = xs ++ behind.before;
   behind = behind.behind;
   cut = ap (λ (l : List (List ℕ)). xs ++ l) behind.cut ∙ sym (append_assoc xs behind.before behind.behind);
-  told = AllTold-append tells n m xs behind.before a b place told behind.told;
+  told = AllTold-append tells n xs behind.before a b told behind.told;
 }
 
 -- the first line is bad
-pub ToldToBad-first :
-    (tells : ℕ → List ℕ → List ℕ → Type 0) (bad : ℕ → List ℕ → FaultKind → Type 0) (n : ℕ) (line output : List ℕ)
-    (lines : List (List ℕ)) → NamesBad bad n line output → ToldToBad tells bad n (line ∷ lines) output
-ToldToBad-first tells bad n line output lines named =
-    let at : n ≡ n + 0 = omega arith in
+pub HasBadLine-first :
+    (tells : Place → List ℕ → List ℕ → Type 0) (bad : Place → List ℕ → FaultKind → Type 0) (n : Place) (line : List ℕ) (found : BadLine)
+    (lines : List (List ℕ)) → NamesBad bad n line found → HasBadLine tells bad n (line ∷ lines) found []
+HasBadLine-first tells bad n line found lines named = record {
+  before = [];
+  line = line;
+  behind = lines;
+  cut = refl;
+  told = refl;
+  named = named;
+}
+
+pub HasBadLine-behind :
+    (tells : Place → List ℕ → List ℕ → Type 0) (bad : Place → List ℕ → FaultKind → Type 0) (n : Place) (xs ys : List (List ℕ))
+    (found : BadLine) (a b : List ℕ) →
+    AllTold tells n xs a → HasBadLine tells bad (place_behind n xs) ys found b → HasBadLine tells bad n (xs ++ ys) found (a ++ b)
+HasBadLine-behind tells bad n xs ys found a b told behind = record {
+  before = xs ++ behind.before;
+  line = behind.line;
+  behind = behind.behind;
+  cut = ap (λ (l : List (List ℕ)). xs ++ l) behind.cut ∙ sym (append_assoc xs behind.before (behind.line ∷ behind.behind));
+  told = AllTold-append tells n xs behind.before a b told behind.told;
+  named = subst (λ (p : Place). NamesBad bad p behind.line found) (sym (place_behind-append n xs behind.before)) behind.named;
+}
+
+pub LacksLine-behind :
+    (tells : Place → List ℕ → List ℕ → Type 0) (lacks : ℕ → Option FaultKind) (n : Place) (xs ys : List (List ℕ))
+    (found : BadLine) (a b : List ℕ) →
+    AllTold tells n xs a → LacksLine tells lacks (place_behind n xs) ys found b → LacksLine tells lacks n (xs ++ ys) found (a ++ b)
+LacksLine-behind tells lacks n xs ys found a b told behind =
+    let at = sym (place_behind-append n xs ys) in
     record {
-      before = [];
-      line = line;
-      behind = lines;
-      good = [];
-      kind = named.kind;
-      cut = refl;
-      told = refl;
-      bad_line = subst (λ (k : ℕ). LineBad bad k line named.kind) at named.bad_line;
-      text = subst (λ (k : ℕ). output ≡ fault_line k (kind_number named.kind)) at named.text;
+      told = AllTold-append tells n xs ys a b told behind.told;
+      ends = subst (λ (p : Place). lacks p.graphs ≡ Some found.kind) at behind.ends;
+      number = subst (λ (p : Place). found.number ≡ p.number) at behind.number;
+      nothing = behind.nothing;
     }
 
 pub ToldToBad-behind :
-    (tells : ℕ → List ℕ → List ℕ → Type 0) (bad : ℕ → List ℕ → FaultKind → Type 0) (n m : ℕ) (xs ys : List (List ℕ)) (a b : List ℕ) →
-    m ≡ n + length xs → AllTold tells n xs a → ToldToBad tells bad m ys b → ToldToBad tells bad n (xs ++ ys) (a ++ b)
-ToldToBad-behind tells bad n m xs ys a b place told behind =
-    let at : m + length behind.before ≡ n + length (xs ++ behind.before) = omega (arith, length-append xs behind.before) in
-    record {
-      before = xs ++ behind.before;
-      line = behind.line;
-      behind = behind.behind;
-      good = a ++ behind.good;
-      kind = behind.kind;
-      cut = ap (λ (l : List (List ℕ)). xs ++ l) behind.cut ∙ sym (append_assoc xs behind.before (behind.line ∷ behind.behind));
-      told = AllTold-append tells n m xs behind.before a behind.good place told behind.told;
-      bad_line = subst (λ (k : ℕ). LineBad bad k behind.line behind.kind) at behind.bad_line;
-      text =
-          ap (λ (t : List ℕ). a ++ t) behind.text
-          ∙ sym (append_assoc a behind.good (fault_line (m + length behind.before) (kind_number behind.kind)))
-          ∙ ap (λ (k : ℕ). (a ++ behind.good) ++ fault_line k (kind_number behind.kind)) at;
-    }
+    (tells : Place → List ℕ → List ℕ → Type 0) (bad : Place → List ℕ → FaultKind → Type 0) (lacks : ℕ → Option FaultKind) (n : Place)
+    (xs ys : List (List ℕ)) (found : BadLine) (a b : List ℕ) →
+    AllTold tells n xs a → ToldToBad tells bad lacks (place_behind n xs) ys found b → ToldToBad tells bad lacks n (xs ++ ys) found (a ++ b)
+ToldToBad-behind tells bad lacks n xs ys found a b told (inl behind) = inl (HasBadLine-behind tells bad n xs ys found a b told behind)
+ToldToBad-behind tells bad lacks n xs ys found a b told (inr behind) = inr (LacksLine-behind tells lacks n xs ys found a b told behind)
 
--- a prefix of a second list behind a first one
+-- a prefix of a second list after a first one
 take-behind : (a b : List ℕ) (n : ℕ) → a ++ take n b ≡ take (length a + n) (a ++ b)
 take-behind [] b n = let same : 0 + n ≡ n = omega arith in ap (λ (k : ℕ). take k b) (sym same)
 take-behind (x ∷ a) b n =
@@ -90,26 +105,31 @@ take-behind (x ∷ a) b n =
     ap (λ (t : List ℕ). x ∷ t) (take-behind a b n) ∙ ap (λ (k : ℕ). take k (x ∷ (a ++ b))) (sym next)
 
 pub CutShort-behind :
-    (tells : ℕ → List ℕ → List ℕ → Type 0) (bad : ℕ → List ℕ → FaultKind → Type 0) (n m : ℕ) (xs ys : List (List ℕ)) (a b : List ℕ) →
-    m ≡ n + length xs → AllTold tells n xs a → CutShort tells bad m ys b → CutShort tells bad n (xs ++ ys) (a ++ b)
-CutShort-behind tells bad n m xs ys a b place told behind = record {
+    (tells : Place → List ℕ → List ℕ → Type 0) (n : Place) (xs ys : List (List ℕ)) (a b : List ℕ) →
+    AllTold tells n xs a → CutShort tells (place_behind n xs) ys b → CutShort tells n (xs ++ ys) (a ++ b)
+CutShort-behind tells n xs ys a b told behind = record {
   whole = a ++ behind.whole;
   count = length a + behind.count;
-  of = elim behind.of [
-    | inl begun ↦ inl (BeginningTold-behind tells n m xs ys a behind.whole place told begun)
-    | inr ended ↦ inr (ToldToBad-behind tells bad n m xs ys a behind.whole place told ended)
-  ];
+  of = BeginningTold-behind tells n xs ys a behind.whole told behind.of;
   less = let less = behind.less in omega (arith, length-append a behind.whole);
   part = ap (λ (t : List ℕ). a ++ t) behind.part ∙ take-behind a behind.whole behind.count;
 }
 
--- lines that are told, and what the lines behind them give
+WholeTold-behind :
+    (tells : Place → List ℕ → List ℕ → Type 0) (lacks : ℕ → Option FaultKind) (n : Place) (xs ys : List (List ℕ)) (a b : List ℕ) →
+    AllTold tells n xs a → WholeTold tells lacks (place_behind n xs) ys b → WholeTold tells lacks n (xs ++ ys) (a ++ b)
+WholeTold-behind tells lacks n xs ys a b told behind = record {
+  told = AllTold-append tells n xs ys a b told behind.told;
+  ends = subst (λ (p : Place). lacks p.graphs ≡ None) (sym (place_behind-append n xs ys)) behind.ends;
+}
+
+-- lines that are told, and what the lines after them give
 pub Gives-behind :
-    (tells : ℕ → List ℕ → List ℕ → Type 0) (bad : ℕ → List ℕ → FaultKind → Type 0) (n m : ℕ) (xs ys : List (List ℕ)) (a b : List ℕ)
-    (ending : Ending) →
-    m ≡ n + length xs → AllTold tells n xs a → Gives tells bad m ys ending b → Gives tells bad n (xs ++ ys) ending (a ++ b)
-Gives-behind tells bad n m xs ys a b Done place told behind = AllTold-append tells n m xs ys a b place told behind
-Gives-behind tells bad n m xs ys a b Bad place told behind = ToldToBad-behind tells bad n m xs ys a b place told behind
-Gives-behind tells bad n m xs ys a b ReadFault place told behind = BeginningTold-behind tells n m xs ys a b place told behind
-Gives-behind tells bad n m xs ys a b WriteFault place told behind = CutShort-behind tells bad n m xs ys a b place told behind
-Gives-behind tells bad n m xs ys a b Memory place told behind = BeginningTold-behind tells n m xs ys a b place told behind
+    (tells : Place → List ℕ → List ℕ → Type 0) (bad : Place → List ℕ → FaultKind → Type 0) (lacks : ℕ → Option FaultKind) (n : Place)
+    (xs ys : List (List ℕ)) (a b : List ℕ) (ending : Ending) →
+    AllTold tells n xs a → Gives tells bad lacks (place_behind n xs) ys ending b → Gives tells bad lacks n (xs ++ ys) ending (a ++ b)
+Gives-behind tells bad lacks n xs ys a b Done told behind = WholeTold-behind tells lacks n xs ys a b told behind
+Gives-behind tells bad lacks n xs ys a b (Bad found) told behind = ToldToBad-behind tells bad lacks n xs ys found a b told behind
+Gives-behind tells bad lacks n xs ys a b ReadFault told behind = BeginningTold-behind tells n xs ys a b told behind
+Gives-behind tells bad lacks n xs ys a b WriteFault told behind = CutShort-behind tells n xs ys a b told behind
+Gives-behind tells bad lacks n xs ys a b Memory told behind = BeginningTold-behind tells n xs ys a b told behind

@@ -2,4 +2,8 @@ pub mod LineCuts
 pub mod Joins
 pub mod OneOutput
 pub mod Pieces
+pub mod Writings
+pub mod Stages
+pub mod LeftBytes
 pub mod Readings
+pub mod Streaming

@@ -1,22 +1,62 @@
--- What the pieces of a text give together: the lines that are told so far are whole, so what stands behind them begins anew.
-use Rattle.std.proofs.Common.{◌≡◌, inl, ℕ, ◌+◌, ◌<◌, List, [], ◌∷◌, ◌++◌, length, take, refl, sym, subst, ◌∙◌, ap, arith, append_assoc, length-append}
+-- What the pieces of a text give together: the lines that are told so far are whole, so what stands after them begins anew.
+use Rattle.std.proofs.Common.{◌≡◌, inl, inr, ℕ, ◌<◌, ◌≤◌, List, [], ◌∷◌, ◌++◌, length, refl, sym, subst, ◌∙◌, ap, arith, append_assoc, length-append, IsTrue, IsFalse}
 use Rattle.std.proofs.lemmas.List.{append-nil}
 use Rattle.std.specs.declared.option.Option.{Option}
-use Rattle.outside.specs.Sink.{appended}
-use Rattle.text_faults.specs.Kinds.{kind_number}
 use Rattle.text_faults.specs.declared.faults.FaultKind.{FaultKind}
 use Rattle.text_faults.specs.declared.faults.FaultKind.TheVariants.{Limit}
-use Rattle.list_reader.specs.declared.ending.Ending.TheVariants.{Bad, WriteFault}
+use Rattle.list_reader.specs.declared.ending.BadLine.{BadLine}
+use Rattle.list_reader.specs.declared.ending.Ending.TheVariants.{Bad}
+use Rattle.list_reader.specs.declared.ending.Stop.{Stop}
+use Rattle.list_reader.specs.declared.ending.Stop.TheVariants as stop
+use Rattle.list_reader.specs.declared.place.Place.{Place}
+use Rattle.list_reader.specs.Headers.{is_header}
 use Rattle.list_reader.specs.Lines.{lines_of, HasNoFeed, IsFirstLine}
-use Rattle.list_reader.specs.Told.{LineTold, NamesBad, most_line, fault_line}
-use Rattle.list_reader.specs.Lists.{AllTold, BeginningTold, ToldToBad}
-use Rattle.list_reader.specs.Endings.{Appended, Added, ToldThrough, StopsWith}
+use Rattle.list_reader.specs.Places.{place_after, place_behind}
+use Rattle.list_reader.specs.Told.{LineTold, NamesBad, IsFound, IfBad, most_line}
+use Rattle.list_reader.specs.Lists.{AllTold, BeginningTold, HasBadLine, ToldToBad}
+use Rattle.list_reader.specs.Endings.{Added, ToldThrough, StopsWith}
 use Rattle.list_reader.proofs.LineCuts.{lines_of-nil, lines_of-closed, lines_of-last, lines_of-begun, IsClosed-append}
-use Rattle.list_reader.proofs.Joins.{AllTold-append, AllTold-one, ToldToBad-first, ToldToBad-behind}
+use Rattle.list_reader.proofs.Joins.{place_behind-append, AllTold-append, AllTold-one, HasBadLine-first, HasBadLine-behind}
+
+-- the header alone is told by nothing
+pub told_header :
+    (tells : Place → List ℕ → List ℕ → Type 0) (n : Place) (line output : List ℕ) →
+    IsTrue (is_header n.number line) → Added (LineTold tells n line) output output
+told_header tells n line output header = record { more = []; right = inl (header, refl); output = sym (append-nil output) }
+
+-- any other line is told by what the teller answers
+pub told_line :
+    (tells : Place → List ℕ → List ℕ → Type 0) (n : Place) (line bytes before now : List ℕ) →
+    IsFalse (is_header n.number line) → length line ≤ most_line → tells n line bytes → now ≡ before ++ bytes →
+    Added (LineTold tells n line) before now
+told_line tells n line bytes before now other short told more = record { more = bytes; right = inr (other, short, told); output = more }
+
+-- a line that is too long is bad
+pub names_long :
+    (bad : Place → List ℕ → FaultKind → Type 0) (n : Place) (line : List ℕ) (why : Stop) →
+    most_line < length line → IfBad (IsFound n.number Limit line) why → IfBad (NamesBad bad n line) why
+names_long bad n line stop.Memory long found = tt
+names_long bad n line (stop.Bad bad_line) long found = record {
+  bad_line = inl (long, found.of_kind);
+  number = found.numbered;
+  kept = inl found.kept;
+}
+
+-- a line in which the teller finds a fault is bad
+pub names_bad :
+    (bad : Place → List ℕ → FaultKind → Type 0) (n : Place) (line : List ℕ) (kind : FaultKind) (why : Stop) →
+    IsFalse (is_header n.number line) → length line ≤ most_line → bad n line kind → IfBad (IsFound n.number kind line) why →
+    IfBad (NamesBad bad n line) why
+names_bad bad n line kind stop.Memory other short is found = tt
+names_bad bad n line kind (stop.Bad bad_line) other short is found = record {
+  bad_line = inr (other, short, subst (λ (k : FaultKind). bad n line k) (sym found.of_kind) is);
+  number = found.numbered;
+  kept = inl found.kept;
+}
 
 -- nothing is told yet
 pub through_none :
-    (tells : ℕ → List ℕ → List ℕ → Type 0) (n : ℕ) (text output : List ℕ) →
+    (tells : Place → List ℕ → List ℕ → Type 0) (n : Place) (text output : List ℕ) →
     Added (ToldThrough tells n text text n) output output
 through_none tells n text output = record {
   more = [];
@@ -24,24 +64,21 @@ through_none tells n text output = record {
     whole = [];
     cut = refl;
     closed = inl refl;
-    told = subst (λ (ls : List (List ℕ)). AllTold tells (n + 1) ls []) (sym lines_of-nil) refl;
-    count = let none : length (lines_of []) ≡ 0 = ap (λ (ls : List (List ℕ)). length ls) lines_of-nil in omega arith;
+    told = subst (λ (ls : List (List ℕ)). AllTold tells n ls []) (sym lines_of-nil) refl;
+    place = ap (λ (ls : List (List ℕ)). place_behind n ls) (sym lines_of-nil);
   };
   output = sym (append-nil output);
 }
 
 -- one more line is told
 pub through_more :
-    (tells : ℕ → List ℕ → List ℕ → Type 0) (n k next : ℕ) (text rest line behind a b c : List ℕ) →
-    Added (ToldThrough tells n text rest k) a b → IsFirstLine rest line behind → next ≡ k + 1 →
-    Added (LineTold tells next line) b c → Added (ToldThrough tells n text behind next) a c
-through_more tells n k next text rest line behind a b c so_far first counted one =
+    (tells : Place → List ℕ → List ℕ → Type 0) (n k next : Place) (text rest line behind a b c : List ℕ) →
+    Added (ToldThrough tells n text rest k) a b → IsFirstLine rest line behind → next ≡ place_after k line →
+    Added (LineTold tells k line) b c → Added (ToldThrough tells n text behind next) a c
+through_more tells n k next text rest line behind a b c so_far first after one =
     let whole = so_far.right.whole in
     let lines : lines_of (whole ++ line) ≡ lines_of whole ++ line ∷ [] =
     lines_of-closed whole line so_far.right.closed ∙ ap (λ (ls : List (List ℕ)). lines_of whole ++ ls) first.alone in
-    let before : k ≡ n + length (lines_of whole) = so_far.right.count in
-    let lengths : length (lines_of (whole ++ line)) ≡ length (lines_of whole) + 1 =
-    ap (λ (ls : List (List ℕ)). length ls) lines ∙ length-append (lines_of whole) (line ∷ []) in
     record {
       more = so_far.more ++ one.more;
       right = record {
@@ -52,26 +89,31 @@ through_more tells n k next text rest line behind a b c so_far first counted one
             ∙ sym (append_assoc whole line behind);
         closed = IsClosed-append whole line so_far.right.closed first.closed;
         told =
-            subst (λ (ls : List (List ℕ)). AllTold tells (n + 1) ls (so_far.more ++ one.more)) (sym lines)
-            (AllTold-append tells (n + 1) next (lines_of whole) (line ∷ []) so_far.more one.more
-            (omega arith) so_far.right.told (AllTold-one tells next line one.more one.right));
-        count = omega arith;
+            subst (λ (ls : List (List ℕ)). AllTold tells n ls (so_far.more ++ one.more)) (sym lines)
+            (AllTold-append tells n (lines_of whole) (line ∷ []) so_far.more one.more so_far.right.told
+            (AllTold-one tells (place_behind n (lines_of whole)) line one.more
+            (subst (λ (p : Place). LineTold tells p line one.more) so_far.right.place one.right)));
+        place =
+            after
+            ∙ ap (λ (p : Place). place_after p line) so_far.right.place
+            ∙ sym (place_behind-append n (lines_of whole) (line ∷ []))
+            ∙ ap (λ (ls : List (List ℕ)). place_behind n ls) (sym lines);
       };
       output = one.output ∙ ap (λ (t : List ℕ). t ++ one.more) so_far.output ∙ append_assoc a so_far.more one.more;
     }
 
--- a bad line with that number stands first in a text, whatever is behind it
-pub record OpensBad (bad : ℕ → List ℕ → FaultKind → Type 0) (number : ℕ) (text bytes : List ℕ) : Type 0 where
+-- a bad line at that place stands first in a text, whatever is after it
+pub record OpensBad (bad : Place → List ℕ → FaultKind → Type 0) (n : Place) (text : List ℕ) (found : BadLine) : Type 0 where
   pub line : List ℕ
   pub others : List (List ℕ)
   pub cut : lines_of text ≡ line ∷ others
-  pub named : NamesBad bad number line bytes
+  pub named : NamesBad bad n line found
 
 -- a first line that is bad
-pub opens_first :
-    (bad : ℕ → List ℕ → FaultKind → Type 0) (number : ℕ) (rest line behind tail bytes : List ℕ) →
-    IsFirstLine rest line behind → NamesBad bad number line bytes → OpensBad bad number (rest ++ tail) bytes
-opens_first bad number rest line behind tail bytes first named = record {
+opens_first :
+    (bad : Place → List ℕ → FaultKind → Type 0) (n : Place) (rest line behind tail : List ℕ) (found : BadLine) →
+    IsFirstLine rest line behind → NamesBad bad n line found → OpensBad bad n (rest ++ tail) found
+opens_first bad n rest line behind tail found first named = record {
   line = line;
   others = lines_of (behind ++ tail);
   cut =
@@ -83,10 +125,10 @@ opens_first bad number rest line behind tail bytes first named = record {
 }
 
 -- a line that is too long, before its end was read
-pub opens_long :
-    (bad : ℕ → List ℕ → FaultKind → Type 0) (number : ℕ) (rest tail : List ℕ) →
-    HasNoFeed rest → most_line < length rest → OpensBad bad number (rest ++ tail) (fault_line number (kind_number Limit))
-opens_long bad number rest tail none long =
+opens_long :
+    (bad : Place → List ℕ → FaultKind → Type 0) (n : Place) (rest tail : List ℕ) (found : BadLine) →
+    HasNoFeed rest → most_line < length rest → IsFound n.number Limit rest found → OpensBad bad n (rest ++ tail) found
+opens_long bad n rest tail found none long is =
     let some : 0 < length rest = omega arith in
     let begun = lines_of-begun rest tail none some in
     record {
@@ -94,15 +136,19 @@ opens_long bad number rest tail none long =
       others = begun.others;
       cut = begun.first;
       named = record {
-        kind = Limit;
-        bad_line = inl (omega (arith, length-append rest begun.more), refl);
-        text = refl;
+        bad_line = inl (omega (arith, length-append rest begun.more), is.of_kind);
+        number = is.numbered;
+        kept =
+            inr (
+              subst (λ (t : List ℕ). most_line < length t) (sym is.kept) long,
+              (begun.more, ap (λ (t : List ℕ). t ++ begun.more) (sym is.kept)),
+            );
       };
     }
 
--- the lines of a text and of what is behind it, where its lines are told up to some place
+-- the lines of a text and of what is after it, where its lines are told up to some place
 through_lines :
-    (tells : ℕ → List ℕ → List ℕ → Type 0) (n k : ℕ) (text rest tail output : List ℕ) →
+    (tells : Place → List ℕ → List ℕ → Type 0) (n k : Place) (text rest tail output : List ℕ) →
     (through : ToldThrough tells n text rest k output) →
     lines_of (text ++ tail) ≡ lines_of through.whole ++ lines_of (rest ++ tail)
 through_lines tells n k text rest tail output through =
@@ -111,62 +157,68 @@ through_lines tells n k text rest tail output through =
     ∙ lines_of-closed through.whole (rest ++ tail) through.closed
 
 -- the next line is bad
-pub through_bad :
-    (tells : ℕ → List ℕ → List ℕ → Type 0) (bad : ℕ → List ℕ → FaultKind → Type 0) (n k next : ℕ)
-    (text rest a b c bytes : List ℕ) →
-    Added (ToldThrough tells n text rest k) a b → next ≡ k + 1 →
-    ((tail : List ℕ) → OpensBad bad next (rest ++ tail) bytes) → c ≡ b ++ bytes →
-    Added (StopsWith tells bad n text Bad) a c
-through_bad tells bad n k next text rest a b c bytes so_far counted opens more =
+through_bad :
+    (tells : Place → List ℕ → List ℕ → Type 0) (bad : Place → List ℕ → FaultKind → Type 0) (lacks : ℕ → Option FaultKind) (n k : Place)
+    (text rest a b : List ℕ) (found : BadLine) →
+    Added (ToldThrough tells n text rest k) a b → ((tail : List ℕ) → OpensBad bad k (rest ++ tail) found) →
+    Added (StopsWith tells bad lacks n text (Bad found)) a b
+through_bad tells bad lacks n k text rest a b found so_far opens =
     let whole = so_far.right.whole in
-    let before : k ≡ n + length (lines_of whole) = so_far.right.count in
     record {
-      more = so_far.more ++ bytes;
+      more = so_far.more;
       right = λ tail.
           let opened = opens tail in
-          subst (λ (ls : List (List ℕ)). ToldToBad tells bad (n + 1) ls (so_far.more ++ bytes))
+          let named = subst (λ (p : Place). NamesBad bad p opened.line found) so_far.right.place opened.named in
+          inl (
+          subst (λ (ls : List (List ℕ)). HasBadLine tells bad n ls found so_far.more)
           (sym (through_lines tells n k text rest tail so_far.more so_far.right))
-          (ToldToBad-behind tells bad (n + 1) next (lines_of whole) (lines_of (rest ++ tail)) so_far.more bytes
-          (omega arith) so_far.right.told
-          (subst (λ (ls : List (List ℕ)). ToldToBad tells bad next ls bytes) (sym opened.cut)
-          (ToldToBad-first tells bad next opened.line bytes opened.others opened.named)));
-      output = more ∙ ap (λ (t : List ℕ). t ++ bytes) so_far.output ∙ append_assoc a so_far.more bytes;
+          (subst (λ (t : List ℕ). HasBadLine tells bad n (lines_of whole ++ lines_of (rest ++ tail)) found t) (append-nil so_far.more)
+          (HasBadLine-behind tells bad n (lines_of whole) (lines_of (rest ++ tail)) found so_far.more [] so_far.right.told
+          (subst (λ (ls : List (List ℕ)). HasBadLine tells bad (place_behind n (lines_of whole)) ls found []) (sym opened.cut)
+          (HasBadLine-first tells bad (place_behind n (lines_of whole)) opened.line found opened.others named))))
+          );
+      output = so_far.output;
     }
 
--- the next line is bad and was named
-pub through_named :
-    (tells : ℕ → List ℕ → List ℕ → Type 0) (bad : ℕ → List ℕ → FaultKind → Type 0) (n k next : ℕ)
-    (text rest line behind a b c : List ℕ) →
-    Added (ToldThrough tells n text rest k) a b → IsFirstLine rest line behind → next ≡ k + 1 →
-    Added (NamesBad bad next line) b c → Added (StopsWith tells bad n text Bad) a c
-through_named tells bad n k next text rest line behind a b c so_far first counted named =
-    through_bad tells bad n k next text rest a b c named.more so_far counted
-    (λ tail. opens_first bad next rest line behind tail named.more first named.right) named.output
+-- the telling of the next line stopped
+pub through_stopped :
+    (tells : Place → List ℕ → List ℕ → Type 0) (bad : Place → List ℕ → FaultKind → Type 0) (lacks : ℕ → Option FaultKind) (n k : Place)
+    (text rest line behind a b c : List ℕ) (why : Stop) →
+    Added (ToldThrough tells n text rest k) a b → IsFirstLine rest line behind →
+    IfBad (NamesBad bad k line) why → IfBad (λ found. c ≡ b) why →
+    IfBad (λ found. Added (StopsWith tells bad lacks n text (Bad found)) a c) why
+through_stopped tells bad lacks n k text rest line behind a b c stop.Memory so_far first named same = tt
+through_stopped tells bad lacks n k text rest line behind a b c (stop.Bad found) so_far first named same =
+    subst (λ (t : List ℕ). Added (StopsWith tells bad lacks n text (Bad found)) a t) (sym same)
+    (through_bad tells bad lacks n k text rest a b found so_far (λ tail. opens_first bad k rest line behind tail found first named))
 
--- what is left of the text begins a line that is too long, and it was named
+-- what is left of the text begins a line that is too long
 pub through_long :
-    (tells : ℕ → List ℕ → List ℕ → Type 0) (bad : ℕ → List ℕ → FaultKind → Type 0) (n k next : ℕ)
-    (text rest a b c : List ℕ) →
-    Added (ToldThrough tells n text rest k) a b → HasNoFeed rest → most_line < length rest → next ≡ k + 1 →
-    c ≡ b ++ fault_line next (kind_number Limit) → Added (StopsWith tells bad n text Bad) a c
-through_long tells bad n k next text rest a b c so_far none long counted named =
-    through_bad tells bad n k next text rest a b c (fault_line next (kind_number Limit)) so_far counted
-    (λ tail. opens_long bad next rest tail none long) named
+    (tells : Place → List ℕ → List ℕ → Type 0) (bad : Place → List ℕ → FaultKind → Type 0) (lacks : ℕ → Option FaultKind) (n k : Place)
+    (text rest a b : List ℕ) (why : Stop) →
+    Added (ToldThrough tells n text rest k) a b → HasNoFeed rest → most_line < length rest →
+    IfBad (IsFound k.number Limit rest) why → IfBad (λ found. Added (StopsWith tells bad lacks n text (Bad found)) a b) why
+through_long tells bad lacks n k text rest a b stop.Memory so_far none long is = tt
+through_long tells bad lacks n k text rest a b (stop.Bad found) so_far none long is =
+    through_bad tells bad lacks n k text rest a b found so_far (λ tail. opens_long bad k rest tail found none long is)
 
 -- nothing is held at the end
 pub end_none :
-    (tells : ℕ → List ℕ → List ℕ → Type 0) (n : ℕ) (held output : List ℕ) →
-    length held ≡ 0 → Added (AllTold tells n (lines_of held)) output output
-end_none tells n [] output empty = record {
-  more = [];
-  right = subst (λ (ls : List (List ℕ)). AllTold tells n ls []) (sym lines_of-nil) refl;
-  output = sym (append-nil output);
-}
+    (tells : Place → List ℕ → List ℕ → Type 0) (n : Place) (held output : List ℕ) →
+    length held ≡ 0 → Added (AllTold tells n (lines_of held)) output output × (n ≡ place_behind n (lines_of held))
+end_none tells n [] output empty = (
+  record {
+    more = [];
+    right = subst (λ (ls : List (List ℕ)). AllTold tells n ls []) (sym lines_of-nil) refl;
+    output = sym (append-nil output);
+  },
+  ap (λ (ls : List (List ℕ)). place_behind n ls) (sym lines_of-nil),
+)
 end_none tells n (byte ∷ held) output empty = absurd (omega arith)
 
 -- what is held at the end is told as the last line
 pub end_told :
-    (tells : ℕ → List ℕ → List ℕ → Type 0) (n : ℕ) (held before now : List ℕ) →
+    (tells : Place → List ℕ → List ℕ → Type 0) (n : Place) (held before now : List ℕ) →
     HasNoFeed held → 0 < length held → Added (LineTold tells n held) before now →
     Added (AllTold tells n (lines_of held)) before now
 end_told tells n held before now none some told = record {
@@ -177,44 +229,36 @@ end_told tells n held before now none some told = record {
   output = told.output;
 }
 
--- what is held at the end is bad and was named
-pub end_bad :
-    (tells : ℕ → List ℕ → List ℕ → Type 0) (bad : ℕ → List ℕ → FaultKind → Type 0) (n : ℕ) (held before now : List ℕ) →
-    HasNoFeed held → 0 < length held → Added (NamesBad bad n held) before now →
-    Added (ToldToBad tells bad n (lines_of held)) before now
-end_bad tells bad n held before now none some named = record {
-  more = named.more;
+-- and the place after it
+pub end_place :
+    (n next : Place) (held : List ℕ) → HasNoFeed held → 0 < length held → next ≡ place_after n held →
+    next ≡ place_behind n (lines_of held)
+end_place n next held none some after = after ∙ ap (λ (ls : List (List ℕ)). place_behind n ls) (sym (lines_of-last held none some))
+
+-- what is held at the end is bad
+pub end_stopped :
+    (tells : Place → List ℕ → List ℕ → Type 0) (bad : Place → List ℕ → FaultKind → Type 0) (lacks : ℕ → Option FaultKind) (n : Place)
+    (held before now : List ℕ) (why : Stop) →
+    HasNoFeed held → 0 < length held → IfBad (NamesBad bad n held) why → IfBad (λ found. now ≡ before) why →
+    IfBad (λ found. Added (ToldToBad tells bad lacks n (lines_of held) found) before now) why
+end_stopped tells bad lacks n held before now stop.Memory none some named same = tt
+end_stopped tells bad lacks n held before now (stop.Bad found) none some named same = record {
+  more = [];
   right =
-      subst (λ (ls : List (List ℕ)). ToldToBad tells bad n ls named.more) (sym (lines_of-last held none some))
-      (ToldToBad-first tells bad n held named.more [] named.right);
-  output = named.output;
+      inl (
+      subst (λ (ls : List (List ℕ)). HasBadLine tells bad n ls found []) (sym (lines_of-last held none some))
+      (HasBadLine-first tells bad n held found [] named)
+      );
+  output = same ∙ sym (append-nil before);
 }
 
--- the lines that are told through a text are some first lines, whatever is behind it
-through_begins :
-    (tells : ℕ → List ℕ → List ℕ → Type 0) (n k : ℕ) (text rest tail output : List ℕ) →
-    ToldThrough tells n text rest k output → BeginningTold tells (n + 1) (lines_of (text ++ tail)) output
+-- the lines that are told through a text are some first lines, whatever is after it
+pub through_begins :
+    (tells : Place → List ℕ → List ℕ → Type 0) (n k : Place) (text rest tail output : List ℕ) →
+    ToldThrough tells n text rest k output → BeginningTold tells n (lines_of (text ++ tail)) output
 through_begins tells n k text rest tail output through = record {
   before = lines_of through.whole;
   behind = lines_of (rest ++ tail);
   cut = through_lines tells n k text rest tail output through;
   told = through.told;
-}
-
--- a write that failed cut the output of lines that were told
-pub cut_told :
-    (tells : ℕ → List ℕ → List ℕ → Type 0) (bad : ℕ → List ℕ → FaultKind → Type 0) (n k : ℕ) (text rest out : List ℕ)
-    (count : ℕ) (before now : Option (List ℕ)) →
-    Added (ToldThrough tells n text rest k) [] out → count < length out → now ≡ appended before (take count out) →
-    Appended (StopsWith tells bad n text WriteFault) before now
-cut_told tells bad n k text rest out count before now added less written = record {
-  output = take count added.more;
-  right = λ tail. record {
-    whole = added.more;
-    count = count;
-    of = inl (through_begins tells n k text rest tail added.more added.right);
-    less = subst (λ (t : List ℕ). count < length t) added.output less;
-    part = refl;
-  };
-  written = written ∙ ap (λ (t : List ℕ). appended before (take count t)) added.output;
 }

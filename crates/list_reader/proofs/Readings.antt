@@ -1,6 +1,6 @@
--- A list is read piece by piece. What was read so far is lines that are told and the bytes held behind them; so what the next
--- piece gives, behind what is held, is what the lines of the list give there.
-use Rattle.std.proofs.Common.{◌≡◌, inl, ℕ, ◌+◌, List, [], ◌++◌, length, refl, sym, subst, ◌∙◌, ap, arith, append_assoc, length-append}
+-- A list is read piece by piece. What was read so far is lines that are told and the bytes held after them; so what the next
+-- piece gives, after what is held, is what the lines of the list give there.
+use Rattle.std.proofs.Common.{◌≡◌, inl, ℕ, suc, ◌≤◌, List, [], ◌++◌, length, refl, sym, subst, ◌∙◌, ap, arith, append_assoc}
 use Rattle.std.proofs.lemmas.List.{append-nil}
 use Rattle.std.specs.declared.option.Option.{Option}
 use Rattle.std.specs.declared.option.Option.TheVariants.{Some, None}
@@ -10,129 +10,133 @@ use Rattle.outside.proofs.Pieces.{appended-nil, appended-appended}
 use Rattle.text_faults.specs.declared.faults.FaultKind.{FaultKind}
 use Rattle.list_reader.specs.declared.ending.Ending.{Ending}
 use Rattle.list_reader.specs.declared.ending.Ending.TheVariants.{Memory}
+use Rattle.list_reader.specs.declared.place.Place.{Place}
 use Rattle.list_reader.specs.Lines.{lines_of, HasNoFeed, IsClosed}
 use Rattle.list_reader.specs.Lists.{AllTold, BeginningTold}
-use Rattle.list_reader.specs.Endings.{Gives, Appended, ToldThrough, StopsWith, IsLeft, TellsList}
+use Rattle.list_reader.specs.Places.{first_place, place_behind}
+use Rattle.list_reader.specs.Told.{most_line}
+use Rattle.list_reader.specs.Endings.{Gives, Appended, ToldThrough, StopsWith, IsLeft, TellsList, ReadsTold, Wrote, WroteUpTo}
+use Rattle.list_reader.specs.Streams.{Steps, Ends, IsStream, GivesAfter}
 use Rattle.list_reader.proofs.LineCuts.{lines_of-nil, lines_of-closed, IsClosed-append}
-use Rattle.list_reader.proofs.Joins.{AllTold-append, BeginningTold-none, Gives-behind}
+use Rattle.list_reader.proofs.Joins.{place_behind-append, AllTold-append, BeginningTold-none, Gives-behind}
+use Rattle.list_reader.proofs.Stages.{steps_more, wrote_otherwise, wrote_appended}
+use Rattle.list_reader.proofs.LeftBytes.{prepended-nil, ListIs, list_is, list_ends, piece_read}
 
--- so many lines were told, and these bytes are held behind them
-pub record SoFar (tells : ℕ → List ℕ → List ℕ → Type 0) (lines : ℕ) (held : List ℕ) (left_before left_now written_before written_now : Option (List ℕ)) : Type 0 where
+-- the lines up to that place were told, these bytes are held after them, and each step of the way was told as it was read
+pub record SoFar {S K : Type 0} (tells : Place → List ℕ → List ℕ → Type 0) (left : S → Option (List ℕ)) (reads : S → Option (List ℕ) → S → Type 0) (written : K → Option (List ℕ)) (writes : K → List ℕ → ℕ → K → Type 0) (place : Place) (held : List ℕ) (source : S) (sink : K) (now_source : S) (now_sink : K) : Type 0 where
   pub whole : List ℕ
   pub output : List ℕ
-  pub left : left_before ≡ prepended (whole ++ held) left_now
+  pub count : ℕ
+  pub leaves : left source ≡ prepended (whole ++ held) (left now_source)
   pub closed : IsClosed whole
-  pub told : AllTold tells 1 (lines_of whole) output
-  pub count : lines ≡ length (lines_of whole)
-  pub written : written_now ≡ appended written_before output
+  pub told : AllTold tells first_place (lines_of whole) output
+  pub at : place ≡ place_behind first_place (lines_of whole)
+  pub wrote : written now_sink ≡ appended (written sink) output
   pub no_feed : HasNoFeed held
-
-prepended-nil : (left : Option (List ℕ)) → prepended [] left ≡ left
-prepended-nil None = refl
-prepended-nil (Some rest) = refl
-
-prepended-prepended :
-    (first second : List ℕ) (left : Option (List ℕ)) → prepended first (prepended second left) ≡ prepended (first ++ second) left
-prepended-prepended first second None = refl
-prepended-prepended first second (Some rest) = ap Some (sym (append_assoc first second rest))
-
--- where bytes were read, the list is these bytes and what is left
-pub record ListIs (before : Option (List ℕ)) (read : List ℕ) : Type 0 where
-  pub rest : List ℕ
-  pub is_left : IsLeft before (read ++ rest)
-
-list_is : (before now : Option (List ℕ)) (read : List ℕ) → before ≡ prepended read now → ListIs before read
-list_is before None read left = record {
-  rest = [];
-  is_left = subst (λ (o : Option (List ℕ)). IsLeft o (read ++ [])) (sym left) tt;
-}
-list_is before (Some rest) read left = record {
-  rest = rest;
-  is_left = subst (λ (o : Option (List ℕ)). IsLeft o (read ++ rest)) (sym left) refl;
-}
-
--- at the end nothing is left
-list_ends : (before now : Option (List ℕ)) (read : List ℕ) → before ≡ prepended read now → IsEnd now → IsLeft before read
-list_ends before None read left end = subst (λ (o : Option (List ℕ)). IsLeft o read) (sym left) tt
-list_ends before (Some rest) read left end =
-    subst (λ (o : Option (List ℕ)). IsLeft o read) (sym left) (ap (λ (t : List ℕ). read ++ t) end ∙ append-nil read)
+  pub short : length held ≤ most_line
+  pub steps : Steps tells reads writes count (record { read = []; output = []; source = source; sink = sink }) (record { read = whole ++ held; output = output; source = now_source; sink = now_sink })
 
 -- nothing was read
 pub so_far_none :
-    (tells : ℕ → List ℕ → List ℕ → Type 0) (held : List ℕ) (left written : Option (List ℕ)) → held ≡ [] →
-    SoFar tells 0 held left left written written
-so_far_none tells held left written empty =
-    subst (λ (t : List ℕ). SoFar tells 0 t left left written written) (sym empty)
+    {S K : Type 0} (tells : Place → List ℕ → List ℕ → Type 0) (left : S → Option (List ℕ)) (reads : S → Option (List ℕ) → S → Type 0)
+    (written : K → Option (List ℕ)) (writes : K → List ℕ → ℕ → K → Type 0)
+    (place : Place) (held : List ℕ) (source : S) (sink : K) → place ≡ first_place → held ≡ [] →
+    SoFar tells left reads written writes place held source sink source sink
+so_far_none tells left reads written writes place held source sink start empty =
+    subst (λ (t : List ℕ). SoFar tells left reads written writes place t source sink source sink) (sym empty)
     (record {
       whole = [];
       output = [];
-      left = sym (prepended-nil left);
+      count = 0;
+      leaves = sym (prepended-nil (left source));
       closed = inl refl;
-      told = subst (λ (ls : List (List ℕ)). AllTold tells 1 ls []) (sym lines_of-nil) refl;
-      count = sym (ap (λ (ls : List (List ℕ)). length ls) lines_of-nil);
-      written = sym (appended-nil written);
+      told = subst (λ (ls : List (List ℕ)). AllTold tells first_place ls []) (sym lines_of-nil) refl;
+      at = start ∙ ap (λ (ls : List (List ℕ)). place_behind first_place ls) (sym lines_of-nil);
+      wrote = sym (appended-nil (written sink));
       no_feed = refl;
+      short = omega arith;
+      steps = refl;
     })
-
--- what was read once a piece is read
-piece_read :
-    (whole held piece : List ℕ) (before now next : Option (List ℕ)) →
-    before ≡ prepended (whole ++ held) now → now ≡ prepended piece next → before ≡ prepended (whole ++ (held ++ piece)) next
-piece_read whole held piece before now next left taken =
-    left
-    ∙ ap (prepended (whole ++ held)) taken
-    ∙ prepended-prepended (whole ++ held) piece next
-    ∙ ap (λ (t : List ℕ). prepended t next) (append_assoc whole held piece)
 
 -- a piece was read, and the lines that it made whole were told
 pub so_far_piece :
-    (tells : ℕ → List ℕ → List ℕ → Type 0) (lines more_lines : ℕ) (held piece more_held : List ℕ)
-    (left_before left_now left_next written_before written_now written_next : Option (List ℕ)) →
-    SoFar tells lines held left_before left_now written_before written_now → left_now ≡ prepended piece left_next →
-    Appended (ToldThrough tells lines (held ++ piece) more_held more_lines) written_now written_next → HasNoFeed more_held →
-    SoFar tells more_lines more_held left_before left_next written_before written_next
-so_far_piece tells lines more_lines held piece more_held left_before left_now left_next written_before written_now written_next so_far taken more no_feed =
+    {S K : Type 0} (tells : Place → List ℕ → List ℕ → Type 0) (left : S → Option (List ℕ)) (reads : S → Option (List ℕ) → S → Type 0)
+    (written : K → Option (List ℕ)) (writes : K → List ℕ → ℕ → K → Type 0)
+    (place more_place : Place) (held piece more_held : List ℕ) (source : S) (sink : K) (now_source : S) (now_sink : K) (next_source : S)
+    (next_sink : K) →
+    SoFar tells left reads written writes place held source sink now_source now_sink →
+    reads now_source (Some piece) next_source → left now_source ≡ prepended piece (left next_source) →
+    Wrote written writes (ToldThrough tells place (held ++ piece) more_held more_place) now_sink next_sink →
+    HasNoFeed more_held → length more_held ≤ most_line →
+    SoFar tells left reads written writes more_place more_held source sink next_source next_sink
+so_far_piece tells left reads written writes place more_place held piece more_held source sink now_source now_sink next_source next_sink so_far reading taken more no_feed short =
     let whole = so_far.whole in
     let through = more.right in
-    let before : lines ≡ length (lines_of whole) = so_far.count in
     let all : lines_of (whole ++ through.whole) ≡ lines_of whole ++ lines_of through.whole =
     lines_of-closed whole through.whole so_far.closed in
-    let lengths : length (lines_of (whole ++ through.whole)) ≡ length (lines_of whole) + length (lines_of through.whole) =
-    ap (λ (ls : List (List ℕ)). length ls) all ∙ length-append (lines_of whole) (lines_of through.whole) in
-    let counted : more_lines ≡ lines + length (lines_of through.whole) = through.count in
+    let joined : whole ++ (held ++ piece) ≡ (whole ++ through.whole) ++ more_held =
+    ap (λ (t : List ℕ). whole ++ t) through.cut ∙ sym (append_assoc whole through.whole more_held) in
+    let closed = IsClosed-append whole through.whole so_far.closed through.closed in
+    let more_told =
+    subst (λ (p : Place). AllTold tells p (lines_of through.whole) more.output) so_far.at through.told in
+    let told =
+    subst (λ (ls : List (List ℕ)). AllTold tells first_place ls (so_far.output ++ more.output)) (sym all)
+    (AllTold-append tells first_place (lines_of whole) (lines_of through.whole) so_far.output more.output so_far.told more_told) in
     record {
       whole = whole ++ through.whole;
       output = so_far.output ++ more.output;
-      left =
-          piece_read whole held piece left_before left_now left_next so_far.left taken
-          ∙ ap (λ (t : List ℕ). prepended (whole ++ t) left_next) through.cut
-          ∙ ap (λ (t : List ℕ). prepended t left_next) (sym (append_assoc whole through.whole more_held));
-      closed = IsClosed-append whole through.whole so_far.closed through.closed;
-      told =
-          subst (λ (ls : List (List ℕ)). AllTold tells 1 ls (so_far.output ++ more.output)) (sym all)
-          (AllTold-append tells 1 (lines + 1) (lines_of whole) (lines_of through.whole) so_far.output more.output
-          (omega arith) so_far.told through.told);
-      count = omega arith;
-      written =
-          more.written
-          ∙ ap (λ (o : Option (List ℕ)). appended o more.output) so_far.written
-          ∙ appended-appended written_before so_far.output more.output;
+      count = suc so_far.count;
+      leaves =
+          piece_read whole held piece (left source) (left now_source) (left next_source) so_far.leaves taken
+          ∙ ap (λ (t : List ℕ). prepended t (left next_source)) joined;
+      closed = closed;
+      told = told;
+      at =
+          through.place
+          ∙ ap (λ (p : Place). place_behind p (lines_of through.whole)) so_far.at
+          ∙ sym (place_behind-append first_place (lines_of whole) (lines_of through.whole))
+          ∙ ap (λ (ls : List (List ℕ)). place_behind first_place ls) (sym all);
+      wrote =
+          more.now
+          ∙ ap (λ (o : Option (List ℕ)). appended o more.output) so_far.wrote
+          ∙ appended-appended (written sink) so_far.output more.output;
       no_feed = no_feed;
+      short = short;
+      steps =
+          steps_more tells reads writes so_far.count _ _ _ so_far.steps
+          (record {
+            piece = piece;
+            more = more.output;
+            reading = reading;
+            read = sym joined ∙ sym (append_assoc whole held piece);
+            writing = more.whole;
+            output = refl;
+            told = record {
+              whole = whole ++ through.whole;
+              part = more_held;
+              cut = refl;
+              closed = closed;
+              no_feed = no_feed;
+              short = short;
+              told = told;
+            };
+          });
     }
 
--- what the lines behind those told give is what the list gives
-gives_behind :
-    (tells : ℕ → List ℕ → List ℕ → Type 0) (bad : ℕ → List ℕ → FaultKind → Type 0) (lines : ℕ) (held rest output : List ℕ)
-    (ending : Ending) (left_before left_now written_before written_now : Option (List ℕ)) →
-    (so_far : SoFar tells lines held left_before left_now written_before written_now) →
-    Gives tells bad (lines + 1) (lines_of rest) ending output →
-    Gives tells bad 1 (lines_of (so_far.whole ++ rest)) ending (so_far.output ++ output)
-gives_behind tells bad lines held rest output ending left_before left_now written_before written_now so_far gives =
-    let before : lines ≡ length (lines_of so_far.whole) = so_far.count in
-    subst (λ (ls : List (List ℕ)). Gives tells bad 1 ls ending (so_far.output ++ output))
+-- what the lines after those told give is what the list gives
+pub gives_behind :
+    {S K : Type 0} (tells : Place → List ℕ → List ℕ → Type 0) (bad : Place → List ℕ → FaultKind → Type 0) (lacks : ℕ → Option FaultKind)
+    (left : S → Option (List ℕ)) (reads : S → Option (List ℕ) → S → Type 0)
+    (written : K → Option (List ℕ)) (writes : K → List ℕ → ℕ → K → Type 0)
+    (place : Place) (held : List ℕ) (source : S) (sink : K) (now_source : S) (now_sink : K) (rest output : List ℕ) (ending : Ending) →
+    (so_far : SoFar tells left reads written writes place held source sink now_source now_sink) →
+    Gives tells bad lacks place (lines_of rest) ending output →
+    Gives tells bad lacks first_place (lines_of (so_far.whole ++ rest)) ending (so_far.output ++ output)
+gives_behind tells bad lacks left reads written writes place held source sink now_source now_sink rest output ending so_far gives =
+    subst (λ (ls : List (List ℕ)). Gives tells bad lacks first_place ls ending (so_far.output ++ output))
     (sym (lines_of-closed so_far.whole rest so_far.closed))
-    (Gives-behind tells bad 1 (lines + 1) (lines_of so_far.whole) (lines_of rest) so_far.output output ending
-    (omega arith) so_far.told gives)
+    (Gives-behind tells bad lacks first_place (lines_of so_far.whole) (lines_of rest) so_far.output output ending so_far.told
+    (subst (λ (p : Place). Gives tells bad lacks p (lines_of rest) ending output) so_far.at gives))
 
 written_behind :
     (before now next : Option (List ℕ)) (first second : List ℕ) →
@@ -142,15 +146,21 @@ written_behind before now next first second one two =
 
 -- the telling stopped in a piece
 pub so_far_stops :
-    (tells : ℕ → List ℕ → List ℕ → Type 0) (bad : ℕ → List ℕ → FaultKind → Type 0) (lines : ℕ) (held piece : List ℕ)
-    (ending : Ending) (left_before left_now left_next written_before written_now written_next : Option (List ℕ)) →
-    SoFar tells lines held left_before left_now written_before written_now → left_now ≡ prepended piece left_next →
-    Appended (StopsWith tells bad lines (held ++ piece) ending) written_now written_next →
-    TellsList tells bad ending left_before written_before written_next
-so_far_stops tells bad lines held piece ending left_before left_now left_next written_before written_now written_next so_far taken stops =
+    {S K : Type 0} (tells : Place → List ℕ → List ℕ → Type 0) (bad : Place → List ℕ → FaultKind → Type 0) (lacks : ℕ → Option FaultKind)
+    (left : S → Option (List ℕ)) (reads : S → Option (List ℕ) → S → Type 0)
+    (written : K → Option (List ℕ)) (writes : K → List ℕ → ℕ → K → Type 0)
+    (place : Place) (held piece : List ℕ) (ending : Ending) (source : S) (sink : K) (now_source : S) (now_sink : K) (last_source : S)
+    (last_sink : K) →
+    SoFar tells left reads written writes place held source sink now_source now_sink →
+    left now_source ≡ prepended piece (left last_source) →
+    WroteUpTo written writes (StopsWith tells bad lacks place (held ++ piece)) ending now_sink last_sink →
+    TellsList tells bad lacks ending (left source) (written sink) (written last_sink)
+so_far_stops tells bad lacks left reads written writes place held piece ending source sink now_source now_sink last_source last_sink so_far taken wrote =
     let whole = so_far.whole in
-    let list = list_is left_before left_next (whole ++ (held ++ piece))
-    (piece_read whole held piece left_before left_now left_next so_far.left taken) in
+    let list = list_is (left source) (left last_source) (whole ++ (held ++ piece))
+    (piece_read whole held piece (left source) (left now_source) (left last_source) so_far.leaves taken) in
+    let stops = wrote_appended written writes (StopsWith tells bad lacks place (held ++ piece))
+    (λ rest. BeginningTold-none tells place (lines_of ((held ++ piece) ++ rest))) ending now_sink last_sink wrote in
     let joined : whole ++ ((held ++ piece) ++ list.rest) ≡ (whole ++ (held ++ piece)) ++ list.rest =
     sym (append_assoc whole (held ++ piece) list.rest) in
     record {
@@ -159,41 +169,48 @@ so_far_stops tells bad lines held piece ending left_before left_now left_next wr
       gives = record {
         output = so_far.output ++ stops.output;
         right =
-            subst (λ (t : List ℕ). Gives tells bad 1 (lines_of t) ending (so_far.output ++ stops.output)) joined
-            (gives_behind tells bad lines held ((held ++ piece) ++ list.rest) stops.output ending left_before left_now
-            written_before written_now so_far (stops.right list.rest));
-        written = written_behind written_before written_now written_next so_far.output stops.output so_far.written stops.written;
+            subst (λ (t : List ℕ). Gives tells bad lacks first_place (lines_of t) ending (so_far.output ++ stops.output)) joined
+            (gives_behind tells bad lacks left reads written writes place held source sink now_source now_sink
+            ((held ++ piece) ++ list.rest) stops.output ending so_far (stops.right list.rest));
+        written = written_behind (written sink) (written now_sink) (written last_sink) so_far.output stops.output so_far.wrote stops.written;
       };
     }
 
 -- the list ended
 pub so_far_end :
-    (tells : ℕ → List ℕ → List ℕ → Type 0) (bad : ℕ → List ℕ → FaultKind → Type 0) (lines : ℕ) (held : List ℕ)
-    (ending : Ending) (left_before left_now left_next written_before written_now written_next : Option (List ℕ)) →
-    SoFar tells lines held left_before left_now written_before written_now → left_now ≡ prepended [] left_next → IsEnd left_next →
-    Appended (Gives tells bad (lines + 1) (lines_of held) ending) written_now written_next →
-    TellsList tells bad ending left_before written_before written_next
-so_far_end tells bad lines held ending left_before left_now left_next written_before written_now written_next so_far taken end gives =
-    let same : left_now ≡ left_next = taken ∙ prepended-nil left_next in
+    {S K : Type 0} (tells : Place → List ℕ → List ℕ → Type 0) (bad : Place → List ℕ → FaultKind → Type 0) (lacks : ℕ → Option FaultKind)
+    (left : S → Option (List ℕ)) (reads : S → Option (List ℕ) → S → Type 0)
+    (written : K → Option (List ℕ)) (writes : K → List ℕ → ℕ → K → Type 0)
+    (place : Place) (held : List ℕ) (ending : Ending) (source : S) (sink : K) (now_source : S) (now_sink : K) (last_source : S)
+    (last_sink : K) →
+    SoFar tells left reads written writes place held source sink now_source now_sink →
+    left now_source ≡ prepended [] (left last_source) → IsEnd (left last_source) →
+    WroteUpTo written writes (Gives tells bad lacks place (lines_of held)) ending now_sink last_sink →
+    TellsList tells bad lacks ending (left source) (written sink) (written last_sink)
+so_far_end tells bad lacks left reads written writes place held ending source sink now_source now_sink last_source last_sink so_far taken end wrote =
+    let same : left now_source ≡ left last_source = taken ∙ prepended-nil (left last_source) in
+    let gives = wrote_appended written writes (Gives tells bad lacks place (lines_of held)) (BeginningTold-none tells place (lines_of held))
+    ending now_sink last_sink wrote in
     record {
       bytes = so_far.whole ++ held;
       is_left =
-          list_ends left_before left_next (so_far.whole ++ held)
-          (so_far.left ∙ ap (prepended (so_far.whole ++ held)) same) end;
+          list_ends (left source) (left last_source) (so_far.whole ++ held)
+          (so_far.leaves ∙ ap (prepended (so_far.whole ++ held)) same) end;
       gives = record {
         output = so_far.output ++ gives.output;
-        right = gives_behind tells bad lines held held gives.output ending left_before left_now written_before written_now so_far gives.right;
-        written = written_behind written_before written_now written_next so_far.output gives.output so_far.written gives.written;
+        right = gives_behind tells bad lacks left reads written writes place held source sink now_source now_sink held gives.output ending so_far gives.right;
+        written = written_behind (written sink) (written now_sink) (written last_sink) so_far.output gives.output so_far.wrote gives.written;
       };
     }
 
 -- the telling stopped before a piece was read
 so_far_begins :
-    (tells : ℕ → List ℕ → List ℕ → Type 0) (lines : ℕ) (held rest : List ℕ)
-    (left_before left_now written_before written_now : Option (List ℕ)) →
-    (so_far : SoFar tells lines held left_before left_now written_before written_now) →
-    BeginningTold tells 1 (lines_of ((so_far.whole ++ held) ++ rest)) so_far.output
-so_far_begins tells lines held rest left_before left_now written_before written_now so_far = record {
+    {S K : Type 0} (tells : Place → List ℕ → List ℕ → Type 0) (left : S → Option (List ℕ)) (reads : S → Option (List ℕ) → S → Type 0)
+    (written : K → Option (List ℕ)) (writes : K → List ℕ → ℕ → K → Type 0)
+    (place : Place) (held rest : List ℕ) (source : S) (sink : K) (now_source : S) (now_sink : K) →
+    (so_far : SoFar tells left reads written writes place held source sink now_source now_sink) →
+    BeginningTold tells first_place (lines_of ((so_far.whole ++ held) ++ rest)) so_far.output
+so_far_begins tells left reads written writes place held rest source sink now_source now_sink so_far = record {
   before = lines_of so_far.whole;
   behind = lines_of (held ++ rest);
   cut =
@@ -204,46 +221,68 @@ so_far_begins tells lines held rest left_before left_now written_before written_
 
 -- the telling stopped there, with an ending that asks for no more than a beginning
 pub so_far_begun :
-    (tells : ℕ → List ℕ → List ℕ → Type 0) (bad : ℕ → List ℕ → FaultKind → Type 0) (ending : Ending) →
-    ((lines : List (List ℕ)) (output : List ℕ) → BeginningTold tells 1 lines output → Gives tells bad 1 lines ending output) →
-    (lines : ℕ) (held : List ℕ) (left_before left_now written_before written_now : Option (List ℕ)) →
-    SoFar tells lines held left_before left_now written_before written_now →
-    TellsList tells bad ending left_before written_before written_now
-so_far_begun tells bad ending enough lines held left_before left_now written_before written_now so_far =
-    let list = list_is left_before left_now (so_far.whole ++ held) so_far.left in
+    {S K : Type 0} (tells : Place → List ℕ → List ℕ → Type 0) (bad : Place → List ℕ → FaultKind → Type 0) (lacks : ℕ → Option FaultKind)
+    (left : S → Option (List ℕ)) (reads : S → Option (List ℕ) → S → Type 0)
+    (written : K → Option (List ℕ)) (writes : K → List ℕ → ℕ → K → Type 0)
+    (ending : Ending) →
+    ((lines : List (List ℕ)) (output : List ℕ) → BeginningTold tells first_place lines output
+    → Gives tells bad lacks first_place lines ending output) →
+    (place : Place) (held : List ℕ) (source : S) (sink : K) (now_source : S) (now_sink : K) →
+    SoFar tells left reads written writes place held source sink now_source now_sink →
+    TellsList tells bad lacks ending (left source) (written sink) (written now_sink)
+so_far_begun tells bad lacks left reads written writes ending enough place held source sink now_source now_sink so_far =
+    let list = list_is (left source) (left now_source) (so_far.whole ++ held) so_far.leaves in
     let bytes = (so_far.whole ++ held) ++ list.rest in
     record {
       bytes = bytes;
       is_left = list.is_left;
       gives = record {
         output = so_far.output;
-        right = enough (lines_of bytes) so_far.output (so_far_begins tells lines held list.rest left_before left_now written_before written_now so_far);
-        written = so_far.written;
+        right =
+            enough (lines_of bytes) so_far.output
+            (so_far_begins tells left reads written writes place held list.rest source sink now_source now_sink so_far);
+        written = so_far.wrote;
       };
     }
 
+-- a read failed: each whole line of what was read is told
+pub so_far_torn :
+    {S K : Type 0} (tells : Place → List ℕ → List ℕ → Type 0) (left : S → Option (List ℕ)) (reads : S → Option (List ℕ) → S → Type 0)
+    (written : K → Option (List ℕ)) (writes : K → List ℕ → ℕ → K → Type 0)
+    (place : Place) (held : List ℕ) (source : S) (sink : K) (now_source : S) (now_sink : K) (last_source : S) →
+    SoFar tells left reads written writes place held source sink now_source now_sink →
+    left last_source ≡ left now_source →
+    Appended (ReadsTold tells (left source) (left last_source)) (written sink) (written now_sink)
+so_far_torn tells left reads written writes place held source sink now_source now_sink last_source so_far same = record {
+  output = so_far.output;
+  right = record {
+    read = so_far.whole ++ held;
+    left = so_far.leaves ∙ ap (prepended (so_far.whole ++ held)) (sym same);
+    told = record {
+      whole = so_far.whole;
+      part = held;
+      cut = refl;
+      closed = so_far.closed;
+      no_feed = so_far.no_feed;
+      short = so_far.short;
+      told = so_far.told;
+    };
+  };
+  written = so_far.wrote;
+}
+
 -- nothing was read or written
 pub untouched :
-    (tells : ℕ → List ℕ → List ℕ → Type 0) (bad : ℕ → List ℕ → FaultKind → Type 0) (left written : Option (List ℕ)) →
-    TellsList tells bad Memory left written written
-untouched tells bad left written =
+    (tells : Place → List ℕ → List ℕ → Type 0) (bad : Place → List ℕ → FaultKind → Type 0) (lacks : ℕ → Option FaultKind)
+    (left written : Option (List ℕ)) → TellsList tells bad lacks Memory left written written
+untouched tells bad lacks left written =
     let list = list_is left left [] (sym (prepended-nil left)) in
     record {
       bytes = list.rest;
       is_left = list.is_left;
       gives = record {
         output = [];
-        right = BeginningTold-none tells 1 (lines_of list.rest);
+        right = BeginningTold-none tells first_place (lines_of list.rest);
         written = sym (appended-nil written);
       };
     }
-
--- where the source tells what is left, the list is that
-pub told_list :
-    (tells : ℕ → List ℕ → List ℕ → Type 0) (bad : ℕ → List ℕ → FaultKind → Type 0) (ending : Ending)
-    (left before now : Option (List ℕ)) (bytes : List ℕ) →
-    TellsList tells bad ending left before now → left ≡ Some bytes →
-    Appended (Gives tells bad 1 (lines_of bytes) ending) before now
-told_list tells bad ending left before now bytes list is =
-    let same : bytes ≡ list.bytes = subst (λ (o : Option (List ℕ)). IsLeft o list.bytes) is list.is_left in
-    subst (λ (t : List ℕ). Appended (Gives tells bad 1 (lines_of t) ending) before now) (sym same) list.gives

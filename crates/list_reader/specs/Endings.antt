@@ -1,23 +1,27 @@
 -- What was written up to each ending.
-use Rattle.std.specs.Prelude.{◌≡◌, ℕ, ◌+◌, List, ◌++◌, length}
+use Rattle.std.specs.Prelude.{◌≡◌, ℕ, ◌≤◌, List, ◌++◌, length, take}
 use Rattle.std.specs.declared.option.Option.{Option}
 use Rattle.std.specs.declared.option.Option.TheVariants.{Some, None}
-use Rattle.outside.specs.Sink.{appended}
+use Rattle.outside.specs.Sink.{appended, IsWritten, IsCutOff}
 use Rattle.outside.specs.Source.{prepended}
 use Rattle.text_faults.specs.declared.faults.FaultKind.{FaultKind}
 use Rattle.list_reader.specs.declared.ending.Ending.{Ending}
 use Rattle.list_reader.specs.declared.ending.Ending.TheVariants.{Done, Bad, ReadFault, WriteFault, Memory}
+use Rattle.list_reader.specs.declared.place.Place.{Place}
 use Rattle.list_reader.specs.Lines.{lines_of, HasNoFeed, IsClosed}
-use Rattle.list_reader.specs.Lists.{AllTold, BeginningTold, ToldToBad, CutShort}
+use Rattle.list_reader.specs.Lists.{AllTold, BeginningTold, WholeTold, ToldToBad, CutShort}
+use Rattle.list_reader.specs.Places.{first_place, place_behind}
+use Rattle.list_reader.specs.Told.{most_line}
 
--- what lines give up to an ending, of which the first has that number
+-- what lines give up to an ending, of which the first stands at that place
 abbrev pub Gives :
-    (ℕ → List ℕ → List ℕ → Type 0) → (ℕ → List ℕ → FaultKind → Type 0) → ℕ → List (List ℕ) → Ending → List ℕ → Type 0
-Gives tells bad number lines Done output = AllTold tells number lines output
-Gives tells bad number lines Bad output = ToldToBad tells bad number lines output
-Gives tells bad number lines ReadFault output = BeginningTold tells number lines output
-Gives tells bad number lines WriteFault output = CutShort tells bad number lines output
-Gives tells bad number lines Memory output = BeginningTold tells number lines output
+    (Place → List ℕ → List ℕ → Type 0) → (Place → List ℕ → FaultKind → Type 0) → (ℕ → Option FaultKind) → Place → List (List ℕ) → Ending →
+    List ℕ → Type 0
+Gives tells bad lacks place lines Done output = WholeTold tells lacks place lines output
+Gives tells bad lacks place lines (Bad found) output = ToldToBad tells bad lacks place lines found output
+Gives tells bad lacks place lines ReadFault output = BeginningTold tells place lines output
+Gives tells bad lacks place lines WriteFault output = CutShort tells place lines output
+Gives tells bad lacks place lines Memory output = BeginningTold tells place lines output
 
 -- bytes of which this holds were appended to what a sink had
 pub record Appended (holds : List ℕ → Type 0) (before now : Option (List ℕ)) : Type 0 where
@@ -31,28 +35,54 @@ pub record Added (holds : List ℕ → Type 0) (before now : List ℕ) : Type 0 
   pub right : holds more
   pub output : now ≡ before ++ more
 
--- each whole line of what was read is told
-pub record WholeLinesTold (tells : ℕ → List ℕ → List ℕ → Type 0) (read output : List ℕ) : Type 0 where
+-- each whole line of what was read is told, and the part of a line after them is not too long for a line
+pub record WholeLinesTold (tells : Place → List ℕ → List ℕ → Type 0) (read output : List ℕ) : Type 0 where
   pub whole : List ℕ
   pub part : List ℕ
   pub cut : read ≡ whole ++ part
   pub closed : IsClosed whole
   pub no_feed : HasNoFeed part
-  pub told : AllTold tells 1 (lines_of whole) output
+  pub short : length part ≤ most_line
+  pub told : AllTold tells first_place (lines_of whole) output
 
--- the lines of a text up to what is left of it are told, behind so many lines; then there are so many
-pub record ToldThrough (tells : ℕ → List ℕ → List ℕ → Type 0) (before : ℕ) (text left : List ℕ) (now : ℕ) (output : List ℕ) : Type 0 where
+-- the lines of a text up to what is left of it are told, of which the first stands at the first place; the next stands at the second
+pub record ToldThrough (tells : Place → List ℕ → List ℕ → Type 0) (before : Place) (text left : List ℕ) (now : Place) (output : List ℕ) : Type 0 where
   pub whole : List ℕ
   pub cut : text ≡ whole ++ left
   pub closed : IsClosed whole
-  pub told : AllTold tells (before + 1) (lines_of whole) output
-  pub count : now ≡ before + length (lines_of whole)
+  pub told : AllTold tells before (lines_of whole) output
+  pub place : now ≡ place_behind before (lines_of whole)
 
--- whatever stands behind the text, its lines give this up to the ending, behind so many lines
+-- whatever stands after the text, its lines give this up to the ending, of which the first stands at that place
 abbrev pub StopsWith :
-    (ℕ → List ℕ → List ℕ → Type 0) → (ℕ → List ℕ → FaultKind → Type 0) → ℕ → (text : List ℕ) → Ending → List ℕ → Type 0
-StopsWith tells bad before text ending output =
-    (rest : List ℕ) → Gives tells bad (before + 1) (lines_of (text ++ rest)) ending output
+    (Place → List ℕ → List ℕ → Type 0) → (Place → List ℕ → FaultKind → Type 0) → (ℕ → Option FaultKind) → Place → (text : List ℕ) → Ending →
+    List ℕ → Type 0
+StopsWith tells bad lacks place text ending output =
+    (rest : List ℕ) → Gives tells bad lacks place (lines_of (text ++ rest)) ending output
+
+-- bytes of which this holds were written whole, and nothing else
+pub record Wrote {K : Type 0} (written : K → Option (List ℕ)) (writes : K → List ℕ → ℕ → K → Type 0) (holds : List ℕ → Type 0) (first last : K) : Type 0 where
+  pub output : List ℕ
+  pub right : holds output
+  pub now : written last ≡ appended (written first) output
+  pub whole : IsWritten writes output first last
+
+-- bytes of which this holds were written, the first of some more, and then a write of the others failed
+pub record WroteCut {K : Type 0} (written : K → Option (List ℕ)) (writes : K → List ℕ → ℕ → K → Type 0) (holds : List ℕ → Type 0) (first last : K) : Type 0 where
+  pub whole : List ℕ
+  pub count : ℕ
+  pub right : holds (take count whole)
+  pub now : written last ≡ appended (written first) (take count whole)
+  pub cut : IsCutOff writes whole count first last
+
+-- what was written up to an ending, of which this holds: nothing where memory ran out, and nothing after a write that failed
+abbrev pub WroteUpTo :
+    {K : Type 0} → (K → Option (List ℕ)) → (K → List ℕ → ℕ → K → Type 0) → (Ending → List ℕ → Type 0) → Ending → K → K → Type 0
+WroteUpTo written writes gives Done first last = Wrote written writes (gives Done) first last
+WroteUpTo written writes gives (Bad found) first last = Wrote written writes (gives (Bad found)) first last
+WroteUpTo written writes gives ReadFault first last = ⊥
+WroteUpTo written writes gives WriteFault first last = WroteCut written writes (gives WriteFault) first last
+WroteUpTo written writes gives Memory first last = last ≡ first
 
 -- where a source tells what is left, it is these bytes
 abbrev pub IsLeft : Option (List ℕ) → List ℕ → Type 0
@@ -60,13 +90,13 @@ IsLeft None bytes = Unit {0}
 IsLeft (Some left) bytes = left ≡ bytes
 
 -- what was written up to the ending is what the lines of a list give: of the bytes that were left of the source, where it tells them
-pub record TellsList (tells : ℕ → List ℕ → List ℕ → Type 0) (bad : ℕ → List ℕ → FaultKind → Type 0) (ending : Ending) (left before now : Option (List ℕ)) : Type 0 where
+pub record TellsList (tells : Place → List ℕ → List ℕ → Type 0) (bad : Place → List ℕ → FaultKind → Type 0) (lacks : ℕ → Option FaultKind) (ending : Ending) (left before now : Option (List ℕ)) : Type 0 where
   pub bytes : List ℕ
   pub is_left : IsLeft left bytes
-  pub gives : Appended (Gives tells bad 1 (lines_of bytes) ending) before now
+  pub gives : Appended (Gives tells bad lacks first_place (lines_of bytes) ending) before now
 
 -- what was read of a source up to what is left, and each whole line of it is told
-pub record ReadsTold (tells : ℕ → List ℕ → List ℕ → Type 0) (before now : Option (List ℕ)) (output : List ℕ) : Type 0 where
+pub record ReadsTold (tells : Place → List ℕ → List ℕ → Type 0) (before now : Option (List ℕ)) (output : List ℕ) : Type 0 where
   pub read : List ℕ
   pub left : before ≡ prepended read now
   pub told : WholeLinesTold tells read output

@@ -1,4 +1,7 @@
 pub mod Lines
+pub mod Headers
+pub mod Places
 pub mod Told
 pub mod Lists
 pub mod Endings
+pub mod Streams

@@ -1,43 +1,63 @@
 -- What is told of the lines of a list, one after another.
-use Rattle.std.specs.Prelude.{◌≡◌, ℕ, ◌+◌, ◌<◌, ◌⊎◌, List, [], ◌∷◌, ◌++◌, length, take}
-use Rattle.text_faults.specs.Kinds.{kind_number}
+use Rattle.std.specs.Prelude.{◌≡◌, ℕ, ◌<◌, ◌⊎◌, List, [], ◌∷◌, ◌++◌, length, take}
+use Rattle.std.specs.declared.option.Option.{Option}
+use Rattle.std.specs.declared.option.Option.TheVariants.{Some, None}
 use Rattle.text_faults.specs.declared.faults.FaultKind.{FaultKind}
-use Rattle.list_reader.specs.Told.{LineTold, LineBad, fault_line}
+use Rattle.list_reader.specs.declared.ending.BadLine.{BadLine}
+use Rattle.list_reader.specs.declared.place.Place.{Place}
+use Rattle.list_reader.specs.Places.{place_after, place_behind}
+use Rattle.list_reader.specs.Told.{LineTold, NamesBad}
 
--- the lines, of which the first has that number, are told by this output: the outputs of the lines in their order
-abbrev pub AllTold : (ℕ → List ℕ → List ℕ → Type 0) → ℕ → List (List ℕ) → List ℕ → Type 0
-AllTold tells number [] output = output ≡ []
-AllTold tells number (line ∷ lines) output =
-    (first : List ℕ) × (others : List ℕ) × (LineTold tells number line first) × (AllTold tells (number + 1) lines others)
+-- the lines, of which the first stands at that place, are told by this output: the outputs of the lines in their order
+abbrev pub AllTold : (Place → List ℕ → List ℕ → Type 0) → Place → List (List ℕ) → List ℕ → Type 0
+AllTold tells place [] output = output ≡ []
+AllTold tells place (line ∷ lines) output =
+    (first : List ℕ) × (others : List ℕ) × (LineTold tells place line first) × (AllTold tells (place_after place line) lines others)
     × (output ≡ first ++ others)
 
 -- some first lines are told
-pub record BeginningTold (tells : ℕ → List ℕ → List ℕ → Type 0) (number : ℕ) (lines : List (List ℕ)) (output : List ℕ) : Type 0 where
+pub record BeginningTold (tells : Place → List ℕ → List ℕ → Type 0) (place : Place) (lines : List (List ℕ)) (output : List ℕ) : Type 0 where
   pub before : List (List ℕ)
   pub behind : List (List ℕ)
   pub cut : lines ≡ before ++ behind
-  pub told : AllTold tells number before output
+  pub told : AllTold tells place before output
 
--- the lines before the first bad one are told, and then it is named
-pub record ToldToBad (tells : ℕ → List ℕ → List ℕ → Type 0) (bad : ℕ → List ℕ → FaultKind → Type 0) (number : ℕ) (lines : List (List ℕ)) (output : List ℕ) : Type 0 where
+-- all lines are told, and a list may end after them
+pub record WholeTold (tells : Place → List ℕ → List ℕ → Type 0) (lacks : ℕ → Option FaultKind) (place : Place) (lines : List (List ℕ)) (output : List ℕ) : Type 0 where
+  pub told : AllTold tells place lines output
+  pub ends : lacks (place_behind place lines).graphs ≡ None
+
+-- the lines before the first bad one are told, and this is found of that one
+pub record HasBadLine (tells : Place → List ℕ → List ℕ → Type 0) (bad : Place → List ℕ → FaultKind → Type 0) (place : Place) (lines : List (List ℕ)) (found : BadLine) (output : List ℕ) : Type 0 where
   pub before : List (List ℕ)
   pub line : List ℕ
   pub behind : List (List ℕ)
-  pub good : List ℕ
-  pub kind : FaultKind
   pub cut : lines ≡ before ++ line ∷ behind
-  pub told : AllTold tells number before good
-  pub bad_line : LineBad bad (number + length before) line kind
-  pub text : output ≡ good ++ fault_line (number + length before) (kind_number kind)
+  pub told : AllTold tells place before output
+  pub named : NamesBad bad (place_behind place before) line found
 
--- a proper prefix of what tells some first lines, or those up to the first bad one
-pub record CutShort (tells : ℕ → List ℕ → List ℕ → Type 0) (bad : ℕ → List ℕ → FaultKind → Type 0) (number : ℕ) (lines : List (List ℕ)) (output : List ℕ) : Type 0 where
+-- all lines are told, and no list may end after them: the line that is missing there is found, with nothing in it
+pub record LacksLine (tells : Place → List ℕ → List ℕ → Type 0) (lacks : ℕ → Option FaultKind) (place : Place) (lines : List (List ℕ)) (found : BadLine) (output : List ℕ) : Type 0 where
+  pub told : AllTold tells place lines output
+  pub ends : lacks (place_behind place lines).graphs ≡ Some found.kind
+  pub number : found.number ≡ (place_behind place lines).number
+  pub nothing : found.text.items ≡ []
+
+-- the lines before the first that is bad or missing are told, and this is found of that one
+abbrev pub ToldToBad :
+    (Place → List ℕ → List ℕ → Type 0) → (Place → List ℕ → FaultKind → Type 0) → (ℕ → Option FaultKind) → Place → List (List ℕ) → BadLine →
+    List ℕ → Type 0
+ToldToBad tells bad lacks place lines found output =
+    HasBadLine tells bad place lines found output ⊎ LacksLine tells lacks place lines found output
+
+-- a proper prefix of what tells some first lines
+pub record CutShort (tells : Place → List ℕ → List ℕ → Type 0) (place : Place) (lines : List (List ℕ)) (output : List ℕ) : Type 0 where
   pub whole : List ℕ
   pub count : ℕ
-  pub of : BeginningTold tells number lines whole ⊎ ToldToBad tells bad number lines whole
+  pub of : BeginningTold tells place lines whole
   pub less : count < length whole
   pub part : output ≡ take count whole
 
 -- each line has at most one output
-abbrev pub HasOneOutput : (ℕ → List ℕ → List ℕ → Type 0) → Type 0
-HasOneOutput tells = (number : ℕ) (line a b : List ℕ) → tells number line a → tells number line b → a ≡ b
+abbrev pub HasOneOutput : (Place → List ℕ → List ℕ → Type 0) → Type 0
+HasOneOutput tells = (place : Place) (line a b : List ℕ) → tells place line a → tells place line b → a ≡ b

@@ -1,12 +1,14 @@
 -- What is told of a line.
-use Rattle.std.specs.Prelude.{◌≡◌, ℕ, ◌==◌, ◌<◌, ◌≤◌, ◌⊎◌, ◌&&◌, ◌||◌, Bool, List, [], ◌++◌, length, codes, IsTrue, IsFalse}
-use Rattle.std.specs.Fmt.{decimal}
-use Rattle.std.specs.Str.{bytes_eq}
-use Rattle.text_faults.specs.Kinds.{kind_number}
+use Rattle.std.specs.Prelude.{◌≡◌, ℕ, ◌<◌, ◌≤◌, ◌⊎◌, List, [], ◌++◌, length, IsTrue, IsFalse}
 use Rattle.text_faults.specs.declared.faults.FaultKind.{FaultKind}
 use Rattle.text_faults.specs.declared.faults.FaultKind.TheVariants.{Limit}
+use Rattle.list_reader.specs.declared.ending.BadLine.{BadLine}
+use Rattle.list_reader.specs.declared.ending.Stop.{Stop}
+use Rattle.list_reader.specs.declared.ending.Stop.TheVariants as stop
+use Rattle.list_reader.specs.declared.place.Place.{Place}
 use Rattle.list_reader.specs.declared.teller.Told.{Told}
 use Rattle.list_reader.specs.declared.teller.Told.TheVariants.{Output, Bad}
+use Rattle.list_reader.specs.Headers.{is_header}
 
 -- the answer is an output that tells the line, or the kind of a fault that it has
 abbrev pub IsToldAs : (tells : List ℕ → Type 0) → (bad : FaultKind → Type 0) → Told → Type 0
@@ -17,33 +19,35 @@ IsToldAs tells bad (Bad kind) = bad kind
 abbrev pub most_line : ℕ
 most_line = 65536
 
--- the line is the header alone, with or without a line end
-abbrev pub is_header_line : List ℕ → Bool
-is_header_line line =
-    bytes_eq line (codes ">>graph6<<\n") || bytes_eq line (codes ">>graph6<<\r\n") || bytes_eq line (codes ">>graph6<<")
+-- the line at that place is told by this output: a header by none
+abbrev pub LineTold : (Place → List ℕ → List ℕ → Type 0) → Place → List ℕ → List ℕ → Type 0
+LineTold tells place line output =
+    (IsTrue (is_header place.number line) × (output ≡ [])) ⊎
+    (IsFalse (is_header place.number line) × (length line ≤ most_line) × tells place line output)
 
--- the first line is the header alone
-abbrev pub is_header : ℕ → List ℕ → Bool
-is_header number line = number == 1 && is_header_line line
-
--- the line with that number is told by this output: a header by none
-abbrev pub LineTold : (ℕ → List ℕ → List ℕ → Type 0) → ℕ → List ℕ → List ℕ → Type 0
-LineTold tells number line output =
-    (IsTrue (is_header number line) × (output ≡ [])) ⊎
-    (IsFalse (is_header number line) × (length line ≤ most_line) × tells number line output)
-
--- the line with that number is bad, with a first fault of this kind
-abbrev pub LineBad : (ℕ → List ℕ → FaultKind → Type 0) → ℕ → List ℕ → FaultKind → Type 0
-LineBad bad number line kind =
+-- the line at that place is bad, with a first fault of this kind
+abbrev pub LineBad : (Place → List ℕ → FaultKind → Type 0) → Place → List ℕ → FaultKind → Type 0
+LineBad bad place line kind =
     ((most_line < length line) × (kind ≡ Limit)) ⊎
-    (IsFalse (is_header number line) × (length line ≤ most_line) × bad number line kind)
+    (IsFalse (is_header place.number line) × (length line ≤ most_line) × bad place line kind)
 
--- the line that names a bad line by its number and the kind of its first fault
-abbrev pub fault_line : (number kind : ℕ) → List ℕ
-fault_line number kind = codes "line " ++ (decimal number ++ (codes " kind " ++ (decimal kind ++ codes "\n")))
+-- what is kept of a line: the whole of it, or its beginning where that is too long for a line
+abbrev pub IsKept : (line kept : List ℕ) → Type 0
+IsKept line kept = (kept ≡ line) ⊎ ((most_line < length kept) × ((rest : List ℕ) × (line ≡ kept ++ rest)))
 
--- the line with that number is bad, and the bytes name it
-pub record NamesBad (bad : ℕ → List ℕ → FaultKind → Type 0) (number : ℕ) (line bytes : List ℕ) : Type 0 where
-  pub kind : FaultKind
-  pub bad_line : LineBad bad number line kind
-  pub text : bytes ≡ fault_line number (kind_number kind)
+-- the line at that place is bad, and this is found of it: its number, the kind of its first fault, and its text as far as it is kept
+pub record NamesBad (bad : Place → List ℕ → FaultKind → Type 0) (place : Place) (line : List ℕ) (found : BadLine) : Type 0 where
+  pub bad_line : LineBad bad place line found.kind
+  pub number : found.number ≡ place.number
+  pub kept : IsKept line found.text.items
+
+-- this is found of a line: its number, the kind of its first fault, and what is kept of its text
+pub record IsFound (number : ℕ) (kind : FaultKind) (text : List ℕ) (found : BadLine) : Type 0 where
+  pub numbered : found.number ≡ number
+  pub of_kind : found.kind ≡ kind
+  pub kept : found.text.items ≡ text
+
+-- where a bad line is why the telling stops, this holds of what is found of it
+abbrev pub IfBad : (BadLine → Type 0) → Stop → Type 0
+IfBad holds (stop.Bad found) = holds found
+IfBad holds stop.Memory = Unit {0}

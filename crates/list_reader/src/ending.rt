@@ -1,12 +1,26 @@
 //! How the telling of a list ends.
+ghost use Rattle.list_reader.specs.Told.{IfBad, IsFound};
+
+use text_faults::FaultKind;
+use std::alloc::Global;
+
+/// What is found of the first bad line of a list: its number, counted from 1, the kind of its first fault, and its text with its line
+/// end, as far as it was kept: of a line that is too long what was read of it. Where a line is missing at the end of the list, its
+/// number is the next one, and its text is empty.
+#[derive(Debug, PartialEq, Eq, Drop)]
+pub struct BadLine {
+    pub number: u64,
+    pub kind: FaultKind,
+    pub text: Vec<u8>,
+}
 
 /// How the telling of a list ended.
-#[derive(Clone, Copy, Debug, PartialEq, Eq)]
+#[derive(Debug, PartialEq, Eq, Drop)]
 pub enum Ending {
     /// Each line was told, and its output written.
     Done,
-    /// A line was bad: the outputs of the lines before it were written, and then the line that names its number and kind.
-    Bad,
+    /// A line was bad, or missing at the end: the outputs of the lines before it were written, and nothing of it.
+    Bad { found: BadLine },
     /// The source could not be read: the outputs of the whole lines before were written.
     ReadFault,
     /// The output could not be written whole; a part of it was.
@@ -16,10 +30,23 @@ pub enum Ending {
 }
 
 /// Why the telling of lines stops.
-#[derive(Clone, Copy, Debug, PartialEq, Eq)]
+#[derive(Drop)]
 pub enum Stop {
     /// A line was bad.
-    Bad,
+    Bad { found: BadLine },
     /// Memory ran out.
     Memory,
+}
+
+// The stop at a line of this number and text that has a fault of this kind, or for want of memory to keep its text.
+pub fn stop_at(alloc: Global, number: u64, kind: FaultKind, text: &[u8]) -> Stop
+    ensures { IfBad (IsFound number kind text.now) result }
+{
+    match text.to_vec(alloc) {
+        Ok(text) => {
+            let found = BadLine { number, kind, text };
+            Stop::Bad { found }
+        }
+        Err(_) => Stop::Memory,
+    }
 }

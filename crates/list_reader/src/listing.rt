@@ -1,20 +1,25 @@
 //! A list that comes in pieces.
-ghost use Rattle.std.specs.Prelude.{◌≡◌, ◌+◌, ◌++◌, IfOk, OnOk, IsErrOf};
+ghost use Rattle.std.specs.Prelude.{◌≡◌, ◌≤◌, ◌++◌, IfErr, IfOk, OnOk, length};
+ghost use Rattle.list_reader.specs.declared.ending.Ending.TheVariants as ending;
 ghost use Rattle.list_reader.specs.Lines.{HasNoFeed, lines_of};
+ghost use Rattle.list_reader.specs.Lists.{AllTold, ToldToBad};
+ghost use Rattle.list_reader.specs.Places.{place_behind};
+ghost use Rattle.list_reader.specs.Told.{IfBad, most_line};
 ghost use Rattle.list_reader.specs.Endings.{Added, Gives, ToldThrough, StopsWith};
 
-use crate::ending::{Ending, Stop};
+use crate::ending::{Stop, stop_at};
+use crate::place::{Place, place_after};
 use crate::teller::LineTeller;
-use crate::telling::{MOST_LINE, next_number, push_fault, tell_line, tell_lines};
-use std::alloc::Global;
+use crate::telling::{MOST_LINE, tell_line, tell_lines};
 use text_faults::FaultKind;
+use std::alloc::Global;
 
 /// The state of a list that comes in pieces.
 #[derive(Drop)]
 pub struct Listing {
-    /// How many lines were told.
-    pub lines: u64,
-    /// The bytes behind them, of a line whose line feed has not come yet.
+    /// The place of the next line.
+    pub place: Place,
+    /// The bytes of it that were read; its line feed has not come yet.
     pub held: Vec<u8>,
 }
 
@@ -22,28 +27,27 @@ pub struct Listing {
 fn tell_within_limit<'a, T: LineTeller>(
     alloc: Global,
     teller: &T,
-    lines: u64,
+    first: Place,
     text: &'a [u8],
     output: &mut Vec<u8>,
-) -> Result<(u64, &'a [u8]), Stop>
+) -> Result<(Place, &'a [u8]), Stop>
     ensures told { IfOk result
-        (λ found. Added (ToldThrough (T.tells teller.now) lines text.now found.1.now found.0)
+        (λ found. Added (ToldThrough (T.tells teller.now) first text.now found.1.now found.0)
         output.old.items output.new.items) }
     ensures left { IfOk result (λ found. HasNoFeed found.1.now) }
-    ensures bad { IsErrOf result Stop.Bad →
-        Added (StopsWith (T.tells teller.now) (T.bad teller.now) lines text.now Ending.Bad)
-        output.old.items output.new.items }
+    ensures short { IfOk result (λ found. length found.1.now ≤ most_line) }
+    ensures bad { IfErr result (IfBad (λ found. Added
+        (StopsWith (T.tells teller.now) (T.bad teller.now) (T.lacks teller.now)
+        first text.now (ending.Bad found)) output.old.items output.new.items)) }
 {
-    let (lines, rest) = tell_lines(alloc, teller, lines, text, output)?;
+    let (place, rest) = tell_lines(alloc, teller, first, text, output)?;
     if rest.len() > MOST_LINE {
-        let number = next_number(lines)?;
-        push_fault(alloc, number, FaultKind::Limit, output).map_err(|_| Stop::Memory)?;
-        return Err(Stop::Bad);
+        return Err(stop_at(alloc, place.number, FaultKind::Limit, rest));
     }
-    Ok((lines, rest))
+    Ok((place, rest))
 }
 
-// Tells the lines that a further piece makes whole, and holds what is left behind them.
+// Tells the lines that a further piece makes whole, and holds what is left after them.
 pub fn add_piece<T: LineTeller>(
     alloc: Global,
     teller: &T,
@@ -52,42 +56,71 @@ pub fn add_piece<T: LineTeller>(
     output: &mut Vec<u8>,
 ) -> Result<(), Stop>
     ensures told { OnOk result (Added
-        (ToldThrough (T.tells teller.now) listing.old.lines (listing.old.held.items ++ piece.now)
-        listing.new.held.items listing.new.lines) output.old.items output.new.items) }
+        (ToldThrough (T.tells teller.now) listing.old.place (listing.old.held.items ++ piece.now)
+        listing.new.held.items listing.new.place) output.old.items output.new.items) }
     ensures left { OnOk result (HasNoFeed listing.new.held.items) }
-    ensures bad { IsErrOf result Stop.Bad → Added
-        (StopsWith (T.tells teller.now) (T.bad teller.now) listing.old.lines
-        (listing.old.held.items ++ piece.now) Ending.Bad) output.old.items output.new.items }
+    ensures short { OnOk result (length listing.new.held.items ≤ most_line) }
+    ensures bad { IfErr result (IfBad (λ found. Added
+        (StopsWith (T.tells teller.now) (T.bad teller.now) (T.lacks teller.now) listing.old.place
+        (listing.old.held.items ++ piece.now) (ending.Bad found))
+        output.old.items output.new.items)) }
 {
     listing
         .held
         .extend_from_slice(piece)
         .map_err(|_| Stop::Memory)?;
-    let (lines, rest) = tell_within_limit(alloc, teller, listing.lines, &listing.held, output)?;
+    let (place, rest) = tell_within_limit(alloc, teller, listing.place, &listing.held, output)?;
     let held = rest.to_vec(alloc).map_err(|_| Stop::Memory)?;
-    *listing = Listing { lines, held };
+    *listing = Listing { place, held };
     Ok(())
 }
 
-// Tells what is held at the end of a list behind so many lines, as its last line, unless nothing is.
+// Tells what is held at the end of a list as its last line, unless nothing is; answers the place after it.
+fn add_last<T: LineTeller>(
+    alloc: Global,
+    teller: &T,
+    place: Place,
+    held: &[u8],
+    output: &mut Vec<u8>,
+) -> Result<Place, Stop>
+    requires { HasNoFeed held.now }
+    ensures told { IfOk result (λ _. Added (AllTold (T.tells teller.now) place (lines_of held.now))
+        output.old.items output.new.items) }
+    ensures next { IfOk result (λ next. next ≡ place_behind place (lines_of held.now)) }
+    ensures bad { IfErr result (IfBad (λ found. Added
+        (ToldToBad (T.tells teller.now) (T.bad teller.now) (T.lacks teller.now)
+        place (lines_of held.now) found) output.old.items output.new.items)) }
+{
+    if held.is_empty() {
+        return Ok(place);
+    }
+    match tell_line(alloc, teller, place, held, output) {
+        Ok(()) => place_after(place, held),
+        Err(stop) => Err(stop),
+    }
+}
+
+// Tells what is held at the end of a list as its last line, unless nothing is, and refuses a list that may not end after it.
 pub fn add_end<T: LineTeller>(
     alloc: Global,
     teller: &T,
-    lines: u64,
+    place: Place,
     held: &[u8],
     output: &mut Vec<u8>,
 ) -> Result<(), Stop>
     requires { HasNoFeed held.now }
     ensures told { OnOk result (Added
-        (Gives (T.tells teller.now) (T.bad teller.now) (lines + 1) (lines_of held.now) Ending.Done)
-        output.old.items output.new.items) }
-    ensures bad { IsErrOf result Stop.Bad → Added
-        (Gives (T.tells teller.now) (T.bad teller.now) (lines + 1) (lines_of held.now) Ending.Bad)
-        output.old.items output.new.items }
+        (Gives (T.tells teller.now) (T.bad teller.now) (T.lacks teller.now)
+        place (lines_of held.now) ending.Done) output.old.items output.new.items) }
+    ensures bad { IfErr result (IfBad (λ found. Added
+        (Gives (T.tells teller.now) (T.bad teller.now) (T.lacks teller.now)
+        place (lines_of held.now) (ending.Bad found)) output.old.items output.new.items)) }
 {
-    if held.is_empty() {
-        return Ok(());
+    match add_last(alloc, teller, place, held, output) {
+        Ok(next) => match teller.fault_at_end(next.graphs) {
+            None => Ok(()),
+            Some(kind) => Err(stop_at(alloc, next.number, kind, &[])),
+        },
+        Err(stop) => Err(stop),
     }
-    let number = next_number(lines)?;
-    tell_line(alloc, teller, number, held, output)
 }

@@ -1,11 +1,15 @@
 //! Reading a list and telling it.
-ghost use Rattle.std.specs.Prelude.{◌≡◌, ◌≢◌, ◌≤◌, ◌<◌, ◌+◌, ◌++◌, ℕ, List, OnOk, IfErr, IsErrOf, Some, length};
+ghost use Rattle.std.specs.Prelude.{◌≡◌, ◌≢◌, ◌≤◌, ◌<◌, ◌++◌, ℕ, List, OnOk, IfErr, Some, length};
 ghost use Rattle.outside.specs.Faults.{Rose};
 ghost use Rattle.list_reader.specs.Lines.{HasNoFeed, lines_of};
-ghost use Rattle.list_reader.specs.Endings.{Appended, Gives, ToldThrough, StopsWith, TellsList, ReadsTold};
+ghost use Rattle.list_reader.specs.Places.{first_place};
+ghost use Rattle.list_reader.specs.Told.{most_line};
+ghost use Rattle.list_reader.specs.Endings.{Appended, Gives, ToldThrough, StopsWith, TellsList, ReadsTold, Wrote, WroteUpTo};
+ghost use Rattle.list_reader.specs.Streams.{IsStream};
 
 use crate::ending::{Ending, Stop};
 use crate::listing::{Listing, add_end, add_piece};
+use crate::place::first_place;
 use crate::teller::LineTeller;
 use outside::{Sink, Source, emit};
 use std::alloc::Global;
@@ -21,16 +25,17 @@ fn take_piece<T: LineTeller, K: Sink>(
     piece: &[u8],
     sink: &mut K,
 ) -> Result<(), Ending>
-    ensures told { OnOk result (Appended
-        (ToldThrough (T.tells teller.now) listing.old.lines (listing.old.held.items ++ piece.now)
-        listing.new.held.items listing.new.lines) (K.written sink.old) (K.written sink.new)) }
+    ensures told { OnOk result (Wrote K.written K.writes
+        (ToldThrough (T.tells teller.now) listing.old.place (listing.old.held.items ++ piece.now)
+        listing.new.held.items listing.new.place) sink.old sink.new) }
     ensures left { OnOk result (HasNoFeed listing.new.held.items) }
-    ensures stops { IfErr result (λ ending. Appended
-        (StopsWith (T.tells teller.now) (T.bad teller.now) listing.old.lines
-        (listing.old.held.items ++ piece.now) ending) (K.written sink.old) (K.written sink.new)) }
-    ensures others { IfErr result (λ ending. (ending ≢ Ending.Done) × (ending ≢ Ending.ReadFault)) }
-    ensures write_fault { IsErrOf result Ending.WriteFault →
-        Rose (K.faults sink.old) (K.faults sink.new) }
+    ensures short { OnOk result (length listing.new.held.items ≤ most_line) }
+    ensures stops { IfErr result (λ ending. WroteUpTo K.written K.writes
+        (StopsWith (T.tells teller.now) (T.bad teller.now) (T.lacks teller.now) listing.old.place
+        (listing.old.held.items ++ piece.now)) ending sink.old sink.new) }
+    ensures others { IfErr result (λ ending. ending ≢ Ending.ReadFault) }
+    ensures write_fault { IfErr result (λ ending. ending ≡ Ending.WriteFault →
+        Rose (K.faults sink.old) (K.faults sink.new)) }
     ensures later { K.faults sink.old ≤ K.faults sink.new }
 {
     let mut output = Vec::new(alloc);
@@ -39,8 +44,8 @@ fn take_piece<T: LineTeller, K: Sink>(
             Ok(()) => Ok(()),
             Err(_) => Err(Ending::WriteFault),
         },
-        Err(Stop::Bad) => match emit(sink, &output) {
-            Ok(()) => Err(Ending::Bad),
+        Err(Stop::Bad { found }) => match emit(sink, &output) {
+            Ok(()) => Err(Ending::Bad { found }),
             Err(_) => Err(Ending::WriteFault),
         },
         Err(Stop::Memory) => Err(Ending::Memory),
@@ -55,21 +60,21 @@ fn take_end<T: LineTeller, K: Sink>(
     sink: &mut K,
 ) -> Ending
     requires { HasNoFeed listing.now.held.items }
-    ensures gives { Appended
-        (Gives (T.tells teller.now) (T.bad teller.now) (listing.now.lines + 1)
-        (lines_of listing.now.held.items) result) (K.written sink.old) (K.written sink.new) }
+    ensures gives { WroteUpTo K.written K.writes
+        (Gives (T.tells teller.now) (T.bad teller.now) (T.lacks teller.now) listing.now.place
+        (lines_of listing.now.held.items)) result sink.old sink.new }
     ensures others { result ≢ Ending.ReadFault }
     ensures write_fault { result ≡ Ending.WriteFault →
         Rose (K.faults sink.old) (K.faults sink.new) }
 {
     let mut output = Vec::new(alloc);
-    match add_end(alloc, teller, listing.lines, &listing.held, &mut output) {
+    match add_end(alloc, teller, listing.place, &listing.held, &mut output) {
         Ok(()) => match emit(sink, &output) {
             Ok(()) => Ending::Done,
             Err(_) => Ending::WriteFault,
         },
-        Err(Stop::Bad) => match emit(sink, &output) {
-            Ok(()) => Ending::Bad,
+        Err(Stop::Bad { found }) => match emit(sink, &output) {
+            Ok(()) => Ending::Bad { found },
             Err(_) => Ending::WriteFault,
         },
         Err(Stop::Memory) => Ending::Memory,
@@ -85,7 +90,9 @@ fn tell_through<T: LineTeller, S: Source, K: Sink>(
     piece: &mut [u8],
 ) -> Ending
     requires { 0 < length piece.old }
-    ensures tells { TellsList (T.tells teller.now) (T.bad teller.now) result
+    ensures streams { IsStream (T.tells teller.now) (T.bad teller.now) (T.lacks teller.now) S.reads
+        K.written K.writes result source.old sink.old source.new sink.new }
+    ensures tells { TellsList (T.tells teller.now) (T.bad teller.now) (T.lacks teller.now) result
         (S.left source.old) (K.written sink.old) (K.written sink.new) }
     ensures torn { result ≡ Ending.ReadFault
         → Appended (ReadsTold (T.tells teller.now) (S.left source.old) (S.left source.new))
@@ -96,7 +103,7 @@ fn tell_through<T: LineTeller, S: Source, K: Sink>(
         Rose (K.faults sink.old) (K.faults sink.new) }
 {
     let mut listing = Listing {
-        lines: 0,
+        place: first_place(),
         held: Vec::new(alloc),
     };
     'reading: for _ in 0..u64::MAX {
@@ -115,23 +122,28 @@ fn tell_through<T: LineTeller, S: Source, K: Sink>(
 }
 
 /// Reads the list that is left of the source to its end, tells each of its lines, and writes what is told of them to the sink:
-/// of the lines that a read made whole before the next read. The first bad line ends it, with a line that names it.
+/// of the lines that a read made whole before the next read. The first bad line ends it; nothing is written of that one, and the
+/// ending says what is found of it. A line that is too long ends it as soon as more of it was read than a line may have.
 ///
 /// Takes memory for a piece, a line, and what is told of the lines of a piece. Where memory runs out, or there are more lines
 /// or reads than a u64 counts, it ends with `Memory`.
-#[tactic(auto, using(crate::proofs::Readings::untouched, crate::proofs::Readings::told_list))]
+#[tactic(auto, using(crate::proofs::Readings::untouched, crate::proofs::LeftBytes::told_list, crate::proofs::Stages::unread))]
 pub fn tell_all<T: LineTeller, S: Source, K: Sink>(
     alloc: Global,
     teller: &T,
     source: &mut S,
     sink: &mut K,
 ) -> Ending
+    // After each read, all lines that are whole in what was read are told and written before the next read; no write follows one that
+    // failed, and no read or write follows a read that failed.
+    ensures streams { IsStream (T.tells teller.now) (T.bad teller.now) (T.lacks teller.now) S.reads
+        K.written K.writes result source.old sink.old source.new sink.new }
     // What was written is what the lines of the list give up to this ending, in whatever pieces it was read.
     ensures gives { (bytes : List ℕ) → S.left source.old ≡ Some bytes
-        → Appended (Gives (T.tells teller.now) (T.bad teller.now) 1 (lines_of bytes) result)
-        (K.written sink.old) (K.written sink.new) }
+        → Appended (Gives (T.tells teller.now) (T.bad teller.now) (T.lacks teller.now) first_place
+        (lines_of bytes) result) (K.written sink.old) (K.written sink.new) }
     // Where the source does not tell what is left, it is what the lines of some list give.
-    ensures tells { TellsList (T.tells teller.now) (T.bad teller.now) result
+    ensures tells { TellsList (T.tells teller.now) (T.bad teller.now) (T.lacks teller.now) result
         (S.left source.old) (K.written sink.old) (K.written sink.new) }
     // Where the source fails, each whole line of what was read is told and written.
     ensures torn { result ≡ Ending.ReadFault

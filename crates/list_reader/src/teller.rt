@@ -1,10 +1,13 @@
 //! What tells the lines of a list.
-ghost use Rattle.std.specs.Prelude.{ℕ, List, IfOk};
+ghost use Rattle.std.specs.Prelude.{◌≡◌, ℕ, List, IfOk};
+ghost use Rattle.std.specs.declared.option.Option.{Option};
 ghost use Rattle.text_faults.specs.declared.faults.FaultKind.{FaultKind};
+ghost use Rattle.list_reader.specs.declared.place.Place.{Place};
 ghost use Rattle.list_reader.specs.Told.{IsToldAs};
 
-use std::alloc::{AllocError as Memory, Global};
+use crate::place::Place;
 use text_faults::FaultKind;
+use std::alloc::{AllocError as Memory, Global};
 
 /// What is told of a line.
 #[derive(Drop)]
@@ -15,16 +18,23 @@ pub enum Told {
     Bad { kind: FaultKind },
 }
 
-/// What tells the lines of a list, each by itself.
+/// What tells the lines of a list, each by itself and its place.
 pub trait LineTeller {
-    /// The line with this number, counted from 1, is told by this output. A line holds its line feed, where it has one.
-    ghost tells: { Self → ℕ → List ℕ → List ℕ → Type 0 };
+    /// The line at this place is told by this output. A line holds its line feed, where it has one.
+    ghost tells: { Self → Place → List ℕ → List ℕ → Type 0 };
 
-    /// The line with this number is bad, with a first fault of this kind.
-    ghost bad: { Self → ℕ → List ℕ → FaultKind → Type 0 };
+    /// The line at this place is bad, with a first fault of this kind.
+    ghost bad: { Self → Place → List ℕ → FaultKind → Type 0 };
+
+    /// The kind of the fault that a list has which ends after so many graphs, if it has one.
+    ghost lacks: { Self → ℕ → Option FaultKind };
 
     /// The output of a line, or the kind of its first fault.
-    fn tell(&self, alloc: Global, number: u64, line: &[u8]) -> Result<Told, Memory>
+    fn tell(&self, alloc: Global, place: Place, line: &[u8]) -> Result<Told, Memory>
         ensures { IfOk result
-            (IsToldAs (tells self.now number line.now) (bad self.now number line.now)) };
+            (IsToldAs (tells self.now place line.now) (bad self.now place line.now)) };
+
+    /// The kind of the fault of a list that ends after so many lines other than the header, if it has one.
+    fn fault_at_end(&self, graphs: u64) -> Option<FaultKind>
+        ensures { result ≡ lacks self.now graphs };
 }

@@ -4,7 +4,7 @@ use Rattle.list_reader.proofs.telling.tell_lines.Given as goal
 
 abbrev pub invariant-telling : goal.invariant-telling
 invariant-telling g l =
-    Added (ToldThrough (g.T.LineTeller.tells l.teller) l.lines l.text l.rest l.number) l.fn.output.items l.output.items
+    Added (ToldThrough (g.T.LineTeller.tells l.teller) l.fn.first l.text l.rest l.place) l.fn.output.items l.output.items
 
 abbrev pub decreases-telling : goal.decreases-telling
 decreases-telling g l = length l.rest

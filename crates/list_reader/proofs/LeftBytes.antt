@@ -1,0 +1,69 @@
+-- What is left of a source after bytes were read: what was left before is these bytes and what is left now. Where a source tells
+-- nothing, some list serves.
+use Rattle.std.proofs.Common.{◌≡◌, inl, ℕ, suc, ◌≤◌, List, [], ◌++◌, length, refl, sym, subst, ◌∙◌, ap, arith, append_assoc}
+use Rattle.std.proofs.lemmas.List.{append-nil}
+use Rattle.std.specs.declared.option.Option.{Option}
+use Rattle.std.specs.declared.option.Option.TheVariants.{Some, None}
+use Rattle.outside.specs.Sink.{appended}
+use Rattle.outside.specs.Source.{prepended, IsEnd}
+use Rattle.outside.proofs.Pieces.{appended-nil, appended-appended}
+use Rattle.text_faults.specs.declared.faults.FaultKind.{FaultKind}
+use Rattle.list_reader.specs.declared.ending.Ending.{Ending}
+use Rattle.list_reader.specs.declared.ending.Ending.TheVariants.{Memory}
+use Rattle.list_reader.specs.declared.place.Place.{Place}
+use Rattle.list_reader.specs.Lines.{lines_of, HasNoFeed, IsClosed}
+use Rattle.list_reader.specs.Lists.{AllTold, BeginningTold}
+use Rattle.list_reader.specs.Places.{first_place, place_behind}
+use Rattle.list_reader.specs.Told.{most_line}
+use Rattle.list_reader.specs.Endings.{Gives, Appended, ToldThrough, StopsWith, IsLeft, TellsList, ReadsTold, Wrote, WroteUpTo}
+use Rattle.list_reader.specs.Streams.{Steps, Ends, IsStream, GivesAfter}
+
+pub prepended-nil : (left : Option (List ℕ)) → prepended [] left ≡ left
+prepended-nil None = refl
+prepended-nil (Some rest) = refl
+
+pub prepended-prepended :
+    (first second : List ℕ) (left : Option (List ℕ)) → prepended first (prepended second left) ≡ prepended (first ++ second) left
+prepended-prepended first second None = refl
+prepended-prepended first second (Some rest) = ap Some (sym (append_assoc first second rest))
+
+-- where bytes were read, the list is these bytes and what is left
+pub record ListIs (before : Option (List ℕ)) (read : List ℕ) : Type 0 where
+  pub rest : List ℕ
+  pub is_left : IsLeft before (read ++ rest)
+
+pub list_is : (before now : Option (List ℕ)) (read : List ℕ) → before ≡ prepended read now → ListIs before read
+list_is before None read left = record {
+  rest = [];
+  is_left = subst (λ (o : Option (List ℕ)). IsLeft o (read ++ [])) (sym left) tt;
+}
+list_is before (Some rest) read left = record {
+  rest = rest;
+  is_left = subst (λ (o : Option (List ℕ)). IsLeft o (read ++ rest)) (sym left) refl;
+}
+
+-- at the end nothing is left
+pub list_ends : (before now : Option (List ℕ)) (read : List ℕ) → before ≡ prepended read now → IsEnd now → IsLeft before read
+list_ends before None read left end = subst (λ (o : Option (List ℕ)). IsLeft o read) (sym left) tt
+list_ends before (Some rest) read left end =
+    subst (λ (o : Option (List ℕ)). IsLeft o read) (sym left) (ap (λ (t : List ℕ). read ++ t) end ∙ append-nil read)
+
+-- what was read once a piece is read
+pub piece_read :
+    (whole held piece : List ℕ) (before now next : Option (List ℕ)) →
+    before ≡ prepended (whole ++ held) now → now ≡ prepended piece next → before ≡ prepended (whole ++ (held ++ piece)) next
+piece_read whole held piece before now next left taken =
+    left
+    ∙ ap (prepended (whole ++ held)) taken
+    ∙ prepended-prepended (whole ++ held) piece next
+    ∙ ap (λ (t : List ℕ). prepended t next) (append_assoc whole held piece)
+
+-- where the source tells what is left, the list is that
+pub told_list :
+    (tells : Place → List ℕ → List ℕ → Type 0) (bad : Place → List ℕ → FaultKind → Type 0) (lacks : ℕ → Option FaultKind) (ending : Ending)
+    (left before now : Option (List ℕ)) (bytes : List ℕ) →
+    TellsList tells bad lacks ending left before now → left ≡ Some bytes →
+    Appended (Gives tells bad lacks first_place (lines_of bytes) ending) before now
+told_list tells bad lacks ending left before now bytes list is =
+    let same : bytes ≡ list.bytes = subst (λ (o : Option (List ℕ)). IsLeft o list.bytes) is list.is_left in
+    subst (λ (t : List ℕ). Appended (Gives tells bad lacks first_place (lines_of t) ending) before now) (sym same) list.gives
