@@ -1,8 +1,8 @@
 //! How the telling of a list ends.
 ghost use Rattle.list_reader.specs.Told.{IfBad, IsFound};
 
-use text_faults::FaultKind;
 use std::alloc::Global;
+use text_faults::FaultKind;
 
 /// What is found of the first bad line of a list: its number, counted from 1, the kind of its first fault, and its text with its line
 /// end, as far as it was kept: of a line that is too long what was read of it. Where a line is missing at the end of the list, its

@@ -11,8 +11,8 @@ use crate::ending::{Stop, stop_at};
 use crate::place::{Place, place_after};
 use crate::teller::LineTeller;
 use crate::telling::{MOST_LINE, tell_line, tell_lines};
-use text_faults::FaultKind;
 use std::alloc::Global;
+use text_faults::FaultKind;
 
 /// The state of a list that comes in pieces.
 #[derive(Drop)]

@@ -6,8 +6,8 @@ ghost use Rattle.list_reader.specs.declared.place.Place.{Place};
 ghost use Rattle.list_reader.specs.Told.{IsToldAs};
 
 use crate::place::Place;
-use text_faults::FaultKind;
 use std::alloc::{AllocError as Memory, Global};
+use text_faults::FaultKind;
 
 /// What is told of a line.
 #[derive(Drop)]

@@ -9,8 +9,8 @@ use crate::cutting::first_line;
 use crate::ending::{Stop, stop_at};
 use crate::place::{Place, is_header, place_after};
 use crate::teller::{LineTeller, Told};
-use text_faults::FaultKind;
 use std::alloc::Global;
+use text_faults::FaultKind;
 
 /// The most bytes of a line; a line of more is bad, whatever it holds.
 pub const MOST_LINE: usize = 65536;
