@@ -21,7 +21,7 @@ A file may be a pipe, as /dev/stdin. FORMATS.md has the formats and reports.
 ";
 
 /// The version, and the kit that it is proved with.
-pub const VERSION: &str = "mcg 0.1.0
+pub const VERSION: &str = "mcg 0.2.0
 rattle-kit-13f logic dac8208d650f15bf
 ";
 
