@@ -32,10 +32,12 @@ fn structure(alloc: Global, c: &Covered) -> Result<Structure, Memory>
     let pairs = FirstPairs::of(alloc, c)?;
     let cut = pairs.any_cut(alloc)?;
     let kind = kind_of(alloc, &pairs)?;
+    let unlike = ends_of(pairs.unlike());
+    let cutpair = ends_of(cut);
     Ok(Structure {
         classes,
-        unlike: ends_of(pairs.unlike()),
-        cutpair: ends_of(cut),
+        unlike,
+        cutpair,
         kind,
     })
 }
@@ -46,11 +48,15 @@ pub fn structure_where_covered(
     facts: Facts,
     verdict: &Verdict,
 ) -> Result<Option<Structure>, Memory>
-    requires { IsVerdict facts.entry verdict.now }
+    requires { IsVerdict facts verdict.now }
     ensures { IfOk result (TellsStructure facts.entry verdict.now) }
 {
     match verdict {
-        Verdict::Covered => Ok(Some(structure(alloc, &Covered::from_facts(facts))?)),
+        Verdict::Covered => {
+            let covered = Covered::from_facts(facts);
+            let found = structure(alloc, &covered)?;
+            Ok(Some(found))
+        }
         Verdict::NotCovered(_) => Ok(None),
     }
 }
