@@ -82,11 +82,14 @@ pub fn perform<S: Shelf, K: Sink>(
         Rose (S.faults shelf.old) (S.faults shelf.new) }
     ensures write_fault { result.status ≡ Status.WriteFault →
         Rose (K.faults sink.old) (K.faults sink.new) }
-    ensures nothing { (result.status ≡ Status.ReadFault) ⊎ (result.status ≡ Status.Memory) → sink.new ≡ sink.old }
-    ensures outcome { (files : List Named) → S.files shelf.old ≡ Some files → IsReported result.status
+    ensures nothing { (result.status ≡ Status.ReadFault) ⊎ (result.status ≡ Status.Memory)
+        → sink.new ≡ sink.old }
+    ensures outcome { (files : List Named) → S.files shelf.old ≡ Some files
+        → IsReported result.status
         → Appended (LoadedGives (loaded files (asked command.entry))) result.status
         (K.written sink.old) (K.written sink.new) }
-    ensures cut { (files : List Named) → S.files shelf.old ≡ Some files → result.status ≡ Status.WriteFault
+    ensures cut { (files : List Named) → S.files shelf.old ≡ Some files
+        → result.status ≡ Status.WriteFault
         → CutShort (LoadedGives (loaded files (asked command.entry)))
         (K.written sink.old) (K.written sink.new) }
     // Which file stopped it, and what was written of a bad one.

@@ -30,7 +30,8 @@ pub fn run_ending<S: Shelf, K: Sink>(
     sink: &mut K,
 ) -> Ending
     // Usage comes exactly where the words match no command, and then nothing was read.
-    ensures usage { result.status ≡ Status.Usage ↔ (command_of (map string_bytes words.now) ≡ None) }
+    ensures usage { result.status ≡ Status.Usage
+        ↔ (command_of (map string_bytes words.now) ≡ None) }
     ensures unread { result.status ≡ Status.Usage → shelf.new ≡ shelf.old }
     // Some commands never refuse.
     ensures negative { result.status ≡ Status.Negative →
@@ -62,10 +63,12 @@ pub fn run_ending<S: Shelf, K: Sink>(
     ensures steady { S.steady shelf.new ≡ S.steady shelf.old }
 
     // What was written is the output that the words and the files stand for, or a proper prefix of it.
-    ensures outcome { (files : List Named) → S.files shelf.old ≡ Some files → IsReported result.status
+    ensures outcome { (files : List Named) → S.files shelf.old ≡ Some files
+        → IsReported result.status
         → Appended (Outcome (map string_bytes words.now) files) result.status
         (K.written sink.old) (K.written sink.new) }
-    ensures cut { (files : List Named) → S.files shelf.old ≡ Some files → result.status ≡ Status.WriteFault
+    ensures cut { (files : List Named) → S.files shelf.old ≡ Some files
+        → result.status ≡ Status.WriteFault
         → CutShort (Outcome (map string_bytes words.now) files) (K.written sink.old)
         (K.written sink.new) }
 
