@@ -10,7 +10,7 @@ use Rattle.bench_outcomes.specs.Comparisons.{RefusesPair}
 use Rattle.bench_outcomes.specs.Outcome.{IsReported, IsSettled, ResultOf}
 use Rattle.bench_outcomes.specs.declared.report.Report.{Report}
 use Rattle.bench_outcomes.specs.declared.status.Status.{Status}
-use Rattle.bench_outcomes.specs.declared.status.Status.TheVariants.{Done, Negative}
+use Rattle.bench_outcomes.specs.declared.status.Status.TheVariants.{BadInput, Done, Negative}
 
 tree-refused : (g : Graph) (t : Shape) (place : ℕ) (status : Status) (output : List ℕ) → Refuses g t place status output → status ≡ Negative
 tree-refused g t place status output (inl refused) = refused.negative
@@ -47,6 +47,13 @@ settled-status (task.Script named first second) status output (inl scripted) = i
 settled-status (task.Script named first second) status output (inr refused) = inr (pair-refused named.graph first second status output refused)
 settled-status (task.Grow seed pieces) status output gives = inl gives.done
 
+-- a task gives no report of a bad file
+never-bad : (t : Task) (status : Status) (output : List ℕ) → ResultOf t status output → status ≡ BadInput → ⊥
+never-bad t status output gives bad = elim (settled-status t status output gives) [
+  | inl done ↦ let no : Done ≡ BadInput = sym done ∙ bad in cc no
+  | inr negative ↦ let no : Negative ≡ BadInput = sym negative ∙ bad in cc no
+]
+
 never-both : (status : Status) → status ≡ Done → status ≡ Negative → ⊥
 never-both status done negative = let no : Done ≡ Negative = sym done ∙ negative in cc no
 
@@ -77,3 +84,7 @@ pub all-may : {E : Type 0} (t : Task) (result : Result Report E) → IfOk result
     IfOk result (λ report. report.status ≡ Negative → TaskMayRefuse t)
 all-may t (Ok report) gives = λ negative. refused-may t report.status report.bytes.items gives negative
 all-may t (Err short) gives = tt
+
+pub all-good : {E : Type 0} (t : Task) (result : Result Report E) → IfOk result (λ report. ResultOf t report.status report.bytes.items) → IfOk result (λ report. report.status ≡ BadInput → ⊥)
+all-good t (Ok report) gives = λ bad. never-bad t report.status report.bytes.items gives bad
+all-good t (Err short) gives = tt

@@ -154,6 +154,7 @@ pub fn judge(alloc: Global, task: Task) -> Result<Report, Memory>
     ensures reported { IfOk result (λ report. IsReported report.status) }
     ensures refuses { IfOk result
         (λ report. report.status ≡ Status.Negative → TaskMayRefuse (task_of task)) }
+    ensures never_bad { IfOk result (λ report. report.status ≡ Status.BadInput → ⊥) }
 {
     report_of(alloc, task)
 }

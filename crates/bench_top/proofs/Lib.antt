@@ -1,4 +1,5 @@
 pub mod ReadsMade
+pub mod Stops
 pub mod FileReads
 pub mod Conversions
 pub mod ScriptReplays

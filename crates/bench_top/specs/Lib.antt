@@ -1,3 +1,4 @@
 pub mod Calm
+pub mod Endings
 pub mod Fixed
 pub mod RoundTrips

@@ -4,7 +4,7 @@
 //! report, which is written. Main definitions, in specs/: `command_of` (what the words ask for), `loaded` (what the files of a
 //! command hold, up to the first that is not held or is bad), `ResultOf` (what a task gives) and `Outcome`, which puts them
 //! together. Main promises: the clauses of `run` say for each status its cause, which files are read, and tie what was written to
-//! `Outcome`; `run_in_memory` says so over files in memory, with completeness. `laws` says that an outcome is done exactly where its
+//! `Outcome`; `run_ending` hands up beside the status which file stopped the run; `run_in_memory` says so over files in memory, with completeness. `laws` says that an outcome is done exactly where its
 //! task succeeds (`Succeeds`), and that words and files decide the status and, where it is not free, the output; `written_back`, that
 //! mcg reads what it writes.
 //!
@@ -12,6 +12,7 @@
 //! reports, and on `outside` for the shelf and the sink. The laws also stand on those of the texts and of the engine.
 #![tactic(auto)]
 
+mod ending;
 mod in_memory;
 pub mod laws;
 mod performing;
@@ -19,5 +20,6 @@ mod running;
 pub mod written_back;
 
 pub use bench_outcomes::Status;
+pub use ending::Ending;
 pub use in_memory::run_in_memory;
-pub use running::run;
+pub use running::{run, run_ending};

@@ -3,6 +3,7 @@ ghost use Rattle.std.specs.Prelude.{◌≡◌, ◌≢◌, ◌⊎◌, ◌↔◌, 
 ghost use Rattle.outside.specs.Faults.{Rose};
 ghost use Rattle.outside.specs.Shelf.{Named, ReadsFirst, ReadsInTurn};
 ghost use Rattle.bench_top.specs.Calm.{HasRead};
+ghost use Rattle.bench_top.specs.Endings.{IsStopOf, ReportedBad, ReportsBad, StopsAfter, Unread, stop_in};
 ghost use Rattle.bench_tasks.specs.Asked.{asked};
 ghost use Rattle.bench_tasks.specs.Loading.{Absent, loaded};
 ghost use Rattle.bench_tasks.specs.Loads.{LoadsAs, task_of, Held};
@@ -10,12 +11,23 @@ ghost use Rattle.bench_tasks.specs.Reads.{IsRead, IsReadFault, file_names, names
 ghost use Rattle.bench_outcomes.specs.Outcome.{LoadedGives, Appended, CutShort, IsReported, IsSettled};
 ghost use Rattle.bench_tasks.specs.Refusing.{MayRefuse, GatheredMayRefuse};
 
+use crate::ending::Ending;
 use bench_outcomes::{Report, Status};
 use bench_reports::judge;
 use bench_tasks::{Command, Stop, Task, gather};
 use outside::{Shelf, Sink, SinkFailed, emit};
 use report_text::bad_input;
 use std::alloc::Global;
+
+// Why the files were not loaded, where they were not.
+fn stop_of(gathered: &Result<Task, Stop>) -> Option<Stop>
+    ensures { result ≡ stop_in gathered.now }
+{
+    match gathered {
+        Ok(_) => None,
+        Err(stop) => Some(*stop),
+    }
+}
 
 // The report on what was gathered, or the status where there is none.
 fn report_on(alloc: Global, gathered: Result<Task, Stop>) -> Result<Report, Status>
@@ -27,6 +39,8 @@ fn report_on(alloc: Global, gathered: Result<Task, Stop>) -> Result<Report, Stat
         (λ report. report.status ≡ Status.Negative → GatheredMayRefuse gathered) }
     ensures read { IfOk result (λ report. IsRead gathered) }
     ensures whole { IfOk result (λ report. IsSettled report.status → IsOk gathered) }
+    ensures bad { IfOk result
+        (λ report. report.status ≡ Status.BadInput → ReportsBad gathered report.bytes.items) }
     ensures read_fault { IsErrOf result Status.ReadFault ↔ IsReadFault gathered }
     ensures stops { IfErr result
         (λ status. (status ≡ Status.ReadFault) ⊎ (status ≡ Status.Memory)) }
@@ -51,40 +65,58 @@ pub fn perform<S: Shelf, K: Sink>(
     command: Command<'_>,
     shelf: &mut S,
     sink: &mut K,
-) -> Status
-    ensures usage { result ≢ Status.Usage }
-    ensures negative { result ≡ Status.Negative → MayRefuse (Some (asked command.entry)) }
+) -> Ending
+    ensures usage { result.status ≢ Status.Usage }
+    ensures negative { result.status ≡ Status.Negative → MayRefuse (Some (asked command.entry)) }
     ensures files { S.files shelf.new ≡ S.files shelf.old }
     ensures steady { S.steady shelf.new ≡ S.steady shelf.old }
     ensures asks { ReadsFirst S.reads (file_names (asked command.entry)) shelf.old shelf.new }
-    ensures asks_all { IsSettled result
+    ensures asks_all { IsSettled result.status
         → ReadsInTurn S.reads (file_names (asked command.entry)) shelf.old shelf.new }
     ensures asks_until { (files : List Named) → S.files shelf.old ≡ Some files
-        → HasRead (S.steady shelf.old) result
+        → HasRead (S.steady shelf.old) result.status
         → let names = names_until (loaded files (asked command.entry))
         (file_names (asked command.entry))
         in ReadsInTurn S.reads names shelf.old shelf.new }
-    ensures read_fault { result ≡ Status.ReadFault →
+    ensures read_fault { result.status ≡ Status.ReadFault →
         Rose (S.faults shelf.old) (S.faults shelf.new) }
-    ensures write_fault { result ≡ Status.WriteFault →
+    ensures write_fault { result.status ≡ Status.WriteFault →
         Rose (K.faults sink.old) (K.faults sink.new) }
-    ensures nothing { (result ≡ Status.ReadFault) ⊎ (result ≡ Status.Memory) → sink.new ≡ sink.old }
-    ensures outcome { (files : List Named) → S.files shelf.old ≡ Some files → IsReported result
-        → Appended (LoadedGives (loaded files (asked command.entry))) result
+    ensures nothing { (result.status ≡ Status.ReadFault) ⊎ (result.status ≡ Status.Memory)
+        → sink.new ≡ sink.old }
+    ensures outcome { (files : List Named) → S.files shelf.old ≡ Some files
+        → IsReported result.status
+        → Appended (LoadedGives (loaded files (asked command.entry))) result.status
         (K.written sink.old) (K.written sink.new) }
-    ensures cut { (files : List Named) → S.files shelf.old ≡ Some files → result ≡ Status.WriteFault
+    ensures cut { (files : List Named) → S.files shelf.old ≡ Some files
+        → result.status ≡ Status.WriteFault
         → CutShort (LoadedGives (loaded files (asked command.entry)))
         (K.written sink.old) (K.written sink.new) }
+    // Which file stopped it, and what was written of a bad one.
+    ensures stops { (files : List Named) → S.files shelf.old ≡ Some files →
+        IsStopOf (S.steady shelf.old) result.stop (loaded files (asked command.entry)) }
+    ensures stops_after { StopsAfter S.reads (file_names (asked command.entry)) result.stop
+        shelf.old shelf.new }
+    ensures reported { result.status ≡ Status.BadInput →
+        ReportedBad result.stop (K.written sink.old) (K.written sink.new) }
+    ensures unread { result.status ≡ Status.ReadFault → Unread result.stop }
     ensures missing { (files : List Named) → S.files shelf.old ≡ Some files
-        → result ≡ Status.ReadFault → IsTrue (S.steady shelf.old)
+        → result.status ≡ Status.ReadFault → IsTrue (S.steady shelf.old)
         → (file : ℕ) × (loaded files (asked command.entry) ≡ Absent file) }
 {
     let gathered = gather(alloc, command, shelf);
+    let stop = stop_of(&gathered);
     match report_on(alloc, gathered) {
         Ok(report) => match emit(sink, &report.bytes) {
-            Ok(()) => report.status,
-            Err(SinkFailed) => Status::WriteFault,
+            Ok(()) => Ending {
+                status: report.status,
+                stop,
+            },
+            Err(SinkFailed) => Ending {
+                status: Status::WriteFault,
+                stop,
+            },
         },
-        Err(status) => status,
+        Err(status) => Ending { status, stop },
     }
 }

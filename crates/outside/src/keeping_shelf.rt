@@ -65,7 +65,8 @@ impl<S: Shelf + Drop> Shelf for KeepingShelf<S> {
     fn read(&mut self, alloc: Global, name: &str, limit: usize) -> Result<Vec<u8>, ShelfFault>
         requires { limit < 2 ^ 64 - 1 }
 
-        ensures reads { KeepsRead S.files S.reads self.old.shelf name.now self.new.shelf (bytes_kept self.new.kept) }
+        ensures reads { KeepsRead S.files S.reads self.old.shelf name.now self.new.shelf
+            (bytes_kept self.new.kept) }
         // What it gives it keeps, and where it gives nothing it keeps nothing.
         ensures keeps { IfOk result (λ bytes. bytes_kept self.new.kept ≡ Some bytes.items) }
         ensures drops { OnErr result (self.new.kept ≡ None) }

@@ -59,7 +59,8 @@ impl<P: Print> Sink for LineSink<'_, P> {
         ensures later { self.old ≤ self.new }
         ensures counts { MayCount self.old self.new }
         ensures rose { OnErr result (Rose self.old self.new) }
-        ensures stuck { IfOk result (λ count. count ≡ 0 → 0 < length bytes.now → Rose self.old self.new) }
+        ensures stuck { IfOk result
+            (λ count. count ≡ 0 → 0 < length bytes.now → Rose self.old self.new) }
     {
         let count = bytes.len().min(ROOM - self.held);
         let end = self.held + count;

@@ -1,5 +1,5 @@
 use Rattle.bench_tasks.specs.Loads.{task_of}
-use Rattle.bench_reports.proofs.Reported.{all-may, all-reported}
+use Rattle.bench_reports.proofs.Reported.{all-good, all-may, all-reported}
 use Rattle.bench_reports.proofs.judging.judge.Goals as goal
 
 pub returns-clause-reported : goal.returns-clause-reported
@@ -7,3 +7,6 @@ returns-clause-reported c = all-reported (task_of c.args.task) c.report_of.resul
 
 pub returns-clause-refuses : goal.returns-clause-refuses
 returns-clause-refuses c = all-may (task_of c.args.task) c.report_of.result c.report_of.ensures
+
+pub returns-clause-never_bad : goal.returns-clause-never_bad
+returns-clause-never_bad c = all-good (task_of c.args.task) c.report_of.result c.report_of.ensures

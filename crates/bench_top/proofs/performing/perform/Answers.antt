@@ -3,7 +3,9 @@ use Rattle.outside.specs.Sink.{appended}
 use Rattle.bench_tasks.specs.Asked.{asked}
 use Rattle.bench_tasks.specs.Loading.{loaded}
 use Rattle.bench_tasks.specs.Reads.{file_names}
+use Rattle.bench_tasks.specs.Loads.{task_of}
 use Rattle.bench_top.proofs.ReadsMade.{absent-fault, first-reads}
+use Rattle.bench_top.proofs.Stops.{is-stop, reported-bad, stops-after, unread}
 use Rattle.bench_top.proofs.performing.perform.Goals as goal
 
 pub returns-in-Ok-emit-clause-asks : goal.returns-in-Ok-emit-clause-asks
@@ -35,3 +37,40 @@ returns-in-Ok-clause-cut g c = λ files told fault.
       less = subst (λ (l : List ℕ). cut.0 < length l) c.deref.ensures.value cut.1;
       written = subst (λ (l : List ℕ). g.K.Sink.written c.emit.new.sink ≡ appended (g.K.Sink.written c.args.sink.now) (take cut.0 l)) c.deref.ensures.value cut.2;
     }
+
+pub returns-in-Ok-emit-clause-stops : goal.returns-in-Ok-emit-clause-stops
+returns-in-Ok-emit-clause-stops g c = λ files told.
+    rw c.stop_of-stop.ensures (is-stop task_of (g.S.Shelf.steady c.args.shelf.now) c.gather-gathered.result (loaded files (asked c.args.command))
+    (c.gather-gathered.ensures.loads.loads files told) (c.gather-gathered.ensures.loads.absent files told))
+
+pub returns-in-Ok-emit-clause-stops_after : goal.returns-in-Ok-emit-clause-stops_after
+returns-in-Ok-emit-clause-stops_after g c =
+    rw c.stop_of-stop.ensures (stops-after g.S.Shelf.reads (file_names (asked c.args.command)) c.gather-gathered.result c.args.shelf.now c.gather-gathered.new.shelf c.gather-gathered.ensures.reads)
+
+pub returns-in-Ok-clause-stops : goal.returns-in-Ok-clause-stops
+returns-in-Ok-clause-stops g c = λ files told.
+    rw c.stop_of-stop.ensures (is-stop task_of (g.S.Shelf.steady c.args.shelf.now) c.gather-gathered.result (loaded files (asked c.args.command))
+    (c.gather-gathered.ensures.loads.loads files told) (c.gather-gathered.ensures.loads.absent files told))
+
+pub returns-in-Ok-clause-stops_after : goal.returns-in-Ok-clause-stops_after
+returns-in-Ok-clause-stops_after g c =
+    rw c.stop_of-stop.ensures (stops-after g.S.Shelf.reads (file_names (asked c.args.command)) c.gather-gathered.result c.args.shelf.now c.gather-gathered.new.shelf c.gather-gathered.ensures.reads)
+
+pub returns-clause-stops : goal.returns-clause-stops
+returns-clause-stops g c = λ files told.
+    rw c.stop_of-stop.ensures (is-stop task_of (g.S.Shelf.steady c.args.shelf.now) c.gather-gathered.result (loaded files (asked c.args.command))
+    (c.gather-gathered.ensures.loads.loads files told) (c.gather-gathered.ensures.loads.absent files told))
+
+pub returns-clause-stops_after : goal.returns-clause-stops_after
+returns-clause-stops_after g c =
+    rw c.stop_of-stop.ensures (stops-after g.S.Shelf.reads (file_names (asked c.args.command)) c.gather-gathered.result c.args.shelf.now c.gather-gathered.new.shelf c.gather-gathered.ensures.reads)
+
+pub returns-in-Ok-emit-clause-reported : goal.returns-in-Ok-emit-clause-reported
+returns-in-Ok-emit-clause-reported g c = λ bad.
+    let written = rw c.deref.ensures.value at c.in-Ok-emit.ensures.ok in
+    rw c.stop_of-stop.ensures (reported-bad c.gather-gathered.result c.in-Ok.report.bytes.items (g.K.Sink.written c.args.sink.now) (g.K.Sink.written c.emit.new.sink)
+    (c.in-Ok.ensures.bad bad) written)
+
+pub returns-clause-unread : goal.returns-clause-unread
+returns-clause-unread g c = λ fault.
+    rw c.stop_of-stop.ensures (unread c.gather-gathered.result (c.in-Err.ensures.read_fault.0 (ap Err fault)))

@@ -1,0 +1,41 @@
+use Rattle.std.proofs.Common.{◌≡◌, ◌∙◌, map, Option, Some, ap, inl, inr, rules, subst, sym}
+use Rattle.std.proofs.lemmas.Option.{same_Some}
+use Rattle.std.specs.Prelude.{string_bytes}
+use Rattle.bench_tasks.specs.Asked.{asked}
+use Rattle.bench_tasks.specs.Commands.{Command, command_of}
+use Rattle.bench_tasks.specs.Loading.{All, Absent, loaded}
+use Rattle.bench_outcomes.specs.Outcome.{CommandGives, CutShort}
+use Rattle.bench_tasks.specs.Reads.{names_in}
+use Rattle.bench_top.specs.Endings.{IsStopOf, StopsAfter}
+use Rattle.bench_top.proofs.Completeness.{done-given, done-or_memory}
+use Rattle.bench_top.proofs.running.run_ending.Goals as goal
+
+pub returns-in-Some-clause-cut : goal.returns-in-Some-clause-cut
+returns-in-Some-clause-cut g c = λ files told fault.
+    let row : Some (asked c.in-Some.command) ≡ command_of (map string_bytes c.args.words.now) = search rules in
+    subst (λ (o : Option Command). CutShort (CommandGives files o) (g.K.Sink.written c.args.sink.now) (g.K.Sink.written c.perform.new.sink)) row
+    (c.perform.ensures.cut files told fault)
+
+pub returns-in-Some-clause-succeeds : goal.returns-in-Some-clause-succeeds
+returns-in-Some-clause-succeeds g c = λ files command task told row held succeeds calm.
+    let same : asked c.in-Some.command ≡ command = same_Some _ _ (let plan : Some (asked c.in-Some.command) ≡ command_of (map string_bytes c.args.words.now) = search rules in plan ∙ row) in
+    let given : loaded files (asked c.in-Some.command) ≡ All task = ap (loaded files) same ∙ held in
+    done-or_memory c.perform.result.status c.perform.ensures.usage
+    (λ fault. elim calm.shelf [
+      | inl steady ↦ let absent = c.perform.ensures.missing files told fault steady in let no : Absent absent.0 ≡ All task = sym absent.1 ∙ given in cc no
+      | inr still ↦ still (c.perform.ensures.read_fault fault)
+    ])
+    (λ fault. calm.sink (c.perform.ensures.write_fault fault))
+    (λ reported.
+    let made = c.perform.ensures.outcome files told reported in
+    (done-given files (asked c.in-Some.command) task c.perform.result.status made.output given made.outcome).1 succeeds)
+
+pub returns-in-Some-clause-stops : goal.returns-in-Some-clause-stops
+returns-in-Some-clause-stops g c = λ files command told row.
+    let same : asked c.in-Some.command ≡ command = same_Some _ _ (let plan : Some (asked c.in-Some.command) ≡ command_of (map string_bytes c.args.words.now) = search rules in plan ∙ row) in
+    subst (λ (k : Command). IsStopOf (g.S.Shelf.steady c.args.shelf.now) c.perform.result.stop (loaded files k)) same (c.perform.ensures.stops files told)
+
+pub returns-in-Some-clause-stops_after : goal.returns-in-Some-clause-stops_after
+returns-in-Some-clause-stops_after g c =
+    let row : Some (asked c.in-Some.command) ≡ command_of (map string_bytes c.args.words.now) = search rules in
+    subst (λ (o : Option Command). StopsAfter g.S.Shelf.reads (names_in o) c.perform.result.stop c.args.shelf.now c.perform.new.shelf) row c.perform.ensures.stops_after

@@ -1,0 +1,51 @@
+-- How a run ended: why its files were not loaded, which of them were read, and what was written of a bad one.
+use Rattle.std.specs.Prelude.{◌≡◌, ◌≤◌, ℕ, List, Bool, IsTrue, length, take}
+use Rattle.std.specs.declared.option.Option.{Option}
+use Rattle.std.specs.declared.option.Option.TheVariants.{Some, None}
+use Rattle.std.specs.declared.result.Result.{Result}
+use Rattle.std.specs.declared.result.Result.TheVariants.{Ok, Err}
+use Rattle.outside.specs.Shelf.{ReadsInTurn}
+use Rattle.outside.specs.Sink.{appended}
+use Rattle.report_text.specs.Reports.{bad_input_text}
+use Rattle.bench_tasks.specs.Loading.{Loaded, Bad, Absent}
+use Rattle.bench_tasks.specs.declared.stop.Stop.{Stop}
+use Rattle.bench_tasks.specs.declared.stop.Stop.TheVariants as stop
+
+-- why nothing was loaded, if nothing was
+abbrev pub stop_in : {X : Type 0} → Result X Stop → Option Stop
+stop_in (Ok x) = None
+stop_in (Err stopped) = Some stopped
+
+-- the stop is what the files hold: the first bad file, with its first fault; and over a steady shelf the file that is not held
+abbrev pub IsStopOf : {A : Type 0} → (steady : Bool) → Option Stop → Loaded A → Type 0
+IsStopOf steady None loaded = Unit {0}
+IsStopOf steady (Some (stop.Bad file line kind)) loaded = loaded ≡ Bad file line kind
+IsStopOf steady (Some (stop.ReadFault file)) loaded = IsTrue steady → loaded ≡ Absent file
+IsStopOf steady (Some stop.Memory) loaded = Unit {0}
+
+-- where the run stopped at a file, the reads are those of the names up to it, that one included
+abbrev pub StopsAfter : {S : Type 0} → (S → List ℕ → S → Type 0) → List (List ℕ) → Option Stop → S → S → Type 0
+StopsAfter reads names None first last = Unit {0}
+StopsAfter reads names (Some (stop.Bad file line kind)) first last = (file ≤ length names) × ReadsInTurn reads (take file names) first last
+StopsAfter reads names (Some (stop.ReadFault file)) first last = (file ≤ length names) × ReadsInTurn reads (take file names) first last
+StopsAfter reads names (Some stop.Memory) first last = Unit {0}
+
+-- the bytes are the report of a bad file
+abbrev pub ReportsBad : {X : Type 0} → Result X Stop → List ℕ → Type 0
+ReportsBad (Ok x) bytes = ⊥
+ReportsBad (Err (stop.Bad file line kind)) bytes = bytes ≡ bad_input_text file line kind
+ReportsBad (Err (stop.ReadFault file)) bytes = ⊥
+ReportsBad (Err stop.Memory) bytes = ⊥
+
+-- a bad file stopped the run, and the line that reports it was written
+pub record ReportedBad (stopped : Option Stop) (before now : Option (List ℕ)) : Type 0 where
+  pub file : ℕ
+  pub line : ℕ
+  pub kind : ℕ
+  pub is : stopped ≡ Some (stop.Bad file line kind)
+  pub written : now ≡ appended before (bad_input_text file line kind)
+
+-- a file that could not be read stopped the run
+pub record Unread (stopped : Option Stop) : Type 0 where
+  pub file : ℕ
+  pub is : stopped ≡ Some (stop.ReadFault file)

@@ -1,0 +1,13 @@
+//! How a run ended.
+
+use bench_outcomes::Status;
+use bench_tasks::Stop;
+
+/// How a run ended, for who has to say it in words.
+#[derive(Clone, Copy, Debug, PartialEq, Eq)]
+pub struct Ending {
+    /// The status.
+    pub status: Status,
+    /// Why the files were not loaded. `None` where all were, and where the words match no command.
+    pub stop: Option<Stop>,
+}

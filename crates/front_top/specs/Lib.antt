@@ -1,0 +1,7 @@
+pub mod Answers
+pub mod Files
+pub mod FilesSeen
+pub mod Words
+pub mod CluesSeen
+pub mod Runs
+pub mod Speaks

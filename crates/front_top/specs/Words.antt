@@ -1,0 +1,58 @@
+-- What is said of each ending.
+use Rattle.std.specs.Prelude.{ℕ, List, [], codes, Bool, if◌then◌else◌}
+use Rattle.std.specs.declared.option.Option.{Option}
+use Rattle.std.specs.declared.option.Option.TheVariants.{Some, None}
+use Rattle.outside.specs.declared.explain.Reason.{Reason}
+use Rattle.bench_tasks.specs.Commands.{Command}
+use Rattle.bench_tasks.specs.declared.stop.Stop.{Stop}
+use Rattle.bench_tasks.specs.declared.stop.Stop.TheVariants as stop
+use Rattle.bench_outcomes.specs.declared.status.Status.{Status}
+use Rattle.bench_outcomes.specs.declared.status.Status.TheVariants.{Done, Negative, Usage, ReadFault, BadInput, WriteFault, Memory}
+use Rattle.front_words.specs.LinesAt.{line_at}
+use Rattle.front_words.specs.Messages.{bad_file_text, unread_text}
+use Rattle.front_words.specs.Usage.{usage_text}
+use Rattle.front_top.specs.Files.{File, file_in}
+
+-- the name of the program
+abbrev pub program : List ℕ
+program = codes "mcg"
+
+-- what is known of the faults of a run: the bytes of the file that was read last, why its last read failed, and that nobody reads the
+-- output any more
+pub record Known : Type 0 where
+  pub kept : Option (List ℕ)
+  pub reason : Option Reason
+  pub is_abandoned : Bool
+
+-- the line with that number of the file that was read last, where it is kept
+abbrev pub line_kept : Option (List ℕ) → ℕ → Option (List ℕ)
+line_kept None line = None
+line_kept (Some text) line = line_at text line
+
+-- of a bad file: which it is, where it is outside its format and how, and the line
+abbrev pub bad_words : Option File → (line kind : ℕ) → Option (List ℕ) → List ℕ
+bad_words None line kind kept = []
+bad_words (Some file) line kind kept = bad_file_text program file.0 file.1 line kind (line_kept kept line)
+
+-- of a file that could not be read: which it is, and why
+abbrev pub unread_words : Option File → Option Reason → List ℕ
+unread_words None reason = []
+unread_words (Some file) reason = unread_text program file.0 reason
+
+-- of a stop of a command
+abbrev pub stop_words : Option Command → Option Stop → Known → List ℕ
+stop_words command None known = []
+stop_words command (Some (stop.Bad file line kind)) known = bad_words (file_in command file) line kind known.kept
+stop_words command (Some (stop.ReadFault file)) known = unread_words (file_in command file) known.reason
+stop_words command (Some stop.Memory) known = []
+
+-- what is said of a run of a command that ended with this status and this stop; nothing where it is done or refused, and nothing where
+-- nobody reads the output any more
+abbrev pub words_of : Option Command → Status → Option Stop → Known → List ℕ
+words_of command Done stopped known = []
+words_of command Negative stopped known = []
+words_of command Usage stopped known = usage_text
+words_of command ReadFault stopped known = stop_words command stopped known
+words_of command BadInput stopped known = stop_words command stopped known
+words_of command WriteFault stopped known = if known.is_abandoned then [] else codes "mcg: the output could not be written whole\n"
+words_of command Memory stopped known = codes "mcg: memory ran out; nothing was written\n"

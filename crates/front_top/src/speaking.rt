@@ -1,0 +1,144 @@
+//! What is said of each ending.
+ghost use Rattle.std.specs.Prelude.{◌≡◌, [], map, string_bytes};
+ghost use Rattle.std.specs.Option.{option_map};
+ghost use Rattle.bench_tasks.specs.Asked.{asked};
+ghost use Rattle.bench_tasks.specs.Commands.{command_of};
+ghost use Rattle.front_words.specs.Saying.{Says};
+ghost use Rattle.front_top.specs.CluesSeen.{known_by};
+ghost use Rattle.front_top.specs.Files.{file_in};
+ghost use Rattle.front_top.specs.FilesSeen.{file_seen};
+ghost use Rattle.front_top.specs.Words.{bad_words, line_kept, stop_words, unread_words, words_of};
+
+use crate::files::{File, file_at};
+use bench_tasks::{Command, Stop, command_of};
+use bench_top::{Ending, Status};
+use front_words::{BadFile, line_at, say_bad_file, say_bytes, say_unread, usage};
+use outside::{Reason, Sink, SinkFailed};
+
+// The name of the program.
+const PROGRAM: &str = "mcg";
+
+/// What is known of the faults of a run.
+#[derive(Clone, Copy, Drop)]
+pub struct Clues<'a> {
+    /// The bytes of the file that was read last, where they are kept.
+    pub kept: Option<&'a [u8]>,
+    /// Why the last read failed, where it did.
+    pub reason: Option<Reason>,
+    /// Nobody reads the output any more.
+    pub is_abandoned: bool,
+}
+
+// Says nothing.
+fn say_nothing<E: Sink>(_errors: &mut E) -> Result<(), SinkFailed>
+    ensures { Says E.written E.faults [] result _errors.old _errors.new }
+{
+    Ok(())
+}
+
+// The line with that number of the file that was read last, where it is kept.
+fn line_kept<'a>(kept: Option<&'a [u8]>, line: u32) -> Option<&'a [u8]>
+    ensures { option_map (λ text. text.now) result ≡
+        line_kept (option_map (λ text. text.now) kept.entry) line }
+{
+    match kept {
+        Some(text) => line_at(text, line),
+        None => None,
+    }
+}
+
+// Says of a bad file which it is, where it is outside its format and how, and the line.
+fn say_bad<'a, E: Sink>(
+    errors: &mut E,
+    file: Option<File<'a>>,
+    line: u32,
+    kind: u32,
+    kept: Option<&'a [u8]>,
+) -> Result<(), SinkFailed>
+    ensures { Says E.written E.faults
+        (bad_words (option_map file_seen file.entry) line kind
+        (option_map (λ text. text.now) kept.entry)) result errors.old errors.new }
+{
+    match file {
+        Some(file) => {
+            let bad = BadFile {
+                name: file.name,
+                role: file.role,
+                line,
+                kind,
+            };
+            say_bad_file(errors, PROGRAM, &bad, line_kept(kept, line))
+        }
+        None => say_nothing(errors),
+    }
+}
+
+// Says of a file that could not be read which it is, and why.
+fn say_unread_file<E: Sink>(
+    errors: &mut E,
+    file: Option<File<'_>>,
+    reason: Option<Reason>,
+) -> Result<(), SinkFailed>
+    ensures { Says E.written E.faults (unread_words (option_map file_seen file.entry) reason) result
+        errors.old errors.new }
+{
+    match file {
+        Some(file) => say_unread(errors, PROGRAM, file.name, reason),
+        None => say_nothing(errors),
+    }
+}
+
+// The file at that place among those of the command, if there is a command.
+fn file_in(command: Option<Command<'_>>, place: u32) -> Option<File<'_>>
+    ensures { option_map file_seen result ≡ file_in (option_map asked command.entry) place }
+{
+    match command {
+        Some(command) => file_at(command, place),
+        None => None,
+    }
+}
+
+// Says of a stop of a command which file it is, and what is wrong with it.
+fn say_stop<'a, E: Sink>(
+    errors: &mut E,
+    command: Option<Command<'a>>,
+    stop: Option<Stop>,
+    clues: Clues<'a>,
+) -> Result<(), SinkFailed>
+    ensures { Says E.written E.faults
+        (stop_words (option_map asked command.entry) stop (known_by clues.entry)) result
+        errors.old errors.new }
+{
+    match stop {
+        Some(Stop::Bad { file, line, kind }) => {
+            say_bad(errors, file_in(command, file), line, kind, clues.kept)
+        }
+        Some(Stop::ReadFault { file }) => {
+            say_unread_file(errors, file_in(command, file), clues.reason)
+        }
+        Some(Stop::Memory) | None => say_nothing(errors),
+    }
+}
+
+/// Says what the ending of a run of these words means; nothing where it is done or refused. Takes no memory.
+pub fn say_ending<'a, E: Sink>(
+    errors: &mut E,
+    words: &'a [String],
+    ending: Ending,
+    clues: Clues<'a>,
+) -> Result<(), SinkFailed>
+    ensures { Says E.written E.faults
+        (words_of (command_of (map string_bytes words.now)) ending.status ending.stop
+        (known_by clues.entry)) result errors.old errors.new }
+{
+    match ending.status {
+        Status::Done | Status::Negative => say_nothing(errors),
+        Status::Usage => say_bytes(errors, usage().as_bytes()),
+        Status::ReadFault | Status::BadInput => {
+            say_stop(errors, command_of(words), ending.stop, clues)
+        }
+        Status::WriteFault if clues.is_abandoned => say_nothing(errors),
+        Status::WriteFault => say_bytes(errors, b"mcg: the output could not be written whole\n"),
+        Status::Memory => say_bytes(errors, b"mcg: memory ran out; nothing was written\n"),
+    }
+}
