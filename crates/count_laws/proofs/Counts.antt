@@ -19,7 +19,7 @@ use Rattle.list_lines.specs.Selecting.{HasProperty, LacksProperty}
 use Rattle.list_lines.specs.Standings.{IsCounted}
 use Rattle.list_lines.specs.declared.query.Property.{Property}
 use Rattle.list_lines.specs.declared.query.Property.TheVariants as property
-use Rattle.list_lines.specs.declared.query.Property.TheVariants.{Covered, Brace, Bicritical, Composite, Bricks}
+use Rattle.list_lines.specs.declared.query.Property.TheVariants.{Covered, Uncovered, Brace, Bicritical, Composite, Bricks, Braces}
 use Rattle.count_laws.proofs.PairedCounts.{paired_length, paired_tests}
 use Rattle.count_laws.proofs.SameKinds.{same_kind}
 
@@ -66,9 +66,12 @@ same_counts g s t is a b =
 -- a graph that lacks a property has it not
 pub lacks_none : (g : Graph) (property : Property) → IsGraph g → LacksProperty g property → HasProperty g property → ⊥
 lacks_none g Covered is lacks has = lacks has
+lacks_none g Uncovered is lacks has = lacks has
 lacks_none g property.Brick is lacks has = lacks has
 lacks_none g Brace is lacks has = lacks has
 lacks_none g Bicritical is lacks has = lacks has
 lacks_none g Composite is lacks has = lacks has
 lacks_none g (Bricks count) is (inl uncovered) has = uncovered has.1.derivation.covered
 lacks_none g (Bricks count) is (inr other) has = other.2 (ap (λ (tally : Tally). tally.bricks) (same_counts g other.0 has.0 is other.1 has.1) ∙ has.2)
+lacks_none g (Braces count) is (inl uncovered) has = uncovered has.1.derivation.covered
+lacks_none g (Braces count) is (inr other) has = other.2 (ap (λ (tally : Tally). tally.braces) (same_counts g other.0 has.0 is other.1 has.1) ∙ has.2)

@@ -12,8 +12,8 @@ pub fn counts_law()
     ensures { (g : Graph) (s t : Tally) → IsGraph g → IsCounted g s → IsCounted g t → s ≡ t }
 {}
 
-/// A graph that lacks a property has it not: of a number of bricks too, which is then that of
-/// each derivation.
+/// A graph that lacks a property has it not: of a number of bricks or braces too, which is then
+/// that of each derivation.
 pub fn selection_law()
     ensures { (g : Graph) (property : Property) → IsGraph g → LacksProperty g property →
         ¬ HasProperty g property }

@@ -13,7 +13,7 @@ struct Row {
     answer: Result<&'static str, FaultKind>,
 }
 
-static ROWS: [Row; 26] = [
+static ROWS: [Row; 33] = [
     Row {
         query: Query::Kinds,
         line: "C~\n",
@@ -167,6 +167,55 @@ static ROWS: [Row; 26] = [
         },
         line: "GFyAHK\n",
         answer: Ok("GFyAHK\n"),
+    },
+    Row {
+        query: Query::Select {
+            property: Property::Bicritical,
+        },
+        line: "?\n",
+        answer: Ok(""),
+    },
+    Row {
+        query: Query::Select {
+            property: Property::Bicritical,
+        },
+        line: "A?\n",
+        answer: Ok(""),
+    },
+    Row {
+        query: Query::Select {
+            property: Property::Bicritical,
+        },
+        line: "A_\n",
+        answer: Ok("A_\n"),
+    },
+    Row {
+        query: Query::Select {
+            property: Property::Uncovered,
+        },
+        line: "Ch\n",
+        answer: Ok("Ch\n"),
+    },
+    Row {
+        query: Query::Select {
+            property: Property::Uncovered,
+        },
+        line: "C~\n",
+        answer: Ok(""),
+    },
+    Row {
+        query: Query::Select {
+            property: Property::Braces { count: 1 },
+        },
+        line: "GFyAHK\n",
+        answer: Ok("GFyAHK\n"),
+    },
+    Row {
+        query: Query::Select {
+            property: Property::Braces { count: 0 },
+        },
+        line: "GFyAHK\n",
+        answer: Ok(""),
     },
 ];
 

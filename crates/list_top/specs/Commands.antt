@@ -3,13 +3,13 @@ use Rattle.std.specs.Prelude.{ℕ, List, [], ◌∷◌, drop, nat_eq, codes, if�
 use Rattle.std.specs.declared.option.Option.{Option}
 use Rattle.std.specs.declared.option.Option.TheVariants.{Some, None}
 use Rattle.std.specs.List.{starts_with}
-use Rattle.std.specs.Option.{option_map}
+use Rattle.std.specs.Option.{option_map, option_or}
 use Rattle.std.specs.Str.{bytes_eq}
 use Rattle.line_text.specs.Numerals.{number_of}
 use Rattle.decomposer.specs.Orders.{order_named}
 use Rattle.decomposer.specs.declared.orders.NamedOrder.TheVariants.{First}
 use Rattle.list_lines.specs.declared.query.Property.{Property}
-use Rattle.list_lines.specs.declared.query.Property.TheVariants.{Covered, Brick, Brace, Bicritical, Composite, Bricks}
+use Rattle.list_lines.specs.declared.query.Property.TheVariants.{Covered, Uncovered, Brick, Brace, Bicritical, Composite, Bricks, Braces}
 use Rattle.list_lines.specs.declared.query.Query.{Query}
 use Rattle.list_lines.specs.declared.query.Query.TheVariants.{Kinds, Leaves, Graph, Select}
 
@@ -23,14 +23,24 @@ abbrev pub bricks_property : List ℕ → Option Property
 bricks_property word =
     if starts_with nat_eq word (codes "bricks=") then option_map Bricks (number_of (drop 7 word)) else None
 
+-- `braces=` and a number
+abbrev pub braces_property : List ℕ → Option Property
+braces_property word =
+    if starts_with nat_eq word (codes "braces=") then option_map Braces (number_of (drop 7 word)) else None
+
+-- so many bricks or so many braces
+unfoldable pub counted_property : List ℕ → Option Property
+counted_property word = option_or (bricks_property word) (braces_property word)
+
 -- the property that a word names, if it names one
 abbrev pub property_named : List ℕ → Option Property
 property_named word =
     if bytes_eq word (codes "covered") then Some Covered else
+    if bytes_eq word (codes "uncovered") then Some Uncovered else
     if bytes_eq word (codes "brick") then Some Brick else
     if bytes_eq word (codes "brace") then Some Brace else
     if bytes_eq word (codes "bicritical") then Some Bicritical else
-    if bytes_eq word (codes "composite") then Some Composite else bricks_property word
+    if bytes_eq word (codes "composite") then Some Composite else counted_property word
 
 -- what one word asks for; leaves are those of the first order
 abbrev pub query_named : List ℕ → Option Query

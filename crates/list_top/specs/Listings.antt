@@ -1,23 +1,33 @@
 -- What is told of a line of a list.
-use Rattle.std.specs.Prelude.{◌≡◌, ℕ, ◌⊎◌, nat_lt, Bool, false, List, IsTrue, IsFalse}
+use Rattle.std.specs.Prelude.{◌≡◌, ℕ, ◌==◌, ◌⊎◌, nat_lt, Bool, false, if◌then◌else◌, List, IsTrue, IsFalse}
+use Rattle.std.specs.declared.option.Option.{Option}
+use Rattle.std.specs.declared.option.Option.TheVariants.{Some, None}
 use Rattle.text_faults.specs.declared.faults.FaultKind.{FaultKind}
-use Rattle.text_faults.specs.declared.faults.FaultKind.TheVariants.{Extra}
+use Rattle.text_faults.specs.declared.faults.FaultKind.TheVariants.{Extra, Missing}
 use Rattle.list_lines.specs.declared.query.Query.{Query}
 use Rattle.list_lines.specs.declared.query.Query.TheVariants.{Kinds, Leaves, Graph, Select}
-use Rattle.list_lines.specs.Telling.{TellsLine, IsBad}
+use Rattle.list_lines.specs.Telling.{TellsLine, HasFault}
+use Rattle.list_reader.specs.declared.place.Place.{Place}
 
--- the file of one graph is asked for, and the line with that number is not the first
-abbrev pub is_further : Query → ℕ → Bool
-is_further Kinds number = false
-is_further (Leaves order) number = false
-is_further Graph number = nat_lt 1 number
-is_further (Select property) number = false
+-- the file of one graph is asked for, and a graph stands before the line at that place
+abbrev pub is_further : Query → Place → Bool
+is_further Kinds place = false
+is_further (Leaves order) place = false
+is_further Graph place = nat_lt 0 place.graphs
+is_further (Select property) place = false
 
--- this output is what is asked of the graph in the line with that number
-abbrev pub TellsLineOf : Query → ℕ → List ℕ → List ℕ → Type 0
-TellsLineOf query number line output = IsFalse (is_further query number) × TellsLine query number line output
+-- this output is what is asked of the graph in the line at that place
+abbrev pub TellsLineOf : Query → Place → List ℕ → List ℕ → Type 0
+TellsLineOf query place line output = IsFalse (is_further query place) × TellsLine query place.number line output
 
--- the line with that number is bad: a further line where one is asked for, or as `IsBad` has it
-abbrev pub IsBadLine : Query → ℕ → List ℕ → FaultKind → Type 0
-IsBadLine query number line kind =
-    (IsTrue (is_further query number) × (kind ≡ Extra)) ⊎ (IsFalse (is_further query number) × IsBad query line kind)
+-- the line at that place is bad: a further line where one is asked for, or it stands for no graph
+abbrev pub IsBadLine : Query → Place → List ℕ → FaultKind → Type 0
+IsBadLine query place line kind =
+    (IsTrue (is_further query place) × (kind ≡ Extra)) ⊎ (IsFalse (is_further query place) × HasFault line kind)
+
+-- what a list lacks that ends after so many graphs: the one whose file is asked for
+abbrev pub lacks_of : Query → ℕ → Option FaultKind
+lacks_of Kinds graphs = None
+lacks_of (Leaves order) graphs = None
+lacks_of Graph graphs = if graphs == 0 then Some Missing else None
+lacks_of (Select property) graphs = None

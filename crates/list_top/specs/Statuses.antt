@@ -17,7 +17,7 @@ code_of Memory = 6
 -- the status of a list that ended so
 abbrev pub status_of : Ending → Status
 status_of ending.Done = Done
-status_of ending.Bad = BadInput
+status_of (ending.Bad found) = BadInput
 status_of ending.ReadFault = ReadFault
 status_of ending.WriteFault = WriteFault
 status_of ending.Memory = Memory

@@ -1,9 +1,9 @@
 //! What is told of the lines of a list.
 ghost use Rattle.std.specs.Prelude.{◌≡◌};
-ghost use Rattle.list_top.specs.Listings.{TellsLineOf, IsBadLine, is_further};
+ghost use Rattle.list_top.specs.Listings.{TellsLineOf, IsBadLine, is_further, lacks_of};
 
 use list_lines::{Query, tell};
-use list_reader::{LineTeller, Told};
+use list_reader::{LineTeller, Place, Told};
 use std::alloc::{AllocError as Memory, Global};
 use text_faults::FaultKind;
 
@@ -13,29 +13,38 @@ pub struct Lister {
     pub query: Query,
 }
 
-// Whether the file of one graph is asked for, and the line with that number is not the first.
-fn is_further(query: &Query, number: u64) -> bool
-    ensures { result ≡ is_further query.now number }
+// Whether the file of one graph is asked for, and a graph stands before the line at that place.
+fn is_further(query: &Query, place: Place) -> bool
+    ensures { result ≡ is_further query.now place }
 {
     match query {
-        Query::Graph => number > 1,
+        Query::Graph => place.graphs > 0,
         Query::Kinds | Query::Leaves { .. } | Query::Select { .. } => false,
     }
 }
 
 impl LineTeller for Lister {
-    ghost tells = { λ lister number line output. TellsLineOf lister.query number line output };
+    ghost tells = { λ lister place line output. TellsLineOf lister.query place line output };
 
-    ghost bad = { λ lister number line kind. IsBadLine lister.query number line kind };
+    ghost bad = { λ lister place line kind. IsBadLine lister.query place line kind };
 
-    fn tell(&self, alloc: Global, number: u64, line: &[u8]) -> Result<Told, Memory> {
-        if is_further(&self.query, number) {
+    ghost lacks = { λ lister graphs. lacks_of lister.query graphs };
+
+    fn tell(&self, alloc: Global, place: Place, line: &[u8]) -> Result<Told, Memory> {
+        if is_further(&self.query, place) {
             let kind = FaultKind::Extra;
             return Ok(Told::Bad { kind });
         }
-        match tell(alloc, &self.query, number, line)? {
+        match tell(alloc, &self.query, place.number, line)? {
             list_lines::Told::Output { bytes } => Ok(Told::Output { bytes }),
             list_lines::Told::Bad { kind } => Ok(Told::Bad { kind }),
+        }
+    }
+
+    fn fault_at_end(&self, graphs: u64) -> Option<FaultKind> {
+        match self.query {
+            Query::Graph if graphs == 0 => Some(FaultKind::Missing),
+            _ => None,
         }
     }
 }

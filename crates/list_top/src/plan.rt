@@ -1,7 +1,7 @@
 //! Reading the words.
 ghost use Rattle.std.specs.Prelude.{◌≡◌, map, string_bytes};
 ghost use Rattle.std.specs.Option.{option_map};
-ghost use Rattle.list_top.specs.Commands.{command_of, file_of, property_named, bricks_property, query_named, leaves_named, select_named, pair_named, pair_command, command_with};
+ghost use Rattle.list_top.specs.Commands.{command_of, file_of, property_named, bricks_property, braces_property, counted_property, query_named, leaves_named, select_named, pair_named, pair_command, command_with};
 ghost use Rattle.list_top.specs.Asked.{asked, text_of};
 
 use crate::command::Command;
@@ -22,17 +22,42 @@ fn bricks_property(word: &str) -> Option<Property>
     }
 }
 
+// The property of so many braces that the word names, if it names one.
+fn braces_property(word: &str) -> Option<Property>
+    ensures { result ≡ braces_property word.now }
+{
+    match word.as_bytes().strip_prefix(b"braces=") {
+        Some(digits) => match number(digits) {
+            Some(count) => Some(Property::Braces { count }),
+            None => None,
+        },
+        None => None,
+    }
+}
+
+// The property of so many bricks or braces that the word names, if it names one.
+#[tactic(auto, unfolding(crate::specs::Commands::counted_property))]
+fn counted_property(word: &str) -> Option<Property>
+    ensures { result ≡ counted_property word.now }
+{
+    match bricks_property(word) {
+        Some(property) => Some(property),
+        None => braces_property(word),
+    }
+}
+
 // The property that the word names, if it names one.
 fn property_named(word: &str) -> Option<Property>
     ensures { result ≡ property_named word.now }
 {
     match word {
         "covered" => Some(Property::Covered),
+        "uncovered" => Some(Property::Uncovered),
         "brick" => Some(Property::Brick),
         "brace" => Some(Property::Brace),
         "bicritical" => Some(Property::Bicritical),
         "composite" => Some(Property::Composite),
-        _ => bricks_property(word),
+        _ => counted_property(word),
     }
 }
 

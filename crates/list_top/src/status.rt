@@ -1,5 +1,5 @@
 //! The statuses of a run.
-ghost use Rattle.std.specs.Prelude.{◌≡◌};
+ghost use Rattle.std.specs.Prelude.{◌≡◌, ◌≢◌};
 ghost use Rattle.list_top.specs.Statuses.{code_of, status_of};
 
 use list_reader::Ending;
@@ -13,7 +13,7 @@ pub enum Status {
     Usage = 2,
     /// The list could not be read; the outputs of the whole lines before were written.
     ReadFault = 3,
-    /// A line is bad; the outputs of the lines before it were written, and the last line names it.
+    /// A line is bad, or missing; the outputs of the lines before it were written, and nothing of it.
     BadInput = 4,
     /// The output could not be written whole; a part of it may have been.
     WriteFault = 5,
@@ -31,12 +31,15 @@ impl Status {
 }
 
 // The status of a list that ended so.
-pub fn status_of(ending: Ending) -> Status
-    ensures { result ≡ status_of ending }
+pub fn status_of(ending: &Ending) -> Status
+    ensures status { result ≡ status_of ending.now }
+    ensures usage { result ≢ Status.Usage }
+    ensures read_fault { result ≡ Status.ReadFault → ending.now ≡ Ending.ReadFault }
+    ensures write_fault { result ≡ Status.WriteFault → ending.now ≡ Ending.WriteFault }
 {
     match ending {
         Ending::Done => Status::Done,
-        Ending::Bad => Status::BadInput,
+        Ending::Bad { .. } => Status::BadInput,
         Ending::ReadFault => Status::ReadFault,
         Ending::WriteFault => Status::WriteFault,
         Ending::Memory => Status::Memory,

@@ -1,55 +1,93 @@
 //! Lists that are told line by line: the output and the ending of each, in pieces of every small size, with a read that fails, and
 //! with too little room for the output.
+ghost use Rattle.std.specs.Prelude.{◌==◌, if◌then◌else◌};
+ghost use Rattle.std.specs.declared.option.Option.TheVariants.{Some, None};
+ghost use Rattle.text_faults.specs.declared.faults.FaultKind.TheVariants.{Missing};
 
-use list_reader::{Ending, LineTeller, Told, tell_all};
+use list_reader::{Ending, LineTeller, Place, Told, tell_all};
 use outside::{MemSink, MemSource};
 use std::alloc::{AllocError as Memory, Global};
 use std::test::Fail;
 use text_faults::FaultKind;
 
-// Tells a line by its number and the line itself, and calls one bad that holds a `!`.
+// Tells a line by its number and the line itself, and calls one bad that holds a `!`; a list without lines is bad.
 struct Copyist;
 
 impl LineTeller for Copyist {
-    ghost tells = { λ copyist number line output. Unit {0} };
+    ghost tells = { λ copyist place line output. Unit {0} };
 
-    ghost bad = { λ copyist number line kind. Unit {0} };
+    ghost bad = { λ copyist place line kind. Unit {0} };
 
-    fn tell(&self, alloc: Global, number: u64, line: &[u8]) -> Result<Told, Memory> {
+    ghost lacks = { λ copyist graphs. if graphs == 0 then Some Missing else None };
+
+    fn tell(&self, alloc: Global, place: Place, line: &[u8]) -> Result<Told, Memory> {
         if line.contains(&b'!') {
             let kind = FaultKind::Range;
             return Ok(Told::Bad { kind });
         }
+        let number = place.number;
         let text = format!(in alloc; "{number} ")?;
         let mut bytes = text.into_bytes();
         bytes.extend_from_slice(line)?;
         Ok(Told::Output { bytes })
     }
+
+    fn fault_at_end(&self, graphs: u64) -> Option<FaultKind> {
+        if graphs == 0 {
+            Some(FaultKind::Missing)
+        } else {
+            None
+        }
+    }
+}
+
+// How a list ends: with a bad line of this number, kind and text, or otherwise.
+enum Wanted {
+    Done,
+    Bad(u64, FaultKind, &'static str),
+    ReadFault,
+    WriteFault,
+}
+
+// Whether a list that ended so ended as wanted.
+fn is_wanted(ending: &Ending, wanted: &Wanted) -> bool {
+    match (ending, wanted) {
+        (Ending::Done, Wanted::Done)
+        | (Ending::ReadFault, Wanted::ReadFault)
+        | (Ending::WriteFault, Wanted::WriteFault) => true,
+        (Ending::Bad { found }, Wanted::Bad(number, kind, text)) => {
+            found.number == *number
+                && found.kind == *kind
+                && found.text.as_slice() == text.as_bytes()
+        }
+        _ => false,
+    }
 }
 
 // A list, what is written of it, and how it ends.
-type Row = (&'static str, &'static str, Ending);
+type Row = (&'static str, &'static str, Wanted);
 
-static ROWS: [Row; 16] = [
-    ("", "", Ending::Done),
-    ("\n", "1 \n", Ending::Done),
-    ("C~", "1 C~", Ending::Done),
-    ("C~\n", "1 C~\n", Ending::Done),
-    ("C~\r\nA_\r\n", "1 C~\r\n2 A_\r\n", Ending::Done),
-    ("C~\n\nA_", "1 C~\n2 \n3 A_", Ending::Done),
-    (">>graph6<<", "", Ending::Done),
-    (">>graph6<<\nC~\n", "2 C~\n", Ending::Done),
-    (">>graph6<<\r\nC~\n", "2 C~\n", Ending::Done),
-    (">>graph6<<C~\nA_\n", "1 >>graph6<<C~\n2 A_\n", Ending::Done),
-    ("C~\n>>graph6<<\n", "1 C~\n2 >>graph6<<\n", Ending::Done),
-    ("C~\n\0\nA_\n", "1 C~\n2 \0\n3 A_\n", Ending::Done),
-    ("!", "line 1 kind 4\n", Ending::Bad),
-    ("C~\n!\nA_\n", "1 C~\nline 2 kind 4\n", Ending::Bad),
-    (">>graph6<<\nC~\nA!", "2 C~\nline 3 kind 4\n", Ending::Bad),
+static ROWS: [Row; 17] = [
+    ("", "", Wanted::Bad(1, FaultKind::Missing, "")),
+    ("\n", "1 \n", Wanted::Done),
+    ("C~", "1 C~", Wanted::Done),
+    ("C~\n", "1 C~\n", Wanted::Done),
+    ("C~\r\nA_\r\n", "1 C~\r\n2 A_\r\n", Wanted::Done),
+    ("C~\n\nA_", "1 C~\n2 \n3 A_", Wanted::Done),
+    (">>graph6<<", "", Wanted::Bad(2, FaultKind::Missing, "")),
+    (">>graph6<<\n", "", Wanted::Bad(2, FaultKind::Missing, "")),
+    (">>graph6<<\nC~\n", "2 C~\n", Wanted::Done),
+    (">>graph6<<\r\nC~\n", "2 C~\n", Wanted::Done),
+    (">>graph6<<C~\nA_\n", "1 >>graph6<<C~\n2 A_\n", Wanted::Done),
+    ("C~\n>>graph6<<\n", "1 C~\n2 >>graph6<<\n", Wanted::Done),
+    ("C~\n\0\nA_\n", "1 C~\n2 \0\n3 A_\n", Wanted::Done),
+    ("!", "", Wanted::Bad(1, FaultKind::Range, "!")),
+    ("C~\n!\nA_\n", "1 C~\n", Wanted::Bad(2, FaultKind::Range, "!\n")),
+    (">>graph6<<\nC~\nA!", "2 C~\n", Wanted::Bad(3, FaultKind::Range, "A!")),
     (
         "C~\nA_\n!!!!!!!!!!!!!!!!!!\n",
-        "1 C~\n2 A_\nline 3 kind 4\n",
-        Ending::Bad,
+        "1 C~\n2 A_\n",
+        Wanted::Bad(3, FaultKind::Range, "!!!!!!!!!!!!!!!!!!\n"),
     ),
 ];
 
@@ -67,11 +105,11 @@ fn is_told(
     alloc: Global,
     mut source: MemSource,
     mut sink: MemSink,
-    ending: Ending,
+    ending: &Wanted,
     wanted: &[u8],
 ) -> bool {
     let told = tell_all(alloc, &Copyist, &mut source, &mut sink);
-    told == ending && sink.bytes() == wanted
+    is_wanted(&told, ending) && sink.bytes() == wanted
 }
 
 // Whether the list is told so in pieces of each size from 1 to 11.
@@ -79,7 +117,7 @@ fn is_told_in_pieces(alloc: Global, (list, wanted, ending): &Row) -> Result<bool
     for size in 1..12 {
         let source = in_pieces(alloc, list, size)?;
         let sink = MemSink::new(alloc, 100, 7)?;
-        if !is_told(alloc, source, sink, *ending, wanted.as_bytes()) {
+        if !is_told(alloc, source, sink, ending, wanted.as_bytes()) {
             return Ok(false);
         }
     }
@@ -95,16 +133,16 @@ fn lists_in_pieces(rt: HostRuntime) -> Result<(), Fail> {
 }
 
 // The number of the read that fails, and what is told of a list in four pieces.
-static FAILED_READS: [(u32, Ending, &str); 5] = [
-    (1, Ending::ReadFault, ""),
-    (2, Ending::ReadFault, "1 C~\n"),
-    (3, Ending::ReadFault, "1 C~\n2 A_\n"),
-    (4, Ending::ReadFault, "1 C~\n2 A_\n3 D{\n"),
-    (5, Ending::Done, "1 C~\n2 A_\n3 D{\n4 B"),
+static FAILED_READS: [(u32, Wanted, &str); 5] = [
+    (1, Wanted::ReadFault, ""),
+    (2, Wanted::ReadFault, "1 C~\n"),
+    (3, Wanted::ReadFault, "1 C~\n2 A_\n"),
+    (4, Wanted::ReadFault, "1 C~\n2 A_\n3 D{\n"),
+    (5, Wanted::Done, "1 C~\n2 A_\n3 D{\n4 B"),
 ];
 
 // Whether the list is told so where a read fails.
-fn is_told_until(alloc: Global, read: u32, ending: Ending, wanted: &str) -> Result<bool, Memory> {
+fn is_told_until(alloc: Global, read: u32, ending: &Wanted, wanted: &str) -> Result<bool, Memory> {
     let mut source = in_pieces(alloc, "C~\nA_\nD{\nB", 4)?;
     source.fail_read(read)?;
     let sink = MemSink::new(alloc, 100, 100)?;
@@ -114,44 +152,60 @@ fn is_told_until(alloc: Global, read: u32, ending: Ending, wanted: &str) -> Resu
 #[test]
 fn a_read_fails(rt: HostRuntime) -> Result<(), Fail> {
     for (read, ending, wanted) in &FAILED_READS {
-        assert!(rt; is_told_until(rt.alloc(), *read, *ending, wanted)?);
+        assert!(rt; is_told_until(rt.alloc(), *read, ending, wanted)?);
     }
     Ok(())
 }
 
 #[test]
 fn the_room_is_too_small(rt: HostRuntime) -> Result<(), Fail> {
-    let whole = b"1 C~\n2 A_\nline 3 kind 4\n";
+    let whole = b"1 C~\n2 A_\n";
     for room in 0..whole.len() {
         let source = in_pieces(rt.alloc(), "C~\nA_\n!\n", 4)?;
         let sink = MemSink::new(rt.alloc(), room, 100)?;
-        assert!(rt; is_told(rt.alloc(), source, sink, Ending::WriteFault, &whole[..room]));
+        assert!(rt; is_told(rt.alloc(), source, sink, &Wanted::WriteFault, &whole[..room]));
     }
     Ok(())
 }
 
-// The length of a line, the number of bytes that are written of it, and how its list ends.
-static LONG_LINES: [(usize, usize, Ending); 4] = [
-    (65_535, 65_538, Ending::Done),
-    (65_536, 14, Ending::Bad),
-    (65_537, 14, Ending::Bad),
-    (10_000_000, 14, Ending::Bad),
+// The length of a line, the number of bytes that are written of it, and how many bytes of its text are kept where it is too long.
+static LONG_LINES: [(usize, usize, Option<usize>); 4] = [
+    (65_535, 65_538, None),
+    (65_536, 0, Some(65_537)),
+    (65_537, 0, Some(65_538)),
+    (10_000_000, 0, Some(131_072)),
 ];
 
-// Whether so many bytes are written of one line of that length, and its list ends so.
-fn ends_so(alloc: Global, length: usize, written: usize, ending: Ending) -> Result<bool, Memory> {
+// Whether the ending keeps so many bytes of a first line that is too long, or is that of a list that was told.
+fn keeps(ending: &Ending, kept: Option<usize>) -> bool {
+    match (ending, kept) {
+        (Ending::Done, None) => true,
+        (Ending::Bad { found }, Some(kept)) => {
+            found.number == 1 && found.kind == FaultKind::Limit && found.text.len() == kept
+        }
+        _ => false,
+    }
+}
+
+// Whether so many bytes are written of one line of that length, and so many are kept.
+fn ends_so(
+    alloc: Global,
+    length: usize,
+    written: usize,
+    kept: Option<usize>,
+) -> Result<bool, Memory> {
     let mut list = vec![in alloc; b'?'; length]?;
     list.push(b'\n')?;
     let mut source = MemSource::new(alloc, &list)?;
     let mut sink = MemSink::new(alloc, 100_000, 100_000)?;
     let told = tell_all(alloc, &Copyist, &mut source, &mut sink);
-    Ok(told == ending && sink.bytes().len() == written)
+    Ok(keeps(&told, kept) && sink.bytes().len() == written)
 }
 
 #[test]
 fn a_line_is_too_long(rt: HostRuntime) -> Result<(), Fail> {
-    for (length, written, ending) in &LONG_LINES {
-        assert!(rt; ends_so(rt.alloc(), *length, *written, *ending)?);
+    for (length, written, kept) in &LONG_LINES {
+        assert!(rt; ends_so(rt.alloc(), *length, *written, *kept)?);
     }
     Ok(())
 }

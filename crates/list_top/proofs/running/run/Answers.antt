@@ -1,0 +1,27 @@
+use Rattle.std.proofs.Common.{◌≡◌, refl, subst, sym}
+use Rattle.list_reader.specs.Endings.{Appended}
+use Rattle.list_top.specs.declared.status.Status.{Status}
+use Rattle.list_top.specs.Outcomes.{Outcome, Streams, TellsSome}
+use Rattle.list_top.proofs.Ended.{appended_outcome, tells_some}
+use Rattle.list_top.proofs.running.run.Goals as goal
+
+pub returns-in-Some-clause-outcome : goal.returns-in-Some-clause-outcome
+returns-in-Some-clause-outcome g c command bytes is left =
+    subst (λ (s : Status). Appended (Outcome command.query bytes s) (g.K.Sink.written c.args.sink.now) (g.K.Sink.written c.run_to_ending.new.sink))
+    (sym c.status_of.ensures.status)
+    (appended_outcome command.query bytes c.in-Some.ending (g.K.Sink.written c.args.sink.now) (g.K.Sink.written c.run_to_ending.new.sink)
+    (c.in-Some.ensures.outcome command bytes c.in-Some.ending is left refl))
+
+pub returns-in-Some-clause-tells : goal.returns-in-Some-clause-tells
+returns-in-Some-clause-tells g c command is =
+    subst (λ (s : Status). TellsSome command.query s (g.S.Source.left c.args.source.now) (g.K.Sink.written c.args.sink.now) (g.K.Sink.written c.run_to_ending.new.sink))
+    (sym c.status_of.ensures.status)
+    (tells_some command.query c.in-Some.ending (g.S.Source.left c.args.source.now) (g.K.Sink.written c.args.sink.now) (g.K.Sink.written c.run_to_ending.new.sink)
+    (c.in-Some.ensures.tells command c.in-Some.ending is refl))
+
+pub returns-in-Some-clause-streams : goal.returns-in-Some-clause-streams
+returns-in-Some-clause-streams g c command is = record {
+  ending = c.in-Some.ending;
+  of_status = c.status_of.ensures.status;
+  stream = c.in-Some.ensures.streams command c.in-Some.ending is refl;
+}
