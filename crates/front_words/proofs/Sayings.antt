@@ -4,7 +4,7 @@ use Rattle.std.proofs.Common.{◌≡◌, ◌≤◌, ℕ, ◌<◌, List, [], ◌+
 use Rattle.std.proofs.lemmas.List.{append-nil, take-append-drop}
 use Rattle.std.specs.declared.option.Option.{Option}
 use Rattle.outside.specs.Faults.{Rose}
-use Rattle.outside.specs.Sink.{appended}
+use Rattle.outside.specs.Sink.{appended, IsCutOff}
 use Rattle.outside.proofs.Pieces.{appended-nil, appended-appended}
 use Rattle.front_words.specs.Saying.{Says}
 
@@ -57,18 +57,19 @@ module _ {K F : Type 0} (written : K → Option (List ℕ)) (faults : K → ℕ)
   }
 
   -- what a call that writes a piece or a beginning of it answers
-  pub says_piece : (bytes : List ℕ) (result : Result (Unit {0}) F) (before now : K)
+  pub says_piece : (writes : K → List ℕ → ℕ → K → Type 0) (bytes : List ℕ) (result : Result (Unit {0}) F) (before now : K)
       → OnOk result (written now ≡ appended (written before) bytes)
-      → OnErr result ((count : ℕ) × (count < length bytes) × (written now ≡ appended (written before) (take count bytes)))
+      → OnErr result ((count : ℕ) × (count < length bytes) × (written now ≡ appended (written before) (take count bytes))
+      × IsCutOff writes bytes count before now)
       → faults before ≤ faults now → OnErr result (Rose (faults before) (faults now))
       → Says written faults bytes result before now
-  says_piece bytes (Ok u) before now ok err later failed = record {
+  says_piece writes bytes (Ok u) before now ok err later failed = record {
     whole = ok;
     begun = record { done = bytes; rest = []; is_text = sym (append-nil bytes); written = ok };
     later = later;
     failed = tt;
   }
-  says_piece bytes (Err e) before now ok err later failed = record {
+  says_piece writes bytes (Err e) before now ok err later failed = record {
     whole = tt;
     begun = record { done = take err.0 bytes; rest = drop err.0 bytes; is_text = sym (take-append-drop err.0 bytes); written = err.2 };
     later = later;
