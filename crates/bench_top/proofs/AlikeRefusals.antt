@@ -1,5 +1,5 @@
--- Two refusals of one task have one text, but for the list of numbers that they show: the first node that breaks a rule is one, and so is
--- the rule, and the first step or move that fails.
+-- Two refusals of one task have one text, but for the list of numbers that they show: the first
+-- node that breaks a rule is one, and so is the rule, and the first step or move that fails.
 use Rattle.std.proofs.Common.{◌≡◌, ◌∙◌, ℕ, List, ◌++◌, inl, inr, refl, sym, ap, ap₂, subst, arith}
 use Rattle.std.specs.Prelude.{codes}
 use Rattle.counting.specs.Sets.{singleton}

@@ -38,7 +38,7 @@ alike-along fact a b x y e f (inr differ) = inr (record {
   other_is = f ∙ differ.other_is;
 })
 
--- one text more in front of both, or behind both
+-- one text more in front of both, or after both
 pub alike-behind : (fact : List ℕ → Type 0) (text a b : List ℕ) → DifferAtMostIn fact a b → DifferAtMostIn fact (text ++ a) (text ++ b)
 alike-behind fact text a b (inl same) = inl (ap (λ (x : List ℕ). text ++ x) same)
 alike-behind fact text a b (inr differ) = inr (record {
@@ -83,7 +83,7 @@ alike-lists fact first second is_first is_second = inr (record {
   other_is = sym (append-nil (numbers_text second));
 })
 
--- a report with names behind it, and one with the line of a graph6 text
+-- a report with names after it, and one with the line of a graph6 text
 pub named-alike : (fact : List ℕ → Type 0) (names : List (List ℕ)) (a b : List ℕ) → DifferAtMostIn fact a b → DifferAtMostIn fact (with_names_text a names false) (with_names_text b names false)
 unfolding with_names_text
 named-alike fact names a b alike = alike-before fact (name_lines false names (length names)) a b alike

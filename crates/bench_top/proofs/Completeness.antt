@@ -1,4 +1,5 @@
--- Words and files decide the status: of good files by whether the task succeeds, and of a bad one it is BadInput.
+-- Words and files decide the status: of good files by whether the task succeeds, and of a bad one
+-- it is BadInput.
 use Rattle.std.proofs.Common.{◌≡◌, ◌∙◌, ◌↔◌, ℕ, List, Option, Some, None, ◌⊎◌, inl, inr, refl, sym, subst}
 use Rattle.outside.specs.Shelf.{Named}
 use Rattle.bench_tasks.specs.Commands.{Command, command_of}

@@ -1,5 +1,6 @@
--- What `convert` writes stands for the graph with the names that it writes, and for nothing else. So a file that holds it is
--- read as this graph with these names, and the text of them is the same text.
+-- What `convert` writes stands for the graph with the names that it writes, and for nothing else.
+-- So a file that holds it is read as this graph with these names, and the text of them is the
+-- same text.
 use Rattle.std.proofs.Common.{◌≡◌, ◌∙◌, ℕ, ◌≤◌, List, [], ◌∷◌, length, Some, refl, sym, subst}
 use Rattle.std.specs.Prelude.{codes}
 use Rattle.outside.specs.Shelf.{Named, file_named}

@@ -1,5 +1,5 @@
 -- What is read of a file that is held and within the limit of bytes is what its text is read as.
--- Each lemma looks the file up, leaves the test of its length behind, and computes.
+-- Each lemma looks the file up, leaves the test of its length after, and computes.
 use Rattle.std.proofs.Common.{◌≡◌, ℕ, ◌≤◌, List, length, Ok, Result, false, ap, ◌∙◌, arith, Some, Option, Bool, cond, nat_lt}
 use Rattle.std.proofs.lemmas.Bool.Decides.{nat_tests}
 use Rattle.text_faults.specs.declared.faults.FaultKind.{FaultKind}

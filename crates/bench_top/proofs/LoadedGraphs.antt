@@ -1,4 +1,5 @@
--- What the files of a command hold keeps a graph: the graph that a file is read as is one. Each case of loading passes this on.
+-- What the files of a command hold keeps a graph: the graph that a file is read as is one. Each
+-- case of loading passes this on.
 use Rattle.std.proofs.Common.{ℕ, Bool, true, false, cond, nat_lt, List, length, Option, Some, None, Result, Ok, Err}
 use Rattle.outside.specs.Shelf.{Named, file_named}
 use Rattle.line_text.specs.Reading.{reading_of}

@@ -1,5 +1,6 @@
--- How many trees can an order pick? One: at each node it picks one place, and there stands one candidate. The kinds of the leaves are
--- determined, since a quotient is bipartite or not, and so are their counts.
+-- How many trees can an order pick? One: at each node it picks one place, and there stands one
+-- candidate. The kinds of the leaves are determined, since a quotient is bipartite or not, and so
+-- are their counts.
 use Rattle.std.proofs.Common.{◌≡◌, ◌∙◌, ℕ, ◌+◌, ◌-◌, ◌<◌, List, length, map, Option, Some, None, inl, inr, refl, sym, subst, ap, arith, slice_get, option_map, suc, get_or}
 use Rattle.std.proofs.lemmas.Bool.{cases_lt}
 use Rattle.std.proofs.lemmas.List.{ext_get_or, length-map}

@@ -1,5 +1,6 @@
--- The graph that a text stands for is a multigraph within the limits: the ends of each edge are vertices, and differ. What has been read
--- so far keeps this from line to line, and has no more names than vertices, so that the vertex of a name is one of the graph.
+-- The graph that a text stands for is a multigraph within the limits: the ends of each edge are
+-- vertices, and differ. What has been read so far keeps this from line to line, and has no more
+-- names than vertices, so that the vertex of a name is one of the graph.
 use Rattle.std.proofs.Common.{◌≡◌, ◌≢◌, ◌∙◌, ℕ, zero, suc, ◌+◌, ◌-◌, ◌<◌, ◌≤◌, ◌==◌, ◌&&◌, ◌||◌, not, nat_lt, Bool, true, false, cond, List, [], ◌∷◌, ◌++◌, length, Option, Some, None, Result, Ok, Err, refl, sym, arith, length-append}
 use Rattle.std.specs.Prelude.{codes, slice_index_or}
 use Rattle.std.specs.List.{AllByRecursion, list_any, position_or_len}
@@ -161,7 +162,7 @@ named_edge-kept body names words kept fits =
       fits,
     ))
 
--- a line behind the header
+-- a line after the header
 behind-kept : (body : GraphSoFar) (names : Option (List (List ℕ))) (words : List (List ℕ)) → KeepsEnds body → NamesFit body.graph.order names → GoesOn IsKept (line_behind body names words)
 behind-kept body None words each fits = goes-mapped KeepsEnds IsKept (λ next. record { so_far = next; names = None }) (graph_line body words) (λ next kept. (kept, tt)) (plain-kept body words each)
 behind-kept body (Some names) words each fits =

@@ -1,4 +1,5 @@
--- The graph that a graph6 text stands for is a multigraph: each edge is one of the pairs i < j of 1 to n.
+-- The graph that a graph6 text stands for is a multigraph: each edge is one of the pairs i < j of
+-- 1 to n.
 use Rattle.std.proofs.Common.{◌≡◌, ℕ, ◌-◌, ◌<◌, ◌≤◌, Bool, true, false, List, [], ◌∷◌, Result, Ok, Err, refl, subst, arith}
 use Rattle.counting.specs.Counts.{Within}
 use Rattle.graph_core.specs.Graph.{Graph, IsMultigraph, first_end, second_end, size}

@@ -1,4 +1,5 @@
--- What was read by the time that loading ends is the first few names; and where a read failed over a steady shelf, its file is not held.
+-- What was read by the time that loading ends is the first few names; and where a read failed
+-- over a steady shelf, its file is not held.
 use Rattle.std.proofs.Common.{◌≡◌, ℕ, List, Bool, IsTrue, Ok, Err, Result, length, sym, subst, arith}
 use Rattle.std.proofs.lemmas.List.{take_all}
 use Rattle.outside.specs.Shelf.{ReadsInTurn, ReadsFirst}

@@ -1,5 +1,5 @@
--- What `script` writes stands for a script from the first tree to the second. So a file that holds it is read as this script, and its
--- replay on the first tree is done and tells the second.
+-- What `script` writes stands for a script from the first tree to the second. So a file that
+-- holds it is read as this script, and its replay on the first tree is done and tells the second.
 use Rattle.std.proofs.Common.{◌≡◌, ◌∙◌, ℕ, ◌≤◌, List, [], ◌∷◌, length, Option, Some, refl, sym, ap, ap₂, subst, inl, inr}
 use Rattle.std.specs.Prelude.{codes}
 use Rattle.outside.specs.Shelf.{Named, file_named}

@@ -1,5 +1,6 @@
--- What a task gives is settled by whether it succeeds: it is done where it succeeds, and refused where not. A refused tree is no
--- derivation, a refused list no ear list, and moves that fail lead through no derivations to a last tree.
+-- What a task gives is settled by whether it succeeds: it is done where it succeeds, and refused
+-- where not. A refused tree is no derivation, a refused list no ear list, and moves that fail
+-- lead through no derivations to a last tree.
 use Rattle.std.proofs.Common.{◌≡◌, ◌∙◌, ℕ, List, [], ◌∷◌, ◌⊎◌, inl, inr, sym, subst}
 use Rattle.std.proofs.lemmas.Option.{none-some, same_Some}
 use Rattle.graph_core.specs.Graph.{Graph, IsGraph, IsMultigraph}
@@ -27,7 +28,8 @@ use Rattle.bench_outcomes.specs.declared.status.Status.TheVariants.{Done, Negati
 abbrev pub Settles : Type 0 → Status → Type 0
 Settles fact status = ((status ≡ Done) × fact) ⊎ ((status ≡ Negative) × (fact → ⊥))
 
--- the graph of a task with trees is one, and where its structure is told it has no loops; nothing else is needed
+-- the graph of a task with trees is one, and where its structure is told it has no loops; nothing
+-- else is needed
 abbrev pub KeepsGraph : Task → Type 0
 KeepsGraph (task.Analyse named) = IsMultigraph named.graph
 KeepsGraph (task.Analyse6 g) = IsMultigraph g

@@ -1,5 +1,6 @@
--- The reports of `ears`, `replay` and `grow` are texts with comments behind them, and so they stand for what the texts stand for: an ear
--- list, a derivation, a graph. The limits of the graph make all numbers of the comments small.
+-- The reports of `ears`, `replay` and `grow` are texts with comments after them, and so they
+-- stand for what the texts stand for: an ear list, a derivation, a graph. The limits of the graph
+-- make all numbers of the comments small.
 use Rattle.std.proofs.Common.{◌≡◌, ℕ, ◌<◌, ◌≤◌, ◌^◌, List, [], ◌∷◌, ◌++◌, length, map, true, None, refl, ap, arith, append_assoc, not}
 use Rattle.std.specs.Prelude.{codes}
 use Rattle.std.specs.Fmt.{decimal}
@@ -42,7 +43,7 @@ use Rattle.bench_outcomes.proofs.DerivationTexts.{closed-tree_text, has-vertices
 use Rattle.bench_outcomes.proofs.EarSteps.{few-steps}
 use Rattle.bench_top.proofs.ReadGraphs.{IsRead}
 
--- the comment behind an ear list
+-- the comment after an ear list
 ears-commented : (text : List ℕ) (steps single double : ℕ) → steps < 10 ^ 9 → single < 10 ^ 9 → double < 10 ^ 9 → IsCommented text (ears_report_text text steps single double)
 unfolding ears_report_text
 ears-commented text steps single double few few_single few_double =
@@ -68,7 +69,7 @@ stands-ears g list read ears =
     (ears-commented (ears_text g.order (size g) list) (length list.steps) (single_count list.steps) (double_count list.steps) (omega arith) (omega arith) (omega arith))
     (Stands-ears_text g.order (size g) list (record { order = omega arith; size = omega arith; fits = list-fits g read.ends list ears; filled = list-filled g list ears }))
 
--- the comment behind the last tree
+-- the comment after the last tree
 moves-commented : (text : List ℕ) (moves : ℕ) → moves < 10 ^ 9 → IsCommented text (replayed_text text moves)
 unfolding replayed_text
 moves-commented text moves few =
@@ -99,7 +100,7 @@ pub stands-replayed : (g : Graph) (t : Shape) (moves : ℕ) → IsRead g → IsD
 stands-replayed g t moves read derived few =
     stands-commented (tree_format g.order) (tree_text g.order t) _ t (closed-tree_text g.order t) (moves-commented (tree_text g.order t) moves few) (stands-derived g t read derived)
 
--- the comments behind a graph that grew
+-- the comments after a graph that grew
 order-commented : (order : List ℕ) (tally : Tally) → is_word order ≡ true → tally.leaves < 10 ^ 9 → tally.bricks < 10 ^ 9 → tally.braces < 10 ^ 9 → IsCommented [] (order_line order tally)
 order-commented order tally word leaves bricks braces =
     commented-line (order_line order tally) (codes "c" ∷ order ∷ codes "leaves" ∷ decimal tally.leaves ∷ codes "bricks" ∷ decimal tally.bricks ∷ codes "braces" ∷ decimal tally.braces ∷ [])

@@ -1,5 +1,6 @@
--- What is written is read back. An output that stands for a value is read as this value by a file that holds it, and the value is one with
--- which a further command succeeds: a derivation, an ear list, a matching covered graph.
+-- What is written is read back. An output that stands for a value is read as this value by a file
+-- that holds it, and the value is one with which a further command succeeds: a derivation, an ear
+-- list, a matching covered graph.
 use Rattle.std.proofs.Common.{◌≡◌, ◌∙◌, ℕ, ◌≤◌, ◌<◌, ◌^◌, ◌&&◌, nat_le, Bool, true, false, cond, List, [], ◌∷◌, length, Option, Some, None, Result, Ok, Err, inl, inr, refl, sym, subst, ap, arith, option_map, nat_lt}
 use Rattle.std.specs.Prelude.{codes}
 use Rattle.std.proofs.lemmas.Bool.{and_parts, leb-true}

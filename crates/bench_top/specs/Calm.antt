@@ -9,7 +9,8 @@ pub record IsCalm (steady : Bool) (shelf_before shelf_now sink_before sink_now :
   pub sink : ¬ Rose sink_before sink_now
   pub shelf : IsTrue steady ⊎ (¬ Rose shelf_before shelf_now)
 
--- a run of this status has read all that it reads: it wrote its report or a part of it, or a steady shelf does not hold a file
+-- a run of this status has read all that it reads: it wrote its report or a part of it, or a
+-- steady shelf does not hold a file
 abbrev pub HasRead : (steady : Bool) → Status → Type 0
 HasRead steady status.Done = Unit {0}
 HasRead steady status.Negative = Unit {0}

@@ -1,4 +1,5 @@
--- How a run ended: why its files were not loaded, which of them were read, and what was written of a bad one.
+-- How a run ended: why its files were not loaded, which of them were read, and what was written
+-- of a bad one.
 use Rattle.std.specs.Prelude.{◌≡◌, ◌≤◌, ℕ, List, Bool, IsTrue, length, take}
 use Rattle.std.specs.declared.option.Option.{Option}
 use Rattle.std.specs.declared.option.Option.TheVariants.{Some, None}
@@ -16,7 +17,8 @@ abbrev pub stop_in : {X : Type 0} → Result X Stop → Option Stop
 stop_in (Ok x) = None
 stop_in (Err stopped) = Some stopped
 
--- the stop is what the files hold: the first bad file, with its first fault; and over a steady shelf the file that is not held
+-- the stop is what the files hold: the first bad file, with its first fault; and over a steady
+-- shelf the file that is not held
 abbrev pub IsStopOf : {A : Type 0} → (steady : Bool) → Option Stop → Loaded A → Type 0
 IsStopOf steady None loaded = Unit {0}
 IsStopOf steady (Some (stop.Bad file line kind)) loaded = loaded ≡ Bad file line kind

@@ -1,6 +1,7 @@
--- What the words and the files leave open in an outcome. Where a task is done, free are the ear list of `ears`, and the script of `script`
--- and of `compare`, and with it the pairing. In every other report at most one list of numbers is free: the Berge set of a connected graph
--- without a perfect matching, or the perfect matching that crosses a refused cut.
+-- What the words and the files leave open in an outcome. Where a task is done, free are the ear
+-- list of `ears`, and the script of `script` and of `compare`, and with it the pairing. In every
+-- other report at most one list of numbers is free: the Berge set of a connected graph without a
+-- perfect matching, or the perfect matching that crosses a refused cut.
 use Rattle.std.specs.Prelude.{◌≡◌, ◌⊎◌, ◌++◌, ℕ, List}
 use Rattle.report_text.specs.Reports.{numbers_text}
 use Rattle.bench_outcomes.specs.Conducts.{Conduct, Writes, Tells, Needs, Chooses, conduct_of}
@@ -32,7 +33,8 @@ ChosenBy (Chooses fact shown) = Unit {0}
 abbrev pub HasChosenText : Task → Type 0
 HasChosenText t = ChosenBy (conduct_of t)
 
--- where the task is done its output is one, by a conduct: what it tells shows no such numbers, or its text is not chosen
+-- where the task is done its output is one, by a conduct: what it tells shows no such numbers, or
+-- its text is not chosen
 abbrev pub OneBy : Conduct → Type 0
 OneBy Writes = Unit {0}
 OneBy (Tells shown) = (numbers : List ℕ) → shown numbers → ⊥
@@ -43,7 +45,8 @@ OneBy (Chooses fact shown) = ⊥
 abbrev pub HasOneOutput : Task → Type 0
 HasOneOutput t = OneBy (conduct_of t)
 
--- two outputs are the same but for one list of numbers, and the fact holds of the list that either has
+-- two outputs are the same but for one list of numbers, and the fact holds of the list that
+-- either has
 pub record DifferIn (fact : List ℕ → Type 0) (output other : List ℕ) : Type 0 where
   pub before : List ℕ
   pub after : List ℕ

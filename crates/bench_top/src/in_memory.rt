@@ -1,4 +1,5 @@
-//! Completeness over files in memory: with no outside that could fail only the words, the files and memory decide.
+//! Completeness over files in memory: with no outside that could fail only the words, the files
+//! and memory decide.
 ghost use Rattle.std.specs.Prelude.{◌≡◌, ◌⊎◌, ◌↔◌, ℕ, List, [], map, string_bytes, Some, None};
 ghost use Rattle.outside.specs.MemShelf.{IsRead};
 ghost use Rattle.outside.specs.Shelf.{ReadsFirst, ReadsInTurn};
@@ -15,10 +16,12 @@ use bench_outcomes::Status;
 use outside::{CountSink, MemShelf};
 use std::alloc::Global;
 
-/// What `run` answers over a shelf in memory none of whose reads is to fail, and a sink that only counts the bytes of the report.
+/// What `run` answers over a shelf in memory none of whose reads is to fail, and a sink that only
+/// counts the bytes of the report.
 ///
-/// For words of the table the answer is decided by what the files hold: a file that is not held, a bad file, or good ones, whose
-/// task is done or refused. It is never a fault of writing, and `Memory` apart there is no other answer.
+/// For words of the table the answer is decided by what the files hold: a file that is not held,
+/// a bad file, or good ones, whose task is done or refused. It is never a fault of writing, and
+/// `Memory` apart there is no other answer.
 pub fn run_in_memory(
     alloc: Global,
     words: &[String],
@@ -35,8 +38,8 @@ pub fn run_in_memory(
         MayRefuse (command_of (map string_bytes words.now)) }
     ensures writes { ¬ (result ≡ Status.WriteFault) }
     ensures files { shelf.new.files ≡ shelf.old.files }
-    // The names that are read are the first few in the words, and where memory lasts those up to the first file that is
-    // not held or is bad.
+    // The names that are read are the first few in the words, and where memory lasts those up to
+    // the first file that is not held or is bad.
     ensures asks { ReadsFirst IsRead (names_in (command_of (map string_bytes words.now))) shelf.old
         shelf.new }
     ensures asks_until { (command : Command) →

@@ -10,7 +10,8 @@ ghost use Rattle.bench_tasks.specs.Tasks.{Task};
 ghost use Rattle.bench_outcomes.specs.declared.status.Status.{Status};
 ghost use Rattle.bench_outcomes.specs.declared.status.Status.TheVariants.{BadInput, Done, Negative};
 
-/// Good files settle the status: it is Done exactly where the task succeeds (`Succeeds`), and Negative exactly where it does not.
+/// Good files settle the status: it is Done exactly when the task succeeds (`Succeeds`), and
+/// Negative exactly when it does not.
 pub fn completeness_law()
     ensures done { (words : List (List ℕ)) (files : List Named) (command : Command) (task : Task)
         (status : Status) (output : List ℕ)
@@ -30,10 +31,12 @@ pub fn one_status_law()
         Outcome words files second other → first ≡ second }
 {}
 
-/// Two outcomes of the same words and files have one output, but for what is free. Where a task is done its output is one, but for a
-/// text that is chosen and the Berge set of `analyse` and `analyse6` (`HasOneOutput`). A refusal is one, wherever it shows no Berge set
-/// and no perfect matching that crosses a refused cut (`ShowsNothingFree`). In any case, but for a text that is chosen, two outputs differ
-/// at most in one list of numbers, and each of the two lists is right (`MayShow`). A bad file is named by one line.
+/// Two outcomes of the same words and files have one output, but for what is free. Where a task
+/// is done its output is one, but for a text that is chosen and the Berge set of `analyse` and
+/// `analyse6` (`HasOneOutput`). A refusal is one, wherever it shows no Berge set and no perfect
+/// matching that crosses a refused cut (`ShowsNothingFree`). In any case, but for a text that is
+/// chosen, two outputs differ at most in one list of numbers, and each of the two lists is right
+/// (`MayShow`). A bad file is named by one line.
 pub fn one_output_law()
     ensures done { (words : List (List ℕ)) (files : List Named) (command : Command) (task : Task)
         (output other : List ℕ)

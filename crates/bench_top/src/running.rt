@@ -21,15 +21,16 @@ use std::alloc::Global;
 
 /// Does what the words ask for, as `run` does, and answers beside the status which file stopped it.
 ///
-/// The clauses are those of `run`, and four more: the stop is what the files hold (`stops`), the files up to it are those that were
-/// read (`stops_after`), a bad file is the one that the written line reports (`reported`), and a failed read has its file (`unread`).
+/// The clauses are those of `run`, and four more: the stop is what the files hold (`stops`), the
+/// files up to it are those that were read (`stops_after`), a bad file is the one that the
+/// written line reports (`reported`), and a failed read has its file (`unread`).
 pub fn run_ending<S: Shelf, K: Sink>(
     alloc: Global,
     words: &[String],
     shelf: &mut S,
     sink: &mut K,
 ) -> Ending
-    // Usage comes exactly where the words match no command, and then nothing was read.
+    // Usage comes exactly when the words match no command, and then nothing was read.
     ensures usage { result.status ≡ Status.Usage
         ↔ (command_of (map string_bytes words.now) ≡ None) }
     ensures unread { result.status ≡ Status.Usage → shelf.new ≡ shelf.old }
@@ -46,8 +47,9 @@ pub fn run_ending<S: Shelf, K: Sink>(
         ((result.status ≡ Status.ReadFault) ⊎ (result.status ≡ Status.Memory))
         → sink.new ≡ sink.old }
 
-    // The reads are those of the first few names of files in the words, in their order: of all of them where good files were
-    // reported on, and where the files are told, of those up to the first that is not held or is bad.
+    // The reads are those of the first few names of files in the words, in their order: of all of
+    // them where good files were reported on, and where the files are told, of those up to the
+    // first that is not held or is bad.
     ensures asks { ReadsFirst S.reads (names_in (command_of (map string_bytes words.now)))
         shelf.old shelf.new }
     ensures asks_all { IsSettled result.status
@@ -62,7 +64,8 @@ pub fn run_ending<S: Shelf, K: Sink>(
     ensures files { S.files shelf.new ≡ S.files shelf.old }
     ensures steady { S.steady shelf.new ≡ S.steady shelf.old }
 
-    // What was written is the output that the words and the files stand for, or a proper prefix of it.
+    // What was written is the output that the words and the files stand for, or a proper prefix
+    // of it.
     ensures outcome { (files : List Named) → S.files shelf.old ≡ Some files
         → IsReported result.status
         → Appended (Outcome (map string_bytes words.now) files) result.status
@@ -72,7 +75,8 @@ pub fn run_ending<S: Shelf, K: Sink>(
         → CutShort (Outcome (map string_bytes words.now) files) (K.written sink.old)
         (K.written sink.new) }
 
-    // Over a steady shelf a read fails only where a named file is not held and all before it are held and good.
+    // Over a steady shelf a read fails only where a named file is not held and all before it are
+    // held and good.
     ensures missing { (files : List Named) (command : Command) → S.files shelf.old ≡ Some files
         → command_of (map string_bytes words.now) ≡ Some command
         → result.status ≡ Status.ReadFault → IsTrue (S.steady shelf.old)
@@ -125,17 +129,19 @@ pub fn run_ending<S: Shelf, K: Sink>(
     }
 }
 
-/// Does what the words ask for: reads the files that they name from the shelf, and appends the report to the sink.
+/// Does what the words ask for: reads the files that they name from the shelf, and appends the
+/// report to the sink.
 ///
-/// The clauses say, for each status, its cause. `outcome` ties the words, the files, the status and the output together:
-/// `Outcome` has one case for each command and cites the definitions of `graph_core` and of the crates above it.
+/// The clauses say, for each status, its cause. `outcome` ties the words, the files, the status
+/// and the output together: `Outcome` has one case for each command and cites the definitions of
+/// `graph_core` and of the crates above it.
 pub fn run<S: Shelf, K: Sink>(
     alloc: Global,
     words: &[String],
     shelf: &mut S,
     sink: &mut K,
 ) -> Status
-    // Usage comes exactly where the words match no command, and then nothing was read.
+    // Usage comes exactly when the words match no command, and then nothing was read.
     ensures usage { result ≡ Status.Usage ↔ (command_of (map string_bytes words.now) ≡ None) }
     ensures unread { result ≡ Status.Usage → shelf.new ≡ shelf.old }
     // Some commands never refuse.
@@ -151,8 +157,9 @@ pub fn run<S: Shelf, K: Sink>(
         ((result ≡ Status.ReadFault) ⊎ (result ≡ Status.Memory))
         → sink.new ≡ sink.old }
 
-    // The reads are those of the first few names of files in the words, in their order: of all of them where good files were
-    // reported on, and where the files are told, of those up to the first that is not held or is bad.
+    // The reads are those of the first few names of files in the words, in their order: of all of
+    // them where good files were reported on, and where the files are told, of those up to the
+    // first that is not held or is bad.
     ensures asks { ReadsFirst S.reads (names_in (command_of (map string_bytes words.now)))
         shelf.old shelf.new }
     ensures asks_all { IsSettled result
@@ -167,7 +174,8 @@ pub fn run<S: Shelf, K: Sink>(
     ensures files { S.files shelf.new ≡ S.files shelf.old }
     ensures steady { S.steady shelf.new ≡ S.steady shelf.old }
 
-    // What was written is the output that the words and the files stand for, or a proper prefix of it.
+    // What was written is the output that the words and the files stand for, or a proper prefix
+    // of it.
     ensures outcome { (files : List Named) → S.files shelf.old ≡ Some files → IsReported result
         → Appended (Outcome (map string_bytes words.now) files) result
         (K.written sink.old) (K.written sink.new) }
@@ -175,7 +183,8 @@ pub fn run<S: Shelf, K: Sink>(
         → CutShort (Outcome (map string_bytes words.now) files) (K.written sink.old)
         (K.written sink.new) }
 
-    // Over a steady shelf a read fails only where a named file is not held and all before it are held and good.
+    // Over a steady shelf a read fails only where a named file is not held and all before it are
+    // held and good.
     ensures missing { (files : List Named) (command : Command) → S.files shelf.old ≡ Some files
         → command_of (map string_bytes words.now) ≡ Some command
         → result ≡ Status.ReadFault → IsTrue (S.steady shelf.old)

@@ -1,7 +1,9 @@
-//! Laws of what is written: what mcg writes, mcg reads. Each is the contract of a function that does nothing.
+//! Laws of what is written: what mcg writes, mcg reads. Each is the contract of a function that
+//! does nothing.
 //!
-//! An output stands in a further file, within the limit of bytes, beside the files that the command named. Then a further command on
-//! them asks for a task that succeeds (`AsksDone`), so that `run` answers Done wherever the outside does not fail and memory lasts.
+//! An output stands in a further file, within the limit of bytes, beside the files that the
+//! command named. Then a further command on them asks for a task that succeeds (`AsksDone`), so
+//! that `run` answers Done wherever the outside does not fail and memory lasts.
 ghost use Rattle.std.specs.Prelude.{◌≡◌, ◌≤◌, ℕ, List, [], ◌∷◌, codes, length, Some};
 ghost use Rattle.outside.specs.Shelf.{Named, file_named};
 ghost use Rattle.bench_tasks.specs.Loading.{most_bytes};
@@ -10,7 +12,8 @@ ghost use Rattle.bench_top.specs.RoundTrips.{AsksDone, ReplaysScript};
 ghost use Rattle.bench_outcomes.specs.declared.status.Status.{Status};
 ghost use Rattle.bench_outcomes.specs.declared.status.Status.TheVariants.{Done};
 
-/// What `decompose` writes of a matching covered graph, by a named order or by picks, `check` accepts.
+/// What `decompose` writes of a matching covered graph, by a named order or by picks, `check`
+/// accepts.
 pub fn checked_decomposition_law()
     ensures order { (files again : List Named) (graph order tree output : List ℕ)
         → Outcome (codes "decompose" ∷ graph ∷ order ∷ []) files Done output
@@ -54,8 +57,8 @@ pub fn grown_graph_law()
         → AsksDone (codes "decompose" ∷ name ∷ codes "first" ∷ []) again }
 {}
 
-/// What `convert` writes is canonical: where a file holds it and keeps the limit of bytes, `convert` of that file is done and gives the
-/// same text, and nothing else.
+/// What `convert` writes is canonical: where a file holds it and keeps the limit of bytes,
+/// `convert` of that file is done and gives the same text, and nothing else.
 pub fn convert_law()
     ensures allows { (files again : List Named) (name other : List ℕ) (output : List ℕ)
         → Outcome (codes "convert" ∷ name ∷ []) files Done output
@@ -69,8 +72,9 @@ pub fn convert_law()
         → (status ≡ Done) × (text ≡ output) }
 {}
 
-/// What `script` writes is replayed: over files that hold the same graph and first tree and, within the limit of bytes, this output,
-/// `replay` of the three is done and tells the second tree, and nothing else.
+/// What `script` writes is replayed: over files that hold the same graph and first tree and,
+/// within the limit of bytes, this output, `replay` of the three is done and tells the second
+/// tree, and nothing else.
 pub fn replayed_script_law()
     ensures { (files again : List Named) (graph first second script : List ℕ) (output : List ℕ)
         → Outcome (codes "script" ∷ graph ∷ first ∷ second ∷ []) files Done output

@@ -1,4 +1,5 @@
--- What a run with a status makes of a shelf and a sink: the clauses of `run` of `bench_top`, as one fact.
+-- What a run with a status makes of a shelf and a sink: the clauses of `run` of `bench_top`, as
+-- one fact.
 use Rattle.std.specs.Prelude.{◌≡◌, ◌⊎◌, ◌↔◌, ℕ, List, Bool, IsTrue}
 use Rattle.std.specs.declared.option.Option.{Option}
 use Rattle.std.specs.declared.option.Option.TheVariants.{Some, None}
@@ -15,8 +16,8 @@ use Rattle.bench_outcomes.specs.declared.status.Status.{Status}
 use Rattle.bench_outcomes.specs.declared.status.Status.TheVariants as status
 use Rattle.bench_top.specs.Calm.{HasRead, IsCalm}
 
--- a run of these words ended so, and led from the first shelf to the last, and from one sink to the other; the functions are those that
--- tell of the shelf and of the sink
+-- a run of these words ended so, and led from the first shelf to the last, and from one sink to
+-- the other; the functions are those that tell of the shelf and of the sink
 pub record IsRun {S K : Type 0} (holds : S → Option (List Named)) (is_steady : S → Bool) (faults : S → ℕ) (reads : S → List ℕ → S → Type 0)
     (written : K → Option (List ℕ)) (sink_faults : K → ℕ) (words : List (List ℕ)) (ended : Status) (first last : S) (before now : K) : Type 0 where
   pub usage : (ended ≡ status.Usage) ↔ (command_of words ≡ None)

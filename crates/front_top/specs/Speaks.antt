@@ -19,9 +19,10 @@ pub record IsSaid {E : Type 0} (written : E → Option (List ℕ)) (faults : E �
   pub answer : Result (Unit {0}) SinkFailed
   pub says : Says {F = SinkFailed} written faults text answer before now
 
--- what was said after a run of the command that ended so: the words for a stop which, where a file is bad, is the one that the written
--- line reports, and where a read failed has its file; given what is kept of the file that was read last, why a read failed, and whether
--- nobody reads the output any more
+-- what was said after a run of the command that ended so: the words for a stop which, where a
+-- file is bad, is the one that the written line reports, and where a read failed has its file;
+-- given what is kept of the file that was read last, why a read failed, and whether nobody reads
+-- the output any more
 pub record Speaks {E : Type 0} (written : E → Option (List ℕ)) (faults : E → ℕ) (command : Option Command) (ended : Status)
     (kept : Option (List ℕ)) (reason : Option Reason) (is_abandoned : Bool) (sink_before sink_now : Option (List ℕ)) (before now : E) : Type 0 where
   pub stopped : Option Stop
@@ -29,7 +30,8 @@ pub record Speaks {E : Type 0} (written : E → Option (List ℕ)) (faults : E �
   pub unread : ended ≡ ReadFault → Unread stopped
   pub said : IsSaid written faults (words_of command ended stopped (record { kept = kept; reason = reason; is_abandoned = is_abandoned })) before now
 
--- a text was the whole answer: it was written whole and all is done, or a beginning of it where the sink failed
+-- a text was the whole answer: it was written whole and all is done, or a beginning of it where
+-- the sink failed
 pub record Answers {K : Type 0} (written : K → Option (List ℕ)) (faults : K → ℕ) (text : List ℕ) (ended : Status) (before now : K) : Type 0 where
   pub ends : (ended ≡ Done) ⊎ (ended ≡ WriteFault)
   pub whole : ended ≡ Done → written now ≡ appended (written before) text

@@ -17,8 +17,8 @@ use Rattle.front_top.specs.Files.{File, file_in}
 abbrev pub program : List ℕ
 program = codes "mcg"
 
--- what is known of the faults of a run: the bytes of the file that was read last, why its last read failed, and that nobody reads the
--- output any more
+-- what is known of the faults of a run: the bytes of the file that was read last, why its last
+-- read failed, and that nobody reads the output any more
 pub record Known : Type 0 where
   pub kept : Option (List ℕ)
   pub reason : Option Reason
@@ -46,8 +46,8 @@ stop_words command (Some (stop.Bad file line kind)) known = bad_words (file_in c
 stop_words command (Some (stop.ReadFault file)) known = unread_words (file_in command file) known.reason
 stop_words command (Some stop.Memory) known = []
 
--- what is said of a run of a command that ended with this status and this stop; nothing where it is done or refused, and nothing where
--- nobody reads the output any more
+-- what is said of a run of a command that ended with this status and this stop; nothing where it
+-- is done or refused, and nothing where nobody reads the output any more
 abbrev pub words_of : Option Command → Status → Option Stop → Known → List ℕ
 words_of command Done stopped known = []
 words_of command Negative stopped known = []

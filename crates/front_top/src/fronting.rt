@@ -70,10 +70,12 @@ fn speak<S: Keeping, K: Outlet, E: Sink>(
     ending.status
 }
 
-/// Does what the words ask for, as `run` of `bench_top`, and then says on the second sink what the ending means, in words, unless it is
-/// to be quiet. Words that ask for the usage or the version are answered on the first sink, and nothing is read.
+/// Does what the words ask for, as `run` of `bench_top`, and then says on the second sink what
+/// the ending means, in words, unless it is to be quiet. Words that ask for the usage or the
+/// version are answered on the first sink, and nothing is read.
 ///
-/// The shelf keeps the file that it read last, for the text of a line. A fault of the second sink changes nothing else.
+/// The shelf keeps the file that it read last, for the text of a line. A fault of the second sink
+/// changes nothing else.
 pub fn run_front<S: Keeping, K: Outlet, E: Sink>(
     alloc: Global,
     words: &[String],
@@ -90,7 +92,8 @@ pub fn run_front<S: Keeping, K: Outlet, E: Sink>(
     ensures answers_quietly { (text : List ℕ) →
         answer_of (map string_bytes words.now) ≡ Some text → errors.new ≡ errors.old }
 
-    // For all others status and output are those of `run`, and what is said is the text for the ending.
+    // For all others status and output are those of `run`, and what is said is the text for the
+    // ending.
     ensures runs { answer_of (map string_bytes words.now) ≡ None →
         IsRun S.files S.steady S.faults S.reads K.written K.faults
         (map string_bytes words.now) result shelf.old shelf.new sink.old sink.new }

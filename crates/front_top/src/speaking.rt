@@ -120,7 +120,8 @@ fn say_stop<'a, E: Sink>(
     }
 }
 
-/// Says what the ending of a run of these words means; nothing where it is done or refused. Takes no memory.
+/// Says what the ending of a run of these words means; nothing where it is done or refused. Takes
+/// no memory.
 pub fn say_ending<'a, E: Sink>(
     errors: &mut E,
     words: &'a [String],

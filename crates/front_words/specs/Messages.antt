@@ -34,8 +34,8 @@ abbrev pub line_shown : (program : List ℕ) (line : ℕ) → Option (List ℕ) 
 line_shown program line None = []
 line_shown program line (Some text) = program ++ (codes ": line " ++ (decimal line ++ (codes " is: " ++ (shown 60 text ++ codes "\n"))))
 
--- the file of that name, which is read so, is outside its format at that line by that kind; the text is that of the line,
--- where it is known
+-- the file of that name, which is read so, is outside its format at that line by that kind; the
+-- text is that of the line, where it is known
 abbrev pub outside_text : (program name : List ℕ) → Role → (line kind : ℕ) → Option (List ℕ) → List ℕ
 outside_text program name role line kind text =
     program ++ (codes ": " ++ (shown 4096 name ++ (codes ", line " ++ (decimal line ++ (codes ": " ++

@@ -1,12 +1,13 @@
--- How bytes of the outside are shown in a line: those that print as they are, and every other by an escape.
+-- How bytes of the outside are shown in a line: those that print as they are, and every other by
+-- an escape.
 use Rattle.std.specs.Prelude.{ℕ, zero, suc, ◌+◌, ◌/◌, ◌%◌, ◌==◌, ◌||◌, List, [], ◌∷◌, ◌++◌, Bool, nat_lt, codes, if◌then◌else◌}
 
 -- a byte that controls a terminal
 abbrev pub is_control : ℕ → Bool
 is_control byte = nat_lt byte 32 || byte == 127
 
--- a byte: itself where it prints or stands in a character beyond ASCII; else a backslash with a `t` for a tab, with a backslash for a
--- backslash, and with three octal digits for every other
+-- a byte: itself where it prints or stands in a character beyond ASCII; else a backslash with a
+-- `t` for a tab, with a backslash for a backslash, and with three octal digits for every other
 abbrev pub byte_shown : ℕ → List ℕ
 byte_shown byte =
     if byte == 9 then 92 ∷ 116 ∷ [] else

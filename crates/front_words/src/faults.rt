@@ -56,7 +56,8 @@ fn graph6_fault(kind: u32) -> &'static str
     }
 }
 
-/// What a fault of that kind is in a file that is read so, by the number of the kind. Takes no memory.
+/// What a fault of that kind is in a file that is read so, by the number of the kind. Takes no
+/// memory.
 pub fn fault_words(role: Role, kind: u32) -> &'static str
     ensures { result.now ≡ fault_words role kind }
 {
@@ -104,7 +105,8 @@ fn reader_note(role: Role) -> &'static str
     }
 }
 
-/// What is added to the words of a fault: the header of the format, its limits, or what else reads such a file. Takes no memory.
+/// What is added to the words of a fault: the header of the format, its limits, or what else
+/// reads such a file. Takes no memory.
 pub fn note_words(role: Role, kind: u32) -> &'static str
     ensures { result.now ≡ note_words role kind }
 {

@@ -5,7 +5,8 @@ ghost use Rattle.front_words.specs.LinesAt.{line_at};
 
 use line_text::split_line;
 
-/// The line with that number, counted from 1, without its line feed, if the text has it. Takes no memory.
+/// The line with that number, counted from 1, without its line feed, if the text has it. Takes no
+/// memory.
 pub fn line_at(text: &[u8], number: u32) -> Option<&[u8]>
     ensures { option_map (λ line. line.now) result ≡ line_at text.now number }
 {

@@ -136,7 +136,8 @@ fn say_outside<'a, K: Sink>(
     }
 }
 
-/// Says of a bad file which it is, where it is outside its format and how, and the line, where its text is known. Takes no memory.
+/// Says of a bad file which it is, where it is outside its format and how, and the line, where
+/// its text is known. Takes no memory.
 pub fn say_bad_file<'a, K: Sink>(
     sink: &mut K,
     program: &'a str,

@@ -14,7 +14,8 @@ pub enum Piece<'a> {
     Text(&'a str),
     /// This number, in decimal.
     Number(u32),
-    /// These bytes of the outside, as they can stand in a line, and of them at most so many characters.
+    /// These bytes of the outside, as they can stand in a line, and of them at most so many
+    /// characters.
     Shown(&'a [u8], u32),
 }
 

@@ -2,7 +2,8 @@
 ghost use Rattle.std.specs.Prelude.{◌≡◌};
 ghost use Rattle.front_words.specs.Usage.{usage_text, version_text};
 
-/// The usage: how the program is called, and the table of commands, each with what it is for. A word in capitals stands for another.
+/// The usage: how the program is called, and the table of commands, each with what it is for. A
+/// word in capitals stands for another.
 pub const USAGE: &str = "usage: mcg COMMAND WORDS..
   analyse FILE                 the structure of the graph in FILE
   convert FILE                 its canonical text, with names for the vertices

@@ -1,4 +1,5 @@
--- A search that answers a perfect matching, and none exactly where there is none, decides whether there is one.
+-- A search that answers a perfect matching, and none exactly when there is none, decides whether
+-- there is one.
 use Rattle.std.proofs.Common.{◌≡◌, ◌↔◌, refl}
 use Rattle.std.specs.Prelude.{IsTrue, is_some}
 use Rattle.std.specs.declared.option.Option.{Option}

@@ -1,5 +1,6 @@
--- The sides of a quotient: a set of blocks has each edge of the quotient in its cut exactly where it parts each two adjacent blocks.
--- So the quotient at the single vertices is bipartite exactly where the graph is.
+-- The sides of a quotient: a set of blocks has each edge of the quotient in its cut exactly when
+-- it parts each two adjacent blocks. So the quotient at the single vertices is bipartite exactly
+-- when the graph is.
 use Rattle.std.proofs.Common.{Bool, List, ap, arith, false, inl, inr, length, ne_eqb, not, refl, subst, subst₂, sym, true, ℕ, ◌&&◌, ◌<◌, ◌==◌, ◌||◌, ◌≡◌}
 use Rattle.std.proofs.lemmas.Bool.{and_from, and_parts, cases_order}
 use Rattle.std.proofs.lemmas.Bool.Decides.{nat_tests}
@@ -63,7 +64,7 @@ parted g p x parts i j wi wj h = elim (cases_order i j) [
     own : (a b : ℕ) → a ≡ b → not (a == b) ≡ true → ⊥
     own a b e h = grind (arith, nat_tests)
 
--- at single vertices the quotient is bipartite exactly where the graph is
+-- at single vertices the quotient is bipartite exactly when the graph is
 module _ (g : Graph) (is : IsMultigraph g) where
   single : (v : ℕ) → Within g.order v → Within (length (singles g.order)) v
   single v w = let n = length-singles g.order in let b = w in (omega arith, omega arith)

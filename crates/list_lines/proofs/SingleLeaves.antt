@@ -1,5 +1,5 @@
--- A covered graph without a nontrivial tight cut has the leaf as its derivation: so a brick has one brick as its only leaf, and a brace
--- one brace.
+-- A covered graph without a nontrivial tight cut has the leaf as its derivation: so a brick has
+-- one brick as its only leaf, and a brace one brace.
 use Rattle.std.proofs.Common.{List, [], ◌∷◌, arith, refl, subst, ℕ, ◌≡◌}
 use Rattle.graph_core.proofs.Singles.{singles-partition}
 use Rattle.graph_core.proofs.SingleBlocks.{tight-singles}

@@ -1,5 +1,6 @@
--- The line of `kinds`: the graph6 text of the graph, the numbers of its vertices and edges, and either `uncovered` and the word of the
--- first reason, or `brick`, `brace` or `composite`, the numbers of bricks and of braces, and `bicritical yes` or `bicritical no`.
+-- The line of `kinds`: the graph6 text of the graph, the numbers of its vertices and edges, and
+-- either `uncovered` and the word of the first reason, or `brick`, `brace` or `composite`, the
+-- numbers of bricks and of braces, and `bicritical yes` or `bicritical no`.
 use Rattle.std.specs.Prelude.{◌≡◌, ℕ, ◌++◌, List, [], Bool, true, false, codes}
 use Rattle.std.specs.Fmt.{decimal}
 use Rattle.graph_core.specs.Graph.{Graph, size}
@@ -30,17 +31,17 @@ abbrev pub answer_word : Bool → List ℕ
 answer_word true = codes "yes"
 answer_word false = codes "no"
 
--- one word more, behind a space
+-- one word more, after a space
 abbrev pub with_word : List ℕ → List ℕ → List ℕ
 with_word before word = before ++ (codes " " ++ word)
 
--- the words on the standing of a graph, behind others
+-- the words on the standing of a graph, after others
 abbrev pub with_standing : List ℕ → Standing → List ℕ
 with_standing before (Uncovered why) = with_word (with_word before (codes "uncovered")) (why_word why)
 with_standing before (Covered sort bricks braces bicritical) =
     with_word (with_word (with_word (with_word (with_word before (sort_word sort)) (decimal bricks)) (decimal braces)) (codes "bicritical")) (answer_word bicritical)
 
--- the words behind the graph6 text: the numbers of vertices and edges, and the standing
+-- the words after the graph6 text: the numbers of vertices and edges, and the standing
 abbrev pub words_behind : ℕ → ℕ → Standing → List ℕ
 words_behind order edges standing = with_standing (with_word (with_word [] (decimal order)) (decimal edges)) standing ++ codes "\n"
 

@@ -1,5 +1,6 @@
--- The lines of `leaves`: for each leaf of a decomposition the number of the line in the list, the graph6 text of the leaf as a simple
--- graph, that is of the quotient at its partition, and `brick` or `brace`. A graph that is not covered has no line.
+-- The lines of `leaves`: for each leaf of a decomposition the number of the line in the list, the
+-- graph6 text of the leaf as a simple graph, that is of the quotient at its partition, and
+-- `brick` or `brace`. A graph that is not covered has no line.
 use Rattle.std.specs.Prelude.{◌≡◌, ℕ, ◌++◌, ◌⊎◌, List, [], ◌∷◌, codes}
 use Rattle.std.specs.Fmt.{decimal}
 use Rattle.graph_core.specs.Covered.{IsCovered}
@@ -51,7 +52,8 @@ pub record AreLinesOf (front : List ℕ) (g : Graph) (ps : List (List (List ℕ)
   pub right : AreLeafKinds g ps kinds
   pub lines : bytes ≡ leaf_lines front g ps kinds
 
--- the bytes are the lines of the leaves of the derivation that the order picks, in the order of the leaves
+-- the bytes are the lines of the leaves of the derivation that the order picks, in the order of
+-- the leaves
 pub record TellsLeaves (order : NamedOrder) (number : ℕ) (g : Graph) (bytes : List ℕ) : Type 0 where
   pub tree : Shape
   pub derivation : IsDerivation g tree

@@ -15,14 +15,15 @@ use Rattle.list_lines.specs.Standings.{IsCounted}
 use Rattle.list_lines.specs.declared.query.Property.{Property}
 use Rattle.list_lines.specs.declared.query.Property.TheVariants.{Covered, Uncovered, Brick, Brace, Bicritical, Composite, Bricks, Braces}
 
--- a bicritical graph as the literature has it: it has an edge, so two vertices and a perfect matching at least, and there is a
--- perfect matching without any two vertices
+-- a bicritical graph as the literature has it: it has an edge, so two vertices and a perfect
+-- matching at least, and there is a perfect matching without any two vertices
 pub record IsBicriticalWithEdge (g : Graph) : Type 0 where
   pub two : 2 ≤ g.order
   pub matched : HasPerfect g none
   pub critical : IsBicritical g
 
--- the graph has the property; so many bricks or braces: as the leaves of some derivation are counted
+-- the graph has the property; so many bricks or braces: as the leaves of some derivation are
+-- counted
 abbrev pub HasProperty : Graph → Property → Type 0
 HasProperty g Covered = IsCovered g
 HasProperty g Uncovered = ¬ IsCovered g
@@ -33,7 +34,8 @@ HasProperty g Composite = IsCovered g × ((cut : List ℕ) × IsKind g (kind.Com
 HasProperty g (Bricks count) = (tally : Tally) × IsCounted g tally × (tally.bricks ≡ count)
 HasProperty g (Braces count) = (tally : Tally) × IsCounted g tally × (tally.braces ≡ count)
 
--- it has not; not so many bricks or braces: it is not covered, or the leaves of some derivation are counted otherwise
+-- it has not; not so many bricks or braces: it is not covered, or the leaves of some derivation
+-- are counted otherwise
 abbrev pub LacksProperty : Graph → Property → Type 0
 LacksProperty g (Bricks count) = (¬ IsCovered g) ⊎ ((tally : Tally) × IsCounted g tally × (tally.bricks ≢ count))
 LacksProperty g (Braces count) = (¬ IsCovered g) ⊎ ((tally : Tally) × IsCounted g tally × (tally.braces ≢ count))

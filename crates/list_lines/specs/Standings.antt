@@ -1,4 +1,5 @@
--- How a graph stands among the matching covered graphs (Lovász 1987; Lucchesi and Murty, "Perfect Matchings").
+-- How a graph stands among the matching covered graphs (Lovász 1987; Lucchesi and Murty, "Perfect
+-- Matchings").
 use Rattle.std.specs.Prelude.{◌≡◌, ◌↔◌, ℕ, Bool, IsTrue}
 use Rattle.graph_core.specs.Covered
 use Rattle.graph_core.specs.Covered.{IsCovered, IsReason}
@@ -50,7 +51,8 @@ why_of (Covered.Parted a b) = Parts
 why_of (Covered.Unmatched berge) = Berge
 why_of (Covered.Unallowed edge) = Edge
 
--- the graph is not covered, for a first reason of which this is told, or what is told of it as a covered graph is right
+-- the graph is not covered, for a first reason of which this is told, or what is told of it as a
+-- covered graph is right
 abbrev pub IsStanding : Graph → Standing → Type 0
 IsStanding g (Uncovered why) = (reason : Covered.Reason) × IsReason g reason × (why ≡ why_of reason)
 IsStanding g (IsSaid sort bricks braces bicritical) = IsStructured g sort bricks braces bicritical

@@ -14,13 +14,14 @@ use Rattle.list_lines.specs.declared.query.Query.TheVariants.{Kinds, Leaves, Gra
 use Rattle.list_lines.specs.declared.telling.Told.{Told}
 use Rattle.list_lines.specs.declared.telling.Told.TheVariants.{Output, Bad}
 
--- the canonical text of the graph's file: of version 1 within its limits of 64 vertices and 512 edges, and else of version 2 with
--- plain names
+-- the canonical text of the graph's file: of version 1 within its limits of 64 vertices and 512
+-- edges, and else of version 2 with plain names
 unfoldable pub file_text : Graph → List ℕ
 file_text g =
     if nat_lt most_vertices g.order || nat_lt most_edges (size g) then named_text g (plain_names g.order) else graph_text g
 
--- what is told of the graph g that stands in a line with this number: the bytes that are written for it
+-- what is told of the graph g that stands in a line with this number: the bytes that are written
+-- for it
 abbrev pub IsTold : Query → ℕ → (line : List ℕ) → Graph → (bytes : List ℕ) → Type 0
 IsTold Kinds number line g bytes = IsKindLine g bytes
 IsTold (Leaves order) number line g bytes = AreLeafLines order number g bytes

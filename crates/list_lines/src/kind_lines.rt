@@ -9,7 +9,8 @@ use graph_core::MultiGraph;
 use graph6_text::write_graph6;
 use std::alloc::{AllocError as Memory, Global};
 
-/// The line of a simple graph: its graph6 text, the numbers of its vertices and edges, and how it stands.
+/// The line of a simple graph: its graph6 text, the numbers of its vertices and edges, and how it
+/// stands.
 #[tactic(auto, unfolding(crate::specs::KindLines::kind_line))]
 pub fn kind_line(alloc: Global, g: &MultiGraph) -> Result<Vec<u8>, Memory>
     requires { IsSimple g.now }
@@ -22,7 +23,7 @@ pub fn kind_line(alloc: Global, g: &MultiGraph) -> Result<Vec<u8>, Memory>
     Ok(line)
 }
 
-// The words behind the graph6 text.
+// The words after the graph6 text.
 fn words_behind(alloc: Global, order: u32, edges: u32, standing: Standing) -> Result<String, Memory>
     ensures { IfOk result (λ words. string_bytes words ≡ words_behind order edges standing) }
 {
@@ -71,14 +72,14 @@ fn push_covered(
     push_word(words, answer_word(bicritical))
 }
 
-// Appends a word behind a space.
+// Appends a word after a space.
 fn push_word(words: &mut String, word: &str) -> Result<(), Memory>
     ensures { OnOk result (string_bytes words.new ≡ with_word (string_bytes words.old) word.now) }
 {
     write!(words, " {word}")
 }
 
-// Appends a number behind a space.
+// Appends a number after a space.
 fn push_number(words: &mut String, number: u32) -> Result<(), Memory>
     ensures { OnOk result
         (string_bytes words.new ≡ with_word (string_bytes words.old) (decimal number)) }

@@ -14,8 +14,8 @@ use graph6_text::write_graph6;
 use std::alloc::{AllocError as Memory, Global};
 use tree_core::{LeafKind, Partitions, Tree, kind_of, leaves};
 
-/// The lines of the leaves of the derivation that the order picks, for a graph that stands in the line with this number; nothing
-/// where the graph is not matching covered.
+/// The lines of the leaves of the derivation that the order picks, for a graph that stands in the
+/// line with this number; nothing where the graph is not matching covered.
 pub fn leaf_lines(
     alloc: Global,
     g: &MultiGraph,
@@ -48,7 +48,7 @@ fn lines_of_tree(alloc: Global, g: &MultiGraph, tree: &Tree, number: u64) -> Res
     lines_of_leaves(alloc, g, &found, front.as_str())
 }
 
-// The lines of the leaves at these partitions, each behind the same front.
+// The lines of the leaves at these partitions, each after the same front.
 fn lines_of_leaves(
     alloc: Global,
     g: &MultiGraph,

@@ -1,14 +1,17 @@
 //! What `mcg6` tells of one line of a list of graphs.
 //!
-//! A line holds a graph6 text. `tell` answers, for a `Query`, the bytes that are written for it, or the kind of its first fault. What
-//! the bytes say is a relation on the graph alone (`IsTold`): the line of its kind with the numbers of bricks and braces
-//! (`IsKindLine`), the lines of its leaves as graphs (`AreLeafLines`), the canonical text of its graph file, or the line itself where
-//! the graph has a property and nothing where it has not (`IsSelected`). A line is bad exactly where it stands for no graph, or is
-//! asked for a graph file and too large for one (`IsBad`).
+//! A line holds a graph6 text. `tell` answers, for a `Query`, the bytes that are written for it,
+//! or the kind of its first fault. What the bytes say is a relation on the graph alone
+//! (`IsTold`): the line of its kind with the numbers of bricks and braces (`IsKindLine`), the
+//! lines of its leaves as graphs (`AreLeafLines`), the canonical text of its graph file, or the
+//! line itself where the graph has a property and nothing where it has not (`IsSelected`). A line
+//! is bad exactly when it stands for no graph, or is asked for a graph file and too large for one
+//! (`IsBad`).
 //!
-//! Stands on `graph6_text` for the lines, on `graph_facts`, `separation_kit` and `leaf_kinds` for what a graph is, and on `decomposer`,
-//! `tree_core` and `contraction` for its leaves. That the numbers of bricks and braces depend on no choice is a law of its own
-//! (Lovász, "Matching structure and the matching lattice", 1987).
+//! Stands on `graph6_text` for the lines, on `graph_facts`, `separation_kit` and `leaf_kinds` for
+//! what a graph is, and on `decomposer`, `tree_core` and `contraction` for its leaves. That the
+//! numbers of bricks and braces depend on no choice is a law of its own (Lovász, "Matching
+//! structure and the matching lattice", 1987).
 #![tactic(auto)]
 
 mod kind_lines;

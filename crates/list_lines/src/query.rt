@@ -13,7 +13,8 @@ pub enum Property {
     Brick,
     /// It is a brace: covered, bipartite, and without a nontrivial tight cut.
     Brace,
-    /// It is bicritical: it has at least two vertices and a perfect matching, and there is one without any two of its vertices.
+    /// It is bicritical: it has at least two vertices and a perfect matching, and there is one
+    /// without any two of its vertices.
     Bicritical,
     /// It is covered and has a nontrivial tight cut.
     Composite,

@@ -44,7 +44,8 @@ pub enum Standing {
     Uncovered {
         why: Why,
     },
-    /// It is, of this kind, with so many bricks and braces among the leaves of a decomposition, and bicritical or not.
+    /// It is, of this kind, with so many bricks and braces among the leaves of a decomposition,
+    /// and bicritical or not.
     Covered {
         sort: Sort,
         bricks: u32,
@@ -106,7 +107,8 @@ fn sort_of(kind: &Kind) -> Sort
     }
 }
 
-// The numbers of bricks and braces of a covered graph of this kind: a brick or a brace is its only leaf.
+// The numbers of bricks and braces of a covered graph of this kind: a brick or a brace is its
+// only leaf.
 fn tally_of_kind(alloc: Global, c: &Covered, kind: Kind) -> Result<Tally, Memory>
     requires { IsKind c.now kind }
     ensures { IfOk result (IsCounted c.now) }
@@ -127,7 +129,8 @@ fn tally_of_kind(alloc: Global, c: &Covered, kind: Kind) -> Result<Tally, Memory
     }
 }
 
-/// The numbers of the leaves of a covered graph, of the derivation for which the first candidates are picked.
+/// The numbers of the leaves of a covered graph, of the derivation for which the first candidates
+/// are picked.
 pub fn counted(alloc: Global, g: &MultiGraph) -> Result<Tally, Memory>
     requires { IsCovered g.now }
     ensures { IfOk result (IsCounted g.now) }

@@ -25,8 +25,9 @@ pub enum Told {
     Bad { kind: FaultKind },
 }
 
-/// The answer for a line with this number, counted from 1: what the query asks of the graph that stands in the line, or the kind of
-/// the line's fault. The line may have a header before the graph6 text and a line end behind it, as `read_graph6` has it.
+/// The answer for a line with this number, counted from 1: what the query asks of the graph that
+/// stands in the line, or the kind of the line's fault. The line may have a header before the
+/// graph6 text and a line end after it, as `read_graph6` has it.
 pub fn tell(alloc: Global, query: &Query, number: u64, line: &[u8]) -> Result<Told, Memory>
     ensures { IfOk result (IsAnswer query.now number line.now) }
 {
@@ -69,7 +70,8 @@ fn answer(
     }
 }
 
-// The canonical text of the graph file: of version 1, or where that has no room of version 2 with plain names.
+// The canonical text of the graph file: of version 1, or where that has no room of version 2 with
+// plain names.
 #[tactic(auto, unfolding(crate::specs::Telling::file_text))]
 fn file_text(alloc: Global, g: &MultiGraph) -> Result<Vec<u8>, Memory>
     ensures { IfOk result (λ bytes. bytes.items ≡ file_text g.now) }

@@ -1,5 +1,5 @@
--- What is left of a source after bytes were read: what was left before is these bytes and what is left now. Where a source tells
--- nothing, some list serves.
+-- What is left of a source after bytes were read: what was left before is these bytes and what is
+-- left now. Where a source tells nothing, some list serves.
 use Rattle.std.proofs.Common.{◌≡◌, inl, ℕ, suc, ◌≤◌, List, [], ◌++◌, length, refl, sym, subst, ◌∙◌, ap, arith, append_assoc}
 use Rattle.std.proofs.lemmas.List.{append-nil}
 use Rattle.std.specs.declared.option.Option.{Option}

@@ -1,5 +1,6 @@
--- A text is cut into lines from the front. A byte that is no line feed is put onto the first line of what stands behind it, a
--- line feed is the end of a line: so the lines of a text that a line feed ends are followed by those of the text behind it.
+-- A text is cut into lines from the front. A byte that is not a line feed is put onto the first
+-- line of what stands after it, a line feed is the end of a line: so the lines of a text that a
+-- line feed ends are followed by those of the text after it.
 use Rattle.std.proofs.Common.{◌≡◌, inl, inr, ℕ, suc, ◌+◌, ◌<◌, ◌≤◌, List, [], ◌∷◌, ◌++◌, length, take, drop, Some, None, position, true, false, refl, sym, subst, ◌∙◌, ap, arith, append_assoc}
 use Rattle.std.specs.List.{onto_first, position_or_len}
 use Rattle.std.proofs.lemmas.Bool.{cases_Bool, cases_lt, lt-ltb}
@@ -69,7 +70,7 @@ lines_of-fed (byte ∷ front) more = elim (cases_Bool (is_line_feed byte)) [
       ∙ ap (λ (ls : List (List ℕ)). ls ++ lines_of more) (sym (lines_of-byte byte (front ++ 10 ∷ []) other))
 ]
 
--- behind a text that a line feed ends, lines begin anew
+-- after a text that a line feed ends, lines begin anew
 pub lines_of-closed : (text more : List ℕ) → IsClosed text → lines_of (text ++ more) ≡ lines_of text ++ lines_of more
 lines_of-closed text more (inl empty) =
     subst (λ (t : List ℕ). lines_of (t ++ more) ≡ lines_of t ++ lines_of more) (sym empty)
@@ -96,7 +97,7 @@ IsClosed-cons : (byte : ℕ) (line : List ℕ) → lines_of line ≡ line ∷ []
 IsClosed-cons byte line alone (inl empty) = cc (ap lines_of empty, lines_of-nil)
 IsClosed-cons byte line alone (inr (front, fed)) = inr (byte ∷ front, ap (λ (t : List ℕ). byte ∷ t) fed)
 
--- a text whose first byte is no line feed
+-- a text whose first byte is not a line feed
 IsFirstLine-byte :
     (byte : ℕ) (text line behind : List ℕ) → is_line_feed byte ≡ false →
     IsFirstLine text line behind → IsFirstLine (byte ∷ text) (byte ∷ line) behind
@@ -107,7 +108,7 @@ IsFirstLine-byte byte text line behind other first = record {
   shorter = let less = first.shorter in omega arith;
 }
 
--- a text is cut behind its first line feed
+-- a text is cut after its first line feed
 pub first_line_cut :
     (text : List ℕ) → position_or_len is_line_feed text < length text →
     IsFirstLine text (take (position_or_len is_line_feed text + 1) text) (drop (position_or_len is_line_feed text + 1) text)
@@ -158,7 +159,7 @@ first_line_position text end some = elim (cases_lt (position_or_len is_line_feed
       cc
 ]
 
--- the first byte of a text without line feeds is none, and none is behind it
+-- the first byte of a text without line feeds is none, and none is after it
 no_feed-first : (byte : ℕ) (text : List ℕ) → HasNoFeed (byte ∷ text) → (is_line_feed byte ≡ false) × HasNoFeed text
 no_feed-first byte text none = elim (cases_Bool (is_line_feed byte)) [
   | inl feed ↦ let not_so : false ≡ true = rw feed at none in cc

@@ -1,4 +1,5 @@
--- What the pieces of a text give together: the lines that are told so far are whole, so what stands after them begins anew.
+-- What the pieces of a text give together: the lines that are told so far are whole, so what
+-- stands after them begins anew.
 use Rattle.std.proofs.Common.{◌≡◌, inl, inr, ℕ, ◌<◌, ◌≤◌, List, [], ◌∷◌, ◌++◌, length, refl, sym, subst, ◌∙◌, ap, arith, append_assoc, length-append, IsTrue, IsFalse}
 use Rattle.std.proofs.lemmas.List.{append-nil}
 use Rattle.std.specs.declared.option.Option.{Option}

@@ -1,5 +1,6 @@
--- A list is read piece by piece. What was read so far is lines that are told and the bytes held after them; so what the next
--- piece gives, after what is held, is what the lines of the list give there.
+-- A list is read piece by piece. What was read so far is lines that are told and the bytes held
+-- after them; so what the next piece gives, after what is held, is what the lines of the list
+-- give there.
 use Rattle.std.proofs.Common.{◌≡◌, inl, ℕ, suc, ◌≤◌, List, [], ◌++◌, length, refl, sym, subst, ◌∙◌, ap, arith, append_assoc}
 use Rattle.std.proofs.lemmas.List.{append-nil}
 use Rattle.std.specs.declared.option.Option.{Option}
@@ -22,7 +23,8 @@ use Rattle.list_reader.proofs.Joins.{place_behind-append, AllTold-append, Beginn
 use Rattle.list_reader.proofs.Stages.{steps_more, wrote_otherwise, wrote_appended}
 use Rattle.list_reader.proofs.LeftBytes.{prepended-nil, ListIs, list_is, list_ends, piece_read}
 
--- the lines up to that place were told, these bytes are held after them, and each step of the way was told as it was read
+-- the lines up to that place were told, these bytes are held after them, and each step of the way
+-- was told as it was read
 pub record SoFar {S K : Type 0} (tells : Place → List ℕ → List ℕ → Type 0) (left : S → Option (List ℕ)) (reads : S → Option (List ℕ) → S → Type 0) (written : K → Option (List ℕ)) (writes : K → List ℕ → ℕ → K → Type 0) (place : Place) (held : List ℕ) (source : S) (sink : K) (now_source : S) (now_sink : K) : Type 0 where
   pub whole : List ℕ
   pub output : List ℕ

@@ -1,5 +1,5 @@
--- The stages of a list that is told as it is read: a chain of steps takes one more at its end, and what the last lines give is what
--- the list gives there.
+-- The stages of a list that is told as it is read: a chain of steps takes one more at its end,
+-- and what the last lines give is what the list gives there.
 use Rattle.std.proofs.Common.{inr, ℕ, zero, suc, List, [], refl, sym, subst, ◌∙◌, ap}
 use Rattle.std.specs.declared.option.Option.{Option}
 use Rattle.outside.proofs.Pieces.{appended-nil}

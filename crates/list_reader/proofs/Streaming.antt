@@ -1,5 +1,5 @@
--- The reads and writes of a list that is told as it is read, joined to one stream: what the last piece gives is what the list gives
--- there, whatever stands after it.
+-- The reads and writes of a list that is told as it is read, joined to one stream: what the last
+-- piece gives is what the list gives there, whatever stands after it.
 use Rattle.std.proofs.Common.{◌≡◌, inl, ℕ, suc, ◌≤◌, List, [], ◌++◌, length, refl, sym, subst, ◌∙◌, ap, arith, append_assoc}
 use Rattle.std.proofs.lemmas.List.{append-nil}
 use Rattle.std.specs.declared.option.Option.{Option}

@@ -1,4 +1,5 @@
--- What is told into an empty output and then written: all of it where the writes took it whole, else a proper prefix of it.
+-- What is told into an empty output and then written: all of it where the writes took it whole,
+-- else a proper prefix of it.
 use Rattle.std.proofs.Common.{◌≡◌, ℕ, ◌<◌, List, [], ◌++◌, length, take, sym, subst, refl, ◌∙◌, ap}
 use Rattle.std.specs.declared.option.Option.{Option}
 use Rattle.outside.specs.Sink.{appended, IsCutOff}

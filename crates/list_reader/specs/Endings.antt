@@ -35,7 +35,8 @@ pub record Added (holds : List ℕ → Type 0) (before now : List ℕ) : Type 0 
   pub right : holds more
   pub output : now ≡ before ++ more
 
--- each whole line of what was read is told, and the part of a line after them is not too long for a line
+-- each whole line of what was read is told, and the part of a line after them is not too long for
+-- a line
 pub record WholeLinesTold (tells : Place → List ℕ → List ℕ → Type 0) (read output : List ℕ) : Type 0 where
   pub whole : List ℕ
   pub part : List ℕ
@@ -45,7 +46,8 @@ pub record WholeLinesTold (tells : Place → List ℕ → List ℕ → Type 0) (
   pub short : length part ≤ most_line
   pub told : AllTold tells first_place (lines_of whole) output
 
--- the lines of a text up to what is left of it are told, of which the first stands at the first place; the next stands at the second
+-- the lines of a text up to what is left of it are told, of which the first stands at the first
+-- place; the next stands at the second
 pub record ToldThrough (tells : Place → List ℕ → List ℕ → Type 0) (before : Place) (text left : List ℕ) (now : Place) (output : List ℕ) : Type 0 where
   pub whole : List ℕ
   pub cut : text ≡ whole ++ left
@@ -53,7 +55,8 @@ pub record ToldThrough (tells : Place → List ℕ → List ℕ → Type 0) (bef
   pub told : AllTold tells before (lines_of whole) output
   pub place : now ≡ place_behind before (lines_of whole)
 
--- whatever stands after the text, its lines give this up to the ending, of which the first stands at that place
+-- whatever stands after the text, its lines give this up to the ending, of which the first stands
+-- at that place
 abbrev pub StopsWith :
     (Place → List ℕ → List ℕ → Type 0) → (Place → List ℕ → FaultKind → Type 0) → (ℕ → Option FaultKind) → Place → (text : List ℕ) → Ending →
     List ℕ → Type 0
@@ -67,7 +70,8 @@ pub record Wrote {K : Type 0} (written : K → Option (List ℕ)) (writes : K �
   pub now : written last ≡ appended (written first) output
   pub whole : IsWritten writes output first last
 
--- bytes of which this holds were written, the first of some more, and then a write of the others failed
+-- bytes of which this holds were written, the first of some more, and then a write of the others
+-- failed
 pub record WroteCut {K : Type 0} (written : K → Option (List ℕ)) (writes : K → List ℕ → ℕ → K → Type 0) (holds : List ℕ → Type 0) (first last : K) : Type 0 where
   pub whole : List ℕ
   pub count : ℕ
@@ -75,7 +79,8 @@ pub record WroteCut {K : Type 0} (written : K → Option (List ℕ)) (writes : K
   pub now : written last ≡ appended (written first) (take count whole)
   pub cut : IsCutOff writes whole count first last
 
--- what was written up to an ending, of which this holds: nothing where memory ran out, and nothing after a write that failed
+-- what was written up to an ending, of which this holds: nothing where memory ran out, and
+-- nothing after a write that failed
 abbrev pub WroteUpTo :
     {K : Type 0} → (K → Option (List ℕ)) → (K → List ℕ → ℕ → K → Type 0) → (Ending → List ℕ → Type 0) → Ending → K → K → Type 0
 WroteUpTo written writes gives Done first last = Wrote written writes (gives Done) first last
@@ -89,7 +94,8 @@ abbrev pub IsLeft : Option (List ℕ) → List ℕ → Type 0
 IsLeft None bytes = Unit {0}
 IsLeft (Some left) bytes = left ≡ bytes
 
--- what was written up to the ending is what the lines of a list give: of the bytes that were left of the source, where it tells them
+-- what was written up to the ending is what the lines of a list give: of the bytes that were left
+-- of the source, where it tells them
 pub record TellsList (tells : Place → List ℕ → List ℕ → Type 0) (bad : Place → List ℕ → FaultKind → Type 0) (lacks : ℕ → Option FaultKind) (ending : Ending) (left before now : Option (List ℕ)) : Type 0 where
   pub bytes : List ℕ
   pub is_left : IsLeft left bytes

@@ -8,7 +8,8 @@ use Rattle.list_reader.specs.declared.place.Place.{Place}
 use Rattle.list_reader.specs.Places.{place_after, place_behind}
 use Rattle.list_reader.specs.Told.{LineTold, NamesBad}
 
--- the lines, of which the first stands at that place, are told by this output: the outputs of the lines in their order
+-- the lines, of which the first stands at that place, are told by this output: the outputs of the
+-- lines in their order
 abbrev pub AllTold : (Place → List ℕ → List ℕ → Type 0) → Place → List (List ℕ) → List ℕ → Type 0
 AllTold tells place [] output = output ≡ []
 AllTold tells place (line ∷ lines) output =
@@ -36,7 +37,8 @@ pub record HasBadLine (tells : Place → List ℕ → List ℕ → Type 0) (bad 
   pub told : AllTold tells place before output
   pub named : NamesBad bad (place_behind place before) line found
 
--- all lines are told, and no list may end after them: the line that is missing there is found, with nothing in it
+-- all lines are told, and no list may end after them: the line that is missing there is found,
+-- with nothing in it
 pub record LacksLine (tells : Place → List ℕ → List ℕ → Type 0) (lacks : ℕ → Option FaultKind) (place : Place) (lines : List (List ℕ)) (found : BadLine) (output : List ℕ) : Type 0 where
   pub told : AllTold tells place lines output
   pub ends : lacks (place_behind place lines).graphs ≡ Some found.kind

@@ -35,7 +35,8 @@ LineBad bad place line kind =
 abbrev pub IsKept : (line kept : List ℕ) → Type 0
 IsKept line kept = (kept ≡ line) ⊎ ((most_line < length kept) × ((rest : List ℕ) × (line ≡ kept ++ rest)))
 
--- the line at that place is bad, and this is found of it: its number, the kind of its first fault, and its text as far as it is kept
+-- the line at that place is bad, and this is found of it: its number, the kind of its first
+-- fault, and its text as far as it is kept
 pub record NamesBad (bad : Place → List ℕ → FaultKind → Type 0) (place : Place) (line : List ℕ) (found : BadLine) : Type 0 where
   pub bad_line : LineBad bad place line found.kind
   pub number : found.number ≡ place.number

@@ -4,9 +4,10 @@ ghost use Rattle.list_reader.specs.Told.{IfBad, IsFound};
 use std::alloc::Global;
 use text_faults::FaultKind;
 
-/// What is found of the first bad line of a list: its number, counted from 1, the kind of its first fault, and its text with its line
-/// end, as far as it was kept: of a line that is too long what was read of it. Where a line is missing at the end of the list, its
-/// number is the next one, and its text is empty.
+/// What is found of the first bad line of a list: its number, counted from 1, the kind of its
+/// first fault, and its text with its line end, as far as it was kept: of a line that is too long
+/// what was read of it. Where a line is missing at the end of the list, its number is the next
+/// one, and its text is empty.
 #[derive(Debug, PartialEq, Eq, Drop)]
 pub struct BadLine {
     pub number: u64,
@@ -19,7 +20,8 @@ pub struct BadLine {
 pub enum Ending {
     /// Each line was told, and its output written.
     Done,
-    /// A line was bad, or missing at the end: the outputs of the lines before it were written, and nothing of it.
+    /// A line was bad, or missing at the end: the outputs of the lines before it were written,
+    /// and nothing of it.
     Bad { found: BadLine },
     /// The source could not be read: the outputs of the whole lines before were written.
     ReadFault,
@@ -38,7 +40,8 @@ pub enum Stop {
     Memory,
 }
 
-// The stop at a line of this number and text that has a fault of this kind, or for want of memory to keep its text.
+// The stop at a line of this number and text that has a fault of this kind, or for want of memory
+// to keep its text.
 pub fn stop_at(alloc: Global, number: u64, kind: FaultKind, text: &[u8]) -> Stop
     ensures { IfBad (IsFound number kind text.now) result }
 {

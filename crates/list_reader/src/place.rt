@@ -6,7 +6,8 @@ ghost use Rattle.list_reader.specs.declared.ending.Stop.TheVariants.{Memory};
 
 use crate::ending::Stop;
 
-/// Where a line stands in a list: its number, counted from 1, and how many lines stand before it that are not the header alone.
+/// Where a line stands in a list: its number, counted from 1, and how many lines stand before it
+/// that are not the header alone.
 #[derive(Clone, Copy, Debug, PartialEq, Eq)]
 pub struct Place {
     pub number: u64,

@@ -121,12 +121,13 @@ fn tell_through<T: LineTeller, S: Source, K: Sink>(
     Ending::Memory
 }
 
-/// Reads the list that is left of the source to its end, tells each of its lines, and writes what is told of them to the sink:
-/// of the lines that a read made whole before the next read. The first bad line ends it; nothing is written of that one, and the
-/// ending says what is found of it. A line that is too long ends it as soon as more of it was read than a line may have.
+/// Reads the list that is left of the source to its end, tells each of its lines, and writes what
+/// is told of them to the sink: of the lines that a read made whole before the next read. The
+/// first bad line ends it; nothing is written of that one, and the ending says what is found of
+/// it. A line that is too long ends it as soon as more of it was read than a line may have.
 ///
-/// Takes memory for a piece, a line, and what is told of the lines of a piece. Where memory runs out, or there are more lines
-/// or reads than a u64 counts, it ends with `Memory`.
+/// Takes memory for a piece, a line, and what is told of the lines of a piece. Where memory runs
+/// out, or there are more lines or reads than a u64 counts, it ends with `Memory`.
 #[tactic(auto, using(crate::proofs::Readings::untouched, crate::proofs::LeftBytes::told_list, crate::proofs::Stages::unread))]
 pub fn tell_all<T: LineTeller, S: Source, K: Sink>(
     alloc: Global,
@@ -134,11 +135,13 @@ pub fn tell_all<T: LineTeller, S: Source, K: Sink>(
     source: &mut S,
     sink: &mut K,
 ) -> Ending
-    // After each read, all lines that are whole in what was read are told and written before the next read; no write follows one that
-    // failed, and no read or write follows a read that failed.
+    // After each read, all lines that are whole in what was read are told and written before the
+    // next read; no write follows one that failed, and no read or write follows a read that
+    // failed.
     ensures streams { IsStream (T.tells teller.now) (T.bad teller.now) (T.lacks teller.now) S.reads
         K.written K.writes result source.old sink.old source.new sink.new }
-    // What was written is what the lines of the list give up to this ending, in whatever pieces it was read.
+    // What was written is what the lines of the list give up to this ending, in whatever pieces
+    // it was read.
     ensures gives { (bytes : List ℕ) → S.left source.old ≡ Some bytes
         → Appended (Gives (T.tells teller.now) (T.bad teller.now) (T.lacks teller.now) first_place
         (lines_of bytes) result) (K.written sink.old) (K.written sink.new) }

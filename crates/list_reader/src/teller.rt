@@ -34,7 +34,8 @@ pub trait LineTeller {
         ensures { IfOk result
             (IsToldAs (tells self.now place line.now) (bad self.now place line.now)) };
 
-    /// The kind of the fault of a list that ends after so many lines other than the header, if it has one.
+    /// The kind of the fault of a list that ends after so many lines other than the header, if it
+    /// has one.
     fn fault_at_end(&self, graphs: u64) -> Option<FaultKind>
         ensures { result ≡ lacks self.now graphs };
 }

@@ -41,8 +41,8 @@ pub fn tell_line<T: LineTeller>(
     }
 }
 
-// Tells the whole lines of a text, of which the first stands at that place; answers the place of the next line, and what is left of
-// the text after its last line feed.
+// Tells the whole lines of a text, of which the first stands at that place; answers the place of
+// the next line, and what is left of the text after its last line feed.
 pub fn tell_lines<'a, T: LineTeller>(
     alloc: Global,
     teller: &T,

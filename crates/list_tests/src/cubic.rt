@@ -1,7 +1,8 @@
-//! The connected cubic graphs with at most twelve vertices, as `geng` of nauty lists them, and how many of them are matching covered,
-//! bricks and braces.
+//! The connected cubic graphs with at most twelve vertices, as `geng` of nauty lists them, and
+//! how many of them are matching covered, bricks and braces.
 
-/// The lines of the graphs with one number of vertices, with the numbers of those that are covered, bricks and braces.
+/// The lines of the graphs with one number of vertices, with the numbers of those that are
+/// covered, bricks and braces.
 pub struct Family {
     pub lines: &'static [&'static str],
     pub covered: u32,

@@ -1,4 +1,5 @@
--- What a list gives up to an ending is what it stands for with the status of that ending: one case for each ending.
+-- What a list gives up to an ending is what it stands for with the status of that ending: one
+-- case for each ending.
 use Rattle.std.proofs.Common.{ℕ, List}
 use Rattle.std.specs.declared.option.Option.{Option}
 use Rattle.list_lines.specs.declared.query.Query.{Query}

@@ -13,7 +13,8 @@ use Rattle.list_lines.specs.declared.query.Property.TheVariants.{Covered, Uncove
 use Rattle.list_lines.specs.declared.query.Query.{Query}
 use Rattle.list_lines.specs.declared.query.Query.TheVariants.{Kinds, Leaves, Graph, Select}
 
--- what is asked of each graph of a list, and the name of the file that holds the list, if it is not the standard input
+-- what is asked of each graph of a list, and the name of the file that holds the list, if it is
+-- not the standard input
 pub record Command : Type 0 where
   pub query : Query
   pub file : Option (List ℕ)

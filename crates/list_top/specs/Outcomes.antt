@@ -14,7 +14,8 @@ use Rattle.list_top.specs.Statuses.{status_of}
 use Rattle.list_top.specs.declared.status.Status.{Status}
 use Rattle.list_top.specs.declared.status.Status.TheVariants.{Done, Usage, ReadFault, BadInput, WriteFault, Memory}
 
--- what is written of a list of these bytes up to an ending: of each line what is asked of its graph, in order
+-- what is written of a list of these bytes up to an ending: of each line what is asked of its
+-- graph, in order
 abbrev pub EndsWith : Query → (bytes : List ℕ) → Ending → (output : List ℕ) → Type 0
 EndsWith query bytes ending output = Gives (TellsLineOf query) (IsBadLine query) (lacks_of query) first_place (lines_of bytes) ending output
 
@@ -32,7 +33,8 @@ Outcome query bytes BadInput output = StopsAtBad query bytes output
 Outcome query bytes WriteFault output = CutShort (TellsLineOf query) first_place (lines_of bytes) output
 Outcome query bytes Memory output = BeginningTold (TellsLineOf query) first_place (lines_of bytes) output
 
--- what was written is an outcome of some list: of the bytes that were left of the source, where it tells them
+-- what was written is an outcome of some list: of the bytes that were left of the source, where
+-- it tells them
 pub record TellsSome (query : Query) (status : Status) (left before now : Option (List ℕ)) : Type 0 where
   pub bytes : List ℕ
   pub is_left : IsLeft left bytes

@@ -2,7 +2,8 @@
 
 use list_lines::Query;
 
-/// What is asked of each graph of a list, and the name of the file that holds the list; with none it is the standard input.
+/// What is asked of each graph of a list, and the name of the file that holds the list; with none
+/// it is the standard input.
 #[derive(Clone, Copy)]
 pub struct Command<'a> {
     pub query: Query,

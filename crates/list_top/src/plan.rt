@@ -118,7 +118,8 @@ fn with_file<'a>(query: Option<Query>, file: Option<&'a str>) -> Option<Command<
     }
 }
 
-// The command that the two words ask for: the second has more to say of the query, or is the name of the file.
+// The command that the two words ask for: the second has more to say of the query, or is the name
+// of the file.
 fn pair_command<'a>(word: &str, second: &'a str) -> Option<Command<'a>>
     ensures { option_map asked result ≡ pair_command word.now second.now }
 {

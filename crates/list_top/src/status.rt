@@ -13,7 +13,8 @@ pub enum Status {
     Usage = 2,
     /// The list could not be read; the outputs of the whole lines before were written.
     ReadFault = 3,
-    /// A line is bad, or missing; the outputs of the lines before it were written, and nothing of it.
+    /// A line is bad, or missing; the outputs of the lines before it were written, and nothing of
+    /// it.
     BadInput = 4,
     /// The output could not be written whole; a part of it may have been.
     WriteFault = 5,

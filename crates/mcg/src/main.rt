@@ -1,9 +1,9 @@
-//! The program `mcg`: the words after its name are a command of `bench_top::run`, whose report goes to standard output and
-//! whose status becomes the exit status.
+//! The program `mcg`: the words after its name are a command of `bench_top::run`, whose report
+//! goes to standard output and whose status becomes the exit status.
 //!
-//! Files are read by `DirShelf` and standard output is written by `OutSink`; the program never writes to standard error.
-//! Where the runtime refuses the words, nothing is written: the exit status is 6 for want of memory, and 7, which no status
-//! has, for words that are no UTF-8.
+//! Files are read by `DirShelf` and standard output is written by `OutSink`; the program never
+//! writes to standard error. Where the runtime refuses the words, nothing is written: the exit
+//! status is 6 for want of memory, and 7, which no status has, for words that are no UTF-8.
 #![tactic(auto)]
 
 use bench_top::run;

@@ -1,9 +1,10 @@
-//! The program `mcg6`: the words after its name are a command of `list_top::run`, which tells a list of graphs line by line to
-//! standard output, and whose status becomes the exit status.
+//! The program `mcg6`: the words after its name are a command of `list_top::run`, which tells a
+//! list of graphs line by line to standard output, and whose status becomes the exit status.
 //!
-//! The list is standard input, or the file that the last word names. It is read by `InSource` and standard output is written by
-//! `OutSink`; the program never writes to standard error. Where the runtime refuses the words, nothing is read or written: the
-//! exit status is 6 for want of memory, and 7, which no status has, for words that are no UTF-8.
+//! The list is standard input, or the file that the last word names. It is read by `InSource` and
+//! standard output is written by `OutSink`; the program never writes to standard error. Where the
+//! runtime refuses the words, nothing is read or written: the exit status is 6 for want of
+//! memory, and 7, which no status has, for words that are no UTF-8.
 #![tactic(auto)]
 
 use list_top::{file_name, run};

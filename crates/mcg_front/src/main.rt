@@ -1,9 +1,11 @@
-//! The program `mcg_front`, which users call as `mcg`: the words after its name are a command of `front_top::run_front`, whose
-//! report goes to standard output, whose words for a person go to standard error, and whose status becomes the exit status.
+//! The program `mcg_front`, which users call as `mcg`: the words after its name are a command of
+//! `front_top::run_front`, whose report goes to standard output, whose words for a person go to
+//! standard error, and whose status becomes the exit status.
 //!
-//! Files are read by `DirShelf` through a `KeepingShelf`, standard output is written by `OutSink` and standard error by `LineSink`.
-//! `MCG_QUIET=1` in the environment turns the words off. Where the runtime refuses the words, nothing is written to standard output:
-//! the exit status is 6 for want of memory, and 7, which no status has, for words that are not UTF-8.
+//! Files are read by `DirShelf` through a `KeepingShelf`, standard output is written by `OutSink`
+//! and standard error by `LineSink`. `MCG_QUIET=1` in the environment turns the words off. Where
+//! the runtime refuses the words, nothing is written to standard output: the exit status is 6 for
+//! want of memory, and 7, which no status has, for words that are not UTF-8.
 #![tactic(auto)]
 
 use front_top::run_front;

@@ -1,5 +1,6 @@
--- What a shelf that tells its files says of a name: the first file of that name counts, so what is put behind it
--- changes nothing, and a name not yet held is looked up there. By induction on the files.
+-- What a shelf that tells its files says of a name: the first file of that name counts, so what
+-- is put after it changes nothing, and a name not yet held is looked up there. By induction on
+-- the files.
 use Rattle.std.proofs.Common.{◌≡◌, ℕ, List, [], ◌∷◌, ◌++◌, refl, true, false, cond}
 use Rattle.std.specs.declared.option.Option.TheVariants.{Some}
 use Rattle.std.specs.Option.{option_or}

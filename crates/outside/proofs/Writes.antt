@@ -1,4 +1,5 @@
--- A chain of writes takes one more: the piece that is written is all that is left of the bytes, since nothing stands behind it.
+-- A chain of writes takes one more: the piece that is written is all that is left of the bytes,
+-- since nothing stands after it.
 use Rattle.std.proofs.Common.{◌≡◌, ℕ, suc, ◌+◌, ◌-◌, ◌<◌, List, length, take, drop, refl, subst, arith, length-drop}
 use Rattle.std.proofs.lemmas.List.{take_all}
 use Rattle.outside.specs.Sink.{WritesTake}

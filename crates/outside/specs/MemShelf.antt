@@ -4,8 +4,8 @@ use Rattle.std.specs.declared.option.Option.TheVariants.{None, Some}
 use Rattle.outside.specs.Faults.{next_call}
 use Rattle.outside.specs.Shelf.{Named, file_named}
 
--- the files; the read calls that are to fail, by their numbers; the counts of calls, of the bytes that the last read
--- took, and of faults
+-- the files; the read calls that are to fail, by their numbers; the counts of calls, of the bytes
+-- that the last read took, and of faults
 pub record ShelfState : Type 0 where
   pub files : List Named
   pub failing : List ℕ
@@ -21,7 +21,8 @@ FailsNext shelf name = Contains shelf.failing (next_call shelf.calls) ⊎ (file_
 abbrev pub MayTake : List Named → List ℕ → ℕ → Type 0
 MayTake files name taken = (taken ≡ 0) ⊎ ((bytes : List ℕ) × ((file_named name files ≡ Some bytes) × (length bytes ≡ taken)))
 
--- a read of that name leads from the first state to the second: it is counted, and changes no file and no plan
+-- a read of that name leads from the first state to the second: it is counted, and changes no
+-- file and no plan
 pub record IsRead (before : ShelfState) (name : List ℕ) (now : ShelfState) : Type 0 where
   pub files : now.files ≡ before.files
   pub failing : now.failing ≡ before.failing

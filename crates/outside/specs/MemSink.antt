@@ -2,8 +2,8 @@
 use Rattle.std.specs.Prelude.{◌≡◌, ℕ, ◌-◌, List, ◌++◌, length, take, min}
 use Rattle.outside.specs.Faults.{MayCount, next_call}
 
--- what was written; how many bytes fit, and how many for one call; the calls that are to fail, by their numbers;
--- the counts of calls and of faults
+-- what was written; how many bytes fit, and how many for one call; the calls that are to fail, by
+-- their numbers; the counts of calls and of faults
 pub record SinkState : Type 0 where
   pub written : List ℕ
   pub room : ℕ
@@ -16,7 +16,8 @@ pub record SinkState : Type 0 where
 abbrev pub share : SinkState → ℕ → ℕ
 share sink size = min size (min sink.most (sink.room - length sink.written))
 
--- a write of that piece, which took so many of its bytes, leads from the first state to the second: it is counted, and changes no plan
+-- a write of that piece, which took so many of its bytes, leads from the first state to the
+-- second: it is counted, and changes no plan
 pub record IsWrite (before : SinkState) (piece : List ℕ) (count : ℕ) (now : SinkState) : Type 0 where
   pub written : now.written ≡ before.written ++ take count piece
   pub room : now.room ≡ before.room

@@ -4,8 +4,8 @@ use Rattle.std.specs.declared.option.Option.{Option}
 use Rattle.std.specs.declared.option.Option.TheVariants.{Some, None}
 use Rattle.outside.specs.Faults.{MayCount, next_call}
 
--- the bytes left; the most bytes for each call, in turn; the calls that are to fail, by their numbers; the counts of calls
--- and of faults
+-- the bytes left; the most bytes for each call, in turn; the calls that are to fail, by their
+-- numbers; the counts of calls and of faults
 pub record SourceState : Type 0 where
   pub left : List ℕ
   pub sizes : List ℕ
@@ -13,7 +13,8 @@ pub record SourceState : Type 0 where
   pub calls : ℕ
   pub faults : ℕ
 
--- the most bytes for the call of that number, counted from 1: at least one, and any number past the planned ones
+-- the most bytes for the call of that number, counted from 1: at least one, and any number past
+-- the planned ones
 abbrev pub size_for : List ℕ → ℕ → ℕ
 size_for sizes call = max (slice_index_or sizes (call - 1) (2 ^ 64 - 1)) 1
 
@@ -26,7 +27,8 @@ abbrev pub bytes_given : Option (List ℕ) → List ℕ
 bytes_given None = []
 bytes_given (Some bytes) = bytes
 
--- a read that gave these bytes, or failed, leads from the first state to the second: it is counted, and changes no plan
+-- a read that gave these bytes, or failed, leads from the first state to the second: it is
+-- counted, and changes no plan
 pub record IsGiven (before : SourceState) (given : Option (List ℕ)) (now : SourceState) : Type 0 where
   pub left : before.left ≡ bytes_given given ++ now.left
   pub sizes : now.sizes ≡ before.sizes

@@ -31,7 +31,8 @@ abbrev pub TellsFile : Option (List Named) → List ℕ → Option (List ℕ) �
 TellsFile None name file = Unit {0}
 TellsFile (Some files) name file = file_named name files ≡ file
 
--- where the files are told, the one of that name is longer than the limit; where not, more bytes than it were taken
+-- where the files are told, the one of that name is longer than the limit; where not, more bytes
+-- than it were taken
 abbrev pub IsLonger : Option (List Named) → List ℕ → ℕ → ℕ → Type 0
 IsLonger None name limit taken = limit < taken
 IsLonger (Some files) name limit taken = HoldsLonger files name limit

@@ -15,8 +15,8 @@ abbrev pub taken_by : {E : Type 0} → Result ℕ E → ℕ
 taken_by (Ok count) = count
 taken_by (Err error) = 0
 
--- so many calls, each a write of what was left of the bytes that took some of it, took the first `done` bytes, and lead from the
--- first sink to the last
+-- so many calls, each a write of what was left of the bytes that took some of it, took the first
+-- `done` bytes, and lead from the first sink to the last
 abbrev pub WritesTake : {K : Type 0} → (K → List ℕ → ℕ → K → Type 0) → List ℕ → (calls done : ℕ) → (first last : K) → Type 0
 WritesTake writes bytes zero done first last = (done ≡ 0) × (last ≡ first)
 WritesTake {K} writes bytes (suc calls) done first last =
@@ -28,8 +28,8 @@ pub record IsWritten {K : Type 0} (writes : K → List ℕ → ℕ → K → Typ
   pub calls : ℕ
   pub turns : WritesTake writes bytes calls (length bytes) first last
 
--- the first `count` bytes were written, and then a write of the others, which are not empty, failed or took none of them: no write
--- follows it
+-- the first `count` bytes were written, and then a write of the others, which are not empty,
+-- failed or took none of them: no write follows it
 pub record IsCutOff {K : Type 0} (writes : K → List ℕ → ℕ → K → Type 0) (bytes : List ℕ) (count : ℕ) (first last : K) : Type 0 where
   pub less : count < length bytes
   pub calls : ℕ

@@ -16,11 +16,11 @@ use std::rt::Files;
 // how many bytes one turn of a read asks for
 const PIECE: usize = 4096;
 
-/// A shelf of the files that a runtime reaches by name: the trusted edge, which tells nothing of content and is never
-/// steady.
+/// A shelf of the files that a runtime reaches by name: the trusted edge, which tells nothing of
+/// content and is never steady.
 ///
-/// A contract sees it as an `OpenState`: the bytes that the last read took, the count of faults, which stays at
-/// the greatest u64 once it is there, and why the last read failed, where it did.
+/// A contract sees it as an `OpenState`: the bytes that the last read took, the count of faults,
+/// which stays at the greatest u64 once it is there, and why the last read failed, where it did.
 #[derive(Drop)]
 pub struct DirShelf<'a, R: Files> {
     runtime: &'a R,
@@ -74,8 +74,9 @@ fn reason_unopened<R: Files>(runtime: &R, name: &str, kind: ErrorKind) -> Reason
     }
 }
 
-// Appends the bytes of the file of that name: all of them, if they are at most `limit`, else `limit + 1`. Each turn takes at
-// least one byte or ends the read. Where a call fails, the reason is put down.
+// Appends the bytes of the file of that name: all of them, if they are at most `limit`, else
+// `limit + 1`. Each turn takes at least one byte or ends the read. Where a call fails, the reason
+// is put down.
 fn fill<R: Files>(
     runtime: &R,
     name: &str,
@@ -126,7 +127,8 @@ impl<R: Files> Shelf for DirShelf<'_, R> {
 
     ghost steady_tells = { λ shelf is. Prim.search rules };
 
-    /// It ends at `limit + 1` bytes at the latest. An error of the runtime, at the opening or at any turn, is `Failed`.
+    /// It ends at `limit + 1` bytes at the latest. An error of the runtime, at the opening or at
+    /// any turn, is `Failed`.
     fn read(&mut self, alloc: Global, name: &str, limit: usize) -> Result<Vec<u8>, ShelfFault>
         requires { limit < 2 ^ 64 - 1 }
 
@@ -135,7 +137,7 @@ impl<R: Files> Shelf for DirShelf<'_, R> {
         ensures too_long { IsErrOf result ShelfFault.TooLong → self.new.taken ≡ limit + 1 }
         ensures ends { self.new.taken ≤ limit + 1 }
 
-        // The count of faults goes up exactly where the call fails.
+        // The count of faults goes up exactly when the call fails.
         ensures later { self.old.faults ≤ self.new.faults }
         ensures rises { IsErrOf result ShelfFault.Failed →
             self.new.faults ≡ next_fault self.old.faults }

@@ -21,7 +21,8 @@ pub enum Reason {
     Other,
 }
 
-/// A shelf that can say why its last read failed. It is for words to a person: nothing is proved of the reason's truth.
+/// A shelf that can say why its last read failed. It is for words to a person: nothing is proved
+/// of the reason's truth.
 pub trait Explain: Shelf {
     ghost use Rattle.outside.specs.declared.explain.Reason.{Reason};
 

@@ -27,7 +27,8 @@ pub trait Keeping: Explain {
         IsFileOf (Self.files before) name (kept now) };
 }
 
-/// A shelf that keeps the bytes of the file that it read last, and is in all else the shelf that it is made of.
+/// A shelf that keeps the bytes of the file that it read last, and is in all else the shelf that
+/// it is made of.
 ///
 /// Nothing is kept where the last read gave no bytes. A read takes memory for its bytes twice.
 #[derive(Drop)]

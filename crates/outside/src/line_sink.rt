@@ -9,11 +9,13 @@ use std::marker::Model;
 // How many bytes of a line are held before they go out.
 const ROOM: usize = 512;
 
-/// A stream of a runtime to which lines go out whole, as its standard error: the trusted edge, which tells nothing of content.
+/// A stream of a runtime to which lines go out whole, as its standard error: the trusted edge,
+/// which tells nothing of content.
 ///
-/// What is written is held until a line feed comes or the room is full, and then goes out by one call, so that lines of several
-/// programs do not mix. What does not end with a line feed stays held. A contract sees it as the count of faults, which stays at
-/// the greatest u64 once it is there.
+/// What is written is held until a line feed comes or the room is full, and then goes out by one
+/// call, so that lines of several programs do not mix. What does not end with a line feed stays
+/// held. A contract sees it as the count of faults, which stays at the greatest u64 once it is
+/// there.
 #[derive(Drop)]
 pub struct LineSink<'a, P: Print> {
     stream: &'a P,
@@ -53,7 +55,8 @@ impl<P: Print> Sink for LineSink<'_, P> {
 
     ghost writes = { λ before _ _ now. MayCount before now };
 
-    /// It takes as many bytes as have room. An error of the runtime is `SinkFailed`, and what was held is lost.
+    /// It takes as many bytes as have room. An error of the runtime is `SinkFailed`, and what was
+    /// held is lost.
     fn write(&mut self, bytes: &[u8]) -> Result<usize, SinkFailed>
         ensures within { IfOk result (λ count. count ≤ length bytes.now) }
         ensures later { self.old ≤ self.new }

@@ -21,9 +21,10 @@ struct StoredFile {
 
 /// A shelf in memory, which tells its files, and whose reads of chosen numbers fail.
 ///
-/// A contract sees it as a `ShelfState`: the files by name and bytes, in the order they were put, the numbers kept,
-/// the counts of calls and of faults, each of which stays at its type's greatest value once it is there, and the
-/// number of bytes that the last read took. It is steady exactly where no numbers are kept.
+/// A contract sees it as a `ShelfState`: the files by name and bytes, in the order they were put,
+/// the numbers kept, the counts of calls and of faults, each of which stays at its type's
+/// greatest value once it is there, and the number of bytes that the last read took. It is steady
+/// exactly when no numbers are kept.
 #[derive(Drop)]
 pub struct MemShelf {
     alloc: Global,
@@ -72,7 +73,8 @@ impl MemShelf {
         Ok(())
     }
 
-    /// Plans the read call of that number to fail. Calls are counted from 1. After `Memory` nothing changed.
+    /// Plans the read call of that number to fail. Calls are counted from 1. After `Memory`
+    /// nothing changed.
     pub fn fail_read(&mut self, call: u32) -> Result<(), Memory>
         ensures ok { OnOk result
             (self.new ≡ record self.old { failing = self.old.failing ++ call ∷ [] }) }
@@ -113,7 +115,7 @@ impl Shelf for MemShelf {
     fn read(&mut self, alloc: Global, name: &str, limit: usize) -> Result<Vec<u8>, ShelfFault>
         requires { limit < 2 ^ 64 - 1 }
 
-        // A call fails exactly where its number is kept or the name is not held.
+        // A call fails exactly when its number is kept or the name is not held.
         ensures failed { IsErrOf result ShelfFault.Failed ↔ FailsNext self.old name.now }
         ensures too_long { IsErrOf result ShelfFault.TooLong
             ↔ (¬ FailsNext self.old name.now) × HoldsLonger self.old.files name.now limit }
@@ -126,7 +128,7 @@ impl Shelf for MemShelf {
         ensures taken { IfOk result (λ bytes. length bytes.items ≡ self.new.taken) }
         ensures none_taken { OnErr result (self.new.taken ≡ 0) }
 
-        // The count of faults goes up exactly where the call fails.
+        // The count of faults goes up exactly when the call fails.
         ensures later { self.old.faults ≤ self.new.faults }
         ensures rises { IsErrOf result ShelfFault.Failed →
             self.new.faults ≡ next_fault self.old.faults }

@@ -3,8 +3,8 @@ ghost use Rattle.std.specs.Prelude.{◌≡◌, Bool};
 
 use crate::Sink;
 
-/// A sink that can say whether its last write failed since nobody reads it any more, as a pipe whose reader has gone. Who closed
-/// it knows, and needs no words.
+/// A sink that can say whether its last write failed since nobody reads it any more, as a pipe
+/// whose reader has gone. Who closed it knows, and needs no words.
 pub trait Outlet: Sink {
     /// The last write failed since nobody reads any more.
     ghost is_abandoned: { Self → Bool };

@@ -4,8 +4,8 @@ ghost use Rattle.outside.specs.Faults.{next_call, next_fault};
 
 use std::alloc::{AllocError as Memory, Global};
 
-/// The numbers of the calls that are to fail, counted from 1, and the counts of calls and of faults so far, each of which stays
-/// at its type's greatest value once it is there.
+/// The numbers of the calls that are to fail, counted from 1, and the counts of calls and of
+/// faults so far, each of which stays at its type's greatest value once it is there.
 #[derive(Drop)]
 pub struct CallPlan {
     pub failing: Vec<u32>,

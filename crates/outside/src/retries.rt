@@ -6,7 +6,8 @@ use std::io::{ErrorKind, Read, Result, Write};
 // How often a call is tried again.
 const RETRIES: u32 = 1024;
 
-/// Reads some bytes into the piece. A read that a signal interrupts has taken none and is tried again.
+/// Reads some bytes into the piece. A read that a signal interrupts has taken none and is tried
+/// again.
 pub(crate) fn read_some<F: Read>(file: &mut F, piece: &mut [u8]) -> Result<usize>
     ensures { IfOk result (λ count. count ≤ length piece.new) }
 {

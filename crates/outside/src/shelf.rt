@@ -34,8 +34,9 @@ impl Error for ShelfFault {}
 
 /// A place that gives the bytes of a file by its name.
 ///
-/// Where it tells its files, a read is known exactly: it gives the first file of that name. Where it does not, as over
-/// real files, the count of faults and the number of bytes taken still say why a read gave none.
+/// Where it tells its files, a read is known exactly: it gives the first file of that name. Where
+/// it does not, as over real files, the count of faults and the number of bytes taken still say
+/// why a read gave none.
 pub trait Shelf {
     /// The files that are held, in order, where the shelf tells them.
     ghost files: { Self → Option (List Named) };
@@ -49,15 +50,17 @@ pub trait Shelf {
     /// A read fails only at a name that is not held.
     ghost steady: { Self → Bool };
 
-    /// A read of that name leads from the first shelf to the second. Code that is generic over its shelf knows no other way
-    /// from one shelf to the next, so by this it tells which names it asked for, and in which order (`ReadsInTurn`).
+    /// A read of that name leads from the first shelf to the second. Code that is generic over
+    /// its shelf knows no other way from one shelf to the next, so by this it tells which names
+    /// it asked for, and in which order (`ReadsInTurn`).
     ghost reads: { Self → List ℕ → Self → Type 0 };
 
     /// The bytes of the first file of that name, if they are at most `limit`.
     ///
-    /// `Failed` comes only where the count of faults rose in this call, and over a steady shelf only where the name is
-    /// not held. `TooLong` comes only where the file has more bytes than `limit`, or, where the files are not told,
-    /// where more than `limit` bytes were taken. `Memory` may come at any time. No read changes the files.
+    /// `Failed` comes only where the count of faults rose in this call, and over a steady shelf
+    /// only where the name is not held. `TooLong` comes only where the file has more bytes than
+    /// `limit`, or, where the files are not told, where more than `limit` bytes were taken.
+    /// `Memory` may come at any time. No read changes the files.
     fn read(&mut self, alloc: Global, name: &str, limit: usize) -> Result<Vec<u8>, ShelfFault>
         requires { limit < 2 ^ 64 - 1 }
 

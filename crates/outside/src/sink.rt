@@ -21,24 +21,27 @@ impl Error for SinkFailed {}
 
 /// A place that takes the bytes of an output piece by piece.
 ///
-/// As POSIX's `write`, it may take a part of a piece. A caller writes the rest again, until nothing is left, until
-/// `SinkFailed`, or until nothing is taken of a rest that is not empty: the last two are faults, and are counted.
+/// As POSIX's `write`, it may take a part of a piece. A caller writes the rest again, until
+/// nothing is left, until `SinkFailed`, or until nothing is taken of a rest that is not empty:
+/// the last two are faults, and are counted.
 pub trait Sink {
     /// The bytes written so far, where the sink tells them.
     ghost written: { Self → Option (List ℕ) };
 
-    /// The count of writes that failed or took nothing of a piece that is not empty; it never falls.
+    /// The count of writes that failed or took nothing of a piece that is not empty; it never
+    /// falls.
     ghost faults: { Self → ℕ };
 
-    /// A write of that piece, which took so many of its bytes (0 where it failed), leads from the first sink to the second. Code
-    /// that is generic over its sink knows no other way from one sink to the next, so by this it tells which pieces it wrote, in
-    /// which order, and that no write follows a failed one (`IsWritten`, `IsCutOff`).
+    /// A write of that piece, which took so many of its bytes (0 where it failed), leads from the
+    /// first sink to the second. Code that is generic over its sink knows no other way from one
+    /// sink to the next, so by this it tells which pieces it wrote, in which order, and that no
+    /// write follows a failed one (`IsWritten`, `IsCutOff`).
     ghost writes: { Self → List ℕ → ℕ → Self → Type 0 };
 
     /// Appends the first bytes of the piece, and answers how many.
     ///
-    /// `SinkFailed`, and 0 for a piece that is not empty, come only where the count of faults rose in this call. After
-    /// `SinkFailed` what was written is as before.
+    /// `SinkFailed`, and 0 for a piece that is not empty, come only where the count of faults
+    /// rose in this call. After `SinkFailed` what was written is as before.
     fn write(&mut self, bytes: &[u8]) -> Result<usize, SinkFailed>
         ensures writes { writes self.old bytes.now (taken_by result) self.new }
         ensures within { IfOk result (λ count. count ≤ length bytes.now) }

@@ -21,8 +21,9 @@ impl Error for SourceFailed {}
 
 /// A place that gives the bytes of an input piece by piece.
 ///
-/// As POSIX's `read`, it may fill a part of a piece, and fills nothing of one that is not empty only at the end. So the bytes
-/// that are left are the same whatever the pieces are in which they come.
+/// As POSIX's `read`, it may fill a part of a piece, and fills nothing of one that is not empty
+/// only at the end. So the bytes that are left are the same whatever the pieces are in which they
+/// come.
 pub trait Source {
     /// The bytes that are left to read, where the source tells them.
     ghost left: { Self → Option (List ℕ) };
@@ -30,14 +31,15 @@ pub trait Source {
     /// The count of reads that failed; it never falls.
     ghost faults: { Self → ℕ };
 
-    /// A read that gave these bytes, or failed, leads from the first source to the second. Code that is generic over its source
-    /// knows no other way from one source to the next, so by this it tells what its reads gave, and in which order.
+    /// A read that gave these bytes, or failed, leads from the first source to the second. Code
+    /// that is generic over its source knows no other way from one source to the next, so by this
+    /// it tells what its reads gave, and in which order.
     ghost reads: { Self → Option (List ℕ) → Self → Type 0 };
 
     /// Puts the next bytes at the front of the piece, and answers how many.
     ///
-    /// 0 for a piece that is not empty comes only at the end. `SourceFailed` comes only where the count of faults rose in
-    /// this call, and then as many bytes are left as before.
+    /// 0 for a piece that is not empty comes only at the end. `SourceFailed` comes only where the
+    /// count of faults rose in this call, and then as many bytes are left as before.
     fn read(&mut self, piece: &mut [u8]) -> Result<usize, SourceFailed>
         ensures reads { reads self.old (given_by result piece.new) self.new }
         ensures within { IfOk result (λ count. count ≤ length piece.old) }

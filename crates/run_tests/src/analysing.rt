@@ -36,7 +36,8 @@ static REPORTS: [Row; 8] = [
         &["p mcg 4 3\ne 1 2\ne 2 3\ne 3 4\n"],
         "graph 4 3\ncomponents 1\nbipartite yes\nmatching 2\ndeficiency 0\nD\nA\nC 1 2 3 4\nallowed 1 3\ncovered no edge 2\n",
     ),
-    // comments, blanks, leading zeros, line ends of carriage return and line feed, no last line feed
+    // comments, blanks, leading zeros, line ends of carriage return and line feed, no last line
+    // feed
     (
         &[
             "c from the lab\r\n\r\np  mcg 04 6\r\ne 1 2\r\ne 1  3\r\ne 1 4\r\n e 2\t3\r\ne 2 4\r\ne 3 4",
@@ -115,7 +116,8 @@ fn named_cycle(alloc: Global, n: u32) -> Result<String, Fail> {
     Ok(text)
 }
 
-// Pieces of the report on the cycle of 128 vertices; it begins with the first and ends with the last.
+// Pieces of the report on the cycle of 128 vertices; it begins with the first and ends with the
+// last.
 static PIECES: [&str; 5] = [
     "graph 128 128\ncomponents 1\nbipartite yes\nmatching 64\ndeficiency 0\nD\nA\nC 1 2 3 ",
     "\ncovered yes\nclasses 2\nclass 1 3 5 ",
@@ -208,8 +210,8 @@ fn reports_of_graph6(rt: HostRuntime) -> Result<(), Fail> {
     Ok(())
 }
 
-// Numbers of bytes of the file of the complete graph of four vertices, from one to another, and the status and the report on so many of
-// its bytes.
+// Numbers of bytes of the file of the complete graph of four vertices, from one to another, and
+// the status and the report on so many of its bytes.
 static PREFIXES: [(usize, usize, Status, &str); 14] = [
     (0, 8, Status::BadInput, "file 1 line 1 kind 1\n"),
     (9, 10, Status::BadInput, "file 1 line 2 kind 7\n"),
@@ -227,7 +229,8 @@ static PREFIXES: [(usize, usize, Status, &str); 14] = [
     (45, 46, Status::Done, K4_REPORT),
 ];
 
-// Whether the first bytes of the file, for each number of them from one to another, have this status and this report.
+// Whether the first bytes of the file, for each number of them from one to another, have this
+// status and this report.
 fn prefixes_answer(
     alloc: Global,
     from: usize,

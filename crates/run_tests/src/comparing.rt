@@ -1,5 +1,5 @@
-//! Worked comparisons of two trees, and their refusals; and over a table of graphs each derivation with each other: the script between
-//! them is replayed.
+//! Worked comparisons of two trees, and their refusals; and over a table of graphs each
+//! derivation with each other: the script between them is replayed.
 use crate::graphs::{
     HEXAGON, HEXAGON_TREE, K4, OCTAGON, OTHER_HEXAGON_TREE, TRIANGLE_IN_K33, TWO_EDGES, TWO_K4,
     cycle,
@@ -47,7 +47,7 @@ static SAME_LEAVES: [Row; 4] = [
     ),
 ];
 
-// Two trees of the hexagon, of which one is no derivation.
+// Two trees of the hexagon, of which one is not a derivation.
 static REFUSED: [Row; 2] = [
     (
         &[HEXAGON, HEXAGON_TREE, "t mcg 6\nleaf\n"],
@@ -107,7 +107,8 @@ fn a_graph_that_is_not_covered(rt: HostRuntime) -> Result<(), Fail> {
     Ok(())
 }
 
-// Whether two derivations are paired, and the script between them makes of the first a tree with whose text the second begins.
+// Whether two derivations are paired, and the script between them makes of the first a tree with
+// whose text the second begins.
 fn leads_over(alloc: Global, graph: &str, first: &str, second: &str) -> Result<bool, Fail> {
     let paired = report(alloc, &COMPARE, &[graph, first, second])?;
     let script = report(alloc, &SCRIPT, &[graph, first, second])?;

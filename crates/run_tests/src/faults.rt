@@ -1,5 +1,5 @@
-//! Faults of the outside, over all commands: each read and each write fails in turn, each file is missing in turn, the room is too small,
-//! and nothing fails.
+//! Faults of the outside, over all commands: each read and each write fails in turn, each file is
+//! missing in turn, the room is too small, and nothing fails.
 use crate::graphs::{
     CUBE, HEXAGON, HEXAGON_TREE, K4, NAMED_CYCLE, OTHER_HEXAGON_TREE, PATH, PRISM, TWO_EDGES,
 };
@@ -9,8 +9,8 @@ use outside::{CountSink, MemShelf, MemSink};
 use std::alloc::Global;
 use std::test::Fail;
 
-// Runs of each command that are done or refused, and two whose last file is outside its format: the words, the files that they name,
-// and the status.
+// Runs of each command that are done or refused, and two whose last file is outside its format:
+// the words, the files that they name, and the status.
 static RUNS: [(&[&str], &[&str], Status); 24] = [
     (&["analyse", "g"], &[K4], Status::Done),
     (&["analyse", "g"], &[TWO_EDGES], Status::Done),
@@ -120,7 +120,8 @@ fn needs_file(alloc: Global, words: &[&str], files: &[&str], place: usize) -> Re
     is_read_fault(alloc, words, shelf_without(alloc, files, place)?)
 }
 
-// Whether this is so where the read call of each file fails in turn, and where each file is missing in turn.
+// Whether this is so where the read call of each file fails in turn, and where each file is
+// missing in turn.
 fn needs_each_file(alloc: Global, words: &[&str], files: &[&str]) -> Result<bool, Fail> {
     for (call, (place, _)) in (1..=3).zip(files.iter().enumerate()) {
         if !needs_read(alloc, words, files, call)? || !needs_file(alloc, words, files, place)? {
@@ -130,7 +131,8 @@ fn needs_each_file(alloc: Global, words: &[&str], files: &[&str]) -> Result<bool
     Ok(true)
 }
 
-// Whether a write fault comes over a sink of this room, which takes 16 bytes a call, and the room is full of the beginning of the report.
+// Whether a write fault comes over a sink of this room, which takes 16 bytes a call, and the room
+// is full of the beginning of the report.
 fn fills_room(
     alloc: Global,
     words: &[&str],
@@ -156,8 +158,8 @@ fn fills_rooms(alloc: Global, words: &[&str], files: &[&str]) -> Result<bool, Fa
     Ok(true)
 }
 
-// Whether a write fault comes over a sink that takes 16 bytes a call, where each write call fails in turn, and what was written is the
-// pieces of the report before it.
+// Whether a write fault comes over a sink that takes 16 bytes a call, where each write call fails
+// in turn, and what was written is the pieces of the report before it.
 fn stops_at_each_write(alloc: Global, words: &[&str], files: &[&str]) -> Result<bool, Fail> {
     let (_, whole) = ran(alloc, words, files)?;
     let mut before = Vec::new(alloc);

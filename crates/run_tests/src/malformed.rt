@@ -1,4 +1,5 @@
-//! Files outside their format: for each format each row of its table of faults, with the line and the kind of the first fault.
+//! Files outside their format: for each format each row of its table of faults, with the line and
+//! the kind of the first fault.
 use crate::graphs::{HEXAGON, HEXAGON_TREE, K4, OTHER_HEXAGON_TREE, TWO_EDGES};
 use crate::trial::{Row, answers, first_wrong};
 use bench_top::Status;
@@ -287,8 +288,8 @@ fn moves_that_are_too_long(rt: HostRuntime) -> Result<(), Fail> {
     Ok(())
 }
 
-// Words, the first two of their files, of which one ends too early, and its number. The graph comes first, and a graph that is not
-// covered is told of only where the other file is good.
+// Words, the first two of their files, of which one ends too early, and its number. The graph
+// comes first, and a graph that is not covered is told of only where the other file is good.
 static EARLY_ENDS: [(&[&str], [&str; 2], u32); 11] = [
     (&["check", "g", "s"], ["p mcg 2 1\n", "t mcg 6\ncut\n"], 1),
     (&["check", "g", "s"], [TWO_EDGES, "t mcg 4\n"], 2),

@@ -18,7 +18,7 @@ static MADE: [Row; 2] = [
     ),
 ];
 
-// Moves that fail, and a tree that is no derivation.
+// Moves that fail, and a tree that is not a derivation.
 static FAILED: [Row; 4] = [
     (
         &[HEXAGON, HEXAGON_TREE, "m mcg 6\nrotate .\n"],

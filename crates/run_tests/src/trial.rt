@@ -81,7 +81,8 @@ pub fn answers(
     Ok(answer == status && written.as_str() == report)
 }
 
-/// The place of the first row whose files give another answer than this status, or another report than the row's.
+/// The place of the first row whose files give another answer than this status, or another report
+/// than the row's.
 pub fn first_wrong(
     alloc: Global,
     words: &[&str],

@@ -1,4 +1,5 @@
-//! The runner of all formats: a text is read and written again, and that is what the row of a table says.
+//! The runner of all formats: a text is read and written again, and that is what the row of a
+//! table says.
 ghost use Rattle.std.specs.Prelude.{◌<◌, ◌≤◌, ◌-◌, ◌^◌, length};
 
 use ear_text::{read_ears, write_ears};

@@ -80,13 +80,15 @@ fn known_texts(rt: HostRuntime) -> Result<(), Fail> {
     Ok(())
 }
 
-// Long texts, with the number of vertices and the second and last of their edges; the first one joins 1 and 2.
+// Long texts, with the number of vertices and the second and last of their edges; the first one
+// joins 1 and 2.
 static LONG_TEXTS: [(LongText, u32, (u32, u32)); 2] = [
     (("~??~_", "?", 324, "G"), 63, (62, 63)),
     (("~?A?_", "?", 1353, "C"), 128, (127, 128)),
 ];
 
-// Whether the text stands for the graph of `n` vertices with the first edge and this last one, and is the text of this graph.
+// Whether the text stands for the graph of `n` vertices with the first edge and this last one,
+// and is the text of this graph.
 fn has_two_edges(alloc: Global, parts: &LongText, n: u32, last: (u32, u32)) -> Result<bool, Fail> {
     let text = long_text(alloc, parts)?;
     let stands = stands_for(alloc, text.as_bytes(), n, &[(1, 2), last])?;

@@ -1,5 +1,5 @@
-//! Lists that are told line by line: the output and the ending of each, in pieces of every small size, with a read that fails, and
-//! with too little room for the output.
+//! Lists that are told line by line: the output and the ending of each, in pieces of every small
+//! size, with a read that fails, and with too little room for the output.
 ghost use Rattle.std.specs.Prelude.{◌==◌, if◌then◌else◌};
 ghost use Rattle.std.specs.declared.option.Option.TheVariants.{Some, None};
 ghost use Rattle.text_faults.specs.declared.faults.FaultKind.TheVariants.{Missing};
@@ -10,7 +10,8 @@ use std::alloc::{AllocError as Memory, Global};
 use std::test::Fail;
 use text_faults::FaultKind;
 
-// Tells a line by its number and the line itself, and calls one bad that holds a `!`; a list without lines is bad.
+// Tells a line by its number and the line itself, and calls one bad that holds a `!`; a list
+// without lines is bad.
 struct Copyist;
 
 impl LineTeller for Copyist {
@@ -82,8 +83,16 @@ static ROWS: [Row; 17] = [
     ("C~\n>>graph6<<\n", "1 C~\n2 >>graph6<<\n", Wanted::Done),
     ("C~\n\0\nA_\n", "1 C~\n2 \0\n3 A_\n", Wanted::Done),
     ("!", "", Wanted::Bad(1, FaultKind::Range, "!")),
-    ("C~\n!\nA_\n", "1 C~\n", Wanted::Bad(2, FaultKind::Range, "!\n")),
-    (">>graph6<<\nC~\nA!", "2 C~\n", Wanted::Bad(3, FaultKind::Range, "A!")),
+    (
+        "C~\n!\nA_\n",
+        "1 C~\n",
+        Wanted::Bad(2, FaultKind::Range, "!\n"),
+    ),
+    (
+        ">>graph6<<\nC~\nA!",
+        "2 C~\n",
+        Wanted::Bad(3, FaultKind::Range, "A!"),
+    ),
     (
         "C~\nA_\n!!!!!!!!!!!!!!!!!!\n",
         "1 C~\n2 A_\n",
@@ -163,12 +172,21 @@ fn the_room_is_too_small(rt: HostRuntime) -> Result<(), Fail> {
     for room in 0..whole.len() {
         let source = in_pieces(rt.alloc(), "C~\nA_\n!\n", 4)?;
         let sink = MemSink::new(rt.alloc(), room, 100)?;
-        assert!(rt; is_told(rt.alloc(), source, sink, &Wanted::WriteFault, &whole[..room]));
+        assert!(rt;
+            is_told(
+                rt.alloc(),
+                source,
+                sink,
+                &Wanted::WriteFault,
+                &whole[..room]
+            )
+        );
     }
     Ok(())
 }
 
-// The length of a line, the number of bytes that are written of it, and how many bytes of its text are kept where it is too long.
+// The length of a line, the number of bytes that are written of it, and how many bytes of its
+// text are kept where it is too long.
 static LONG_LINES: [(usize, usize, Option<usize>); 4] = [
     (65_535, 65_538, None),
     (65_536, 0, Some(65_537)),
@@ -176,7 +194,8 @@ static LONG_LINES: [(usize, usize, Option<usize>); 4] = [
     (10_000_000, 0, Some(131_072)),
 ];
 
-// Whether the ending keeps so many bytes of a first line that is too long, or is that of a list that was told.
+// Whether the ending keeps so many bytes of a first line that is too long, or is that of a list
+// that was told.
 fn keeps(ending: &Ending, kept: Option<usize>) -> bool {
     match (ending, kept) {
         (Ending::Done, None) => true,

@@ -87,7 +87,8 @@ fn a_move_made_and_written(rt: HostRuntime) -> Result<(), Fail> {
     Ok(())
 }
 
-/// Texts of moves over 1 to 6 with the longest path and the longest list, and with one more, and the fault of this one.
+/// Texts of moves over 1 to 6 with the longest path and the longest list, and with one more, and
+/// the fault of this one.
 pub const LONG_MOVES: [(LongText, Option<(u32, FaultKind)>); 4] = [
     (("m mcg 6\nrotate ", "k", 127, "\n"), None),
     (

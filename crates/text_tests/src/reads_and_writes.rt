@@ -1,4 +1,5 @@
-//! What is read and written through the outside: each form is used once with ample memory, and the two forms of the runtime meet a real file and a real output.
+//! What is read and written through the outside: each form is used once with ample memory, and
+//! the two forms of the runtime meet a real file and a real output.
 use outside::{
     CountSink, DirShelf, MemShelf, MemSink, OutSink, Shelf, ShelfFault, Sink, SinkFailed,
 };
@@ -11,7 +12,8 @@ const K4: &[u8] = b"p mcg 4 6\ne 1 2\ne 1 3\ne 1 4\ne 2 3\ne 2 4\ne 3 4\n";
 // The bytes of a file, or why it is not read.
 type Read = Result<&'static [u8], ShelfFault>;
 
-// The reads of a shelf, one after the other: a name, how many bytes are taken at most, and what is read. `K4` has 46 bytes.
+// The reads of a shelf, one after the other: a name, how many bytes are taken at most, and what
+// is read. `K4` has 46 bytes.
 static READS: [(&str, u32, Read); 7] = [
     ("k4", 46, Ok(K4)),
     ("k4", 45, Err(ShelfFault::TooLong)),
@@ -56,8 +58,8 @@ fn mem_shelf_reads_what_was_put(rt: HostRuntime) -> Result<(), Fail> {
     Ok(())
 }
 
-// The writes into a sink for 24 bytes, at most 16 in one write, of which the second fails: the bytes, the answer, and all that is
-// written by then.
+// The writes into a sink for 24 bytes, at most 16 in one write, of which the second fails: the
+// bytes, the answer, and all that is written by then.
 static WRITES: [(&[u8], Result<usize, SinkFailed>, &[u8]); 5] = [
     (
         b"graph 4 6\ncomponents 1\nbipartite no\n",

@@ -1,10 +1,12 @@
-//! What is read through a source: each form is used once, and the form of the runtime meets a real file.
+//! What is read through a source: each form is used once, and the form of the runtime meets a
+//! real file.
 use outside::{InSource, MemSink, MemSource, Source, SourceFailed, emit};
 use std::alloc::{AllocError as Memory, Global};
 use std::fs;
 use std::test::Fail;
 
-// The reads of a source, one after the other: the room for a portion, at most 8 bytes, and the portion.
+// The reads of a source, one after the other: the room for a portion, at most 8 bytes, and the
+// portion.
 static PORTIONS: [(usize, Result<&[u8], SourceFailed>); 8] = [
     (8, Ok(b"C~")),
     (8, Ok(b"\n")),

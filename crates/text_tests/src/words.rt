@@ -29,7 +29,7 @@ fn lines(rt: HostRuntime) {
     }
 }
 
-// Words, with their numbers; none where one of them is no number.
+// Words, with their numbers; none where one of them is not a number.
 static NUMBERS: [(&[&[u8]], Option<&[u32]>); 2] = [
     (&[b"e", b"12", b"0003"], None),
     (&[b"12", b"0003"], Some(&[12, 3])),
