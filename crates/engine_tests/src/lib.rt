@@ -82,6 +82,8 @@ mod orders;
 #[cfg(test)]
 mod pairs;
 #[cfg(test)]
+mod premises;
+#[cfg(test)]
 mod quick_lists;
 #[cfg(test)]
 mod quotients;
