@@ -5,4 +5,5 @@ pub mod Faults
 pub mod Reasons
 pub mod LinesAt
 pub mod Messages
+pub mod ListMessages
 pub mod Usage

@@ -1,12 +1,12 @@
-//! The words that `mcg` says to a person on standard error, and what `--help` and `--version`
-//! answer.
+//! The words that `mcg` and `mcg6` say to a person on standard error, and what `--help` and
+//! `--version` answer.
 //!
 //! A message is a list of pieces (`Piece`): a text, a number, or bytes of the outside, shown so
 //! that they can stand in a line. `say` writes one to a sink: whole, or where the sink fails a
-//! beginning of it (`Says`). Main definitions, in specs/: `usage_text` of `Usage`, with the table
-//! of commands; `fault_words` and `note_words` of `Faults`, what the kinds of faults in a file
+//! beginning of it (`Says`). Main definitions, in specs/: `usage_text` and
+//! `list_usage_text` of `Usage`, with the tables of commands; `fault_words` and `note_words` of `Faults`, what the kinds of faults in a file
 //! are, with the headers and the limits of the formats; `reason_words` of `Reasons`, why a file
-//! cannot be read; and the texts of `Messages`, one for each ending that needs words. Main
+//! cannot be read; and the texts of `Messages` and `ListMessages`, one for each ending that needs words. Main
 //! promises: each function `say_..` says its text, and takes no memory.
 //!
 //! Stands on `line_text` for the lines of a file, and on `outside` for the sinks and for the
@@ -15,6 +15,7 @@
 
 mod faults;
 mod lines;
+mod list_messages;
 mod messages;
 mod pieces;
 mod reasons;
@@ -23,8 +24,9 @@ mod table;
 
 pub use faults::{Role, fault_words, note_words};
 pub use lines::line_at;
+pub use list_messages::{say_bad_line, say_unread_list};
 pub use messages::{BadFile, say_bad_file, say_unread};
 pub use pieces::{Piece, say};
 pub use reasons::reason_words;
 pub use showing::say_bytes;
-pub use table::{usage, version};
+pub use table::{list_usage, list_version, usage, version};

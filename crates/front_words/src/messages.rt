@@ -10,10 +10,11 @@ use crate::pieces::say;
 use crate::reasons::reason_words;
 use outside::{Reason, Sink, SinkFailed};
 
-// The most bytes of a name that are shown, and of a line.
+// The most bytes of a name that are shown.
 const MOST_OF_NAME: u32 = 4096;
 
-const MOST_OF_LINE: u32 = 60;
+/// The most bytes of a line that are shown.
+pub const MOST_OF_LINE: u32 = 60;
 
 /// A file that is outside its format.
 #[derive(Clone, Copy, Drop)]
@@ -67,8 +68,8 @@ fn say_too_long<'a, K: Sink>(
     say(sink, &[Text(program), Text(": "), name, Text(words)])
 }
 
-// The line, where it is known and is not empty.
-fn some_line(text: Option<&[u8]>) -> Option<&[u8]>
+/// The line, where it is known and is not empty. Takes no memory.
+pub fn some_line(text: Option<&[u8]>) -> Option<&[u8]>
     ensures { option_map (λ line. line.now) result ≡
         some_line (option_map (λ line. line.now) text.entry) }
 {
@@ -91,7 +92,7 @@ fn say_outside<'a, K: Sink>(
 {
     let by = Text(program);
     let name = Shown(bad.name.as_bytes(), MOST_OF_NAME);
-    let line = Number(bad.line);
+    let line = Number(bad.line as u64);
     let what = Text(fault_words(bad.role, bad.kind));
     let note = Text(note_words(bad.role, bad.kind));
     let end = Text("\n");

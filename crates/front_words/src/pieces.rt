@@ -13,7 +13,7 @@ pub enum Piece<'a> {
     /// This text.
     Text(&'a str),
     /// This number, in decimal.
-    Number(u32),
+    Number(u64),
     /// These bytes of the outside, as they can stand in a line, and of them at most so many
     /// characters.
     Shown(&'a [u8], u32),

@@ -1,6 +1,6 @@
-//! The usage, with the table of commands, and the version.
+//! The usage of each program, with its table of commands, and its version.
 ghost use Rattle.std.specs.Prelude.{◌≡◌};
-ghost use Rattle.front_words.specs.Usage.{usage_text, version_text};
+ghost use Rattle.front_words.specs.Usage.{list_usage_text, list_version_text, usage_text, version_text};
 
 /// The usage: how the program is called, and the table of commands, each with what it is for. A
 /// word in capitals stands for another.
@@ -26,6 +26,22 @@ pub const VERSION: &str = "mcg 0.2.0
 rattle-kit-13f logic dac8208d650f15bf
 ";
 
+/// The usage of the program for lists. A word in brackets may be left out.
+pub const LIST_USAGE: &str = "usage: mcg6 COMMAND WORDS.. <LIST
+  kinds [FILE]                 a line for each graph: its kind, its bricks and its braces
+  leaves [ORDER] [FILE]        a line for each leaf of its decomposition, as a graph
+  graph [FILE]                 the file of one graph, for mcg
+  select WHAT [FILE]           the lines whose graph has a property
+ORDER is first, last or balanced. WHAT is covered, uncovered, brick, brace, bicritical,
+composite, bricks=K or braces=K. The list has a graph in graph6 on each line, and is
+standard input or FILE. FORMATS.md has the lines that mcg6 writes.
+";
+
+/// The version of the program for lists, and the kit that it is proved with.
+pub const LIST_VERSION: &str = "mcg6 0.2.0
+rattle-kit-13f logic dac8208d650f15bf
+";
+
 /// The usage. Takes no memory.
 #[tactic(auto, unfolding(crate::specs::Usage::usage_text))]
 pub fn usage() -> &'static str
@@ -40,4 +56,20 @@ pub fn version() -> &'static str
     ensures { result.now ≡ version_text }
 {
     VERSION
+}
+
+/// The usage of the program for lists. Takes no memory.
+#[tactic(auto, unfolding(crate::specs::Usage::list_usage_text))]
+pub fn list_usage() -> &'static str
+    ensures { result.now ≡ list_usage_text }
+{
+    LIST_USAGE
+}
+
+/// The version of the program for lists. Takes no memory.
+#[tactic(auto, unfolding(crate::specs::Usage::list_version_text))]
+pub fn list_version() -> &'static str
+    ensures { result.now ≡ list_version_text }
+{
+    LIST_VERSION
 }

@@ -20,4 +20,4 @@ mod status;
 
 pub use plan::file_name;
 pub use running::{run, run_to_ending};
-pub use status::Status;
+pub use status::{Status, status_of};

@@ -31,7 +31,7 @@ impl Status {
     }
 }
 
-// The status of a list that ended so.
+/// The status of a list that ended so. Takes no memory.
 pub fn status_of(ending: &Ending) -> Status
     ensures status { result ≡ status_of ending.now }
     ensures usage { result ≢ Status.Usage }

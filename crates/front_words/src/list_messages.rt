@@ -1,0 +1,111 @@
+//! The messages on lists of graphs.
+ghost use Rattle.std.specs.Prelude.{◌≡◌, None};
+ghost use Rattle.std.specs.Option.{option_map};
+ghost use Rattle.front_words.specs.ListMessages.{bad_line_text, line_kept, list_fault, unread_list_text};
+ghost use Rattle.front_words.specs.Saying.{Says};
+
+use crate::faults::{Role, fault_words};
+use crate::lines::line_at;
+use crate::messages::{MOST_OF_LINE, say_unread, some_line};
+use crate::pieces::Piece::{Number, Shown, Text};
+use crate::pieces::say;
+use crate::reasons::reason_words;
+use outside::{Reason, Sink, SinkFailed};
+
+// The most bytes of a line of a list.
+const MOST_LINE: usize = 65536;
+
+/// Says that a list could not be read, the one in the file of that name or, with none, that of
+/// standard input, and why. Takes no memory.
+pub fn say_unread_list<'a, K: Sink>(
+    sink: &mut K,
+    program: &'a str,
+    name: Option<&'a str>,
+    reason: Option<Reason>,
+) -> Result<(), SinkFailed>
+    ensures { Says K.written K.faults
+        (unread_list_text program.now (option_map (λ name. name.now) name.entry) reason) result
+        sink.old sink.new }
+{
+    match name {
+        Some(name) => say_unread(sink, program, name, reason),
+        None => say_unread_input(sink, program, reason),
+    }
+}
+
+// Says that standard input could not be read, and why.
+fn say_unread_input<'a, K: Sink>(
+    sink: &mut K,
+    program: &'a str,
+    reason: Option<Reason>,
+) -> Result<(), SinkFailed>
+    ensures { Says K.written K.faults (unread_list_text program.now None reason) result sink.old
+        sink.new }
+{
+    let why = Text(reason_words(reason));
+    let words = Text(": cannot read standard input: ");
+    say(sink, &[Text(program), words, why, Text("\n")])
+}
+
+// A fault of that kind in a line of a list with this text: the empty text is that of a line which
+// is missing at the end of the list.
+fn list_fault(kind: u32, text: &[u8]) -> &'static str
+    ensures { result.now ≡ list_fault kind text.now }
+{
+    if kind == 7 && text.is_empty() {
+        "the list ends before a graph"
+    } else if kind == 6 && text.len() > MOST_LINE {
+        "it has more than 65,536 bytes, the most that a line of a list may have"
+    } else {
+        fault_words(Role::Graph6, kind)
+    }
+}
+
+// The line of this text, without its line feed, unless nothing is in it.
+fn line_kept(text: &[u8]) -> Option<&[u8]>
+    ensures { option_map (λ line. line.now) result ≡ line_kept text.now }
+{
+    some_line(line_at(text, 1))
+}
+
+/// Says of the first bad line of a list its number and what is wrong with it, and the line,
+/// unless it is empty. The number of its kind of fault is given, and its text with its line end,
+/// as far as it was kept; the text is empty where the line is missing. Takes no memory.
+pub fn say_bad_line<'a, K: Sink>(
+    sink: &mut K,
+    program: &'a str,
+    number: u64,
+    kind: u32,
+    text: &'a [u8],
+) -> Result<(), SinkFailed>
+    ensures { Says K.written K.faults (bad_line_text program.now number kind text.now) result
+        sink.old sink.new }
+{
+    let by = Text(program);
+    let line = Number(number);
+    let what = Text(list_fault(kind, text));
+    let end = Text("\n");
+    match line_kept(text) {
+        Some(kept) => {
+            let kept = Shown(kept, MOST_OF_LINE);
+            say(
+                sink,
+                &[
+                    by,
+                    Text(": line "),
+                    line,
+                    Text(": "),
+                    what,
+                    end,
+                    by,
+                    Text(": line "),
+                    line,
+                    Text(" is: "),
+                    kept,
+                    end,
+                ],
+            )
+        }
+        None => say(sink, &[by, Text(": line "), line, Text(": "), what, end]),
+    }
+}

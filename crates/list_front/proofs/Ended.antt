@@ -1,0 +1,47 @@
+-- What an ending gives, if there is one, is what the run gives with the status of that ending.
+-- With no ending the words match no command, so there is no command to speak of.
+use Rattle.std.proofs.Common.{◌≡◌, ◌∙◌, ℕ, List, refl, subst, sym}
+use Rattle.std.proofs.lemmas.Option.{none-some}
+use Rattle.std.specs.Prelude.{◌↔◌}
+use Rattle.std.specs.declared.option.Option.{Option}
+use Rattle.std.specs.declared.option.Option.TheVariants.{Some, None}
+use Rattle.list_reader.specs.declared.ending.Ending.{Ending}
+use Rattle.list_reader.specs.Endings.{Appended, TellsList}
+use Rattle.list_top.specs.Commands.{Command}
+use Rattle.list_top.specs.Listings.{TellsLineOf, IsBadLine, lacks_of}
+use Rattle.list_top.specs.Outcomes.{EndsWith, Outcome, Streams, StreamsTo, TellsSome}
+use Rattle.list_top.specs.declared.status.Status.{Status}
+use Rattle.list_top.proofs.Ended.{appended_outcome, tells_some}
+use Rattle.list_front.specs.Words.{status_in}
+
+-- where there is a command, there is an ending
+pub ended : (ending : Option Ending) (command : Option Command) (asked : Command) → (ending ≡ None ↔ (command ≡ None)) → command ≡ Some asked →
+    ending ≡ None → ⊥
+ended ending command asked usage is none = none-some asked (sym (usage.0 none) ∙ is)
+
+pub ending_outcome :
+    (asked : Command) (bytes : List ℕ) (ending : Option Ending) (status : Status) (before now : Option (List ℕ)) → status ≡ status_in ending →
+    (ending ≡ None → ⊥) → ((last : Ending) → ending ≡ Some last → Appended (EndsWith asked.query bytes last) before now) →
+    Appended (Outcome asked.query bytes status) before now
+ending_outcome asked bytes None status before now is some gives = absurd (some refl)
+ending_outcome asked bytes (Some last) status before now is some gives =
+    subst (λ (s : Status). Appended (Outcome asked.query bytes s) before now) (sym is)
+    (appended_outcome asked.query bytes last before now (gives last refl))
+
+pub ending_tells :
+    (asked : Command) (ending : Option Ending) (status : Status) (left before now : Option (List ℕ)) → status ≡ status_in ending →
+    (ending ≡ None → ⊥) →
+    ((last : Ending) → ending ≡ Some last → TellsList (TellsLineOf asked.query) (IsBadLine asked.query) (lacks_of asked.query) last left before now) →
+    TellsSome asked.query status left before now
+ending_tells asked None status left before now is some tells = absurd (some refl)
+ending_tells asked (Some last) status left before now is some tells =
+    subst (λ (s : Status). TellsSome asked.query s left before now) (sym is) (tells_some asked.query last left before now (tells last refl))
+
+pub ending_streams :
+    {S K : Type 0} (asked : Command) (reads : S → Option (List ℕ) → S → Type 0) (written : K → Option (List ℕ)) (writes : K → List ℕ → ℕ → K → Type 0)
+    (ending : Option Ending) (status : Status) (first : S) (before : K) (last : S) (now : K) → status ≡ status_in ending → (ending ≡ None → ⊥) →
+    ((e : Ending) → ending ≡ Some e → StreamsTo asked.query reads written writes e first before last now) →
+    Streams asked.query reads written writes status first before last now
+ending_streams asked reads written writes None status first before last now is some streams = absurd (some refl)
+ending_streams asked reads written writes (Some e) status first before last now is some streams =
+    record { ending = e; of_status = is; stream = streams e refl }

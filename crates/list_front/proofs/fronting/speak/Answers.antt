@@ -1,0 +1,34 @@
+use Rattle.list_front.proofs.Ended.{ended, ending_outcome, ending_streams, ending_tells}
+use Rattle.list_front.proofs.fronting.speak.Goals as goal
+
+pub returns-clause-runs : goal.returns-clause-runs
+returns-clause-runs g c =
+    let run = c.run_to_ending-ending in
+    let of = c.status_in.ensures in
+    record {
+      usage = (λ e. run.ensures.usage.0 (of.usage.0 e), λ none. of.usage.1 (run.ensures.usage.1 none));
+      unread = λ e. run.ensures.unread (of.usage.0 e);
+      nothing = λ e. run.ensures.nothing (of.usage.0 e);
+      read_fault = λ e. run.ensures.read_fault (of.read_fault e);
+      write_fault = λ e. run.ensures.write_fault (of.write_fault e);
+      outcome = λ command bytes is left.
+          ending_outcome command bytes run.result _ _ _ of.status (ended _ _ command run.ensures.usage is)
+          (λ last at. run.ensures.outcome command bytes last is left at);
+      tells = λ command is.
+          ending_tells command run.result _ _ _ _ of.status (ended _ _ command run.ensures.usage is)
+          (λ last at. run.ensures.tells command last is at);
+      torn = λ command is e. run.ensures.torn command is (of.read_fault e);
+      streams = λ command is.
+          ending_streams command _ _ _ run.result _ _ _ _ _ of.status (ended _ _ command run.ensures.usage is)
+          (λ last at. run.ensures.streams command last is at);
+    }
+
+pub returns-clause-speaks : goal.returns-clause-speaks
+returns-clause-speaks g c = λ loud.
+    let said = rw (c.file_name.ensures, c.is_abandoned.ensures) at (c.say_unless_quiet.ensures.says loud) in
+    record {
+      ending = c.run_to_ending-ending.result;
+      of_status = c.status_in.ensures.status;
+      tells = λ asked last is at. c.run_to_ending-ending.ensures.tells asked last is at;
+      said = said;
+    }

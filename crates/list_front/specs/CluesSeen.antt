@@ -1,0 +1,12 @@
+-- How the code's clues are seen.
+use Rattle.std.specs.Option.{option_map}
+use Rattle.list_front.specs.Words.{Known}
+use Rattle.list_front.specs.declared.speaking.Clues.{Clues}
+
+-- what is known, with the bytes of the name
+abbrev pub known_by : Clues → Known
+known_by clues = record {
+  name = option_map (λ name. name.now) clues.name;
+  reason = clues.reason;
+  is_abandoned = clues.is_abandoned;
+}

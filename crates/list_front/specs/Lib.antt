@@ -1,0 +1,5 @@
+pub mod Answers
+pub mod Words
+pub mod CluesSeen
+pub mod Runs
+pub mod Speaks

@@ -1,0 +1,42 @@
+-- What goes to the sinks of the front.
+use Rattle.std.specs.Prelude.{◌≡◌, ◌⊎◌, ℕ, List, Bool}
+use Rattle.std.specs.declared.option.Option.{Option}
+use Rattle.std.specs.declared.option.Option.TheVariants.{Some}
+use Rattle.std.specs.declared.result.Result.{Result}
+use Rattle.outside.specs.Faults.{Rose}
+use Rattle.outside.specs.declared.explain.Reason.{Reason}
+use Rattle.outside.specs.Sink.{appended}
+use Rattle.outside.specs.declared.sink.SinkFailed.{SinkFailed}
+use Rattle.list_reader.specs.declared.ending.Ending.{Ending}
+use Rattle.list_reader.specs.Endings.{TellsList}
+use Rattle.list_top.specs.Commands.{Command, file_of}
+use Rattle.list_top.specs.Listings.{TellsLineOf, IsBadLine, lacks_of}
+use Rattle.list_top.specs.declared.status.Status.{Status}
+use Rattle.list_top.specs.declared.status.Status.TheVariants.{Done, WriteFault}
+use Rattle.front_words.specs.Saying.{IsBegun, Says}
+use Rattle.list_front.specs.Words.{status_in, words_of}
+
+-- the text was said, whole or up to a fault of the sink
+pub record IsSaid {E : Type 0} (written : E → Option (List ℕ)) (faults : E → ℕ) (text : List ℕ) (before now : E) : Type 0 where
+  pub answer : Result (Unit {0}) SinkFailed
+  pub says : Says {F = SinkFailed} written faults text answer before now
+
+-- what was said after a run of the command that ended with this status: the words for the ending
+-- of the list, up to which what was written is what the command asks of the lines; so a bad line
+-- that is named is the first of the list. Given why the list cannot be read, whether nobody reads
+-- the output any more, what was left of the source, and what the sink had before and has now
+pub record Speaks {E : Type 0} (written : E → Option (List ℕ)) (faults : E → ℕ) (command : Option Command) (ended : Status)
+    (reason : Option Reason) (is_abandoned : Bool) (left sink_before sink_now : Option (List ℕ)) (before now : E) : Type 0 where
+  pub ending : Option Ending
+  pub of_status : ended ≡ status_in ending
+  pub tells : (asked : Command) (last : Ending) → command ≡ Some asked → ending ≡ Some last
+      → TellsList (TellsLineOf asked.query) (IsBadLine asked.query) (lacks_of asked.query) last left sink_before sink_now
+  pub said : IsSaid written faults (words_of ending (record { name = file_of command; reason = reason; is_abandoned = is_abandoned })) before now
+
+-- a text was the whole answer: it was written whole and all is done, or a beginning of it where
+-- the sink failed
+pub record Answers {K : Type 0} (written : K → Option (List ℕ)) (faults : K → ℕ) (text : List ℕ) (ended : Status) (before now : K) : Type 0 where
+  pub ends : (ended ≡ Done) ⊎ (ended ≡ WriteFault)
+  pub whole : ended ≡ Done → written now ≡ appended (written before) text
+  pub begun : IsBegun text (written before) (written now)
+  pub failed : ended ≡ WriteFault → Rose (faults before) (faults now)

@@ -1,0 +1,50 @@
+-- What is said of each ending.
+use Rattle.std.specs.Prelude.{ℕ, List, [], codes, Bool, if◌then◌else◌}
+use Rattle.std.specs.declared.option.Option.{Option}
+use Rattle.std.specs.declared.option.Option.TheVariants.{Some, None}
+use Rattle.outside.specs.declared.explain.Reason.{Reason}
+use Rattle.text_faults.specs.Kinds.{kind_number}
+use Rattle.list_reader.specs.declared.ending.Ending.{Ending}
+use Rattle.list_reader.specs.declared.ending.Ending.TheVariants.{Done, Bad, ReadFault, WriteFault, Memory}
+use Rattle.list_top.specs.Statuses.{status_of}
+use Rattle.list_top.specs.declared.status.Status.{Status}
+use Rattle.list_top.specs.declared.status.Status.TheVariants.{Usage}
+use Rattle.front_words.specs.ListMessages.{bad_line_text, unread_list_text}
+use Rattle.front_words.specs.Usage.{list_usage_text}
+
+-- the name of the program
+abbrev pub program : List ℕ
+program = codes "mcg6"
+
+-- what is known of the faults of a run: the name of the file that holds the list, if it is not
+-- standard input, why the list cannot be read, and that nobody reads the output any more
+pub record Known : Type 0 where
+  pub name : Option (List ℕ)
+  pub reason : Option Reason
+  pub is_abandoned : Bool
+
+-- the status of a run that ended so; with no ending the words matched no command
+abbrev pub status_in : Option Ending → Status
+status_in None = Usage
+status_in (Some ending) = status_of ending
+
+-- where the output could not be written; nothing where nobody reads it any more
+abbrev pub unwritten_words : (is_abandoned : Bool) → List ℕ
+unwritten_words is_abandoned = if is_abandoned then [] else codes "mcg6: the output could not be written whole\n"
+
+-- where memory ran out
+abbrev pub memory_words : List ℕ
+memory_words = codes "mcg6: memory ran out; what was written is of the first lines alone\n"
+
+-- what is said of a list that ended so; nothing where each line was told
+abbrev pub list_words : Ending → Known → List ℕ
+list_words Done known = []
+list_words (Bad found) known = bad_line_text program found.number (kind_number found.kind) found.text.items
+list_words ReadFault known = unread_list_text program known.name known.reason
+list_words WriteFault known = unwritten_words known.is_abandoned
+list_words Memory known = memory_words
+
+-- what is said of a run that ended so
+abbrev pub words_of : Option Ending → Known → List ℕ
+words_of None known = list_usage_text
+words_of (Some ending) known = list_words ending known

@@ -1,0 +1,107 @@
+//! What is said of each ending.
+ghost use Rattle.std.specs.Prelude.{◌≡◌, ◌↔◌, [], None, Some};
+ghost use Rattle.front_words.specs.Saying.{Says};
+ghost use Rattle.list_front.specs.CluesSeen.{known_by};
+ghost use Rattle.list_front.specs.Words.{list_words, memory_words, status_in, unwritten_words, words_of};
+
+use front_words::{list_usage, say_bad_line, say_bytes, say_unread_list};
+use list_reader::Ending;
+use list_top::{Status, status_of};
+use outside::{Reason, Sink, SinkFailed};
+
+// The name of the program.
+const PROGRAM: &str = "mcg6";
+
+/// What is known of the faults of a run.
+#[derive(Clone, Copy, Drop)]
+pub struct Clues<'a> {
+    /// The name of the file that holds the list, if it is not standard input.
+    pub name: Option<&'a str>,
+    /// Why the list cannot be read, where that is known.
+    pub reason: Option<Reason>,
+    /// Nobody reads the output any more.
+    pub is_abandoned: bool,
+}
+
+/// The status of a run that ended so; with no ending the words matched no command.
+pub fn status_in(ending: &Option<Ending>) -> Status
+    ensures status { result ≡ status_in ending.now }
+    ensures usage { result ≡ Status.Usage ↔ (ending.now ≡ None) }
+    ensures read_fault { result ≡ Status.ReadFault → ending.now ≡ Some Ending.ReadFault }
+    ensures write_fault { result ≡ Status.WriteFault → ending.now ≡ Some Ending.WriteFault }
+{
+    match ending {
+        Some(ending) => status_of(ending),
+        None => Status::Usage,
+    }
+}
+
+// Says nothing.
+fn say_nothing<E: Sink>(_errors: &mut E) -> Result<(), SinkFailed>
+    ensures { Says E.written E.faults [] result _errors.old _errors.new }
+{
+    Ok(())
+}
+
+/// Says what the ending of a run means, or with no ending that the words matched no command;
+/// nothing where each line was told. Takes no memory.
+pub fn say_ending<'a, E: Sink>(
+    errors: &mut E,
+    ending: &Option<Ending>,
+    clues: Clues<'a>,
+) -> Result<(), SinkFailed>
+    ensures { Says E.written E.faults (words_of ending.now (known_by clues.entry)) result
+        errors.old errors.new }
+{
+    match ending {
+        Some(ending) => say_list_ending(errors, ending, clues),
+        None => say_bytes(errors, list_usage().as_bytes()),
+    }
+}
+
+// Says how a list ended; nothing where each line was told.
+fn say_list_ending<'a, E: Sink>(
+    errors: &mut E,
+    ending: &Ending,
+    clues: Clues<'a>,
+) -> Result<(), SinkFailed>
+    ensures { Says E.written E.faults (list_words ending.now (known_by clues.entry)) result
+        errors.old errors.new }
+{
+    match ending {
+        Ending::Done => say_nothing(errors),
+        Ending::Bad { found } => {
+            say_bad_line(
+                errors,
+                PROGRAM,
+                found.number,
+                found.kind.number(),
+                &found.text,
+            )
+        }
+        Ending::ReadFault => say_unread_list(errors, PROGRAM, clues.name, clues.reason),
+        Ending::WriteFault => say_unwritten(errors, clues.is_abandoned),
+        Ending::Memory => say_out_of_memory(errors),
+    }
+}
+
+// Says that the output could not be written, unless nobody reads it any more.
+fn say_unwritten<E: Sink>(errors: &mut E, is_abandoned: bool) -> Result<(), SinkFailed>
+    ensures { Says E.written E.faults (unwritten_words is_abandoned) result errors.old errors.new }
+{
+    if is_abandoned {
+        say_nothing(errors)
+    } else {
+        say_bytes(errors, b"mcg6: the output could not be written whole\n")
+    }
+}
+
+// Says that memory ran out.
+fn say_out_of_memory<E: Sink>(errors: &mut E) -> Result<(), SinkFailed>
+    ensures { Says E.written E.faults memory_words result errors.old errors.new }
+{
+    say_bytes(
+        errors,
+        b"mcg6: memory ran out; what was written is of the first lines alone\n",
+    )
+}
