@@ -3,6 +3,7 @@ pub mod AnalysesExist
 pub mod BarrierShores
 pub mod BrickFacts
 pub mod BrickNumbers
+pub mod BuiltExist
 pub mod CoarserPartitions
 pub mod CoarserQuotients
 pub mod CommandOrders
@@ -21,14 +22,18 @@ pub mod HetyeiSides
 pub mod LaminarFamilies
 pub mod LeafKindLists
 pub mod MatchedParts
+pub mod MovedShores
 pub mod NamedCuts
+pub mod NamesRead
 pub mod NarrowCuts
 pub mod Neighbourhoods
 pub mod NestedCuts
+pub mod OutcomesExist
 pub mod PartitionSides
 pub mod PickedDerivations
 pub mod PlainDecompositions
 pub mod QuotientCounts
+pub mod ReplaysExist
 pub mod ReportsExist
 pub mod SidesAcrossCuts
 pub mod ThreeConnected

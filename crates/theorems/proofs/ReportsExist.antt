@@ -1,17 +1,13 @@
 -- For every two trees, every tree and every list of ears there is a report: a refusal is found
 -- where the rules are not kept, and where they are, the leaves have kinds and a script leads from
 -- the first derivation to the second.
-use Rattle.std.proofs.Common.{◌≡◌, ◌⊎◌, ℕ, zero, suc, ◌-◌, ◌<◌, List, [], ◌∷◌, length, refl, ap, subst, sym, arith, inl, inr}
-use Rattle.std.specs.Prelude.{slice_index_or}
+use Rattle.std.proofs.Common.{◌≡◌, ◌⊎◌, ℕ, List, length, refl, subst, sym, inl, inr}
 use Rattle.counting.specs.Counts.{Within}
-use Rattle.cut_laws.proofs.Quotients.{bipartite-or}
 use Rattle.definition_laws.proofs.Reasons.{covered_or_reason}
 use Rattle.graph_core.proofs.Decide.{reason-uncovered}
-use Rattle.graph_core.proofs.QuotientTight.{quotient_graph}
 use Rattle.graph_core.specs.Covered.{IsCovered, IsReason, Reason, Small, Parted, Unmatched, Unallowed}
 use Rattle.graph_core.specs.Graph.{Graph, IsGraph, IsMultigraph, size}
-use Rattle.graph_core.specs.Partitions.{IsPartition, singles}
-use Rattle.graph_core.specs.Quotients.{quotient}
+use Rattle.graph_core.specs.Partitions.{singles}
 use Rattle.graph_core.specs.Verdicts.{reason_of}
 use Rattle.graph_core.specs.declared.verdict.Reason.{Reason as ToldReason}
 use Rattle.graph_core.specs.declared.verdict.Reason.TheVariants as told
@@ -31,20 +27,17 @@ use Rattle.tree_core.specs.Shapes.{Shape}
 use Rattle.report_text.specs.Comparisons.{pairing_text}
 use Rattle.report_text.specs.Judgements.{ear_judgement_text, judgement_text}
 use Rattle.report_text.specs.Reports.{verdict_text}
-use Rattle.tree_core.specs.Tallies.{IsLeafKind, IsTally, tally_of}
 use Rattle.report_text.specs.declared.ear_judgements.EarLine.TheVariants as ear_line
 use Rattle.report_text.specs.declared.judgements.TreeLine.TheVariants as line
-use Rattle.tree_core.specs.declared.tallies.LeafKind.{LeafKind}
-use Rattle.tree_core.specs.declared.tallies.LeafKind.TheVariants.{Brick, Brace}
-use Rattle.tree_core.specs.declared.tallies.Tally.{Tally}
 use Rattle.bench_outcomes.specs.Checks.{CheckGives, RefusedTree, shown_of}
-use Rattle.bench_outcomes.specs.Comparisons.{CompareGives, lines_of}
+use Rattle.bench_outcomes.specs.Comparisons.{CompareGives, Compared, RefusesPair, lines_of}
 use Rattle.bench_outcomes.specs.EarChecks.{EarCheckGives, double_count, named_edge, single_count}
 use Rattle.bench_outcomes.specs.EarChecks as ear
 use Rattle.bench_outcomes.specs.Uncovered.{Uncovered}
 use Rattle.bench_outcomes.specs.declared.status.Status.{Status}
 use Rattle.bench_outcomes.specs.declared.status.Status.TheVariants.{Done, Negative}
 use Rattle.theorems.proofs.EarRefusals.{ears_or_refusal}
+use Rattle.theorems.proofs.LeafKindLists.{tally-exists}
 
 -- each reason is one that is told
 told_reason : (r : Reason) → (c : ToldReason) × (reason_of c ≡ r)
@@ -69,37 +62,15 @@ covered_or_told g is = elim (covered_or_reason g is.ends) [
   )
 ]
 
--- the kinds of leaves, one after another
-kind_first : (g : Graph) (p : List (List ℕ)) (ps : List (List (List ℕ))) (kind : LeafKind) (kinds : List LeafKind) → IsLeafKind g p kind →
-    ((k : ℕ) → k < length ps → IsLeafKind g (slice_index_or ps k []) (slice_index_or kinds k Brick)) →
-    (k : ℕ) → k < length (p ∷ ps) → IsLeafKind g (slice_index_or (p ∷ ps) k []) (slice_index_or (kind ∷ kinds) k Brick)
-kind_first g p ps kind kinds is rest zero l = is
-kind_first g p ps kind kinds is rest (suc k) l = rest k (omega arith)
-
-kinds_of : (g : Graph) → IsGraph g → (ps : List (List (List ℕ))) → ((k : ℕ) → k < length ps → IsPartition g.order (slice_index_or ps k [])) →
-    (kinds : List LeafKind) × (length kinds ≡ length ps) × ((k : ℕ) → k < length ps → IsLeafKind g (slice_index_or ps k []) (slice_index_or kinds k Brick))
-kinds_of g is [] parts = ([], refl, λ k l. absurd (omega arith))
-kinds_of g is (p ∷ ps) parts =
-    let rest = kinds_of g is ps (λ k l. parts (suc k) (omega arith)) in
-    elim (bipartite-or (quotient g p) (quotient_graph g p is (parts 0 (omega arith)).partition)) [
-      | inl even ↦ (Brace ∷ rest.0, ap suc rest.1, kind_first g p ps Brace rest.0 even rest.2)
-      | inr odd ↦ (Brick ∷ rest.0, ap suc rest.1, kind_first g p ps Brick rest.0 odd rest.2)
-    ]
-
-pub tally_exists : (g : Graph) (t : Shape) → IsGraph g → IsDerivation g t → (tally : Tally) × IsTally g (leaves g.order t) tally
-tally_exists g t is d =
-    let k = kinds_of g is (leaves g.order t) (λ k l. partitions-leaves g t d k [] l) in
-    (tally_of k.0, record { kinds = k.0; right = record { each_one = k.1; right = λ i w. k.2 (i - 1) (omega arith) }; is = refl })
-
 -- the report on a refused tree
-refused_tree : (g : Graph) (t : Shape) (place : ℕ) → ((node : ℕ) × (why : Why) × IsRefused g t node why) → (output : List ℕ) × RefusedTree g t place Negative output
+pub refused_tree : (g : Graph) (t : Shape) (place : ℕ) → ((node : ℕ) × (why : Why) × IsRefused g t node why) → (output : List ℕ) × RefusedTree g t place Negative output
 refused_tree g t place r = (judgement_text (line.Refused place r.0 (why_number r.1) (shown_of r.1)), record { node = r.0; why = r.1; refused = r.2; negative = refl; text = refl })
 
 pub check-exists : (g : Graph) (t : Shape) → IsMultigraph g → HasShores g.order t → (status : Status) × (output : List ℕ) × CheckGives g t status output
 check-exists g t is shores = elim (covered_or_told g is) [
   | inr u ↦ (Negative, u.0, inr (inr u.1))
   | inl cov ↦ elim (derived-or_refused g is.ends t cov shores) [
-    | inl d ↦ let tally = tally_exists g t is.ends d in (Done, judgement_text (line.Accepted tally.0), inl (record { derivation = d; tally = tally.0; counts = tally.1; done = refl; text = refl }))
+    | inl d ↦ let tally = tally-exists g is.ends (leaves g.order t) (partitions-leaves g t d) in (Done, judgement_text (line.Accepted tally.0), inl (record { derivation = d; tally = tally.0; counts = tally.1; done = refl; text = refl }))
     | inr r ↦ let told = refused_tree g t 1 r in (Negative, told.0, inr (inl told.1))
   ]
 ]
@@ -113,32 +84,39 @@ ear_check-exists g list is start = elim (covered_or_told g is) [
   ]
 ]
 
-pub comparison-exists : (g : Graph) (s t : Shape) → IsMultigraph g → HasShores g.order s → HasShores g.order t → (status : Status) × (output : List ℕ) × CompareGives g s t status output
-comparison-exists g s t is fs ft = elim (covered_or_told g is) [
-  | inr u ↦ (Negative, u.0, inr (inr (inr u.1)))
+-- two trees are derivations, or there is a report that refuses one of them
+pub derived_or_refused_pair : (g : Graph) (s t : Shape) → IsMultigraph g → HasShores g.order s → HasShores g.order t → (IsDerivation g s × IsDerivation g t) ⊎ ((output : List ℕ) × RefusesPair g s t Negative output)
+derived_or_refused_pair g s t is fs ft = elim (covered_or_told g is) [
+  | inr u ↦ inr (u.0, inr (inr u.1))
   | inl cov ↦ elim (derived-or_refused g is.ends s cov fs) [
-    | inr r ↦ let told = refused_tree g s 1 r in (Negative, told.0, inr (inl told.1))
+    | inr r ↦ let told = refused_tree g s 1 r in inr (told.0, inl told.1)
     | inl ds ↦ elim (derived-or_refused g is.ends t cov ft) [
-      | inr r ↦ let told = refused_tree g t 2 r in (Negative, told.0, inr (inr (inl (ds, told.1))))
-      | inl dt ↦ both ds dt
+      | inr r ↦ let told = refused_tree g t 2 r in inr (told.0, inr (inl (ds, told.1)))
+      | inl dt ↦ inl (ds, dt)
     ]
   ]
 ]
-  where
-    both : IsDerivation g s → IsDerivation g t → (status : Status) × (output : List ℕ) × CompareGives g s t status output
-    both ds dt =
-        let st = singles_stage g is.ends ds.covered in
-        let rs = rising-derivation_at g (singles g.order) s ds.derives in
-        let r = compare_law g (singles g.order) s t st rs ds.derives (rising-derivation_at g (singles g.order) t dt.derives) dt.derives in (
-          Done,
-          pairing_text r.0 (lines_of 0 (leaves g.order s) (script_maps g.order s r.0)),
-          inl (record {
-            moves = r.0;
-            script = record { first = ds; second = dt; turns = script_through g s r.0 t ds.covered r.1; few = r.2 };
-            maps = script_maps g.order s r.0;
-            of_moves = refl;
-            paired = script_pairs g s t r.0 st rs ds.derives r.1;
-            done = refl;
-            text = refl;
-          }),
-        )
+
+-- a script of moves from the one to the other pairs their leaves
+pub compared : (g : Graph) (s t : Shape) → IsGraph g → IsDerivation g s → IsDerivation g t → (output : List ℕ) × Compared g s t Done output
+compared g s t is ds dt =
+    let st = singles_stage g is ds.covered in
+    let rs = rising-derivation_at g (singles g.order) s ds.derives in
+    let r = compare_law g (singles g.order) s t st rs ds.derives (rising-derivation_at g (singles g.order) t dt.derives) dt.derives in (
+      pairing_text r.0 (lines_of 0 (leaves g.order s) (script_maps g.order s r.0)),
+      record {
+        moves = r.0;
+        script = record { first = ds; second = dt; turns = script_through g s r.0 t ds.covered r.1; few = r.2 };
+        maps = script_maps g.order s r.0;
+        of_moves = refl;
+        paired = script_pairs g s t r.0 st rs ds.derives r.1;
+        done = refl;
+        text = refl;
+      },
+    )
+
+pub comparison-exists : (g : Graph) (s t : Shape) → IsMultigraph g → HasShores g.order s → HasShores g.order t → (status : Status) × (output : List ℕ) × CompareGives g s t status output
+comparison-exists g s t is fs ft = elim (derived_or_refused_pair g s t is fs ft) [
+  | inr refused ↦ (Negative, refused.0, inr refused.1)
+  | inl both ↦ let told = compared g s t is.ends both.0 both.1 in (Done, told.0, inl told.1)
+]

@@ -1,16 +1,19 @@
 -- What the outputs of the program tell, in the words of a textbook: the Gallai-Edmonds sets, a
 -- tight cut decomposition, a pairing of the leaves of two decompositions, the kind of a graph, an
 -- ear decomposition, a script of moves.
-use Rattle.std.specs.Prelude.{◌≡◌, ◌↔◌, ℕ, List, All, Some, false}
+use Rattle.std.specs.Prelude.{◌≡◌, ◌↔◌, ℕ, List, All, Some, false, length}
 use Rattle.std.specs.List.{AllByRecursion}
+use Rattle.std.specs.Option.{ForSome}
 use Rattle.counting.specs.Lists.{Lists, mem}
 use Rattle.graph_core.specs.GallaiEdmonds.{InA, InC, InD}
 use Rattle.graph_core.specs.Graph.{Graph, IsBipartite, size}
 use Rattle.graph_core.specs.Partitions.{singles}
 use Rattle.graph_core.specs.Structure.{IsBicritical, IsCutPair}
 use Rattle.graph_core.specs.Tight.{HasNoTightCut, IsNontrivial, IsTight}
+use Rattle.graph_core.specs.View.{IsWithinLimits}
 use Rattle.graph_core.specs.declared.verdict.Kind.TheVariants.{Brace, Brick, Composite}
 use Rattle.graph_text.specs.EitherVersion.{NamedGraph}
+use Rattle.graph_text.specs.Names.{AreNames}
 use Rattle.tree_core.specs.LeafMaps.{PlainLeafMap, leaf_at, map_at}
 use Rattle.tree_core.specs.Leaves.{leaves}
 use Rattle.tree_core.specs.Moves.{PlainMove, TurnsThrough}
@@ -84,3 +87,9 @@ pub record TellsScript (g : Graph) (s t : Shape) (output : List ℕ) : Type 0 wh
   pub moves : List PlainMove
   pub turns : TurnsThrough g s moves t
   pub stands : Stands (move_format g.order) output moves
+
+-- what a graph file can hold: a multigraph of at most 128 vertices and 2048 edges, and names, if
+-- there are any, that differ, one for each vertex
+pub record IsGiven (named : NamedGraph) : Type 0 where
+  pub limits : IsWithinLimits named.graph
+  pub names : ForSome named.names (λ names. AreNames names × (length names ≡ named.graph.order))

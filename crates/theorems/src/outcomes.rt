@@ -1,22 +1,25 @@
 //! Outcomes: what the program tells is what a textbook says.
 //!
 //! Each law here is the contract of a function that does nothing.
-ghost use Rattle.std.specs.Prelude.{◌≡◌, ℕ, List, [], ◌∷◌, codes};
+ghost use Rattle.std.specs.Prelude.{◌≡◌, ◌⊎◌, ℕ, List, [], ◌∷◌, Some, codes};
 ghost use Rattle.counting.specs.Counts.{Within};
 ghost use Rattle.outside.specs.Shelf.{Named};
 ghost use Rattle.graph_core.specs.Covered.{IsCovered};
 ghost use Rattle.graph_core.specs.Graph.{Graph, IsMultigraph, size};
 ghost use Rattle.graph_text.specs.EitherVersion.{NamedGraph};
 ghost use Rattle.tree_core.specs.Derivations.{IsDerivation};
+ghost use Rattle.tree_core.specs.Moves.{PlainMove};
 ghost use Rattle.tree_core.specs.Shapes.{Shape};
 ghost use Rattle.tree_check.specs.Refusals.{HasShores};
 ghost use Rattle.ear_core.specs.EarLists.{PlainEars};
-ghost use Rattle.bench_tasks.specs.Loading.{All, graph_file, pick_file, trees_given};
-ghost use Rattle.bench_tasks.specs.Tasks.{Analyse, Analyse6, Check, CheckEars, Compare};
+ghost use Rattle.bench_tasks.specs.Commands.{Command, command_of};
+ghost use Rattle.bench_tasks.specs.Loading.{Absent, All, graph_file, loaded, pick_file, trees_given};
+ghost use Rattle.bench_tasks.specs.Tasks.{Analyse, Analyse6, Check, CheckEars, Compare, Convert, Decompose, DecomposeBy, Ears, Grow, Replay, Script, Task};
+ghost use Rattle.decomposer.specs.declared.orders.NamedOrder.{NamedOrder};
 ghost use Rattle.bench_outcomes.specs.Outcome.{Outcome, ResultOf};
 ghost use Rattle.bench_outcomes.specs.declared.status.Status.{Status};
 ghost use Rattle.bench_outcomes.specs.declared.status.Status.TheVariants.{Done};
-ghost use Rattle.theorems.specs.Outcomes.{TellsDecomposition, TellsEars, TellsKind, TellsPairing, TellsScript, TellsSets};
+ghost use Rattle.theorems.specs.Outcomes.{IsGiven, TellsDecomposition, TellsEars, TellsKind, TellsPairing, TellsScript, TellsSets};
 
 /// For every graph file, `analyse` tells the Gallai-Edmonds sets D, A and C. For every matching
 /// covered graph and every order of choice, `decompose` tells a tree of nontrivial tight cuts
@@ -68,23 +71,52 @@ pub fn headline_law()
         → (status ≡ Done) × TellsEars named.graph output }
 {}
 
-/// There is a report: for every graph one of `analyse` and one of `analyse6`, for every tree of
-/// cuts one of `check`, for every list of ears one of `checkears`, and for every two trees of
-/// cuts one of `compare`. So the clauses on what is reported speak of something, whatever memory
-/// does. A tree is one that a file can hold, with shores that are sets without the greatest
-/// vertex.
+/// There is a report: for every graph one of `analyse`, one of `analyse6` and one of `ears`, and
+/// one of `decompose` in each order of choice and for each list of picks; for every tree of cuts
+/// one of `check`, and one of `replay` for each list of moves; for every list of ears one of
+/// `checkears`; for every two trees of cuts one of `compare` and one of `script`; and for every
+/// seed and number of pieces one of `grow`. So the clauses on what is reported speak of something,
+/// whatever memory does. A tree is one that a file can hold, with shores that are sets without the
+/// greatest vertex, and where the text of a report is to be read again, a graph is one that a file
+/// can hold. So each command whose files load has a report, and each command has an outcome or
+/// names a file that is missing.
 pub fn report_exists_law()
     ensures analyse { (named : NamedGraph) → IsMultigraph named.graph →
         (status : Status) × (output : List ℕ) × ResultOf (Analyse named) status output }
     ensures analyse6 { (g : Graph) → IsMultigraph g →
         (status : Status) × (output : List ℕ) × ResultOf (Analyse6 g) status output }
+    ensures convert { (named : NamedGraph) → IsGiven named →
+        (status : Status) × (output : List ℕ) × ResultOf (Convert named) status output }
+    ensures decompose { (named : NamedGraph) (order : NamedOrder) → IsGiven named →
+        (status : Status) × (output : List ℕ) ×
+        ResultOf (Decompose named order) status output }
+    ensures decompose_by { (named : NamedGraph) (picks : List ℕ) → IsGiven named →
+        (status : Status) × (output : List ℕ) ×
+        ResultOf (DecomposeBy named picks) status output }
     ensures check { (named : NamedGraph) (t : Shape) → IsMultigraph named.graph →
         HasShores named.graph.order t →
         (status : Status) × (output : List ℕ) × ResultOf (Check named t) status output }
     ensures check_ears { (named : NamedGraph) (list : PlainEars) → IsMultigraph named.graph →
         Within (size named.graph) list.start →
         (status : Status) × (output : List ℕ) × ResultOf (CheckEars named list) status output }
+    ensures ears { (named : NamedGraph) → IsMultigraph named.graph →
+        (status : Status) × (output : List ℕ) × ResultOf (Ears named) status output }
+    ensures replay { (named : NamedGraph) (t : Shape) (moves : List PlainMove) →
+        IsMultigraph named.graph → HasShores named.graph.order t →
+        (status : Status) × (output : List ℕ) × ResultOf (Replay named t moves) status output }
     ensures compare { (named : NamedGraph) (s t : Shape) → IsMultigraph named.graph →
         HasShores named.graph.order s → HasShores named.graph.order t →
         (status : Status) × (output : List ℕ) × ResultOf (Compare named s t) status output }
+    ensures script { (named : NamedGraph) (s t : Shape) → IsGiven named →
+        HasShores named.graph.order s → HasShores named.graph.order t →
+        (status : Status) × (output : List ℕ) × ResultOf (Script named s t) status output }
+    ensures grow { (seed pieces : ℕ) →
+        (status : Status) × (output : List ℕ) × ResultOf (Grow seed pieces) status output }
+    ensures task { (files : List Named) (command : Command) (task : Task) →
+        loaded files command ≡ All task →
+        (status : Status) × (output : List ℕ) × ResultOf task status output }
+    ensures outcome { (words : List (List ℕ)) (files : List Named) (command : Command) →
+        command_of words ≡ Some command →
+        ((file : ℕ) × (loaded files command ≡ Absent file)) ⊎
+        ((status : Status) × (output : List ℕ) × Outcome words files status output) }
 {}

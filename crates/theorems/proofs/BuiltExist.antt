@@ -1,0 +1,164 @@
+-- For every graph there is a report of `ears`, of `convert` and, in each order of choice, of
+-- `decompose`, and for every seed one of `grow`. A covered graph has an ear decomposition, and in
+-- each order a derivation; names that a file gives are words, and so the texts are read again.
+use Rattle.std.proofs.Common.{◌≡◌, ℕ, zero, suc, ◌+◌, ◌-◌, ◌≤◌, List, length, map, true, Option, Some, None, refl, sym, subst, arith, inl, inr}
+use Rattle.std.specs.Option.{ForSome}
+use Rattle.contraction.specs.Partition.{PartitionValue}
+use Rattle.ear_core.proofs.Stepping.{covered-edge}
+use Rattle.ear_text.specs.Writing.{ears_text}
+use Rattle.graph_core.specs.Covered.{IsCovered}
+use Rattle.graph_core.specs.Graph.{Graph, IsGraph, IsMultigraph, size}
+use Rattle.graph_core.specs.View.{IsWithinLimits}
+use Rattle.graph_text.proofs.NameLists.{AreNames-more}
+use Rattle.graph_text.proofs.NamedReadBack.{Stands-named_text}
+use Rattle.graph_text.proofs.PlainNames.{is_name-plain, length-plain_names, plain-fresh, plain_names-more, plain_names-none}
+use Rattle.graph_text.specs.EitherVersion.{NamedGraph}
+use Rattle.graph_text.specs.Names.{AreNames, plain_name, plain_names}
+use Rattle.graph_text.specs.Writing.{FitsNames, graph_text, named_text}
+use Rattle.grow_gen.proofs.SoundGrowth.{IsSound, sound-first, sound-next}
+use Rattle.grow_gen.specs.Growth.{Growth, first_growth, grown, growth_from, with_piece}
+use Rattle.grow_gen.specs.Pieces.{further_piece}
+use Rattle.rand_pcg.specs.Lcg.{Lcg, increment_of, started}
+use Rattle.rand_pcg.specs.Pcg.{multiplier_64, pcg32}
+use Rattle.report_text.proofs.CommentLines.{given_names-commented}
+use Rattle.report_text.proofs.Comments.{commented-none}
+use Rattle.tree_core.proofs.FewLeaves.{blocks-of_leaves}
+use Rattle.report_text.specs.Comments.{IsCommented}
+use Rattle.report_text.specs.Derivations.{derivation_text}
+use Rattle.report_text.specs.EarReports.{ears_report_text}
+use Rattle.report_text.specs.Growths.{grown_text}
+use Rattle.report_text.specs.Reports.{with_names_text}
+use Rattle.tree_core.specs.Tallies.{AreLeafKinds}
+use Rattle.tree_core.specs.declared.tallies.Tally.{Tally}
+use Rattle.tight_cuts.specs.Candidates.{Candidate}
+use Rattle.tree_core.proofs.DerivationLeaves.{partitions-leaves}
+use Rattle.tree_core.specs.Derivations.{IsDerivation}
+use Rattle.tree_core.specs.Leaves.{leaves, partitions_of}
+use Rattle.tree_core.specs.Shapes.{Shape}
+use Rattle.tree_text.specs.Writing.{tree_text}
+use Rattle.bench_outcomes.proofs.DerivationTexts.{told}
+use Rattle.bench_outcomes.proofs.GrownSizes.{grown-multigraph}
+use Rattle.bench_outcomes.specs.EarChecks.{EarsGives, double_count, single_count}
+use Rattle.bench_outcomes.specs.Growths.{Grown, IsCounted}
+use Rattle.decomposer.specs.Orders.{NamedPicks}
+use Rattle.bench_outcomes.specs.Outcome.{Converted, DecomposeGives, TellsDerivation, given_or_plain, with_given_names}
+use Rattle.bench_outcomes.specs.declared.status.Status.{Status}
+use Rattle.bench_outcomes.specs.declared.status.Status.TheVariants.{Done, Negative}
+use Rattle.decomposer.specs.declared.orders.NamedOrder.{NamedOrder}
+use Rattle.decomposer.specs.declared.orders.NamedOrder.TheVariants.{First, Last}
+use Rattle.bench_top.proofs.ReadGraphs.{IsRead}
+use Rattle.bench_top.proofs.TextsStand.{stands-derived}
+use Rattle.theorems.proofs.CommandOrders.{named-some}
+use Rattle.theorems.proofs.EarSteps.{ear-list-exists}
+use Rattle.theorems.proofs.LeafKindLists.{kinds-by_place, kinds-exist, tally-exists}
+use Rattle.theorems.proofs.PickedDerivations.{PicksSome, picked-tree}
+use Rattle.theorems.proofs.ReportsExist.{compared, covered_or_told}
+use Rattle.theorems.specs.Outcomes.{IsGiven}
+
+-- `ears`
+pub built-exists : (g : Graph) → IsMultigraph g → (status : Status) × (output : List ℕ) × EarsGives g status output
+built-exists g is = elim (covered_or_told g is) [
+  | inr u ↦ (Negative, u.0, inr u.1)
+  | inl cov ↦
+      let made = ear-list-exists g 1 is cov (covered-edge g is cov) in
+      let steps = made.0.steps in (
+        Done,
+        ears_report_text (ears_text g.order (size g) made.0) (length steps) (single_count steps) (double_count steps),
+        inl (record { covered = cov; list = made.0; is = made.1; single = made.3; done = refl; text = refl }),
+      )
+]
+
+-- `convert`: the plain names are names
+plain_names-are : (n : ℕ) → n ≤ 128 → AreNames (plain_names n)
+plain_names-are zero few = subst AreNames (sym plain_names-none) (record { each = tt; differ = λ i j before less. absurd (omega arith); few = omega arith })
+plain_names-are (suc n) few =
+    let all = length-plain_names n in
+    subst AreNames (sym (plain_names-more n))
+    (AreNames-more (plain_names n) (plain_name (suc n)) (plain_names-are n (omega arith)) (is_name-plain (suc n) (omega arith)) (plain-fresh n (suc n) (omega arith) (omega arith)) (omega arith))
+
+fits-names : (g : Graph) (names : Option (List (List ℕ))) → IsWithinLimits g → ForSome names (λ given. AreNames given × (length given ≡ g.order)) → FitsNames g (given_or_plain g.order names)
+fits-names g None limits given = record { multigraph = limits.multigraph; edges = limits.edges; named = plain_names-are g.order limits.vertices; one_each = length-plain_names g.order }
+fits-names g (Some names) limits given = let are = given names refl in record { multigraph = limits.multigraph; edges = limits.edges; named = are.0; one_each = are.1 }
+
+pub converted-exists : (named : NamedGraph) → IsGiven named → (status : Status) × (output : List ℕ) × Converted named status output
+converted-exists named given =
+    let names = given_or_plain named.graph.order named.names in (
+      Done,
+      named_text named.graph names,
+      record { done = refl; text = refl; stands = Stands-named_text named.graph names (fits-names named.graph named.names given.limits given.names) },
+    )
+
+-- `decompose`: the names are comments
+names-commented : (n : ℕ) (report : List ℕ) (names : Option (List (List ℕ))) → ForSome names (λ given. AreNames given × (length given ≡ n)) → IsCommented report (with_given_names report names true)
+unfolding with_names_text
+names-commented n report None given = commented-none report
+names-commented n report (Some names) given = given_names-commented report (with_names_text report names true) names true (length names) (given names refl).0 (omega arith) refl refl
+
+is_read : (g : Graph) → IsWithinLimits g → IsRead g
+is_read g limits = record { ends = limits.multigraph.ends; no_loop = limits.multigraph.no_loop; vertices = limits.vertices; edges = limits.edges }
+
+told-derivation : (named : NamedGraph) (t : Shape) → IsGiven named → IsDerivation named.graph t → (output : List ℕ) × TellsDerivation named t Done output
+told-derivation named t given d =
+    let g = named.graph in
+    let n = g.order in
+    let kinds = kinds-exist g given.limits.multigraph.ends (leaves n t) (partitions-leaves g t d) in
+    let right = kinds-by_place g (leaves n t) kinds.0 kinds.1 in
+    let found = partitions_of n (leaves n t) in
+    let shown = subst (λ (ps : List (List (List ℕ))). AreLeafKinds g ps kinds.0) (sym (blocks-of_leaves n (leaves n t))) right in
+    let text = tree_text n t in
+    let report = derivation_text text g (map (λ (p : PartitionValue). p.blocks) found) kinds.0 in
+    let bytes = with_given_names report named.names true in
+    (bytes, told named t n found text text report bytes kinds.0 given.limits d refl refl refl (stands-derived g t (is_read g given.limits) d) refl shown refl refl (names-commented n report named.names given.names))
+
+pub decomposition-exists : (picks : List Candidate → ℕ → ℕ → Type 0) (named : NamedGraph) → PicksSome picks → IsGiven named → (status : Status) × (output : List ℕ) × DecomposeGives picks named status output
+decomposition-exists picks named some given = elim (covered_or_told named.graph given.limits.multigraph) [
+  | inr u ↦ (Negative, u.0, inr u.1)
+  | inl cov ↦
+      let t = picked-tree picks some named.graph given.limits.multigraph.ends cov in
+      let tells = told-derivation named t.0 given t.1 in
+      (Done, tells.0, inl (record { tree = t.0; picked = t.2; told = tells.1 }))
+]
+
+-- `grow`: what holds of each graph on the way
+sound-from : (i n : ℕ) (words : Lcg) (s : Growth) → IsSound i s → IsSound (i + n) (growth_from i n words s)
+unfolding growth_from
+sound-from i zero words s is = subst (λ (k : ℕ). IsSound k s) (let e : i ≡ i + zero = omega arith in e) is
+sound-from i (suc n) words s is =
+    let next = with_piece s (further_piece i) (pcg32 words).0 (pcg32 (pcg32 words).1).0 in
+    subst (λ (k : ℕ). IsSound k (growth_from (i + 1) n (pcg32 (pcg32 words).1).1 next)) (let e : i + 1 + n ≡ i + suc n = omega arith in e)
+    (sound-from (i + 1) n (pcg32 (pcg32 words).1).1 next (sound-next i s is (pcg32 words).0 (pcg32 (pcg32 words).1).0))
+
+grown-covered : (seed pieces : ℕ) → IsCovered (grown seed pieces)
+unfolding grown
+grown-covered seed pieces = (sound-from 0 (pieces - 1) (started 64 multiplier_64 seed (increment_of 64 1)) first_growth sound-first).covered
+
+counted-in : (order : NamedOrder) (g : Graph) → IsGraph g → IsCovered g → (t : Shape) × (tally : Tally) × IsCounted (NamedPicks order) g t tally
+counted-in order g is cov =
+    let t = picked-tree (NamedPicks order) (named-some order) g is cov in
+    let tally = tally-exists g is (leaves g.order t.0) (partitions-leaves g t.0 t.1) in
+    (t.0, tally.0, record { derivation = t.1; picked = t.2; counts = tally.1 })
+
+pub grown-exists : (seed pieces : ℕ) → (status : Status) × (output : List ℕ) × Grown seed pieces status output
+grown-exists seed pieces =
+    let g = grown seed pieces in
+    let is = (grown-multigraph seed pieces).ends in
+    let cov = grown-covered seed pieces in
+    let first = counted-in First g is cov in
+    let last = counted-in Last g is cov in
+    let pairing = (compared g first.0 last.0 is first.2.derivation last.2.derivation).1 in
+    let pairs = length pairing.maps in (
+      Done,
+      grown_text (graph_text g) first.1 last.1 pairs,
+      record {
+        s = first.0;
+        first = first.1;
+        by_first = first.2;
+        t = last.0;
+        last = last.1;
+        by_last = last.2;
+        pairs = pairs;
+        paired = record { maps = pairing.maps; paired = pairing.paired; so_many = refl };
+        done = refl;
+        text = refl;
+      },
+    )
