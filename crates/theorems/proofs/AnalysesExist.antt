@@ -9,7 +9,7 @@ use Rattle.counting.proofs.RisingLists.{mem-rising_list, rising_list-rises}
 use Rattle.counting.specs.Counts.{Within, count}
 use Rattle.counting.specs.Lists.{Lists, rising_list}
 use Rattle.counting.specs.Sets.{Set, none}
-use Rattle.cut_laws.proofs.Quotients.{bipartite-or}
+use Rattle.theorems.proofs.Quotients.{bipartite-or}
 use Rattle.graph_core.proofs.Decide.{is_allowed_found, is_allowed_says, maximum_exists}
 use Rattle.graph_core.specs.Components.{component_count}
 use Rattle.graph_core.specs.Covered.{IsCovered}

@@ -6,7 +6,7 @@ use Rattle.std.proofs.lemmas.List.Sums.{sum_by-append, sum_by-cons}
 use Rattle.std.specs.List.{AllByRecursion}
 use Rattle.std.specs.Prelude.{count_by}
 use Rattle.counting.specs.Counts.{Within}
-use Rattle.cut_laws.proofs.Quotients.{bipartite-or}
+use Rattle.theorems.proofs.Quotients.{bipartite-or}
 use Rattle.graph_core.proofs.QuotientTight.{quotient_graph}
 use Rattle.graph_core.specs.Graph.{Graph, IsBipartite, IsGraph}
 use Rattle.graph_core.specs.Partitions.{IsPartition}

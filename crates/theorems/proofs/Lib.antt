@@ -8,6 +8,7 @@ pub mod CoarserPartitions
 pub mod CoarserQuotients
 pub mod CommandOrders
 pub mod ConnectedShores
+pub mod Counts
 pub mod CubicCovered
 pub mod CubicCuts
 pub mod CubicDegrees
@@ -17,6 +18,7 @@ pub mod EarPaths
 pub mod EarRefusals
 pub mod EarSteps
 pub mod ExtendableGraphs
+pub mod FirstParted
 pub mod HetyeiEars
 pub mod HetyeiSides
 pub mod LaminarFamilies
@@ -29,15 +31,20 @@ pub mod NarrowCuts
 pub mod Neighbourhoods
 pub mod NestedCuts
 pub mod OutcomesExist
+pub mod PairedCounts
+pub mod Parted
 pub mod PartitionSides
 pub mod PickedDerivations
 pub mod PlainDecompositions
 pub mod QuotientCounts
+pub mod Quotients
 pub mod ReplaysExist
 pub mod ReportsExist
+pub mod SameKinds
 pub mod SidesAcrossCuts
 pub mod ThreeConnected
 pub mod ThreeSets
 pub mod ToldFacts
+pub mod TreeNodes
 pub mod TwoExtendable
 pub mod WideNeighbourhoods

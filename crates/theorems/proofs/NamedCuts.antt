@@ -8,7 +8,7 @@ use Rattle.barrier_kit.proofs.CutFacts.{nontrivial-turned, tight-turned}
 use Rattle.barrier_kit.specs.BarrierCuts.{BarrierCut}
 use Rattle.brick_kit.proofs.Bricks.{shore_pair}
 use Rattle.counting.specs.Sets.{Set, complement}
-use Rattle.cut_laws.proofs.Quotients.{bipartite-or}
+use Rattle.theorems.proofs.Quotients.{bipartite-or}
 use Rattle.graph_core.proofs.SameSets.{nontrivial-same, tight-same}
 use Rattle.graph_core.specs.Covered.{IsCovered}
 use Rattle.graph_core.specs.Graph.{Graph, IsGraph, IsMultigraph}

@@ -4,13 +4,13 @@
 -- those of the graph.
 use Rattle.std.proofs.Common.{[], ◌≡◌, ◌∙◌, ◌↔◌, ℕ, zero, suc, ◌+◌, ◌≤◌, ◌<◌, List, ◌∷◌, ◌++◌, length, not, inl, inr, refl, sym, ap, arith, subst}
 use Rattle.contraction.proofs.QuotientLaws.{tight_at_up}
-use Rattle.count_laws.proofs.Counts.{same_counts}
+use Rattle.theorems.proofs.Counts.{same_counts}
 use Rattle.counting.proofs.Counts.{count_le}
 use Rattle.counting.proofs.RisingLists.{rising_list-congr}
 use Rattle.counting.specs.Counts.{Within}
 use Rattle.counting.specs.Lists.{IsRisingIn, mem}
 use Rattle.counting.specs.Sets.{complement}
-use Rattle.cut_laws.proofs.Quotients.{bipartite-or, leaf-quotient}
+use Rattle.theorems.proofs.Quotients.{bipartite-or, leaf-quotient}
 use Rattle.graph_core.proofs.BlockSets.{at_rep, rep, rep_in}
 use Rattle.graph_core.proofs.Complements.{complement_of-rises, complement_of-rising_list, mem-complement_of}
 use Rattle.graph_core.proofs.QuotientTight.{quotient_graph}

@@ -6,7 +6,7 @@ use Rattle.std.specs.Prelude.{codes}
 use Rattle.outside.specs.Shelf.{Named}
 use Rattle.brick_kit.proofs.Bricks.{brick_or_not}
 use Rattle.counting.specs.Lists.{mem}
-use Rattle.cut_laws.proofs.Quotients.{bricks-and_braces}
+use Rattle.theorems.proofs.Quotients.{bricks-and_braces}
 use Rattle.ear_text.specs.EarFormat.{ear_format}
 use Rattle.graph_core.specs.Covered.{IsCovered}
 use Rattle.graph_core.specs.Graph.{Graph, IsBipartite, IsMultigraph, size}

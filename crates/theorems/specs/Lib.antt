@@ -1,8 +1,10 @@
 pub mod Braces
 pub mod Bricks
 pub mod CubicGraphs
+pub mod CutWords
 pub mod Derivations
 pub mod Ears
 pub mod Matchings
 pub mod Outcomes
+pub mod Preorder
 pub mod TightCuts

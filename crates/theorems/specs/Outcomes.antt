@@ -30,7 +30,7 @@ use Rattle.report_text.specs.declared.analyses.AnalysisLines.{AnalysisLines}
 use Rattle.report_text.specs.declared.structures.Structure.{Structure}
 use Rattle.bench_outcomes.specs.Comparisons.{lines_of}
 use Rattle.bench_outcomes.specs.Outcome.{with_given_names}
-use Rattle.cut_laws.specs.Words.{EndsInBrickOrBrace}
+use Rattle.theorems.specs.CutWords.{EndsInBrickOrBrace}
 use Rattle.theorems.specs.TightCuts.{IsTightCutTreeAt, PairsLeaves}
 
 -- the output of `analyse` tells the sets D, A and C: the vertices that some maximum matching

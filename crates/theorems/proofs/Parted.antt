@@ -7,7 +7,7 @@ use Rattle.counting.specs.Sets.{pair_set}
 use Rattle.graph_core.specs.Graph.{Graph, IsGraph}
 use Rattle.tight_cuts.proofs.LeastShores.{parted_found, parted_says}
 use Rattle.tight_cuts.specs.Candidates.{is_parted}
-use Rattle.cut_laws.specs.Words.{IsParted}
+use Rattle.theorems.specs.CutWords.{IsParted}
 
 -- v is neither a nor b
 differs : (a b v : ℕ) → pair_set a b v ≡ false → (v ≢ a) × (v ≢ b)

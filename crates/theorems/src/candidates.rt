@@ -6,7 +6,7 @@ ghost use Rattle.counting.specs.Sets.{Set};
 ghost use Rattle.graph_core.specs.Graph.{Graph, IsGraph, size};
 ghost use Rattle.tight_cuts.specs.Candidates.{common_shore, first_parted, greater_end, is_parted, lesser_end, parts_tightly};
 ghost use Rattle.tight_cuts.specs.Pieces.{PartsTightly};
-ghost use Rattle.cut_laws.specs.Words.{IsFirstParted, IsParted};
+ghost use Rattle.theorems.specs.CutWords.{IsFirstParted, IsParted};
 
 /// The tests of the third part. A set parts two vertices x and y beside an edge from a to b
 /// exactly when it is a tight set with a and x and with neither b nor y. The pair is parted

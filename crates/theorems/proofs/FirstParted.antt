@@ -9,8 +9,8 @@ use Rattle.graph_core.specs.Graph.{Graph, IsGraph, size}
 use Rattle.tight_cuts.proofs.EdgeLoop.{first_pair, no_pair}
 use Rattle.tight_cuts.proofs.FirstPairs.{before_first, no_first}
 use Rattle.tight_cuts.specs.Candidates.{first_parted, greater_end, is_parted, lesser_end}
-use Rattle.cut_laws.proofs.Parted.{parted-words}
-use Rattle.cut_laws.specs.Words.{IsFirstParted, IsParted}
+use Rattle.theorems.proofs.Parted.{parted-words}
+use Rattle.theorems.specs.CutWords.{IsFirstParted, IsParted}
 
 -- of two pairs one is before the other, or they are one
 one_before : (k l : ℕ × ℕ) → (k ≡ l) ⊎ (ComesBefore k l ⊎ ComesBefore l k)

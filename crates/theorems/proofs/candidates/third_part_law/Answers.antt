@@ -1,6 +1,6 @@
 use Rattle.tight_cuts.proofs.LeastShores.{common_from, common_in, parts_found, parts_says}
-use Rattle.cut_laws.proofs.Parted.{parted-words}
-use Rattle.cut_laws.proofs.candidates.third_part_law.Goals as goal
+use Rattle.theorems.proofs.Parted.{parted-words}
+use Rattle.theorems.proofs.candidates.third_part_law.Goals as goal
 
 pub returns : goal.returns
 returns c = record {

@@ -8,7 +8,7 @@ ghost use Rattle.graph_core.specs.Tight.{HasNoTightCut};
 ghost use Rattle.tree_core.specs.Derivations.{IsDerivation, IsLeafAt, IsTightShore};
 ghost use Rattle.tree_core.specs.Leaves.{leaves};
 ghost use Rattle.tree_core.specs.Shapes.{Shape, shores};
-ghost use Rattle.cut_laws.specs.Words.{EndsInBrickOrBrace};
+ghost use Rattle.theorems.specs.CutWords.{EndsInBrickOrBrace};
 
 /// A partition is a leaf exactly when its quotient has no nontrivial tight cut.
 pub fn leaf_law()

@@ -6,7 +6,7 @@ ghost use Rattle.graph_core.specs.Partitions.{singles};
 ghost use Rattle.tree_core.specs.Leaves.{LeadsTo, leaves};
 ghost use Rattle.tree_core.specs.Shapes.{Shape, cut, cut_count, leaf, leaf_count, node_count, shores};
 ghost use Rattle.tree_core.specs.declared.path.Side.{Side};
-ghost use Rattle.cut_laws.specs.Preorder.{ListsPaths};
+ghost use Rattle.theorems.specs.Preorder.{ListsPaths};
 
 /// The numbers and the lists of a tree, by the paths from its root in preorder, `kept` before
 /// `merged`: there are as many nodes, leaves and cuts as paths that lead to one, and the list of

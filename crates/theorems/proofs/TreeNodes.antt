@@ -9,7 +9,7 @@ use Rattle.tree_core.specs.Leaves.{LeadsTo, leaves_at}
 use Rattle.tree_core.specs.Shapes.{Shape, cut, cut_count, leaf, leaf_count, node_count, shores}
 use Rattle.tree_core.specs.declared.path.Side.{Side}
 use Rattle.tree_core.specs.declared.path.Side.TheVariants.{Kept, Merged}
-use Rattle.cut_laws.specs.Preorder.{AreInPreorder, IsEarlier, ListsPaths}
+use Rattle.theorems.specs.Preorder.{AreInPreorder, IsEarlier, ListsPaths}
 
 -- an item of two lists in a row
 in-left : {A : Type 0} (x : A) (xs ys : List A) → IsIn x xs → IsIn x (xs ++ ys)

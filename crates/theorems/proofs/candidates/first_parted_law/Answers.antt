@@ -1,5 +1,5 @@
-use Rattle.cut_laws.proofs.FirstParted.{first-found, found-first, none-parted, parted-none}
-use Rattle.cut_laws.proofs.candidates.first_parted_law.Goals as goal
+use Rattle.theorems.proofs.FirstParted.{first-found, found-first, none-parted, parted-none}
+use Rattle.theorems.proofs.candidates.first_parted_law.Goals as goal
 
 pub returns : goal.returns
 returns c = record {

@@ -25,7 +25,7 @@ use Rattle.tree_core.proofs.DerivationLeaves.{partitions-leaves, uncut-leaves}
 use Rattle.tree_core.specs.Derivations.{IsDerivation, IsLeafAt}
 use Rattle.tree_core.specs.Leaves.{leaves}
 use Rattle.tree_core.specs.Shapes.{Shape}
-use Rattle.cut_laws.specs.Words.{EndsInBrickOrBrace}
+use Rattle.theorems.specs.CutWords.{EndsInBrickOrBrace}
 
 module _ (g : Graph) (p : List (List ℕ)) (is : IsGraph g) (pp : AreBlocks g.order p) where
   pub leaf-quotient : IsLeafAt g p → HasNoTightCut (quotient g p)

@@ -1,3 +1,0 @@
-pub mod SameKinds
-pub mod PairedCounts
-pub mod Counts

@@ -1,4 +1,0 @@
-pub mod Quotients
-pub mod Parted
-pub mod FirstParted
-pub mod TreeNodes

@@ -1,5 +1,0 @@
-use Rattle.cut_laws.proofs.Quotients.{leaf-quotient, quotient-leaf}
-use Rattle.cut_laws.proofs.decompositions.leaf_law.Goals as goal
-
-pub returns : goal.returns
-returns c g p is pp = (leaf-quotient g p is pp, quotient-leaf g p is pp)
