@@ -5,8 +5,7 @@
 //! (`IsTold`): the line of its kind with the numbers of bricks and braces (`IsKindLine`), the
 //! lines of its leaves as graphs (`AreLeafLines`), the canonical text of its graph file, or the
 //! line itself where the graph has a property and nothing where it has not (`IsSelected`). A line
-//! is bad exactly when it stands for no graph, or is asked for a graph file and too large for one
-//! (`IsBad`).
+//! is bad exactly when it stands for no graph (`HasFault`).
 //!
 //! Stands on `graph6_text` for the lines, on `graph_facts`, `separation_kit` and `leaf_kinds` for
 //! what a graph is, and on `decomposer`, `tree_core` and `contraction` for its leaves. That the
