@@ -3,11 +3,12 @@
 //!
 //! A message is a list of pieces (`Piece`): a text, a number, or bytes of the outside, shown so
 //! that they can stand in a line. `say` writes one to a sink: whole, or where the sink fails a
-//! beginning of it (`Says`). Main definitions, in specs/: `usage_text` and
-//! `list_usage_text` of `Usage`, with the tables of commands; `fault_words` and `note_words` of `Faults`, what the kinds of faults in a file
-//! are, with the headers and the limits of the formats; `reason_words` of `Reasons`, why a file
-//! cannot be read; and the texts of `Messages` and `ListMessages`, one for each ending that needs words. Main
-//! promises: each function `say_..` says its text, and takes no memory.
+//! beginning of it (`Says`). Main definitions, in specs/: `usage_text` and `list_usage_text` of
+//! `Usage`, with the tables of commands; `fault_words` and `note_words` of `Faults`, what the
+//! kinds of faults in a file are, with the headers and the limits of the formats; `reason_words`
+//! of `Reasons`, why a file cannot be read; and the texts of `Messages` and `ListMessages`, one
+//! for each ending that needs words. Main promises: each function `say_..` says its text, and
+//! takes no memory.
 //!
 //! Stands on `line_text` for the lines of a file, and on `outside` for the sinks and for the
 //! reason of a failed read.
