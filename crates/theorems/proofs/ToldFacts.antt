@@ -27,7 +27,8 @@ use Rattle.tight_cuts.specs.Candidates.{Candidate}
 use Rattle.tree_core.specs.Derivations.{IsDerivation}
 use Rattle.tree_core.specs.Leaves.{leaves}
 use Rattle.tree_core.specs.Shapes.{Shape}
-use Rattle.bench_tasks.specs.Commands.{Compare, Decompose, Script, order_named}
+use Rattle.decomposer.specs.Orders.{order_named}
+use Rattle.bench_tasks.specs.Commands.{Compare, Decompose, Script}
 use Rattle.bench_tasks.specs.Loading.{All, Loaded, and_then, graph_file, loaded_as, pick_file, trees_given}
 use Rattle.bench_tasks.specs.Tasks.{Task}
 use Rattle.bench_tasks.specs.Tasks as task
