@@ -1,5 +1,5 @@
-/* Stands before the C library's allocator: the asking for memory with the number of the variable REFUSE is refused, counted from 1.
-   Where the variable ASKED names a file, the number of askings is written there at the end. */
+/* Stands before the C library's allocator: the request for memory with the number of the variable REFUSE is refused, counted from 1.
+   If the variable ASKED names a file, the number of requests is written there at the end. */
 #include <errno.h>
 #include <stddef.h>
 #include <stdio.h>

@@ -1,7 +1,7 @@
 /* Stands before the C library's read and write, for tests/edge. Each of these variables is a number.
    MOST: a call moves at most so many bytes. INTERRUPTS: each call is first interrupted by a signal so many times.
    FAIL: the call of this number, counted from 1 over reads and writes, fails. SHORT: the call of this number moves at most one byte.
-   Where CALLS names a file, a line is written there at the end for each call, `read` or `write`. */
+   If CALLS names a file, a line is written there at the end for each call, `read` or `write`. */
 #include <errno.h>
 #include <fcntl.h>
 #include <stdlib.h>

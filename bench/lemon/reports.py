@@ -1,6 +1,6 @@
-"""The lines of two reports on one graph compared. Lines that only one of the two has are not. Where the answer is not unique it is
+"""The lines of two reports on one graph compared. Lines that only one of the two has are not. If the answer is not unique it is
 tested: the set of `covered no berge` must reach the deficiency, and the set of `kind composite` must be a nontrivial tight shore
-without the greatest vertex (by a heaviest perfect matching of NetworkX, where that is there).
+without the greatest vertex (by a heaviest perfect matching of NetworkX, if that is installed).
 """
 
 
