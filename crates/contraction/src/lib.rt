@@ -11,7 +11,7 @@
 //! `lift` leads a matching of the quotient up to edges of the graph, the least remembered edge of
 //! each row. `lift_law` and `projection_law` say that perfect matchings go up and down, with as
 //! many edges in each cut; `covered_quotient_law` and `tight_quotient_law`, that the quotient is
-//! covered, and a shore tight in it, where it is so at the partition. The law of contraction is
+//! covered, and a shore tight in it, if it is so at the partition. The law of contraction is
 //! graph_core's; `merged_quotients_law` says it of quotients, for both shores of a tight cut.
 //!
 //! Stands on `graph_core` and `match_core`; remembered edges are kept in an `indexmap` by the

@@ -1,4 +1,4 @@
--- Has a bipartite covered graph a nontrivial tight cut, where a perfect matching is left without
+-- Has a bipartite covered graph a nontrivial tight cut, if a perfect matching is left without
 -- any two vertices of each side? No: a tight set has one vertex more of one side, and no edge
 -- leaves it from the other; so two of the larger side in it, and two of the other side outside
 -- it, leave no perfect matching.

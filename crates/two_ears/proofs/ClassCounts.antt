@@ -99,7 +99,7 @@ coarser n p q ep eq h =
     let b = label_classes n p ep in
     let c = label_classes n q eq in omega arith
 
--- and fewer where it joins two that the other keeps apart
+-- and fewer if it joins two that the other keeps apart
 pub strictly : (n : ℕ) (p q : ℕ → ℕ → Bool) → IsEquivalence n p → IsEquivalence n q → IsFiner n p q → (x y : ℕ) → Within n x → Within n y → q x y ≡ true → p x y ≡ false → class_count n q + 1 ≤ class_count n p
 strictly n p q ep eq h x y wx wy qxy pxy =
     let f = label n p ep in

@@ -19,7 +19,7 @@ pub fn two_ears_law()
         HasPerfect g (union (vertices_of p) (vertices_of q)) }
 {}
 
-/// Where a matching covered graph is matching covered with further edges, it is with one of them,
+/// If a matching covered graph is matching covered with further edges, it is with one of them,
 /// or with two.
 pub fn further_edges_law()
     ensures { (g : Graph) → IsGraph g → IsCovered g → (ps : List (ℕ × ℕ)) → ps ≢ [] →
