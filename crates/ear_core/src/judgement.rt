@@ -28,6 +28,6 @@ pub enum EarJudgement {
     /// It is an ear list of the graph.
     Accepted,
     /// It is none: `step` is the first step that is refused, counted from 1, and the number of
-    /// steps where all are taken and edges are left.
+    /// steps if all are taken and edges are left.
     Refused { step: u32, why: EarWhy },
 }

@@ -57,7 +57,7 @@ perfect_within g m x met no_cross = record {
         let a = total_none (size g) (λ e. bit ((m e && inside g x e) && (first_end g e == v))) (λ e w. ap bit (gone (m e) (x (first_end g e)) (x (second_end g e)) (first_end g e == v) (λ t. ap x (eqb-true (first_end g e) v t) ∙ o))) in
         let b = total_none (size g) (λ e. bit ((m e && inside g x e) && (second_end g e == v))) (λ e w. ap bit (gone' (m e) (x (first_end g e)) (x (second_end g e)) (second_end g e == v) (λ t. ap x (eqb-true (second_end g e) v t) ∙ o))) in omega arith
 
--- an edge crosses x where one of its ends is in x and the other is not, and nowhere else
+-- an edge crosses x if and only if one of its ends is in x and the other is not
 crossing_ends : (g : Graph) (x : Set) (e : ℕ) → in_cut g x e ≡ true → (v w : ℕ) × HasEnds g e v w × (x v ≡ true) × (x w ≡ false)
 crossing_ends g x e h = go (x (first_end g e)) (x (second_end g e)) refl refl h
   where
@@ -299,7 +299,7 @@ module _ (g : Graph) (is : IsGraph g) (d a c : Set) (sets : AreThreeSets g d a c
             ]
           ]
 
-  -- where m misses a vertex v of D, its edges inside the component of v meet each other vertex of
+  -- if m misses a vertex v of D, its edges inside the component of v meet each other vertex of
   -- it
   critical_at : (v : ℕ) → Within g.order v → d v ≡ true → degree g m v ≡ 0 → MatchesWithin g m (minus (joined g a v) (singleton v))
   critical_at v wv dv z = perfect_within g m (minus (joined g a v) (singleton v)) met (λ e w. false_from_ne_true (m e && in_cut g (minus (joined g a v) (singleton v)) e) (λ t.

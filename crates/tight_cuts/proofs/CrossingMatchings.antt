@@ -1,5 +1,5 @@
 -- What the search for two edges of a cut in one perfect matching shows: the matching that it
--- finds is no witness of tightness, and where it finds none, no two edges of the cut lie
+-- finds is not a witness of tightness, and if it finds none, no two edges of the cut lie
 -- together, which makes an odd cut tight.
 use Rattle.std.proofs.Common.{◌≡◌, ℕ, ◌<◌, List, length, true, false, ap, ◌∙◌, arith, inl, inr}
 use Rattle.std.proofs.lemmas.Bool.{cases_order}

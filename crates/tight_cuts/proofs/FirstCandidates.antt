@@ -83,7 +83,7 @@ first-empty [] (Some c) Q h q = absurd cc
 first-empty (d ∷ list) None Q h q = absurd cc
 first-empty (d ∷ list) (Some c) Q h q = (λ e. absurd cc, λ e. absurd (let r = h.1 e in cc))
 
--- the first of the candidates led back
+-- the first of the candidates taken to vertices of the graph
 pub first-lifted : (f : Candidate → Candidate) (list : List Candidate) (o : Option Candidate) → o ≡ first_of list → option_map f o ≡ first_of (map f list)
 first-lifted f [] o q = ap (option_map f) q
 first-lifted f (c ∷ list) o q = ap (option_map f) q

@@ -1,6 +1,6 @@
--- The candidates of a quotient led back to the graph. A union of blocks holds a vertex exactly
--- when its set of places holds the vertex's place, so blocks in it are those of the set, and it
--- is tight at the partition where the set is tight in the quotient.
+-- The candidates of a quotient as candidates of the graph. A union of blocks holds a vertex exactly
+-- when its set of places holds the vertex's place, so blocks in it are those of the set, and it is
+-- tight at the partition where the set is tight in the quotient.
 use Rattle.std.proofs.Common.{◌≡◌, ℕ, ◌≤◌, Bool, true, false, not, ◌&&◌, List, [], ◌∷◌, map, length, refl, sym, ap, ◌∙◌, arith, subst, ◌↔◌, All, get_or, zero, suc, ◌<◌, inl, inr, eq-eqb, ne_eqb, ◌≢◌, if◌then◌else◌}
 use Rattle.std.proofs.lemmas.Bool.{and_parts, and_from, both_ways, cases_Bool}
 use Rattle.counting.proofs.Counts.{count_congr, count_le}

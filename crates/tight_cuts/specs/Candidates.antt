@@ -74,7 +74,7 @@ abbrev pub greater_end : Graph → ℕ → ℕ
 greater_end g e = max (first_end g e) (second_end g e)
 
 -- the first pair, in lexicographic order, that some tight set with the lesser end of e and
--- without the greater one parts
+-- without the greater one separates
 abbrev pub first_parted : Graph → ℕ → Option (ℕ × ℕ)
 first_parted g e = find (is_parted g (lesser_end g e) (greater_end g e)) (ordered_pairs g.order)
 

@@ -35,7 +35,7 @@ pub record AreLeaders (g : Graph) (e : ℕ) (leaders : List ℕ) : Type 0 where
   pub long : length leaders ≡ g.order + 1
   pub each : (v : ℕ) → Within g.order v → at_place leaders v ≡ leader (components beside (pair_set (lesser_end g e) (greater_end g e))) v
 
--- the table tells which edges of the graph lie together in a perfect matching, and the row has
+-- the table says which edges of the graph lie together in a perfect matching, and the row has
 -- the weights of the edges
 pub record AreRowsOf (g : Graph) (pairs : PairsValue) (weights : List ℕ) (bound : ℕ) : Type 0 where
   pub edge_count : pairs.size ≡ size g
@@ -96,18 +96,17 @@ pub record IsCommonShore (g : Graph) (a b : ℕ) (k : ℕ × ℕ) (answer : Opti
   pub some : (s : List ℕ) → answer ≡ Some s → ((z : Set) × PartsTightly g a b k z) × ((v : ℕ) → Within g.order v → mem s v ≡ common_shore g a b k v)
   pub none : answer ≡ None → (z : Set) → PartsTightly g a b k z → ⊥
 
--- what a pair gives at edge e: the common shore where the pair is parted, and nothing where it is
--- not
+-- what a pair gives at edge e: the common shore if the pair is separated, and nothing if it is not
 pub record IsShoreOfPair (g : Graph) (e : ℕ) (k : ℕ × ℕ) (answer : Option (List ℕ)) : Type 0 where
   pub some : (s : List ℕ) → answer ≡ Some s → (is_parted g (lesser_end g e) (greater_end g e) k ≡ true) × ((v : ℕ) → Within g.order v → mem s v ≡ common_shore g (lesser_end g e) (greater_end g e) k v)
   pub none : answer ≡ None → is_parted g (lesser_end g e) (greater_end g e) k ≡ false
 
--- what edge e gives: the common shore of the first pair that is parted, and nothing where there
+-- what edge e gives: the common shore of the first pair that is separated, and nothing where there
 -- is none
 pub record IsShoreOfEdge (g : Graph) (e : ℕ) (answer : Option (List ℕ)) : Type 0 where
   pub some : (s : List ℕ) → answer ≡ Some s → (k : ℕ × ℕ) × (first_parted g e ≡ Some k) × ((v : ℕ) → Within g.order v → mem s v ≡ common_shore g (lesser_end g e) (greater_end g e) k v)
   pub none : answer ≡ None → first_parted g e ≡ None
 
--- no pair before (x, y), in lexicographic order, is parted at edge e
+-- no pair before (x, y), in lexicographic order, is separated at edge e
 abbrev pub NoneBefore : Graph → ℕ → ℕ → ℕ → Type 0
 NoneBefore g e x y = (c d : ℕ) → Within g.order c → Within g.order d → (c < x) ⊎ ((c ≡ x) × (d < y)) → is_parted g (lesser_end g e) (greater_end g e) (c, d) ≡ false

@@ -118,7 +118,7 @@ impl CandidateList {
 }
 
 /// Appends the candidate of the cut of `shore`, a set of the vertices 1 to `n`. It is left out
-/// where the cut is trivial or in the list.
+/// if the cut is trivial or in the list.
 pub(crate) fn add_shore(
     list: &mut CandidateList,
     n: u32,

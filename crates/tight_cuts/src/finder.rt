@@ -132,7 +132,7 @@ pub fn candidates(alloc: Global, g: &MultiGraph) -> Result<CandidateList, Memory
 }
 
 /// The first candidate, and `None` exactly when the covered graph has no nontrivial tight cut. The
-/// search ends with it: the edges are asked only where the graph has no cut of a barrier or a
+/// search ends with it: the edges are asked only if the graph has no cut of a barrier or a
 /// separation.
 pub fn first_candidate(alloc: Global, pairs: &FirstPairs) -> Result<Option<Candidate>, Memory>
     ensures first { IfOk result
@@ -182,7 +182,7 @@ fn first_of_bipartite(alloc: Global, bipartite: &Bipartite) -> Result<Option<Can
 }
 
 /// The shore of the first candidate, which is a canonical nontrivial tight shore, and `None`
-/// exactly where the covered graph has no nontrivial tight cut.
+/// if and only if the covered graph has no nontrivial tight cut.
 pub fn find_any(alloc: Global, g: &MultiGraph) -> Result<Option<VSet>, Memory>
     requires { IsCovered g.now }
     ensures first { IfOk result (λ found. found ≡ first_shore (candidates g.now)) }

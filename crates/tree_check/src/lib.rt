@@ -10,7 +10,7 @@
 //!
 //! `replay` makes a script of moves on a derivation and judges each tree on the way: it gives the
 //! last tree exactly when all are derivations, and else names the first failing move, with what
-//! `check` answers where its result is not a derivation (`IsReplay` of `specs/Replays`).
+//! `check` answers if its result is not a derivation (`IsReplay` of `specs/Replays`).
 //!
 //! `laws::first_refusal_law`: a derivation has no refusal, and each other tree of a matching
 //! covered graph has exactly one, up to the perfect matching that it shows.
