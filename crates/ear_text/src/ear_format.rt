@@ -104,7 +104,7 @@ fn is_either_ear(stands_apart: bool, words: &[&[u8]]) -> bool
     is_ear(words) || (stands_apart && is_with(words))
 }
 
-// The ear that a line tells after its first word.
+// The ear that a line gives after its first word.
 fn ear_told(format: &EarFormat, words: &[&[u8]]) -> Result<Ear, Refusal<FaultKind>>
     ensures ear { IfOk result (λ ear. ear_of ear ≡ ear_at (texts_of words.now)) }
     ensures tests { (so_far : EarsSoFar) → Gives (λ _. so_far) result

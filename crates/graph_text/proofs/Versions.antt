@@ -1,4 +1,4 @@
--- Version 1 within both versions. Where the header is not one of version 2, the two formats say
+-- Version 1 within both versions. If the header is not one of version 2, the two formats say
 -- the same to each line, so by induction over the lines the same comes of the text. A header of
 -- version 2 is none of version 1; after it names are kept, so that no graph without names comes
 -- of the text.

@@ -15,14 +15,14 @@ pub trait Keeping: Explain {
     ghost use Rattle.std.specs.declared.option.Option.{Option};
     ghost use Rattle.outside.specs.Keeping.{IsFileOf};
 
-    /// The bytes that the last read gave, where it gave some.
+    /// The bytes that the last read gave, if it gave some.
     ghost kept: { Self → Option (List ℕ) };
 
-    /// The bytes that the last read gave, where it gave some. Takes no memory.
+    /// The bytes that the last read gave, if it gave some. Takes no memory.
     fn kept(&self) -> Option<&[u8]>
         ensures { option_map (λ bytes. bytes.now) result ≡ kept self.now };
 
-    /// After a read of a name, what is kept is the file of that name, where the files are told.
+    /// After a read of a name, what is kept is the file of that name, if the files are known.
     ghost kept_is: { (before : Self) (name : List ℕ) (now : Self) → Self.reads before name now →
         IsFileOf (Self.files before) name (kept now) };
 }
@@ -30,7 +30,7 @@ pub trait Keeping: Explain {
 /// A shelf that keeps the bytes of the file that it read last, and is in all else the shelf that
 /// it is made of.
 ///
-/// Nothing is kept where the last read gave no bytes. A read takes memory for its bytes twice.
+/// Nothing is kept if the last read gave no bytes. A read takes memory for its bytes twice.
 #[derive(Drop)]
 pub struct KeepingShelf<S: Shelf + Drop> {
     /// The shelf that is read.
@@ -68,7 +68,7 @@ impl<S: Shelf + Drop> Shelf for KeepingShelf<S> {
 
         ensures reads { KeepsRead S.files S.reads self.old.shelf name.now self.new.shelf
             (bytes_kept self.new.kept) }
-        // What it gives it keeps, and where it gives nothing it keeps nothing.
+        // What it gives it keeps, and if it gives nothing it keeps nothing.
         ensures keeps { IfOk result (λ bytes. bytes_kept self.new.kept ≡ Some bytes.items) }
         ensures drops { OnErr result (self.new.kept ≡ None) }
 

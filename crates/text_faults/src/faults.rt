@@ -49,8 +49,8 @@ impl FaultKind {
     }
 }
 
-/// Why a text was not read: the first line outside its format with the kind of its fault, or want
-/// of memory. Lines are counted from 1; where lines are missing at the end, the line is one more
+/// Why a text was not read: the first line outside its format with the kind of its fault, or lack
+/// of memory. Lines are counted from 1; if lines are missing at the end, the line is one more
 /// than there are.
 #[derive(Clone, Copy, Debug, PartialEq, Eq, Error)]
 pub enum TextFault {
