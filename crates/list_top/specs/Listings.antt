@@ -1,4 +1,4 @@
--- What is told of a line of a list.
+-- The answer to a line of a list.
 use Rattle.std.specs.Prelude.{◌≡◌, ℕ, ◌==◌, ◌⊎◌, nat_lt, Bool, false, if◌then◌else◌, List, IsTrue, IsFalse}
 use Rattle.std.specs.declared.option.Option.{Option}
 use Rattle.std.specs.declared.option.Option.TheVariants.{Some, None}
