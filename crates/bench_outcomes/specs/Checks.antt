@@ -1,4 +1,4 @@
--- What is told of a tree of cuts that is to be a derivation of a graph: its leaves, counted, or
+-- What is answered on a tree of cuts that is to be a derivation of a graph: its leaves, counted, or
 -- its first refusal.
 use Rattle.std.specs.Prelude.{◌≡◌, ◌⊎◌, ℕ, List}
 use Rattle.std.specs.declared.option.Option.{Option}

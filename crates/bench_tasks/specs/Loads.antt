@@ -59,7 +59,7 @@ task_of (code.Compare given) = task.Compare (named_graph given.named) (shape_of 
 task_of (code.Script given) = task.Script (named_graph given.named) (shape_of given.first) (shape_of given.second)
 task_of (code.Grow growth) = task.Grow growth.seed growth.pieces
 
--- a stop names the first bad file; nothing is said of a failed read or of want of memory
+-- a stop names the first bad file; nothing is said of a failed read or of lack of memory
 abbrev pub StopsAs : {A : Type 0} → Stop → Loaded A → Type 0
 StopsAs (stop.Bad file line kind) loaded = loaded ≡ Bad file line kind
 StopsAs (stop.ReadFault file) loaded = Unit {0}

@@ -48,7 +48,7 @@ use Rattle.bench_top.proofs.LoadedGraphs.{Holds, loaded-graph}
 use Rattle.bench_top.proofs.Settled.{KeepsGraph, settled}
 use Rattle.bench_top.proofs.OneTree.{PicksOnce, named-once, script-once, picked-once, kinds-once, tally-once}
 
--- what is told of a derivation
+-- what is reported on a derivation
 tells-once : (named : NamedGraph) (t : Shape) (output other : List ℕ) → TellsDerivation named t Done output → TellsDerivation named t Done other → output ≡ other
 tells-once named t output other one two =
     one.text

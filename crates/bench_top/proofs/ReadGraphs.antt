@@ -46,7 +46,7 @@ ends-graph g each = record {
   no_loop = λ e within. let pair = ends-at g.order g.ends (e - 1) each (omega arith) in pair.2;
 }
 
--- there are no more names than vertices
+-- there are at most as many names as vertices
 abbrev NamesFit : ℕ → Option (List (List ℕ)) → Type 0
 NamesFit n None = Unit {0}
 NamesFit n (Some names) = length names ≤ n

@@ -28,7 +28,7 @@ use Rattle.bench_outcomes.specs.declared.status.Status.TheVariants.{Done, Negati
 abbrev pub Settles : Type 0 → Status → Type 0
 Settles fact status = ((status ≡ Done) × fact) ⊎ ((status ≡ Negative) × (fact → ⊥))
 
--- the graph of a task with trees is one, and where its structure is told it has no loops; nothing
+-- the graph of a task with trees is one, and if its structure is reported it has no loops; nothing
 -- else is needed
 abbrev pub KeepsGraph : Task → Type 0
 KeepsGraph (task.Analyse named) = IsMultigraph named.graph

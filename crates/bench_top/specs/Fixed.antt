@@ -33,7 +33,7 @@ ChosenBy (Chooses fact shown) = Unit {0}
 abbrev pub HasChosenText : Task → Type 0
 HasChosenText t = ChosenBy (conduct_of t)
 
--- where the task is done its output is one, by a conduct: what it tells shows no such numbers, or
+-- where the task is done its output is one, by a conduct: its report shows no such numbers, or
 -- its text is not chosen
 abbrev pub OneBy : Conduct → Type 0
 OneBy Writes = Unit {0}

@@ -25,8 +25,8 @@ pub record AsksDone (words : List (List ℕ)) (files : List Named) : Type 0 wher
   pub held : loaded files command ≡ All task
   pub succeeds : Succeeds task
 
--- the output tells a script from the first tree of the files to the second, and by the files
--- again the replay of the file of this name on the same graph and first tree is done: it tells
+-- the output gives a script from the first tree of the files to the second, and by the files
+-- again the replay of the file of this name on the same graph and first tree is done: it gives
 -- the second tree and the number of the script's moves, and nothing else
 pub record ReplaysScript (files again : List Named) (graph first second script output : List ℕ) : Type 0 where
   pub named : NamedGraph

@@ -38,7 +38,7 @@ fn is_odd_shore(graph: &MultiGraph, set: VSet) -> bool
     set.is_subset(VSet::full(graph.order())) && set.len() % 2 == 1
 }
 
-// What is answered on the cut of a set; nothing where the set is no odd shore, or the graph not matching covered.
+// What is answered on the cut of a set; nothing unless it is an odd shore and the graph is covered.
 fn answer(alloc: Global, graph: &MultiGraph, set: VSet) -> Result<Option<Tightness>, Fail> {
     if !is_odd_shore(graph, set) {
         return Ok(None);
@@ -81,7 +81,7 @@ fn worked_cuts(rt: HostRuntime) -> Result<(), Fail> {
     Ok(())
 }
 
-// Whether the answer on the cut of a set is that of the plain program; nothing where the set is no odd shore.
+// Whether the answer on the cut of a set is the plain program's; nothing if it is not an odd shore.
 fn agrees(alloc: Global, graph: &MultiGraph, set: VSet) -> Result<Option<bool>, Fail>
     requires { IsSmall graph.now }
 {

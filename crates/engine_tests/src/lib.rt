@@ -26,7 +26,7 @@
 //! the table of pairs of a large graph ends.
 //!
 //! `quick_lists`: on worked and generated graphs and their leaves, wheels, prisms and Möbius
-//! ladders `tight_cuts::candidates` answers what the plain way by pairs does, and
+//! ladders `tight_cuts::candidates` answers what the plain search by pairs does, and
 //! `first_candidate` the first of it.
 //!
 //! Whole families of graphs on which two ways must agree. `enumerated`: `quick_brace` and

@@ -1,4 +1,4 @@
-//! The candidates beside those of the plain way by pairs: the same list in the same order, and
+//! The candidates beside those of the plain search by pairs: the same list in the same order, and
 //! its first.
 ghost use Rattle.std.specs.Prelude.{◌≤◌};
 
@@ -17,7 +17,7 @@ use std::test::Fail;
 use tight_cuts::{candidates, candidates_by_pairs, find_any, first_candidate};
 
 // Whether the graph is covered, and its candidates, the first of them and its shore are those of
-// the plain way.
+// the plain search.
 fn agrees(alloc: Global, g: &MultiGraph) -> Result<bool, Memory> {
     if !is_covered(alloc, g)? {
         return Ok(false);
