@@ -1,6 +1,7 @@
 -- An edge is allowed exactly when its ends are partners; the list of the allowed edges, the least
--- edge that is none, and whether a maximum matching is perfect. A perfect matching with the edge,
--- less the edge, is perfect without its ends, and back. A perfect matching is as large as any.
+-- edge that is not allowed, and whether a maximum matching is perfect. A perfect matching with the
+-- edge, less the edge, is perfect without its ends, and back. A perfect matching is as large as
+-- any.
 use Rattle.std.proofs.Common.{◌≡◌, ◌↔◌, ℕ, ◌==◌, ◌&&◌, ◌||◌, not, Bool, true, false, List, refl, sym, ap, ◌∙◌, arith, subst, ne_eqb, eq-eqb, inl, inr}
 use Rattle.counting.proofs.Booleans.{same_tests}
 use Rattle.std.proofs.lemmas.Bool.{both_ways, cases_Bool, or_right}

@@ -36,7 +36,7 @@ pub record AcceptedTree (g : Graph) (t : Shape) (status : Status) (output : List
   pub done : status ≡ Done
   pub text : output ≡ judgement_text (line.Accepted tally)
 
--- the tree of this place among those that are named, counted from 1, is none: the output is its
+-- the tree of this place among those that are named, counted from 1, is not one: the output is its
 -- first refusal
 pub record RefusedTree (g : Graph) (t : Shape) (place : ℕ) (status : Status) (output : List ℕ) : Type 0 where
   pub node : ℕ

@@ -55,7 +55,7 @@ pub record AcceptedEars (g : Graph) (list : PlainEars) (status : Status) (output
   pub done : status ≡ Done
   pub text : output ≡ ear_judgement_text (line.Accepted (length list.steps) (single_count list.steps) (double_count list.steps))
 
--- it is none: the output is its first refusal
+-- it is not one: the output is its first refusal
 pub record RefusedEars (g : Graph) (list : PlainEars) (status : Status) (output : List ℕ) : Type 0 where
   pub covered : IsCovered g
   pub step : ℕ

@@ -18,7 +18,7 @@ use tree_core::{Partitions, Tree, leaves, nodes};
 use uncross::{LeafMap, LeafMaps, compare, moves_between};
 
 /// The report that refuses one of two trees: the graph is not covered, or the first tree is not a
-/// derivation of it, or the second is none. None if both are derivations. Whether the graph is
+/// derivation of it, or the second is not one. None if both are derivations. Whether the graph is
 /// covered is asked once: a graph with a derivation is.
 pub fn refusal_of_pair(
     alloc: Global,

@@ -1,5 +1,5 @@
--- What a task gives is settled by whether it succeeds: it is done where it succeeds, and refused
--- where not. A refused tree is no derivation, a refused list no ear list, and moves that fail
+-- What a task gives is settled by whether it succeeds: it is done if it succeeds, and refused
+-- if not. A refused tree is not a derivation, a refused list not an ear list, and moves that fail
 -- lead through no derivations to a last tree.
 use Rattle.std.proofs.Common.{◌≡◌, ◌∙◌, ℕ, List, [], ◌∷◌, ◌⊎◌, inl, inr, sym, subst}
 use Rattle.std.proofs.lemmas.Option.{none-some, same_Some}

@@ -21,7 +21,7 @@ use std::alloc::Global;
 ///
 /// For words of the table the answer is decided by what the files hold: a file that is not held,
 /// a bad file, or good ones, whose task is done or refused. It is never a fault of writing, and
-/// Apart from `Memory` there are no other answers.
+/// apart from `Memory` there are no other answers.
 pub fn run_in_memory(
     alloc: Global,
     words: &[String],

@@ -81,7 +81,7 @@ impl Partition {
         self.blocks[i]
     }
 
-    /// Whether `set` is a union of blocks; a set with a vertex beyond n is none. Takes no memory.
+    /// Whether `set` is a union of blocks; no set with a vertex beyond n is. Takes no memory.
     pub fn is_union(&self, set: VSet) -> bool
         ensures { IsTrue result ↔ IsUnionAt self.now set }
     {

@@ -1,4 +1,4 @@
-//! Do the definitions of the field mean what a textbook says?
+//! The definitions of the field mean what a textbook says.
 //!
 //! Many definitions of `graph_core` are degrees, counts or tests that compute, since proofs and
 //! code need them so. Each law here ties one of them to what it means: a test is true exactly

@@ -25,7 +25,7 @@ use Rattle.graph6_text.proofs.DistinctPairs.{present, present_at_most, any_chose
 use Rattle.graph6_text.proofs.Passing.{none_from_all_fail, outcome-graph}
 use Rattle.graph6_text.proofs.RoundTrip.{AreZeros, Filled, bits-bytes_of, length-bytes_of, is_digit-byte_of, digits-bytes_of}
 
--- a list of digits holds no byte that is none
+-- each byte of a list of digits is a digit
 digits_only : (xs ys : List ℕ) (byte : ℕ) → is_digit byte ≡ false → list_all is_digit (xs ++ byte ∷ ys) ≡ true → ⊥
 digits_only xs ys byte other h =
     both_ways (is_digit byte) other (and_parts (is_digit byte) (list_all is_digit ys) (and_parts (list_all is_digit xs) (list_all is_digit (byte ∷ ys)) (sym (list_all-append is_digit xs (byte ∷ ys)) ∙ h)).1).0

@@ -159,7 +159,7 @@ first_line_position text end some = elim (cases_lt (position_or_len is_line_feed
       cc
 ]
 
--- the first byte of a text without line feeds is none, and none is after it
+-- the first byte of a text without line feeds is not one, and none is after it
 no_feed-first : (byte : ℕ) (text : List ℕ) → HasNoFeed (byte ∷ text) → (is_line_feed byte ≡ false) × HasNoFeed text
 no_feed-first byte text none = elim (cases_Bool (is_line_feed byte)) [
   | inl feed ↦ let not_so : false ≡ true = rw feed at none in cc

@@ -48,7 +48,7 @@ fn tell_within_limit<'a, T: LineTeller>(
     Ok((place, rest))
 }
 
-// Tells the lines that a further piece makes whole, and holds what is left after them.
+// Answers the lines that a further piece makes whole, and holds what is left after them.
 pub fn add_piece<T: LineTeller>(
     alloc: Global,
     teller: &T,

@@ -17,7 +17,7 @@ use std::alloc::Global;
 /// The most bytes of a piece.
 const PIECE: usize = 65536;
 
-// Tells the lines that a further piece makes whole, and writes what is told of them.
+// Answers the lines that a further piece makes whole, and writes the answers.
 fn take_piece<T: LineTeller, K: Sink>(
     alloc: Global,
     teller: &T,
@@ -52,7 +52,7 @@ fn take_piece<T: LineTeller, K: Sink>(
     }
 }
 
-// Tells what is held at the end of the list, and writes what is told of it.
+// Answers what is held at the end of the list, and writes the answer.
 fn take_end<T: LineTeller, K: Sink>(
     alloc: Global,
     teller: &T,
@@ -81,7 +81,7 @@ fn take_end<T: LineTeller, K: Sink>(
     }
 }
 
-// Reads the list through a piece, and tells it.
+// Reads the list through a piece, and answers it.
 fn tell_through<T: LineTeller, S: Source, K: Sink>(
     alloc: Global,
     teller: &T,

@@ -1,4 +1,4 @@
-//! Which two vertices can be missed together?
+//! The table of partners: which two vertices can be missed together.
 //!
 //! Two vertices u and v outside a set R are partners if G - R - u - v has a perfect matching. A
 //! table of them says much about the structure of a graph: an edge is allowed exactly when its ends

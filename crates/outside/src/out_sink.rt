@@ -12,7 +12,7 @@ use std::marker::Model;
 /// The standard output of a runtime: the trusted edge, which says nothing about the content.
 ///
 /// A contract sees it as a `PrintState`: the count of faults, which stays at the greatest u64
-/// once it is there, and whether the last write failed since nobody reads any more.
+/// once it is there, and whether the last write failed because nobody reads any more.
 #[derive(Drop)]
 pub struct OutSink<'a, P: Print> {
     runtime: &'a P,

@@ -49,7 +49,7 @@ pub fn separation_cuts_law()
     ensures none { (g : Graph) → IsGraph g → cut_pair g ≡ None → separation_cuts g ≡ [] }
 {}
 
-/// A brick, that is a covered graph that is not bipartite and has no nontrivial tight cut, has at
+/// A brick, that is, a covered graph that is not bipartite and has no nontrivial tight cut, has at
 /// least four vertices, is bicritical and has no cut pair (Lovász 1987).
 pub fn brick_law()
     ensures four { (g : Graph) → IsMultigraph g → IsCovered g → ¬ (IsBipartite g) → 4 ≤ g.order }

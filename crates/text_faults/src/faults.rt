@@ -60,7 +60,7 @@ pub enum TextFault {
     Memory,
 }
 
-/// Want of memory, for `?` in a reader.
+/// Lack of memory, for `?` in a reader.
 impl From<AllocError> for TextFault {
     ghost use Rattle.text_faults.specs.declared.faults.TextFault.TheVariants.{Memory};
 

@@ -1,5 +1,5 @@
-//! What does the third part of the candidates list? Each law is the contract of a function that
-//! does nothing.
+//! The third part of the list of candidates. Each law is the contract of a function that does
+//! nothing.
 ghost use Rattle.std.specs.Prelude.{◌≡◌, ℕ, true, Some, None, ◌↔◌};
 ghost use Rattle.counting.specs.Counts.{Within};
 ghost use Rattle.counting.specs.Sets.{Set};

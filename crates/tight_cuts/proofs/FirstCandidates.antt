@@ -76,7 +76,7 @@ pub first-one : (g : Graph) (P : Candidate → Type 0) (list : List Candidate) �
 first-one g P [] a c h = absurd cc
 first-one g P (d ∷ list) a c h = let q : d ≡ c = cc in subst P q (All-head P d list a)
 
--- there is no first candidate exactly when there is none
+-- no first candidate is answered exactly when there is no candidate
 pub first-empty : (list : List Candidate) (found : Option StoredCandidate) (Q : Type 0) → ((list ≡ []) ↔ Q) → option_map candidate_of found ≡ first_of list → (found ≡ None) ↔ Q
 first-empty [] None Q h q = (λ e. h.0 refl, λ e. refl)
 first-empty [] (Some c) Q h q = absurd cc

@@ -101,8 +101,8 @@ pub record IsShoreOfPair (g : Graph) (e : ℕ) (k : ℕ × ℕ) (answer : Option
   pub some : (s : List ℕ) → answer ≡ Some s → (is_parted g (lesser_end g e) (greater_end g e) k ≡ true) × ((v : ℕ) → Within g.order v → mem s v ≡ common_shore g (lesser_end g e) (greater_end g e) k v)
   pub none : answer ≡ None → is_parted g (lesser_end g e) (greater_end g e) k ≡ false
 
--- what edge e gives: the common shore of the first pair that is separated, and nothing where there
--- is none
+-- what edge e gives: the common shore of the first pair that is separated, and nothing if there is
+-- none
 pub record IsShoreOfEdge (g : Graph) (e : ℕ) (answer : Option (List ℕ)) : Type 0 where
   pub some : (s : List ℕ) → answer ≡ Some s → (k : ℕ × ℕ) × (first_parted g e ≡ Some k) × ((v : ℕ) → Within g.order v → mem s v ≡ common_shore g (lesser_end g e) (greater_end g e) k v)
   pub none : answer ≡ None → first_parted g e ≡ None

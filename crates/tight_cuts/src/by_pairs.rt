@@ -1,4 +1,4 @@
-//! The candidates of a matching covered graph in the plain way: a minimum cut for each pair of
+//! The candidates of a matching covered graph by the plain search: a minimum cut for each pair of
 //! pieces of each edge.
 ghost use Rattle.std.specs.Prelude.{◌≡◌, ◌≢◌, ℕ, ◌+◌, [], ◌↔◌, true, All, IfOk, OnOk, Some, None};
 ghost use Rattle.std.specs.List.{AllPairs, list_any};

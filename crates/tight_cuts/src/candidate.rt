@@ -20,8 +20,8 @@ pub enum Origin {
     Barrier,
     /// A component of the graph without a cut pair, with the lesser vertex of the pair.
     Separation,
-    /// The common shore of all tight sets that part two pairs of vertices, found by a minimum cut
-    /// or by floods.
+    /// The common shore of all tight sets that separate two pairs of vertices, found by a minimum
+    /// cut or by floods.
     Flow,
 }
 

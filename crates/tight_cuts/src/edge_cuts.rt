@@ -17,7 +17,7 @@ pub(crate) trait EdgeSearch {
     // The search is made for this graph.
     ghost is_of: { Self → Graph → Type 0 };
 
-    /// What edge `e` gives: the common shore of all tight sets that part the first pair in
+    /// What edge `e` gives: the common shore of all tight sets that separate the first pair in
     /// lexicographic order that any separates; `None` exactly when no pair is separated.
     fn shore_of_edge(&self, alloc: Global, g: &MultiGraph, e: u32) -> Result<Option<VSet>, Memory>
         requires covered { IsCovered g.now }

@@ -110,9 +110,9 @@ fn listed(alloc: Global, c: &Covered) -> Result<CandidateList, Memory>
 
 /// The candidates of a matching covered graph, in order: first the cuts of barriers and of
 /// separations, then, for each edge by number that is in the cut of no earlier candidate, the cut
-/// of the common shore of all tight sets that part its first pair. Each is a nontrivial tight cut
-/// by its canonical shore, none comes twice, and each edge of each nontrivial tight cut is in the
-/// cut of a candidate; so the list is empty exactly when the graph has no nontrivial tight cut,
+/// of the common shore of all tight sets that separate its first pair. Each is a nontrivial tight
+/// cut by its canonical shore, none comes twice, and each edge of each nontrivial tight cut is in
+/// the cut of a candidate; so the list is empty exactly when the graph has no nontrivial tight cut,
 /// which for a covered graph means that it is a brick or a brace (Lovász 1987).
 pub fn candidates(alloc: Global, g: &MultiGraph) -> Result<CandidateList, Memory>
     requires { IsCovered g.now }
