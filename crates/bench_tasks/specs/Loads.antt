@@ -71,7 +71,7 @@ LoadsAs view (Ok x) loaded = loaded ≡ All (view x)
 LoadsAs view (Err stopped) loaded = StopsAs stopped loaded
 
 -- what a call that loads makes of a shelf, and what it answers: the files and whether the shelf
--- is steady stay as they were, the count of faults does not fall, and rose where a read failed;
+-- is steady stay as they were, the count of faults does not fall, and rose if a read failed;
 -- and if the files are known, the answer is what they hold, and over a steady shelf a
 -- read fails only at a file that is not held
 pub record Loads {S X A : Type 0} (told : S → Option (List Named)) (steady : S → Bool) (faults : S → ℕ) (view : X → A) (held : List Named → Loaded A) (result : Result X Stop) (before now : S) : Type 0 where

@@ -1,5 +1,5 @@
--- How many outputs has a task that is done? One, where its text is not free; what an analysis or
--- a refusal leaves free is one list of numbers.
+-- How many outputs does a done task have? One, if its text is not free; what an analysis or a
+-- refusal leaves free is one list of numbers.
 use Rattle.std.proofs.Common.{◌≡◌, ◌∙◌, ℕ, List, length, true, false, Option, Some, None, inl, inr, sym, subst, ap}
 use Rattle.outside.specs.Shelf.{Named}
 use Rattle.graph_core.specs.Graph.{Graph, IsMultigraph}

@@ -78,7 +78,7 @@ module _ (files again : List Named) (graph first second script output : List ℕ
           (sym read)
           (inl (inl (record { derivation = told.script.first; reached = t; turns = told.script.turns; done = refl; text = refl })))
 
-  -- what `script` gives where it is done
+  -- what `script` gives if it is done
   gives : (named : NamedGraph) (s t : Shape) → tree_given again graph first ≡ All (named, s) → trees_given files graph first second ≡ All (named, (s, t)) → ScriptGives named.graph s t Done output → ReplaysScript files again graph first second script output
   gives named s t given both (inl told) = replays named s t given both told
   gives named s t given both (inr (inl first_refused)) = let no = first_refused.negative in cc no

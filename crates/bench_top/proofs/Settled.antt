@@ -24,7 +24,7 @@ use Rattle.graph_core.specs.Covered.{IsCovered}
 use Rattle.bench_outcomes.specs.declared.status.Status.{Status}
 use Rattle.bench_outcomes.specs.declared.status.Status.TheVariants.{Done, Negative}
 
--- done where the fact holds, and refused where not
+-- done if the fact holds, and refused if not
 abbrev pub Settles : Type 0 → Status → Type 0
 Settles fact status = ((status ≡ Done) × fact) ⊎ ((status ≡ Negative) × (fact → ⊥))
 

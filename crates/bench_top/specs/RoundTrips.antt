@@ -16,7 +16,7 @@ use Rattle.bench_tasks.specs.Tasks.{Task}
 use Rattle.bench_outcomes.specs.declared.status.Status.{Status}
 use Rattle.bench_outcomes.specs.declared.status.Status.TheVariants.{Done}
 
--- by these files the words ask for a task that succeeds; so `run` does it, where the outside does
+-- by these files the words ask for a task that succeeds; so `run` does it, if the outside does
 -- not fail and memory lasts
 pub record AsksDone (words : List (List ℕ)) (files : List Named) : Type 0 where
   pub command : Command

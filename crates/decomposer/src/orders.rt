@@ -110,7 +110,7 @@ pub struct Scripted<'a> {
 }
 
 impl<'a> Scripted<'a> {
-    // The number that the list has for the node with so many cuts before it; 0 where it has none.
+    // The number that the list has for the node with so many cuts before it; 0 if it has none.
     fn number(&self, cuts: usize) -> u32
         ensures { result ≡ slice_index_or self.now.picks.now cuts 0 }
     {

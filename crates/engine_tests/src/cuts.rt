@@ -49,7 +49,7 @@ fn answer(alloc: Global, graph: &MultiGraph, set: VSet) -> Result<Option<Tightne
     Ok(None)
 }
 
-// The edges of the matching that crosses the cut of a set; none where the cut is tight.
+// The edges of the matching that crosses the cut of a set; none if the cut is tight.
 fn crossing(alloc: Global, graph: &MultiGraph, set: VSet) -> Result<VSet, Fail> {
     let mut edges = VSet::empty();
     if let Some(Tightness::Crossed { matching }) = answer(alloc, graph, set)? {
@@ -63,7 +63,7 @@ fn crossing(alloc: Global, graph: &MultiGraph, set: VSet) -> Result<VSet, Fail> 
     Ok(edges)
 }
 
-// A graph, a set of an odd number of its vertices, and the matching that crosses its cut; no edges where the cut is tight.
+// A graph, a set of an odd number of its vertices, and the matching that crosses its cut; no edges if the cut is tight.
 static WORKED: [(u32, &[(u32, u32)], u32, u32); 3] = [
     (8, &TRIANGLE_IN_K33, 0b111, 0),
     (6, &PRISM, 0b111, 0b111 << 6),
@@ -97,7 +97,7 @@ fn agrees(alloc: Global, graph: &MultiGraph, set: VSet) -> Result<Option<bool>, 
     }
 }
 
-// The number of the sets of the vertices 1 to 8 with an odd number of vertices of the graph; none where an answer is not that of the
+// The number of the sets of the vertices 1 to 8 with an odd number of vertices of the graph; none if an answer is not that of the
 // plain program.
 fn odd_sets(alloc: Global, graph: &MultiGraph) -> Result<Option<u32>, Fail>
     requires { IsSmall graph.now }
@@ -134,7 +134,7 @@ fn all_odd_sets_of_small_graphs(rt: HostRuntime) -> Result<(), Fail> {
     Ok(())
 }
 
-// The candidates of a graph; none where it is not matching covered.
+// The candidates of a graph; none if it is not matching covered.
 fn candidates_if_covered(alloc: Global, graph: &MultiGraph) -> Result<CandidateList, Fail> {
     if is_covered(alloc, graph)? {
         return Ok(candidates(alloc, graph)?);

@@ -74,7 +74,7 @@ fn wheel(alloc: Global, rim: u32) -> Result<MultiGraph, Fail>
 }
 
 // Two paths of so many vertices, each vertex of the first joined to its partner in the second.
-// The ends of each path are joined, which makes a prism; or, where it is twisted, each to the
+// The ends of each path are joined, which makes a prism; or, if it is twisted, each to the
 // start of the other path, which makes a Möbius ladder.
 fn ladder(alloc: Global, rungs: u32, is_twisted: bool) -> Result<MultiGraph, Fail>
     requires three { 3 ≤ rungs }

@@ -70,7 +70,7 @@ fn answer(
     }
 }
 
-// The canonical text of the graph file: of version 1, or where that has no room of version 2 with
+// The canonical text of the graph file: of version 1, or if that has no room of version 2 with
 // plain names.
 #[tactic(auto, unfolding(crate::specs::Telling::file_text))]
 fn file_text(alloc: Global, g: &MultiGraph) -> Result<Vec<u8>, Memory>

@@ -27,7 +27,7 @@ pub prepended-prepended :
 prepended-prepended first second None = refl
 prepended-prepended first second (Some rest) = ap Some (sym (append_assoc first second rest))
 
--- where bytes were read, the list is these bytes and what is left
+-- if bytes were read, the list is these bytes and what is left
 pub record ListIs (before : Option (List ℕ)) (read : List ℕ) : Type 0 where
   pub rest : List ℕ
   pub is_left : IsLeft before (read ++ rest)

@@ -125,7 +125,7 @@ first_line_cut (byte ∷ text) found = elim (cases_Bool (is_line_feed byte)) [
       (IsFirstLine-byte byte text _ _ other (first_line_cut text (omega arith)))
 ]
 
--- where no line feed is found, there is none
+-- if no line feed is found, there is none
 pub no_feed_found : (text : List ℕ) → length text ≤ position_or_len is_line_feed text → HasNoFeed text
 no_feed_found [] none = refl
 no_feed_found (byte ∷ text) none = elim (cases_Bool (is_line_feed byte)) [

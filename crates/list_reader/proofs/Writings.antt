@@ -1,4 +1,4 @@
--- What is put into an empty output and then written: all of it where the writes took it whole,
+-- What is put into an empty output and then written: all of it if the writes took it whole,
 -- else a proper prefix of it.
 use Rattle.std.proofs.Common.{◌≡◌, ℕ, ◌<◌, List, [], ◌++◌, length, take, sym, subst, refl, ◌∙◌, ap}
 use Rattle.std.specs.declared.option.Option.{Option}

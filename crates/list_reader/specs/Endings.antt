@@ -79,7 +79,7 @@ pub record WroteCut {K : Type 0} (written : K → Option (List ℕ)) (writes : K
   pub now : written last ≡ appended (written first) (take count whole)
   pub cut : IsCutOff writes whole count first last
 
--- what was written up to an ending, of which this holds: nothing where memory ran out, and
+-- what was written up to an ending, of which this holds: nothing if memory ran out, and
 -- nothing after a write that failed
 abbrev pub WroteUpTo :
     {K : Type 0} → (K → Option (List ℕ)) → (K → List ℕ → ℕ → K → Type 0) → (Ending → List ℕ → Type 0) → Ending → K → K → Type 0

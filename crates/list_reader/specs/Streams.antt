@@ -38,7 +38,7 @@ Steps tells reads writes zero first last = last ≡ first
 Steps {S} {K} tells reads writes (suc count) first last =
     (next : Stage S K) × (Step tells reads writes first next × Steps tells reads writes count next last)
 
--- what may stand after a piece that was read: nothing where the read gave nothing, since then the
+-- what may stand after a piece that was read: nothing if the read gave nothing, since then the
 -- list is at its end
 abbrev pub MayFollow : (piece rest : List ℕ) → Type 0
 MayFollow [] rest = rest ≡ []

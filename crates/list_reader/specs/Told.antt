@@ -31,7 +31,7 @@ LineBad bad place line kind =
     ((most_line < length line) × (kind ≡ Limit)) ⊎
     (IsFalse (is_header place.number line) × (length line ≤ most_line) × bad place line kind)
 
--- what is kept of a line: the whole of it, or its beginning where that is too long for a line
+-- what is kept of a line: the whole of it, or its beginning if that is too long for a line
 abbrev pub IsKept : (line kept : List ℕ) → Type 0
 IsKept line kept = (kept ≡ line) ⊎ ((most_line < length kept) × ((rest : List ℕ) × (line ≡ kept ++ rest)))
 
@@ -48,7 +48,7 @@ pub record IsFound (number : ℕ) (kind : FaultKind) (text : List ℕ) (found : 
   pub of_kind : found.kind ≡ kind
   pub kept : found.text.items ≡ text
 
--- where a bad line is why the answers stop, this holds of what is found of it
+-- if a bad line is why the answers stop, this holds of what is found of it
 abbrev pub IfBad : (BadLine → Type 0) → Stop → Type 0
 IfBad holds (stop.Bad found) = holds found
 IfBad holds stop.Memory = Unit {0}

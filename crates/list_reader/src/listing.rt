@@ -23,7 +23,7 @@ pub struct Listing {
     pub held: Vec<u8>,
 }
 
-// Answers the whole lines of a text, as `tell_lines` does, and refuses what is left of it where
+// Answers the whole lines of a text, as `tell_lines` does, and refuses what is left of it if
 // that is too long for a line.
 fn tell_within_limit<'a, T: LineTeller>(
     alloc: Global,

@@ -145,14 +145,14 @@ pub fn tell_all<T: LineTeller, S: Source, K: Sink>(
     ensures gives { (bytes : List ℕ) → S.left source.old ≡ Some bytes
         → Appended (Gives (T.tells teller.now) (T.bad teller.now) (T.lacks teller.now) first_place
         (lines_of bytes) result) (K.written sink.old) (K.written sink.new) }
-    // Where the source does not make known what is left, it is what the lines of some list give.
+    // If the source does not make known what is left, it is what the lines of some list give.
     ensures tells { TellsList (T.tells teller.now) (T.bad teller.now) (T.lacks teller.now) result
         (S.left source.old) (K.written sink.old) (K.written sink.new) }
-    // Where the source fails, each whole line of what was read is answered and written.
+    // If the source fails, each whole line of what was read is answered and written.
     ensures torn { result ≡ Ending.ReadFault
         → Appended (ReadsTold (T.tells teller.now) (S.left source.old) (S.left source.new))
         (K.written sink.old) (K.written sink.new) }
-    // A fault of the outside comes only where its count rose in this call.
+    // A fault of the outside comes only if its count rose in this call.
     ensures read_fault { result ≡ Ending.ReadFault →
         Rose (S.faults source.old) (S.faults source.new) }
     ensures write_fault { result ≡ Ending.WriteFault →

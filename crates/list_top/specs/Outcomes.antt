@@ -33,7 +33,7 @@ Outcome query bytes BadInput output = StopsAtBad query bytes output
 Outcome query bytes WriteFault output = CutShort (TellsLineOf query) first_place (lines_of bytes) output
 Outcome query bytes Memory output = BeginningTold (TellsLineOf query) first_place (lines_of bytes) output
 
--- what was written is an outcome of some list: of the bytes that were left of the source, where
+-- what was written is an outcome of some list: of the bytes that were left of the source, if
 -- it makes them known
 pub record TellsSome (query : Query) (status : Status) (left before now : Option (List ℕ)) : Type 0 where
   pub bytes : List ℕ

@@ -1,4 +1,4 @@
--- The loop over the edges. Idea: what an edge gives is tight, and where some nontrivial tight set
+-- The loop over the edges. Idea: what an edge gives is tight, and if some nontrivial tight set
 -- has the edge in its cut, so has a candidate then.
 use Rattle.std.proofs.Common.{◌≡◌, ℕ, suc, zero, ◌≤◌, Bool, true, false, cond, ◌==◌, refl, sym, ap, ap₂, ◌∙◌, arith, ◌&&◌, ◌||◌, not, inl, inr, ◌⊎◌, List, [], ◌∷◌, subst, map, flat_map, Option, Some, None, eq-eqb, ne_eqb, eqb-true, min, max}
 use Rattle.std.proofs.lemmas.Bool.{cases_eq, cases_lt, cases_Bool, and_parts, and_from, or_from, or_left, or_right, true≢false, both_ways, not-true}

@@ -27,7 +27,7 @@ module _ (g : Graph) (lim : IsWithinLimits g) (cov : IsCovered g) (e : ℕ) (we 
       let l = first_leads g ld.beside lim.multigraph.ends (lesser_end g e) (greater_end g e) e (lesser_within g lim cov e we) (greater_within g lim cov e we) we (ends_between g e) ld.is k q in
       (f.0, least_leads g lim cov e we leaders ld k.0 f.1 p.0 l.0, least_leads g lim cov e we leaders ld k.1 f.2 p.1 l.1)
 
-  -- where no pair of different leaders is separated from a pair on, none is
+  -- if no pair of different leaders is separated from a pair on, none is
   abbrev pub LeadersBefore : ℕ → ℕ → Type 0
   LeadersBefore x y = (c d : ℕ) → Leads g e leaders c → Leads g e leaders d → (c < x) ⊎ ((c ≡ x) × (d < y)) → parted (c, d) ≡ false
 

@@ -58,7 +58,7 @@ module _ (g : Graph) (lim : IsWithinLimits g) (cov : IsCovered g) (e : ℕ) (we 
       let p = parted_says g a b (x, y) t in
       false_from_ne_true (shore y) (λ s. true≢false (sym (shore_in p.2.0 (narrower g a b x y p.2.0 p.2.1) y wy s) ∙ p.2.1.lacks_y))
 
-  -- where it lacks y it is the common shore of x and y
+  -- if it lacks y it is the common shore of x and y
   shore_common : (y : ℕ) → Within g.order y → PartsTightly g a b (x, b) shore → shore y ≡ false → (v : ℕ) → Within g.order v → shore v ≡ common_shore g a b (x, y) v
   shore_common y wy p l v w = same_tests (shore v) (common_shore g a b (x, y) v)
       (λ t. common_from g is a b (x, y) wa wb wx wy v (λ z q. shore_in z (narrower g a b x y z q) v w t))
@@ -70,7 +70,7 @@ module _ (g : Graph) (lim : IsWithinLimits g) (cov : IsCovered g) (e : ℕ) (we 
       (or_from (a == y) (b == y) (ne_eqb a y (λ q. both_ways (shore a) (ap shore q ∙ l) p.has_a)) (ne_eqb b y (λ q. yb (sym q))))
       (wider g a b x y shore p l)
 
-  -- the first pair has x for its first vertex, where no earlier vertex has a pair and x has one
+  -- the first pair has x for its first vertex, if no earlier vertex has a pair and x has one
   first_at : (y : ℕ) → Within g.order y → NoneBefore g e x 1 → is_parted g a b (x, y) ≡ true → (d : ℕ) × Within g.order d × (first_parted g e ≡ Some (x, d)) × (is_parted g a b (x, d) ≡ true)
   first_at y wy h t = go (first_parted g e) refl
     where

@@ -67,7 +67,7 @@ pub edges-known : (g : Graph) (list : List Candidate) (k : ℕ) → ((e : ℕ) �
 edges-known g list zero h = refl
 edges-known g list (suc k) h = edge-known g list (suc k) (h (suc k) (omega arith, omega arith)) ∙ ap (λ l. with_edge_cut g l (suc k)) (edges-known g list k (λ e w. h e (omega arith))) ∙ sym (after_suc g list k)
 
--- where some edges have given nothing and no edge is left, there is no candidate
+-- if some edges have given nothing and no edge is left, there is no candidate
 pub first-none : (g : Graph) (list : List Candidate) (k : ℕ) → k ≡ size g → list ≡ after_edges g (front_candidates g) k → list ≡ [] → None ≡ first_of (candidates g)
 first-none g list k q h z = ap first_of (sym z ∙ edges-all g list k q h)
 

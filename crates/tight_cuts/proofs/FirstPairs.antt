@@ -83,7 +83,7 @@ before_first n p k h x y wx wy l =
       | inr t ↦ t
     ]
 
--- where each pair fails, none is found
+-- if each pair fails, none is found
 pub no_first : (n : ℕ) (p : ℕ × ℕ → Bool) → ((x y : ℕ) → Within n x → Within n y → p (x, y) ≡ false) → find p (ordered_pairs n) ≡ None
 no_first n p h = go (find p (ordered_pairs n)) refl
   where

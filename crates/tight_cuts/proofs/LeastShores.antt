@@ -73,7 +73,7 @@ module _ (g : Graph) (is : IsGraph g) (a b : ℕ) (k : ℕ × ℕ) (wa : Within 
         )
       ]
 
-  -- v is in the common shore where it is in each
+  -- v is in the common shore if it is in each
   pub common_in : (v : ℕ) → Within g.order v → common_shore g a b k v ≡ true → (z : Set) → PartsTightly g a b k z → z v ≡ true
   common_in v w h z p = implied (parts_tightly g a b k z) (z v) (each_passes g.order (λ z. not (parts_tightly g a b k z) || z v) (record { same = λ s t e. ap₂ (λ c d. not c || d) (parts_same s t e) (e v w) }) h z) (parts_found g a b k z p)
     where

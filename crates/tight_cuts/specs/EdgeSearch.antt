@@ -49,7 +49,7 @@ pub record AreRowsAt (g : Graph) (e : ℕ) (weights : List ℕ) (bound : ℕ) (l
   pub weighed : AreWeights g weights bound
   pub led : AreLeaders g e leaders
 
--- an arc between two nodes, and none where they are one
+-- an arc between two nodes, and none if they are one
 abbrev pub arc_between : ℕ → ℕ → ℕ → List Arc
 arc_between a b capacity = cond (a == b) [] (record { a = a; b = b; capacity = capacity } ∷ [])
 
@@ -85,13 +85,13 @@ pub record Leads (g : Graph) (e : ℕ) (leaders : List ℕ) (x : ℕ) : Type 0 w
 abbrev pub IsBeyond : Graph → ℕ → List ℕ → ℕ → ℕ → Type 0
 IsBeyond g e leaders x y = (Leads g e leaders y × (x ≢ y)) ⊎ (y ≡ greater_end g e)
 
--- the vertices of the least cut of the groups' network, where some cut is within the bound
+-- the vertices of the least cut of the groups' network, if some cut is within the bound
 pub record IsCutOfGroups (g : Graph) (weights leaders : List ℕ) (bound a b x y : ℕ) (answer : Option (List ℕ)) : Type 0 where
   pub some : (s : List ℕ) → answer ≡ Some s → (set : List ℕ) × (value : ℕ) × IsLeastCut (group_net g weights leaders a b x y) a b set value × (value ≤ bound) × ((v : ℕ) → Within g.order v → mem s v ≡ mem set (row_group a b x y leaders v))
   pub none : answer ≡ None → HasCutWithin (group_net g weights leaders a b x y) a b bound → ⊥
 
 -- the intersection of all tight sets with a and the first vertex of the pair and with neither b
--- nor the second, where there is one
+-- nor the second, if there is one
 pub record IsCommonShore (g : Graph) (a b : ℕ) (k : ℕ × ℕ) (answer : Option (List ℕ)) : Type 0 where
   pub some : (s : List ℕ) → answer ≡ Some s → ((z : Set) × PartsTightly g a b k z) × ((v : ℕ) → Within g.order v → mem s v ≡ common_shore g a b k v)
   pub none : answer ≡ None → (z : Set) → PartsTightly g a b k z → ⊥

@@ -76,7 +76,7 @@ fn digraph_at(
     }
 }
 
-// What the pairs (x, y) give, for one x and all y, where no pair before them is separated.
+// What the pairs (x, y) give, for one x and all y, if no pair before them is separated.
 fn shore_from(g: &MultiGraph, digraph: &Digraph, e: u32, x: u32) -> Option<VSet>
     requires covered { IsCovered g.now }
     requires edge { Within (size g.now) e }

@@ -21,7 +21,7 @@ use graph_facts::Covered;
 use std::alloc::{AllocError as Memory, Global};
 use vset_core::VSet;
 
-// What the pair (x, y) gives, where no pair before it is separated; nothing unless y leads a piece
+// What the pair (x, y) gives, if no pair before it is separated; nothing unless y leads a piece
 // of its own.
 fn shore_at(
     alloc: Global,

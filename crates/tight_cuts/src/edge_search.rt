@@ -27,7 +27,7 @@ use graph_core::MultiGraph;
 use std::alloc::{AllocError as Memory, Global};
 use vset_core::{MOST_VERTICES, VSet};
 
-// The least vertex of the first piece that holds the vertex, and the vertex itself where none does.
+// The least vertex of the first piece that holds the vertex, and the vertex itself if none does.
 fn leader_in(pieces: &[VSet], v: u32) -> u32
     requires { Within MOST_VERTICES v }
     ensures { result ≡ leader pieces.now v }
@@ -148,7 +148,7 @@ pub(crate) fn first_lacking(shore: VSet, n: u32, b: u32) -> Option<u32>
     VSet::full(n).minus(shore).without(b).first()
 }
 
-// What the pairs (x, y) give, for one x and all y, where no pair before them is separated; nothing
+// What the pairs (x, y) give, for one x and all y, if no pair before them is separated; nothing
 // unless x leads a piece.
 fn shore_from<P: PieceSearch>(
     alloc: Global,
