@@ -5,7 +5,8 @@
 //! vertices that became it. Its row keeps the neighbours that its members had before any shrinking.
 //! So two vertices are adjacent if the row of one holds a member of the other (`Touches`), and a
 //! shrinking writes no more than the row and the members of the base, each as the union over the
-//! blossom. No row of a neighbour changes, and it is undone by putting back what stood there.
+//! blossom. No row of a neighbour changes, and a shrinking is undone by putting back what stood
+//! there.
 ghost use Rattle.std.specs.Prelude.{◌≡◌, ◌≢◌, ℕ, ◌+◌, ◌-◌, ◌<◌, ◌≤◌, true, false, length, IfOk, ◌∷◌, [], ◌↔◌};
 ghost use Rattle.counting.specs.Counts.{Within};
 ghost use Rattle.counting.specs.Sets.{Set};
