@@ -68,7 +68,7 @@ pub record RefusedEars (g : Graph) (list : PlainEars) (status : Status) (output 
 abbrev pub EarCheckGives : Graph → PlainEars → Status → List ℕ → Type 0
 EarCheckGives g list status output = AcceptedEars g list status output ⊎ (RefusedEars g list status output ⊎ Uncovered g status output)
 
--- an ear list of the covered graph, of single ears if the graph is bipartite: the output is
+-- an ear list of the covered graph, of single ears where the graph is bipartite: the output is
 -- its text, and then the numbers of its steps as a comment
 pub record BuiltEars (g : Graph) (status : Status) (output : List ℕ) : Type 0 where
   pub covered : IsCovered g

@@ -1,4 +1,4 @@
-//! The cut of a node: the candidate that an order picks. If the order takes the first one, no
+//! The cut of a node: the candidate that an order picks. Where the order takes the first one, no
 //! other is looked for.
 ghost use Rattle.std.specs.Prelude.{◌≡◌, IfOk};
 ghost use Rattle.graph_core.specs.Covered.{IsCovered};

@@ -23,11 +23,11 @@ use match_core::{Matching, perfect_without};
 use std::alloc::{AllocError as Memory, Global};
 use vset_core::VSet;
 
-/// An ear list of a matching covered graph, from its edge 1; each step has one ear if the
+/// An ear list of a matching covered graph, from its edge 1; each step has one ear where the
 /// graph is bipartite. One perfect matching is kept. At each stage another one that holds an edge
 /// leading out of it makes ears together with the kept one, of which one is added that keeps the
 /// stage matching covered, else two. The numbers of the list are in range and no ear is empty.
-/// `Memory` is lack of memory alone. Lovász and Plummer, "Matching Theory", section 5.4.
+/// `Memory` is want of memory alone. Lovász and Plummer, "Matching Theory", section 5.4.
 pub fn build_ears(alloc: Global, g: &MultiGraph) -> Result<EarList, Memory>
     requires { IsCovered g.now }
     ensures list { IfOk result (λ list. IsEarList g.now (ears_of list)) }

@@ -9,7 +9,7 @@
 //!
 //! `check_ears` accepts exactly the ear lists of a graph, and of another list it names the first
 //! refusal. `build_ears` makes an ear list of each matching covered graph, of single ears alone
-//! if the graph is bipartite.
+//! where the graph is bipartite.
 //!
 //! `laws::ear_tests_law`: the tests say that an ear is one. `laws::new_stage_law`: after them a
 //! new stage can fail by an edge in no perfect matching alone. `laws::first_refusal_law`: an ear

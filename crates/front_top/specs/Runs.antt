@@ -17,7 +17,7 @@ use Rattle.bench_outcomes.specs.declared.status.Status.TheVariants as status
 use Rattle.bench_top.specs.Calm.{HasRead, IsCalm}
 
 -- a run of these words ended so, and led from the first shelf to the last, and from one sink to
--- the other; the functions are those that speak of the shelf and of the sink
+-- the other; the functions are those that tell of the shelf and of the sink
 pub record IsRun {S K : Type 0} (holds : S → Option (List Named)) (is_steady : S → Bool) (faults : S → ℕ) (reads : S → List ℕ → S → Type 0)
     (written : K → Option (List ℕ)) (sink_faults : K → ℕ) (words : List (List ℕ)) (ended : Status) (first last : S) (before now : K) : Type 0 where
   pub usage : (ended ≡ status.Usage) ↔ (command_of words ≡ None)

@@ -23,7 +23,7 @@ pub struct BadFile<'a> {
     pub name: &'a str,
     /// What it is read as.
     pub role: Role,
-    /// The line of its first fault, counted from 1; 0 if it is too long.
+    /// The line of its first fault, counted from 1; 0 where it is too long.
     pub line: u32,
     /// The number of the kind of the fault.
     pub kind: u32,

@@ -14,7 +14,7 @@ use Rattle.list_top.specs.declared.status.Status.{Status}
 use Rattle.list_top.proofs.Ended.{appended_outcome, tells_some}
 use Rattle.list_front.specs.Words.{status_in}
 
--- if there is a command, there is an ending
+-- where there is a command, there is an ending
 pub ended : (ending : Option Ending) (command : Option Command) (asked : Command) → (ending ≡ None ↔ (command ≡ None)) → command ≡ Some asked →
     ending ≡ None → ⊥
 ended ending command asked usage is none = none-some asked (sym (usage.0 none) ∙ is)

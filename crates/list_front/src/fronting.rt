@@ -76,7 +76,7 @@ fn speak<S: Source, K: Outlet, E: Sink>(
 /// list ended, in words, unless it is to be quiet. Words that ask for the usage or the version
 /// are answered on the first sink, and nothing is read.
 ///
-/// The reason is why the list cannot be read, if the caller knows that. A fault of the second
+/// The reason is why the list cannot be read, where the caller knows that. A fault of the second
 /// sink changes nothing else.
 pub fn run_list_front<S: Source, K: Outlet, E: Sink>(
     alloc: Global,

@@ -6,7 +6,7 @@
 //! standard output has data alone. Main definitions, in specs/: `answer_of` of `Answers` (what
 //! such words are answered), `IsListRun` of `Runs` (the clauses of `run`), and `words_of` of
 //! `Words`, what is said of each ending: of a bad line its number, its fault and its text, and
-//! nothing if each line was answered. Main promises: the clauses of `run_list_front`.
+//! nothing where each line was told. Main promises: the clauses of `run_list_front`.
 //!
 //! Stands on `list_top` for the run, on `list_reader` for the endings of a list, on `front_words`
 //! for the words, and on `outside` for the source and the sinks.

@@ -17,7 +17,7 @@ const PROGRAM: &str = "mcg6";
 pub struct Clues<'a> {
     /// The name of the file that holds the list, if it is not standard input.
     pub name: Option<&'a str>,
-    /// Why the list cannot be read, if that is known.
+    /// Why the list cannot be read, where that is known.
     pub reason: Option<Reason>,
     /// Nobody reads the output any more.
     pub is_abandoned: bool,
@@ -44,7 +44,7 @@ fn say_nothing<E: Sink>(_errors: &mut E) -> Result<(), SinkFailed>
 }
 
 /// Says what the ending of a run means, or with no ending that the words matched no command;
-/// nothing if each line was answered. Takes no memory.
+/// nothing where each line was told. Takes no memory.
 pub fn say_ending<'a, E: Sink>(
     errors: &mut E,
     ending: &Option<Ending>,
@@ -59,7 +59,7 @@ pub fn say_ending<'a, E: Sink>(
     }
 }
 
-// Says how a list ended; nothing if each line was answered.
+// Says how a list ended; nothing where each line was told.
 fn say_list_ending<'a, E: Sink>(
     errors: &mut E,
     ending: &Ending,

@@ -1,4 +1,4 @@
-//! Tests of the answers to the lines of a list, by public calls alone.
+//! Tests of what is told of the lines of a list, by public calls alone.
 //!
 //! `kinds` asks each query for single lines: a row has the line and what is written for it.
 //! `selections` counts what is kept of the connected cubic graphs, whose table is in `cubic`.

@@ -3,7 +3,7 @@
 //! The words are a `Command`: what is asked of each graph (`Query` of `list_lines`), and the file
 //! that holds the list, if it is not the standard input. The list is read by `tell_all` of
 //! `list_reader`, line by line. Main definitions, in specs/: `command_of` (what the words ask
-//! for), `TellsLineOf` and `IsBadLine` (the answer to one line), `lacks_of` (what a list lacks:
+//! for), `TellsLineOf` and `IsBadLine` (what is told of one line), `lacks_of` (what a list lacks:
 //! a file of one graph has one graph), and `Outcome`, which ties the bytes of the list, the
 //! status and the output together. Main promises: the clauses of `run`; `run_to_ending` answers
 //! beside them what is found of the first bad line.

@@ -145,7 +145,7 @@ pub fn plan(words: &[String]) -> Option<Command<'_>>
     }
 }
 
-/// The name of the file that holds the list, if the words ask for one. Takes no memory.
+/// The name of the file that holds the list, where the words ask for one. Takes no memory.
 pub fn file_name(words: &[String]) -> Option<&str>
     ensures { text_of result ≡ file_of (command_of (map string_bytes words.now)) }
 {

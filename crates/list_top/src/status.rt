@@ -7,7 +7,7 @@ use list_reader::Ending;
 /// How a run ended. The codes are those of `mcg`, which has one more, 1.
 #[derive(Clone, Copy, Debug, PartialEq, Eq)]
 pub enum Status {
-    /// Each line was answered.
+    /// Each line was told.
     Done = 0,
     /// The words match no command; nothing was read or written.
     Usage = 2,

@@ -22,7 +22,7 @@ pub trait Keeping: Explain {
     fn kept(&self) -> Option<&[u8]>
         ensures { option_map (λ bytes. bytes.now) result ≡ kept self.now };
 
-    /// After a read of a name, what is kept is the file of that name, if the files are known.
+    /// After a read of a name, what is kept is the file of that name, where the files are told.
     ghost kept_is: { (before : Self) (name : List ℕ) (now : Self) → Self.reads before name now →
         IsFileOf (Self.files before) name (kept now) };
 }
@@ -68,7 +68,7 @@ impl<S: Shelf + Drop> Shelf for KeepingShelf<S> {
 
         ensures reads { KeepsRead S.files S.reads self.old.shelf name.now self.new.shelf
             (bytes_kept self.new.kept) }
-        // What it gives it keeps, and if it gives nothing it keeps nothing.
+        // What it gives it keeps, and where it gives nothing it keeps nothing.
         ensures keeps { IfOk result (λ bytes. bytes_kept self.new.kept ≡ Some bytes.items) }
         ensures drops { OnErr result (self.new.kept ≡ None) }
 

@@ -51,7 +51,7 @@ pub trait Shelf {
     ghost steady: { Self → Bool };
 
     /// A read of that name leads from the first shelf to the second. Code that is generic over
-    /// its shelf knows no other way from one shelf to the next, so by this it says which names
+    /// its shelf knows no other way from one shelf to the next, so by this it tells which names
     /// it asked for, and in which order (`ReadsInTurn`).
     ghost reads: { Self → List ℕ → Self → Type 0 };
 

@@ -289,7 +289,7 @@ fn moves_that_are_too_long(rt: HostRuntime) -> Result<(), Fail> {
 }
 
 // Words, the first two of their files, of which one ends too early, and its number. The graph
-// comes first, and a graph that is not covered is reported only if the other file is good.
+// comes first, and a graph that is not covered is told of only where the other file is good.
 static EARLY_ENDS: [(&[&str], [&str; 2], u32); 11] = [
     (&["check", "g", "s"], ["p mcg 2 1\n", "t mcg 6\ncut\n"], 1),
     (&["check", "g", "s"], [TWO_EDGES, "t mcg 4\n"], 2),
@@ -322,7 +322,7 @@ fn the_first_bad_file(rt: HostRuntime) -> Result<(), Fail> {
     Ok(())
 }
 
-// Two trees, of which the second is outside the format, or both are: the first one is reported.
+// Two trees, of which the second is outside the format, or both are: then the first one is told.
 static SECOND_TREES: [Row; 4] = [
     (
         &[HEXAGON, HEXAGON_TREE, "t mcg 6\ncut 6 2\n"],

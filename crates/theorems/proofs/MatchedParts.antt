@@ -57,7 +57,7 @@ perfect_within g m x met no_cross = record {
         let a = total_none (size g) (λ e. bit ((m e && inside g x e) && (first_end g e == v))) (λ e w. ap bit (gone (m e) (x (first_end g e)) (x (second_end g e)) (first_end g e == v) (λ t. ap x (eqb-true (first_end g e) v t) ∙ o))) in
         let b = total_none (size g) (λ e. bit ((m e && inside g x e) && (second_end g e == v))) (λ e w. ap bit (gone' (m e) (x (first_end g e)) (x (second_end g e)) (second_end g e == v) (λ t. ap x (eqb-true (second_end g e) v t) ∙ o))) in omega arith
 
--- an edge crosses x if and only if one of its ends is in x and the other is not
+-- an edge crosses x where one of its ends is in x and the other is not, and nowhere else
 crossing_ends : (g : Graph) (x : Set) (e : ℕ) → in_cut g x e ≡ true → (v w : ℕ) × HasEnds g e v w × (x v ≡ true) × (x w ≡ false)
 crossing_ends g x e h = go (x (first_end g e)) (x (second_end g e)) refl refl h
   where

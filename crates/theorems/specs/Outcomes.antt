@@ -74,7 +74,7 @@ pub record TellsKind (named : NamedGraph) (output : List ℕ) : Type 0 where
   pub composite : (x : List ℕ) → structure.kind ≡ Composite x → IsTight named.graph (mem x) × IsNontrivial named.graph.order (mem x)
   pub text : output ≡ with_given_names (analysis_text lines) named.names false
 
--- the output of `ears` gives an ear decomposition, of single ears if the graph is bipartite
+-- the output of `ears` tells an ear decomposition, of single ears where the graph is bipartite
 pub record TellsEars (g : Graph) (output : List ℕ) : Type 0 where
   pub list : PlainEars
   pub ears : IsEarList g list

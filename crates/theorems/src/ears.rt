@@ -12,7 +12,7 @@ ghost use Rattle.graph_core.specs.Graph.{Graph, IsBipartite, IsGraph, IsMultigra
 ghost use Rattle.theorems.specs.Ears.{ear_count};
 
 /// Each matching covered graph has an edge, and from each edge an ear decomposition with steps of
-/// one ear or two, with single ears alone if it is bipartite (Lovász and Plummer, "Matching
+/// one ear or two, with single ears alone where it is bipartite (Lovász and Plummer, "Matching
 /// Theory", sections 4.1 and 5.4).
 pub fn ear_list_exists_law()
     ensures edge { (g : Graph) → IsMultigraph g → IsCovered g → Within (size g) 1 }

@@ -1,6 +1,6 @@
 -- The candidates at a partition: each is a candidate there, and there is none exactly when no
 -- nontrivial shore is tight. Idea: they are those of the graph itself, or those of the quotient
--- taken to vertices of the graph.
+-- led back.
 use Rattle.std.proofs.Common.{◌≡◌, ◌↔◌, All, List, [], length, sym, subst, inl, inr, ℕ}
 use Rattle.std.proofs.lemmas.Bool.{cases_eq}
 use Rattle.counting.specs.Sets.{Set}

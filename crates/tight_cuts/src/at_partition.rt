@@ -95,7 +95,7 @@ pub fn first_candidate_at(
     Ok(found)
 }
 
-// The candidates of the quotient, with the shore as vertices of the graph.
+// The candidates of the quotient, led back to the graph.
 fn lifted(alloc: Global, q: &Contracted, found: &CandidateList) -> Result<CandidateList, Memory>
     ensures { (g : Graph) (p : List (List ℕ)) → q.now ≡ contraction g p →
         IfOk result (λ list. list ≡ map (lifted_candidate g p) found.now) }

@@ -22,7 +22,7 @@
 //! trait `EdgeSearch`).
 //!
 //! `candidates_at` lists the candidates at a partition of the vertices into blocks: those of the
-//! quotient, taken to vertices of the graph (`IsCandidateAt`); `first_candidate_at` answers
+//! quotient, led back to vertices of the graph (`IsCandidateAt`); `first_candidate_at` answers
 //! the first.
 //!
 //! Stands on `contraction`, `allowed_edges`, `barrier_kit`, `separation_kit`, `brick_kit`,
