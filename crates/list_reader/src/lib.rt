@@ -5,14 +5,14 @@
 //! on: so no output waits while input does, and memory does not grow with the list.
 //!
 //! Main definitions, in specs/: `lines_of`, the lines of a list, each with its line feed;
-//! `place_behind`, where each stands; `LineTold` and `LineBad`, the answer to one line, with the
-//! header and a line that is too long before the teller; `AllTold`, the outputs of lines in their
-//! order; `Gives`, what was written up to each `Ending`; `IsStream`, the reads and the writes in
-//! their order. Main promises: what was written is what the lines give up to the ending, in
-//! whatever pieces they came; after each read the lines that it made whole are answered and written
-//! before the next (`Step`); no write follows a failed one; a fault of the outside comes only if
-//! its count rose; at a fault of the source each line that was read is answered and written.
-//! `one_output_law`: if a line has one output, a list has.
+//! `place_behind`, where each stands; `LineTold` and `LineBad`, the answer to one line, where
+//! the header and a line that is too long come before the teller; `AllTold`, the outputs of lines
+//! in their order; `Gives`, what was written up to each `Ending`; `IsStream`, the reads and the
+//! writes in their order. Main promises: what was written is what the lines give up to the
+//! ending, whatever the pieces were in which they came; after each read the lines that it made
+//! whole are told and written before the next (`Step`); no write follows a failed one; a fault of
+//! the outside comes only where its count rose; at a fault of the source each line that was read
+//! is told and written. `one_output_law`: where a line has one output, a list has.
 //!
 //! Stands on `outside` for the source and the sink and on the kinds of faults of `graph_core`.
 //! Source of the header: B. D. McKay, "Description of graph6, sparse6 and digraph6 encodings".

@@ -34,7 +34,7 @@ appended_twice o first middle last ns ms e f =
     ∙ append_assoc (maps_of first) (maps_from o (length first) ns) (maps_from o (length middle) ms)
     ∙ ap (λ (maps : List PlainLeafMap). maps_of first ++ maps) (sym (maps_from-append o (length first) (length middle) ns ms (grown o first middle ns e)))
 
--- the same if the second step may fail, and the two lists of names are parts of a whole
+-- the same where the second step may fail, and the two lists of names are parts of a whole
 pub joined : {T E : Type 0} (r : Result T E) (o : List ℕ) (first middle last : List LeafMap) (ns ms left right whole : List (List ℕ)) →
     maps_of middle ≡ maps_of first ++ maps_from o (length first) ns → OnOk r (maps_of last ≡ maps_of middle ++ maps_from o (length middle) ms) →
     ns ≡ left → ms ≡ right → whole ≡ left ++ right → OnOk r (maps_of last ≡ maps_of first ++ maps_from o (length first) whole)
@@ -58,7 +58,7 @@ pub here-names_at : (n : ℕ) (u v : List ℕ) (path : List Side) (p : List (Lis
 here-names_at n u v [] p t e = refl
 here-names_at n u v (side ∷ path) p t e = absurd (omega (arith, e))
 
--- and at a cut, if those at its two sides are known
+-- and at a cut, where those at its two sides are known
 pub cut-names : (m n : ℕ) (e left right : Exchange) (path rest : List Side) (p : List (List ℕ)) (x : List ℕ) (a b t : Shape) → m ≡ n → t ≡ cut x a b →
     ((q : List (List ℕ)) (a b : Shape) → exchanged_names m e path q (cut x a b) ≡ exchanged_names m left rest (kept_at m q x) a ++ exchanged_names m right rest (merged_at m q x) b) →
     exchanged_names n e path p t ≡ exchanged_names n left rest (kept_at n p x) a ++ exchanged_names n right rest (merged_at n p x) b
