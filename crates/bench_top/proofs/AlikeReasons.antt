@@ -1,4 +1,4 @@
--- Two reasons why a graph is not covered have one line, but for the Berge set.
+-- Two reasons why a graph is not covered have the same line, but for the Berge set.
 use Rattle.std.proofs.Common.{◌≡◌, ℕ, List, ◌++◌, inl, refl, ap, subst}
 use Rattle.std.specs.Prelude.{codes}
 use Rattle.graph_core.specs.Covered.{IsReason}

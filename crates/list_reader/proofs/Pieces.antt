@@ -181,7 +181,7 @@ through_bad tells bad lacks n k text rest a b found so_far opens =
       output = so_far.output;
     }
 
--- the answer to the next line stopped
+-- answering stopped at the next line
 pub through_stopped :
     (tells : Place → List ℕ → List ℕ → Type 0) (bad : Place → List ℕ → FaultKind → Type 0) (lacks : ℕ → Option FaultKind) (n k : Place)
     (text rest line behind a b c : List ℕ) (why : Stop) →
