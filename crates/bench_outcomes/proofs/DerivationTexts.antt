@@ -37,7 +37,7 @@ pub closed-tree_text : (n : ℕ) (t : Shape) → is_closed (tree_text n t) ≡ t
 unfolding tree_text
 closed-tree_text n t = is_closed-unlines (map unwords (header_words n ∷ node_words t))
 
--- what is told of the leaves is told in small numbers
+-- what the report says of the leaves it says in small numbers
 few-told : (g : Graph) (t : Shape) (kinds : List LeafKind) → IsWithinLimits g → IsDerivation g t → AreLeafKinds g (leaves g.order t) kinds → HasFewLeaves g (leaves g.order t) kinds
 few-told g t kinds limits derived right =
     let order = limits.vertices in
@@ -63,7 +63,7 @@ stands-told g t kinds bytes limits derived right commented stands =
     (derivation-commented (tree_text g.order t) g (leaves g.order t) kinds (few-told g t kinds limits derived right)) commented)
     stands
 
--- the text with the leaves and the names tells the derivation
+-- the text with the leaves and the names determines the derivation
 pub told : (named : NamedGraph) (t : Shape) (n : ℕ) (found : List PartitionValue) (text shown report bytes : List ℕ) (kinds : List LeafKind) →
     IsWithinLimits named.graph → IsDerivation named.graph t → n ≡ named.graph.order → found ≡ partitions_of n (leaves n t) → text ≡ tree_text n t → Stands (tree_format n) text t → shown ≡ text →
     AreLeafKinds named.graph (map (λ (p : PartitionValue). p.blocks) found) kinds → report ≡ derivation_text shown named.graph (map (λ (p : PartitionValue). p.blocks) found) kinds →

@@ -8,7 +8,7 @@ use Rattle.graph_core.specs.Graph.{Graph, size}
 use Rattle.ear_core.specs.EarLists.{PlainEars, PlainStep, next_stage, AreSteps, IsEarList}
 use Rattle.ear_core.proofs.FirstStage.{step-adds}
 
--- the edges of the first stage and the steps are no more than the edges of the graph
+-- the edges of the first stage and the steps are at most the edges of the graph
 few-from : (g : Graph) (f : Set) (steps : List PlainStep) → AreSteps g f steps → count (size g) f + length steps ≤ size g
 few-from g f [] go = let most = count_le (size g) f in omega arith
 few-from g f (s ∷ steps) go = let more = step-adds g f s go.0 in let rest = few-from g (next_stage f s) steps go.2 in omega arith

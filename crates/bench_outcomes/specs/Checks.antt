@@ -1,4 +1,4 @@
--- What is told of a tree of cuts that is to be a derivation of a graph: its leaves, counted, or
+-- What is answered on a tree of cuts that is to be a derivation of a graph: its leaves, counted, or
 -- its first refusal.
 use Rattle.std.specs.Prelude.{◌≡◌, ◌⊎◌, ℕ, List}
 use Rattle.std.specs.declared.option.Option.{Option}
@@ -36,7 +36,7 @@ pub record AcceptedTree (g : Graph) (t : Shape) (status : Status) (output : List
   pub done : status ≡ Done
   pub text : output ≡ judgement_text (line.Accepted tally)
 
--- the tree of this place among those that are named, counted from 1, is none: the output is its
+-- the tree of this place among those that are named, counted from 1, is not one: the output is its
 -- first refusal
 pub record RefusedTree (g : Graph) (t : Shape) (place : ℕ) (status : Status) (output : List ℕ) : Type 0 where
   pub node : ℕ

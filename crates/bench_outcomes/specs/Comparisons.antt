@@ -1,5 +1,5 @@
--- What is told of two trees of cuts that are to be derivations of one graph: how their leaves are
--- paired, and a script of moves that turns the first into the second (Lovász 1987: any two
+-- What is answered on two trees of cuts that are to be derivations of one graph: how their leaves
+-- are paired, and a script of moves that turns the first into the second (Lovász 1987: any two
 -- decompositions have the same leaves, up to multiplicities of edges); or why one of them is
 -- refused.
 use Rattle.std.specs.Prelude.{◌≡◌, ◌≤◌, ◌*◌, ◌⊎◌, ℕ, suc, List, [], ◌∷◌, length}

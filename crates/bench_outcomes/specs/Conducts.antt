@@ -1,5 +1,5 @@
--- How each task behaves, said once: whether it may be refused and where it is done, whether its
--- text is chosen, and which lists of numbers its report may show. Where a task succeeds
+-- How each task behaves, said once: whether it may be refused and if it is done, whether its
+-- text is chosen, and which lists of numbers its report may show. If a task succeeds
 -- (`Success`) and what is free in a report (`Fixed` of `bench_top`) are read off this.
 use Rattle.std.specs.Prelude.{ℕ, List}
 use Rattle.graph_core.specs.Covered.{IsCovered}
@@ -18,10 +18,10 @@ pub data Conduct : Type 1 where
   Writes : Conduct
   -- always done, with one output but for such numbers: to analyse a graph
   Tells : (shown : List ℕ → Type 0) → Conduct
-  -- done where the fact holds, with one output, and else refused, for a reason that may show such
+  -- done if the fact holds, with one output, and else refused, for a reason that may show such
   -- numbers: to decompose, to check, to replay
   Needs : (fact : Type 0) (shown : List ℕ → Type 0) → Conduct
-  -- the same, but where it is done any right text may be written: to find an ear list, a script
+  -- the same, but if it is done any right text may be written: to find an ear list, a script
   -- or a pairing
   Chooses : (fact : Type 0) (shown : List ℕ → Type 0) → Conduct
 

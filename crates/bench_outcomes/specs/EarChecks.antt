@@ -1,4 +1,4 @@
--- What is told of ear lists of a graph: of one that is given whether it is an ear list, and of
+-- What is answered on ear lists of a graph: of one that is given whether it is an ear list, and of
 -- one that is built its text.
 use Rattle.std.specs.Prelude.{◌≡◌, ◌⊎◌, ℕ, List, length, count_by, not, Bool, true, false, Option, Some, None}
 use Rattle.std.specs.List.{AllByRecursion}
@@ -55,7 +55,7 @@ pub record AcceptedEars (g : Graph) (list : PlainEars) (status : Status) (output
   pub done : status ≡ Done
   pub text : output ≡ ear_judgement_text (line.Accepted (length list.steps) (single_count list.steps) (double_count list.steps))
 
--- it is none: the output is its first refusal
+-- it is not one: the output is its first refusal
 pub record RefusedEars (g : Graph) (list : PlainEars) (status : Status) (output : List ℕ) : Type 0 where
   pub covered : IsCovered g
   pub step : ℕ

@@ -38,7 +38,7 @@ pub record IsStructure (g : Graph) (structure : Structure) : Type 0 where
   pub kind : IsKind g structure.kind
   pub cut : cut_of structure.kind ≡ first_shore (candidates g)
 
--- the structure is told exactly when the graph is covered, and is right
+-- the structure is given if and only if the graph is covered, and is right
 abbrev pub TellsStructure : Graph → Verdict → Option Structure → Type 0
 TellsStructure g Covered None = ⊥
 TellsStructure g Covered (Some structure) = IsStructure g structure

@@ -1,4 +1,4 @@
--- What is told of a graph that grows from a seed: its text, the leaves of its decompositions by
+-- What is answered on a graph that grows from a seed: its text, the leaves of its decompositions by
 -- the first and by the last candidates, counted, and how many of them are paired.
 use Rattle.std.specs.Prelude.{◌≡◌, ℕ, List, length}
 use Rattle.graph_core.specs.Graph.{Graph}

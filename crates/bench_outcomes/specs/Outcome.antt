@@ -39,12 +39,12 @@ use Rattle.bench_outcomes.specs.Facts.{IsAnalysis}
 use Rattle.bench_outcomes.specs.declared.status.Status.{Status}
 use Rattle.bench_outcomes.specs.declared.status.Status.TheVariants.{Done, Negative, BadInput}
 
--- a report, and then the names of the vertices where the graph has names; each may be a comment
+-- a report, and then the names of the vertices if the graph has names; each may be a comment
 abbrev pub with_given_names : List ℕ → Option (List (List ℕ)) → (comments : Bool) → List ℕ
 with_given_names report None comments = report
 with_given_names report (Some names) comments = with_names_text report names comments
 
--- the names of the vertices of a graph of that order, or the plain ones where it has none
+-- the names of the vertices of a graph of that order, or the plain ones if it has none
 abbrev pub given_or_plain : ℕ → Option (List (List ℕ)) → List (List ℕ)
 given_or_plain order None = plain_names order
 given_or_plain order (Some names) = names
@@ -71,7 +71,7 @@ pub record Analysed6 (g : Graph) (status : Status) (output : List ℕ) : Type 0 
   pub text : output ≡ graph6_line (analysis_text lines) (graph6_of g)
 
 -- the tree is a derivation of the graph, and the output is its text, and then as comments its
--- leaves, each with its right kind, and the names of the vertices where the graph has names; as a
+-- leaves, each with its right kind, and the names of the vertices if the graph has names; as a
 -- text of a derivation it stands for the tree
 pub record TellsDerivation (named : NamedGraph) (tree : Shape) (status : Status) (output : List ℕ) : Type 0 where
   pub derivation : IsDerivation named.graph tree
@@ -81,7 +81,7 @@ pub record TellsDerivation (named : NamedGraph) (tree : Shape) (status : Status)
   pub text : output ≡ with_given_names (derivation_text (tree_text named.graph.order tree) named.graph (leaves named.graph.order tree) kinds) named.names true
   pub stands : Stands (tree_format named.graph.order) output tree
 
--- the decomposition of a covered graph by tight cuts: a derivation of it is told, which is the
+-- the decomposition of a covered graph by tight cuts: a derivation of it is given, which is the
 -- tree that the order picks
 pub record Decomposed (picks : List Candidate → ℕ → ℕ → Type 0) (named : NamedGraph) (status : Status) (output : List ℕ) : Type 0 where
   pub tree : Shape

@@ -1,5 +1,5 @@
--- What is told of a script of moves on a tree of cuts that is to be a derivation of a graph: the
--- last tree where each tree on the way is a derivation, or the first move that fails, or why the
+-- What is answered on a script of moves on a tree of cuts that is to be a derivation of a graph:
+-- the last tree if each tree on the way is a derivation, or the first move that fails, or why the
 -- tree itself is refused.
 use Rattle.std.specs.Prelude.{◌≡◌, ◌⊎◌, ℕ, List, length}
 use Rattle.graph_core.specs.Graph.{Graph}

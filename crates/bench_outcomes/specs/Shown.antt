@@ -13,7 +13,7 @@ use Rattle.tree_check.specs.Replays.{IsRefusedMoveAt}
 abbrev pub MayBeBerge : Graph → List ℕ → Type 0
 MayBeBerge g set = IsReason g (Unmatched set)
 
--- a perfect matching that may be shown where the tree is refused: it crosses the cut of the first
+-- a perfect matching that may be shown if the tree is refused: it crosses the cut of the first
 -- node that breaks a rule
 abbrev pub MayCross : Graph → Shape → List ℕ → Type 0
 MayCross g tree matching = (node : ℕ) × IsRefused g tree node (not_tight matching)

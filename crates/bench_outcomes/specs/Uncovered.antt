@@ -1,4 +1,4 @@
--- What the commands on matching covered graphs tell of a graph that is none.
+-- What the commands on matching covered graphs answer on a graph that is not one.
 use Rattle.std.specs.Prelude.{◌≡◌, ℕ, List}
 use Rattle.graph_core.specs.Covered.{IsCovered, IsReason}
 use Rattle.graph_core.specs.Graph.{Graph}

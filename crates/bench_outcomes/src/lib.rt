@@ -6,7 +6,7 @@
 //! `EarChecks` of a list of ears, `Replays` of moves, `Comparisons` of two trees, `Growths` of a
 //! graph that grows, `Uncovered` of a graph that is not matching covered. `Outcome` puts the
 //! words, the files and the result together. `Conducts` says once how each task behaves, and
-//! `Succeeds` of `Success` where it is done.
+//! `Succeeds` of `Success` if it is done.
 //!
 //! Stands on `bench_tasks` for the words and the files, on `report_text` for what is written, and
 //! on the engine's crates for what is claimed.

@@ -25,7 +25,7 @@ lines-more i ps p m left maps all lines next line at before first is more =
     ∙ ap (λ (l : MapLine). (lines ++ l ∷ []) ++ lines_of (i + 1) (drop (i + 1) ps) maps) (sym is)
     ∙ ap (λ (ls : List MapLine). ls ++ lines_of (i + 1) (drop (i + 1) ps) maps) (sym more)
 
--- where no map is left, there is no line
+-- if no map is left, there is no line
 pub lines-none : (i : ℕ) (ps : List (List (List ℕ))) (maps : List PlainLeafMap) → length maps ≡ 0 → lines_of i ps maps ≡ []
 lines-none i [] [] none = refl
 lines-none i (p ∷ ps) [] none = refl

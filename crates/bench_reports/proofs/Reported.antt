@@ -1,4 +1,4 @@
--- What a task gives is a report: it is done or refused; and it is refused only where it may be.
+-- What a task gives is a report: it is done or refused; and it is refused only if it may be.
 use Rattle.std.proofs.Common.{◌≡◌, ◌∙◌, ℕ, List, Result, Ok, Err, IfOk, inl, inr, sym}
 use Rattle.graph_core.specs.Graph.{Graph}
 use Rattle.tree_core.specs.Shapes.{Shape}

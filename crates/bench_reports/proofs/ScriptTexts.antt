@@ -39,7 +39,7 @@ stands-report n leaves count moves few_leaves few_moves stands =
     (AreSkipped-written (comment_words leaves count ∷ [])
     (record { skipped = refl; each = (refl, (refl, (is_word-decimal leaves few_leaves, (refl, (is_word-decimal count few_moves, tt))))) }, tt)) stands)
 
--- and so the report tells the script
+-- and so the report gives the script
 pub scripted : (g : Graph) (s t : Shape) (moves : List PlainMove) (n leaves count : ℕ) (text shown output : List ℕ) →
     IsScript g s t moves → leaves < 10 ^ 9 → count < 10 ^ 9 → n ≡ g.order → leaves ≡ leaf_count s → count ≡ length moves →
     text ≡ moves_text n moves → shown ≡ text → Stands (move_format n) text moves → output ≡ script_report_text shown leaves count → Scripted g s t Done output

@@ -1,4 +1,4 @@
--- Where the first of two trees is a derivation, what refuses the second, if anything does,
+-- If the first of two trees is a derivation, what refuses the second, if anything does,
 -- refuses the pair.
 use Rattle.std.proofs.Common.{Option, Result, Ok, Err, IfOk, inl, inr}
 use Rattle.std.specs.declared.option.Option.TheVariants.{Some, None}

@@ -34,7 +34,7 @@ module _ (g : Graph) (is : IsGraph g) (m : MatchingValue) (of : IsOf g m) (keeps
       let r = rows_count in
       omega arith
 
-  -- so there are no more than all vertices
+  -- so there are at most all vertices
   pub ends_within : (edges : ℕ) → edges ≡ length m.rows → 2 * edges ≤ g.order
   ends_within edges same = let all = missed_and_ends in omega arith
 

@@ -1,4 +1,4 @@
-//! Whether a tree is a derivation of a graph, as `check` tells it.
+//! Whether a tree is a derivation of a graph, as `check` reports it.
 ghost use Rattle.std.specs.Prelude.{◌≡◌, IfOk};
 ghost use Rattle.graph_core.specs.Covered.{IsCovered};
 ghost use Rattle.tree_core.specs.Derivations.{IsDerivation};
@@ -65,7 +65,7 @@ fn refused_report(
     })
 }
 
-// The report of the answer to the tree of this place, where it is not a derivation.
+// The report of the answer to the tree of this place, if it is not a derivation.
 fn refusal_of_answer(
     alloc: Global,
     g: &MultiGraph,
@@ -86,7 +86,7 @@ fn refusal_of_answer(
 }
 
 /// The report that refuses the tree of this place among those that are named, counted from 1: the
-/// graph is not covered, or the tree is no derivation of it. None where the tree is a derivation.
+/// graph is not covered, or the tree is not a derivation of it. None if the tree is a derivation.
 pub fn refusal_of_tree(
     alloc: Global,
     g: &MultiGraph,

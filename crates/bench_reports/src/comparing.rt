@@ -1,4 +1,4 @@
-//! The comparison of two derivations of a graph, as `compare` and `script` tell it.
+//! The comparison of two derivations of a graph, as `compare` and `script` report it.
 ghost use Rattle.std.specs.Prelude.{◌≡◌, ◌≤◌, ◌<◌, ◌+◌, ◌^◌, IfOk, length, map};
 ghost use Rattle.tree_core.specs.Derivations.{IsDerivation};
 ghost use Rattle.tree_core.specs.MoveView.{moves_of};
@@ -18,7 +18,7 @@ use tree_core::{Partitions, Tree, leaves, nodes};
 use uncross::{LeafMap, LeafMaps, compare, moves_between};
 
 /// The report that refuses one of two trees: the graph is not covered, or the first tree is not a
-/// derivation of it, or the second is none. None where both are derivations. Whether the graph is
+/// derivation of it, or the second is not one. None if both are derivations. Whether the graph is
 /// covered is asked once: a graph with a derivation is.
 pub fn refusal_of_pair(
     alloc: Global,

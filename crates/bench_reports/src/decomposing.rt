@@ -1,4 +1,4 @@
-//! The decomposition of a graph by tight cuts, as `decompose` tells it.
+//! The decomposition of a graph by tight cuts, as `decompose` reports it.
 ghost use Rattle.std.specs.Prelude.{◌≡◌, ◌<◌, ◌≤◌, IfOk, length};
 ghost use Rattle.graph_text.specs.SoFar.{named_graph};
 ghost use Rattle.tree_core.specs.Derivations.{IsDerivation};

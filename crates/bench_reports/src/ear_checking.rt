@@ -1,4 +1,4 @@
-//! Ear lists of a graph, as `checkears` and `ears` tell of them.
+//! Ear lists of a graph, as `checkears` and `ears` report on them.
 ghost use Rattle.std.specs.Prelude.{◌≡◌, ◌<◌, ◌^◌, length, map, IfOk};
 ghost use Rattle.graph_core.specs.Covered.{IsCovered};
 ghost use Rattle.graph_core.specs.Graph.{size};

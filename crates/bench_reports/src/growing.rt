@@ -1,4 +1,4 @@
-//! A graph that grows from a seed, with its leaves counted and compared, as `grow` tells it.
+//! A graph that grows from a seed, with its leaves counted and compared, as `grow` reports it.
 ghost use Rattle.std.specs.Prelude.{◌≡◌, IfOk};
 ghost use Rattle.graph_core.specs.Covered.{IsCovered};
 ghost use Rattle.tree_core.specs.View.{shape_of};

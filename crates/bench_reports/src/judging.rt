@@ -35,7 +35,7 @@ fn maximum_sizes(facts: &Facts) -> (u32, u32)
     (edges, n - 2 * edges)
 }
 
-// What `analyse` tells of the graph: each of its facts is made once.
+// What `analyse` reports on the graph: each of its facts is made once.
 fn analysis_lines(alloc: Global, g: &MultiGraph) -> Result<AnalysisLines, Memory>
     ensures { IfOk result (λ lines. IsAnalysis g.now lines) }
 {
@@ -43,7 +43,7 @@ fn analysis_lines(alloc: Global, g: &MultiGraph) -> Result<AnalysisLines, Memory
     lines_of(alloc, facts)
 }
 
-// What `analyse` tells of a graph whose facts are known.
+// What `analyse` reports on a graph whose facts are known.
 fn lines_of(alloc: Global, facts: Facts) -> Result<AnalysisLines, Memory>
     ensures { IfOk result (λ lines. IsAnalysis facts.entry lines) }
 {

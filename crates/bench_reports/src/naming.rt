@@ -9,7 +9,7 @@ use graph_text::{Names, plain_names};
 use report_text::with_names;
 use std::alloc::{AllocError as Memory, Global};
 
-/// The report, and then the names where the graph has names; each is a comment where `comments`
+/// The report, and then the names if the graph has names; each is a comment if `comments`
 /// is true.
 pub fn with_given_names(
     alloc: Global,

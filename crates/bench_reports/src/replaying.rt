@@ -1,4 +1,4 @@
-//! What a script of moves makes of a derivation, as `replay` tells it.
+//! What a script of moves makes of a derivation, as `replay` reports it.
 ghost use Rattle.std.specs.Prelude.{◌≡◌, ◌≤◌, IfOk, length};
 ghost use Rattle.tree_core.specs.Derivations.{IsDerivation};
 ghost use Rattle.tree_core.specs.MoveView.{moves_of};
@@ -86,7 +86,7 @@ fn moves_report(alloc: Global, g: &MultiGraph, tree: Tree, moves: &Moves) -> Res
     }
 }
 
-/// The report on moves on a tree: the last tree that they make where each on the way is a
+/// The report on moves on a tree: the last tree that they make if each on the way is a
 /// derivation of the graph, or the first move that fails; or why the tree is refused, or that the
 /// graph is not covered.
 pub fn replay_report(

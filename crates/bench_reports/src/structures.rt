@@ -1,4 +1,4 @@
-//! The structure of a covered graph, as `analyse` tells it.
+//! The structure of a covered graph, as `analyse` reports it.
 ghost use Rattle.std.specs.Prelude.{◌≡◌, IfOk};
 ghost use Rattle.std.specs.Option.{option_map};
 ghost use Rattle.graph_core.specs.Verdicts.{IsVerdict};
@@ -42,7 +42,7 @@ fn structure(alloc: Global, c: &Covered) -> Result<Structure, Memory>
     })
 }
 
-/// The structure of a graph where the verdict is that it is covered.
+/// The structure of a graph if the verdict is that it is covered.
 pub fn structure_where_covered(
     alloc: Global,
     facts: Facts,

@@ -10,7 +10,7 @@ use Rattle.bench_tasks.specs.Reads.{FailsAs, IsReadFault}
 use Rattle.bench_tasks.specs.declared.stop.Stop.{Stop}
 use Rattle.bench_tasks.specs.declared.stop.Stop.TheVariants.{ReadFault, Bad, Memory}
 
--- a stop does not tell of what value it is a stop
+-- a stop does not show of what value it is a stop
 same-fault : (X Y : Type 0) (stopped : Stop) → IsReadFault {X = Y} (Err stopped) → IsReadFault {X = X} (Err stopped)
 same-fault X Y (ReadFault file) fault = tt
 same-fault X Y (Bad file line kind) fault = absurd fault

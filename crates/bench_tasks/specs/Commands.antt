@@ -69,7 +69,7 @@ triple_command word graph second third =
     if bytes_eq word (codes "compare") then Some (Compare graph second third) else
     if bytes_eq word (codes "script") then Some (Script graph second third) else script_command word graph second third
 
--- the command that the words ask for; none where they match no row
+-- the command that the words ask for; none if they match no row
 abbrev pub command_of : List (List ℕ) → Option Command
 command_of [] = None
 command_of (word ∷ []) = None

@@ -59,7 +59,7 @@ task_of (code.Compare given) = task.Compare (named_graph given.named) (shape_of 
 task_of (code.Script given) = task.Script (named_graph given.named) (shape_of given.first) (shape_of given.second)
 task_of (code.Grow growth) = task.Grow growth.seed growth.pieces
 
--- a stop names the first bad file; nothing is said of a failed read or of want of memory
+-- a stop names the first bad file; nothing is said of a failed read or of lack of memory
 abbrev pub StopsAs : {A : Type 0} → Stop → Loaded A → Type 0
 StopsAs (stop.Bad file line kind) loaded = loaded ≡ Bad file line kind
 StopsAs (stop.ReadFault file) loaded = Unit {0}
@@ -71,8 +71,8 @@ LoadsAs view (Ok x) loaded = loaded ≡ All (view x)
 LoadsAs view (Err stopped) loaded = StopsAs stopped loaded
 
 -- what a call that loads makes of a shelf, and what it answers: the files and whether the shelf
--- is steady stay as they were, the count of faults does not fall, and rose where a read failed;
--- and where the shelf tells its files, the answer is what they hold, and over a steady shelf a
+-- is steady stay as they were, the count of faults does not fall, and rose if a read failed;
+-- and if the files are known, the answer is what they hold, and over a steady shelf a
 -- read fails only at a file that is not held
 pub record Loads {S X A : Type 0} (told : S → Option (List Named)) (steady : S → Bool) (faults : S → ℕ) (view : X → A) (held : List Named → Loaded A) (result : Result X Stop) (before now : S) : Type 0 where
   pub files : told now ≡ told before

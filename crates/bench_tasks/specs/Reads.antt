@@ -36,7 +36,7 @@ names_until (All value) names = names
 names_until (Bad file line kind) names = take file names
 names_until (Absent file) names = take file names
 
--- a stop at the file of this place; want of memory may come at any
+-- a stop at the file of this place; lack of memory may come at any
 abbrev pub StopsAt : (place : ℕ) → Stop → Type 0
 StopsAt place (stop.ReadFault file) = file ≡ place
 StopsAt place (stop.Bad file line kind) = file ≡ place

@@ -1,4 +1,4 @@
--- Which commands may refuse what they are given, and which tasks: all but those that only tell of
+-- Which commands may refuse what they are given, and which tasks: all but those that only report on
 -- a graph or write one.
 use Rattle.std.specs.declared.option.Option.{Option}
 use Rattle.std.specs.declared.option.Option.TheVariants.{Some, None}

@@ -51,7 +51,7 @@ pub trait FileFormat {
     // What each value that is read keeps.
     ghost keeps: { Self → Self.Value → Type 0 };
 
-    /// Reads a text. Want of memory may come at any time.
+    /// Reads a text. Lack of memory may come at any time.
     fn read(&self, alloc: Global, bytes: &[u8]) -> Result<Self::Value, TextFault>
         requires { length bytes.now < 2 ^ 32 - 1 }
         ensures reads { ReadsText meaning result (reading self.now bytes.now) }

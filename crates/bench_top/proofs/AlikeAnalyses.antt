@@ -1,5 +1,5 @@
 -- Two right analyses of a multigraph have one text, but for the Berge set: each line but that of
--- the verdict tells a value that the graph determines. A rising list is determined by its
+-- the verdict gives a value that the graph determines. A rising list is determined by its
 -- members, the number of edges of a maximum matching by there being none with more, and the kind
 -- by the sides and the first candidate.
 use Rattle.std.proofs.Common.{◌≡◌, ◌∙◌, ◌↔◌, ℕ, List, ◌++◌, Bool, Option, Some, None, inl, refl, sym, ap, arith}

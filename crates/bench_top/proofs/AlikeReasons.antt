@@ -1,4 +1,4 @@
--- Two reasons why a graph is not covered are told by one line, but for the Berge set.
+-- Two reasons why a graph is not covered have the same line, but for the Berge set.
 use Rattle.std.proofs.Common.{◌≡◌, ℕ, List, ◌++◌, inl, refl, ap, subst}
 use Rattle.std.specs.Prelude.{codes}
 use Rattle.graph_core.specs.Covered.{IsReason}
@@ -38,7 +38,7 @@ reason-alike g q r one two =
     told-alike (MayBeBerge g) q r (reason-one g (reason_of q) (reason_of r) one two)
     (λ s e. subst (λ (x : Reason). IsReason g (reason_of x)) e one) (λ s e. subst (λ (x : Reason). IsReason g (reason_of x)) e two)
 
--- the same of what is told of a graph that is not covered
+-- the same of what is reported on a graph that is not covered
 pub uncovered-alike : (g : Graph) (first second : Status) (output other : List ℕ) → Uncovered g first output → Uncovered g second other → DifferAtMostIn (MayBeBerge g) output other
 uncovered-alike g first second output other one two =
     alike-along (MayBeBerge g) output other (verdict_text (NotCovered one.reason)) (verdict_text (NotCovered two.reason)) one.text two.text

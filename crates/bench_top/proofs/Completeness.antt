@@ -63,7 +63,7 @@ row-once files (Some command) first second output other gives again = held-once 
 pub status-once : (words : List (List ℕ)) (files : List Named) (first second : Status) (output other : List ℕ) → Outcome words files first output → Outcome words files second other → first ≡ second
 status-once words files first second output other gives again = row-once files (command_of words) first second output other gives again
 
--- a status that is no other one
+-- a run that ended otherwise is done, or memory ran out
 pub done-or_memory : (status : Status) → (status ≡ Usage → ⊥) → (status ≡ ReadFault → ⊥) → (status ≡ WriteFault → ⊥) → (IsReported status → status ≡ Done) → (status ≡ Done) ⊎ (status ≡ Memory)
 done-or_memory Done usage read write reported = inl refl
 done-or_memory Negative usage read write reported = inl (reported (inr (inl refl)))

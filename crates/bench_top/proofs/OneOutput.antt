@@ -1,5 +1,5 @@
--- How many outputs has a task that is done? One, where its text is not free; what an analysis or
--- a refusal leaves free is one list of numbers.
+-- How many outputs does a done task have? One, if its text is not free; what an analysis or a
+-- refusal leaves free is one list of numbers.
 use Rattle.std.proofs.Common.{◌≡◌, ◌∙◌, ℕ, List, length, true, false, Option, Some, None, inl, inr, sym, subst, ap}
 use Rattle.outside.specs.Shelf.{Named}
 use Rattle.graph_core.specs.Graph.{Graph, IsMultigraph}
@@ -48,7 +48,7 @@ use Rattle.bench_top.proofs.LoadedGraphs.{Holds, loaded-graph}
 use Rattle.bench_top.proofs.Settled.{KeepsGraph, settled}
 use Rattle.bench_top.proofs.OneTree.{PicksOnce, named-once, script-once, picked-once, kinds-once, tally-once}
 
--- what is told of a derivation
+-- what is reported on a derivation
 tells-once : (named : NamedGraph) (t : Shape) (output other : List ℕ) → TellsDerivation named t Done output → TellsDerivation named t Done other → output ≡ other
 tells-once named t output other one two =
     one.text

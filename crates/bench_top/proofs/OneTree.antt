@@ -40,7 +40,7 @@ gap-seen stored i = go (slice_get stored i) ∙ ap gap_in (sym (slice_get-map ca
     go None = refl
     go (Some c) = refl
 
--- the first place with the least gap is one
+-- the first place whose sides differ least is one
 gap-same : (list : List Candidate) (a b : ℕ) (one : PicksBalanced list a) (two : PicksBalanced list b) → (i : ℕ) → gap one.stored i ≡ gap two.stored i
 gap-same list a b one two i = gap-seen one.stored i ∙ ap (λ (l : List Candidate). gap_in (slice_get l i)) (one.shows ∙ sym two.shows) ∙ sym (gap-seen two.stored i)
 

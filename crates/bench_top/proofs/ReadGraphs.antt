@@ -46,7 +46,7 @@ ends-graph g each = record {
   no_loop = λ e within. let pair = ends-at g.order g.ends (e - 1) each (omega arith) in pair.2;
 }
 
--- there are no more names than vertices
+-- there are at most as many names as vertices
 abbrev NamesFit : ℕ → Option (List (List ℕ)) → Type 0
 NamesFit n None = Unit {0}
 NamesFit n (Some names) = length names ≤ n
@@ -60,13 +60,13 @@ record KeepsEnds (body : GraphSoFar) : Type 0 where
 abbrev IsKept : EitherSoFar → Type 0
 IsKept s = KeepsEnds s.so_far × NamesFit s.so_far.graph.order s.names
 
--- the fact holds of the value where there is one
+-- the fact holds of the value if there is one
 abbrev pub GoesOn : {A Kind : Type 0} → (A → Type 0) → Result A Kind → Type 0
 GoesOn P (Ok a) = P a
 GoesOn P (Err k) = Unit {0}
 
 module _ {A Kind : Type 0} (P : A → Type 0) where
-  -- a table goes on only where each test is false
+  -- a table goes on only if each test is false
   goes-on : (tests : List (Bool × Kind)) (value : A) → (AllByRecursion (λ test. test.0 ≡ false) tests → P value) → GoesOn P (checked tests value)
   goes-on [] value give = give tt
   goes-on ((true, k) ∷ tests) value give = tt

@@ -1,5 +1,5 @@
 -- What `script` writes stands for a script from the first tree to the second. So a file that
--- holds it is read as this script, and its replay on the first tree is done and tells the second.
+-- holds it is read as this script, and its replay on the first tree is done and reports the second.
 use Rattle.std.proofs.Common.{◌≡◌, ◌∙◌, ℕ, ◌≤◌, List, [], ◌∷◌, length, Option, Some, refl, sym, ap, ap₂, subst, inl, inr}
 use Rattle.std.specs.Prelude.{codes}
 use Rattle.outside.specs.Shelf.{Named, file_named}
@@ -44,7 +44,7 @@ abbrev replay_task : NamedGraph × (Shape × List PlainMove) → Task
 replay_task given = task.Replay given.0 given.1.0 given.1.1
 
 module _ (files again : List Named) (graph first second script output : List ℕ) (held : file_named script again ≡ Some output) (within : length output ≤ most_bytes) where
-  -- a script that was told
+  -- a script that was reported
   replays : (named : NamedGraph) (s t : Shape) → tree_given again graph first ≡ All (named, s) → trees_given files graph first second ≡ All (named, (s, t)) → Scripted named.graph s t Done output → ReplaysScript files again graph first second script output
   replays named s t given both told = record {
     named = named;
@@ -78,7 +78,7 @@ module _ (files again : List Named) (graph first second script output : List ℕ
           (sym read)
           (inl (inl (record { derivation = told.script.first; reached = t; turns = told.script.turns; done = refl; text = refl })))
 
-  -- what `script` gives where it is done
+  -- what `script` gives if it is done
   gives : (named : NamedGraph) (s t : Shape) → tree_given again graph first ≡ All (named, s) → trees_given files graph first second ≡ All (named, (s, t)) → ScriptGives named.graph s t Done output → ReplaysScript files again graph first second script output
   gives named s t given both (inl told) = replays named s t given both told
   gives named s t given both (inr (inl first_refused)) = let no = first_refused.negative in cc no

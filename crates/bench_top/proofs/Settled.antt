@@ -1,5 +1,5 @@
--- What a task gives is settled by whether it succeeds: it is done where it succeeds, and refused
--- where not. A refused tree is no derivation, a refused list no ear list, and moves that fail
+-- What a task gives is settled by whether it succeeds: it is done if it succeeds, and refused
+-- if not. A refused tree is not a derivation, a refused list not an ear list, and moves that fail
 -- lead through no derivations to a last tree.
 use Rattle.std.proofs.Common.{◌≡◌, ◌∙◌, ℕ, List, [], ◌∷◌, ◌⊎◌, inl, inr, sym, subst}
 use Rattle.std.proofs.lemmas.Option.{none-some, same_Some}
@@ -24,11 +24,11 @@ use Rattle.graph_core.specs.Covered.{IsCovered}
 use Rattle.bench_outcomes.specs.declared.status.Status.{Status}
 use Rattle.bench_outcomes.specs.declared.status.Status.TheVariants.{Done, Negative}
 
--- done where the fact holds, and refused where not
+-- done if the fact holds, and refused if not
 abbrev pub Settles : Type 0 → Status → Type 0
 Settles fact status = ((status ≡ Done) × fact) ⊎ ((status ≡ Negative) × (fact → ⊥))
 
--- the graph of a task with trees is one, and where its structure is told it has no loops; nothing
+-- the graph of a task with trees is one, and if its structure is reported it has no loops; nothing
 -- else is needed
 abbrev pub KeepsGraph : Task → Type 0
 KeepsGraph (task.Analyse named) = IsMultigraph named.graph

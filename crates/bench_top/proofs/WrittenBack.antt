@@ -43,7 +43,7 @@ use Rattle.bench_top.proofs.ReadGraphs.{HasGraph, IsRead}
 use Rattle.bench_top.proofs.Settled.{KeepsGraph, settled}
 use Rattle.bench_top.proofs.TextsStand.{few-leaves_of, stands-ears, stands-grown, stands-replayed}
 
--- what was held where a command was done
+-- what was held if a command was done
 given : {A : Type 0} (make : A → Task) (held : Loaded A) (output : List ℕ) → LoadedGives (loaded_as make held) Done output → (a : A) × ((held ≡ All a) × ResultOf (make a) Done output)
 given make (All a) output gives = (a, (refl, gives))
 given make (Bad file line kind) output gives = let no = gives.0 in cc no

@@ -1,4 +1,4 @@
--- What the words and the files leave open in an outcome. Where a task is done, free are the ear
+-- What the words and the files leave open in an outcome. If a task is done, free are the ear
 -- list of `ears`, and the script of `script` and of `compare`, and with it the pairing. In every
 -- other report at most one list of numbers is free: the Berge set of a connected graph without a
 -- perfect matching, or the perfect matching that crosses a refused cut.
@@ -22,18 +22,18 @@ MayShow t numbers = ShownBy (conduct_of t) numbers
 abbrev pub ShowsNothingFree : Task → Type 0
 ShowsNothingFree t = (numbers : List ℕ) → MayShow t numbers → ⊥
 
--- where the task is done its text is chosen, by a conduct
+-- if the task is done its text is chosen, by a conduct
 abbrev pub ChosenBy : Conduct → Type 0
 ChosenBy Writes = ⊥
 ChosenBy (Tells shown) = ⊥
 ChosenBy (Needs fact shown) = ⊥
 ChosenBy (Chooses fact shown) = Unit {0}
 
--- where the task is done its text is chosen: an ear list, or a script
+-- if the task is done its text is chosen: an ear list, or a script
 abbrev pub HasChosenText : Task → Type 0
 HasChosenText t = ChosenBy (conduct_of t)
 
--- where the task is done its output is one, by a conduct: what it tells shows no such numbers, or
+-- if the task is done its output is one, by a conduct: its report shows no such numbers, or
 -- its text is not chosen
 abbrev pub OneBy : Conduct → Type 0
 OneBy Writes = Unit {0}
@@ -41,7 +41,7 @@ OneBy (Tells shown) = (numbers : List ℕ) → shown numbers → ⊥
 OneBy (Needs fact shown) = Unit {0}
 OneBy (Chooses fact shown) = ⊥
 
--- where the task is done its output is one
+-- if the task is done its output is one
 abbrev pub HasOneOutput : Task → Type 0
 HasOneOutput t = OneBy (conduct_of t)
 

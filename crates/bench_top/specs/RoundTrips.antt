@@ -16,7 +16,7 @@ use Rattle.bench_tasks.specs.Tasks.{Task}
 use Rattle.bench_outcomes.specs.declared.status.Status.{Status}
 use Rattle.bench_outcomes.specs.declared.status.Status.TheVariants.{Done}
 
--- by these files the words ask for a task that succeeds; so `run` does it, where the outside does
+-- by these files the words ask for a task that succeeds; so `run` does it, if the outside does
 -- not fail and memory lasts
 pub record AsksDone (words : List (List ℕ)) (files : List Named) : Type 0 where
   pub command : Command
@@ -25,8 +25,8 @@ pub record AsksDone (words : List (List ℕ)) (files : List Named) : Type 0 wher
   pub held : loaded files command ≡ All task
   pub succeeds : Succeeds task
 
--- the output tells a script from the first tree of the files to the second, and by the files
--- again the replay of the file of this name on the same graph and first tree is done: it tells
+-- the output gives a script from the first tree of the files to the second, and by the files
+-- again the replay of the file of this name on the same graph and first tree is done: it gives
 -- the second tree and the number of the script's moves, and nothing else
 pub record ReplaysScript (files again : List Named) (graph first second script output : List ℕ) : Type 0 where
   pub named : NamedGraph

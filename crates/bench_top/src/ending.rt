@@ -8,6 +8,6 @@ use bench_tasks::Stop;
 pub struct Ending {
     /// The status.
     pub status: Status,
-    /// Why the files were not loaded. `None` where all were, and where the words match no command.
+    /// Why the files were not loaded. `None` if all were, and if the words match no command.
     pub stop: Option<Stop>,
 }

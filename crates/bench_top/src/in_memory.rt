@@ -21,7 +21,7 @@ use std::alloc::Global;
 ///
 /// For words of the table the answer is decided by what the files hold: a file that is not held,
 /// a bad file, or good ones, whose task is done or refused. It is never a fault of writing, and
-/// `Memory` apart there is no other answer.
+/// apart from `Memory` there are no other answers.
 pub fn run_in_memory(
     alloc: Global,
     words: &[String],
@@ -38,7 +38,7 @@ pub fn run_in_memory(
         MayRefuse (command_of (map string_bytes words.now)) }
     ensures writes { ¬ (result ≡ Status.WriteFault) }
     ensures files { shelf.new.files ≡ shelf.old.files }
-    // The names that are read are the first few in the words, and where memory lasts those up to
+    // The names that are read are the first few in the words, and if memory lasts those up to
     // the first file that is not held or is bad.
     ensures asks { ReadsFirst IsRead (names_in (command_of (map string_bytes words.now))) shelf.old
         shelf.new }

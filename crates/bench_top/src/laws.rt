@@ -31,7 +31,7 @@ pub fn one_status_law()
         Outcome words files second other → first ≡ second }
 {}
 
-/// Two outcomes of the same words and files have one output, but for what is free. Where a task
+/// Two outcomes of the same words and files have one output, but for what is free. If a task
 /// is done its output is one, but for a text that is chosen and the Berge set of `analyse` and
 /// `analyse6` (`HasOneOutput`). A refusal is one, wherever it shows no Berge set and no perfect
 /// matching that crosses a refused cut (`ShowsNothingFree`). In any case, but for a text that is

@@ -9,7 +9,7 @@
 //! tie what was written to `Outcome`; `run_ending` hands up beside the status which file stopped
 //! the run; `run_in_memory` says so over files in memory, with completeness. `laws` says that an
 //! outcome is done exactly when its task succeeds (`Succeeds`), and that words and files decide
-//! the status and, where it is not free, the output; `written_back`, that mcg reads what it
+//! the status and, if it is not free, the output; `written_back`, that mcg reads what it
 //! writes.
 //!
 //! Stands on `bench_tasks` for the words and the files, on `bench_outcomes` for what they stand

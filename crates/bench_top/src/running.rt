@@ -48,7 +48,7 @@ pub fn run_ending<S: Shelf, K: Sink>(
         → sink.new ≡ sink.old }
 
     // The reads are those of the first few names of files in the words, in their order: of all of
-    // them where good files were reported on, and where the files are told, of those up to the
+    // them where good files were reported on, and where the files are known, of those up to the
     // first that is not held or is bad.
     ensures asks { ReadsFirst S.reads (names_in (command_of (map string_bytes words.now)))
         shelf.old shelf.new }
@@ -158,7 +158,7 @@ pub fn run<S: Shelf, K: Sink>(
         → sink.new ≡ sink.old }
 
     // The reads are those of the first few names of files in the words, in their order: of all of
-    // them where good files were reported on, and where the files are told, of those up to the
+    // them where good files were reported on, and where the files are known, of those up to the
     // first that is not held or is bad.
     ensures asks { ReadsFirst S.reads (names_in (command_of (map string_bytes words.now)))
         shelf.old shelf.new }

@@ -36,7 +36,7 @@ pub fn checked_ears_law()
         → AsksDone (codes "checkears" ∷ graph ∷ ears ∷ []) again }
 {}
 
-/// What `replay` writes where it is done, `check` accepts.
+/// What `replay` writes if it is done, `check` accepts.
 pub fn checked_replay_law()
     ensures { (files again : List Named) (graph tree moves last output : List ℕ)
         → Outcome (codes "replay" ∷ graph ∷ tree ∷ moves ∷ []) files Done output
@@ -57,7 +57,7 @@ pub fn grown_graph_law()
         → AsksDone (codes "decompose" ∷ name ∷ codes "first" ∷ []) again }
 {}
 
-/// What `convert` writes is canonical: where a file holds it and keeps the limit of bytes,
+/// What `convert` writes is canonical: if a file holds it and keeps the limit of bytes,
 /// `convert` of that file is done and gives the same text, and nothing else.
 pub fn convert_law()
     ensures allows { (files again : List Named) (name other : List ℕ) (output : List ℕ)
@@ -73,7 +73,7 @@ pub fn convert_law()
 {}
 
 /// What `script` writes is replayed: over files that hold the same graph and first tree and,
-/// within the limit of bytes, this output, `replay` of the three is done and tells the second
+/// within the limit of bytes, this output, `replay` of the three is done and gives the second
 /// tree, and nothing else.
 pub fn replayed_script_law()
     ensures { (files again : List Named) (graph first second script : List ℕ) (output : List ℕ)

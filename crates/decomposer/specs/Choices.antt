@@ -26,7 +26,7 @@ pub record PicksBalanced (list : List Candidate) (place : ℕ) : Type 0 where
   pub shows : map candidate_of stored ≡ list
   pub balanced : IsBalanced stored place
 
--- the answer counts as the place: it is the place where it is one of so many, and else the place
+-- the answer counts as the place: it is the place if it is one of so many, and else the place
 -- is the first
 abbrev pub CountsAs : (answer places place : ℕ) → Type 0
 CountsAs answer places place = ((answer < places) × (place ≡ answer)) ⊎ ((places ≤ answer) × (place ≡ 0))

@@ -23,7 +23,7 @@ NamedPicks Last list cuts place = place ≡ length list - 1
 NamedPicks Balanced list cuts place = PicksBalanced list place
 
 -- the number that a list of picks has for the node after so many cuts, modulo the number of
--- candidates; 0 where it has none
+-- candidates; 0 if it has none
 abbrev pub scripted_place : List ℕ → (cuts candidates : ℕ) → ℕ
 scripted_place picks cuts candidates = slice_index_or picks cuts 0 % candidates
 

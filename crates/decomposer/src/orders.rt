@@ -24,7 +24,7 @@ pub trait Order {
         ensures picks { picks self.now (map candidate_of list.now) cuts result };
 
     /// Whether the order may pick the first candidate with so many cuts before the node, whatever
-    /// the others are. Where it says so, no other candidate is looked for, and `pick` is not
+    /// the others are. If it says so, no other candidate is looked for, and `pick` is not
     /// asked.
     fn takes_first(&self, _cuts: usize) -> bool
         ensures { IsTrue result →
@@ -110,7 +110,7 @@ pub struct Scripted<'a> {
 }
 
 impl<'a> Scripted<'a> {
-    // The number that the list has for the node with so many cuts before it; 0 where it has none.
+    // The number that the list has for the node with so many cuts before it; 0 if it has none.
     fn number(&self, cuts: usize) -> u32
         ensures { result ≡ slice_index_or self.now.picks.now cuts 0 }
     {

@@ -1,6 +1,6 @@
 -- The edges of a stage in a graph of their own. The degree by rank is the degree in g, so a
 -- perfect matching of the listed edges is one of the graph of the stage; and an edge lies in one
--- where its two ends may be left out.
+-- if its two ends may be left out.
 use Rattle.std.proofs.Common.{◌≡◌, ℕ, suc, zero, ◌+◌, ◌*◌, ◌≢◌, Bool, true, false, cond, ◌==◌, refl, sym, ap, ◌∙◌, arith, ◌&&◌, not, eq-eqb, ne_eqb, eqb-true, inl, inr, [], ◌∷◌, ◌++◌, length, ◌↔◌}
 use Rattle.counting.proofs.Booleans.{same_tests}
 use Rattle.std.proofs.lemmas.Bool.{cases_eq, or_right, cases_Bool, and_parts, true_from_ne_false, and_from, both_ways, false_from_ne_true, not-true, or_left, or_cases, or_parts, or_from}
@@ -102,7 +102,7 @@ module _ (g : Graph) (f r : Set) where
   pub served_listed : ((m : Set) × IsPerfectOff g f r m) ↔ HasPerfect kf out
   served_listed = (λ x. (rank_of x.0, to_listed x.0 x.1), λ x. (by_rank f x.0, from_listed x.0 x.1))
 
--- an edge of f lies in a perfect matching of f where its two ends serve
+-- an edge of f lies in a perfect matching of f if its two ends serve
 pub edge_serves : (g : Graph) (f : Set) (e : ℕ) → IsGraph g → Within (size g) e → first_end g e ≢ second_end g e → f e ≡ true → ((m : Set) × IsPerfectOf g f m × (m e ≡ true)) ↔ ((m : Set) × IsPerfectOff g f (pair_set (first_end g e) (second_end g e)) m)
 unfolding ends_of
 edge_serves g f e is w d fe = (there, back)

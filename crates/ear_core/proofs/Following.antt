@@ -103,7 +103,7 @@ module _ (g : Graph) (is : IsGraph g) (f : Set) (m n : ℕ → ℕ) (met : Set) 
   met-is : met ≡ is_met g f
   met-is = fun_ext same
 
-  -- where no vertex is left, there are no further ears
+  -- if no vertex is left, there are no further ears
   pub collected-none : (z : Set) → ((v : ℕ) → Within g.order v → is_left met f m z v ≡ false) → AreMatedEars g f m n z []
   collected-none z nothing = none-left g f m n z (subst (λ (t : Set). (v : ℕ) → Within g.order v → is_left t f m z v ≡ false) met-is nothing)
 

@@ -68,7 +68,7 @@ one-at g m perfect v d e w wd we md me jd je = elim (cases_eq d e) [
       let o = perfect.once v w refl in absurd (omega arith)
 ]
 
--- the rows give an edge at v where one of their edges is at v
+-- the rows give an edge at v if one of their edges is at v
 found-in : (g : Graph) (rows : List MatchRow) (v e : ℕ) → All (IsRowOf g) rows → mem (map (λ (row : MatchRow). row.edge) rows) e ≡ true → joins g e v ≡ true →
     Within (size g) (row_edge rows v) × (mem (map (λ (row : MatchRow). row.edge) rows) (row_edge rows v) ≡ true) × (joins g (row_edge rows v) v ≡ true)
 found-in g [] v e all m h = absurd (true≢false (sym m))

@@ -77,7 +77,7 @@ module _ (g : Graph) (f : Set) (m n : ℕ → ℕ) where
     ];
   }
 
-  -- none where no vertex is left
+  -- none if no vertex is left
   pub none-left : (z : Set) → ((v : ℕ) → Within g.order v → is_left (is_met g f) f m z v ≡ false) → AreMatedEars g f m n z []
   none-left z h = record {
     each = λ a i. absurd i;
@@ -173,7 +173,7 @@ module _ (g : Graph) (f : Set) (m n : ℕ → ℕ) where
         pos zero h = absurd (true≢false (sym h))
         pos (suc k) h = omega arith
 
-    -- the ears are candidates for a step, where m leads out of the stage somewhere
+    -- the ears are candidates for a step, if m leads out of the stage somewhere
     pub mated-candidates : (ears : List PlainEar) → AreMatedEars g f m n none ears → (v : ℕ) → Within g.order v → is_met g f v ≡ true → f (m v) ≡ false → AreCandidates g f ears
     mated-candidates ears p v w t leads = record {
       each = λ a i. (p.each a i).ear;

@@ -1,4 +1,4 @@
--- Ears whose ends serve. Where the stage has a perfect matching without the ends of an ear, the
+-- Ears whose ends serve. If the stage has a perfect matching without the ends of an ear, the
 -- odd edges of the ear complete it to one of the new stage, so each of its edges lies in one; two
 -- ears whose ends serve together are added one after the other.
 use Rattle.std.proofs.Common.{◌≡◌, ℕ, true, false, ◌==◌, refl, sym, ◌∙◌, ◌||◌, eqb-true, inl, inr, subst, List}

@@ -1,5 +1,5 @@
 -- Walking along an ear edge by edge, with the inner vertices so far at hand: what is left of the
--- ear goes on as a path where each edge is at the vertex reached, the next vertex is new, and
+-- ear goes on as a path if each edge is at the vertex reached, the next vertex is new, and
 -- only the last may be the first.
 use Rattle.std.proofs.Common.{◌≡◌, ℕ, suc, Bool, true, false, ◌==◌, refl, sym, ap, ap₂, ◌∙◌, arith, ◌&&◌, ◌||◌, not, nat_le, eq-eqb, ne_eqb, eqb-true, le-leb, inl, inr, [], ◌∷◌, List, length, All}
 use Rattle.std.proofs.lemmas.Bool.{cases_eq, true≢false}

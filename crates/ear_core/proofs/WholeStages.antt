@@ -1,6 +1,6 @@
 -- A stage that holds every edge and meets every vertex has the walks and the perfect matchings of
 -- the graph itself, so it is matching covered exactly when the graph is. An ear list leads to
--- such a stage where no vertex is isolated.
+-- such a stage if no vertex is isolated.
 use Rattle.std.proofs.Common.{◌≡◌, ℕ, true, not, ◌&&◌, ◌==◌, List, [], ◌∷◌, refl, sym, ap, ◌∙◌, arith}
 use Rattle.std.proofs.lemmas.Bool.{and_from, and_parts, true≢false}
 use Rattle.counting.proofs.Tests.{some_true, true_some}

@@ -38,7 +38,7 @@ IsFirstRefusal g f k (s ∷ steps) number why =
     ((number ≡ k + 1) × IsStepRefused g f s why)
     ⊎ ((step_fault g f s ≡ None) × IsStage g (next_stage f s) × IsFirstRefusal g (next_stage f s) (k + 1) steps number why)
 
--- what is answered of steps that follow k others: nothing where they lead to all edges, else
+-- what is answered of steps that follow k others: nothing if they lead to all edges, else
 -- their first refusal
 abbrev pub IsJudged : Graph → Set → ℕ → List PlainStep → Option (ℕ × Why) → Type 0
 IsJudged g f k steps None = AreSteps g f steps

@@ -17,10 +17,10 @@ use crate::steps::take_step;
 use graph_core::MultiGraph;
 use std::alloc::{AllocError as Memory, Global};
 
-/// Whether `list` is an ear list of `g`, and where it is none its first refusal: steps are
+/// Whether `list` is an ear list of `g`, and if it is not one, its first refusal: steps are
 /// numbered from 1, and at a step its first ear is tested by 1 to 5 of `EarWhy` in order, then
 /// its second ear likewise, then its new stage. Its numbers are a vertex and edges of `g`.
-/// `Memory` is want of memory alone. The ear lists of a matching covered graph are those of
+/// `Memory` is lack of memory alone. The ear lists of a matching covered graph are those of
 /// Lovász and Plummer.
 pub fn check_ears(alloc: Global, g: &MultiGraph, list: &EarList) -> Result<EarJudgement, Memory>
     requires { FitsEars g.now.order (size g.now) (ears_of list.now) }

@@ -17,7 +17,7 @@ pub struct Ear {
 pub struct Step {
     /// The first ear.
     pub first: Ear,
-    /// The second ear, where there are two.
+    /// The second ear, if there are two.
     pub second: Option<Ear>,
 }
 

@@ -1,4 +1,4 @@
-//! The tests of an ear on a stage, which a row of marks tells.
+//! The tests of an ear on a stage, by a row of marks.
 ghost use Rattle.std.specs.Prelude.{◌≡◌, ◌+◌, ◌<◌, ◌||◌, ◌&&◌, ◌==◌, ℕ, true, false, not, length, All, Some, None, IfOk, IfErr, List};
 ghost use Rattle.counting.specs.Counts.{Within, is_odd};
 ghost use Rattle.counting.specs.Lists.{mem};

@@ -27,7 +27,7 @@ pub enum EarWhy {
 pub enum EarJudgement {
     /// It is an ear list of the graph.
     Accepted,
-    /// It is none: `step` is the first step that is refused, counted from 1, and the number of
-    /// steps where all are taken and edges are left.
+    /// It is not one: `step` is the first step that is refused, counted from 1, and the number of
+    /// steps if all are taken and edges are left.
     Refused { step: u32, why: EarWhy },
 }

@@ -20,7 +20,7 @@ pub fn ear_tests_law()
 {}
 
 /// No test of a step fails exactly when it is a step of the stage; then the new stage is matching
-/// covered where each of its edges lies in a perfect matching of it. So after the five tests a
+/// covered if each of its edges lies in a perfect matching of it. So after the five tests a
 /// new stage can fail by an edge in no perfect matching alone.
 pub fn new_stage_law()
     ensures tests { (g : Graph) (f : Set) (s : PlainStep) → (step_fault g f s ≡ None) ↔

@@ -35,8 +35,8 @@ fn other_end(g: &MultiGraph, e: u32, v: u32) -> Option<u32>
     }
 }
 
-/// The path that an ear is, its last vertex perhaps equal to its first; `None` exactly when it is
-/// none.
+/// The path that an ear is, its last vertex perhaps equal to its first; `None` exactly when the ear
+/// is not a path.
 pub fn path_of(g: &MultiGraph, ear: &Ear) -> Option<Path>
     requires begin { Within g.now.order ear.now.from }
     requires edges { All (Within (size g.now)) ear.now.edges }

@@ -1,4 +1,4 @@
--- The line of an ear is told by the tests of its numbers.
+-- The line of an ear is decided by the tests of its numbers.
 use Rattle.std.proofs.Common.{◌≡◌, ℕ, Bool, true, not, List, Option, is_some, ap, Err}
 use Rattle.std.specs.Prelude.{if◌then◌else◌}
 use Rattle.line_text.specs.Format.{checked}

@@ -36,7 +36,7 @@ is_with_line words = nat_le 3 (length words) && has_form words (length words) (c
 abbrev pub ear_at : List (List ℕ) → PlainEar
 ear_at words = record { begin = value_of (word_at words 1); edges = map value_of (behind_two words) }
 
--- the steps, the last of which has one ear where an ear stands apart
+-- the steps, the last of which has one ear if an ear stands apart
 abbrev pub closed : List PlainStep → Option PlainEar → List PlainStep
 closed steps None = steps
 closed steps (Some a) = steps ++ one a ∷ []
@@ -64,7 +64,7 @@ start_line m words =
     ∷ [])
     (started (value_of (word_at words 1)) [] None)
 
--- the words of a step's first ear, or of a second one where an ear stands apart
+-- the words of a step's first ear, or of a second one if an ear stands apart
 abbrev pub is_either_ear_line : (stands_apart : Bool) → List (List ℕ) → Bool
 is_either_ear_line stands_apart words = is_ear_line words || (stands_apart && is_with_line words)
 

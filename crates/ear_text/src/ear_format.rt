@@ -104,7 +104,7 @@ fn is_either_ear(stands_apart: bool, words: &[&[u8]]) -> bool
     is_ear(words) || (stands_apart && is_with(words))
 }
 
-// The ear that a line tells after its first word.
+// The ear that a line gives after its first word.
 fn ear_told(format: &EarFormat, words: &[&[u8]]) -> Result<Ear, Refusal<FaultKind>>
     ensures ear { IfOk result (λ ear. ear_of ear ≡ ear_at (texts_of words.now)) }
     ensures tests { (so_far : EarsSoFar) → Gives (λ _. so_far) result
@@ -214,7 +214,7 @@ impl LineFormat for EarFormat {
 
 /// Reads an ear list for a graph of `n` vertices and `m` edges: the list that the bytes stand
 /// for, or the first line outside the format with the kind of its fault. All numbers of the list
-/// are in range, and no ear is empty. Want of memory may come at any time.
+/// are in range, and no ear is empty. Lack of memory may come at any time.
 pub fn read_ears(alloc: Global, bytes: &[u8], n: u32, m: u32) -> Result<EarList, TextFault>
     requires { length bytes.now < 2 ^ 32 - 1 }
     ensures fits { IfOk result (λ list. FitsEars n m (ears_of list)) }

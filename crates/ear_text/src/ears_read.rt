@@ -20,7 +20,7 @@ pub enum EarsRead {
     },
 }
 
-/// The steps, the last of which has one ear where an ear stands apart.
+/// The steps, the last of which has one ear if an ear stands apart.
 pub fn close_last(steps: Steps, last: Option<Ear>) -> Result<Steps, Memory>
     ensures { IfOk result
         (λ all. map step_of all ≡ closed (map step_of steps) (option_map ear_of last)) }

@@ -1,4 +1,4 @@
--- A set is an odd shore where the tests say so: it is a part of the vertices, and its size leaves
+-- A set is an odd shore if the tests say so: it is a part of the vertices, and its size leaves
 -- 1 when divided by 2. The remainder says what the definition by steps of one says.
 use Rattle.std.proofs.Common.{◌≡◌, ℕ, ◌==◌, ◌%◌, List, true, ◌∙◌, ◌↔◌}
 use Rattle.counting.proofs.Odd.{is_odd_remainder}

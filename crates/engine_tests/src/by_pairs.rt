@@ -1,4 +1,4 @@
-//! The candidates beside those of the plain way by pairs: the same list in the same order, and
+//! The candidates beside those of the plain search by pairs: the same list in the same order, and
 //! its first.
 
 use crate::shapes::{TWO_K33, chordal_ring, pages, three_parts};
@@ -11,8 +11,8 @@ use std::alloc::{AllocError as Memory, Global};
 use std::test::Fail;
 use tight_cuts::{candidates, candidates_by_pairs, first_candidate};
 
-// The number of candidates; none where the graph is not covered, or the list or its first is not
-// that of the plain way.
+// The number of candidates; none if the graph is not covered, or the list or its first is not that
+// of the plain search.
 fn agreed(alloc: Global, g: &MultiGraph) -> Result<Option<usize>, Memory> {
     if !is_covered(alloc, g)? {
         return Ok(None);

@@ -51,7 +51,7 @@ fn decomposed_past_the_end(alloc: Global, g: &MultiGraph) -> Result<Tree, Refuse
     }
 }
 
-/// The derivation in an order; none where the graph is refused.
+/// The derivation in an order; none if the graph is refused.
 pub fn derived(alloc: Global, g: &MultiGraph, choice: Choice) -> Result<Option<Tree>, Memory>
     ensures { IfOk result (λ o. (t : _) → o ≡ Some t → IsDerivation g.now (shape_of t)) }
 {
@@ -62,7 +62,7 @@ pub fn derived(alloc: Global, g: &MultiGraph, choice: Choice) -> Result<Option<T
     }
 }
 
-/// The graphs of the leaves of a decomposition; none where the graph is refused.
+/// The graphs of the leaves of a decomposition; none if the graph is refused.
 pub fn leaf_graphs(
     alloc: Global,
     g: &MultiGraph,

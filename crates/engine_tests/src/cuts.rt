@@ -38,7 +38,7 @@ fn is_odd_shore(graph: &MultiGraph, set: VSet) -> bool
     set.is_subset(VSet::full(graph.order())) && set.len() % 2 == 1
 }
 
-// What is answered on the cut of a set; nothing where the set is no odd shore, or the graph not matching covered.
+// What is answered on the cut of a set; nothing unless it is an odd shore and the graph is covered.
 fn answer(alloc: Global, graph: &MultiGraph, set: VSet) -> Result<Option<Tightness>, Fail> {
     if !is_odd_shore(graph, set) {
         return Ok(None);
@@ -49,7 +49,7 @@ fn answer(alloc: Global, graph: &MultiGraph, set: VSet) -> Result<Option<Tightne
     Ok(None)
 }
 
-// The edges of the matching that crosses the cut of a set; none where the cut is tight.
+// The edges of the matching that crosses the cut of a set; none if the cut is tight.
 fn crossing(alloc: Global, graph: &MultiGraph, set: VSet) -> Result<VSet, Fail> {
     let mut edges = VSet::empty();
     if let Some(Tightness::Crossed { matching }) = answer(alloc, graph, set)? {
@@ -63,7 +63,7 @@ fn crossing(alloc: Global, graph: &MultiGraph, set: VSet) -> Result<VSet, Fail> 
     Ok(edges)
 }
 
-// A graph, a set of an odd number of its vertices, and the matching that crosses its cut; no edges where the cut is tight.
+// A graph, a set of an odd number of its vertices, and the matching that crosses its cut; no edges if the cut is tight.
 static WORKED: [(u32, &[(u32, u32)], u32, u32); 3] = [
     (8, &TRIANGLE_IN_K33, 0b111, 0),
     (6, &PRISM, 0b111, 0b111 << 6),
@@ -81,7 +81,7 @@ fn worked_cuts(rt: HostRuntime) -> Result<(), Fail> {
     Ok(())
 }
 
-// Whether the answer on the cut of a set is that of the plain program; nothing where the set is no odd shore.
+// Whether the answer on the cut of a set is the plain program's; nothing if it is not an odd shore.
 fn agrees(alloc: Global, graph: &MultiGraph, set: VSet) -> Result<Option<bool>, Fail>
     requires { IsSmall graph.now }
 {
@@ -97,7 +97,7 @@ fn agrees(alloc: Global, graph: &MultiGraph, set: VSet) -> Result<Option<bool>, 
     }
 }
 
-// The number of the sets of the vertices 1 to 8 with an odd number of vertices of the graph; none where an answer is not that of the
+// The number of the sets of the vertices 1 to 8 with an odd number of vertices of the graph; none if an answer is not that of the
 // plain program.
 fn odd_sets(alloc: Global, graph: &MultiGraph) -> Result<Option<u32>, Fail>
     requires { IsSmall graph.now }
@@ -134,7 +134,7 @@ fn all_odd_sets_of_small_graphs(rt: HostRuntime) -> Result<(), Fail> {
     Ok(())
 }
 
-// The candidates of a graph; none where it is not matching covered.
+// The candidates of a graph; none if it is not matching covered.
 fn candidates_if_covered(alloc: Global, graph: &MultiGraph) -> Result<CandidateList, Fail> {
     if is_covered(alloc, graph)? {
         return Ok(candidates(alloc, graph)?);

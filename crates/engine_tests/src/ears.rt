@@ -10,7 +10,7 @@ use std::test::Fail;
 const TWINS: [(u32, u32); 2] = [(1, 2), (2, 1)];
 
 // A graph, by its order and its edges, and the number of steps of one ear and of two of the list
-// that is built; none where it is not matching covered.
+// that is built; none if it is not matching covered.
 static BUILT: [(u32, &[(u32, u32)], Option<(u32, u32)>); 7] = [
     (2, &TWINS, Some((1, 0))),
     (4, &K4, Some((1, 1))),
@@ -21,7 +21,7 @@ static BUILT: [(u32, &[(u32, u32)], Option<(u32, u32)>); 7] = [
     (10, &PETERSEN, Some((2, 2))),
 ];
 
-// The steps of the list that is built, where it is accepted.
+// The steps of the list that is built, if it is accepted.
 fn built(alloc: Global, graph: &MultiGraph) -> Result<Option<(u32, u32)>, Fail> {
     if !is_covered(alloc, graph)? {
         return Ok(None);

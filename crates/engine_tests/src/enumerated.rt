@@ -58,7 +58,7 @@ fn has_tight_cut(alloc: Global, g: &MultiGraph) -> Result<bool, Memory>
     Ok(false)
 }
 
-// Whether the quick test for the sort of the graph finds no nontrivial tight cut; none where it
+// Whether the quick test for the sort of the graph finds no nontrivial tight cut; none if it
 // does not take the graph.
 fn is_whole(alloc: Global, g: &MultiGraph) -> Result<Option<bool>, Memory> {
     if !is_covered(alloc, g)? || g.order() < 4 {
@@ -94,7 +94,7 @@ impl Seen {
     }
 }
 
-// What was seen before, and this graph; none where the quick test and the enumeration do not
+// What was seen before, and this graph; none if the quick test and the enumeration do not
 // agree on it.
 fn and_graph(alloc: Global, seen: Seen, g: &MultiGraph) -> Result<Option<Seen>, Memory> {
     if !is_small(g) {
@@ -111,7 +111,7 @@ fn and_graph(alloc: Global, seen: Seen, g: &MultiGraph) -> Result<Option<Seen>, 
     }
 }
 
-// What is seen of the graphs of all numbers below a limit; none where one is found on which the
+// What is seen of the graphs of all numbers below a limit; none if one is found on which the
 // two do not agree.
 fn all_below(alloc: Global, order: u32, family: Family, limit: u32) -> Result<Option<Seen>, Fail>
     requires { order ≤ 128 }

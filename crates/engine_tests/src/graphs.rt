@@ -7,7 +7,7 @@ use plain_graph::{DOUBLED_SQUARE, HEXAGON, K4, STAR, TRIANGLE, TWO_EDGES};
 use std::alloc::Global;
 use std::test::Fail;
 
-// A graph, the number of its components, and the side of its least vertices; no side where it is
+// A graph, the number of its components, and the side of its least vertices; no side if it is
 // not bipartite.
 struct Row {
     order: u32,

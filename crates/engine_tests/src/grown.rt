@@ -26,7 +26,7 @@ fn agrees(alloc: Global, g: &MultiGraph) -> Result<bool, Memory> {
     Ok(quick_brick(alloc, g)?.is_none() == is_whole)
 }
 
-// Whether each of the leaves of the graph's decomposition, as many as wanted, agrees.
+// Whether each of the leaves of the graph's decomposition, as many as asked for, agrees.
 fn leaves_agree(alloc: Global, g: &MultiGraph, many: usize) -> Result<bool, Memory> {
     let pieces = leaf_graphs(alloc, g, FIRST)?;
     for piece in &pieces {

@@ -15,7 +15,7 @@ fn kind_if_covered(alloc: Global, graph: &MultiGraph) -> Result<Option<Kind>, Fa
     Ok(None)
 }
 
-// Whether this is the kind of the graph; none where it is not covered.
+// Whether this is the kind of the graph; none if it is not covered.
 fn is_kind(
     alloc: Global,
     order: u32,

@@ -16,7 +16,7 @@
 //! shore, the triangle of the prism and the outer cycle of the Petersen graph are not.
 //! `tight_cuts::candidates` answers the worked lists of candidates, in order and with their
 //! origins; bricks and braces have none; and on a table of small graphs the list is empty exactly
-//! where the plain program finds no nontrivial tight set.
+//! when the plain program finds no nontrivial tight set.
 //!
 //! `worked`: each call of `barrier_kit`, `separation_kit` and `quick_kinds` on graphs of the
 //! literature.
@@ -26,17 +26,17 @@
 //! the table of pairs of a large graph ends.
 //!
 //! `quick_lists`: on worked and generated graphs and their leaves, wheels, prisms and Möbius
-//! ladders `tight_cuts::candidates` answers what the plain way by pairs does, and
+//! ladders `tight_cuts::candidates` answers what the plain search by pairs does, and
 //! `first_candidate` the first of it.
 //!
-//! Whole families of graphs on which two ways must agree. `enumerated`: `quick_brace` and
+//! Whole families of graphs on which two searches must agree. `enumerated`: `quick_brace` and
 //! `quick_brick` find no nontrivial tight cut if and only if going through all perfect matchings
 //! and all odd sets finds none, on all matching covered simple graphs of 4 and 6 vertices, all
 //! bipartite ones of 8 vertices but the cycle, and some others of 8. `by_pairs`: `candidates` and
-//! `first_candidate` answer what the plain way by pairs does, on generated graphs, bipartite cubic
-//! graphs, and barriers and separations with several parts. Both ways begin with the cuts of
-//! barriers and separations, by the same calls; they differ in the search at the edges. `numbered`
-//! and `shapes` make the graphs. A test that must find something says how much it found.
+//! `first_candidate` answer what the plain search by pairs does, on generated graphs, bipartite
+//! cubic graphs, and barriers and separations with several parts. Both searches begin with the cuts
+//! of barriers and separations, by the same calls; they differ in the search at the edges.
+//! `numbered` and `shapes` make the graphs. A test that must find something says how much it found.
 //!
 //! `compared`: two derivations of the cycle of eight are compared, the moves lead from the one to
 //! the other, and a shore is exposed.

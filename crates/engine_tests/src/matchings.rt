@@ -84,7 +84,7 @@ fn has_edges(matching: &Matching, want: &[u32]) -> bool {
     true
 }
 
-// Whether the answer is a matching of these edges, or none where none is wanted.
+// Whether the answer is a matching of these edges, or none if none is expected.
 fn is_answer(found: &Option<Matching>, want: Option<&[u32]>) -> bool {
     match (found, want) {
         (Some(matching), Some(edges)) => has_edges(matching, edges),

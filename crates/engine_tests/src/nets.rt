@@ -76,7 +76,7 @@ fn set_of_bits(mask: u32) -> VSet {
     set
 }
 
-// The answer as a set and its value; the set is empty where a flow is above the bound.
+// The answer as a set and its value; the set is empty if a flow is above the bound.
 fn cut_of(
     alloc: Global,
     rows: &[Row],

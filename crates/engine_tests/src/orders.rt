@@ -10,7 +10,7 @@ use std::test::Fail;
 use tree_core::Tree;
 use vset_core::VSet;
 
-// The shore of the only cut of a tree; none where it is a leaf or has more cuts.
+// The shore of the only cut of a tree; none if it is a leaf or has more cuts.
 fn only_shore(tree: &Tree) -> Option<VSet> {
     match tree {
         Tree::Leaf => None,
@@ -82,7 +82,7 @@ fn is_whole(alloc: Global, order: u32, edges: &[(u32, u32)]) -> Result<bool, Fai
     }
 }
 
-// Why the graph is refused; nothing where it is not.
+// Why the graph is refused; nothing if it is not.
 fn refusal(alloc: Global, order: u32, edges: &[(u32, u32)]) -> Result<Option<Reason>, Fail> {
     let g = made(alloc, order, edges)?;
     match decomposed(alloc, &g, LAST) {

@@ -1,4 +1,4 @@
-//! The candidates beside those of the plain way by pairs: the same list in the same order, and
+//! The candidates beside those of the plain search by pairs: the same list in the same order, and
 //! its first.
 ghost use Rattle.std.specs.Prelude.{◌≤◌};
 
@@ -17,7 +17,7 @@ use std::test::Fail;
 use tight_cuts::{candidates, candidates_by_pairs, find_any, first_candidate};
 
 // Whether the graph is covered, and its candidates, the first of them and its shore are those of
-// the plain way.
+// the plain search.
 fn agrees(alloc: Global, g: &MultiGraph) -> Result<bool, Memory> {
     if !is_covered(alloc, g)? {
         return Ok(false);
@@ -74,7 +74,7 @@ fn wheel(alloc: Global, rim: u32) -> Result<MultiGraph, Fail>
 }
 
 // Two paths of so many vertices, each vertex of the first joined to its partner in the second.
-// The ends of each path are joined, which makes a prism; or, where it is twisted, each to the
+// The ends of each path are joined, which makes a prism; or, if it is twisted, each to the
 // start of the other path, which makes a Möbius ladder.
 fn ladder(alloc: Global, rungs: u32, is_twisted: bool) -> Result<MultiGraph, Fail>
     requires three { 3 ≤ rungs }

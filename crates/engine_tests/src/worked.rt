@@ -98,7 +98,7 @@ fn lists_classes_and_the_cuts_of_barriers(rt: HostRuntime) -> Result<(), Fail> {
     Ok(())
 }
 
-// Whether the set is a barrier of the graph; nothing where it is not one of vertices of the graph.
+// Whether the set is a barrier of the graph; nothing if it is not one of vertices of the graph.
 fn asked_barrier(alloc: Global, g: &MultiGraph, set: VSet) -> Result<Option<bool>, Memory> {
     match vertices(g, set) {
         Some(found) => Ok(Some(is_barrier(alloc, g, found)?)),

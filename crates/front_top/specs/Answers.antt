@@ -13,7 +13,7 @@ word_answer word =
     if bytes_eq word (codes "help") then Some usage_text else
     if bytes_eq word (codes "--version") then Some version_text else None
 
--- what the words are answered at once; none where they ask for a run
+-- what the words are answered at once; none if they ask for a run
 abbrev pub answer_of : List (List ℕ) → Option (List ℕ)
 answer_of [] = None
 answer_of (word ∷ []) = word_answer word

@@ -19,8 +19,8 @@ pub record IsSaid {E : Type 0} (written : E → Option (List ℕ)) (faults : E �
   pub answer : Result (Unit {0}) SinkFailed
   pub says : Says {F = SinkFailed} written faults text answer before now
 
--- what was said after a run of the command that ended so: the words for a stop which, where a
--- file is bad, is the one that the written line reports, and where a read failed has its file;
+-- what was said after a run of the command that ended so: the words for a stop which, if a
+-- file is bad, is the one that the written line reports, and if a read failed has its file;
 -- given what is kept of the file that was read last, why a read failed, and whether nobody reads
 -- the output any more
 pub record Speaks {E : Type 0} (written : E → Option (List ℕ)) (faults : E → ℕ) (command : Option Command) (ended : Status)
@@ -30,7 +30,7 @@ pub record Speaks {E : Type 0} (written : E → Option (List ℕ)) (faults : E �
   pub unread : ended ≡ ReadFault → Unread stopped
   pub said : IsSaid written faults (words_of command ended stopped (record { kept = kept; reason = reason; is_abandoned = is_abandoned })) before now
 
--- a text was the whole answer: it was written whole and all is done, or a beginning of it where
+-- a text was the whole answer: it was written whole and all is done, or a beginning of it if
 -- the sink failed
 pub record Answers {K : Type 0} (written : K → Option (List ℕ)) (faults : K → ℕ) (text : List ℕ) (ended : Status) (before now : K) : Type 0 where
   pub ends : (ended ≡ Done) ⊎ (ended ≡ WriteFault)

@@ -24,7 +24,7 @@ pub record Known : Type 0 where
   pub reason : Option Reason
   pub is_abandoned : Bool
 
--- the line with that number of the file that was read last, where it is kept
+-- the line with that number of the file that was read last, if it is kept
 abbrev pub line_kept : Option (List ℕ) → ℕ → Option (List ℕ)
 line_kept None line = None
 line_kept (Some text) line = line_at text line
@@ -46,8 +46,8 @@ stop_words command (Some (stop.Bad file line kind)) known = bad_words (file_in c
 stop_words command (Some (stop.ReadFault file)) known = unread_words (file_in command file) known.reason
 stop_words command (Some stop.Memory) known = []
 
--- what is said of a run of a command that ended with this status and this stop; nothing where it
--- is done or refused, and nothing where nobody reads the output any more
+-- what is said of a run of a command that ended with this status and this stop; nothing if it
+-- is done or refused, and nothing if nobody reads the output any more
 abbrev pub words_of : Option Command → Status → Option Stop → Known → List ℕ
 words_of command Done stopped known = []
 words_of command Negative stopped known = []

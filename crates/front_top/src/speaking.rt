@@ -21,9 +21,9 @@ const PROGRAM: &str = "mcg";
 /// What is known of the faults of a run.
 #[derive(Clone, Copy, Drop)]
 pub struct Clues<'a> {
-    /// The bytes of the file that was read last, where they are kept.
+    /// The bytes of the file that was read last, if they are kept.
     pub kept: Option<&'a [u8]>,
-    /// Why the last read failed, where it did.
+    /// Why the last read failed, if it did.
     pub reason: Option<Reason>,
     /// Nobody reads the output any more.
     pub is_abandoned: bool,
@@ -36,7 +36,7 @@ fn say_nothing<E: Sink>(_errors: &mut E) -> Result<(), SinkFailed>
     Ok(())
 }
 
-// The line with that number of the file that was read last, where it is kept.
+// The line with that number of the file that was read last, if it is kept.
 fn line_kept<'a>(kept: Option<&'a [u8]>, line: u32) -> Option<&'a [u8]>
     ensures { option_map (λ text. text.now) result ≡
         line_kept (option_map (λ text. text.now) kept.entry) line }
@@ -120,7 +120,7 @@ fn say_stop<'a, E: Sink>(
     }
 }
 
-/// Says what the ending of a run of these words means; nothing where it is done or refused. Takes
+/// Says what the ending of a run of these words means; nothing if it is done or refused. Takes
 /// no memory.
 pub fn say_ending<'a, E: Sink>(
     errors: &mut E,

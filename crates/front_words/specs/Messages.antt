@@ -35,7 +35,7 @@ line_shown program line None = []
 line_shown program line (Some text) = program ++ (codes ": line " ++ (decimal line ++ (codes " is: " ++ (shown 60 text ++ codes "\n"))))
 
 -- the file of that name, which is read so, is outside its format at that line by that kind; the
--- text is that of the line, where it is known
+-- text is that of the line, if it is known
 abbrev pub outside_text : (program name : List ℕ) → Role → (line kind : ℕ) → Option (List ℕ) → List ℕ
 outside_text program name role line kind text =
     program ++ (codes ": " ++ (shown 4096 name ++ (codes ", line " ++ (decimal line ++ (codes ": " ++

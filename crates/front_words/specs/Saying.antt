@@ -12,7 +12,7 @@ pub record IsBegun (text : List ℕ) (before now : Option (List ℕ)) : Type 0 w
   pub is_text : text ≡ done ++ rest
   pub written : now ≡ appended before done
 
--- the whole text was appended to what the sink had; or, where the sink failed, a beginning of it
+-- the whole text was appended to what the sink had; or, if the sink failed, a beginning of it
 pub record Says {K F : Type 0} (written : K → Option (List ℕ)) (faults : K → ℕ) (text : List ℕ) (result : Result (Unit {0}) F) (before now : K) : Type 0 where
   pub whole : OnOk result (written now ≡ appended (written before) text)
   pub begun : IsBegun text (written before) (written now)

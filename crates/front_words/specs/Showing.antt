@@ -6,7 +6,7 @@ use Rattle.std.specs.Prelude.{ℕ, zero, suc, ◌+◌, ◌/◌, ◌%◌, ◌==�
 abbrev pub is_control : ℕ → Bool
 is_control byte = nat_lt byte 32 || byte == 127
 
--- a byte: itself where it prints or stands in a character beyond ASCII; else a backslash with a
+-- a byte: itself if it prints or stands in a character beyond ASCII; else a backslash with a
 -- `t` for a tab, with a backslash for a backslash, and with three octal digits for every other
 abbrev pub byte_shown : ℕ → List ℕ
 byte_shown byte =
@@ -14,7 +14,7 @@ byte_shown byte =
     if byte == 92 then 92 ∷ 92 ∷ [] else
     if is_control byte then 92 ∷ (48 + byte / 64) ∷ (48 + byte / 8 % 8) ∷ (48 + byte % 8) ∷ [] else byte ∷ []
 
--- at most so many bytes of a text, and dots where there are more
+-- at most so many bytes of a text, and dots if there are more
 unfoldable pub begin_shown : ℕ → List ℕ → List ℕ
 begin_shown most [] = []
 begin_shown zero (byte ∷ text) = codes "..."

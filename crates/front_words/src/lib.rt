@@ -2,7 +2,7 @@
 //! `--version` answer.
 //!
 //! A message is a list of pieces (`Piece`): a text, a number, or bytes of the outside, shown so
-//! that they can stand in a line. `say` writes one to a sink: whole, or where the sink fails a
+//! that they can stand in a line. `say` writes one to a sink: whole, or if the sink fails a
 //! beginning of it (`Says`). Main definitions, in specs/: `usage_text` and `list_usage_text` of
 //! `Usage`, with the tables of commands; `fault_words` and `note_words` of `Faults`, what the
 //! kinds of faults in a file are, with the headers and the limits of the formats; `reason_words`

@@ -70,7 +70,7 @@ fn line_kept(text: &[u8]) -> Option<&[u8]>
 
 /// Says of the first bad line of a list its number and what is wrong with it, and the line,
 /// unless it is empty. The number of its kind of fault is given, and its text with its line end,
-/// as far as it was kept; the text is empty where the line is missing. Takes no memory.
+/// as far as it was kept; the text is empty if the line is missing. Takes no memory.
 pub fn say_bad_line<'a, K: Sink>(
     sink: &mut K,
     program: &'a str,

@@ -68,7 +68,7 @@ fn say_too_long<'a, K: Sink>(
     say(sink, &[Text(program), Text(": "), name, Text(words)])
 }
 
-/// The line, where it is known and is not empty. Takes no memory.
+/// The line, if it is known and is not empty. Takes no memory.
 pub fn some_line(text: Option<&[u8]>) -> Option<&[u8]>
     ensures { option_map (λ line. line.now) result ≡
         some_line (option_map (λ line. line.now) text.entry) }
@@ -79,7 +79,7 @@ pub fn some_line(text: Option<&[u8]>) -> Option<&[u8]>
     }
 }
 
-// Says what is wrong in which line, and the line, where it is known.
+// Says what is wrong in which line, and the line, if it is known.
 fn say_outside<'a, K: Sink>(
     sink: &mut K,
     program: &'a str,
@@ -137,7 +137,7 @@ fn say_outside<'a, K: Sink>(
     }
 }
 
-/// Says of a bad file which it is, where it is outside its format and how, and the line, where
+/// Says of a bad file which it is, where it is outside its format and how, and the line, if
 /// its text is known. Takes no memory.
 pub fn say_bad_file<'a, K: Sink>(
     sink: &mut K,

@@ -36,7 +36,7 @@ fn say_byte<K: Sink>(sink: &mut K, byte: u8) -> Result<(), SinkFailed>
     }
 }
 
-// Says at most so many bytes of the text as they can stand in a line, and dots where there are
+// Says at most so many bytes of the text as they can stand in a line, and dots if there are
 // more.
 fn say_begin<K: Sink>(sink: &mut K, text: &[u8], most: u32) -> Result<(), SinkFailed>
     ensures { Says K.written K.faults (begin_shown most text.now) result sink.old sink.new }
@@ -54,7 +54,7 @@ fn say_begin<K: Sink>(sink: &mut K, text: &[u8], most: u32) -> Result<(), SinkFa
     Ok(())
 }
 
-/// Says at most so many bytes of the text as they can stand in a line, and dots where there are
+/// Says at most so many bytes of the text as they can stand in a line, and dots if there are
 /// more; and two quotes for the empty text. Takes no memory.
 #[tactic(auto, unfolding(crate::specs::Showing::shown))]
 pub fn say_shown<K: Sink>(sink: &mut K, text: &[u8], most: u32) -> Result<(), SinkFailed>

@@ -15,7 +15,7 @@ use vset_core::VSet;
 
 /// The kind of a covered graph: composite exactly when it has a nontrivial tight cut, shown by the
 /// shore that `find_any` gives, and otherwise a brace exactly when it is bipartite, and a brick
-/// where it is not (Lovász 1987). A graph called a brick has at least four vertices, is bicritical
+/// if it is not (Lovász 1987). A graph called a brick has at least four vertices, is bicritical
 /// and has no cut pair.
 pub fn kind(alloc: Global, g: &MultiGraph) -> Result<Kind, Memory>
     requires { IsCovered g.now }

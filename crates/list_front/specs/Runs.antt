@@ -12,7 +12,7 @@ use Rattle.list_top.specs.declared.status.Status.{Status}
 use Rattle.list_top.specs.declared.status.Status.TheVariants.{Usage, ReadFault, WriteFault}
 
 -- a run of these words ended so, and led from the first source to the last, and from one sink to
--- the other; the functions are those that tell of the source and of the sink
+-- the other; the functions are those that speak of the source and of the sink
 pub record IsListRun {S K : Type 0} (left : S → Option (List ℕ)) (faults : S → ℕ) (reads : S → Option (List ℕ) → S → Type 0)
     (written : K → Option (List ℕ)) (sink_faults : K → ℕ) (writes : K → List ℕ → ℕ → K → Type 0) (words : List (List ℕ)) (ended : Status)
     (first last : S) (before now : K) : Type 0 where

@@ -33,7 +33,7 @@ pub record Speaks {E : Type 0} (written : E → Option (List ℕ)) (faults : E �
       → TellsList (TellsLineOf asked.query) (IsBadLine asked.query) (lacks_of asked.query) last left sink_before sink_now
   pub said : IsSaid written faults (words_of ending (record { name = file_of command; reason = reason; is_abandoned = is_abandoned })) before now
 
--- a text was the whole answer: it was written whole and all is done, or a beginning of it where
+-- a text was the whole answer: it was written whole and all is done, or a beginning of it if
 -- the sink failed
 pub record Answers {K : Type 0} (written : K → Option (List ℕ)) (faults : K → ℕ) (text : List ℕ) (ended : Status) (before now : K) : Type 0 where
   pub ends : (ended ≡ Done) ⊎ (ended ≡ WriteFault)

@@ -28,15 +28,15 @@ abbrev pub status_in : Option Ending → Status
 status_in None = Usage
 status_in (Some ending) = status_of ending
 
--- where the output could not be written; nothing where nobody reads it any more
+-- if the output could not be written; nothing if nobody reads it any more
 abbrev pub unwritten_words : (is_abandoned : Bool) → List ℕ
 unwritten_words is_abandoned = if is_abandoned then [] else codes "mcg6: the output could not be written whole\n"
 
--- where memory ran out
+-- if memory ran out
 abbrev pub memory_words : List ℕ
 memory_words = codes "mcg6: memory ran out; what was written is of the first lines alone\n"
 
--- what is said of a list that ended so; nothing where each line was told
+-- what is said of a list that ended so; nothing if each line was answered
 abbrev pub list_words : Ending → Known → List ℕ
 list_words Done known = []
 list_words (Bad found) known = bad_line_text program found.number (kind_number found.kind) found.text.items

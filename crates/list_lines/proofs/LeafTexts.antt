@@ -1,4 +1,4 @@
--- The lines of the leaves grow by one line for each leaf, and so do the kinds that they tell.
+-- The lines of the leaves grow by one line for each leaf, and so do the kinds that they give.
 use Rattle.std.proofs.Common.{List, [], ◌∷◌, ◌++◌, ap, append_assoc, arith, get_or, length, refl, subst, sym, take, ℕ, ◌+◌, ◌<◌, ◌≡◌, ◌∙◌}
 use Rattle.std.proofs.lemmas.List.{append-nil, length-append, length-take, take_all, take_more}
 use Rattle.counting.specs.Counts.{Within}
@@ -33,7 +33,7 @@ pub record FirstLines (front : List ℕ) (g : Graph) (ps : List (List (List ℕ)
   pub right : (j : ℕ) → Within i j → IsLeafKind g (leaf_at ps j) (kind_at kinds j)
   pub lines : bytes ≡ leaf_lines front g (take i ps) kinds
 
--- of no leaf there is no line
+-- no leaves give no lines
 pub lines_none : (front : List ℕ) (g : Graph) (ps : List (List (List ℕ))) → FirstLines front g ps 0 []
 lines_none front g ps = record { kinds = []; so_many = refl; right = λ j w. absurd (omega arith); lines = refl }
 

@@ -1,5 +1,5 @@
--- The sides of a quotient: a set of blocks has each edge of the quotient in its cut exactly when
--- it parts each two adjacent blocks. So the quotient at the single vertices is bipartite exactly
+-- The sides of a quotient: a set of blocks has each edge of the quotient in its cut exactly when it
+-- separates each two adjacent blocks. So the quotient at the single vertices is bipartite exactly
 -- when the graph is.
 use Rattle.std.proofs.Common.{Bool, List, ap, arith, false, inl, inr, length, ne_eqb, not, refl, subst, subst₂, sym, true, ℕ, ◌&&◌, ◌<◌, ◌==◌, ◌||◌, ◌≡◌}
 use Rattle.std.proofs.lemmas.Bool.{and_from, and_parts, cases_order}
@@ -26,7 +26,7 @@ differ-back true false h = refl
 differ-back false true h = refl
 differ-back false false h = h
 
--- x parts each two adjacent blocks, of which the first is named
+-- x separates each two adjacent blocks, of which the first is named
 abbrev pub Parts : Graph → List (List ℕ) → Set → Type 0
 Parts g p x = (i j : ℕ) → Within (length p) i → Within (length p) j → i < j → blocks_adjacent g p i j ≡ true → differ (x i) (x j) ≡ true
 

@@ -49,7 +49,7 @@ words_behind order edges standing = with_standing (with_word (with_word [] (deci
 unfoldable pub kind_line : Graph → Standing → List ℕ
 kind_line g standing = graph6_of g ++ words_behind g.order (size g) standing
 
--- the bytes are the line of the graph, and what it tells is right
+-- the bytes are the line of the graph, and what it says is right
 pub record IsKindLine (g : Graph) (bytes : List ℕ) : Type 0 where
   pub standing : Standing
   pub right : IsStanding g standing

@@ -46,7 +46,7 @@ abbrev pub Decides : Graph → Property → Bool → Type 0
 Decides g property true = HasProperty g property
 Decides g property false = LacksProperty g property
 
--- the line itself where its graph has the property, and nothing where it has not
+-- the line itself if its graph has the property, and nothing if it has not
 abbrev pub IsSelected : Property → Graph → (line bytes : List ℕ) → Type 0
 IsSelected property g line bytes = (HasProperty g property × (bytes ≡ line)) ⊎ (LacksProperty g property × (bytes ≡ []))
 
@@ -55,7 +55,7 @@ abbrev pub TellsKind : Graph → Option Kind → Type 0
 TellsKind g (Some kind) = IsCovered g × IsKind g kind
 TellsKind g None = ¬ IsCovered g
 
--- how the leaves of a derivation are counted, where there is one
+-- how the leaves of a derivation are counted, if there is one
 abbrev pub TellsTally : Graph → Option Tally → Type 0
 TellsTally g (Some tally) = IsCounted g tally
 TellsTally g None = ¬ IsCovered g

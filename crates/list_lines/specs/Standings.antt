@@ -26,13 +26,13 @@ pub record IsCounted (g : Graph) (tally : Tally) : Type 0 where
   pub derivation : IsDerivation g tree
   pub counts : IsTally g (leaves g.order tree) tally
 
--- what is told of a kind
+-- what is said of a kind
 abbrev pub sort_of : Kind → Sort
 sort_of kind.Brick = sort.Brick
 sort_of kind.Brace = sort.Brace
 sort_of (kind.Composite cut) = sort.Composite
 
--- what is told of a covered graph is right
+-- what is said of a covered graph is right
 pub record IsStructured (g : Graph) (sort : Sort) (bricks braces : ℕ) (bicritical : Bool) : Type 0 where
   pub covered : IsCovered g
   pub kind : Kind
@@ -44,14 +44,14 @@ pub record IsStructured (g : Graph) (sort : Sort) (bricks braces : ℕ) (bicriti
   pub counted_braces : braces ≡ tally.braces
   pub critical : IsTrue bicritical ↔ IsBicritical g
 
--- what is told of a reason why a graph is not covered
+-- what is said of a reason why a graph is not covered
 abbrev pub why_of : Covered.Reason → Why
 why_of Covered.Small = Order
 why_of (Covered.Parted a b) = Parts
 why_of (Covered.Unmatched berge) = Berge
 why_of (Covered.Unallowed edge) = Edge
 
--- the graph is not covered, for a first reason of which this is told, or what is told of it as a
+-- the graph is not covered, for a first reason of which this is said, or what is said of it as a
 -- covered graph is right
 abbrev pub IsStanding : Graph → Standing → Type 0
 IsStanding g (Uncovered why) = (reason : Covered.Reason) × IsReason g reason × (why ≡ why_of reason)

@@ -1,4 +1,4 @@
--- What is told of a line of a list of graphs.
+-- The answer to a line of a list of graphs.
 use Rattle.std.specs.Prelude.{◌≡◌, ℕ, ◌||◌, nat_lt, if◌then◌else◌, List, Ok, Err}
 use Rattle.graph_core.specs.Graph.{Graph, size}
 use Rattle.text_faults.specs.declared.faults.FaultKind.{FaultKind}
@@ -20,7 +20,7 @@ unfoldable pub file_text : Graph → List ℕ
 file_text g =
     if nat_lt most_vertices g.order || nat_lt most_edges (size g) then named_text g (plain_names g.order) else graph_text g
 
--- what is told of the graph g that stands in a line with this number: the bytes that are written
+-- the answer on the graph g that stands in a line with this number: the bytes that are written
 -- for it
 abbrev pub IsTold : Query → ℕ → (line : List ℕ) → Graph → (bytes : List ℕ) → Type 0
 IsTold Kinds number line g bytes = IsKindLine g bytes
@@ -28,7 +28,7 @@ IsTold (Leaves order) number line g bytes = AreLeafLines order number g bytes
 IsTold GraphFile number line g bytes = bytes ≡ file_text g
 IsTold (Select property) number line g bytes = IsSelected property g line bytes
 
--- the line stands for a graph, and the bytes tell what is asked of it
+-- the line stands for a graph, and the bytes answer what is asked of it
 pub record TellsLine (query : Query) (number : ℕ) (line bytes : List ℕ) : Type 0 where
   pub graph : Graph
   pub stands : outcome_of line ≡ Ok graph

@@ -15,7 +15,7 @@ use std::alloc::{AllocError as Memory, Global};
 use tree_core::{LeafKind, Partitions, Tree, kind_of, leaves};
 
 /// The lines of the leaves of the derivation that the order picks, for a graph that stands in the
-/// line with this number; nothing where the graph is not matching covered.
+/// line with this number; nothing if the graph is not matching covered.
 pub fn leaf_lines(
     alloc: Global,
     g: &MultiGraph,

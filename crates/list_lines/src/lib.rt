@@ -1,10 +1,10 @@
-//! What `mcg6` tells of one line of a list of graphs.
+//! What `mcg6` answers to one line of a list of graphs.
 //!
 //! A line holds a graph6 text. `tell` answers, for a `Query`, the bytes that are written for it,
 //! or the kind of its first fault. What the bytes say is a relation on the graph alone
 //! (`IsTold`): the line of its kind with the numbers of bricks and braces (`IsKindLine`), the
 //! lines of its leaves as graphs (`AreLeafLines`), the canonical text of its graph file, or the
-//! line itself where the graph has a property and nothing where it has not (`IsSelected`). A line
+//! line itself if the graph has a property and nothing if it has not (`IsSelected`). A line
 //! is bad exactly when it stands for no graph (`HasFault`).
 //!
 //! Stands on `graph6_text` for the lines, on `graph_facts`, `separation_kit` and `leaf_kinds` for

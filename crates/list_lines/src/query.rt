@@ -33,6 +33,6 @@ pub enum Query {
     Leaves { order: NamedOrder },
     /// The canonical text of its graph file.
     Graph,
-    /// The line itself, where the graph has this property.
+    /// The line itself, if the graph has this property.
     Select { property: Property },
 }

@@ -16,7 +16,7 @@ use std::alloc::{AllocError as Memory, Global};
 use tree_core::Tally;
 use vset_core::VSet;
 
-/// The line itself where its graph has the property, and nothing where it has not.
+/// The line itself if its graph has the property, and nothing if it has not.
 pub fn selected(
     alloc: Global,
     g: &MultiGraph,

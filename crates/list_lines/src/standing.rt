@@ -54,7 +54,7 @@ pub enum Standing {
     },
 }
 
-/// How the graph stands. The leaves are counted only where it has a nontrivial tight cut.
+/// How the graph stands. The leaves are counted only if it has a nontrivial tight cut.
 pub fn standing_of(alloc: Global, g: &MultiGraph) -> Result<Standing, Memory>
     ensures { IfOk result (IsStanding g.now) }
 {

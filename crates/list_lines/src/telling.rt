@@ -1,4 +1,4 @@
-//! What is told of a line.
+//! The answer to a line.
 ghost use Rattle.std.specs.Prelude.{◌≡◌, IfOk, Ok};
 ghost use Rattle.graph6_text.specs.Reading.{outcome_of};
 ghost use Rattle.graph_core.specs.Simple.{IsSimple};
@@ -16,7 +16,7 @@ use graph6_text::read_graph6;
 use std::alloc::{AllocError as Memory, Global};
 use text_faults::{FaultKind, TextFault};
 
-/// The answer for a line.
+/// The answer to a line.
 #[derive(Drop)]
 pub enum Told {
     /// These bytes are written for it.
@@ -25,7 +25,7 @@ pub enum Told {
     Bad { kind: FaultKind },
 }
 
-/// The answer for a line with this number, counted from 1: what the query asks of the graph that
+/// The answer to a line with this number, counted from 1: what the query asks of the graph that
 /// stands in the line, or the kind of the line's fault. The line may have a header before the
 /// graph6 text and a line end after it, as `read_graph6` has it.
 pub fn tell(alloc: Global, query: &Query, number: u64, line: &[u8]) -> Result<Told, Memory>
@@ -70,7 +70,7 @@ fn answer(
     }
 }
 
-// The canonical text of the graph file: of version 1, or where that has no room of version 2 with
+// The canonical text of the graph file: of version 1, or if that has no room of version 2 with
 // plain names.
 #[tactic(auto, unfolding(crate::specs::Telling::file_text))]
 fn file_text(alloc: Global, g: &MultiGraph) -> Result<Vec<u8>, Memory>

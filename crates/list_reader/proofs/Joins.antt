@@ -1,4 +1,4 @@
--- What is told of some lines, and then of the lines after them, is told of all of them.
+-- The answers to some lines, and then to the lines after them, are the answer to all of them.
 use Rattle.std.proofs.Common.{◌≡◌, inl, inr, ℕ, suc, ◌+◌, List, [], ◌∷◌, ◌++◌, length, take, refl, sym, subst, ◌∙◌, ap, arith, append_assoc, length-append}
 use Rattle.std.proofs.lemmas.List.{append-nil}
 use Rattle.std.specs.declared.option.Option.{Option}
@@ -123,7 +123,7 @@ WholeTold-behind tells lacks n xs ys a b told behind = record {
   ends = subst (λ (p : Place). lacks p.graphs ≡ None) (sym (place_behind-append n xs ys)) behind.ends;
 }
 
--- lines that are told, and what the lines after them give
+-- lines that are answered, and what the lines after them give
 pub Gives-behind :
     (tells : Place → List ℕ → List ℕ → Type 0) (bad : Place → List ℕ → FaultKind → Type 0) (lacks : ℕ → Option FaultKind) (n : Place)
     (xs ys : List (List ℕ)) (a b : List ℕ) (ending : Ending) →

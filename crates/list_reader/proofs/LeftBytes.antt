@@ -1,5 +1,5 @@
 -- What is left of a source after bytes were read: what was left before is these bytes and what is
--- left now. Where a source tells nothing, some list serves.
+-- left now. If a source makes nothing known, some list serves.
 use Rattle.std.proofs.Common.{◌≡◌, inl, ℕ, suc, ◌≤◌, List, [], ◌++◌, length, refl, sym, subst, ◌∙◌, ap, arith, append_assoc}
 use Rattle.std.proofs.lemmas.List.{append-nil}
 use Rattle.std.specs.declared.option.Option.{Option}
@@ -27,7 +27,7 @@ pub prepended-prepended :
 prepended-prepended first second None = refl
 prepended-prepended first second (Some rest) = ap Some (sym (append_assoc first second rest))
 
--- where bytes were read, the list is these bytes and what is left
+-- if bytes were read, the list is these bytes and what is left
 pub record ListIs (before : Option (List ℕ)) (read : List ℕ) : Type 0 where
   pub rest : List ℕ
   pub is_left : IsLeft before (read ++ rest)
@@ -58,7 +58,7 @@ piece_read whole held piece before now next left taken =
     ∙ prepended-prepended (whole ++ held) piece next
     ∙ ap (λ (t : List ℕ). prepended t next) (append_assoc whole held piece)
 
--- where the source tells what is left, the list is that
+-- if the source makes known what is left, the list is that
 pub told_list :
     (tells : Place → List ℕ → List ℕ → Type 0) (bad : Place → List ℕ → FaultKind → Type 0) (lacks : ℕ → Option FaultKind) (ending : Ending)
     (left before now : Option (List ℕ)) (bytes : List ℕ) →

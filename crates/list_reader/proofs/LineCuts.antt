@@ -125,7 +125,7 @@ first_line_cut (byte ∷ text) found = elim (cases_Bool (is_line_feed byte)) [
       (IsFirstLine-byte byte text _ _ other (first_line_cut text (omega arith)))
 ]
 
--- where no line feed is found, there is none
+-- if no line feed is found, there is none
 pub no_feed_found : (text : List ℕ) → length text ≤ position_or_len is_line_feed text → HasNoFeed text
 no_feed_found [] none = refl
 no_feed_found (byte ∷ text) none = elim (cases_Bool (is_line_feed byte)) [
@@ -159,7 +159,7 @@ first_line_position text end some = elim (cases_lt (position_or_len is_line_feed
       cc
 ]
 
--- the first byte of a text without line feeds is none, and none is after it
+-- the first byte of a text without line feeds is not one, and none is after it
 no_feed-first : (byte : ℕ) (text : List ℕ) → HasNoFeed (byte ∷ text) → (is_line_feed byte ≡ false) × HasNoFeed text
 no_feed-first byte text none = elim (cases_Bool (is_line_feed byte)) [
   | inl feed ↦ let not_so : false ≡ true = rw feed at none in cc

@@ -1,4 +1,4 @@
--- Where a line has one output, lines have one: by induction on them. A header has none, and no
+-- If a line has one output, lines have one: by induction on them. A header has none, and no
 -- line is both header and not.
 use Rattle.std.proofs.Common.{◌≡◌, inl, inr, ℕ, List, [], ◌∷◌, sym, ◌∙◌}
 use Rattle.list_reader.specs.declared.place.Place.{Place}

@@ -1,4 +1,4 @@
--- What the pieces of a text give together: the lines that are told so far are whole, so what
+-- What the pieces of a text give together: the lines that are answered so far are whole, so what
 -- stands after them begins anew.
 use Rattle.std.proofs.Common.{◌≡◌, inl, inr, ℕ, ◌<◌, ◌≤◌, List, [], ◌∷◌, ◌++◌, length, refl, sym, subst, ◌∙◌, ap, arith, append_assoc, length-append, IsTrue, IsFalse}
 use Rattle.std.proofs.lemmas.List.{append-nil}
@@ -19,13 +19,13 @@ use Rattle.list_reader.specs.Endings.{Added, ToldThrough, StopsWith}
 use Rattle.list_reader.proofs.LineCuts.{lines_of-nil, lines_of-closed, lines_of-last, lines_of-begun, IsClosed-append}
 use Rattle.list_reader.proofs.Joins.{place_behind-append, AllTold-append, AllTold-one, HasBadLine-first, HasBadLine-behind}
 
--- the header alone is told by nothing
+-- the header alone has an empty answer
 pub told_header :
     (tells : Place → List ℕ → List ℕ → Type 0) (n : Place) (line output : List ℕ) →
     IsTrue (is_header n.number line) → Added (LineTold tells n line) output output
 told_header tells n line output header = record { more = []; right = inl (header, refl); output = sym (append-nil output) }
 
--- any other line is told by what the teller answers
+-- any other line has what the teller answers
 pub told_line :
     (tells : Place → List ℕ → List ℕ → Type 0) (n : Place) (line bytes before now : List ℕ) →
     IsFalse (is_header n.number line) → length line ≤ most_line → tells n line bytes → now ≡ before ++ bytes →
@@ -55,7 +55,7 @@ names_bad bad n line kind (stop.Bad bad_line) other short is found = record {
   kept = inl found.kept;
 }
 
--- nothing is told yet
+-- nothing is answered yet
 pub through_none :
     (tells : Place → List ℕ → List ℕ → Type 0) (n : Place) (text output : List ℕ) →
     Added (ToldThrough tells n text text n) output output
@@ -71,7 +71,7 @@ through_none tells n text output = record {
   output = sym (append-nil output);
 }
 
--- one more line is told
+-- one more line is answered
 pub through_more :
     (tells : Place → List ℕ → List ℕ → Type 0) (n k next : Place) (text rest line behind a b c : List ℕ) →
     Added (ToldThrough tells n text rest k) a b → IsFirstLine rest line behind → next ≡ place_after k line →
@@ -147,7 +147,7 @@ opens_long bad n rest tail found none long is =
       };
     }
 
--- the lines of a text and of what is after it, where its lines are told up to some place
+-- the lines of a text and of what is after it, if its lines are answered up to some place
 through_lines :
     (tells : Place → List ℕ → List ℕ → Type 0) (n k : Place) (text rest tail output : List ℕ) →
     (through : ToldThrough tells n text rest k output) →
@@ -181,7 +181,7 @@ through_bad tells bad lacks n k text rest a b found so_far opens =
       output = so_far.output;
     }
 
--- the telling of the next line stopped
+-- answering stopped at the next line
 pub through_stopped :
     (tells : Place → List ℕ → List ℕ → Type 0) (bad : Place → List ℕ → FaultKind → Type 0) (lacks : ℕ → Option FaultKind) (n k : Place)
     (text rest line behind a b c : List ℕ) (why : Stop) →
@@ -217,7 +217,7 @@ end_none tells n [] output empty = (
 )
 end_none tells n (byte ∷ held) output empty = absurd (omega arith)
 
--- what is held at the end is told as the last line
+-- what is held at the end is answered as the last line
 pub end_told :
     (tells : Place → List ℕ → List ℕ → Type 0) (n : Place) (held before now : List ℕ) →
     HasNoFeed held → 0 < length held → Added (LineTold tells n held) before now →
@@ -253,7 +253,7 @@ end_stopped tells bad lacks n held before now (stop.Bad found) none some named s
   output = same ∙ sym (append-nil before);
 }
 
--- the lines that are told through a text are some first lines, whatever is after it
+-- the lines that are answered through a text are some first lines, whatever is after it
 pub through_begins :
     (tells : Place → List ℕ → List ℕ → Type 0) (n k : Place) (text rest tail output : List ℕ) →
     ToldThrough tells n text rest k output → BeginningTold tells n (lines_of (text ++ tail)) output

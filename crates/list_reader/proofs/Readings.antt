@@ -1,4 +1,4 @@
--- A list is read piece by piece. What was read so far is lines that are told and the bytes held
+-- A list is read piece by piece. What was read so far is lines with an answer and the bytes held
 -- after them; so what the next piece gives, after what is held, is what the lines of the list
 -- give there.
 use Rattle.std.proofs.Common.{◌≡◌, inl, ℕ, suc, ◌≤◌, List, [], ◌++◌, length, refl, sym, subst, ◌∙◌, ap, arith, append_assoc}
@@ -23,8 +23,8 @@ use Rattle.list_reader.proofs.Joins.{place_behind-append, AllTold-append, Beginn
 use Rattle.list_reader.proofs.Stages.{steps_more, wrote_otherwise, wrote_appended}
 use Rattle.list_reader.proofs.LeftBytes.{prepended-nil, ListIs, list_is, list_ends, piece_read}
 
--- the lines up to that place were told, these bytes are held after them, and each step of the way
--- was told as it was read
+-- the lines up to that place were answered, these bytes are held after them, and each step was
+-- answered as it was read
 pub record SoFar {S K : Type 0} (tells : Place → List ℕ → List ℕ → Type 0) (left : S → Option (List ℕ)) (reads : S → Option (List ℕ) → S → Type 0) (written : K → Option (List ℕ)) (writes : K → List ℕ → ℕ → K → Type 0) (place : Place) (held : List ℕ) (source : S) (sink : K) (now_source : S) (now_sink : K) : Type 0 where
   pub whole : List ℕ
   pub output : List ℕ
@@ -60,7 +60,7 @@ so_far_none tells left reads written writes place held source sink start empty =
       steps = refl;
     })
 
--- a piece was read, and the lines that it made whole were told
+-- a piece was read, and the lines that it made whole were answered
 pub so_far_piece :
     {S K : Type 0} (tells : Place → List ℕ → List ℕ → Type 0) (left : S → Option (List ℕ)) (reads : S → Option (List ℕ) → S → Type 0)
     (written : K → Option (List ℕ)) (writes : K → List ℕ → ℕ → K → Type 0)
@@ -125,7 +125,7 @@ so_far_piece tells left reads written writes place more_place held piece more_he
           });
     }
 
--- what the lines after those told give is what the list gives
+-- what the lines after those answered give is what the list gives
 pub gives_behind :
     {S K : Type 0} (tells : Place → List ℕ → List ℕ → Type 0) (bad : Place → List ℕ → FaultKind → Type 0) (lacks : ℕ → Option FaultKind)
     (left : S → Option (List ℕ)) (reads : S → Option (List ℕ) → S → Type 0)
@@ -146,7 +146,7 @@ written_behind :
 written_behind before now next first second one two =
     two ∙ ap (λ (o : Option (List ℕ)). appended o second) one ∙ appended-appended before first second
 
--- the telling stopped in a piece
+-- the answers stopped in a piece
 pub so_far_stops :
     {S K : Type 0} (tells : Place → List ℕ → List ℕ → Type 0) (bad : Place → List ℕ → FaultKind → Type 0) (lacks : ℕ → Option FaultKind)
     (left : S → Option (List ℕ)) (reads : S → Option (List ℕ) → S → Type 0)
@@ -205,7 +205,7 @@ so_far_end tells bad lacks left reads written writes place held ending source si
       };
     }
 
--- the telling stopped before a piece was read
+-- the answers stopped before a piece was read
 so_far_begins :
     {S K : Type 0} (tells : Place → List ℕ → List ℕ → Type 0) (left : S → Option (List ℕ)) (reads : S → Option (List ℕ) → S → Type 0)
     (written : K → Option (List ℕ)) (writes : K → List ℕ → ℕ → K → Type 0)
@@ -221,7 +221,7 @@ so_far_begins tells left reads written writes place held rest source sink now_so
   told = so_far.told;
 }
 
--- the telling stopped there, with an ending that asks for no more than a beginning
+-- the answers stopped there, with an ending that asks for no more than a beginning
 pub so_far_begun :
     {S K : Type 0} (tells : Place → List ℕ → List ℕ → Type 0) (bad : Place → List ℕ → FaultKind → Type 0) (lacks : ℕ → Option FaultKind)
     (left : S → Option (List ℕ)) (reads : S → Option (List ℕ) → S → Type 0)
@@ -247,7 +247,7 @@ so_far_begun tells bad lacks left reads written writes ending enough place held 
       };
     }
 
--- a read failed: each whole line of what was read is told
+-- a read failed: each whole line of what was read is answered
 pub so_far_torn :
     {S K : Type 0} (tells : Place → List ℕ → List ℕ → Type 0) (left : S → Option (List ℕ)) (reads : S → Option (List ℕ) → S → Type 0)
     (written : K → Option (List ℕ)) (writes : K → List ℕ → ℕ → K → Type 0)

@@ -1,5 +1,5 @@
--- The reads and writes of a list that is told as it is read, joined to one stream: what the last
--- piece gives is what the list gives there, whatever stands after it.
+-- The reads and writes of a list that is answered as it is read, joined to one stream: what the
+-- last piece gives is what the list gives there, whatever stands after it.
 use Rattle.std.proofs.Common.{◌≡◌, inl, ℕ, suc, ◌≤◌, List, [], ◌++◌, length, refl, sym, subst, ◌∙◌, ap, arith, append_assoc}
 use Rattle.std.proofs.lemmas.List.{append-nil}
 use Rattle.std.specs.declared.option.Option.{Option}
@@ -40,7 +40,7 @@ stops_after tells bad lacks left reads written writes place held piece source si
     (gives_behind tells bad lacks left reads written writes place held source sink now_source now_sink
     ((held ++ piece) ++ rest) output ending so_far (stops rest))
 
--- and each step of it was told as it was read
+-- and each step of it was answered as it was read
 pub stream_stops :
     {S K : Type 0} (tells : Place → List ℕ → List ℕ → Type 0) (bad : Place → List ℕ → FaultKind → Type 0) (lacks : ℕ → Option FaultKind)
     (left : S → Option (List ℕ)) (reads : S → Option (List ℕ) → S → Type 0)
@@ -90,7 +90,7 @@ end_after tells bad lacks left reads written writes place held source sink now_s
     (gives_behind tells bad lacks left reads written writes place held source sink now_source now_sink
     held output ending so_far gives)
 
--- and each step of it was told as it was read
+-- and each step of it was answered as it was read
 pub stream_end :
     {S K : Type 0} (tells : Place → List ℕ → List ℕ → Type 0) (bad : Place → List ℕ → FaultKind → Type 0) (lacks : ℕ → Option FaultKind)
     (left : S → Option (List ℕ)) (reads : S → Option (List ℕ) → S → Type 0)
@@ -121,7 +121,7 @@ stream_end tells bad lacks left reads written writes place held ending source si
           );
     }
 
--- and each step of it was told as it was read
+-- and each step of it was answered as it was read
 pub stream_begun :
     {S K : Type 0} (tells : Place → List ℕ → List ℕ → Type 0) (bad : Place → List ℕ → FaultKind → Type 0) (lacks : ℕ → Option FaultKind)
     (left : S → Option (List ℕ)) (reads : S → Option (List ℕ) → S → Type 0)

@@ -1,4 +1,4 @@
--- What is told into an empty output and then written: all of it where the writes took it whole,
+-- What is put into an empty output and then written: all of it if the writes took it whole,
 -- else a proper prefix of it.
 use Rattle.std.proofs.Common.{◌≡◌, ℕ, ◌<◌, List, [], ◌++◌, length, take, sym, subst, refl, ◌∙◌, ap}
 use Rattle.std.specs.declared.option.Option.{Option}
@@ -29,7 +29,7 @@ wrote_cut written writes holds gives start out piece first last added none same 
   cut = cut.3;
 }
 
--- a proper prefix of what tells a beginning
+-- a proper prefix of the answer to a beginning
 pub begun_cut :
     (tells : Place → List ℕ → List ℕ → Type 0) (n : Place) (lines : List (List ℕ)) (bytes : List ℕ) (count : ℕ) →
     BeginningTold tells n lines bytes → count < length bytes → CutShort tells n lines (take count bytes)

@@ -35,8 +35,8 @@ pub record Added (holds : List ℕ → Type 0) (before now : List ℕ) : Type 0 
   pub right : holds more
   pub output : now ≡ before ++ more
 
--- each whole line of what was read is told, and the part of a line after them is not too long for
--- a line
+-- each whole line of what was read is answered, and the part of a line after them is not too long
+-- for a line
 pub record WholeLinesTold (tells : Place → List ℕ → List ℕ → Type 0) (read output : List ℕ) : Type 0 where
   pub whole : List ℕ
   pub part : List ℕ
@@ -46,7 +46,7 @@ pub record WholeLinesTold (tells : Place → List ℕ → List ℕ → Type 0) (
   pub short : length part ≤ most_line
   pub told : AllTold tells first_place (lines_of whole) output
 
--- the lines of a text up to what is left of it are told, of which the first stands at the first
+-- the lines of a text up to what is left of it are answered, of which the first stands at the first
 -- place; the next stands at the second
 pub record ToldThrough (tells : Place → List ℕ → List ℕ → Type 0) (before : Place) (text left : List ℕ) (now : Place) (output : List ℕ) : Type 0 where
   pub whole : List ℕ
@@ -79,7 +79,7 @@ pub record WroteCut {K : Type 0} (written : K → Option (List ℕ)) (writes : K
   pub now : written last ≡ appended (written first) (take count whole)
   pub cut : IsCutOff writes whole count first last
 
--- what was written up to an ending, of which this holds: nothing where memory ran out, and
+-- what was written up to an ending, of which this holds: nothing if memory ran out, and
 -- nothing after a write that failed
 abbrev pub WroteUpTo :
     {K : Type 0} → (K → Option (List ℕ)) → (K → List ℕ → ℕ → K → Type 0) → (Ending → List ℕ → Type 0) → Ending → K → K → Type 0
@@ -89,19 +89,19 @@ WroteUpTo written writes gives ReadFault first last = ⊥
 WroteUpTo written writes gives WriteFault first last = WroteCut written writes (gives WriteFault) first last
 WroteUpTo written writes gives Memory first last = last ≡ first
 
--- where a source tells what is left, it is these bytes
+-- if a source makes known what is left, it is these bytes
 abbrev pub IsLeft : Option (List ℕ) → List ℕ → Type 0
 IsLeft None bytes = Unit {0}
 IsLeft (Some left) bytes = left ≡ bytes
 
 -- what was written up to the ending is what the lines of a list give: of the bytes that were left
--- of the source, where it tells them
+-- of the source, if it makes them known
 pub record TellsList (tells : Place → List ℕ → List ℕ → Type 0) (bad : Place → List ℕ → FaultKind → Type 0) (lacks : ℕ → Option FaultKind) (ending : Ending) (left before now : Option (List ℕ)) : Type 0 where
   pub bytes : List ℕ
   pub is_left : IsLeft left bytes
   pub gives : Appended (Gives tells bad lacks first_place (lines_of bytes) ending) before now
 
--- what was read of a source up to what is left, and each whole line of it is told
+-- what was read of a source up to what is left, and each whole line of it is answered
 pub record ReadsTold (tells : Place → List ℕ → List ℕ → Type 0) (before now : Option (List ℕ)) (output : List ℕ) : Type 0 where
   pub read : List ℕ
   pub left : before ≡ prepended read now

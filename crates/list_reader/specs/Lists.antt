@@ -1,4 +1,4 @@
--- What is told of the lines of a list, one after another.
+-- The answers to the lines of a list, one after another.
 use Rattle.std.specs.Prelude.{◌≡◌, ℕ, ◌<◌, ◌⊎◌, List, [], ◌∷◌, ◌++◌, length, take}
 use Rattle.std.specs.declared.option.Option.{Option}
 use Rattle.std.specs.declared.option.Option.TheVariants.{Some, None}
@@ -8,7 +8,7 @@ use Rattle.list_reader.specs.declared.place.Place.{Place}
 use Rattle.list_reader.specs.Places.{place_after, place_behind}
 use Rattle.list_reader.specs.Told.{LineTold, NamesBad}
 
--- the lines, of which the first stands at that place, are told by this output: the outputs of the
+-- the lines, of which the first stands at that place, have this output: the outputs of the
 -- lines in their order
 abbrev pub AllTold : (Place → List ℕ → List ℕ → Type 0) → Place → List (List ℕ) → List ℕ → Type 0
 AllTold tells place [] output = output ≡ []
@@ -16,19 +16,19 @@ AllTold tells place (line ∷ lines) output =
     (first : List ℕ) × (others : List ℕ) × (LineTold tells place line first) × (AllTold tells (place_after place line) lines others)
     × (output ≡ first ++ others)
 
--- some first lines are told
+-- some first lines are answered
 pub record BeginningTold (tells : Place → List ℕ → List ℕ → Type 0) (place : Place) (lines : List (List ℕ)) (output : List ℕ) : Type 0 where
   pub before : List (List ℕ)
   pub behind : List (List ℕ)
   pub cut : lines ≡ before ++ behind
   pub told : AllTold tells place before output
 
--- all lines are told, and a list may end after them
+-- all lines are answered, and a list may end after them
 pub record WholeTold (tells : Place → List ℕ → List ℕ → Type 0) (lacks : ℕ → Option FaultKind) (place : Place) (lines : List (List ℕ)) (output : List ℕ) : Type 0 where
   pub told : AllTold tells place lines output
   pub ends : lacks (place_behind place lines).graphs ≡ None
 
--- the lines before the first bad one are told, and this is found of that one
+-- the lines before the first bad one are answered, and this is found of that one
 pub record HasBadLine (tells : Place → List ℕ → List ℕ → Type 0) (bad : Place → List ℕ → FaultKind → Type 0) (place : Place) (lines : List (List ℕ)) (found : BadLine) (output : List ℕ) : Type 0 where
   pub before : List (List ℕ)
   pub line : List ℕ
@@ -37,7 +37,7 @@ pub record HasBadLine (tells : Place → List ℕ → List ℕ → Type 0) (bad 
   pub told : AllTold tells place before output
   pub named : NamesBad bad (place_behind place before) line found
 
--- all lines are told, and no list may end after them: the line that is missing there is found,
+-- all lines are answered, and no list may end after them: the line that is missing there is found,
 -- with nothing in it
 pub record LacksLine (tells : Place → List ℕ → List ℕ → Type 0) (lacks : ℕ → Option FaultKind) (place : Place) (lines : List (List ℕ)) (found : BadLine) (output : List ℕ) : Type 0 where
   pub told : AllTold tells place lines output
@@ -45,14 +45,14 @@ pub record LacksLine (tells : Place → List ℕ → List ℕ → Type 0) (lacks
   pub number : found.number ≡ (place_behind place lines).number
   pub nothing : found.text.items ≡ []
 
--- the lines before the first that is bad or missing are told, and this is found of that one
+-- the lines before the first that is bad or missing are answered, and this is found of that one
 abbrev pub ToldToBad :
     (Place → List ℕ → List ℕ → Type 0) → (Place → List ℕ → FaultKind → Type 0) → (ℕ → Option FaultKind) → Place → List (List ℕ) → BadLine →
     List ℕ → Type 0
 ToldToBad tells bad lacks place lines found output =
     HasBadLine tells bad place lines found output ⊎ LacksLine tells lacks place lines found output
 
--- a proper prefix of what tells some first lines
+-- a proper prefix of the answer to some first lines
 pub record CutShort (tells : Place → List ℕ → List ℕ → Type 0) (place : Place) (lines : List (List ℕ)) (output : List ℕ) : Type 0 where
   pub whole : List ℕ
   pub count : ℕ

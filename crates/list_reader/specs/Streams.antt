@@ -1,5 +1,5 @@
--- How a list is told while it is read: after each read, all lines that are whole in what was read
--- are told and written before the next read.
+-- How a list is answered while it is read: after each read, all lines that are whole in what was
+-- read are answered and written before the next read.
 use Rattle.std.specs.Prelude.{◌≡◌, ◌⊎◌, ℕ, zero, suc, List, [], ◌∷◌, ◌++◌}
 use Rattle.std.specs.declared.option.Option.{Option}
 use Rattle.std.specs.declared.option.Option.TheVariants.{Some, None}
@@ -19,7 +19,7 @@ pub record Stage (S K : Type 0) : Type 0 where
   pub source : S
   pub sink : K
 
--- one read gave a piece, and then the lines that it made whole were told and written: so each
+-- one read gave a piece, and then the lines that it made whole were answered and written: so each
 -- whole line of what was read is, and no part of a line is held that is too long for a line
 pub record Step {S K : Type 0} (tells : Place → List ℕ → List ℕ → Type 0) (reads : S → Option (List ℕ) → S → Type 0) (writes : K → List ℕ → ℕ → K → Type 0) (before now : Stage S K) : Type 0 where
   pub piece : List ℕ
@@ -38,7 +38,7 @@ Steps tells reads writes zero first last = last ≡ first
 Steps {S} {K} tells reads writes (suc count) first last =
     (next : Stage S K) × (Step tells reads writes first next × Steps tells reads writes count next last)
 
--- what may stand after a piece that was read: nothing where the read gave nothing, since then the
+-- what may stand after a piece that was read: nothing if the read gave nothing, since then the
 -- list is at its end
 abbrev pub MayFollow : (piece rest : List ℕ) → Type 0
 MayFollow [] rest = rest ≡ []
@@ -52,26 +52,26 @@ abbrev pub GivesAfter :
 GivesAfter tells bad lacks read piece before ending more =
     (rest : List ℕ) → MayFollow piece rest → Gives tells bad lacks first_place (lines_of ((read ++ piece) ++ rest)) ending (before ++ more)
 
--- one read gave a piece, and the telling ended: what was written up to the ending is what the
+-- one read gave a piece, and the answers ended: what was written up to the ending is what the
 -- lines of the list give, whatever may stand after the piece
 pub record EndsAfter {S K : Type 0} (tells : Place → List ℕ → List ℕ → Type 0) (bad : Place → List ℕ → FaultKind → Type 0) (lacks : ℕ → Option FaultKind) (reads : S → Option (List ℕ) → S → Type 0) (written : K → Option (List ℕ)) (writes : K → List ℕ → ℕ → K → Type 0) (ending : Ending) (before : Stage S K) (source : S) (sink : K) : Type 0 where
   pub piece : List ℕ
   pub reading : reads before.source (Some piece) source
   pub writing : WroteUpTo written writes (GivesAfter tells bad lacks before.read piece before.output) ending before.sink sink
 
--- the telling ended without a further read: memory ran out
+-- the answers ended without a further read: memory ran out
 pub record EndsUnread {S K : Type 0} (ending : Ending) (before : Stage S K) (source : S) (sink : K) : Type 0 where
   pub memory : ending ≡ Memory
   pub same_source : source ≡ before.source
   pub same_sink : sink ≡ before.sink
 
--- the telling ended with a read that failed: nothing was written after it
+-- the answers ended with a read that failed: nothing was written after it
 pub record EndsTorn {S K : Type 0} (reads : S → Option (List ℕ) → S → Type 0) (ending : Ending) (before : Stage S K) (source : S) (sink : K) : Type 0 where
   pub fault : ending ≡ ReadFault
   pub reading : reads before.source None source
   pub same_sink : sink ≡ before.sink
 
--- how a telling ends
+-- how the answers end
 abbrev pub Ends :
     {S K : Type 0} → (Place → List ℕ → List ℕ → Type 0) → (Place → List ℕ → FaultKind → Type 0) → (ℕ → Option FaultKind) →
     (S → Option (List ℕ) → S → Type 0) → (K → Option (List ℕ)) → (K → List ℕ → ℕ → K → Type 0) → Ending → Stage S K → S → K → Type 0
@@ -79,7 +79,7 @@ Ends tells bad lacks reads written writes ending before source sink =
     EndsAfter tells bad lacks reads written writes ending before source sink ⊎
     (EndsTorn reads ending before source sink ⊎ EndsUnread ending before source sink)
 
--- the list of a source was told to a sink: so many reads and what was written after each, and
+-- the list of a source was answered to a sink: so many reads and what was written after each, and
 -- then how it ended
 pub record IsStream {S K : Type 0} (tells : Place → List ℕ → List ℕ → Type 0) (bad : Place → List ℕ → FaultKind → Type 0) (lacks : ℕ → Option FaultKind) (reads : S → Option (List ℕ) → S → Type 0) (written : K → Option (List ℕ)) (writes : K → List ℕ → ℕ → K → Type 0) (ending : Ending) (source : S) (sink : K) (last_source : S) (last_sink : K) : Type 0 where
   pub count : ℕ

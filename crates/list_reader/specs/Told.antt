@@ -1,4 +1,4 @@
--- What is told of a line.
+-- The answer to a line.
 use Rattle.std.specs.Prelude.{◌≡◌, ℕ, ◌<◌, ◌≤◌, ◌⊎◌, List, [], ◌++◌, length, IsTrue, IsFalse}
 use Rattle.text_faults.specs.declared.faults.FaultKind.{FaultKind}
 use Rattle.text_faults.specs.declared.faults.FaultKind.TheVariants.{Limit}
@@ -10,7 +10,7 @@ use Rattle.list_reader.specs.declared.teller.Told.{Told}
 use Rattle.list_reader.specs.declared.teller.Told.TheVariants.{Output, Bad}
 use Rattle.list_reader.specs.Headers.{is_header}
 
--- the answer is an output that tells the line, or the kind of a fault that it has
+-- the answer is an output for the line, or the kind of a fault that it has
 abbrev pub IsToldAs : (tells : List ℕ → Type 0) → (bad : FaultKind → Type 0) → Told → Type 0
 IsToldAs tells bad (Output bytes) = tells bytes.items
 IsToldAs tells bad (Bad kind) = bad kind
@@ -19,7 +19,7 @@ IsToldAs tells bad (Bad kind) = bad kind
 abbrev pub most_line : ℕ
 most_line = 65536
 
--- the line at that place is told by this output: a header by none
+-- the line at that place has this output: a header has an empty one
 abbrev pub LineTold : (Place → List ℕ → List ℕ → Type 0) → Place → List ℕ → List ℕ → Type 0
 LineTold tells place line output =
     (IsTrue (is_header place.number line) × (output ≡ [])) ⊎
@@ -31,7 +31,7 @@ LineBad bad place line kind =
     ((most_line < length line) × (kind ≡ Limit)) ⊎
     (IsFalse (is_header place.number line) × (length line ≤ most_line) × bad place line kind)
 
--- what is kept of a line: the whole of it, or its beginning where that is too long for a line
+-- what is kept of a line: the whole of it, or its beginning if that is too long for a line
 abbrev pub IsKept : (line kept : List ℕ) → Type 0
 IsKept line kept = (kept ≡ line) ⊎ ((most_line < length kept) × ((rest : List ℕ) × (line ≡ kept ++ rest)))
 
@@ -48,7 +48,7 @@ pub record IsFound (number : ℕ) (kind : FaultKind) (text : List ℕ) (found : 
   pub of_kind : found.kind ≡ kind
   pub kept : found.text.items ≡ text
 
--- where a bad line is why the telling stops, this holds of what is found of it
+-- if a bad line is why the answers stop, this holds of what is found of it
 abbrev pub IfBad : (BadLine → Type 0) → Stop → Type 0
 IfBad holds (stop.Bad found) = holds found
 IfBad holds stop.Memory = Unit {0}

@@ -10,7 +10,7 @@ fn line_feed(text: &[u8]) -> Option<usize>
     text.iter().position(|byte| *byte == b'\n')
 }
 
-// The first line with a line feed, and the text after it; `None` where no line feed is in the text.
+// The first line with a line feed, and the text after it; `None` if no line feed is in the text.
 #[tactic(auto, using(crate::proofs::LineCuts::no_feed_position, crate::proofs::LineCuts::first_line_position))]
 pub fn first_line(text: &[u8]) -> Option<(&[u8], &[u8])>
     ensures none { IfNone result (HasNoFeed text.now) }

@@ -1,4 +1,4 @@
-//! How the telling of a list ends.
+//! How the answers to a list end.
 ghost use Rattle.list_reader.specs.Told.{IfBad, IsFound};
 
 use std::alloc::Global;
@@ -6,7 +6,7 @@ use text_faults::FaultKind;
 
 /// What is found of the first bad line of a list: its number, counted from 1, the kind of its
 /// first fault, and its text with its line end, as far as it was kept: of a line that is too long
-/// what was read of it. Where a line is missing at the end of the list, its number is the next
+/// what was read of it. If a line is missing at the end of the list, its number is the next
 /// one, and its text is empty.
 #[derive(Debug, PartialEq, Eq, Drop)]
 pub struct BadLine {
@@ -15,10 +15,10 @@ pub struct BadLine {
     pub text: Vec<u8>,
 }
 
-/// How the telling of a list ended.
+/// How the answers to a list ended.
 #[derive(Debug, PartialEq, Eq, Drop)]
 pub enum Ending {
-    /// Each line was told, and its output written.
+    /// Each line was answered, and its output was written.
     Done,
     /// A line was bad, or missing at the end: the outputs of the lines before it were written,
     /// and nothing of it.
@@ -31,7 +31,7 @@ pub enum Ending {
     Memory,
 }
 
-/// Why the telling of lines stops.
+/// Why the answers stop.
 #[derive(Drop)]
 pub enum Stop {
     /// A line was bad.
@@ -40,7 +40,7 @@ pub enum Stop {
     Memory,
 }
 
-// The stop at a line of this number and text that has a fault of this kind, or for want of memory
+// The stop at a line of this number and text that has a fault of this kind, or for lack of memory
 // to keep its text.
 pub fn stop_at(alloc: Global, number: u64, kind: FaultKind, text: &[u8]) -> Stop
     ensures { IfBad (IsFound number kind text.now) result }

@@ -5,7 +5,7 @@ ghost use Rattle.list_reader.specs.declared.place.Place.{Place};
 
 use crate::teller::LineTeller;
 
-/// Where the teller has one output for each line, it has one for a list.
+/// If the teller has one output for each line, it has one for a list.
 #[tactic(auto, using(crate::proofs::OneOutput::one_output))]
 pub fn one_output_law<T: LineTeller>(teller: &T)
     ensures { (place : Place) (lines : List (List ℕ)) (a b : List ℕ)

@@ -1,11 +1,11 @@
-//! A list of graphs, told line by line as it is read.
+//! A list of graphs is answered line by line as it is read.
 //!
 //! `tell_all` reads pieces from a `Source`, cuts what it read at the line feeds, asks a
 //! `LineTeller` for each line, and writes the outputs of the lines that it has before it reads
 //! on: so no output waits while input does, and memory does not grow with the list.
 //!
 //! Main definitions, in specs/: `lines_of`, the lines of a list, each with its line feed;
-//! `place_behind`, where each stands; `LineTold` and `LineBad`, what is told of one line, where
+//! `place_behind`, where each stands; `LineTold` and `LineBad`, the answer to one line, where
 //! the header and a line that is too long come before the teller; `AllTold`, the outputs of lines
 //! in their order; `Gives`, what was written up to each `Ending`; `IsStream`, the reads and the
 //! writes in their order. Main promises: what was written is what the lines give up to the

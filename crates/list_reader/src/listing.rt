@@ -23,7 +23,7 @@ pub struct Listing {
     pub held: Vec<u8>,
 }
 
-// Tells the whole lines of a text, as `tell_lines` does, and refuses what is left of it where
+// Answers the whole lines of a text, as `tell_lines` does, and refuses what is left of it if
 // that is too long for a line.
 fn tell_within_limit<'a, T: LineTeller>(
     alloc: Global,
@@ -48,7 +48,7 @@ fn tell_within_limit<'a, T: LineTeller>(
     Ok((place, rest))
 }
 
-// Tells the lines that a further piece makes whole, and holds what is left after them.
+// Answers the lines that a further piece makes whole, and holds what is left after them.
 pub fn add_piece<T: LineTeller>(
     alloc: Global,
     teller: &T,
@@ -76,7 +76,7 @@ pub fn add_piece<T: LineTeller>(
     Ok(())
 }
 
-// Tells what is held at the end of a list as its last line, unless nothing is; answers the place
+// Answers what is held at the end of a list as its last line, unless nothing is; answers the place
 // after it.
 fn add_last<T: LineTeller>(
     alloc: Global,
@@ -102,7 +102,7 @@ fn add_last<T: LineTeller>(
     }
 }
 
-// Tells what is held at the end of a list as its last line, unless nothing is, and refuses a list
+// Answers what is held at the end of a list as its last line, unless nothing is, and refuses a list
 // that may not end after it.
 pub fn add_end<T: LineTeller>(
     alloc: Global,

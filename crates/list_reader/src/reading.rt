@@ -1,4 +1,4 @@
-//! Reading a list and telling it.
+//! Reading a list and answering its lines.
 ghost use Rattle.std.specs.Prelude.{◌≡◌, ◌≢◌, ◌≤◌, ◌<◌, ◌++◌, ℕ, List, OnOk, IfErr, Some, length};
 ghost use Rattle.outside.specs.Faults.{Rose};
 ghost use Rattle.list_reader.specs.Lines.{HasNoFeed, lines_of};
@@ -17,7 +17,7 @@ use std::alloc::Global;
 /// The most bytes of a piece.
 const PIECE: usize = 65536;
 
-// Tells the lines that a further piece makes whole, and writes what is told of them.
+// Answers the lines that a further piece makes whole, and writes the answers.
 fn take_piece<T: LineTeller, K: Sink>(
     alloc: Global,
     teller: &T,
@@ -52,7 +52,7 @@ fn take_piece<T: LineTeller, K: Sink>(
     }
 }
 
-// Tells what is held at the end of the list, and writes what is told of it.
+// Answers what is held at the end of the list, and writes the answer.
 fn take_end<T: LineTeller, K: Sink>(
     alloc: Global,
     teller: &T,
@@ -81,7 +81,7 @@ fn take_end<T: LineTeller, K: Sink>(
     }
 }
 
-// Reads the list through a piece, and tells it.
+// Reads the list through a piece, and answers it.
 fn tell_through<T: LineTeller, S: Source, K: Sink>(
     alloc: Global,
     teller: &T,
@@ -121,12 +121,12 @@ fn tell_through<T: LineTeller, S: Source, K: Sink>(
     Ending::Memory
 }
 
-/// Reads the list that is left of the source to its end, tells each of its lines, and writes what
-/// is told of them to the sink: of the lines that a read made whole before the next read. The
+/// Reads the list that is left of the source to its end, answers each of its lines, and writes what
+/// is answered to the sink: of the lines that a read made whole before the next read. The
 /// first bad line ends it; nothing is written of that one, and the ending says what is found of
 /// it. A line that is too long ends it as soon as more of it was read than a line may have.
 ///
-/// Takes memory for a piece, a line, and what is told of the lines of a piece. Where memory runs
+/// Takes memory for a piece, a line, and the answers to the lines of a piece. If memory runs
 /// out, or there are more lines or reads than a u64 counts, it ends with `Memory`.
 #[tactic(auto, using(crate::proofs::Readings::untouched, crate::proofs::LeftBytes::told_list, crate::proofs::Stages::unread))]
 pub fn tell_all<T: LineTeller, S: Source, K: Sink>(
@@ -135,8 +135,8 @@ pub fn tell_all<T: LineTeller, S: Source, K: Sink>(
     source: &mut S,
     sink: &mut K,
 ) -> Ending
-    // After each read, all lines that are whole in what was read are told and written before the
-    // next read; no write follows one that failed, and no read or write follows a read that
+    // After each read, all lines that are whole in what was read are answered and written before
+    // the next read; no write follows one that failed, and no read or write follows a read that
     // failed.
     ensures streams { IsStream (T.tells teller.now) (T.bad teller.now) (T.lacks teller.now) S.reads
         K.written K.writes result source.old sink.old source.new sink.new }
@@ -145,14 +145,14 @@ pub fn tell_all<T: LineTeller, S: Source, K: Sink>(
     ensures gives { (bytes : List ℕ) → S.left source.old ≡ Some bytes
         → Appended (Gives (T.tells teller.now) (T.bad teller.now) (T.lacks teller.now) first_place
         (lines_of bytes) result) (K.written sink.old) (K.written sink.new) }
-    // Where the source does not tell what is left, it is what the lines of some list give.
+    // If the source does not make known what is left, it is what the lines of some list give.
     ensures tells { TellsList (T.tells teller.now) (T.bad teller.now) (T.lacks teller.now) result
         (S.left source.old) (K.written sink.old) (K.written sink.new) }
-    // Where the source fails, each whole line of what was read is told and written.
+    // If the source fails, each whole line of what was read is answered and written.
     ensures torn { result ≡ Ending.ReadFault
         → Appended (ReadsTold (T.tells teller.now) (S.left source.old) (S.left source.new))
         (K.written sink.old) (K.written sink.new) }
-    // A fault of the outside comes only where its count rose in this call.
+    // A fault of the outside comes only if its count rose in this call.
     ensures read_fault { result ≡ Ending.ReadFault →
         Rose (S.faults source.old) (S.faults source.new) }
     ensures write_fault { result ≡ Ending.WriteFault →

@@ -1,4 +1,4 @@
-//! What tells the lines of a list.
+//! What answers the lines of a list.
 ghost use Rattle.std.specs.Prelude.{◌≡◌, ℕ, List, IfOk};
 ghost use Rattle.std.specs.declared.option.Option.{Option};
 ghost use Rattle.text_faults.specs.declared.faults.FaultKind.{FaultKind};
@@ -9,7 +9,7 @@ use crate::place::Place;
 use std::alloc::{AllocError as Memory, Global};
 use text_faults::FaultKind;
 
-/// What is told of a line.
+/// The answer to a line.
 #[derive(Drop)]
 pub enum Told {
     /// These bytes are its output.
@@ -18,9 +18,9 @@ pub enum Told {
     Bad { kind: FaultKind },
 }
 
-/// What tells the lines of a list, each by itself and its place.
+/// What answers the lines of a list, each by itself and its place.
 pub trait LineTeller {
-    /// The line at this place is told by this output. A line holds its line feed, where it has one.
+    /// The line at this place has this output. A line holds its line feed, if it has one.
     ghost tells: { Self → Place → List ℕ → List ℕ → Type 0 };
 
     /// The line at this place is bad, with a first fault of this kind.

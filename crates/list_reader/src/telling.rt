@@ -1,4 +1,4 @@
-//! Telling the lines of a text.
+//! Answering the lines of a text.
 ghost use Rattle.std.specs.Prelude.{◌≡◌, IfOk, IfErr, OnOk};
 ghost use Rattle.list_reader.specs.declared.ending.Ending.TheVariants as ending;
 ghost use Rattle.list_reader.specs.Told.{IfBad, LineTold, NamesBad};
@@ -15,7 +15,7 @@ use text_faults::FaultKind;
 /// The most bytes of a line; a line of more is bad, whatever it holds.
 pub const MOST_LINE: usize = 65536;
 
-// Appends what is told of the line at that place, unless the line is bad.
+// Appends the answer to the line at that place, unless the line is bad.
 #[tactic(auto, using(crate::proofs::Pieces::told_line, crate::proofs::Pieces::told_header, crate::proofs::Pieces::names_long, crate::proofs::Pieces::names_bad))]
 pub fn tell_line<T: LineTeller>(
     alloc: Global,
@@ -41,7 +41,7 @@ pub fn tell_line<T: LineTeller>(
     }
 }
 
-// Tells the whole lines of a text, of which the first stands at that place; answers the place of
+// Answers the whole lines of a text, of which the first stands at that place; answers the place of
 // the next line, and what is left of the text after its last line feed.
 pub fn tell_lines<'a, T: LineTeller>(
     alloc: Global,

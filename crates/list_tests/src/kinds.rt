@@ -1,4 +1,4 @@
-//! What is told of single lines.
+//! The answers to single lines.
 
 use decomposer::NamedOrder;
 use list_lines::{Property, Query, Told, tell};
@@ -219,7 +219,7 @@ static ROWS: [Row; 33] = [
     },
 ];
 
-// Whether the line is told so, as the seventh of a list.
+// Whether the line is answered so, as the seventh of a list.
 fn is_told(alloc: Global, row: &Row) -> Result<bool, Memory> {
     match (
         tell(alloc, &row.query, 7, row.line.as_bytes())?,

@@ -29,7 +29,7 @@ appended_outcome query bytes ending before now appended = record {
   written = appended.written;
 }
 
--- what is told of some list, by the status
+-- the answer to some list, by the status
 pub tells_some :
     (query : Query) (ending : Ending) (left before now : Option (List ℕ)) →
     TellsList (TellsLineOf query) (IsBadLine query) (lacks_of query) ending left before now →

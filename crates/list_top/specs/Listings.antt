@@ -1,4 +1,4 @@
--- What is told of a line of a list.
+-- The answer to a line of a list.
 use Rattle.std.specs.Prelude.{◌≡◌, ℕ, ◌==◌, ◌⊎◌, nat_lt, Bool, false, if◌then◌else◌, List, IsTrue, IsFalse}
 use Rattle.std.specs.declared.option.Option.{Option}
 use Rattle.std.specs.declared.option.Option.TheVariants.{Some, None}
@@ -20,7 +20,7 @@ is_further (Select property) place = false
 abbrev pub TellsLineOf : Query → Place → List ℕ → List ℕ → Type 0
 TellsLineOf query place line output = IsFalse (is_further query place) × TellsLine query place.number line output
 
--- the line at that place is bad: a further line where one is asked for, or it stands for no graph
+-- the line at that place is bad: a further line if one is asked for, or it stands for no graph
 abbrev pub IsBadLine : Query → Place → List ℕ → FaultKind → Type 0
 IsBadLine query place line kind =
     (IsTrue (is_further query place) × (kind ≡ Extra)) ⊎ (IsFalse (is_further query place) × HasFault line kind)

@@ -19,7 +19,7 @@ use Rattle.list_top.specs.declared.status.Status.TheVariants.{Done, Usage, ReadF
 abbrev pub EndsWith : Query → (bytes : List ℕ) → Ending → (output : List ℕ) → Type 0
 EndsWith query bytes ending output = Gives (TellsLineOf query) (IsBadLine query) (lacks_of query) first_place (lines_of bytes) ending output
 
--- the lines before the first bad one are told, and nothing of that one
+-- the lines before the first bad one are answered, and nothing of that one
 pub record StopsAtBad (query : Query) (bytes output : List ℕ) : Type 0 where
   pub found : BadLine
   pub told : ToldToBad (TellsLineOf query) (IsBadLine query) (lacks_of query) first_place (lines_of bytes) found output
@@ -33,21 +33,21 @@ Outcome query bytes BadInput output = StopsAtBad query bytes output
 Outcome query bytes WriteFault output = CutShort (TellsLineOf query) first_place (lines_of bytes) output
 Outcome query bytes Memory output = BeginningTold (TellsLineOf query) first_place (lines_of bytes) output
 
--- what was written is an outcome of some list: of the bytes that were left of the source, where
--- it tells them
+-- what was written is an outcome of some list: of the bytes that were left of the source, if
+-- it makes them known
 pub record TellsSome (query : Query) (status : Status) (left before now : Option (List ℕ)) : Type 0 where
   pub bytes : List ℕ
   pub is_left : IsLeft left bytes
   pub outcome : Appended (Outcome query bytes status) before now
 
--- the list was told while it was read, up to this ending
+-- the list was answered while it was read, up to this ending
 abbrev pub StreamsTo :
     {S K : Type 0} → Query → (S → Option (List ℕ) → S → Type 0) → (K → Option (List ℕ)) → (K → List ℕ → ℕ → K → Type 0) → Ending → S → K → S →
     K → Type 0
 StreamsTo query reads written writes ending source sink last_source last_sink =
     IsStream (TellsLineOf query) (IsBadLine query) (lacks_of query) reads written writes ending source sink last_source last_sink
 
--- the list was told while it was read, up to an ending with this status
+-- the list was answered while it was read, up to an ending with this status
 pub record Streams {S K : Type 0} (query : Query) (reads : S → Option (List ℕ) → S → Type 0) (written : K → Option (List ℕ)) (writes : K → List ℕ → ℕ → K → Type 0) (status : Status) (source : S) (sink : K) (last_source : S) (last_sink : K) : Type 0 where
   pub ending : Ending
   pub of_status : status ≡ status_of ending

@@ -1,4 +1,4 @@
-//! What is told of the lines of a list.
+//! The answers to the lines of a list.
 ghost use Rattle.std.specs.Prelude.{◌≡◌};
 ghost use Rattle.list_top.specs.Listings.{TellsLineOf, IsBadLine, is_further, lacks_of};
 

@@ -39,12 +39,12 @@ pub fn run_to_ending<S: Source, K: Sink>(
         → command_of (map string_bytes words.now) ≡ Some command → S.left source.old ≡ Some bytes
         → result ≡ Some ending
         → Appended (EndsWith command.query bytes ending) (K.written sink.old) (K.written sink.new) }
-    // Where the source does not tell what is left, it is what they ask of the lines of some list.
+    // If what is left of the source is not known, it is what they ask of the lines of some list.
     ensures tells { (command : Command) (ending : Ending)
         → command_of (map string_bytes words.now) ≡ Some command → result ≡ Some ending
         → TellsList (TellsLineOf command.query) (IsBadLine command.query) (lacks_of command.query)
         ending (S.left source.old) (K.written sink.old) (K.written sink.new) }
-    // Where the source fails, each whole line of what was read is told and written.
+    // Where the source fails, each whole line of what was read is answered and written.
     ensures torn { (command : Command) → command_of (map string_bytes words.now) ≡ Some command
         → result ≡ Some ending.ReadFault
         → Appended (ReadsTold (TellsLineOf command.query) (S.left source.old) (S.left source.new))
@@ -93,11 +93,11 @@ pub fn run<S: Source, K: Sink>(
     ensures outcome { (command : Command) (bytes : List ℕ)
         → command_of (map string_bytes words.now) ≡ Some command → S.left source.old ≡ Some bytes
         → Appended (Outcome command.query bytes result) (K.written sink.old) (K.written sink.new) }
-    // Where the source does not tell what is left, it is what they ask of the lines of some list.
+    // If what is left of the source is not known, it is what they ask of the lines of some list.
     ensures tells { (command : Command) → command_of (map string_bytes words.now) ≡ Some command
         → TellsSome command.query result (S.left source.old) (K.written sink.old)
         (K.written sink.new) }
-    // Where the source fails, each whole line of what was read is told and written.
+    // Where the source fails, each whole line of what was read is answered and written.
     ensures torn { (command : Command) → command_of (map string_bytes words.now) ≡ Some command
         → result ≡ Status.ReadFault
         → Appended (ReadsTold (TellsLineOf command.query) (S.left source.old) (S.left source.new))

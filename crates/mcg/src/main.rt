@@ -2,8 +2,8 @@
 //! goes to standard output and whose status becomes the exit status.
 //!
 //! Files are read by `DirShelf` and standard output is written by `OutSink`; the program never
-//! writes to standard error. Where the runtime refuses the words, nothing is written: the exit
-//! status is 6 for want of memory, and 7, which no status has, for words that are no UTF-8.
+//! writes to standard error. If the runtime refuses the words, nothing is written: the exit
+//! status is 6 for lack of memory, and 7, which no status has, for words that are not UTF-8.
 #![tactic(auto)]
 
 use bench_top::run;
@@ -13,10 +13,10 @@ use std::io::ErrorKind;
 use std::process::ExitCode;
 use std::rt::Env;
 
-/// The exit status where memory runs out.
+/// The exit status if memory runs out.
 const NO_MEMORY: u8 = 6;
 
-/// The exit status where the runtime refuses the words.
+/// The exit status if the runtime refuses the words.
 const NO_WORDS: u8 = 7;
 
 // The words after the program's name.

@@ -1,10 +1,10 @@
-//! The program `mcg6`: the words after its name are a command of `list_top::run`, which tells a
+//! The program `mcg6`: the words after its name are a command of `list_top::run`, which answers a
 //! list of graphs line by line to standard output, and whose status becomes the exit status.
 //!
 //! The list is standard input, or the file that the last word names. It is read by `InSource` and
-//! standard output is written by `OutSink`; the program never writes to standard error. Where the
-//! runtime refuses the words, nothing is read or written: the exit status is 6 for want of
-//! memory, and 7, which no status has, for words that are no UTF-8.
+//! standard output is written by `OutSink`; the program never writes to standard error. If the
+//! runtime refuses the words, nothing is read or written: the exit status is 6 for lack of
+//! memory, and 7, which no status has, for words that are not UTF-8.
 #![tactic(auto)]
 
 use list_top::{file_name, run};
@@ -14,10 +14,10 @@ use std::process::ExitCode;
 use std::rt::Env;
 use std::{env, fs};
 
-/// The exit status where memory runs out.
+/// The exit status if memory runs out.
 const NO_MEMORY: u8 = 6;
 
-/// The exit status where the runtime refuses the words.
+/// The exit status if the runtime refuses the words.
 const NO_WORDS: u8 = 7;
 
 // The words after the program's name.

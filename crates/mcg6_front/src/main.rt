@@ -1,11 +1,11 @@
 //! The program `mcg6_front`, which users call as `mcg6`: the words after its name are a command of
-//! `list_front::run_list_front`, which tells a list of graphs line by line to standard output,
+//! `list_front::run_list_front`, which answers a list of graphs line by line on standard output,
 //! whose words for a person go to standard error, and whose status becomes the exit status.
 //!
 //! The list is standard input, or the file that the last word names. It is read by `InSource`,
 //! standard output is written by `OutSink` and standard error by `LineSink`. `MCG_QUIET=1` in the
-//! environment turns the words off. Where the runtime refuses the words, nothing is read or
-//! written to standard output: the exit status is 6 for want of memory, and 7, which no status
+//! environment turns the words off. If the runtime refuses the words, nothing is read or
+//! written to standard output: the exit status is 6 for lack of memory, and 7, which no status
 //! has, for words that are not UTF-8.
 #![tactic(auto)]
 
@@ -17,10 +17,10 @@ use std::process::ExitCode;
 use std::rt::{Env, Files};
 use std::{env, fs};
 
-/// The exit status where memory runs out.
+/// The exit status if memory runs out.
 const NO_MEMORY: u8 = 6;
 
-/// The exit status where the runtime refuses the words.
+/// The exit status if the runtime refuses the words.
 const NO_WORDS: u8 = 7;
 
 // The words after the program's name.
@@ -43,7 +43,7 @@ fn is_quiet<R: Env + AllocGlobal>(rt: &R) -> bool {
     }
 }
 
-// What is said where the runtime refuses the words.
+// What is said if the runtime refuses the words.
 fn refusal_words(code: u8) -> &'static str {
     if code == NO_MEMORY {
         "mcg6: memory ran out; nothing was written\n"
@@ -70,7 +70,7 @@ fn reason_unread<R: Files + AllocGlobal>(rt: &R, name: &str) -> Option<Reason> {
     }
 }
 
-// Tells the list in the file of that name.
+// Answers the list in the file of that name.
 fn run_file<R: Files + Print + AllocGlobal, E: Sink>(
     rt: &R,
     words: &[String],

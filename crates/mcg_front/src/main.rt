@@ -3,9 +3,9 @@
 //! standard error, and whose status becomes the exit status.
 //!
 //! Files are read by `DirShelf` through a `KeepingShelf`, standard output is written by `OutSink`
-//! and standard error by `LineSink`. `MCG_QUIET=1` in the environment turns the words off. Where
+//! and standard error by `LineSink`. `MCG_QUIET=1` in the environment turns the words off. If
 //! the runtime refuses the words, nothing is written to standard output: the exit status is 6 for
-//! want of memory, and 7, which no status has, for words that are not UTF-8.
+//! lack of memory, and 7, which no status has, for words that are not UTF-8.
 #![tactic(auto)]
 
 use front_top::run_front;
@@ -15,10 +15,10 @@ use std::io::ErrorKind;
 use std::process::ExitCode;
 use std::rt::Env;
 
-/// The exit status where memory runs out.
+/// The exit status if memory runs out.
 const NO_MEMORY: u8 = 6;
 
-/// The exit status where the runtime refuses the words.
+/// The exit status if the runtime refuses the words.
 const NO_WORDS: u8 = 7;
 
 // The words after the program's name.
@@ -41,7 +41,7 @@ fn is_quiet<R: Env + AllocGlobal>(rt: &R) -> bool {
     }
 }
 
-// What is said where the runtime refuses the words.
+// What is said if the runtime refuses the words.
 fn refusal_words(code: u8) -> &'static str {
     if code == NO_MEMORY {
         "mcg: memory ran out; nothing was written\n"

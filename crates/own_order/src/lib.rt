@@ -1,4 +1,4 @@
-//! An example for users of the library: decompositions in orders of one's own.
+//! An example for users of the library: decompositions in orders of their own.
 //!
 //! `decompose_widest` reads the text of a graph, decomposes the graph by tight cuts, at each node
 //! by the candidate whose cut has the most edges, and hands the derivation to `check`. Its

@@ -10,7 +10,7 @@ use std::alloc::Global;
 use tight_cuts::Candidate;
 use tree_core::Tree;
 
-/// Decomposes the graph by the first candidate where the number of cuts before the node is even,
+/// Decomposes the graph by the first candidate if the number of cuts before the node is even,
 /// and else by the last one. `NotCovered` comes if and only if the graph is not matching covered.
 pub fn decompose_by_turns(alloc: Global, g: &MultiGraph) -> Result<Tree, Refused>
     ensures derivation { IfOk result (λ tree. IsDerivation g.now (shape_of tree)) }

@@ -1,9 +1,9 @@
 //! Tests of the top call `bench_top::run`: what each command answers and writes.
 //!
-//! A row of a table has the files of a run and the report that is wanted, byte by byte; `trial`
+//! A row of a table has the files of a run and the report that is expected, byte by byte; `trial`
 //! walks the rows of a command. `analysing`, `decomposing`, `checking`, `comparing`, `replaying`
 //! and `growing` have the worked reports of the commands. `named`: graphs in version 2 over the
-//! commands whose reports tell no names. `words`: words that match no row, over which nothing is
+//! commands whose reports list no names. `words`: words that match no row, over which nothing is
 //! read. `malformed`: one table for each text format, with each row of its table of faults.
 //! `faults`: over all commands each read and each write fails in turn, each file is missing in
 //! turn, and the room of the sink is too small; and over a sink that only counts nothing fails.

@@ -1,4 +1,4 @@
-//! Graphs in version 2 through the commands whose reports do not tell names: what is answered is
+//! Graphs in version 2 through the commands whose reports do not list names: what is answered is
 //! what is answered on version 1.
 use crate::graphs::{HEXAGON, HEXAGON_TREE, OTHER_HEXAGON_TREE};
 use crate::trial::ran;

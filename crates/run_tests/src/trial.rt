@@ -8,7 +8,7 @@ use std::test::Fail;
 // The names of the files, in order.
 const NAMES: [&str; 3] = ["g", "s", "t"];
 
-/// The files of a run, and the report that is wanted.
+/// The files of a run, and the report that is expected.
 pub type Row = (&'static [&'static str], &'static str);
 
 /// The words of a command.
@@ -60,7 +60,7 @@ pub fn ran(alloc: Global, words: &[&str], files: &[&str]) -> Result<(Status, Str
     ran_over(alloc, words, shelf, sink)
 }
 
-/// What is written where the words are done over these files.
+/// What is written if the words are done over these files.
 pub fn report(alloc: Global, words: &[&str], files: &[&str]) -> Result<String, Fail> {
     let (status, written) = ran(alloc, words, files)?;
     if status == Status::Done {

@@ -148,7 +148,7 @@ pub fn long_text(alloc: Global, (front, piece, many, end): &LongText) -> Result<
     Ok(text)
 }
 
-/// Whether the long text is written again as it is, or where a fault is wanted, has this fault.
+/// Whether the long text is written again as it is, or, if a fault is expected, has this fault.
 pub fn long_has_answer(
     alloc: Global,
     format: Format,

@@ -5,7 +5,7 @@
 //! kind of its first fault. `graph_rows`, `graph6_rows`, `tree_rows`, `move_rows` and `ear_rows`
 //! have the tables, and the texts that are too long for a row; `tables` walks them. `words` asks
 //! for lines, words and numbers, `reads_and_writes` for the shelves and the sinks, `sources` for
-//! the sources, in memory and real. `lists` has lists that are told line by line.
+//! the sources, in memory and real. `lists` has lists that are answered line by line.
 //!
 //! The rows come from the tables of the formats. What reports say is tried in `run_tests`, byte
 //! by byte.

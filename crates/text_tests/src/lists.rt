@@ -1,5 +1,5 @@
-//! Lists that are told line by line: the output and the ending of each, in pieces of every small
-//! size, with a read that fails, and with too little room for the output.
+//! Lists that are answered line by line: the output and the ending of each, in pieces of every
+//! small size, with a read that fails, and with too little room for the output.
 ghost use Rattle.std.specs.Prelude.{◌==◌, if◌then◌else◌};
 ghost use Rattle.std.specs.declared.option.Option.TheVariants.{Some, None};
 ghost use Rattle.text_faults.specs.declared.faults.FaultKind.TheVariants.{Missing};
@@ -10,7 +10,7 @@ use std::alloc::{AllocError as Memory, Global};
 use std::test::Fail;
 use text_faults::FaultKind;
 
-// Tells a line by its number and the line itself, and calls one bad that holds a `!`; a list
+// Answers a line by its number and the line itself, and calls one bad that holds a `!`; a list
 // without lines is bad.
 struct Copyist;
 
@@ -50,7 +50,7 @@ enum Wanted {
     WriteFault,
 }
 
-// Whether a list that ended so ended as wanted.
+// Whether a list that ended so ended as expected.
 fn is_wanted(ending: &Ending, wanted: &Wanted) -> bool {
     match (ending, wanted) {
         (Ending::Done, Wanted::Done)
@@ -109,7 +109,7 @@ fn in_pieces(alloc: Global, list: &str, size: usize) -> Result<MemSource, Memory
     Ok(source)
 }
 
-// Whether what is told of a source ends so, and leaves these bytes in the sink.
+// Whether the answers to a source end so, and leaves these bytes in the sink.
 fn is_told(
     alloc: Global,
     mut source: MemSource,
@@ -121,7 +121,7 @@ fn is_told(
     is_wanted(&told, ending) && sink.bytes() == wanted
 }
 
-// Whether the list is told so in pieces of each size from 1 to 11.
+// Whether the list is answered so in pieces of each size from 1 to 11.
 fn is_told_in_pieces(alloc: Global, (list, wanted, ending): &Row) -> Result<bool, Memory> {
     for size in 1..12 {
         let source = in_pieces(alloc, list, size)?;
@@ -141,7 +141,7 @@ fn lists_in_pieces(rt: HostRuntime) -> Result<(), Fail> {
     Ok(())
 }
 
-// The number of the read that fails, and what is told of a list in four pieces.
+// The number of the read that fails, and the answers to a list in four pieces.
 static FAILED_READS: [(u32, Wanted, &str); 5] = [
     (1, Wanted::ReadFault, ""),
     (2, Wanted::ReadFault, "1 C~\n"),
@@ -150,7 +150,7 @@ static FAILED_READS: [(u32, Wanted, &str); 5] = [
     (5, Wanted::Done, "1 C~\n2 A_\n3 D{\n4 B"),
 ];
 
-// Whether the list is told so where a read fails.
+// Whether the list is answered so if a read fails.
 fn is_told_until(alloc: Global, read: u32, ending: &Wanted, wanted: &str) -> Result<bool, Memory> {
     let mut source = in_pieces(alloc, "C~\nA_\nD{\nB", 4)?;
     source.fail_read(read)?;
@@ -186,7 +186,7 @@ fn the_room_is_too_small(rt: HostRuntime) -> Result<(), Fail> {
 }
 
 // The length of a line, the number of bytes that are written of it, and how many bytes of its
-// text are kept where it is too long.
+// text are kept if it is too long.
 static LONG_LINES: [(usize, usize, Option<usize>); 4] = [
     (65_535, 65_538, None),
     (65_536, 0, Some(65_537)),
@@ -195,7 +195,7 @@ static LONG_LINES: [(usize, usize, Option<usize>); 4] = [
 ];
 
 // Whether the ending keeps so many bytes of a first line that is too long, or is that of a list
-// that was told.
+// that was answered.
 fn keeps(ending: &Ending, kept: Option<usize>) -> bool {
     match (ending, kept) {
         (Ending::Done, None) => true,

@@ -4,7 +4,7 @@ use line_text::{numbers, split_line, split_words};
 use std::alloc::{AllocError as Memory, Global};
 use std::test::Fail;
 
-// Texts, with their first line and what comes after it; none where nothing is left.
+// Texts, with their first line and what comes after it; none if nothing is left.
 static LINES: [(&str, Option<(&str, &str)>); 4] = [
     ("", None),
     ("\n", Some(("", ""))),
@@ -29,7 +29,7 @@ fn lines(rt: HostRuntime) {
     }
 }
 
-// Words, with their numbers; none where one of them is not a number.
+// Words, with their numbers; none if one of them is not a number.
 static NUMBERS: [(&[&[u8]], Option<&[u32]>); 2] = [
     (&[b"e", b"12", b"0003"], None),
     (&[b"12", b"0003"], Some(&[12, 3])),

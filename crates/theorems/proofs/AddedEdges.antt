@@ -33,7 +33,7 @@ add_edge g r m e is w d ra rb p =
     back : (a b : Bool) → (a ≡ true → b ≡ false) → not (not (a || b) || a) ≡ b
     back a b h = grind arith
 
--- an edge is in a perfect matching where there is one without its ends
+-- an edge is in a perfect matching if there is one without its ends
 pub allowed_from : (g : Graph) (e : ℕ) → IsGraph g → Within (size g) e → first_end g e ≢ second_end g e → HasPerfect g (ends_set g e) → Allowed g e
 allowed_from g e is w d h = (
   (λ i. h.0 i || singleton e i),

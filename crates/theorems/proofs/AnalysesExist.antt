@@ -1,6 +1,6 @@
 -- For every multigraph there are right lines of `analyse`: each of them is a test, and so each
 -- list is a rising list. The kind of a covered graph is composite by its first candidate, and
--- where there is none it is brace or brick by its sides.
+-- if there is none it is brace or brick by its sides.
 use Rattle.std.proofs.Common.{◌≡◌, ◌⊎◌, ◌↔◌, ℕ, Bool, true, false, List, [], ◌∷◌, Option, Some, None, option_map, refl, sym, ◌∙◌, arith, inl, inr}
 use Rattle.std.proofs.lemmas.Bool.{true≢false}
 use Rattle.std.specs.Prelude.{All, IsTrue}
@@ -65,7 +65,7 @@ structure_of g is cov =
     let k = kind_of g (candidates g) (candidates_found g is.ends cov) (candidates_none g is.ends cov).0 (bipartite-or g is.ends) in
     (record { classes = classes g; unlike = u.0; cutpair = c.0; kind = k.0 }, record { partition = refl; unlike = u.1; separates = c.1; kind = k.1; cut = k.2 })
 
--- the verdict, and the structure where the graph is covered
+-- the verdict, and the structure if the graph is covered
 verdict_of : (g : Graph) → IsMultigraph g → (v : Verdict) × (s : Option Structure) × IsVerdict g v × TellsStructure g v s
 verdict_of g is = elim (covered_or_told g is) [
   | inl cov ↦ let s = structure_of g is cov in (Covered, Some s.0, cov, s.1)

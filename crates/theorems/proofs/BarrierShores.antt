@@ -1,5 +1,5 @@
 -- Each tight cut of a bipartite covered graph is the cut of a component that a barrier leaves.
--- Where a tight shore X has one vertex more on the side A, X ∩ A is the barrier: without it each
+-- If a tight shore X has one vertex more on the side A, X ∩ A is the barrier: without it each
 -- vertex of X - A is alone, and the other shore is one component.
 use Rattle.std.proofs.Common.{◌≡◌, ℕ, suc, zero, ◌+◌, ◌≤◌, Bool, true, false, ◌==◌, ◌&&◌, ◌||◌, not, refl, sym, ap, ◌∙◌, arith, subst, eq-eqb, eqb-true, inl, inr}
 use Rattle.std.proofs.lemmas.Bool.{and_from, or_cases, not-true, true≢false, false_from_ne_true}

@@ -1,6 +1,6 @@
--- The orders of the commands always pick.
--- Idea: the first place, the last and a remainder are places; and a nonempty list has a first
--- place with the least gap, by induction on the list.
+-- The orders of the commands always pick. Idea: the first place, the last and a remainder are
+-- places; and a nonempty list has a first place with the least difference of the sides, by
+-- induction on the list.
 use Rattle.std.proofs.Common.{[], ◌≡◌, ℕ, zero, suc, ◌-◌, ◌<◌, ◌≤◌, ◌%◌, List, ◌∷◌, length, map, inl, inr, refl, ap, ap₂, arith, slice_index_or}
 use Rattle.std.proofs.lemmas.Bool.{cases_lt}
 use Rattle.std.proofs.lemmas.List.{length-map}
@@ -24,7 +24,7 @@ stored : (list : List Candidate) → (s : List StoredCandidate) × (map candidat
 stored [] = ([], refl)
 stored (c ∷ list) = let s = stored_with c.shore c.inside c.outside c.origin in let t = stored list in (s.0 ∷ t.0, ap₂ ◌∷◌ s.1 t.1)
 
--- the first place with the least gap
+-- the first place whose sides differ least
 least-more : (s t : StoredCandidate) (list : List StoredCandidate) → (place : ℕ) × IsBalanced (t ∷ list) place → (place : ℕ) × IsBalanced (s ∷ t ∷ list) place
 least-more s t list found = elim (cases_lt (gap (t ∷ list) found.0) (gap (s ∷ t ∷ list) 0)) [
   | inl l ↦ (suc found.0, record { held = let h = found.1.held in omega arith; least = λ i j. beyond l i j; first = λ i j. before l i j })

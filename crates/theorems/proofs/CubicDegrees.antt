@@ -1,5 +1,5 @@
 -- Three times the vertices of a set of a cubic graph are the edges in its cut and twice those
--- inside. So the order is even, and the number of edges in a cut is odd where the set is; in a
+-- inside. So the order is even, and the number of edges in a cut is odd if the set is; in a
 -- 2-edge-connected graph it is then at least three.
 use Rattle.std.proofs.Common.{◌≡◌, ℕ, ◌+◌, ◌*◌, ◌≤◌, ◌==◌, true, false, ◌&&◌, refl, sym, ap, ◌∙◌, arith}
 use Rattle.std.specs.Prelude.{◌%◌}
@@ -39,7 +39,7 @@ all_edges g is cubic =
     let z : cut_size g everything ≡ 0 = total_none (size g) _ (λ e w. refl) in
     let i : inner_size g everything ≡ count (size g) everything = refl in omega arith
 
--- the cut of a set is odd where the set is
+-- the cut of a set is odd if the set is
 odd_alike : (k c i : ℕ) → 3 * k ≡ c + 2 * i → is_odd k ≡ is_odd c
 odd_alike k c i h = is_odd_remainder k ∙ ap (λ r. r == 1) (let e : k % 2 ≡ c % 2 = omega arith in e) ∙ sym (is_odd_remainder c)
 

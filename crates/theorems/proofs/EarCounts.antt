@@ -1,4 +1,4 @@
--- How many ears has an ear decomposition?
+-- The number of ears of an ear decomposition.
 -- Idea: an ear with k edges has k + 1 vertices, of which two are on the stage; so with each ear
 -- the edges less the vertices grow by one, from one edge with two vertices to all edges with all
 -- vertices that they meet.

@@ -1,4 +1,4 @@
--- The pair that the third part takes at an edge is the first that a tight set parts: the search
+-- The pair that the third part takes at an edge is the first that a tight set separates: the search
 -- takes the first pair of a list that passes its test, the list is in lexicographic order, and
 -- the test says what the words say.
 use Rattle.std.proofs.Common.{◌≡◌, ℕ, ◌⊎◌, true, Option, Some, None, refl, ap, ap₂, inl, inr, arith}

@@ -242,7 +242,7 @@ module _ (g : Graph) (p f : List (List ℕ)) (st : Stage g p) (ff : FamilyAt g p
         (ap not (false_from_ne_true (is_subset y x) (λ t. both_ways (mem x o.0) o.3 (subset_below g.order y x t o.0 o.1 o.2))));
   }
 
--- the tree of a family: a leaf where it is empty, else any of its cuts first
+-- the tree of a family: a leaf if it is empty, else any of its cuts first
 abbrev TreeAt : Graph → (p f : List (List ℕ)) → Shape → Type 0
 TreeAt g p f t = IsDerivationAt g p t × ((z : List ℕ) → IsIn z (shores t) ↔ IsIn z f)
 

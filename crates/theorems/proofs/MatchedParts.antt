@@ -299,7 +299,7 @@ module _ (g : Graph) (is : IsGraph g) (d a c : Set) (sets : AreThreeSets g d a c
             ]
           ]
 
-  -- where m misses a vertex v of D, its edges inside the component of v meet each other vertex of
+  -- if m misses a vertex v of D, its edges inside the component of v meet each other vertex of
   -- it
   critical_at : (v : ℕ) → Within g.order v → d v ≡ true → degree g m v ≡ 0 → MatchesWithin g m (minus (joined g a v) (singleton v))
   critical_at v wv dv z = perfect_within g m (minus (joined g a v) (singleton v)) met (λ e w. false_from_ne_true (m e && in_cut g (minus (joined g a v) (singleton v)) e) (λ t.

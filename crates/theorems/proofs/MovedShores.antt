@@ -1,4 +1,4 @@
--- A move keeps the form of a tree: where the shores are rising lists below the greatest vertex, so
+-- A move keeps the form of a tree: if the shores are rising lists below the greatest vertex, so
 -- are those of its result. Each new shore is written as a rising list, and each other one stays.
 use Rattle.std.proofs.Common.{◌≡◌, ℕ, Bool, true, false, ◌&&◌, List, [], ◌∷◌, Option, Some, None, option_map, if◌then◌else◌, refl, subst}
 use Rattle.std.proofs.lemmas.Option.{none-some, same_Some}

@@ -62,7 +62,7 @@ plain-keeps : (r : Result GraphSoFar FaultKind) → GoesOn KeepsNames (result_ma
 plain-keeps (Ok next) = tt
 plain-keeps (Err fault) = tt
 
--- a line behind the header
+-- a line after the header
 line-keeps : (body : GraphSoFar) (names : Option (List (List ℕ))) (words : List (List ℕ)) → AreSoFar body.graph.order names → GoesOn KeepsNames (line_behind body names words)
 line-keeps body None words are = plain-keeps (graph_line body words)
 line-keeps body (Some names) words are = go (nat_lt (length names) body.graph.order) (size body.graph == body.edges) refl

@@ -1,5 +1,5 @@
 -- A cubic graph with six vertices or more of which no nontrivial cut has three edges is
--- connected, and has no bridge where none has one. A set without an edge in its cut and one
+-- connected, and has no bridge if none has one. A set without an edge in its cut and one
 -- vertex more have three edges in their cut.
 use Rattle.std.proofs.Common.{◌≡◌, ◌≢◌, ℕ, suc, zero, ◌+◌, ◌*◌, ◌≤◌, Bool, true, false, ◌==◌, ◌&&◌, ◌||◌, not, refl, sym, ap, ◌∙◌, arith, eqb-true, inl, inr}
 use Rattle.std.proofs.lemmas.Bool.{and_parts, cases_lt, true≢false}
@@ -95,7 +95,7 @@ module _ (g : Graph) (is : IsMultigraph g) (cubic : IsCubic g) where
       some : (k c i : ℕ) → 3 * k ≡ c + 2 * i → c ≡ 1 → 1 ≤ i
       some k c i h one = omega arith
 
-  -- so no nontrivial cut is tight where each has four edges
+  -- so no nontrivial cut is tight if each has four edges
   pub wide_untight : ((x : Set) → IsNontrivial g.order x → 4 ≤ cut_size g x) → HasNoTightCut g
   wide_untight wide x t n =
       let w = wide x n in

@@ -1,4 +1,4 @@
--- Where the items of two lists are paired one to one so that partners are equal, as many items of
+-- If the items of two lists are paired one to one so that partners are equal, as many items of
 -- each pass a test.
 use Rattle.std.proofs.Common.{Bool, List, ◌∷◌, ap, arith, cond, eq-eqb, eqb-true, false, get_or, length, refl, suc, sym, true, ℕ, ◌+◌, ◌-◌, ◌==◌, ◌∙◌, ◌≡◌}
 use Rattle.std.specs.Prelude.{count_by}

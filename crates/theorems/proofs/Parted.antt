@@ -1,4 +1,4 @@
--- Pairs of vertices that tight sets part: two vertices are in no pair of a and b where they
+-- Pairs of vertices that tight sets separate: two vertices are in no pair of a and b if they
 -- differ from both.
 use Rattle.std.proofs.Common.{◌≡◌, ◌≢◌, ◌↔◌, ℕ, true, false, ◌==◌, eq-eqb, ne_eqb, sym}
 use Rattle.std.proofs.lemmas.Bool.{both_ways, or_from, or_left, or_right}

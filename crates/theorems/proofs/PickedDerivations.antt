@@ -1,5 +1,5 @@
 -- A matching covered graph has a derivation, whatever rule picks the cuts.
--- Idea: where no candidate is left, the node is a leaf; else the picked candidate is a cut, and
+-- Idea: if no candidate is left, the node is a leaf; else the picked candidate is a cut, and
 -- both partitions below it have fewer blocks.
 use Rattle.std.proofs.Common.{[], ◌≡◌, ℕ, zero, suc, ◌+◌, ◌<◌, List, ◌∷◌, length, get_or, refl, ap, arith}
 use Rattle.std.proofs.lemmas.Option.{slice_get-get_or}

@@ -1,5 +1,5 @@
 -- For every two trees, every tree and every list of ears there is a report: a refusal is found
--- where the rules are not kept, and where they are, the leaves have kinds and a script leads from
+-- if the rules are not kept, and if they are, the leaves have kinds and a script leads from
 -- the first derivation to the second.
 use Rattle.std.proofs.Common.{◌≡◌, ◌⊎◌, ℕ, List, length, refl, subst, sym, inl, inr}
 use Rattle.counting.specs.Counts.{Within}
@@ -39,7 +39,7 @@ use Rattle.bench_outcomes.specs.declared.status.Status.TheVariants.{Done, Negati
 use Rattle.theorems.proofs.EarRefusals.{ears_or_refusal}
 use Rattle.theorems.proofs.LeafKindLists.{tally-exists}
 
--- each reason is one that is told
+-- each reason is one that is reported
 told_reason : (r : Reason) → (c : ToldReason) × (reason_of c ≡ r)
 told_reason Small = (told.Small, refl)
 told_reason (Parted a b) = (told.Parted a b, refl)

@@ -1,6 +1,6 @@
 -- A graph with four vertices or more is 3-connected if and only if it has no cut pair. Fewer than
--- two vertices that part a from b become two, as some others are left beside a and b; two leaders
--- beside a cut pair are parted.
+-- two vertices that separate a from b become two, as some others are left beside a and b; two
+-- leaders beside a cut pair are separated.
 use Rattle.std.proofs.Common.{◌≡◌, ◌≢◌, ℕ, suc, ◌+◌, ◌≤◌, Bool, true, false, ◌==◌, ◌&&◌, ◌||◌, not, refl, sym, ap, ◌∙◌, arith, eq-eqb, eqb-true, ne_eqb, ◌↔◌, inl, inr}
 use Rattle.std.proofs.lemmas.Bool.{cases_lt, both_ways, and_parts, not-true, false_from_ne_true}
 use Rattle.barrier_kit.proofs.BarrierCuts.{leader_same, leads_out, part_step}
@@ -38,7 +38,7 @@ three_no_pair g is three u v c =
     let j = three.connected (pair_set u v) (count_pair g.order u v c.first c.second) p.0 p.1 p.2 p.3 (leads_out g (pair_set u v) p.0 p.5) (leads_out g (pair_set u v) p.1 p.6) in
     p.4 (leader_same g (pair_set u v) is p.0 p.1 p.1 p.2 p.3 p.3 p.5 (walk_joined g (pair_set u v) is p.0 p.1 p.2 j) p.6 (walk_joined g (pair_set u v) is p.1 p.1 p.3 (joined_self g (pair_set u v) p.1)))
 
--- a member of t without which r has a member less, where it has any
+-- a member of t without which r has a member less, if it has any
 take_one : (n k : ℕ) (r t : Set) → ((v : ℕ) → Within n v → r v ≡ true → t v ≡ true) → count n r ≤ suc k → 1 ≤ count n t → (u : ℕ) × Within n u × (t u ≡ true) × (count n (minus r (singleton u)) ≤ k)
 take_one n k r t sub few some = elim (cases_lt 0 (count n r)) [
   | inl l ↦ let u = count_member n r l in let c = count_minus n r u.0 u.1 u.2 in (u.0, u.1, sub u.0 u.1 u.2, omega arith)

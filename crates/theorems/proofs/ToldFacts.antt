@@ -1,5 +1,5 @@
--- What an outcome of each command tells, in the words of a textbook: its records give it, and
--- where a task succeeds it is not refused. The files say what the command works on, and the
+-- What an outcome of each command says, in the words of a textbook: its records give it, and
+-- if a task succeeds it is not refused. The files say what the command works on, and the
 -- outcome computes to the record of its task.
 use Rattle.std.proofs.Common.{◌≡◌, ◌∙◌, ◌↔◌, ℕ, List, [], ◌∷◌, Option, Some, None, option_map, refl, sym, ap, subst, inl, inr}
 use Rattle.std.specs.Prelude.{codes}
@@ -136,7 +136,7 @@ told-picked files graph picks list named status output held listed cov gives =
     (of_held (task.DecomposeBy named) (pick_file files picks) list status output listed
     (subst (λ (h : Loaded NamedGraph). LoadedGives (and_then h (λ named. loaded_as (task.DecomposeBy named) (pick_file files picks))) status output) held gives))
 
--- `compare` and `script`: where both trees are derivations neither is refused
+-- `compare` and `script`: if both trees are derivations neither is refused
 abbrev compare_task : NamedGraph × (Shape × Shape) → Task
 compare_task given = task.Compare given.0 given.1.0 given.1.1
 

@@ -83,7 +83,7 @@ below-kept ks ms a i = in-left (Kept ∷ a) (behind Kept ks) (behind Merged ms) 
 below-merged : (ks ms : List (List Side)) (a : List Side) → IsIn a ms → IsIn (Merged ∷ a) (below ks ms)
 below-merged ks ms a i = in-right (Merged ∷ a) (behind Kept ks) (behind Merged ms) (in-behind Merged ms a i)
 
--- the paths to the nodes of a cut of which P holds, where the root is none of them, and where it
+-- the paths to the nodes of a cut of which P holds, if the root is none of them, and if it
 -- is one
 lists-below : (P : List Side → Type 0) (ks ms : List (List Side)) → (P [] → ⊥) → ListsPaths ks (λ a. P (Kept ∷ a)) → ListsPaths ms (λ a. P (Merged ∷ a)) → ListsPaths (below ks ms) P
 lists-below P ks ms none k m = record {

@@ -41,7 +41,7 @@ end_is g u v e w h i = elim (has_ends-cases g u v e h) [
   ]
 ]
 
--- an edge of which one end is in z is in its cut where the other is not
+-- an edge of which one end is in z is in its cut if the other is not
 cut_from_ends : (g : Graph) (z : Set) (u v e : ℕ) → has_ends g u v e ≡ true → z u ≡ true → z v ≡ false → in_cut g z e ≡ true
 cut_from_ends g z u v e h zu zv = elim (has_ends-cases g u v e h) [
   | inl p ↦ rw (p.0, p.1, zu, zv) refl

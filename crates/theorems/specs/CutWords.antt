@@ -1,5 +1,5 @@
 -- Bricks and braces (Lovász 1987; Lucchesi and Murty, "Perfect Matchings"), and the pairs of
--- vertices that tight sets part.
+-- vertices that tight sets separate.
 use Rattle.std.specs.Prelude.{◌≢◌, ℕ, List, ◌⊎◌}
 use Rattle.counting.specs.Counts.{Within}
 use Rattle.counting.specs.Lists.{ComesBefore}

@@ -1,4 +1,4 @@
--- What the outputs of the program tell, in the words of a textbook: the Gallai-Edmonds sets, a
+-- What the outputs of the program say, in the words of a textbook: the Gallai-Edmonds sets, a
 -- tight cut decomposition, a pairing of the leaves of two decompositions, the kind of a graph, an
 -- ear decomposition, a script of moves.
 use Rattle.std.specs.Prelude.{◌≡◌, ◌↔◌, ℕ, List, All, Some, false, length}
@@ -33,7 +33,7 @@ use Rattle.bench_outcomes.specs.Outcome.{with_given_names}
 use Rattle.theorems.specs.CutWords.{EndsInBrickOrBrace}
 use Rattle.theorems.specs.TightCuts.{IsTightCutTreeAt, PairsLeaves}
 
--- the output of `analyse` tells the sets D, A and C: the vertices that some maximum matching
+-- the output of `analyse` lists the sets D, A and C: the vertices that some maximum matching
 -- misses, their other neighbours, the rest
 pub record TellsSets (named : NamedGraph) (output : List ℕ) : Type 0 where
   pub lines : AnalysisLines
@@ -42,7 +42,7 @@ pub record TellsSets (named : NamedGraph) (output : List ℕ) : Type 0 where
   pub c : Lists named.graph.order lines.c (InC named.graph)
   pub text : output ≡ with_given_names (analysis_text lines) named.names false
 
--- the output of `decompose` tells a tree of nontrivial tight cuts from single vertices on, and at
+-- the output of `decompose` gives a tree of nontrivial tight cuts from single vertices on, and at
 -- its ends are bricks and braces
 pub record TellsDecomposition (g : Graph) (output : List ℕ) : Type 0 where
   pub tree : Shape
@@ -50,7 +50,7 @@ pub record TellsDecomposition (g : Graph) (output : List ℕ) : Type 0 where
   pub ends : All (EndsInBrickOrBrace g) (leaves g.order tree)
   pub stands : Stands (tree_format g.order) output tree
 
--- the output of `compare` tells a one-to-one pairing of the leaves of two derivations, with
+-- the output of `compare` gives a one-to-one pairing of the leaves of two derivations, with
 -- bijections that preserve adjacency, and moves that turn the first derivation through
 -- derivations into the second
 pub record TellsPairing (g : Graph) (s t : Shape) (output : List ℕ) : Type 0 where
@@ -60,7 +60,7 @@ pub record TellsPairing (g : Graph) (s t : Shape) (output : List ℕ) : Type 0 w
   pub turns : TurnsThrough g s moves t
   pub text : output ≡ pairing_text moves (lines_of 0 (leaves g.order s) maps)
 
--- the output of `analyse` tells the kind of a matching covered graph: a brace is bipartite and a
+-- the output of `analyse` says the kind of a matching covered graph: a brace is bipartite and a
 -- brick is not, and neither has a nontrivial tight cut; a brick is a graph that is not bipartite,
 -- is bicritical and has no cut pair (Edmonds, Lovász and Pulleyblank); a composite graph is shown
 -- by the shore of a nontrivial tight cut
@@ -81,7 +81,7 @@ pub record TellsEars (g : Graph) (output : List ℕ) : Type 0 where
   pub single : IsBipartite g → AllByRecursion IsSingle list.steps
   pub stands : Stands (ear_format g.order (size g)) output list
 
--- the output of `script` tells moves that turn the first derivation through derivations into the
+-- the output of `script` gives moves that turn the first derivation through derivations into the
 -- second
 pub record TellsScript (g : Graph) (s t : Shape) (output : List ℕ) : Type 0 where
   pub moves : List PlainMove

@@ -1,4 +1,4 @@
-//! Where does a nontrivial tight cut come from, and which graphs are bricks?
+//! Bricks: where a nontrivial tight cut comes from, and which graphs are bricks.
 //!
 //! Source: Edmonds, Lovász and Pulleyblank, "Brick decompositions and the matching rank of
 //! graphs" (Combinatorica 2, 1982).

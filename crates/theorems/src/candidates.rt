@@ -1,5 +1,5 @@
-//! What does the third part of the candidates list? Each law is the contract of a function that
-//! does nothing.
+//! The third part of the list of candidates. Each law is the contract of a function that does
+//! nothing.
 ghost use Rattle.std.specs.Prelude.{◌≡◌, ℕ, true, Some, None, ◌↔◌};
 ghost use Rattle.counting.specs.Counts.{Within};
 ghost use Rattle.counting.specs.Sets.{Set};
@@ -8,9 +8,9 @@ ghost use Rattle.tight_cuts.specs.Candidates.{common_shore, first_parted, greate
 ghost use Rattle.tight_cuts.specs.Pieces.{PartsTightly};
 ghost use Rattle.theorems.specs.CutWords.{IsFirstParted, IsParted};
 
-/// The tests of the third part. A set parts two vertices x and y beside an edge from a to b
-/// exactly when it is a tight set with a and x and with neither b nor y. The pair is parted
-/// exactly when both vertices differ from a and b and some tight set parts it so, and the shore
+/// The tests of the third part. A set separates two vertices x and y beside an edge from a to b
+/// exactly when it is a tight set with a and x and with neither b nor y. The pair is separated
+/// exactly when both vertices differ from a and b and some tight set separates it so, and the shore
 /// that is listed for it holds a vertex exactly when all these tight sets do.
 pub fn third_part_law()
     ensures parts { (g : Graph) (a b : ℕ) (k : ℕ × ℕ) (z : Set) →
@@ -24,8 +24,8 @@ pub fn third_part_law()
 {}
 
 /// The pair that the third part takes at an edge is the first, in lexicographic order, that some
-/// tight set with the lesser end of the edge and without the greater one parts; it takes none
-/// exactly when no pair is parted.
+/// tight set with the lesser end of the edge and without the greater one separates; it takes none
+/// exactly when no pair is separated.
 pub fn first_parted_law()
     ensures first { (g : Graph) (e : ℕ) (k : ℕ × ℕ) → IsGraph g → Within (size g) e →
         ((first_parted g e ≡ Some k) ↔ IsFirstParted g (lesser_end g e) (greater_end g e) k) }

@@ -1,5 +1,5 @@
-//! Where does a tight cut decomposition end? Each law here is the contract of a function that
-//! does nothing.
+//! Tight cut decompositions end in bricks and braces. Each law here is the contract of a function
+//! that does nothing.
 ghost use Rattle.std.specs.Prelude.{ℕ, List, ◌↔◌, All};
 ghost use Rattle.graph_core.specs.Graph.{Graph, IsGraph};
 ghost use Rattle.graph_core.specs.Partitions.{AreBlocks};
@@ -18,7 +18,7 @@ pub fn leaf_law()
 
 /// A tight cut decomposition ends in bricks and braces (Lovász 1987): each shore of a derivation
 /// is a nontrivial tight shore of the graph itself, and the quotient at each leaf is a brace or a
-/// brick, that is a matching covered graph without nontrivial tight cut, bipartite or not.
+/// brick, that is, a matching covered graph without nontrivial tight cut, bipartite or not.
 pub fn bricks_and_braces_law()
     ensures cuts { (g : Graph) (t : Shape) → IsGraph g → IsDerivation g t →
         All (IsTightShore g) (shores t) }

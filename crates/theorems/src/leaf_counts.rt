@@ -12,7 +12,7 @@ pub fn counts_law()
     ensures { (g : Graph) (s t : Tally) → IsGraph g → IsCounted g s → IsCounted g t → s ≡ t }
 {}
 
-/// A graph that lacks a property has it not: of a number of bricks or braces too, which is then
+/// A graph that lacks a property does not have it, not even a number of bricks or braces, which is
 /// that of each derivation.
 pub fn selection_law()
     ensures { (g : Graph) (property : Property) → IsGraph g → LacksProperty g property →

@@ -1,4 +1,4 @@
-//! Outcomes: what the program tells is what a textbook says.
+//! Outcomes: what the program reports is what a textbook says.
 //!
 //! Each law here is the contract of a function that does nothing.
 ghost use Rattle.std.specs.Prelude.{◌≡◌, ◌⊎◌, ℕ, List, [], ◌∷◌, Some, codes};
@@ -21,11 +21,11 @@ ghost use Rattle.bench_outcomes.specs.declared.status.Status.{Status};
 ghost use Rattle.bench_outcomes.specs.declared.status.Status.TheVariants.{Done};
 ghost use Rattle.theorems.specs.Outcomes.{IsGiven, TellsDecomposition, TellsEars, TellsKind, TellsPairing, TellsScript, TellsSets};
 
-/// For every graph file, `analyse` tells the Gallai-Edmonds sets D, A and C. For every matching
-/// covered graph and every order of choice, `decompose` tells a tree of nontrivial tight cuts
-/// that ends in bricks and braces. For every two such trees of one graph, `compare` tells a
+/// For every graph file, `analyse` lists the Gallai-Edmonds sets D, A and C. For every matching
+/// covered graph and every order of choice, `decompose` gives a tree of nontrivial tight cuts
+/// that ends in bricks and braces. For every two such trees of one graph, `compare` gives a
 /// one-to-one pairing of their leaves with bijections that preserve adjacency, and moves that
-/// turn the one tree into the other, and `script` tells such moves as a file. For every matching
+/// turn the one tree into the other, and `script` gives such moves as a file. For every matching
 /// covered graph, `analyse` calls it a brick if and only if it is not bipartite, is bicritical
 /// and has no cut pair, and `ears` tells an ear decomposition, of single ears where the graph is
 /// bipartite. Gallai 1964; Edmonds 1965; Lovász 1987; Edmonds, Lovász and Pulleyblank 1982;
@@ -77,7 +77,7 @@ pub fn headline_law()
 /// `checkears`; for every two trees of cuts one of `compare` and one of `script`; and for every
 /// seed and number of pieces one of `grow`. So the clauses on what is reported speak of something,
 /// whatever memory does. A tree is one that a file can hold, with shores that are sets without the
-/// greatest vertex, and where the text of a report is to be read again, a graph is one that a file
+/// greatest vertex, and if the text of a report is to be read again, a graph is one that a file
 /// can hold. So each command whose files load has a report, and each command has an outcome or
 /// names a file that is missing.
 pub fn report_exists_law()

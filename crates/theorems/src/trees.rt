@@ -1,5 +1,5 @@
-//! What are the nodes, the leaves and the cuts of a tree? The law is the contract of a function
-//! that does nothing.
+//! The nodes, the leaves and the cuts of a tree. The law is the contract of a function that does
+//! nothing.
 ghost use Rattle.std.specs.Prelude.{◌≡◌, ℕ, List, length};
 ghost use Rattle.std.specs.List.{AllZip};
 ghost use Rattle.graph_core.specs.Partitions.{singles};

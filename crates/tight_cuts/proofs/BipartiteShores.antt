@@ -1,6 +1,6 @@
 -- What an edge of a bipartite graph gives, by the digraph of a perfect matching that holds it.
 -- Idea: the least tight shore with an end of the edge and x, and without the other end, is the
--- intersection of all; and a pair is parted by a nontrivial one alone.
+-- intersection of all; and a pair is separated by a nontrivial one alone.
 use Rattle.std.proofs.Common.{IfOk, Result, Ok, Err, ◌≡◌, ℕ, true, ◌==◌, sym, ap, ◌∙◌, List, Some, None, eq-eqb}
 use Rattle.counting.proofs.Booleans.{same_tests}
 use Rattle.std.proofs.lemmas.Bool.{both_ways, false_from_ne_true, or_left, or_right}
@@ -52,7 +52,7 @@ module _ (g : Graph) (lim : IsWithinLimits g) (cov : IsCovered g) (e : ℕ) (we 
       parts : PartsTightly g (lesser_end g e) (greater_end g e) (x, greater_end g e) (mem z)
       parts = record { tight = least.tight; has_a = least.has_a; has_x = least.has_r; lacks_b = least.lacks_b; lacks_y = least.lacks_b }
 
-  -- where no nontrivial tight shore has the lesser end and not the greater, no pair is parted
+  -- if no nontrivial tight shore has the lesser end and not the greater, no pair is separated
   pub unparted_none : NoneParts g a b → first_parted g e ≡ None
   unparted_none clear = no_first g.order (is_parted g a b) (λ x y wx wy. false_from_ne_true (is_parted g a b (x, y)) (λ t.
       let p = parted_says g a b (x, y) t in
@@ -64,7 +64,7 @@ module _ (g : Graph) (lim : IsWithinLimits g) (cov : IsCovered g) (e : ℕ) (we 
       (λ i. both_ways (pair_set a b y) p.1 (or_right (a == y) (b == y) (eq-eqb b y i))) q)
       q.has_a q.lacks_b))
 
--- an answer of nothing is right where no pair is parted
+-- an answer of nothing is right if no pair is separated
 pub nothing_at : (g : Graph) (e : ℕ) → first_parted g e ≡ None → IsShoreOfEdge g e None
 nothing_at g e h = record { some = λ s q. absurd cc; none = λ q. h }
 

@@ -1,4 +1,4 @@
--- The candidates: none twice, each tight where the shores of the first two parts are, and each
+-- The candidates: none twice, each tight if the shores of the first two parts are, and each
 -- edge of a nontrivial tight cut in a candidate's cut.
 use Rattle.std.proofs.Common.{◌≡◌, ℕ, true, refl, sym, ap, ◌∙◌, arith, List, [], ◌∷◌, ◌↔◌, subst}
 use Rattle.std.proofs.lemmas.Bool.{true≢false, not-true}

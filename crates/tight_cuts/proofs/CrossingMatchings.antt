@@ -1,5 +1,5 @@
 -- What the search for two edges of a cut in one perfect matching shows: the matching that it
--- finds is no witness of tightness, and where it finds none, no two edges of the cut lie
+-- finds is not a witness of tightness, and if it finds none, no two edges of the cut lie
 -- together, which makes an odd cut tight.
 use Rattle.std.proofs.Common.{◌≡◌, ℕ, ◌<◌, List, length, true, false, ap, ◌∙◌, arith, inl, inr}
 use Rattle.std.proofs.lemmas.Bool.{cases_order}
@@ -31,7 +31,7 @@ crosses_by_two g x m e f we wf l of perfect me mf ce cf = record {
 pub crossed_not_tight : (g : Graph) (x : Set) (m : MatchingValue) → CrossesTwice g x m → IsTight g x → ⊥
 crossed_not_tight g x m crosses tight = let a = tight.cut (mem (edges_of m)) crosses.perfect in let b = crosses.twice in absurd (omega arith)
 
--- where no edge of the cut lies together with a later one, the cut is tight
+-- if no edge of the cut lies together with a later one, the cut is tight
 pub uncrossed_tight : (g : Graph) (shore : List ℕ) → IsGraph g → IsCovered g → IsRisingIn g.order shore → is_odd (length shore) ≡ true →
     ((e : ℕ) → Within (size g) e → in_cut g (mem shore) e ≡ true → NoLaterWith g (mem shore) e) → IsTight g (mem shore)
 uncrossed_tight g shore is covered rises odd alone = alone_tight g (mem shore) is inside (complement_odd g.order (mem shore) even inside) (λ e f we wf d ce cf together. elim (cases_order e f) [

@@ -1,4 +1,4 @@
--- The loop over the edges. Idea: what an edge gives is tight, and where some nontrivial tight set
+-- The loop over the edges. Idea: what an edge gives is tight, and if some nontrivial tight set
 -- has the edge in its cut, so has a candidate then.
 use Rattle.std.proofs.Common.{◌≡◌, ℕ, suc, zero, ◌≤◌, Bool, true, false, cond, ◌==◌, refl, sym, ap, ap₂, ◌∙◌, arith, ◌&&◌, ◌||◌, not, inl, inr, ◌⊎◌, List, [], ◌∷◌, subst, map, flat_map, Option, Some, None, eq-eqb, ne_eqb, eqb-true, min, max}
 use Rattle.std.proofs.lemmas.Bool.{cases_eq, cases_lt, cases_Bool, and_parts, and_from, or_from, or_left, or_right, true≢false, both_ways, not-true}
@@ -107,7 +107,7 @@ module _ (g : Graph) (is : IsGraph g) (cov : IsCovered g) (e : ℕ) (we : Within
   high_within : Within g.order (greater_end g e)
   high_within = let w = is e we in let a = w.0 in let b = w.1 in elim (cases_lt (first_end g e) (second_end g e)) [ inl l ↦ omega arith | inr l ↦ omega arith ]
 
-  -- what a parted pair gives
+  -- what a separated pair gives
   pub shore_parts : (k : ℕ × ℕ) → Within g.order k.0 → Within g.order k.1 → is_parted g (lesser_end g e) (greater_end g e) k ≡ true → PartsTightly g (lesser_end g e) (greater_end g e) k (common_shore g (lesser_end g e) (greater_end g e) k)
   shore_parts k wx wy h =
       let q = parted_says g (lesser_end g e) (greater_end g e) k h in

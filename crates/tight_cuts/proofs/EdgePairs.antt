@@ -1,5 +1,5 @@
--- The search over pairs in lexicographic order finds the first pair that is parted. Idea: a pair
--- of which a vertex does not lead its piece is parted only if the earlier pair of the leaders is.
+-- The search over pairs in lexicographic order finds the first pair that is separated. Idea: a pair
+-- of which a vertex does not lead its piece is separated only if the earlier one of the leaders is.
 use Rattle.std.proofs.Common.{◌≡◌, ℕ, ◌+◌, ◌<◌, Bool, true, false, ◌==◌, refl, sym, ap, ap₂, ◌∙◌, arith, not, ◌&&◌, inl, inr, ◌⊎◌, List, Option, Some, None, subst, eq-eqb, eqb-true}
 use Rattle.std.proofs.lemmas.Bool.{and_parts, cases_eq, cases_lt, not-true, true≢false, both_ways, false_from_ne_true}
 use Rattle.counting.specs.Counts.{Within}
@@ -27,15 +27,15 @@ module _ (g : Graph) (lim : IsWithinLimits g) (cov : IsCovered g) (e : ℕ) (we 
       let l = first_leads g ld.beside lim.multigraph.ends (lesser_end g e) (greater_end g e) e (lesser_within g lim cov e we) (greater_within g lim cov e we) we (ends_between g e) ld.is k q in
       (f.0, least_leads g lim cov e we leaders ld k.0 f.1 p.0 l.0, least_leads g lim cov e we leaders ld k.1 f.2 p.1 l.1)
 
-  -- where no pair of different leaders is parted from a pair on, none is
+  -- if no pair of different leaders is separated from a pair on, none is
   abbrev pub LeadersBefore : ℕ → ℕ → Type 0
   LeadersBefore x y = (c d : ℕ) → Leads g e leaders c → Leads g e leaders d → (c < x) ⊎ ((c ≡ x) × (d < y)) → parted (c, d) ≡ false
 
-  -- a pair is parted only between different vertices
+  -- a pair is separated only between different vertices
   unequal : (x : ℕ) → parted (x, x) ≡ false
   unequal x = false_from_ne_true (parted (x, x)) (λ t. let p = parted_says g (lesser_end g e) (greater_end g e) (x, x) t in true≢false (sym p.2.1.has_x ∙ p.2.1.lacks_y))
 
-  -- no leaders' pair before (x, y) is parted: then no pair before it is
+  -- no leaders' pair before (x, y) is separated: then no pair before it is
   pub none_before : (x y : ℕ) → LeadersBefore x y → NoneBefore g e x y
   none_before x y h c d wc wd b = go (first_parted g e) refl
     where
@@ -54,7 +54,7 @@ module _ (g : Graph) (lim : IsWithinLimits g) (cov : IsCovered g) (e : ℕ) (we 
             ]
           ]
 
-  -- the pair that is parted with none before it is the first
+  -- the pair that is separated with none before it is the first
   pub first_is : (x y : ℕ) → Within g.order x → Within g.order y → NoneBefore g e x y → parted (x, y) ≡ true → first_parted g e ≡ Some (x, y)
   first_is x y wx wy h t = go (first_parted g e) refl
     where

@@ -1,6 +1,6 @@
 -- What the pairs with one first vertex x give, by one set: the intersection of all tight sets
 -- that have x and an end of the edge, not the other. Idea: that intersection is one of these
--- sets, so a pair (x, y) is parted exactly when it lacks y, and then it is the common shore.
+-- sets, so a pair (x, y) is separated exactly when it lacks y, and then it is the common shore.
 use Rattle.std.proofs.Common.{◌≡◌, ◌≢◌, ℕ, ◌+◌, true, false, ◌==◌, refl, sym, ap, ◌∙◌, arith, inl, inr, List, Option, Some, None, eq-eqb, ne_eqb}
 use Rattle.counting.proofs.Booleans.{same_tests}
 use Rattle.std.proofs.lemmas.Bool.{cases_lt, true≢false, both_ways, false_from_ne_true, or_from, or_right}
@@ -18,11 +18,11 @@ use Rattle.tight_cuts.specs.Candidates.{common_shore, first_parted, greater_end,
 use Rattle.tight_cuts.specs.EdgeSearch.{IsCommonShore, IsShoreOfEdge, NoneBefore}
 use Rattle.tight_cuts.specs.Pieces.{PartsTightly}
 
--- a set that parts x from y parts x from b alone
+-- a set that separates x from y separates x from b alone
 narrower : (g : Graph) (a b x y : ℕ) (z : Set) → PartsTightly g a b (x, y) z → PartsTightly g a b (x, b) z
 narrower g a b x y z p = record { tight = p.tight; has_a = p.has_a; has_x = p.has_x; lacks_b = p.lacks_b; lacks_y = p.lacks_b }
 
--- and one that has x and not b parts x from each vertex that it lacks
+-- and one that has x and not b separates x from each vertex that it lacks
 wider : (g : Graph) (a b x y : ℕ) (z : Set) → PartsTightly g a b (x, b) z → z y ≡ false → PartsTightly g a b (x, y) z
 wider g a b x y z p l = record { tight = p.tight; has_a = p.has_a; has_x = p.has_x; lacks_b = p.lacks_b; lacks_y = l }
 
@@ -52,25 +52,25 @@ module _ (g : Graph) (lim : IsWithinLimits g) (cov : IsCovered g) (e : ℕ) (we 
   shore_in : (z : Set) → PartsTightly g a b (x, b) z → (v : ℕ) → Within g.order v → shore v ≡ true → z v ≡ true
   shore_in z p v w t = common_in g is a b (x, b) wa wb wx wb v w t z p
 
-  -- it lacks the second vertex of each parted pair
+  -- it lacks the second vertex of each separated pair
   shore_lacks : (y : ℕ) → Within g.order y → is_parted g a b (x, y) ≡ true → shore y ≡ false
   shore_lacks y wy t =
       let p = parted_says g a b (x, y) t in
       false_from_ne_true (shore y) (λ s. true≢false (sym (shore_in p.2.0 (narrower g a b x y p.2.0 p.2.1) y wy s) ∙ p.2.1.lacks_y))
 
-  -- where it lacks y it is the common shore of x and y
+  -- if it lacks y it is the common shore of x and y
   shore_common : (y : ℕ) → Within g.order y → PartsTightly g a b (x, b) shore → shore y ≡ false → (v : ℕ) → Within g.order v → shore v ≡ common_shore g a b (x, y) v
   shore_common y wy p l v w = same_tests (shore v) (common_shore g a b (x, y) v)
       (λ t. common_from g is a b (x, y) wa wb wx wy v (λ z q. shore_in z (narrower g a b x y z q) v w t))
       (λ t. common_in g is a b (x, y) wa wb wx wy v w t shore (wider g a b x y shore p l))
 
-  -- it parts x from each vertex that it lacks, but b
+  -- it separates x from each vertex that it lacks, but b
   shore_parted : (y : ℕ) → Within g.order y → PartsTightly g a b (x, b) shore → pair_set a b x ≡ false → y ≢ b → shore y ≡ false → is_parted g a b (x, y) ≡ true
   shore_parted y wy p ox yb l = parted_found g a b (x, y) shore is wa wb wx wy ox
       (or_from (a == y) (b == y) (ne_eqb a y (λ q. both_ways (shore a) (ap shore q ∙ l) p.has_a)) (ne_eqb b y (λ q. yb (sym q))))
       (wider g a b x y shore p l)
 
-  -- the first pair has x for its first vertex, where no earlier vertex has a pair and x has one
+  -- the first pair has x for its first vertex, if no earlier vertex has a pair and x has one
   first_at : (y : ℕ) → Within g.order y → NoneBefore g e x 1 → is_parted g a b (x, y) ≡ true → (d : ℕ) × Within g.order d × (first_parted g e ≡ Some (x, d)) × (is_parted g a b (x, d) ≡ true)
   first_at y wy h t = go (first_parted g e) refl
     where
@@ -99,7 +99,7 @@ module _ (g : Graph) (lim : IsWithinLimits g) (cov : IsCovered g) (e : ℕ) (we 
           none = λ r. absurd cc;
         }
 
-    -- without such a shore no pair with x is parted
+    -- without such a shore no pair with x is separated
     pub piece_none : answer ≡ None → (y : ℕ) → is_parted g a b (x, y) ≡ false
     piece_none q y = false_from_ne_true (is_parted g a b (x, y)) (λ t. let p = parted_says g a b (x, y) t in common.none q p.2.0 (narrower g a b x y p.2.0 p.2.1))
 

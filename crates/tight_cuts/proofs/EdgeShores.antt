@@ -135,7 +135,7 @@ module _ (g : Graph) (lim : IsWithinLimits g) (cov : IsCovered g) (e : ℕ) (we 
               λ v w. ap (mem set) (row_same v w) ∙ least_common g ld.beside is (lesser_end g e) (greater_end g e) e lesser_within greater_within we (ends_between g e) ld.is allowed wt.list wt.pairs (x, y) lx.within y_within g.order groups grouping set value cut m v w,
             )
 
-        -- where no cut is within the bound no tight set parts the groups
+        -- if no cut is within the bound no tight set separates the groups
         pub no_cut_parts : (HasCutWithin (group_net g weights leaders (lesser_end g e) (greater_end g e) x y) (lesser_end g e) (greater_end g e) bound → ⊥) → (z : Set) → PartsTightly g (lesser_end g e) (greater_end g e) (x, y) z → ⊥
         no_cut_parts h z p =
             let n = parts_nodes g ld.beside is (lesser_end g e) (greater_end g e) e lesser_within greater_within we (ends_between g e) ld.is allowed wt.list wt.pairs (x, y) lx.within y_within g.order groups grouping z p in

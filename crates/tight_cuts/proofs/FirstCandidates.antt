@@ -67,7 +67,7 @@ pub edges-known : (g : Graph) (list : List Candidate) (k : ℕ) → ((e : ℕ) �
 edges-known g list zero h = refl
 edges-known g list (suc k) h = edge-known g list (suc k) (h (suc k) (omega arith, omega arith)) ∙ ap (λ l. with_edge_cut g l (suc k)) (edges-known g list k (λ e w. h e (omega arith))) ∙ sym (after_suc g list k)
 
--- where some edges have given nothing and no edge is left, there is no candidate
+-- if some edges have given nothing and no edge is left, there is no candidate
 pub first-none : (g : Graph) (list : List Candidate) (k : ℕ) → k ≡ size g → list ≡ after_edges g (front_candidates g) k → list ≡ [] → None ≡ first_of (candidates g)
 first-none g list k q h z = ap first_of (sym z ∙ edges-all g list k q h)
 
@@ -76,14 +76,14 @@ pub first-one : (g : Graph) (P : Candidate → Type 0) (list : List Candidate) �
 first-one g P [] a c h = absurd cc
 first-one g P (d ∷ list) a c h = let q : d ≡ c = cc in subst P q (All-head P d list a)
 
--- there is no first candidate exactly when there is none
+-- no first candidate is answered exactly when there is no candidate
 pub first-empty : (list : List Candidate) (found : Option StoredCandidate) (Q : Type 0) → ((list ≡ []) ↔ Q) → option_map candidate_of found ≡ first_of list → (found ≡ None) ↔ Q
 first-empty [] None Q h q = (λ e. h.0 refl, λ e. refl)
 first-empty [] (Some c) Q h q = absurd cc
 first-empty (d ∷ list) None Q h q = absurd cc
 first-empty (d ∷ list) (Some c) Q h q = (λ e. absurd cc, λ e. absurd (let r = h.1 e in cc))
 
--- the first of the candidates led back
+-- the first of the candidates taken to vertices of the graph
 pub first-lifted : (f : Candidate → Candidate) (list : List Candidate) (o : Option Candidate) → o ≡ first_of list → option_map f o ≡ first_of (map f list)
 first-lifted f [] o q = ap (option_map f) q
 first-lifted f (c ∷ list) o q = ap (option_map f) q

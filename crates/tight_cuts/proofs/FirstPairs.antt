@@ -1,5 +1,5 @@
 -- The first pair consists of least vertices of pieces.
--- Idea: a pair is parted by its pieces alone, so an earlier pair would be found.
+-- Idea: a pair is separated by its pieces alone, so an earlier pair would be found.
 use Rattle.std.proofs.Common.{◌≡◌, ℕ, suc, zero, ◌<◌, Bool, true, false, cond, refl, sym, ap, ◌∙◌, arith, ◌&&◌, not, inl, inr, ◌⊎◌, List, [], ◌∷◌, ◌++◌, map, flat_map, Option, Some, None, nat_lt}
 use Rattle.std.proofs.lemmas.Bool.{cases_eq, cases_Bool, and_parts, and_from, both_ways, ltb-true, false_from_ne_true}
 use Rattle.std.proofs.lemmas.Grind.{flat_map-append}
@@ -83,7 +83,7 @@ before_first n p k h x y wx wy l =
       | inr t ↦ t
     ]
 
--- where each pair fails, none is found
+-- if each pair fails, none is found
 pub no_first : (n : ℕ) (p : ℕ × ℕ → Bool) → ((x y : ℕ) → Within n x → Within n y → p (x, y) ≡ false) → find p (ordered_pairs n) ≡ None
 no_first n p h = go (find p (ordered_pairs n)) refl
   where
@@ -92,7 +92,7 @@ no_first n p h = go (find p (ordered_pairs n)) refl
     go (Some k) q = let f = first_pair n p k q in absurd (both_ways (p k) (h k.0 k.1 f.1 f.2) f.0)
 
 module _ (g h : Graph) (is : IsGraph g) (a b e : ℕ) (wa : Within g.order a) (wb : Within g.order b) (we : Within (size g) e) (ends : has_ends g a b e ≡ true) (beside : IsBeside g e h) where
-  -- a pair is parted by its pieces alone
+  -- a pair is separated by its pieces alone
   pub parts_moves : (k j : ℕ × ℕ) (z : Set) → joined h (pair_set a b) k.0 j.0 ≡ true → joined h (pair_set a b) k.1 j.1 ≡ true → PartsTightly g a b k z → PartsTightly g a b j z
   parts_moves k j z p q s = let c = cut_between g z a b e ends s.has_a s.lacks_b in record {
     tight = s.tight;

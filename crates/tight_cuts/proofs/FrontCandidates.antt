@@ -36,7 +36,7 @@ no-separations g h = choose (is_bicritical g && nat_le 4 g.order) _ h
     choose true xs e = absurd (true≢false e)
     choose false xs e = refl
 
--- where no separation shore is there, the first candidates are the barrier cuts
+-- if no separation shore is there, the first candidates are the barrier cuts
 pub front-barriers : (g : Graph) → (is_bicritical g && nat_le 4 g.order) ≡ false → map (candidate_at g.order Barrier) (barrier_cuts g) ≡ front_candidates g
 unfolding front_candidates barrier_cuts
 front-barriers g h =

@@ -1,6 +1,6 @@
 -- By leaders the pieces of an edge become groups: one end with the piece of x, the other with the
 -- piece of y or alone, and each other piece. Idea: an end leads itself and no leader of a piece
--- is an end, so a group's name tells which vertices are in it.
+-- is an end, so a group's name says which vertices are in it.
 use Rattle.std.proofs.Common.{◌≡◌, ℕ, ◌≢◌, Bool, true, false, cond, ◌==◌, refl, sym, ap, ◌∙◌, arith, ◌&&◌, not, inl, inr, ◌⊎◌, [], ◌∷◌, subst, eq-eqb, ne_eqb, eqb-true}
 use Rattle.std.proofs.lemmas.Bool.{cases_Bool, cases_eq, or_cases, or_left, or_right, both_ways}
 use Rattle.counting.specs.Counts.{Within}

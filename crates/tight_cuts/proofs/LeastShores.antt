@@ -1,4 +1,4 @@
--- The intersection of all tight sets that part two pairs is one of them.
+-- The intersection of all tight sets that separate two pairs is one of them.
 -- Idea: the meet of two of them is odd by one matching with the edge, so a least one lies in each.
 use Rattle.std.proofs.Common.{◌≡◌, ℕ, suc, zero, ◌≤◌, ◌≢◌, Bool, true, false, refl, sym, ap, ap₂, ◌∙◌, arith, ◌&&◌, ◌||◌, not, inl, inr, nat_lt, lt-ltb}
 use Rattle.counting.proofs.Booleans.{same_tests}
@@ -73,7 +73,7 @@ module _ (g : Graph) (is : IsGraph g) (a b : ℕ) (k : ℕ × ℕ) (wa : Within 
         )
       ]
 
-  -- v is in the common shore where it is in each
+  -- v is in the common shore if it is in each
   pub common_in : (v : ℕ) → Within g.order v → common_shore g a b k v ≡ true → (z : Set) → PartsTightly g a b k z → z v ≡ true
   common_in v w h z p = implied (parts_tightly g a b k z) (z v) (each_passes g.order (λ z. not (parts_tightly g a b k z) || z v) (record { same = λ s t e. ap₂ (λ c d. not c || d) (parts_same s t e) (e v w) }) h z) (parts_found g a b k z p)
     where
@@ -131,7 +131,7 @@ module _ (g : Graph) (is : IsGraph g) (a b : ℕ) (k : ℕ × ℕ) (wa : Within 
         let l = least_parts (count g.order z) z p (omega arith) in
         (l.0, l.1, λ v u. same_tests (common_shore g a b k v) (l.0 v) (λ t. common_in v u t l.0 l.1) (λ t. common_from v (λ s q. least_in l.0 l.1 l.2 s q v u t)))
 
-    -- the common shore is tight and parts the pairs
+    -- the common shore is tight and separates the pairs
     pub common_parts : (z : Set) → PartsTightly g a b k z → PartsTightly g a b k (common_shore g a b k)
     common_parts z p = let l = common_least z p in parts_congr l.0 (common_shore g a b k) (λ v u. sym (l.2 v u)) l.1
 
@@ -142,7 +142,7 @@ parts_nontrivial g a b k z wa wb wx wy dx dy p = record {
   outside = odd_three (count g.order (complement z)) p.tight.odd_complement (two_members g.order (complement z) b k.1 wb wy dy (ap not p.lacks_b) (ap not p.lacks_y));
 }
 
--- a pair that is parted, and a set that parts it
+-- a pair that is separated, and a set that separates it
 pub parted_says : (g : Graph) (a b : ℕ) (k : ℕ × ℕ) → is_parted g a b k ≡ true → (pair_set a b k.0 ≡ false) × (pair_set a b k.1 ≡ false) × ((z : Set) × PartsTightly g a b k z)
 parted_says g a b k h =
     let p = and_parts (not (pair_set a b k.0 || pair_set a b k.1)) (some_set g.order (parts_tightly g a b k)) h in

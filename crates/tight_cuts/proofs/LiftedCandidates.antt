@@ -1,6 +1,6 @@
--- The candidates of a quotient led back to the graph. A union of blocks holds a vertex exactly
--- when its set of places holds the vertex's place, so blocks in it are those of the set, and it
--- is tight at the partition where the set is tight in the quotient.
+-- The candidates of a quotient as candidates of the graph. A union of blocks holds a vertex exactly
+-- when its set of places holds the vertex's place, so blocks in it are those of the set, and it is
+-- tight at the partition if the set is tight in the quotient.
 use Rattle.std.proofs.Common.{◌≡◌, ℕ, ◌≤◌, Bool, true, false, not, ◌&&◌, List, [], ◌∷◌, map, length, refl, sym, ap, ◌∙◌, arith, subst, ◌↔◌, All, get_or, zero, suc, ◌<◌, inl, inr, eq-eqb, ne_eqb, ◌≢◌, if◌then◌else◌}
 use Rattle.std.proofs.lemmas.Bool.{and_parts, and_from, both_ways, cases_Bool}
 use Rattle.counting.proofs.Counts.{count_congr, count_le}
@@ -48,7 +48,7 @@ module _ (g : Graph) (p : List (List ℕ)) (is : IsGraph g) (pp : IsPartition g.
   unfolding quotient
   order_q = refl
 
-  -- the union of the blocks at the places in x holds v where x holds the place of v
+  -- the union of the blocks at the places in x holds v if x holds the place of v
   union-holds : (x : Set) (v : ℕ) → Within g.order v → mem (union_of_blocks g p x) v ≡ x (place p v)
   union-holds x v w = mem-rising_list g.order (λ v. some (length p) (λ i. x i && mem (block p i) v)) v w ∙ held (x (place p v)) refl
     where
@@ -142,7 +142,7 @@ pub at-blocks : (g : Graph) (p : List (List ℕ)) → length p ≢ g.order → c
 unfolding candidates_at
 at-blocks g p e = ap (λ b. if b then candidates g else map (lifted_candidate g p) (candidates (quotient g p))) (ne_eqb (length p) g.order e)
 
--- a graph is covered where its quotient at single vertices is
+-- a graph is covered if its quotient at single vertices is
 pub covered-single : (g : Graph) (p : List (List ℕ)) → IsGraph g → IsPartition g.order p → length p ≡ g.order → IsCovered (quotient g p) → IsCovered g
 covered-single g p is pp many cov =
     subst IsCovered (contracted-singles g is) (covered_down g (singles g.order) is (singles-partition g.order).partition (subst (λ (q : List (List ℕ)). IsCovered (quotient g q)) (as_many-singles g.order p pp many) cov))

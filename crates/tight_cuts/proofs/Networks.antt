@@ -95,7 +95,7 @@ module _ (g h : Graph) (is : IsGraph g) (a b e : ℕ) (wa : Within g.order a) (w
   own_piece : (v : ℕ) → Within g.order v → joined h (pair_set a b) v v ≡ true
   own_piece v w = let o = beside.order in walk_joined h (pair_set a b) (beside_graph g h is a b e wa wb we ends beside) v v (omega arith) (joined_self h (pair_set a b) v)
 
-  -- a set of that value parts the pairs
+  -- a set of that value separates the pairs
   pub value_parts : (u : Set) → Separates a b u → value_of (contracted_net g ms group r) u ≡ length ms → PartsTightly g a b k (back u)
   value_parts u s v = record {
     tight = (value_tight u s).0 v;
@@ -120,7 +120,7 @@ module _ (g h : Graph) (is : IsGraph g) (a b e : ℕ) (wa : Within g.order a) (w
     | inr q ↦ sym (piece_of x p k.1 v q) ∙ p.lacks_y
   ]
 
-  -- a set that parts the pairs is a union of groups
+  -- a set that separates the pairs is a union of groups
   pub parts_group : (x : Set) → PartsTightly g a b k x → (u v : ℕ) → Within g.order u → Within g.order v → group u ≡ group v → x u ≡ x v
   parts_group x p u v wu wv q = elim (groups.apart u v wu wv q) [
     | inl j ↦ piece_of x p u v j
@@ -151,7 +151,7 @@ module _ (g h : Graph) (is : IsGraph g) (a b e : ℕ) (wa : Within g.order a) (w
     pub least_value : value ≤ length ms → value ≡ length ms
     least_value l = let v = value_bound (mem set) cut.separates in let e = cut.is in omega arith
 
-    -- its vertices are a set that parts the pairs
+    -- its vertices are a set that separates the pairs
     pub least_back : value ≤ length ms → PartsTightly g a b k (back (mem set))
     least_back l = let v = least_value l in let e = cut.is in value_parts (mem set) cut.separates (omega arith)
 

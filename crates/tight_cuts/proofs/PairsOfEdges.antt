@@ -78,7 +78,7 @@ module _ (g : Graph) (ms : List (List ℕ)) (is : IsGraph g) (p : IsPairList g m
   unfolding cut_sum
   pair_list_bound = sum_bound ms (λ m. edges_in_cut g (mem m) x) each_met
 
-  -- exactly so often where it is tight
+  -- exactly so often if it is tight
   pub pair_list_tight : is_odd (count g.order (complement x)) ≡ true → cut_sum g ms x ≡ length ms → IsTight g x
   unfolding cut_sum
   pair_list_tight r s = alone_tight g x is o r (λ e f we wf d ce cf t.

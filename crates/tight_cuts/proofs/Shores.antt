@@ -72,7 +72,7 @@ same_sets s t h v = let p = and_parts (is_subset s t) (is_subset t s) h in same_
 abbrev pub has_shore : List ℕ → Candidate → Bool
 has_shore s c = is_subset s c.shore && is_subset c.shore s
 
--- a shore is listed where a candidate has it
+-- a shore is listed if a candidate has it
 pub listed-any : (list : List Candidate) (s : List ℕ) → is_listed (shores_of list) s ≡ list_any (has_shore s) list
 listed-any [] s = refl
 listed-any (c ∷ list) s = ap (λ b. has_shore s c || b) (listed-any list s)

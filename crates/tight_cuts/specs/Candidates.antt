@@ -34,7 +34,7 @@ candidate n origin x = record { shore = rising_list n x; inside = count n x; out
 abbrev pub shores_of : List Candidate → List (List ℕ)
 shores_of list = map (λ (c : Candidate). c.shore) list
 
--- the list with the cut of x, by its canonical shore; it is left out where it is trivial or in
+-- the list with the cut of x, by its canonical shore; it is left out if it is trivial or in
 -- the list
 abbrev pub with_shore : ℕ → Origin → List Candidate → Set → List Candidate
 with_shore n origin list x =
@@ -74,11 +74,11 @@ abbrev pub greater_end : Graph → ℕ → ℕ
 greater_end g e = max (first_end g e) (second_end g e)
 
 -- the first pair, in lexicographic order, that some tight set with the lesser end of e and
--- without the greater one parts
+-- without the greater one separates
 abbrev pub first_parted : Graph → ℕ → Option (ℕ × ℕ)
 first_parted g e = find (is_parted g (lesser_end g e) (greater_end g e)) (ordered_pairs g.order)
 
--- the list with what edge e gives, which is nothing where e is in the cut of a candidate
+-- the list with what edge e gives, which is nothing if e is in the cut of a candidate
 abbrev pub with_edge_cut : Graph → List Candidate → ℕ → List Candidate
 with_edge_cut g list e = if list_any (cuts g e) list then list else with_pair g (lesser_end g e) (greater_end g e) list (first_parted g e)
 

@@ -1,4 +1,4 @@
--- The candidates at a partition: those of the quotient, their shores led back to vertices of the
+-- The candidates at a partition: those of the quotient, their shores taken to vertices of the
 -- graph and their sides counted in blocks. At the partition into single vertices they are those
 -- of the graph itself, in the order of its own edges.
 use Rattle.std.specs.Prelude.{◌≡◌, ℕ, false, List, length, map, ◌==◌, if◌then◌else◌}
@@ -11,7 +11,7 @@ use Rattle.graph_core.specs.Quotients.{quotient, union_of_blocks}
 use Rattle.graph_core.specs.Shores.{IsTightAt, blocks_in}
 use Rattle.tight_cuts.specs.Candidates.{Candidate, candidates}
 
--- a candidate of the quotient with its shore led back to vertices; inside and outside stay the
+-- a candidate of the quotient with its shore taken to vertices; inside and outside stay the
 -- numbers of blocks
 abbrev pub lifted_candidate : Graph → List (List ℕ) → Candidate → Candidate
 lifted_candidate g p c = record { shore = union_of_blocks g p (mem c.shore); inside = c.inside; outside = c.outside; origin = c.origin }

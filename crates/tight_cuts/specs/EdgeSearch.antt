@@ -35,7 +35,7 @@ pub record AreLeaders (g : Graph) (e : ℕ) (leaders : List ℕ) : Type 0 where
   pub long : length leaders ≡ g.order + 1
   pub each : (v : ℕ) → Within g.order v → at_place leaders v ≡ leader (components beside (pair_set (lesser_end g e) (greater_end g e))) v
 
--- the table tells which edges of the graph lie together in a perfect matching, and the row has
+-- the table says which edges of the graph lie together in a perfect matching, and the row has
 -- the weights of the edges
 pub record AreRowsOf (g : Graph) (pairs : PairsValue) (weights : List ℕ) (bound : ℕ) : Type 0 where
   pub edge_count : pairs.size ≡ size g
@@ -49,7 +49,7 @@ pub record AreRowsAt (g : Graph) (e : ℕ) (weights : List ℕ) (bound : ℕ) (l
   pub weighed : AreWeights g weights bound
   pub led : AreLeaders g e leaders
 
--- an arc between two nodes, and none where they are one
+-- an arc between two nodes, and none if they are one
 abbrev pub arc_between : ℕ → ℕ → ℕ → List Arc
 arc_between a b capacity = cond (a == b) [] (record { a = a; b = b; capacity = capacity } ∷ [])
 
@@ -85,29 +85,28 @@ pub record Leads (g : Graph) (e : ℕ) (leaders : List ℕ) (x : ℕ) : Type 0 w
 abbrev pub IsBeyond : Graph → ℕ → List ℕ → ℕ → ℕ → Type 0
 IsBeyond g e leaders x y = (Leads g e leaders y × (x ≢ y)) ⊎ (y ≡ greater_end g e)
 
--- the vertices of the least cut of the groups' network, where some cut is within the bound
+-- the vertices of the least cut of the groups' network, if some cut is within the bound
 pub record IsCutOfGroups (g : Graph) (weights leaders : List ℕ) (bound a b x y : ℕ) (answer : Option (List ℕ)) : Type 0 where
   pub some : (s : List ℕ) → answer ≡ Some s → (set : List ℕ) × (value : ℕ) × IsLeastCut (group_net g weights leaders a b x y) a b set value × (value ≤ bound) × ((v : ℕ) → Within g.order v → mem s v ≡ mem set (row_group a b x y leaders v))
   pub none : answer ≡ None → HasCutWithin (group_net g weights leaders a b x y) a b bound → ⊥
 
 -- the intersection of all tight sets with a and the first vertex of the pair and with neither b
--- nor the second, where there is one
+-- nor the second, if there is one
 pub record IsCommonShore (g : Graph) (a b : ℕ) (k : ℕ × ℕ) (answer : Option (List ℕ)) : Type 0 where
   pub some : (s : List ℕ) → answer ≡ Some s → ((z : Set) × PartsTightly g a b k z) × ((v : ℕ) → Within g.order v → mem s v ≡ common_shore g a b k v)
   pub none : answer ≡ None → (z : Set) → PartsTightly g a b k z → ⊥
 
--- what a pair gives at edge e: the common shore where the pair is parted, and nothing where it is
--- not
+-- what a pair gives at edge e: the common shore if the pair is separated, and nothing if it is not
 pub record IsShoreOfPair (g : Graph) (e : ℕ) (k : ℕ × ℕ) (answer : Option (List ℕ)) : Type 0 where
   pub some : (s : List ℕ) → answer ≡ Some s → (is_parted g (lesser_end g e) (greater_end g e) k ≡ true) × ((v : ℕ) → Within g.order v → mem s v ≡ common_shore g (lesser_end g e) (greater_end g e) k v)
   pub none : answer ≡ None → is_parted g (lesser_end g e) (greater_end g e) k ≡ false
 
--- what edge e gives: the common shore of the first pair that is parted, and nothing where there
--- is none
+-- what edge e gives: the common shore of the first pair that is separated, and nothing if there is
+-- none
 pub record IsShoreOfEdge (g : Graph) (e : ℕ) (answer : Option (List ℕ)) : Type 0 where
   pub some : (s : List ℕ) → answer ≡ Some s → (k : ℕ × ℕ) × (first_parted g e ≡ Some k) × ((v : ℕ) → Within g.order v → mem s v ≡ common_shore g (lesser_end g e) (greater_end g e) k v)
   pub none : answer ≡ None → first_parted g e ≡ None
 
--- no pair before (x, y), in lexicographic order, is parted at edge e
+-- no pair before (x, y), in lexicographic order, is separated at edge e
 abbrev pub NoneBefore : Graph → ℕ → ℕ → ℕ → Type 0
 NoneBefore g e x y = (c d : ℕ) → Within g.order c → Within g.order d → (c < x) ⊎ ((c ≡ x) × (d < y)) → is_parted g (lesser_end g e) (greater_end g e) (c, d) ≡ false

@@ -54,12 +54,12 @@ abbrev pub head_or : List ℕ → ℕ → ℕ
 head_or [] d = d
 head_or (x ∷ xs) d = x
 
--- the first number of the first list that holds v, and v itself where none does
+-- the first number of the first list that holds v, and v itself if none does
 abbrev pub leader : List (List ℕ) → ℕ → ℕ
 leader [] v = v
 leader (p ∷ ps) v = cond (mem p v) (head_or p v) (leader ps v)
 
--- the group of a vertex whose piece is led by l, where x and y lead the pieces of the first and
+-- the group of a vertex whose piece is led by l, if x and y lead the pieces of the first and
 -- the second vertex
 abbrev pub group_of : (a b x y l : ℕ) → ℕ
 group_of a b x y l = cond (l == x) a (cond (l == y) b l)

@@ -22,7 +22,7 @@ use std::alloc::{AllocError as Memory, Global};
 
 /// The candidates at the partition `p` of the vertices of `g`, whose quotient is matching
 /// covered: at single vertices those of `g` itself, in the order of its own edges, else those of
-/// the quotient, each shore led back to vertices of `g`, with `inside` and `outside` counted in
+/// the quotient, each shore taken to vertices of `g`, with `inside` and `outside` counted in
 /// blocks. Each is a canonical nontrivial shore that is tight at `p`, and the list is empty
 /// exactly when no nontrivial shore is tight at `p` (Lovász 1987).
 pub fn candidates_at(alloc: Global, g: &MultiGraph, p: &Partition) -> Result<CandidateList, Memory>
@@ -107,7 +107,7 @@ fn lifted(alloc: Global, q: &Contracted, found: &CandidateList) -> Result<Candid
     Ok(list)
 }
 
-// One candidate of the quotient, led back to the graph.
+// One candidate of the quotient, with the shore as vertices of the graph.
 fn lifted_one(q: &Contracted, candidate: Candidate) -> Candidate
     ensures { (g : Graph) (p : List (List ℕ)) → q.now ≡ contraction g p →
         candidate_of result ≡ lifted_candidate g p (candidate_of candidate) }

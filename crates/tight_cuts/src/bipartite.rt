@@ -35,7 +35,7 @@ fn side_with(g: &MultiGraph, side: VSet, a: u32) -> VSet
 
 /// The search at the edges of a bipartite covered graph: one of its sides, and a perfect
 /// matching. At an edge two floods in the digraph of a perfect matching that holds it say whether
-/// any pair is parted, and then one for each vertex finds the first.
+/// any pair is separated, and then one for each vertex finds the first.
 #[derive(Drop)]
 pub(crate) struct FloodSearch {
     side: VSet,
@@ -76,7 +76,7 @@ fn digraph_at(
     }
 }
 
-// What the pairs (x, y) give, for one x and all y, where no pair before them is parted.
+// What the pairs (x, y) give, for one x and all y, if no pair before them is separated.
 fn shore_from(g: &MultiGraph, digraph: &Digraph, e: u32, x: u32) -> Option<VSet>
     requires covered { IsCovered g.now }
     requires edge { Within (size g.now) e }

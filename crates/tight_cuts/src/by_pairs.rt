@@ -1,4 +1,4 @@
-//! The candidates of a matching covered graph in the plain way: a minimum cut for each pair of
+//! The candidates of a matching covered graph by the plain search: a minimum cut for each pair of
 //! pieces of each edge.
 ghost use Rattle.std.specs.Prelude.{◌≡◌, ◌≢◌, ℕ, ◌+◌, [], ◌↔◌, true, All, IfOk, OnOk, Some, None};
 ghost use Rattle.std.specs.List.{AllPairs, list_any};
@@ -21,7 +21,7 @@ use graph_facts::Covered;
 use std::alloc::{AllocError as Memory, Global};
 use vset_core::VSet;
 
-// What the pair (x, y) gives, where no pair before it is parted; nothing unless y leads a piece
+// What the pair (x, y) gives, if no pair before it is separated; nothing unless y leads a piece
 // of its own.
 fn shore_at(
     alloc: Global,

@@ -20,8 +20,8 @@ pub enum Origin {
     Barrier,
     /// A component of the graph without a cut pair, with the lesser vertex of the pair.
     Separation,
-    /// The common shore of all tight sets that part two pairs of vertices, found by a minimum cut
-    /// or by floods.
+    /// The common shore of all tight sets that separate two pairs of vertices, found by a minimum
+    /// cut or by floods.
     Flow,
 }
 
@@ -118,7 +118,7 @@ impl CandidateList {
 }
 
 /// Appends the candidate of the cut of `shore`, a set of the vertices 1 to `n`. It is left out
-/// where the cut is trivial or in the list.
+/// if the cut is trivial or in the list.
 pub(crate) fn add_shore(
     list: &mut CandidateList,
     n: u32,

@@ -17,8 +17,8 @@ pub(crate) trait EdgeSearch {
     // The search is made for this graph.
     ghost is_of: { Self → Graph → Type 0 };
 
-    /// What edge `e` gives: the common shore of all tight sets that part the first pair in
-    /// lexicographic order that any parts; `None` exactly when no pair is parted.
+    /// What edge `e` gives: the common shore of all tight sets that separate the first pair in
+    /// lexicographic order that any separates; `None` exactly when no pair is separated.
     fn shore_of_edge(&self, alloc: Global, g: &MultiGraph, e: u32) -> Result<Option<VSet>, Memory>
         requires covered { IsCovered g.now }
         requires edge { Within (size g.now) e }
@@ -52,7 +52,7 @@ pub(crate) fn add_edge_cut<S: EdgeSearch>(
     }
 }
 
-/// Adds what the edges after edge `known` give, where those up to it are in the cuts of candidates.
+/// Adds what the edges after edge `known` give, if those up to it are in the cuts of candidates.
 pub(crate) fn add_edge_cuts<S: EdgeSearch>(
     alloc: Global,
     g: &MultiGraph,

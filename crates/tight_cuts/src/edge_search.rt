@@ -1,11 +1,11 @@
 //! The search at one edge for tight cuts through it: one least minimum cut for each piece.
 //!
-//! Let a and b be the ends of the edge. The tight sets with a and without b are closed under
-//! union and intersection. So let S(x) be the intersection of those that hold x, where there is
-//! one: it is a least minimum cut of a and the piece of x against b. A pair (x, y) is parted
-//! exactly when S(x) is there and lacks y, and S(x) is then the common shore of all that part it.
-//! Hence the first pair is the first x whose S(x) is there and is not everything but b, with the
-//! least y that S(x) lacks (Picard and Queyranne 1980).
+//! Let a and b be the ends of the edge. The tight sets with a and without b are closed under union
+//! and intersection. So let S(x) be the intersection of those that hold x, if there is one: it is a
+//! least minimum cut of a and the piece of x against b. A pair (x, y) is separated exactly when
+//! S(x) is there and lacks y; S(x) is then the common shore of all that separate it. Hence the
+//! first pair is the first x whose S(x) is there and is not everything but b, with the least y that
+//! S(x) lacks (Picard and Queyranne 1980).
 ghost use Rattle.std.specs.Prelude.{◌≡◌, ◌≢◌, ℕ, ◌+◌, ◌<◌, ◌≤◌, ◌==◌, ◌&&◌, ◌↔◌, All, not, true, false, length, Some, None, IfNone, IfOk, IfSome};
 ghost use Rattle.counting.specs.Counts.{Within};
 ghost use Rattle.counting.specs.Lists.{mem};
@@ -27,7 +27,7 @@ use graph_core::MultiGraph;
 use std::alloc::{AllocError as Memory, Global};
 use vset_core::{MOST_VERTICES, VSet};
 
-// The least vertex of the first piece that holds the vertex, and the vertex itself where none does.
+// The least vertex of the first piece that holds the vertex, and the vertex itself if none does.
 fn leader_in(pieces: &[VSet], v: u32) -> u32
     requires { Within MOST_VERTICES v }
     ensures { result ≡ leader pieces.now v }
@@ -83,9 +83,9 @@ fn leaders_at(alloc: Global, g: &MultiGraph, pairs: &PairTable, e: u32) -> Resul
 
 /// A way to ask the pairs (x, y) of one x.
 pub(crate) trait PieceSearch {
-    /// What the pairs (x, y) give at edge `e`, for the x of `groups`, which leads a piece, and
-    /// all y, where no pair before them is parted: the common shore of all tight sets that part
-    /// the first pair that any parts.
+    /// What the pairs (x, y) give at edge `e`, for the x of `groups`, which leads a piece, and all
+    /// y, if no pair before them is separated: the common shore of all tight sets that separate the
+    /// first pair that any separates.
     fn shore_of_piece(
         &self,
         alloc: Global,
@@ -148,7 +148,7 @@ pub(crate) fn first_lacking(shore: VSet, n: u32, b: u32) -> Option<u32>
     VSet::full(n).minus(shore).without(b).first()
 }
 
-// What the pairs (x, y) give, for one x and all y, where no pair before them is parted; nothing
+// What the pairs (x, y) give, for one x and all y, if no pair before them is separated; nothing
 // unless x leads a piece.
 fn shore_from<P: PieceSearch>(
     alloc: Global,
@@ -176,7 +176,7 @@ fn shore_from<P: PieceSearch>(
 }
 
 // What the pairs give in order. Only pairs of vertices that lead pieces are asked: a pair is
-// parted by its pieces alone.
+// separated by its pieces alone.
 fn first_shore<P: PieceSearch>(
     alloc: Global,
     g: &MultiGraph,
@@ -207,7 +207,7 @@ pub(crate) struct NetworkSearch<P> {
 }
 
 impl<P: PieceSearch + Drop> NetworkSearch<P> {
-    /// The search where the cuts of these shores are tight.
+    /// The search if the cuts of these shores are tight.
     pub(crate) fn new(
         alloc: Global,
         g: &MultiGraph,

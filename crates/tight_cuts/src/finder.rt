@@ -110,9 +110,9 @@ fn listed(alloc: Global, c: &Covered) -> Result<CandidateList, Memory>
 
 /// The candidates of a matching covered graph, in order: first the cuts of barriers and of
 /// separations, then, for each edge by number that is in the cut of no earlier candidate, the cut
-/// of the common shore of all tight sets that part its first pair. Each is a nontrivial tight cut
-/// by its canonical shore, none comes twice, and each edge of each nontrivial tight cut is in the
-/// cut of a candidate; so the list is empty exactly when the graph has no nontrivial tight cut,
+/// of the common shore of all tight sets that separate its first pair. Each is a nontrivial tight
+/// cut by its canonical shore, none comes twice, and each edge of each nontrivial tight cut is in
+/// the cut of a candidate; so the list is empty exactly when the graph has no nontrivial tight cut,
 /// which for a covered graph means that it is a brick or a brace (Lovász 1987).
 pub fn candidates(alloc: Global, g: &MultiGraph) -> Result<CandidateList, Memory>
     requires { IsCovered g.now }
@@ -132,7 +132,7 @@ pub fn candidates(alloc: Global, g: &MultiGraph) -> Result<CandidateList, Memory
 }
 
 /// The first candidate, and `None` exactly when the covered graph has no nontrivial tight cut. The
-/// search ends with it: the edges are asked only where the graph has no cut of a barrier or a
+/// search ends with it: the edges are asked only if the graph has no cut of a barrier or a
 /// separation.
 pub fn first_candidate(alloc: Global, pairs: &FirstPairs) -> Result<Option<Candidate>, Memory>
     ensures first { IfOk result
@@ -182,7 +182,7 @@ fn first_of_bipartite(alloc: Global, bipartite: &Bipartite) -> Result<Option<Can
 }
 
 /// The shore of the first candidate, which is a canonical nontrivial tight shore, and `None`
-/// exactly where the covered graph has no nontrivial tight cut.
+/// if and only if the covered graph has no nontrivial tight cut.
 pub fn find_any(alloc: Global, g: &MultiGraph) -> Result<Option<VSet>, Memory>
     requires { IsCovered g.now }
     ensures first { IfOk result (λ found. found ≡ first_shore (candidates g.now)) }

@@ -35,8 +35,8 @@ fn separation_candidates(alloc: Global, c: &Covered) -> Result<CandidateList, Me
     candidates_of(alloc, c.order(), Origin::Separation, &shores)
 }
 
-/// The candidates of the first two parts: the cuts of barriers where the graph is not bicritical,
-/// and those of separations where it is.
+/// The candidates of the first two parts: the cuts of barriers if the graph is not bicritical,
+/// and those of separations if it is.
 pub(crate) fn front_candidates(alloc: Global, c: &Covered) -> Result<CandidateList, Memory>
     ensures { IfOk result (λ list. list ≡ front_candidates c.now) }
 {

@@ -16,7 +16,7 @@ use vset_core::{MOST_VERTICES, VSet};
 
 /// The ends `a` and `b` of an edge, and the vertices `x` and `y` that lead two of its pieces: `a`
 /// and the piece of `x` make one group, `b` and the piece of `y` another, and each other piece is
-/// a group. Where `y` is `b`, `b` alone is a group.
+/// a group. If `y` is `b`, `b` alone is a group.
 #[derive(Clone, Copy, Drop)]
 pub(crate) struct Grouping {
     pub(crate) a: u32,
@@ -126,7 +126,7 @@ fn cut_of_groups(
     }
 }
 
-/// The common shore of all tight sets that have `a` and `x` and neither `b` nor `y`, where there
+/// The common shore of all tight sets that have `a` and `x` and neither `b` nor `y`, if there
 /// is one. Here `x` leads a piece of edge `e`, and `y` leads another or is `b` itself.
 pub(crate) fn common_shore(
     alloc: Global,

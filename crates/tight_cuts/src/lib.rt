@@ -1,7 +1,7 @@
 //! Tight cuts of a matching covered graph, and the complete finder of them.
 //!
 //! A cut is tight if each perfect matching has exactly one edge in it (`IsTight` of
-//! `graph_core`). `is_tight` tests one cut and, where it is not tight, shows a perfect matching
+//! `graph_core`). `is_tight` tests one cut and, if it is not tight, shows a perfect matching
 //! with two edges in it. `candidates` lists nontrivial tight cuts by their canonical shores:
 //! first those of barriers and separations, then, for each edge that no earlier cut has, one that
 //! a least minimum cut gives. Each listed cut is tight (`IsTightCandidate`), none comes twice,
@@ -12,11 +12,11 @@
 //!
 //! What is searched: a graph that is not bipartite and has no cut of a barrier or a separation
 //! has no tight cut at all (`FrontEmpty`). In a bipartite graph floods in the digraph of a
-//! perfect matching tell what an edge gives (`BipartiteShores`). Elsewhere a tight set through an
+//! perfect matching decide what an edge gives (`BipartiteShores`). Elsewhere a tight set through an
 //! edge is a union of the edge's pieces beside one of its ends (`Pieces`); over a pair list each
-//! odd set is met at least as often as the list is long, and exactly so often where it is tight
+//! odd set is met at least as often as the list is long, and exactly so often if it is tight
 //! (`PairSums`); so the least minimum cut of the network of the pieces is the intersection of all
-//! tight sets that have a piece (`Networks`), and one cut for each piece tells what the edge
+//! tight sets that have a piece (`Networks`), and one cut for each piece decides what the edge
 //! gives (`EdgePieces`). `candidates_by_pairs` answers the same by a cut for each pair of pieces,
 //! and only tests call it. One walk over the edges, `add_edge_cuts`, asks any of the three (the
 //! trait `EdgeSearch`).

@@ -26,7 +26,7 @@ pub enum Tightness {
 }
 
 /// Whether the cut of `shore`, an odd number of the vertices of the matching covered graph `g`,
-/// is tight. `Tight` comes exactly where it is; `Crossed` comes with a perfect matching of `g`
+/// is tight. `Tight` comes if and only if it is; `Crossed` comes with a perfect matching of `g`
 /// that has at least two edges in the cut.
 ///
 /// An odd cut is tight exactly when no two of its edges lie together in a perfect matching. So

@@ -51,7 +51,7 @@ is-cut g p x rises tight nontrivial = record {
 }
 
 module _ (g : Graph) (p : List (List ℕ)) (x : Set) (is : IsGraph g) (pp : AreBlocks g.order p) where
-  -- the places of the blocks in the shore are an odd set of vertices of the quotient where their
+  -- the places of the blocks in the shore are an odd set of vertices of the quotient if their
   -- number is odd
   pub places-rise : IsRisingIn (quotient g p).order (rising_list (length p) (blocks_in p x))
   places-rise = subst (λ n. IsRisingIn n (rising_list (length p) (blocks_in p x))) (sym (quotient-order g p)) (rising_list-rises (length p) (blocks_in p x))

@@ -1,5 +1,5 @@
 -- The law of the first refusal, by induction down the tree: a derivation has none, two refusals
--- of a tree agree, and a tree that is no derivation has one. Below a kept cut the partitions are
+-- of a tree agree, and a tree that is not a derivation has one. Below a kept cut the partitions are
 -- partitions again and their quotients are matching covered.
 use Rattle.std.proofs.Common.{◌≡◌, ◌⊎◌, ℕ, ◌+◌, List, refl, sym, ap, ◌∙◌, inl, inr}
 use Rattle.counting.specs.Lists.{mem}

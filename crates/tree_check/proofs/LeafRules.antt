@@ -16,7 +16,7 @@ use Rattle.tree_core.specs.Derivations.{IsLeafAt}
 use Rattle.tree_check.specs.Refusals.{BreaksLeaf, Why, not_blocks, even, trivial, not_tight, not_leaf, without_matching}
 
 module _ (g : Graph) (p : List (List ℕ)) (is : IsGraph g) (pp : IsPartition g.order p) (covered : IsCovered (quotient g p)) where
-  -- a leaf breaks no rule where no nontrivial shore is tight
+  -- a leaf breaks no rule if no nontrivial shore is tight
   pub broken-not_leaf : (why : Why) → BreaksLeaf g p why → IsLeafAt g p → ⊥
   unfolding IsLeafAt
   broken-not_leaf not_blocks b leaf = b

@@ -1,5 +1,5 @@
 -- A move on a tree that fits makes a tree that fits: each new shore is put together from numbers
--- below n. Where the greatest vertex is in v, the rest of the outer side does not hold it; else v
+-- below n. If the greatest vertex is in v, the rest of the outer side does not hold it; else v
 -- does not.
 use Rattle.std.proofs.Common.{◌≡◌, ℕ, ◌-◌, Bool, true, false, not, ◌&&◌, List, [], ◌∷◌, All, get_or, Option, Some, None, option_map, if◌then◌else◌, inl, inr, refl, sym, subst, arith}
 use Rattle.std.proofs.lemmas.Bool.{and_parts, both_ways, not-true, or_cases}

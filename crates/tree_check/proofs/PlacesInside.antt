@@ -21,7 +21,7 @@ module _ (p : List (List ℕ)) (shore old : List ℕ) (i : ℕ) (within : (j : �
       let e : i + 1 - 1 ≡ i = omega arith in
       ap (λ k. is_subset (get_or p k []) shore) e ∙ ap (λ c. is_subset c shore) (get_or_from_slice_get p i b [] found)
 
-  -- the next place is added where its block is in the shore
+  -- the next place is added if its block is in the shore
   module _ (new : List ℕ) (tells : (j : ℕ) → mem new j ≡ (mem old j || (i + 1 == j))) where
     pub added-within : (j : ℕ) → mem new j ≡ true → Within (i + 1) j
     added-within j m = elim (or_cases (mem old j) (i + 1 == j) (sym (tells j) ∙ m)) [

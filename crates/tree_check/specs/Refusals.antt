@@ -71,7 +71,7 @@ HasShores n (cut x k m) = IsRisingIn (n - 1) x × HasShores n k × HasShores n m
 
 -- the first node in preorder, counted from 1, of the tree at p that breaks a rule, and the first
 -- rule that it breaks: the node itself, or one in the `kept` tree, or one in the `merged` tree
--- where the `kept` one is a derivation
+-- if the `kept` one is a derivation
 abbrev pub IsRefusedAt : Graph → List (List ℕ) → Shape → ℕ → Why → Type 0
 IsRefusedAt g p leaf node why = (node ≡ 1) × BreaksLeaf g p why
 IsRefusedAt g p (cut x k m) node why =

@@ -6,11 +6,11 @@
 //! a perfect matching at the node's partition with at least two edges in a cut that is not tight,
 //! or a nontrivial tight cut where a leaf stands. Of a graph that is not matching covered it
 //! gives the first reason. `check_covered` answers the same of a graph that is known to be
-//! covered, and doesn't ask that again.
+//! covered, and does not ask that again.
 //!
 //! `replay` makes a script of moves on a derivation and judges each tree on the way: it gives the
 //! last tree exactly when all are derivations, and else names the first failing move, with what
-//! `check` answers where its result is not a derivation (`IsReplay` of `specs/Replays`).
+//! `check` answers if its result is not a derivation (`IsReplay` of `specs/Replays`).
 //!
 //! `laws::first_refusal_law`: a derivation has no refusal, and each other tree of a matching
 //! covered graph has exactly one, up to the perfect matching that it shows.

@@ -50,7 +50,7 @@ fn step(alloc: Global, g: &MultiGraph, tree: Tree, item: &Move) -> Result<Moved,
 
 /// Makes the moves in order on `tree`, a derivation of `g`. `Done` comes exactly when each move
 /// has a result that is a derivation of `g`, with the last tree. `Stuck` names the first failing
-/// move where it has no result, and `Refused` where its result is no derivation, with what
+/// move if it has no result, and `Refused` if its result is not a derivation, with what
 /// `check` answers of it. After `Memory` the tree is given up.
 pub fn replay(alloc: Global, g: &MultiGraph, tree: Tree, moves: &Moves) -> Result<Replayed, Memory>
     requires derivation { IsDerivation g.now (shape_of tree) }

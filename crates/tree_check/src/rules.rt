@@ -112,7 +112,7 @@ fn places_in(p: &Partition, shore: VSet) -> VSet
     places
 }
 
-/// The shore of the first candidate at `p`, whose quotient is matching covered; where there is
+/// The shore of the first candidate at `p`, whose quotient is matching covered; if there is
 /// none, no nontrivial shore is tight at `p`.
 pub(crate) fn first_cut_at(
     alloc: Global,

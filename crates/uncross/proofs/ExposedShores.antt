@@ -10,7 +10,7 @@ use Rattle.uncross.specs.Below.{IsBrought, IsRaised}
 use Rattle.uncross.specs.Plans.{IsExposed}
 use Rattle.move_laws.specs.Scripts.{IsProperScript}
 
--- where a shore is exposed, there are moves, whatever would stand for none
+-- if a shore is exposed, there are moves, whatever would stand for none
 pub raised : (g : Graph) (p : List (List ℕ)) (s : Shape) (y : List ℕ) (t : Shape) (found : Option (List Move)) (other : List Move) → IsExposed g p s (Some y) t (option_map moves_of found) → IsRaised g p s y t (moves_of (unwrap_or found other))
 raised g p s y t None other h = absurd h
 raised g p s y t (Some ms) other h = record { root = (h.0, h.1, h.2); script = subst (IsProperScript g p s (moves_of ms)) (sym h.2) h.3; few = h.4 }
@@ -27,7 +27,7 @@ right_of : Shape → Shape
 right_of leaf = leaf
 right_of (cut x a b) = b
 
--- where the new tree is a cut, its shore is the one that was exposed
+-- if the new tree is a cut, its shore is the one that was exposed
 pub brought : (g : Graph) (p : List (List ℕ)) (s : Shape) (y : List ℕ) (t : Shape) (found : Option (List Move)) (other ms : List Move) → ms ≡ unwrap_or found other → IsExposed g p s (Some y) t (option_map moves_of found) →
     (x : List ℕ) (k l : Shape) → t ≡ cut x k l → IsBrought g p s y k l (moves_of ms)
 unfolding left_of right_of

@@ -1,4 +1,4 @@
--- The place of a vertex among the blocks from one on: the first of them where it holds the
+-- The place of a vertex among the blocks from one on: the first of them if it holds the
 -- vertex, and else one more than among the rest.
 use Rattle.std.proofs.Common.{Bool, List, Some, [], ap, arith, cond, drop, false, get_or, sym, true, ℕ, ◌+◌, ◌-◌, ◌∙◌, ◌≡◌}
 use Rattle.std.proofs.lemmas.List.{at_drop_more}
@@ -14,11 +14,11 @@ place-next p i v b e =
     at_drop_more (λ (q : List (List ℕ)). place q v) p i [] (slice_get_within p i b e)
     ∙ ap (λ (c : List ℕ). cond (mem c v) 1 (place (drop (i + 1) p) v + 1)) (get_or_from_slice_get p i b [] e)
 
--- where it holds the vertex
+-- if it holds the vertex
 pub place-here : (p : List (List ℕ)) (i v : ℕ) (b : List ℕ) (t : Bool) → slice_get p i ≡ Some b → t ≡ mem b v → t ≡ true → place (drop i p) v ≡ 1
 place-here p i v b t e test holds = place-next p i v b e ∙ ap (λ (s : Bool). cond s 1 (place (drop (i + 1) p) v + 1)) (sym test ∙ holds)
 
--- where it does not
+-- if it does not
 pub place-further : (p : List (List ℕ)) (i v : ℕ) (b : List ℕ) (t : Bool) → slice_get p i ≡ Some b → t ≡ mem b v → t ≡ false → place (drop i p) v ≡ place (drop (i + 1) p) v + 1
 place-further p i v b t e test fails = place-next p i v b e ∙ ap (λ (s : Bool). cond s 1 (place (drop (i + 1) p) v + 1)) (sym test ∙ fails)
 

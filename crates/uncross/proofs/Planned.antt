@@ -81,12 +81,12 @@ big_or_none p u shore = go (nat_lt (block_count p (mem u)) 3) refl
     go true h = inl (grind (arith, nat_tests, h), refl)
     go false h = inr (grind (arith, nat_tests, h), refl)
 
--- where nothing is to be exposed no moves are made, and the tree is as it was
+-- if nothing is to be exposed no moves are made, and the tree is as it was
 exposed_nothing : (g : Graph) (q : List (List ℕ)) (a t : Shape) (m : Option (List PlainMove)) → IsExposed g q a None t m → (m ≡ None) × (t ≡ a)
 exposed_nothing g q a t None e = (refl, e)
 exposed_nothing g q a t (Some ms) e = absurd e
 
--- and where a shore is to be exposed moves are made
+-- and if a shore is to be exposed moves are made
 exposed_shore : (g : Graph) (q : List (List ℕ)) (a t : Shape) (m : Option (List PlainMove)) (y : List ℕ) → IsExposed g q a (Some y) t m → (ms : List PlainMove) × (m ≡ Some ms) × IsExposed g q a (Some y) t (Some ms)
 exposed_shore g q a t None y e = absurd e
 exposed_shore g q a t (Some ms) y e = (ms, refl, e)

@@ -1,4 +1,4 @@
--- The maps of a script, move by move: what holds where some of its moves are made.
+-- The maps of a script, move by move: what holds if some of its moves are made.
 use Rattle.std.proofs.Common.{List, Some, ap, arith, length, map, refl, subst, subst₂, sym, unwrap_or, ℕ, ◌∙◌, ◌∷◌, ◌≡◌, ◌≤◌}
 use Rattle.counting.proofs.Counts.{count_complement}
 use Rattle.graph_core.proofs.Singles.{length-singles}
@@ -36,7 +36,7 @@ leaves-few g (cut x a b) is few d =
 pub derivation_script_pairs : (g : Graph) (s t : Shape) (ms : List PlainMove) → IsGraph g → IsDerivation g s → IsProperScript g (singles g.order) s ms t → IsPairing g (leaves g.order s) (leaves g.order t) (script_maps g.order s ms)
 derivation_script_pairs g s t ms is d w = script_pairs g s t ms (singles_stage g is d.covered) (rising-derivation_at g (singles g.order) s d.derives) d.derives w
 
--- and where it begins with a derivation it ends with one
+-- and if it begins with a derivation it ends with one
 pub script_derives : (g : Graph) (s t : Shape) (ms : List PlainMove) → IsDerivation g s → IsProperScript g (singles g.order) s ms t → IsDerivation g t
 script_derives g s t ms d w = record { covered = d.covered; derives = (script_end g (singles g.order) s ms t d.derives (rising-derivation_at g (singles g.order) s d.derives) w).0 }
 
@@ -50,7 +50,7 @@ pub record Remains (g : Graph) (first current : Shape) (ms left : List PlainMove
   pub value : maps_after g.order current maps left ≡ script_maps g.order first ms
 
 module _ (g : Graph) (is : IsGraph g) (few : g.order ≤ 128) (n : ℕ) (same : n ≡ g.order) where
-  -- a derivation fits where its leaves and the maps of moves on it are asked for
+  -- a derivation fits if its leaves and the maps of moves on it are asked for
   pub fits : (t : Shape) → IsDerivation g t → Fits n t
   fits t d = subst (λ k. Fits k t) (sym same) (fits-derivation g t d)
 
@@ -101,7 +101,7 @@ module _ (g : Graph) (is : IsGraph g) (few : g.order ≤ 128) (n : ℕ) (same : 
       followed = followed g (leaves g.order first) (leaves g.order current) (leaves g.order road.1.0) maps (move_maps g.order current m) few (partitions-leaves g current r.derives) r.pairs next_pairs;
     })
 
-    -- and where they are, the same holds again
+    -- and if they are, the same holds again
     pub step : (next : Shape) (after : List PlainLeafMap) → after ≡ led_on n current m maps → ((t : Shape) → move_result n current m ≡ Some t → next ≡ t) → Remains g first next ms others after
     step next after led moved =
         let new : next ≡ road.1.0 = moved road.1.0 result in

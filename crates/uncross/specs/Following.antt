@@ -12,7 +12,7 @@ use Rattle.tree_core.specs.Shapes.{Shape}
 abbrev pub blocks_of : List PartitionValue → List (List (List ℕ))
 blocks_of ps = map (λ p. p.blocks) ps
 
--- the name of a block of q, where the names give each block of q one
+-- the name of a block of q, if the names give each block of q one
 pub record IsNamed (q : List (List ℕ)) (names : List ℕ) (b : ℕ) : Type 0 where
   pub within : Within 128 b
   pub given : Within (length names) (place q b)

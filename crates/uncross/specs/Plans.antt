@@ -59,7 +59,7 @@ abbrev pub CutIf : Graph → List (List ℕ) → Option (List ℕ) → Type 0
 CutIf g p None = Unit {0}
 CutIf g p (Some y) = IsCutAt g p y
 
--- the tree t is s where nothing is to be exposed, and else one that has the shore at its root,
+-- the tree t is s if nothing is to be exposed, and else one that has the shore at its root,
 -- with a script of few moves from s
 abbrev pub IsExposed : Graph → List (List ℕ) → Shape → Option (List ℕ) → Shape → Option (List PlainMove) → Type 0
 IsExposed g p s None t None = t ≡ s

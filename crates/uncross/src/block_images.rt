@@ -95,7 +95,7 @@ pub fn merged_images(n: u32, x: VSet, u: VSet, v: VSet) -> Images
     }
 }
 
-// A set where a test holds, and the empty set else.
+// A set if a test holds, and the empty set else.
 fn set_if(test: bool, x: VSet) -> VSet
     ensures { result ≡ list_if test x }
 {

@@ -26,7 +26,7 @@ pub enum Exchange {
 }
 
 impl Exchange {
-    /// The images of the blocks, where the node is a leaf.
+    /// The images of the blocks, if the node is a leaf.
     pub fn at_leaf(&self) -> Images
         ensures { (n : ℕ) (path : List Side) (p : List (List ℕ)) →
             exchanged_names n self.now path p leaf ≡ map (image_name n result) p ∷ [] }
@@ -37,7 +37,7 @@ impl Exchange {
         }
     }
 
-    /// Where the node is a cut over 1 to `n` with this shore: the path after its first step, and
+    /// If the node is a cut over 1 to `n` with this shore: the path after its first step, and
     /// what happens below `kept` and below `merged`.
     pub fn at_cut<'a>(
         &self,

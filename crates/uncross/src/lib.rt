@@ -9,7 +9,7 @@
 //! derivation, and answers the same of its moves.
 //!
 //! How: the root shore of the second derivation is exposed in the first, and then the same is
-//! done in the two trees below (`comparing`). Where the shore to be exposed crosses the root
+//! done in the two trees below (`comparing`). If the shore to be exposed crosses the root
 //! shore, the corners with three blocks or more are exposed first, and a Switch at the root does
 //! the rest (`plans`, `turning`, `exposing`). The maps are those of the moves, one after the
 //! other (`move_maps`).

@@ -1,5 +1,5 @@
--- The best place so far is before the place, no earlier one has a lesser gap, and those before it
--- have greater ones.
+-- The best place so far is before the place, no earlier one has sides that differ less, and those
+-- before it have a greater difference.
 use Rattle.std.proofs.Common.{◌≤◌, ◌<◌, ℕ}
 use Rattle.decomposer.specs.Choices.{gap}
 use Rattle.decomposer.proofs.orders.balanced_place.Given as goal

@@ -11,7 +11,7 @@ use Rattle.ear_core.proofs.Taking.{first_fits, second_fits, first_marked, second
 use Rattle.ear_core.proofs.steps.take_step.Goals as goal
 use Rattle.ear_core.proofs.steps.take_step.Goals.{After-deref-2}
 
--- the marks after the step, where its tests pass
+-- the marks after the step, if its tests pass
 marked : (c : After-deref-2) → (i : ℕ) → marks c.deref-2.result.now i ≡ next_stage (marks c.args.mark.now.items) (step_of c.args.step.now) i
 marked c i = ap (λ (items : List Bool). marks items i) c.deref-2.ensures.value ∙ c.mark_step.ensures.each i
 

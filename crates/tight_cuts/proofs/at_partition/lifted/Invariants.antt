@@ -1,4 +1,4 @@
--- So far the list is the candidates before the place, led back.
+-- So far the list is the candidates before the place, taken to the graph.
 use Rattle.std.proofs.Common.{◌≡◌, ℕ, List, map, take}
 use Rattle.graph_core.specs.Graph.{Graph}
 use Rattle.contraction.specs.Contracted.{contraction}

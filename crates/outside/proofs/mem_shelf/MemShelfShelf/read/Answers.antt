@@ -1,4 +1,4 @@
--- Where the number of the call is kept, the next read fails; of a file that is given the bytes
+-- If the number of the call is kept, the next read fails; of a file that is given the bytes
 -- are counted.
 use Rattle.std.proofs.Common.{arith, inl, refl}
 use Rattle.outside.specs.MemShelf.{FailsNext}
