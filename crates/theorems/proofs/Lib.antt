@@ -42,6 +42,7 @@ pub mod ReplaysExist
 pub mod ReportsExist
 pub mod SameKinds
 pub mod SidesAcrossCuts
+pub mod StrongDigraphs
 pub mod ThreeConnected
 pub mod ThreeSets
 pub mod ToldFacts

@@ -1,11 +1,13 @@
--- Neighbourhoods and 2-extendable graphs (Plummer 1986; Lovász and Plummer, "Matching Theory").
-use Rattle.std.specs.Prelude.{◌≡◌, ℕ, ◌+◌, ◌≤◌, ◌&&◌, true}
+-- Neighbourhoods and 2-extendable graphs, and the digraph of a perfect matching (Plummer 1986;
+-- Lovász and Plummer, "Matching Theory").
+use Rattle.std.specs.Prelude.{◌≡◌, ◌≢◌, ℕ, ◌+◌, ◌≤◌, Bool, ◌==◌, ◌&&◌, not, true, List}
 use Rattle.counting.specs.Counts.{Within, count}
 use Rattle.counting.specs.Sets.{Set, none}
 use Rattle.counting.specs.Tests.{some}
 use Rattle.graph_core.specs.Graph.{Graph, size}
 use Rattle.graph_core.specs.Matchings.{IsEnd, Together}
-use Rattle.graph_core.specs.Walks.{adjacent}
+use Rattle.graph_core.specs.Walks.{Walk, adjacent}
+use Rattle.matching_digraph.specs.Digraph.{arc}
 
 -- the vertices that edges join to a vertex of s
 abbrev pub neighbourhood : Graph → Set → Set
@@ -18,3 +20,12 @@ HasWideNeighbourhoods g a = (s : Set) → ((v : ℕ) → Within g.order v → s 
 -- any two edges without a common end lie together in a perfect matching
 abbrev pub IsTwoExtendable : Graph → Type 0
 IsTwoExtendable g = (e f : ℕ) → Within (size g) e → Within (size g) f → ((v : ℕ) → Within g.order v → IsEnd g e v → IsEnd g f v → ⊥) → Together g e f
+
+-- a step of a digraph that neither begins nor ends at a or b
+abbrev pub step_without : (a b : ℕ) → (ℕ → ℕ → Bool) → ℕ → ℕ → Bool
+step_without a b adj u v = (not (a == u) && not (b == u)) && (not (a == v) && not (b == v)) && adj u v
+
+-- the digraph of the matching m, without the vertices a and b, is strongly connected: a walk leads
+-- from each of its vertices to each other
+abbrev pub IsStrongWithout : Graph → (x m : Set) → (a b : ℕ) → Type 0
+IsStrongWithout g x m a b = (u v : ℕ) → Within g.order u → Within g.order v → u ≢ a → u ≢ b → v ≢ a → v ≢ b → (ws : List ℕ) × Walk (step_without a b (arc g x m)) u ws v

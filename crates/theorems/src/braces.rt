@@ -2,16 +2,17 @@
 //!
 //! Sources: Lovász, "Matching structure and the matching lattice" (1987); Plummer, "Matching
 //! extension in bipartite graphs" (1986); Lovász and Plummer, "Matching Theory".
-ghost use Rattle.std.specs.Prelude.{ℕ, ◌≤◌, ◌↔◌};
+ghost use Rattle.std.specs.Prelude.{◌≡◌, ℕ, ◌≤◌, ◌↔◌, true};
 ghost use Rattle.counting.specs.Sets.{Set, none};
 ghost use Rattle.graph_core.specs.Components.{IsConnected};
 ghost use Rattle.graph_core.specs.Covered.{IsCovered};
 ghost use Rattle.graph_core.specs.Graph.{Graph, IsGraph, IsMultigraph};
-ghost use Rattle.graph_core.specs.Matchings.{HasPerfect};
+ghost use Rattle.graph_core.specs.Matchings.{HasPerfect, IsPerfect};
 ghost use Rattle.graph_core.specs.Tight.{HasNoTightCut};
 ghost use Rattle.graph_core.specs.Sides.{IsSide};
+ghost use Rattle.matching_digraph.specs.Digraph.{NoneParts, are_mates};
 ghost use Rattle.quick_kinds.specs.Braces.{AreFoursMatched};
-ghost use Rattle.theorems.specs.Braces.{HasWideNeighbourhoods, IsTwoExtendable};
+ghost use Rattle.theorems.specs.Braces.{HasWideNeighbourhoods, IsStrongWithout, IsTwoExtendable};
 
 /// Braces in four ways: of a matching covered bipartite graph with the sides A and B these say
 /// the same. It has no nontrivial tight cut; G - a - a' - b - b' has a perfect matching for any
@@ -29,4 +30,19 @@ pub fn braces_law()
     ensures connected { (g : Graph) (a : Set) → IsMultigraph g → IsSide g a → 6 ≤ g.order →
         (IsCovered g × HasNoTightCut g) ↔
         (IsConnected g × HasPerfect g none × IsTwoExtendable g) }
+{}
+
+/// Braces by the digraph of one perfect matching: in a matching covered bipartite graph no
+/// nontrivial tight shore parts a vertex a of a side from its mate b if and only if the digraph of
+/// the matching without a and b is strongly connected; and there is no nontrivial tight cut if and
+/// only if this holds at each edge ab of the matching (Lovász and Plummer, "Matching Theory").
+pub fn strong_digraph_law()
+    ensures mates { (g : Graph) (x m : Set) (a b : ℕ) →
+        IsGraph g → IsCovered g → IsSide g x → IsPerfect g none m →
+        x a ≡ true → are_mates g m a b ≡ true →
+        NoneParts g a b ↔ IsStrongWithout g x m a b }
+    ensures brace { (g : Graph) (x m : Set) →
+        IsGraph g → IsCovered g → IsSide g x → IsPerfect g none m →
+        HasNoTightCut g ↔ ((a b : ℕ) → x a ≡ true → are_mates g m a b ≡ true →
+        IsStrongWithout g x m a b) }
 {}

@@ -35,7 +35,7 @@ mod matchings;
 mod outcomes;
 mod trees;
 
-pub use braces::braces_law;
+pub use braces::{braces_law, strong_digraph_law};
 pub use bricks::elp_law;
 pub use candidates::{first_parted_law, third_part_law};
 pub use cubic_graphs::cubic_law;
