@@ -1,26 +1,22 @@
 -- Steps of a decomposition. A candidate at a partition is a cut there; where an order takes the
 -- first candidate, its shore is picked; and a cut with two trees is the tree that the order
 -- picks, and a derivation, where both trees are.
-use Rattle.std.proofs.Common.{◌≡◌, ℕ, zero, suc, ◌+◌, ◌≤◌, ◌<◌, ◌^◌, List, [], ◌∷◌, length, map, All, get_or, refl, sym, ap, ◌∙◌, arith, subst, slice_get, Option, Some, true, false, ◌==◌, ◌↔◌, eqb-true, ◌*◌}
+use Rattle.std.proofs.Common.{◌≡◌, ℕ, zero, suc, ◌+◌, ◌≤◌, ◌<◌, List, length, map, All, refl, sym, ap, ◌∙◌, arith, subst, slice_get, Option, Some, true, false, ◌==◌}
 use Rattle.std.proofs.lemmas.Bool.{both_ways}
-use Rattle.std.proofs.lemmas.List.{length-map, nil_from_length}
+use Rattle.std.proofs.lemmas.List.{length-map}
 use Rattle.std.proofs.lemmas.Option.{get_or_from_slice_get, slice_get_within}
-use Rattle.counting.proofs.Counts.{count_complement, count_le}
-use Rattle.counting.proofs.RisingLists.{set-wider}
+use Rattle.counting.proofs.Counts.{count_complement}
 use Rattle.counting.specs.Counts.{count}
 use Rattle.counting.specs.Lists.{mem}
-use Rattle.counting.specs.Sets.{Set, complement}
-use Rattle.contraction.proofs.BlockLists.{length-partition}
+use Rattle.counting.specs.Sets.{complement}
 use Rattle.graph_core.specs.Graph.{Graph}
-use Rattle.graph_core.specs.Partitions.{IsPartition}
-use Rattle.graph_core.specs.Shores.{IsTightAt, blocks_in}
-use Rattle.graph_core.specs.Tight.{IsNontrivial}
+use Rattle.graph_core.specs.Shores.{blocks_in}
 use Rattle.tight_cuts.specs.Candidates.{Candidate}
 use Rattle.tight_cuts.specs.CandidatesAt.{IsCandidateAt, candidates_at}
 use Rattle.tight_cuts.specs.View.{candidate_of}
 use Rattle.tight_cuts.specs.declared.candidate.Candidate.{Candidate as StoredCandidate}
 use Rattle.tree_core.specs.Shapes.{Shape, cut, cut_count}
-use Rattle.tree_core.specs.Derivations.{IsCutAt, IsDerivationAt, IsLeafAt, kept_at, merged_at}
+use Rattle.tree_core.specs.Derivations.{IsCutAt, IsDerivationAt, kept_at, merged_at}
 use Rattle.decomposer.specs.Orders.{NamedPicks}
 use Rattle.decomposer.specs.Picked.{IsPickedAt, IsPickedShore, PicksShore}
 use Rattle.decomposer.specs.declared.orders.NamedOrder.TheVariants.{First}
@@ -49,11 +45,6 @@ module _ (g : Graph) (p q r : List (List ℕ)) (x : List ℕ) (t kept merged : S
 
   pub cut-after : (before between after : ℕ) → between ≡ before + 1 + cut_count kept → after ≡ between + cut_count merged → after ≡ before + cut_count t
   cut-after before between after a b = let e = ap cut_count is_t in omega arith
-
--- no candidate: a leaf
-pub leaf-from_none : (g : Graph) (p : List (List ℕ)) (list : List Candidate) → ((list ≡ []) ↔ ((x : Set) → IsTightAt g p x → IsNontrivial (length p) (blocks_in p x) → ⊥)) → (length list == 0) ≡ true → IsLeafAt g p
-unfolding IsLeafAt
-leaf-from_none g p list none is = none.0 (nil_from_length list (eqb-true (length list) 0 is))
 
 -- a list that is not empty has a candidate in store
 pub some-stored : (stored : List StoredCandidate) (list : List Candidate) → map candidate_of stored ≡ list → (length list == 0) ≡ false → 0 < length stored

@@ -1,12 +1,27 @@
 -- The tree that an order picks from a graph (Lovász 1987: any order leads to the same leaves, up
 -- to multiplicities of edges).
-use Rattle.std.specs.Prelude.{◌≡◌, ℕ, ◌+◌, List, [], Option, Some, None, slice_get}
+use Rattle.std.specs.Prelude.{◌≡◌, ℕ, ◌+◌, List, [], All, Option, Some, None, slice_get}
+use Rattle.std.specs.Option.{option_map}
 use Rattle.graph_core.specs.Graph.{Graph}
 use Rattle.graph_core.specs.Partitions.{singles}
-use Rattle.tight_cuts.specs.Candidates.{Candidate}
-use Rattle.tight_cuts.specs.CandidatesAt.{candidates_at}
+use Rattle.tight_cuts.specs.Candidates.{Candidate, first_of}
+use Rattle.tight_cuts.specs.CandidatesAt.{IsCandidateAt, candidates_at}
+use Rattle.tight_cuts.specs.View.{candidate_of}
+use Rattle.tight_cuts.specs.declared.candidate.Candidate.{Candidate as StoredCandidate}
 use Rattle.tree_core.specs.Shapes.{Shape, leaf, cut, cut_count}
 use Rattle.tree_core.specs.Derivations.{IsCutAt, IsLeafAt, kept_at, merged_at}
+
+-- the first candidate at p; none, and p is a leaf, where there is no candidate
+pub record IsFirstAt (g : Graph) (p : List (List ℕ)) (found : Option StoredCandidate) : Type 0 where
+  pub first : option_map candidate_of found ≡ first_of (candidates_at g p)
+  pub some : (c : StoredCandidate) → found ≡ Some c → IsCandidateAt g p (candidate_of c)
+  pub leaf : found ≡ None → IsLeafAt g p
+
+-- all candidates at p; there is none, and p is a leaf, where the list is empty
+pub record AreCandidatesAt (g : Graph) (p : List (List ℕ)) (list : List Candidate) : Type 0 where
+  pub all : list ≡ candidates_at g p
+  pub each : All (IsCandidateAt g p) list
+  pub leaf : list ≡ [] → IsLeafAt g p
 
 -- the shore is that of the candidate at a place that is picked
 abbrev pub PicksShore : (List Candidate → ℕ → ℕ → Type 0) → List Candidate → ℕ → List ℕ → Type 0

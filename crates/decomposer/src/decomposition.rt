@@ -3,9 +3,11 @@ ghost use Rattle.std.specs.Prelude.{◌≡◌, ◌≤◌, ◌<◌, ◌+◌, ◌-
 ghost use Rattle.counting.specs.Counts.{count};
 ghost use Rattle.counting.specs.Lists.{mem};
 ghost use Rattle.graph_core.specs.Covered.{IsCovered, IsReason};
+ghost use Rattle.graph_core.specs.Partitions.{singles};
 ghost use Rattle.graph_core.specs.Quotients.{quotient};
 ghost use Rattle.graph_core.specs.Shores.{blocks_in};
 ghost use Rattle.graph_core.specs.Verdicts.{reason_of};
+ghost use Rattle.tight_cuts.specs.CandidatesAt.{candidates_at};
 ghost use Rattle.tree_core.specs.Derivations.{
   IsCutAt,
   IsDerivation,
@@ -15,13 +17,13 @@ ghost use Rattle.tree_core.specs.Derivations.{
 };
 ghost use Rattle.tree_core.specs.Shapes.{cut, cut_count};
 ghost use Rattle.tree_core.specs.View.{shape_of};
-ghost use Rattle.decomposer.specs.Picked.{IsPicked, IsPickedAt};
+ghost use Rattle.decomposer.specs.Picked.{IsPicked, IsPickedAt, PicksShore};
 
 use crate::orders::Order;
-use crate::shores::picked_shore;
-use allowed_edges::covered;
+use crate::shores::{picked_shore, root_shore};
 use contraction::Partition;
-use graph_core::{MultiGraph, Reason, Verdict};
+use graph_core::{MultiGraph, Reason};
+use graph_facts::Covered;
 use std::alloc::{AllocError, Global};
 use tree_core::{Tree, kept_partition, merged_partition, root_partition};
 use vset_core::VSet;
@@ -46,24 +48,49 @@ pub fn decompose<O: Order>(alloc: Global, g: &MultiGraph, order: &O) -> Result<T
     ensures uncovered { (r : _) → result ≡ Err (Refused.NotCovered r) → ¬ IsCovered g.now }
 {
     g.keeps_limits();
-    match covered(alloc, g) {
+    match Covered::of(alloc, g) {
         Err(_) => Err(Refused::Memory),
-        Ok(Verdict::NotCovered(reason)) => Err(Refused::NotCovered(reason)),
-        Ok(Verdict::Covered) => match decompose_covered(alloc, g, order) {
+        Ok(Err(reason)) => Err(Refused::NotCovered(reason)),
+        Ok(Ok(c)) => match decompose_covered(alloc, &c, order) {
             Ok(tree) => Ok(tree),
             Err(_) => Err(Refused::Memory),
         },
     }
 }
 
-// The tree that the order picks from a covered graph.
-fn decompose_covered<O: Order>(alloc: Global, g: &MultiGraph, order: &O) -> Result<Tree, AllocError>
-    requires { IsCovered g.now }
+/// The tree that `decompose` answers, of a graph that is known to be covered. What is known of the
+/// graph is not sought again.
+pub fn decompose_covered<O: Order>(
+    alloc: Global,
+    c: &Covered,
+    order: &O,
+) -> Result<Tree, AllocError>
+    ensures derivation { IfOk result (λ tree. IsDerivation c.now (shape_of tree)) }
+    ensures picked { IfOk result (λ tree. IsPicked (O.picks order.now) c.now (shape_of tree)) }
+{
+    c.keeps_covered();
+    match root_shore(alloc, c, order)? {
+        None => Ok(Tree::Leaf),
+        Some(shore) => decompose_root(alloc, c.graph(), order, shore),
+    }
+}
+
+// The tree of a covered graph with the cut at its root.
+fn decompose_root<O: Order>(
+    alloc: Global,
+    g: &MultiGraph,
+    order: &O,
+    shore: VSet,
+) -> Result<Tree, AllocError>
+    requires covered { IsCovered g.now }
+    requires cut { IsCutAt g.now (singles g.now.order) shore }
+    requires picked { PicksShore (O.picks order.now)
+        (candidates_at g.now (singles g.now.order)) 0 shore }
     ensures derivation { IfOk result (λ tree. IsDerivation g.now (shape_of tree)) }
     ensures picked { IfOk result (λ tree. IsPicked (O.picks order.now) g.now (shape_of tree)) }
 {
     let root = root_partition(alloc, g)?;
-    let (tree, _) = decompose_at(alloc, g, order, &root, 0)?;
+    let (tree, _) = decompose_cut(alloc, g, order, &root, 0, shore)?;
     Ok(tree)
 }
 
@@ -100,13 +127,37 @@ fn decompose_at<O: Order>(
 {
     match picked_shore(alloc, g, order, p, before)? {
         None => Ok((Tree::Leaf, before)),
-        Some(shore) => {
-            let (kept, between) = decompose_kept(alloc, g, order, p, before + 1, shore)?;
-            let (merged, after) = decompose_merged(alloc, g, order, p, between, shore)?;
-            let tree = cut_tree(alloc, shore, kept, merged)?;
-            Ok((tree, after))
-        }
+        Some(shore) => decompose_cut(alloc, g, order, p, before, shore),
     }
+}
+
+// The tree with the cut at p that the order picks there, and the number of cuts before what
+// follows it.
+#[cycle(decomposing)]
+fn decompose_cut<O: Order>(
+    alloc: Global,
+    g: &MultiGraph,
+    order: &O,
+    p: &Partition,
+    before: usize,
+    shore: VSet,
+) -> Result<(Tree, usize), AllocError>
+    requires partition { p.now.order ≡ g.now.order }
+    requires covered { IsCovered (quotient g.now p.now.blocks) }
+    requires cut { IsCutAt g.now p.now.blocks shore }
+    requires picked { PicksShore (O.picks order.now)
+        (candidates_at g.now p.now.blocks) before shore }
+    requires few { before + length p.now.blocks ≤ 256 }
+    ensures derives { IfOk result (λ made. IsDerivationAt g.now p.now.blocks (shape_of made.0)) }
+    ensures picked { IfOk result
+        (λ made. IsPickedAt (O.picks order.now) g.now p.now.blocks before (shape_of made.0)) }
+    ensures after { IfOk result (λ made. made.1 ≡ before + cut_count (shape_of made.0)) }
+    ensures few { IfOk result (λ made. cut_count (shape_of made.0) + 3 ≤ length p.now.blocks) }
+{
+    let (kept, between) = decompose_kept(alloc, g, order, p, before + 1, shore)?;
+    let (merged, after) = decompose_merged(alloc, g, order, p, between, shore)?;
+    let tree = cut_tree(alloc, shore, kept, merged)?;
+    Ok((tree, after))
 }
 
 // The tree of the side that is kept below the cut of the shore at p.

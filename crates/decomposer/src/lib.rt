@@ -5,7 +5,8 @@
 //! have names (`NamedOrder`), the order of a list of picks (`Scripted`), that of a function
 //! (`ByFunction`), or any type with an `impl Order`. The tree is a derivation of the graph
 //! (`IsDerivation` of `tree_core`) and exactly one that the order picks (`IsPicked` of
-//! `specs/Picked`), with cuts counted in preorder.
+//! `specs/Picked`), with cuts counted in preorder. `decompose_covered` takes a covered graph of
+//! which the facts are at hand (`Covered` of `graph_facts`).
 //!
 //! Stands on `tight_cuts` for the candidates at a partition and on `tree_core` for trees. Source:
 //! Lovász, "Matching structure and the matching lattice" (1987); Lucchesi and Murty, "Perfect
@@ -18,5 +19,5 @@ mod orders;
 mod shores;
 
 pub use by_function::{ByFunction, Function};
-pub use decomposition::{Refused, decompose};
+pub use decomposition::{Refused, decompose, decompose_covered};
 pub use orders::{NamedOrder, Order, Scripted};

@@ -156,7 +156,7 @@ fn tally_if_covered(alloc: Global, g: &MultiGraph) -> Result<Option<Tally>, Memo
     ensures { IfOk result (TellsTally g.now) }
 {
     match Covered::of(alloc, g)? {
-        Ok(c) => Ok(Some(counted(alloc, c.graph())?)),
+        Ok(c) => Ok(Some(counted(alloc, &c)?)),
         Err(_) => Ok(None),
     }
 }

@@ -1,11 +1,10 @@
 //! How a graph stands among the matching covered graphs.
 ghost use Rattle.std.specs.Prelude.{◌≡◌, IfOk};
-ghost use Rattle.graph_core.specs.Covered.{IsCovered};
 ghost use Rattle.graph_core.specs.Verdicts.{reason_of};
 ghost use Rattle.leaf_kinds.specs.LeafKinds.{IsKind};
 ghost use Rattle.list_lines.specs.Standings.{IsCounted, IsStanding, sort_of, why_of};
 
-use decomposer::{NamedOrder, Refused, decompose};
+use decomposer::{NamedOrder, decompose_covered};
 use graph_core::{Kind, MultiGraph, Reason};
 use graph_facts::Covered;
 use leaf_kinds::kind_of;
@@ -125,22 +124,16 @@ fn tally_of_kind(alloc: Global, c: &Covered, kind: Kind) -> Result<Tally, Memory
             bricks: 0,
             braces: 1,
         }),
-        Kind::Composite { .. } => counted(alloc, c.graph()),
+        Kind::Composite { .. } => counted(alloc, c),
     }
 }
 
 /// The numbers of the leaves of a covered graph, of the derivation for which the first candidates
 /// are picked.
-pub fn counted(alloc: Global, g: &MultiGraph) -> Result<Tally, Memory>
-    requires { IsCovered g.now }
-    ensures { IfOk result (IsCounted g.now) }
+pub fn counted(alloc: Global, c: &Covered) -> Result<Tally, Memory>
+    ensures { IfOk result (IsCounted c.now) }
 {
-    match decompose(alloc, g, &NamedOrder::First) {
-        Ok(tree) => {
-            let tally = tally_of_tree(alloc, g, &tree)?;
-            Ok(tally)
-        }
-        Err(Refused::NotCovered(_)) => unreachable!(),
-        Err(Refused::Memory) => Err(Memory),
-    }
+    let tree = decompose_covered(alloc, c, &NamedOrder::First)?;
+    let tally = tally_of_tree(alloc, c.graph(), &tree)?;
+    Ok(tally)
 }

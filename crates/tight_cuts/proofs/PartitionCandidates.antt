@@ -1,13 +1,14 @@
 -- The candidates at a partition: each is a candidate there, and there is none exactly when no
 -- nontrivial shore is tight. Idea: they are those of the graph itself, or those of the quotient
--- led back.
+-- led back. At single vertices of a covered graph they are its own.
 use Rattle.std.proofs.Common.{◌≡◌, ◌↔◌, All, List, [], length, sym, subst, inl, inr, ℕ}
 use Rattle.std.proofs.lemmas.Bool.{cases_eq}
 use Rattle.counting.specs.Sets.{Set}
 use Rattle.graph_core.proofs.QuotientTight.{quotient_graph}
+use Rattle.graph_core.proofs.Singles.{length-singles, singles-partition}
 use Rattle.graph_core.specs.Covered.{IsCovered}
 use Rattle.graph_core.specs.Graph.{Graph, IsGraph}
-use Rattle.graph_core.specs.Partitions.{IsPartition}
+use Rattle.graph_core.specs.Partitions.{IsPartition, singles}
 use Rattle.graph_core.specs.Quotients.{quotient}
 use Rattle.graph_core.specs.Shores.{IsTightAt, blocks_in}
 use Rattle.graph_core.specs.Tight.{IsNontrivial}
@@ -30,3 +31,16 @@ module _ (g : Graph) (p : List (List ℕ)) (is : IsGraph g) (pp : IsPartition g.
     | inr d ↦ subst (λ (list : List Candidate). (list ≡ []) ↔ ((x : Set) → IsTightAt g p x → IsNontrivial (length p) (blocks_in p x) → ⊥)) (sym (at-blocks g p d))
         (quotient-none g p is pp (candidates (quotient g p)) (candidates_none (quotient g p) (quotient_graph g p is pp.partition) covered))
   ]
+
+-- at single vertices
+pub root-candidates : (g : Graph) → candidates_at g (singles g.order) ≡ candidates g
+root-candidates g = at-vertices g (singles g.order) (length-singles g.order)
+
+module _ (g : Graph) (is : IsGraph g) (covered : IsCovered g) where
+  pub found-root : All (IsCandidateAt g (singles g.order)) (candidates_at g (singles g.order))
+  found-root = subst (All (IsCandidateAt g (singles g.order))) (sym (root-candidates g))
+      (singles-found g is (singles g.order) (singles-partition g.order) (length-singles g.order) (candidates g) (candidates_found g is covered))
+
+  pub none-root : (candidates_at g (singles g.order) ≡ []) ↔ ((x : Set) → IsTightAt g (singles g.order) x → IsNontrivial (length (singles g.order)) (blocks_in (singles g.order) x) → ⊥)
+  none-root = subst (λ (list : List Candidate). (list ≡ []) ↔ ((x : Set) → IsTightAt g (singles g.order) x → IsNontrivial (length (singles g.order)) (blocks_in (singles g.order) x) → ⊥)) (sym (root-candidates g))
+      (singles-none g is (singles g.order) (singles-partition g.order) (length-singles g.order) (candidates g) (candidates_none g is covered))

@@ -4,6 +4,7 @@ ghost use Rattle.std.specs.Option.{option_map};
 ghost use Rattle.counting.specs.Sets.{Set};
 ghost use Rattle.graph_core.specs.Covered.{IsCovered};
 ghost use Rattle.graph_core.specs.Graph.{Graph};
+ghost use Rattle.graph_core.specs.Partitions.{singles};
 ghost use Rattle.graph_core.specs.Quotients.{quotient};
 ghost use Rattle.graph_core.specs.Shores.{IsTightAt, blocks_in};
 ghost use Rattle.graph_core.specs.Tight.{IsNontrivial};
@@ -13,7 +14,7 @@ ghost use Rattle.tight_cuts.specs.CandidatesAt.{IsCandidateAt, candidates_at, li
 ghost use Rattle.tight_cuts.specs.View.{candidate_of};
 
 use crate::candidate::{Candidate, CandidateList};
-use crate::finder::{candidates, first_candidate};
+use crate::finder::{candidates, first_candidate, listed};
 use contraction::{Contracted, Partition, quotient};
 use graph_core::MultiGraph;
 use graph_facts::Covered;
@@ -92,6 +93,37 @@ pub fn first_candidate_at(
     g.keeps_limits();
     p.keeps_partition();
     let found = first_at(alloc, g, p)?;
+    Ok(found)
+}
+
+/// The candidates at the partition into single vertices of a covered graph: the answer of
+/// `candidates_at` there, from what is known of the graph.
+pub fn root_candidates(alloc: Global, c: &Covered) -> Result<CandidateList, Memory>
+    ensures list { IfOk result (λ list. list ≡ candidates_at c.now (singles c.now.order)) }
+    ensures tight { IfOk result (λ list. All (IsCandidateAt c.now (singles c.now.order)) list) }
+    ensures none { IfOk result
+        (λ list. (list ≡ []) ↔ ((x : Set) → IsTightAt c.now (singles c.now.order) x →
+        IsNontrivial (length (singles c.now.order)) (blocks_in (singles c.now.order) x) → ⊥)) }
+{
+    c.keeps_covered();
+    let list = listed(alloc, c)?;
+    Ok(list)
+}
+
+/// The first candidate at the partition into single vertices of a covered graph: the answer of
+/// `first_candidate_at` there, from what is known of the graph.
+pub fn first_root_candidate(alloc: Global, c: &Covered) -> Result<Option<Candidate>, Memory>
+    ensures first { IfOk result (λ found.
+        option_map candidate_of found ≡ first_of (candidates_at c.now (singles c.now.order))) }
+    ensures some { IfOk result (λ found. (d : _) → found ≡ Some d →
+        IsCandidateAt c.now (singles c.now.order) (candidate_of d)) }
+    ensures none { IfOk result (λ found. (found ≡ None) ↔
+        ((x : Set) → IsTightAt c.now (singles c.now.order) x →
+        IsNontrivial (length (singles c.now.order)) (blocks_in (singles c.now.order) x) → ⊥)) }
+{
+    c.keeps_covered();
+    let pairs = FirstPairs::of(alloc, c)?;
+    let found = first_candidate(alloc, &pairs)?;
     Ok(found)
 }
 

@@ -90,9 +90,9 @@ fn first_flood_cut(
     Ok(None)
 }
 
-// The list of the candidates. A graph that is not bipartite and has none of the first two parts has
-// none at all (Edmonds, Lovász and Pulleyblank 1982).
-fn listed(alloc: Global, c: &Covered) -> Result<CandidateList, Memory>
+/// The list of the candidates. A graph that is not bipartite and has none of the first two parts
+/// has none at all (Edmonds, Lovász and Pulleyblank 1982).
+pub(crate) fn listed(alloc: Global, c: &Covered) -> Result<CandidateList, Memory>
     ensures { IfOk result (λ list. list ≡ candidates c.now) }
 {
     c.keeps_covered();

@@ -23,7 +23,8 @@
 //!
 //! `candidates_at` lists the candidates at a partition of the vertices into blocks: those of the
 //! quotient, led back to vertices of the graph (`IsCandidateAt`); `first_candidate_at` answers
-//! the first.
+//! the first. `root_candidates` and `first_root_candidate` answer the same at single vertices of a
+//! covered graph of which the facts are at hand.
 //!
 //! Stands on `contraction`, `allowed_edges`, `barrier_kit`, `separation_kit`, `brick_kit`,
 //! `matching_digraph` and `flow_core`. Sources: Edmonds, Lovász and Pulleyblank 1982; Lovász,
@@ -43,7 +44,7 @@ mod groups;
 mod pieces;
 mod tightness;
 
-pub use at_partition::{candidates_at, first_candidate_at};
+pub use at_partition::{candidates_at, first_candidate_at, first_root_candidate, root_candidates};
 pub use by_pairs::candidates_by_pairs;
 pub use candidate::{Candidate, CandidateList, Origin};
 pub use finder::{candidates, find_any, first_candidate, first_cut};

@@ -1,11 +1,9 @@
 //! The maps of moves and of scripts: where they take each leaf of a tree, and its blocks.
-ghost use Rattle.std.specs.Prelude.{◌≡◌, ◌≤◌, ◌<◌, ◌+◌, ◌-◌, ◌++◌, ◌∷◌, [], Some, IfOk, OnOk, All, length, map};
-ghost use Rattle.counting.specs.Counts.{Within};
-ghost use Rattle.graph_core.specs.Partitions.{complement_of, singles};
-ghost use Rattle.contraction.specs.Partition.{IsUnionAt};
-ghost use Rattle.tree_core.specs.Derivations.{IsDerivation, kept_at, merged_at};
+ghost use Rattle.std.specs.Prelude.{◌≡◌, ◌≤◌, ◌<◌, ◌+◌, ◌++◌, ◌∷◌, [], ℕ, List, Some, IfOk, OnOk, length};
+ghost use Rattle.graph_core.specs.Partitions.{singles};
+ghost use Rattle.tree_core.specs.Derivations.{IsDerivation};
 ghost use Rattle.tree_core.specs.LeafMaps.{maps_from, move_maps, own_maps, position, script_maps};
-ghost use Rattle.tree_core.specs.Leaves.{StandsAt};
+ghost use Rattle.tree_core.specs.Leaves.{StandsAt, leaves, leaves_at, partitions_of};
 ghost use Rattle.tree_core.specs.MoveView.{move_of, moves_of};
 ghost use Rattle.tree_core.specs.Moves.{move_result};
 ghost use Rattle.tree_core.specs.Shapes.{Fits, Shape, leaf_count};
@@ -19,12 +17,11 @@ use crate::block_images::{Images, image_names};
 use crate::exchanges::Exchange;
 use crate::leaf_maps::{LeafMap, LeafMaps, followed_by};
 use crate::leaf_orders::{count_leaves, move_order, push_numbers};
-use crate::partitions_below::PartitionsBelow;
 use contraction::Partition;
 use graph_core::{MultiGraph, Numbers};
 use std::alloc::{AllocError as Memory, Global};
-use tree_core::{Move, Moves, Side, Tree, apply, complement_in, copy, leaves};
-use vset_core::{MOST_VERTICES, VSet};
+use tree_core::{Move, Moves, Partitions, Side, Tree, apply, copy, leaves};
+use vset_core::MOST_VERTICES;
 
 // The place of a number in a list, counted from 1, and one past the end if it is not there.
 fn position_of(order: &[u32], i: u32) -> u32
@@ -51,86 +48,72 @@ fn push_leaf(order: &[u32], names: Numbers, maps: &mut LeafMaps) -> Result<(), M
     maps.push(LeafMap { to, images: names })
 }
 
-// The partitions at the two trees below the root with this shore.
-fn split(alloc: Global, p: &Partition, shore: VSet) -> Result<PartitionsBelow, Memory>
-    requires fits { All (Within (p.now.order - 1)) shore }
-    requires nonempty { 0 < length shore }
-    requires union { IsUnionAt p.now shore }
-    ensures kept_order { IfOk result (λ at. at.kept.order ≡ p.now.order) }
-    ensures kept_blocks { IfOk result
-        (λ at. at.kept.blocks ≡ kept_at p.now.order p.now.blocks shore) }
-    ensures merged_order { IfOk result (λ at. at.merged.order ≡ p.now.order) }
-    ensures merged_blocks { IfOk result
-        (λ at. at.merged.blocks ≡ merged_at p.now.order p.now.blocks shore) }
-{
-    let complement = complement_in(p, shore);
-    let kept = p.merge(alloc, complement)?;
-    let merged = p.merge(alloc, shore)?;
-    Ok(PartitionsBelow { kept, merged })
-}
-
-// Appends the maps of the leaves of the tree at p, below whose root this happens, at the end of
-// the path.
+// Appends the maps of the leaves of the tree, below whose root this happens, at the end of the
+// path. The leaves stand at `parts`, in order.
 fn push_leaves(
     alloc: Global,
+    n: u32,
     tree: &Tree,
-    p: &Partition,
+    parts: &[Partition],
     path: &[Side],
     exchange: &Exchange,
     order: &[u32],
     maps: &mut LeafMaps,
 ) -> Result<(), Memory>
+    requires order { n ≤ MOST_VERTICES }
     requires few { length maps.old + leaf_count (shape_of tree.now) ≤ 255 }
     requires short { length order.now ≤ 255 }
-    requires fits { Fits p.now.order (shape_of tree.now) }
-    requires stands { StandsAt p.now.order p.now.blocks (shape_of tree.now) }
-    ensures maps { OnOk result
-        (maps_of maps.new ≡ maps_of maps.old ++
+    requires one_each { length parts.now ≡ leaf_count (shape_of tree.now) }
+    ensures maps { OnOk result ((p : List (List ℕ)) →
+        parts.now ≡ partitions_of n (leaves_at n p (shape_of tree.now)) →
+        maps_of maps.new ≡ maps_of maps.old ++
         maps_from order.now (length maps.old)
-        (exchanged_names p.now.order exchange.now path.now p.now.blocks (shape_of tree.now))) }
+        (exchanged_names n exchange.now path.now p (shape_of tree.now))) }
     ensures count { OnOk result
         (length maps.new ≡ length maps.old + leaf_count (shape_of tree.now)) }
 {
-    p.keeps_partition();
     match tree {
-        Tree::Leaf => push_leaf(order, image_names(alloc, &exchange.at_leaf(), p)?, maps),
+        Tree::Leaf => {
+            let names = image_names(alloc, &exchange.at_leaf(), &parts[0])?;
+            push_leaf(order, names, maps)
+        }
         Tree::Cut {
             shore,
             kept,
             merged,
         } => {
-            let below = exchange.at_cut(path, p.order(), *shore);
-            let at = split(alloc, p, *shore)?;
-            push_leaves(alloc, kept, &at.kept, below.0, &below.1, order, maps)?;
-            push_leaves(alloc, merged, &at.merged, below.0, &below.2, order, maps)
+            let below = exchange.at_cut(path, n, *shore);
+            let (inner, outer) = parts.split_at(count_leaves(kept) as usize);
+            push_leaves(alloc, n, kept, inner, below.0, &below.1, order, maps)?;
+            push_leaves(alloc, n, merged, outer, below.0, &below.2, order, maps)
         }
     }
 }
 
-// The maps of the leaves of a tree, with the order of the new tree and what happens below the
-// root, at the end of the path.
+// The maps of the leaves of a tree, which stand at `parts`, with the order of the new tree and
+// what happens below the root, at the end of the path.
 fn maps_with(
     alloc: Global,
     n: u32,
     tree: &Tree,
+    parts: &Partitions,
     path: &[Side],
     exchange: &Exchange,
     order: &Numbers,
 ) -> Result<LeafMaps, Memory>
     requires order { n ≤ MOST_VERTICES }
     requires short { length order.now ≤ 255 }
-    requires fits { Fits n (shape_of tree.now) }
-    requires stands { StandsAt n (singles n) (shape_of tree.now) }
     requires few { leaf_count (shape_of tree.now) ≤ 255 }
+    requires parts { parts.now ≡ partitions_of n (leaves n (shape_of tree.now)) }
     ensures { IfOk result (λ maps. maps_of maps ≡ maps_from order.now 0
         (exchanged_names n exchange.now path.now (singles n) (shape_of tree.now))) }
 {
-    let root = Partition::singles(alloc, n)?;
     let mut maps = LeafMaps::new(alloc);
     push_leaves(
         alloc,
+        n,
         tree,
-        &root,
+        parts.as_slice(),
         path,
         exchange,
         order.as_slice(),
@@ -149,28 +132,36 @@ pub fn own_maps(alloc: Global, n: u32, tree: &Tree) -> Result<LeafMaps, Memory>
 {
     let mut order = Numbers::new(alloc);
     push_numbers(&mut order, 0, count_leaves(tree))?;
-    maps_with(alloc, n, tree, &[], &Exchange::Made(Images::Own), &order)
+    let parts = leaves(alloc, tree, n)?;
+    let own = Exchange::Made(Images::Own);
+    maps_with(alloc, n, tree, &parts, &[], &own, &order)
 }
 
-/// The maps of a move that has a result on the tree: for each leaf, in preorder, its place among
-/// the leaves of the result and the names of the images of its blocks.
+/// The maps of a move that has a result on the tree, whose leaves stand at `parts`: for each leaf,
+/// in preorder, its place among the leaves of the result and the names of the images of its
+/// blocks.
 #[tactic(auto, unfolding(tree_core::specs::LeafMaps::move_maps))]
-pub fn move_maps(alloc: Global, n: u32, tree: &Tree, m: &Move) -> Result<LeafMaps, Memory>
+pub fn move_maps(
+    alloc: Global,
+    n: u32,
+    tree: &Tree,
+    parts: &Partitions,
+    m: &Move,
+) -> Result<LeafMaps, Memory>
     requires order { n ≤ MOST_VERTICES }
-    requires fits { Fits n (shape_of tree.now) }
-    requires stands { StandsAt n (singles n) (shape_of tree.now) }
     requires few { leaf_count (shape_of tree.now) ≤ 255 }
-    requires made { (t : Shape) × (move_result n (shape_of tree.now) (move_of m.now) ≡ Some t) }
+    requires parts { parts.now ≡ partitions_of n (leaves n (shape_of tree.now)) }
     ensures { IfOk result (λ maps. maps_of maps ≡ move_maps n (shape_of tree.now) (move_of m.now)) }
 {
     let order = move_order(alloc, n, tree, m)?;
     match m {
         Move::Rotate { .. } => {
-            maps_with(alloc, n, tree, &[], &Exchange::Made(Images::Own), &order)
+            let own = Exchange::Made(Images::Own);
+            maps_with(alloc, n, tree, parts, &[], &own, &order)
         }
         Move::Switch { path, u, v } => {
             let exchange = Exchange::Wanted { u: *u, v: *v };
-            maps_with(alloc, n, tree, path.as_slice(), &exchange, &order)
+            maps_with(alloc, n, tree, parts, path.as_slice(), &exchange, &order)
         }
     }
 }
@@ -205,7 +196,7 @@ fn maps_onward(
         (λ after. maps_of after ≡ led_on n (shape_of tree.now) (move_of m.now) (maps_of maps.now)) }
 {
     let partitions = leaves(alloc, tree, n)?;
-    let next = move_maps(alloc, n, tree, m)?;
+    let next = move_maps(alloc, n, tree, &partitions, m)?;
     let after = followed_by(alloc, maps, &partitions, &next)?;
     Ok(after)
 }

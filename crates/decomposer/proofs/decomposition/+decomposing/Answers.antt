@@ -10,44 +10,53 @@ use Rattle.decomposer.specs.Picked.{IsPickedAt}
 use Rattle.decomposer.proofs.Picking.{blocks-beside, blocks-inside, blocks-kept, cut-after, cut-derives, cut-picked}
 use Rattle.decomposer.proofs.decomposition.+decomposing.Goals as goal
 
-pub decompose_at-decompose_kept-requires : goal.decompose_at-decompose_kept-requires
-decompose_at-decompose_kept-requires g t c κs within =
-    let cuts = c.in_ok-picked_shore.ensures.cut c.in-Some.shore c.in-Some.is in
-    let beside = blocks-beside c.args.g.now c.args.p.now.blocks c.in-Some.shore cuts in
+pub decompose_at-decompose_cut-requires : goal.decompose_at-decompose_cut-requires
+decompose_at-decompose_cut-requires g t c κs within =
+    let falls = c.decreases in
+    (first_of (omega arith, search rules), (within, (c.requires.partition, (c.requires.covered, (c.in_ok-picked_shore.ensures.cut c.in-Some.shore c.in-Some.is, (c.in_ok-picked_shore.ensures.picked c.in-Some.shore c.in-Some.is, c.requires.few))))))
+
+pub decompose_at-returns-in-Some-clause-few : goal.decompose_at-returns-in-Some-clause-few
+decompose_at-returns-in-Some-clause-few g t c =
+    IfOk-weaker c.decompose_cut.result (λ made. cut_count (shape_of made.0) + 3 ≤ length c.args.p.now.blocks) (λ made. 4 ≤ length c.args.p.now.blocks → cut_count (shape_of made.0) + 3 ≤ length c.args.p.now.blocks)
+    (λ made few some. few)
+    c.decompose_cut.ensures.few
+
+pub decompose_cut-decompose_kept-requires : goal.decompose_cut-decompose_kept-requires
+decompose_cut-decompose_kept-requires g t c κs within =
+    let beside = blocks-beside c.args.g.now c.args.p.now.blocks c.args.shore c.requires.cut in
     let bound = c.requires.few in
     let falls = c.decreases in
-    (first_of (omega arith, search rules), (within, (c.requires.partition, (c.requires.covered, (cuts, omega arith)))))
+    (first_of (omega arith, search rules), (within, (c.requires.partition, (c.requires.covered, (c.requires.cut, omega arith)))))
 
-pub decompose_at-decompose_merged-requires : goal.decompose_at-decompose_merged-requires
-decompose_at-decompose_merged-requires g t c κs within =
-    let cuts = c.in_ok-picked_shore.ensures.cut c.in-Some.shore c.in-Some.is in
-    let few = c.in_ok-kept-in-Some.ensures.few in
-    let after = c.in_ok-kept-in-Some.ensures.after in
+pub decompose_cut-decompose_merged-requires : goal.decompose_cut-decompose_merged-requires
+decompose_cut-decompose_merged-requires g t c κs within =
+    let few = c.in_ok-kept.ensures.few in
+    let after = c.in_ok-kept.ensures.after in
     let bound = c.requires.few in
     let falls = c.decreases in
-    (first_of (omega arith, search rules), (within, (c.requires.partition, (c.requires.covered, (cuts, omega arith)))))
+    (first_of (omega arith, search rules), (within, (c.requires.partition, (c.requires.covered, (c.requires.cut, omega arith)))))
 
-pub decompose_at-returns-in_ok-tree-in-Some-clause-few : goal.decompose_at-returns-in_ok-tree-in-Some-clause-few
-decompose_at-returns-in_ok-tree-in-Some-clause-few g t c some =
-    let kept = c.in_ok-kept-in-Some.ensures.few in
-    let merged = c.in_ok-merged-in-Some.ensures.few in
-    let is = ap cut_count c.in_ok-tree-in-Some.ensures in
+pub decompose_cut-returns-clause-few : goal.decompose_cut-returns-clause-few
+decompose_cut-returns-clause-few g t c =
+    let kept = c.in_ok-kept.ensures.few in
+    let merged = c.in_ok-merged.ensures.few in
+    let is = ap cut_count c.in_ok-tree.ensures in
     omega arith
 
-pub decompose_at-returns-in_ok-tree-in-Some-clause-derives : goal.decompose_at-returns-in_ok-tree-in-Some-clause-derives
-decompose_at-returns-in_ok-tree-in-Some-clause-derives g t c =
-    cut-derives c.args.g.now c.args.p.now.blocks _ _ c.in-Some.shore _ _ _ c.in_ok-tree-in-Some.ensures refl refl (c.in_ok-picked_shore.ensures.cut c.in-Some.shore c.in-Some.is)
-    c.in_ok-kept-in-Some.ensures.derives c.in_ok-merged-in-Some.ensures.derives
+pub decompose_cut-returns-clause-derives : goal.decompose_cut-returns-clause-derives
+decompose_cut-returns-clause-derives g t c =
+    cut-derives c.args.g.now c.args.p.now.blocks _ _ c.args.shore _ _ _ c.in_ok-tree.ensures refl refl c.requires.cut
+    c.in_ok-kept.ensures.derives c.in_ok-merged.ensures.derives
 
-pub decompose_at-returns-in_ok-tree-in-Some-clause-picked : goal.decompose_at-returns-in_ok-tree-in-Some-clause-picked
-decompose_at-returns-in_ok-tree-in-Some-clause-picked g t c =
-    cut-picked c.args.g.now c.args.p.now.blocks _ _ c.in-Some.shore _ _ _ c.in_ok-tree-in-Some.ensures refl refl (c.in_ok-picked_shore.ensures.cut c.in-Some.shore c.in-Some.is)
-    (g.O.Order.picks c.args.order.now) c.args.before _ (c.in_ok-picked_shore.ensures.picked c.in-Some.shore c.in-Some.is) c.in_ok-kept-in-Some.ensures.picked c.in_ok-kept-in-Some.ensures.after c.in_ok-merged-in-Some.ensures.picked
+pub decompose_cut-returns-clause-picked : goal.decompose_cut-returns-clause-picked
+decompose_cut-returns-clause-picked g t c =
+    cut-picked c.args.g.now c.args.p.now.blocks _ _ c.args.shore _ _ _ c.in_ok-tree.ensures refl refl c.requires.cut
+    (g.O.Order.picks c.args.order.now) c.args.before _ c.requires.picked c.in_ok-kept.ensures.picked c.in_ok-kept.ensures.after c.in_ok-merged.ensures.picked
 
-pub decompose_at-returns-in_ok-tree-in-Some-clause-after : goal.decompose_at-returns-in_ok-tree-in-Some-clause-after
-decompose_at-returns-in_ok-tree-in-Some-clause-after g t c =
-    cut-after c.args.g.now c.args.p.now.blocks _ _ c.in-Some.shore _ _ _ c.in_ok-tree-in-Some.ensures refl refl (c.in_ok-picked_shore.ensures.cut c.in-Some.shore c.in-Some.is)
-    c.args.before _ _ c.in_ok-kept-in-Some.ensures.after c.in_ok-merged-in-Some.ensures.after
+pub decompose_cut-returns-clause-after : goal.decompose_cut-returns-clause-after
+decompose_cut-returns-clause-after g t c =
+    cut-after c.args.g.now c.args.p.now.blocks _ _ c.args.shore _ _ _ c.in_ok-tree.ensures refl refl c.requires.cut
+    c.args.before _ _ c.in_ok-kept.ensures.after c.in_ok-merged.ensures.after
 
 pub decompose_kept-decompose_at-requires : goal.decompose_kept-decompose_at-requires
 decompose_kept-decompose_at-requires g t c κs within =

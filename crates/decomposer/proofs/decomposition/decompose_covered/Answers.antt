@@ -1,7 +1,8 @@
-use Rattle.std.proofs.Common.{List, ℕ, subst}
-use Rattle.tree_core.specs.View.{shape_of}
-use Rattle.decomposer.specs.Picked.{IsPickedAt}
+use Rattle.std.proofs.Common.{sym, subst}
+use Rattle.graph_core.specs.Graph.{Graph}
+use Rattle.graph_core.specs.Partitions.{singles}
+use Rattle.tree_core.specs.Derivations.{IsCutAt}
 use Rattle.decomposer.proofs.decomposition.decompose_covered.Goals as goal
 
-pub returns-clause-picked : goal.returns-clause-picked
-returns-clause-picked g c = subst (λ (p : List (List ℕ)). IsPickedAt (g.O.Order.picks c.args.order.now) c.args.g.now p 0 (shape_of c.in_ok-tree.tree)) c.in_ok-root.ensures.blocks c.in_ok-tree.ensures.picked
+pub decompose_root-requires-clause-cut : goal.decompose_root-requires-clause-cut
+decompose_root-requires-clause-cut g c = subst (λ (h : Graph). IsCutAt h (singles h.order) c.in-Some.shore) (sym c.graph.ensures.same) (c.in_ok-root_shore.ensures.cut c.in-Some.shore c.in-Some.is)

@@ -1,13 +1,23 @@
 use Rattle.std.proofs.Common.{rules}
-use Rattle.std.proofs.lemmas.Result.{IfOk-weaker}
+use Rattle.tree_core.specs.Derivations.{IsLeafAt}
 use Rattle.decomposer.proofs.Picking.{first-picked}
-use Rattle.decomposer.specs.Orders.{NamedPicks}
-use Rattle.decomposer.specs.Picked.{IsPickedShore}
-use Rattle.decomposer.specs.declared.orders.NamedOrder.TheVariants.{First}
 use Rattle.decomposer.proofs.shores.picked_shore.Goals as goal
 
-pub returns-then-takes_first : goal.returns-then-takes_first
-returns-then-takes_first g c =
-    IfOk-weaker c.first_shore.result (IsPickedShore (NamedPicks First) c.args.g.now c.args.p.now.blocks c.args.before) (IsPickedShore (g.O.Order.picks c.args.order.now) c.args.g.now c.args.p.now.blocks c.args.before)
-    (λ o is. first-picked (g.O.Order.picks c.args.order.now) c.args.g.now c.args.p.now.blocks c.args.before o (search rules) is)
-    c.first_shore.ensures
+pub returns-in_ok-first : goal.returns-in_ok-first
+unfolding IsLeafAt
+returns-in_ok-first g c =
+    first-picked (g.O.Order.picks c.args.order.now) c.args.g.now c.args.p.now.blocks c.args.before c.shore_of.result (search rules)
+    (c.shore_of.ensures c.args.g.now c.args.p.now.blocks c.args.before (record {
+      first = c.in_ok-first.ensures.first;
+      some = c.in_ok-first.ensures.some;
+      leaf = c.in_ok-first.ensures.none.0;
+    }))
+
+pub returns-in_ok-list : goal.returns-in_ok-list
+unfolding IsLeafAt
+returns-in_ok-list g c =
+    c.listed_shore.ensures c.args.g.now c.args.p.now.blocks (record {
+      all = c.in_ok-list.ensures.list;
+      each = c.in_ok-list.ensures.tight;
+      leaf = c.in_ok-list.ensures.none.0;
+    })
