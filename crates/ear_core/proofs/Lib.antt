@@ -23,3 +23,4 @@ pub mod BipartiteStages
 pub mod Stepping
 pub mod Following
 pub mod WholeStages
+pub mod NeededPairs

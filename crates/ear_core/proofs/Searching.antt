@@ -87,7 +87,7 @@ ordered a b (c ∷ ears) i j = elim i [
   ]
 ]
 
-before-among : (a b : PlainEar) (ears : List PlainEar) → IsBefore a b ears → IsIn a ears × IsIn b ears
+pub before-among : (a b : PlainEar) (ears : List PlainEar) → IsBefore a b ears → IsIn a ears × IsIn b ears
 before-among a b [] i = absurd i
 before-among a b (c ∷ ears) i = elim i [ inl p ↦ (inl p.0, inr p.1) | inr j ↦ let r = before-among a b ears j in (inr r.0, inr r.1) ]
 

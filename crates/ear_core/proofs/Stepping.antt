@@ -67,7 +67,8 @@ trail-met g f v es ear w h =
     let c = degree_le g (mem (odds es)) (with_edges f es) w (λ e we i. or_right (f e) _ (mem_odds es e i)) in
     some-met g (with_edges f es) w (omega arith)
 
-still-met : (g : Graph) (f : Set) (es : List ℕ) (w : ℕ) → is_met g f w ≡ true → is_met g (with_edges f es) w ≡ true
+-- a vertex of f is one of the new stage
+pub still-met : (g : Graph) (f : Set) (es : List ℕ) (w : ℕ) → is_met g f w ≡ true → is_met g (with_edges f es) w ≡ true
 still-met g f es w t =
     let a = met-some g f w t in
     let c = degree_le g f (with_edges f es) w (λ e we i. or_left (f e) _ i) in some-met g (with_edges f es) w (omega arith)

@@ -50,6 +50,20 @@ abbrev pub IsSingle : PlainStep → Type 0
 IsSingle (one a) = Unit {0}
 IsSingle (two a b) = ⊥
 
+-- a step of two ears is needed: neither of them alone keeps the stage f matching covered
+abbrev pub IsNeeded : Graph → Set → PlainStep → Type 0
+IsNeeded g f (one a) = Unit {0}
+IsNeeded g f (two a b) = (¬ IsStage g (next_stage f (one a))) × (¬ IsStage g (next_stage f (one b)))
+
+-- each step of two ears from the stage f on is needed
+abbrev pub AreNeeded : Graph → Set → List PlainStep → Type 0
+AreNeeded g f [] = Unit {0}
+AreNeeded g f (s ∷ steps) = IsNeeded g f s × AreNeeded g (next_stage f s) steps
+
+-- no step of the list can be refined: where it adds two ears they cannot be added one by one
+abbrev pub IsUnrefinable : Graph → PlainEars → Type 0
+IsUnrefinable g list = AreNeeded g (singleton list.start) list.steps
+
 -- no ear of a step is empty
 abbrev pub HasEdges : PlainStep → Type 0
 HasEdges (one a) = 0 < length a.edges

@@ -8,7 +8,7 @@ ghost use Rattle.graph_core.specs.Graph.{size, first_end, second_end, IsBipartit
 ghost use Rattle.match_core.specs.MatchingRows.{edges_of};
 ghost use Rattle.match_search.specs.Rows.{marks};
 ghost use Rattle.ear_core.specs.AlternatingEars.{IsPerfectRows, KeepsMates, row_edge};
-ghost use Rattle.ear_core.specs.EarLists.{AreSteps, IsEarList, IsSingle, IsStep, next_stage, FitsEars, FitsStep, HasEdges};
+ghost use Rattle.ear_core.specs.EarLists.{AreNeeded, AreSteps, IsEarList, IsNeeded, IsSingle, IsStep, IsUnrefinable, next_stage, FitsEars, FitsStep, HasEdges};
 ghost use Rattle.ear_core.specs.Stages.{is_met, IsStage};
 ghost use Rattle.ear_core.specs.View.{ears_of, step_of};
 
@@ -23,17 +23,20 @@ use match_core::{Matching, perfect_without};
 use std::alloc::{AllocError as Memory, Global};
 use vset_core::VSet;
 
-/// An ear list of a matching covered graph, from its edge 1; each step has one ear where the
-/// graph is bipartite. One perfect matching is kept. At each stage another one that holds an edge
-/// leading out of it makes ears together with the kept one, of which one is added that keeps the
-/// stage matching covered, else two. The numbers of the list are in range and no ear is empty.
-/// `Memory` is want of memory alone. Lovász and Plummer, "Matching Theory", section 5.4.
+/// An ear list of a matching covered graph, from its edge 1. Two ears are added at once only if
+/// neither of them alone keeps the stage matching covered, so no step can be refined; if the graph
+/// is bipartite, each step has one ear. One perfect matching is kept. At each stage another one
+/// that holds an edge leading out of it makes ears together with the kept one. The first of these
+/// that keeps the stage matching covered is added, and if there is none, the first two that do so
+/// together. The numbers of the list are in range and no ear is empty. `Memory` is want of memory
+/// alone. Lovász and Plummer, "Matching Theory", section 5.4.
 pub fn build_ears(alloc: Global, g: &MultiGraph) -> Result<EarList, Memory>
     requires { IsCovered g.now }
     ensures list { IfOk result (λ list. IsEarList g.now (ears_of list)) }
     ensures start { IfOk result (λ list. list.start ≡ 1) }
     ensures fits { IfOk result (λ list. FitsEars g.now.order (size g.now) (ears_of list)) }
     ensures filled { IfOk result (λ list. AllByRecursion HasEdges (ears_of list).steps) }
+    ensures unrefinable { IfOk result (λ list. IsUnrefinable g.now (ears_of list)) }
     ensures single { IfOk result
         (λ list. IsBipartite g.now → AllByRecursion IsSingle (ears_of list).steps) }
 {
@@ -61,6 +64,8 @@ fn steps_from(
         (is_met g.now (marks mark.old.items)) }
     ensures steps { IfOk result
         (λ steps. AreSteps g.now (marks mark.old.items) (map step_of steps)) }
+    ensures needed { IfOk result
+        (λ steps. AreNeeded g.now (marks mark.old.items) (map step_of steps)) }
     ensures single { IfOk result
         (λ steps. IsBipartite g.now → AllByRecursion IsSingle (map step_of steps)) }
 {
@@ -139,6 +144,7 @@ fn next_step(
     ensures mates { IfOk result
         (λ step. KeepsMates g.now (row_edge kept.now.rows)
         (is_met g.now (next_stage (marks mark.now) (step_of step)))) }
+    ensures needed { IfOk result (λ step. IsNeeded g.now (marks mark.now) (step_of step)) }
     ensures single { IfOk result (λ step. IsBipartite g.now → IsSingle (step_of step)) }
 {
     g.keeps_limits();

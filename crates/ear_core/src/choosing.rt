@@ -7,7 +7,7 @@ ghost use Rattle.graph_core.specs.Graph.{Graph, size, IsBipartite};
 ghost use Rattle.match_search.specs.Rows.{marks};
 ghost use Rattle.ear_core.specs.AlternatingEars.{Serves, ends_of_ear, AreCandidates, IsChosen};
 ghost use Rattle.ear_core.specs.Asking.{IsAsked, FindsBeside, FindsTwo, NoneServesBeside, NoTwoServe};
-ghost use Rattle.ear_core.specs.EarLists.{next_stage, IsStep, IsSingle, FitsEar};
+ghost use Rattle.ear_core.specs.EarLists.{next_stage, IsStep, IsSingle, IsNeeded, FitsEar};
 ghost use Rattle.ear_core.specs.Stages.{is_met, IsStage};
 ghost use Rattle.ear_core.specs.View.{ear_of, step_of};
 
@@ -135,8 +135,8 @@ fn double_step(
 }
 
 /// A step of candidates on the stage of the marked edges, which meets the vertices `met`: the
-/// first ear that serves alone, else the first two that serve together. One or two do, by the
-/// two-ear theorem.
+/// first ear that serves alone, else the first two that serve together, neither of which then
+/// keeps the stage matching covered alone. One or two do, by the two-ear theorem.
 pub fn choose(
     alloc: Global,
     g: &MultiGraph,
@@ -152,6 +152,7 @@ pub fn choose(
     ensures step { IfOk result (λ step. IsStep g.now (marks mark.now) (step_of step)) }
     ensures stage { IfOk result
         (λ step. IsStage g.now (next_stage (marks mark.now) (step_of step))) }
+    ensures needed { IfOk result (λ step. IsNeeded g.now (marks mark.now) (step_of step)) }
     ensures single { IfOk result (λ step. IsBipartite g.now → IsSingle (step_of step)) }
 {
     g.keeps_limits();

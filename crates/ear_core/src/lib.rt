@@ -8,8 +8,9 @@
 //! at the end the least edge on no stage.
 //!
 //! `check_ears` accepts exactly the ear lists of a graph, and of another list it names the first
-//! refusal. `build_ears` makes an ear list of each matching covered graph, of single ears alone
-//! where the graph is bipartite.
+//! refusal. `build_ears` makes an ear list of each matching covered graph that cannot be refined
+//! (`IsUnrefinable`): neither ear of a step of two keeps the stage matching covered alone. In a
+//! bipartite graph all its ears are single.
 //!
 //! `laws::ear_tests_law`: the tests say that an ear is one. `laws::new_stage_law`: after them a
 //! new stage can fail by an edge in no perfect matching alone. `laws::first_refusal_law`: an ear

@@ -14,11 +14,12 @@ use Rattle.ear_core.proofs.BipartiteStages.{bipartite-found}
 use Rattle.ear_core.proofs.EngineGraphs.{served_listed}
 use Rattle.ear_core.proofs.FirstStage.{first-stage}
 use Rattle.ear_core.proofs.Mates.{rows-mates}
+use Rattle.ear_core.proofs.NeededPairs.{found-needed}
 use Rattle.ear_core.proofs.Searching.{beside-here, beside-later, found-one, found-two, never-none, no-two-later, none-beside-later, two-here, two-later}
 use Rattle.ear_core.proofs.Stepping.{all-on, covered-allowed, fewer-off, first-keeps, round-candidates, step-keeps}
 use Rattle.ear_core.specs.AlternatingEars.{AreCandidates, IsChosen, IsPerfectRows, KeepsMates, Serves, ends_of_ear, row_edge}
 use Rattle.ear_core.specs.Asking.{FindsBeside, FindsTwo, NoTwoServe, NoneServesBeside}
-use Rattle.ear_core.specs.EarLists.{AreSteps, IsEarList, IsSingle, IsStep, PlainEar, PlainEars, PlainStep, next_stage, one, two}
+use Rattle.ear_core.specs.EarLists.{AreNeeded, AreSteps, IsEarList, IsNeeded, IsSingle, IsStep, IsUnrefinable, PlainEar, PlainEars, PlainStep, next_stage, one, two}
 use Rattle.ear_core.specs.StageGraphs.{listed}
 use Rattle.ear_core.specs.Stages.{IsStage, is_met}
 use Rattle.graph_core.specs.Covered.{IsCovered}
@@ -55,11 +56,11 @@ two-or g f (a ∷ ears) = elim (beside-or g f (ends_of_ear g a) ears) [
   ]
 ]
 
-chosen-exists : (g : Graph) → IsGraph g → (f : Set) → IsStage g f → (ears : List PlainEar) → AreCandidates g f ears → (s : PlainStep) × IsChosen ears s × IsStep g f s × IsStage g (next_stage f s) × (IsBipartite g → IsSingle s)
+chosen-exists : (g : Graph) → IsGraph g → (f : Set) → IsStage g f → (ears : List PlainEar) → AreCandidates g f ears → (s : PlainStep) × IsChosen ears s × IsStep g f s × IsStage g (next_stage f s) × IsNeeded g f s × (IsBipartite g → IsSingle s)
 chosen-exists g is f stage ears c = elim (beside-or g f (mem []) ears) [
-  | inl found ↦ let r = found-one g is f stage ears c found.0 found.1 in (one found.0, r.0, r.1, r.2, λ sides. tt)
+  | inl found ↦ let r = found-one g is f stage ears c found.0 found.1 in (one found.0, r.0, r.1, r.2, tt, λ sides. tt)
   | inr none ↦ elim (two-or g f ears) [
-    | inl found ↦ let r = found-two g is f stage ears c found.0 found.1 in (found.0, r.0, r.1, r.2, λ sides. absurd (bipartite-found g is sides f stage ears c none))
+    | inl found ↦ let r = found-two g is f stage ears c found.0 found.1 in (found.0, r.0, r.1, r.2, found-needed g is f stage ears c.each none found.0 found.1, λ sides. absurd (bipartite-found g is sides f stage ears c none))
     | inr never ↦ absurd (never-none g is f stage ears c none never)
   ]
 ]
@@ -74,7 +75,7 @@ module _ (g : Graph) (is : IsMultigraph g) (cov : IsCovered g) (kept : MatchingV
 
   -- a stage with the mates of its vertices, after a step
   abbrev StepsOn : Set → Type 0
-  StepsOn f = (s : PlainStep) × IsStep g f s × IsStage g (next_stage f s) × KeepsMates g n (is_met g (next_stage f s)) × (IsBipartite g → IsSingle s)
+  StepsOn f = (s : PlainStep) × IsStep g f s × IsStage g (next_stage f s) × KeepsMates g n (is_met g (next_stage f s)) × IsNeeded g f s × (IsBipartite g → IsSingle s)
 
   step-by : (f : Set) → IsStage g f → KeepsMates g n (is_met g f) → (e : ℕ) → Within (size g) e → leads_out g f e ≡ true → StepsOn f
   step-by f stage keeps e w leads =
@@ -86,25 +87,25 @@ module _ (g : Graph) (is : IsMultigraph g) (cov : IsCovered g) (kept : MatchingV
       let ears = round-exists g is.ends f (row_edge m.rows) (rows-mates g is.ends m by) n (rows-mates g is.ends kept rows) keeps in
       let c = round-candidates g is.ends f m by n e w (rows-hold g allowed.0 e w allowed.2) off parts.1 ears.0 ears.1 in
       let s = chosen-exists g is.ends f stage ears.0 c in
-      (s.0, s.2, s.3, step-keeps g f (row_edge m.rows) n ears.0 ears.1.each s.0 s.1 s.2 keeps, s.4)
+      (s.0, s.2, s.3, step-keeps g f (row_edge m.rows) n ears.0 ears.1.each s.0 s.1 s.2 keeps, s.4, s.5)
     where
       flipped : (b : Bool) → not b ≡ true → b ≡ false
       flipped true h = absurd (true≢false (sym h))
       flipped false h = refl
 
-  steps-exist : (fuel : ℕ) (f : Set) → IsStage g f → KeepsMates g n (is_met g f) → count (size g) (complement f) < fuel → (steps : List PlainStep) × AreSteps g f steps × (IsBipartite g → AllByRecursion IsSingle steps)
+  steps-exist : (fuel : ℕ) (f : Set) → IsStage g f → KeepsMates g n (is_met g f) → count (size g) (complement f) < fuel → (steps : List PlainStep) × AreSteps g f steps × AreNeeded g f steps × (IsBipartite g → AllByRecursion IsSingle steps)
   steps-exist zero f stage keeps less = absurd (omega arith)
   steps-exist (suc fuel) f stage keeps less = elim (cases_eq (count (size g) (leads_out g f)) 0) [
-    | inl i ↦ ([], all-on g is.ends cov f stage (count_zero (size g) (leads_out g f) i), λ sides. tt)
+    | inl i ↦ ([], all-on g is.ends cov f stage (count_zero (size g) (leads_out g f) i), tt, λ sides. tt)
     | inr i ↦
         let e = count_member (size g) (leads_out g f) (omega arith) in
         let s = step-by f stage keeps e.0 e.1 e.2 in
         let fewer = fewer-off g f (next_stage f s.0) s.0 (λ d. refl) s.1 in
         let later = steps-exist fuel (next_stage f s.0) s.2 s.3 (omega arith) in
-        (s.0 ∷ later.0, (s.1, s.2, later.1), λ sides. (s.4 sides, later.2 sides))
+        (s.0 ∷ later.0, (s.1, s.2, later.1), (s.4, later.2), λ sides. (s.5 sides, later.3 sides))
   ]
 
-pub ear-list-exists : (g : Graph) (e : ℕ) → IsMultigraph g → IsCovered g → Within (size g) e → (list : PlainEars) × IsEarList g list × (list.start ≡ e) × (IsBipartite g → AllByRecursion IsSingle list.steps)
+pub ear-list-exists : (g : Graph) (e : ℕ) → IsMultigraph g → IsCovered g → Within (size g) e → (list : PlainEars) × IsEarList g list × (list.start ≡ e) × IsUnrefinable g list × (IsBipartite g → AllByRecursion IsSingle list.steps)
 ear-list-exists g e is cov w =
     let allowed = covered-allowed g is cov e w in
     let rows = perfect-rows g allowed.0 allowed.1 in
@@ -112,4 +113,4 @@ ear-list-exists g e is cov w =
     let stage = first-stage g is e w in
     let keeps = first-keeps g is kept rows e w (rows-hold g allowed.0 e w allowed.2) in
     let steps = steps-exist g is cov kept rows (count (size g) (complement (singleton e)) + 1) (singleton e) stage keeps (omega arith) in
-    (record { start = e; steps = steps.0 }, record { start = w; first_stage = stage; steps = steps.1 }, refl, steps.2)
+    (record { start = e; steps = steps.0 }, record { start = w; first_stage = stage; steps = steps.1 }, refl, steps.2, steps.3)

@@ -23,13 +23,16 @@ pub mod HetyeiEars
 pub mod HetyeiSides
 pub mod LaminarFamilies
 pub mod LeafKindLists
+pub mod ListMembers
 pub mod MatchedParts
+pub mod MatchedWithin
 pub mod MovedShores
 pub mod NamedCuts
 pub mod NamesRead
 pub mod NarrowCuts
 pub mod Neighbourhoods
 pub mod NestedCuts
+pub mod NestedFamilies
 pub mod OutcomesExist
 pub mod PairedCounts
 pub mod Parted

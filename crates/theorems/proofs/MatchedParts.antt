@@ -2,88 +2,30 @@
 -- factor-critical. Each odd component of G - A has a missed vertex or an edge that leaves it; the
 -- bound of Berge is attained at A, so it has one of these.
 use Rattle.std.proofs.Common.{◌≡◌, ℕ, zero, suc, ◌+◌, ◌*◌, ◌≤◌, Bool, true, false, cond, ◌==◌, refl, sym, ap, ap₂, ◌∙◌, arith, ◌&&◌, ◌||◌, not, eq-eqb, eqb-true, mul-add, subst, inl, inr}
-use Rattle.std.proofs.lemmas.Bool.{cases_Bool, both_ways, true≢false, false_from_ne_true, and_parts, and_from, not-false, not-true}
+use Rattle.std.proofs.lemmas.Bool.{cases_Bool, both_ways, false_from_ne_true, and_parts, and_from, not-false, not-true}
 use mathlib.Core.Path.{fun_ext}
 use Rattle.counting.proofs.Booleans.{bit_le, same_tests}
 use Rattle.counting.proofs.Counts.{bit_true, count_congr}
 use Rattle.counting.proofs.Members.{count_zero, two_members, member_count}
 use Rattle.counting.proofs.Odd.{odd-add, odd-double, odd_pos}
 use Rattle.counting.proofs.Tests.{some_true}
-use Rattle.counting.proofs.Totals.{total_add, total_congr, total_le, total_mul, total_none, total_swap, total_tight}
+use Rattle.counting.proofs.Totals.{total_add, total_congr, total_le, total_mul, total_swap, total_tight}
 use Rattle.counting.specs.Counts.{Within, bit, count, is_odd, total}
 use Rattle.counting.specs.Sets.{Set, complement, minus, none, singleton}
 use Rattle.barrier_kit.proofs.BarrierCuts.{cover_count, cover_in, covers, cut_family, leader_of, leads_out, part_same}
 use Rattle.graph_core.proofs.Components.{joined_outside, walk_joined}
 use Rattle.graph_core.proofs.Decide.{maximum_exists}
-use Rattle.graph_core.proofs.Edits.{edge_at, ends_le_degree}
+use Rattle.graph_core.proofs.Edits.{edge_at}
 use Rattle.graph_core.proofs.Parity.{degrees}
-use Rattle.graph_core.proofs.Textbook.{one_end}
 use Rattle.graph_core.proofs.Walks.{joined_self}
 use Rattle.graph_core.specs.Components.{component_count, is_least, odd_component_count}
 use Rattle.graph_core.specs.Graph.{Graph, HasEnds, IsGraph, degree, edges_in_cut, first_end, in_cut, inside, second_end, size}
 use Rattle.graph_core.specs.Matchings.{IsMaximum, missed_count}
 use Rattle.graph_core.specs.Walks.{joined}
 use Rattle.match_search.proofs.Certificates.{ends_total}
+use Rattle.theorems.proofs.MatchedWithin.{crossing_ends, met_once, not_at, other_end, perfect_within}
 use Rattle.theorems.proofs.ThreeSets.{attains, component_is, components_odd, d_odd, d_out, d_step, ends_within, odd_d, turn_ends}
 use Rattle.theorems.specs.Matchings.{AreThreeSets, HasPerfectWithin, IsFactorCritical, MatchesAllButOne, MatchesWithin, component_in}
-
--- edges that meet each vertex of x once, of which none crosses x: those inside x are a perfect
--- matching of G[X]
-pub perfect_within : (g : Graph) (m x : Set) → ((v : ℕ) → Within g.order v → x v ≡ true → degree g m v ≡ 1) → ((e : ℕ) → Within (size g) e → (m e && in_cut g x e) ≡ false) → MatchesWithin g m x
-perfect_within g m x met no_cross = record {
-  once = λ v w o. keep v (not-false (x v) o) ∙ met v w (not-false (x v) o);
-  away = λ v w o. drop v (not-true (x v) o);
-}
-  where
-    first : (a b c t : Bool) → (t ≡ true → b ≡ true) → (a && ((b && not c) || (not b && c))) ≡ false → ((a && (b && c)) && t) ≡ (a && t)
-    first a b c t f h = grind arith
-
-    second : (a b c t : Bool) → (t ≡ true → c ≡ true) → (a && ((b && not c) || (not b && c))) ≡ false → ((a && (b && c)) && t) ≡ (a && t)
-    second a b c t f h = grind arith
-
-    keep : (v : ℕ) → x v ≡ true → degree g (λ e. m e && inside g x e) v ≡ degree g m v
-    keep v o = ap₂ ◌+◌
-        (total_congr (size g) (λ e. bit ((m e && inside g x e) && (first_end g e == v))) (λ e. bit (m e && (first_end g e == v))) (λ e w. ap bit (first (m e) (x (first_end g e)) (x (second_end g e)) (first_end g e == v) (λ t. ap x (eqb-true (first_end g e) v t) ∙ o) (no_cross e w))))
-        (total_congr (size g) (λ e. bit ((m e && inside g x e) && (second_end g e == v))) (λ e. bit (m e && (second_end g e == v))) (λ e w. ap bit (second (m e) (x (first_end g e)) (x (second_end g e)) (second_end g e == v) (λ t. ap x (eqb-true (second_end g e) v t) ∙ o) (no_cross e w))))
-
-    gone : (a b c t : Bool) → (t ≡ true → b ≡ false) → ((a && (b && c)) && t) ≡ false
-    gone a b c t f = grind arith
-
-    gone' : (a b c t : Bool) → (t ≡ true → c ≡ false) → ((a && (b && c)) && t) ≡ false
-    gone' a b c t f = grind arith
-
-    drop : (v : ℕ) → x v ≡ false → degree g (λ e. m e && inside g x e) v ≡ 0
-    drop v o =
-        let a = total_none (size g) (λ e. bit ((m e && inside g x e) && (first_end g e == v))) (λ e w. ap bit (gone (m e) (x (first_end g e)) (x (second_end g e)) (first_end g e == v) (λ t. ap x (eqb-true (first_end g e) v t) ∙ o))) in
-        let b = total_none (size g) (λ e. bit ((m e && inside g x e) && (second_end g e == v))) (λ e w. ap bit (gone' (m e) (x (first_end g e)) (x (second_end g e)) (second_end g e == v) (λ t. ap x (eqb-true (second_end g e) v t) ∙ o))) in omega arith
-
--- an edge crosses x where one of its ends is in x and the other is not, and nowhere else
-crossing_ends : (g : Graph) (x : Set) (e : ℕ) → in_cut g x e ≡ true → (v w : ℕ) × HasEnds g e v w × (x v ≡ true) × (x w ≡ false)
-crossing_ends g x e h = go (x (first_end g e)) (x (second_end g e)) refl refl h
-  where
-    go : (s t : Bool) → x (first_end g e) ≡ s → x (second_end g e) ≡ t → ((s && not t) || (not s && t)) ≡ true → (v w : ℕ) × HasEnds g e v w × (x v ≡ true) × (x w ≡ false)
-    go true false p q h = (first_end g e, second_end g e, inl (refl, refl), p, q)
-    go false true p q h = (second_end g e, first_end g e, inr (refl, refl), q, p)
-    go true true p q h = absurd (true≢false (sym h))
-    go false false p q h = absurd (true≢false (sym h))
-
-other_end : (g : Graph) (x : Set) (e v w : ℕ) → HasEnds g e v w → in_cut g x e ≡ true → x v ≡ false → x w ≡ true
-other_end g x e v w h cross xv = elim h [
-  | inl q ↦ go (x v) (x w) xv (subst (λ k. ((x k && not (x w)) || (not (x k) && x w)) ≡ true) q.0 (subst (λ k. ((x (first_end g e) && not (x k)) || (not (x (first_end g e)) && x k)) ≡ true) q.1 cross))
-  | inr q ↦ go' (x v) (x w) xv (subst (λ k. ((x k && not (x v)) || (not (x k) && x v)) ≡ true) q.0 (subst (λ k. ((x (first_end g e) && not (x k)) || (not (x (first_end g e)) && x k)) ≡ true) q.1 cross))
-]
-  where
-    go : (s t : Bool) → s ≡ false → ((s && not t) || (not s && t)) ≡ true → t ≡ true
-    go s t p h = grind arith
-
-    go' : (s t : Bool) → s ≡ false → ((t && not s) || (not t && s)) ≡ true → t ≡ true
-    go' s t p h = grind arith
-
--- a matching of which no edge is at v has none with the end v
-not_at : (g : Graph) (m : Set) (e v w : ℕ) → Within (size g) e → m e ≡ true → HasEnds g e v w → degree g m v ≡ 0 → ⊥
-not_at g m e v w we me h z =
-    let a = one_end g e v (elim h [ inl q ↦ inl q.0 | inr q ↦ inr q.1 ]) in
-    let b = ends_le_degree g m e v we me in absurd (omega arith)
 
 module _ (g : Graph) (is : IsGraph g) (d a c : Set) (sets : AreThreeSets g d a c) (m : Set) (mm : IsMaximum g none m) where
   -- the least vertices of the odd components of G - A
@@ -280,12 +222,7 @@ module _ (g : Graph) (is : IsGraph g) (d a c : Set) (sets : AreThreeSets g d a c
       no_edge e q.0 q.1 w p.0 q.2 q.3 q.4))
     where
       met : (v : ℕ) → Within g.order v → c v ≡ true → degree g m v ≡ 1
-      met v w t = one (degree g m v) (mm.is.once v w) (λ z. ((sets.in_c v w).0 t).0 (m, mm, z))
-        where
-          one : (k : ℕ) → k ≤ 1 → (k ≡ 0 → ⊥) → k ≡ 1
-          one zero l n = absurd (n refl)
-          one (suc zero) l n = refl
-          one (suc (suc k)) l n = absurd (omega arith)
+      met v w t = met_once (degree g m v) (mm.is.once v w) (λ z. ((sets.in_c v w).0 t).0 (m, mm, z))
 
       no_edge : (e v w : ℕ) → Within (size g) e → m e ≡ true → HasEnds g e v w → c v ≡ true → c w ≡ false → ⊥
       no_edge e v w we me h cv cw =
@@ -314,15 +251,10 @@ module _ (g : Graph) (is : IsGraph g) (d a c : Set) (sets : AreThreeSets g d a c
       none_leaves = let x = one_open v wv dv in let y = member_count g.order (λ w. joined g a v w && (degree g m w == 0)) v wv own in omega arith
 
       met : (w : ℕ) → Within g.order w → minus (joined g a v) (singleton v) w ≡ true → degree g m w ≡ 1
-      met w ww t = one (degree g m w) (mm.is.once w ww) (λ y.
+      met w ww t = met_once (degree g m w) (mm.is.once w ww) (λ y.
           let p = and_parts (joined g a v w) (not (v == w)) t in
           let x = one_open v wv dv in
           let n = two_members g.order (λ w. joined g a v w && (degree g m w == 0)) v w wv ww (λ q. both_ways (v == w) (not-true (v == w) p.1) (eq-eqb v w q)) own (and_from (joined g a v w) (degree g m w == 0) p.0 (eq-eqb (degree g m w) 0 y)) in absurd (omega arith))
-        where
-          one : (k : ℕ) → k ≤ 1 → (k ≡ 0 → ⊥) → k ≡ 1
-          one zero l n = absurd (n refl)
-          one (suc zero) l n = refl
-          one (suc (suc k)) l n = absurd (omega arith)
 
       no_edge : (e x y : ℕ) → Within (size g) e → m e ≡ true → HasEnds g e x y → minus (joined g a v) (singleton v) x ≡ true → minus (joined g a v) (singleton v) y ≡ false → ⊥
       no_edge e x y we me h px py =

@@ -27,9 +27,10 @@ ghost use Rattle.theorems.specs.Outcomes.{IsGiven, TellsDecomposition, TellsEars
 /// one-to-one pairing of their leaves with bijections that preserve adjacency, and moves that
 /// turn the one tree into the other, and `script` gives such moves as a file. For every matching
 /// covered graph, `analyse` calls it a brick if and only if it is not bipartite, is bicritical
-/// and has no cut pair, and `ears` tells an ear decomposition, of single ears where the graph is
-/// bipartite. Gallai 1964; Edmonds 1965; Lovász 1987; Edmonds, Lovász and Pulleyblank 1982;
-/// Lovász and Plummer, "Matching Theory".
+/// and has no cut pair, and `ears` tells an ear decomposition, in which neither ear of a step of
+/// two keeps the stage matching covered alone, and of single ears where the graph is bipartite.
+/// Gallai 1964; Edmonds 1965; Lovász 1987; Edmonds, Lovász and Pulleyblank 1982; Lovász and
+/// Plummer, "Matching Theory".
 pub fn headline_law()
     ensures sets { (files : List Named) (graph : List ℕ) (named : NamedGraph)
         (status : Status) (output : List ℕ)

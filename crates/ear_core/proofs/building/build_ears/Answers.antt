@@ -5,7 +5,7 @@ use Rattle.match_search.specs.Rows.{marks}
 use Rattle.std.specs.Prelude.{slice_set}
 use Rattle.std.proofs.Common.{true}
 use Rattle.ear_core.specs.AlternatingEars.{row_edge, KeepsMates}
-use Rattle.ear_core.specs.EarLists.{AreSteps}
+use Rattle.ear_core.specs.EarLists.{AreNeeded, AreSteps}
 use Rattle.ear_core.specs.Stages.{is_met}
 use Rattle.ear_core.specs.View.{ears_of, step_of}
 use Rattle.ear_core.proofs.FirstStage.{first-stage}
@@ -46,3 +46,11 @@ returns-clause-fits c = list-fits c.args.g.now c.keeps_limits.ensures.multigraph
 
 pub returns-clause-filled : goal.returns-clause-filled
 returns-clause-filled c = list-filled c.args.g.now (ears_of (record { start = 1; steps = c.in_ok-steps.steps })) (returns-clause-list c)
+
+pub returns-clause-unrefinable : goal.returns-clause-unrefinable
+returns-clause-unrefinable c =
+    let g = c.args.g.now in
+    let items = c.in_ok-mark.mark.items in
+    let less : 1 < length items = search rules in
+    let same : (i : ℕ) → marks (slice_set items 1 true) i ≡ singleton 1 i = one-marked items _ 1 (c.in_ok-mark.ensures.items_if_clones_equal (λ y q. q)) less in
+    subst (λ (f : Set). AreNeeded g f (map step_of c.in_ok-steps.steps)) (fun_ext same) c.in_ok-steps.ensures.needed

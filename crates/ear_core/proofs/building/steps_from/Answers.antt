@@ -5,9 +5,10 @@ use Rattle.counting.specs.Counts.{Within}
 use Rattle.graph_core.specs.Graph.{size, first_end, second_end}
 use Rattle.match_search.specs.Rows.{marks}
 use Rattle.ear_core.specs.AlternatingEars.{row_edge, KeepsMates}
-use Rattle.ear_core.specs.EarLists.{PlainStep, AreSteps, IsSingle, IsStep, next_stage}
+use Rattle.ear_core.specs.EarLists.{PlainStep, AreNeeded, AreSteps, IsNeeded, IsSingle, IsStep, next_stage}
 use Rattle.ear_core.specs.Stages.{is_met, IsStage}
 use Rattle.ear_core.specs.View.{step_of}
+use Rattle.ear_core.proofs.NeededPairs.{needed-go_on}
 use Rattle.ear_core.proofs.Taking.{second_fits}
 use Rattle.ear_core.proofs.Searching.{at-none}
 use Rattle.ear_core.proofs.Stepping.{all-on, stage-there, mates-there, fewer-off, steps-go_on, all-single}
@@ -28,6 +29,7 @@ stages-preserved c =
     let is = c.deref-in-Some.ensures.value in
     let step = subst (λ (items : List Bool). IsStep g (marks items) s) is c.in_ok-step.ensures.step in
     let stage = subst (λ (items : List Bool). IsStage g (next_stage (marks items) s)) is c.in_ok-step.ensures.stage in
+    let needed = subst (λ (items : List Bool). IsNeeded g (marks items) s) is c.in_ok-step.ensures.needed in
     let mates = subst (λ (items : List Bool). KeepsMates g n (is_met g (next_stage (marks items) s))) is c.in_ok-step.ensures.mates in
     let pushed : map step_of c.push.new.self ≡ map step_of c.stages.steps ++ s ∷ [] = ap (map step_of) c.in_ok-push.ensures.ok ∙ map-append step_of c.stages.steps _ in
     record {
@@ -36,6 +38,8 @@ stages-preserved c =
       mates = mates-there g f new s c.mark_step.ensures.each n mates;
       so_far = λ others goes. subst (λ (steps : List PlainStep). AreSteps g (marks c.args.mark.now.items) (steps ++ others)) (sym pushed)
           (steps-go_on g (marks c.args.mark.now.items) f new (map step_of c.stages.steps) s step stage c.mark_step.ensures.each c.stages.invariant.so_far others goes);
+      needed = λ others are. subst (λ (steps : List PlainStep). AreNeeded g (marks c.args.mark.now.items) (steps ++ others)) (sym pushed)
+          (needed-go_on g (marks c.args.mark.now.items) f new (map step_of c.stages.steps) s needed c.mark_step.ensures.each c.stages.invariant.needed others are);
       single = λ sides. subst (AllByRecursion IsSingle) (sym pushed) (all-single (map step_of c.stages.steps) s (c.stages.invariant.single sides) (c.in_ok-step.ensures.single sides));
     }
 
@@ -56,3 +60,8 @@ returns-clause-steps c =
     (at-none c.leaving_edge.result _ (search rules) c.leaving_edge.ensures.none) in
     subst (λ (steps : List PlainStep). AreSteps g (marks c.args.mark.now.items) steps) (append-nil (map step_of c.stages.steps))
     (c.stages.invariant.so_far [] (all-on g c.keeps_limits.ensures.multigraph.ends c.requires.covered f c.stages.invariant.stage nothing))
+
+pub returns-clause-needed : goal.returns-clause-needed
+returns-clause-needed c =
+    let g = c.args.g.now in
+    subst (λ (steps : List PlainStep). AreNeeded g (marks c.args.mark.now.items) steps) (append-nil (map step_of c.stages.steps)) (c.stages.invariant.needed [] tt)

@@ -7,6 +7,7 @@ use Rattle.ear_core.specs.EarLists.{IsStep, next_stage, one}
 use Rattle.ear_core.specs.Stages.{IsStage}
 use Rattle.ear_core.specs.View.{ear_of, step_of}
 use Rattle.ear_core.proofs.BipartiteStages.{bipartite-found}
+use Rattle.ear_core.proofs.NeededPairs.{found-needed}
 use Rattle.ear_core.proofs.Searching.{at-none, at-some, ears-fit, found-one, found-two, never-none}
 use Rattle.ear_core.proofs.choosing.choose.Goals as goal
 
@@ -67,3 +68,12 @@ returns-clause-single c = λ sides.
     let f = marks c.args.mark.now in
     absurd (bipartite-found g c.keeps_limits.ensures.multigraph.ends sides f c.requires.stage (map ear_of c.args.ears.now) c.requires.candidates
     (at-none c.in_ok-first.field-0 (NoneServes g f (map ear_of c.args.ears.now)) (search rules) (c.in_ok-first.ensures.none f (mem []) c.in_ok-asked.ensures (λ v. ap (λ (s : List ℕ). mem s v) c.empty.ensures))))
+
+pub returns-clause-needed : goal.returns-clause-needed
+returns-clause-needed c =
+    let g = c.args.g.now in
+    let f = marks c.args.mark.now in
+    let ears = map ear_of c.args.ears.now in
+    found-needed g c.keeps_limits.ensures.multigraph.ends f c.requires.stage ears c.requires.candidates.each
+    (at-none c.in_ok-first.field-0 (NoneServes g f ears) (search rules) (c.in_ok-first.ensures.none f (mem []) c.in_ok-asked.ensures (λ v. ap (λ (s : List ℕ). mem s v) c.empty.ensures)))
+    (step_of c.in-Some-2.step) (at-some c.in_ok-step.field-0 c.in-Some-2.step (λ step. FindsTwo g f ears (step_of step)) c.in-Some-2.is (c.in_ok-step.ensures.some f c.in_ok-asked.ensures))

@@ -1,0 +1,161 @@
+-- Two ears are needed where neither of them serves. If a stage with an ear is matching covered,
+-- then a perfect matching of it through the first edge of the ear leaves the ear at its other end
+-- too, by parity; so the stage has a perfect matching without the two ends.
+use Rattle.std.proofs.Common.{◌≡◌, ◌≢◌, ◌⊎◌, ℕ, ◌+◌, ◌*◌, ◌≤◌, Bool, true, false, cond, ◌==◌, refl, sym, ap, ◌∙◌, arith, ◌&&◌, eq-eqb, ne_eqb, eqb-true, inl, inr, subst, [], ◌∷◌, ◌++◌, List}
+use Rattle.std.proofs.Math.Path.{fun_ext}
+use Rattle.std.proofs.lemmas.Bool.{and_from, and_parts, both_ways, cases_Bool, cases_eq, or_cases, or_left, or_parts, or_right, true≢false}
+use Rattle.std.proofs.lemmas.List.{append_assoc}
+use Rattle.counting.proofs.Totals.{total_add, total_at, total_congr}
+use Rattle.counting.specs.Counts.{Within, bit, count}
+use Rattle.counting.specs.Lists.{IsIn, mem}
+use Rattle.counting.specs.Sets.{Set, pair_set, put}
+use Rattle.graph_core.proofs.Edits.{degree_put, edge_at, ends_le_degree, ends_of, sum_degrees}
+use Rattle.graph_core.specs.Graph.{Graph, IsGraph, degree, first_end, second_end, size}
+use Rattle.ear_core.proofs.NextStages.{met-within}
+use Rattle.ear_core.proofs.Searching.{before-among}
+use Rattle.ear_core.proofs.Stepping.{still-met}
+use Rattle.ear_core.proofs.TraceEdges.{degree_le, ends_of-other_end, trail_has, unmet}
+use Rattle.ear_core.specs.Asking.{FindsTwo, NoneServes}
+use Rattle.ear_core.specs.EarLists.{AreNeeded, IsNeeded, PlainEar, PlainStep, next_stage}
+use Rattle.ear_core.specs.Ears.{IsEar, last_vertex}
+use Rattle.ear_core.specs.Stages.{IsPerfectOf, IsPerfectOff, IsStage, is_met, with_edges}
+
+-- the degrees of two sets of edges do not differ by one at one vertex alone
+differ-once : (g : Graph) → IsGraph g → (q p : Set) (v : ℕ) → Within g.order v → ((w : ℕ) → Within g.order w → degree g q w + bit (v == w) ≡ degree g p w) → ⊥
+differ-once g is q p v wv each =
+    let a = sum_degrees g q is in
+    let b = sum_degrees g p is in
+    let c = total_add g.order (λ w. degree g q w) (λ w. bit (v == w)) in
+    let d = total_congr g.order (λ w. degree g q w + bit (v == w)) (λ w. degree g p w) each in
+    let e = total_at g.order (λ w. bit (v == w)) v wv (λ w ww n. ap bit (ne_eqb v w (λ i. n (sym i)))) in
+    let h = ap bit (eq-eqb v v refl) in
+    odd-even (count (size g) q) (count (size g) p) (omega arith)
+  where
+    odd-even : (x y : ℕ) → 2 * x + 1 ≡ 2 * y → ⊥
+    odd-even x y e = omega arith
+
+module _ (g : Graph) (is : IsGraph g) (f : Set) (stage : IsStage g f) (v : ℕ) (es : List ℕ) (ear : IsEar g f v es) (m : Set) (perfect : IsPerfectOf g (with_edges f es) m) where
+  -- the edges of the matching on the old stage
+  abbrev q : Set
+  q e = m e && f e
+
+  abbrev z : ℕ
+  z = last_vertex g v es
+
+  inside : (e : ℕ) → Within (size g) e → q e ≡ true → f e ≡ true
+  inside e w t = (and_parts (m e) (f e) t).1
+
+  below : (w : ℕ) → degree g q w ≤ degree g m w
+  below w = degree_le g q m w (λ e we t. (and_parts (m e) (f e) t).0)
+
+  met-once : (w : ℕ) → Within g.order w → is_met g f w ≡ true → degree g m w ≡ 1
+  met-once w ww t = perfect.once w ww (still-met g f es w t)
+
+  -- off the ear the matching is on the old stage
+  off-ear : (w : ℕ) → Within g.order w → is_met g f w ≡ true → v ≢ w → z ≢ w → degree g q w ≡ 1
+  unfolding ends_of
+  off-ear w ww t a b =
+      let d = met-once w ww t in
+      let e = edge_at g m w (omega arith) in
+      let l : 1 ≤ ends_of g e.0 w = meets (first_end g e.0) (second_end g e.0) w e.3.0 e.3.1 in
+      elim (or_cases (f e.0) (mem es e.0) (perfect.part e.0 e.1 e.2)) [
+        | inl i ↦ let x = ends_le_degree g q e.0 w e.1 (and_from (m e.0) (f e.0) e.2 i) in let y = below w in omega arith
+        | inr i ↦ let x = trail_has g v es ear.follow e.0 w i l in absurd (both_ways (is_met g f w) (ear.inner w x (λ c. a (sym c)) (λ c. b (sym c))) t)
+      ]
+    where
+      meets : (a b w y : ℕ) → ((a ≡ w) × (b ≡ y)) ⊎ ((a ≡ y) × (b ≡ w)) → 1 ≤ bit (a == w) + bit (b == w)
+      meets a b w y h = elim h [
+        | inl p ↦ let x = ap bit (eq-eqb a w p.0) in omega arith
+        | inr p ↦ let x = ap bit (eq-eqb b w p.1) in omega arith
+      ]
+
+  -- an edge of the ear at v is in the matching, so no other one is
+  at-start : (e : ℕ) → Within (size g) e → f e ≡ false → m e ≡ true → 1 ≤ ends_of g e v → degree g q v ≡ 0
+  at-start e we off t l =
+      let a = degree_put g q e true v we in
+      let b = ap (λ k. bit k * ends_of g e v) (out (m e) (f e) off) in
+      let c = degree_le g (put q e true) m v (λ d wd i. among d i) in
+      let d = met-once v (met-within g is f v ear.start) ear.start in omega arith
+    where
+      out : (x y : Bool) → y ≡ false → (x && y) ≡ false
+      out x y h = grind arith
+
+      among : (d : ℕ) → put q e true d ≡ true → m d ≡ true
+      among d i = elim (cases_eq d e) [
+        | inl j ↦ ap m j ∙ t
+        | inr j ↦ (and_parts (m d) (f d) (put-else d j i)).0
+      ]
+        where
+          put-else : (d : ℕ) → d ≢ e → put q e true d ≡ true → q d ≡ true
+          put-else d j i = ap (λ b. cond b true (q d)) (sym (ne_eqb d e j)) ∙ i
+
+  -- were the other end met, the stage had a perfect matching without one vertex
+  with-start : (p : Set) → IsPerfectOf g f p → degree g q v ≡ 0 → degree g q z ≢ 0 → (w : ℕ) → Within g.order w → degree g q w + bit (v == w) ≡ degree g p w
+  with-start p whole start end w ww = elim (cases_Bool (is_met g f w)) [
+    | inr o ↦
+        let a = unmet g f w o in
+        let b = degree_le g q f w inside in
+        let c = degree_le g p f w whole.part in
+        let d = ap bit (ne_eqb v w (λ i. both_ways (is_met g f w) o (subst (λ k. is_met g f k ≡ true) i ear.start))) in omega arith
+    | inl t ↦
+        let a = whole.once w ww t in
+        elim (cases_eq v w) [
+          | inl i ↦ let b = ap (degree g q) (sym i) ∙ start in let c = ap bit (eq-eqb v w i) in omega arith
+          | inr i ↦
+              let c = ap bit (ne_eqb v w i) in
+              elim (cases_eq z w) [
+                | inr j ↦ let b = off-ear w ww t i j in omega arith
+                | inl j ↦
+                    let b = below w in
+                    let d = met-once w ww t in
+                    elim (cases_eq (degree g q w) 0) [ inl e ↦ absurd (end (ap (degree g q) j ∙ e)) | inr e ↦ omega arith ]
+              ]
+        ]
+  ]
+
+  at-end : degree g q v ≡ 0 → degree g q z ≡ 0
+  at-end start = elim (cases_eq (degree g q z) 0) [
+    | inl e ↦ e
+    | inr d ↦
+        let p = stage.allowed stage.some_edge.0 stage.some_edge.1 stage.some_edge.2 in
+        absurd (differ-once g is q p.0 v (met-within g is f v ear.start) (with-start p.0 p.1 start d))
+  ]
+
+  off-ends : degree g q v ≡ 0 → IsPerfectOff g f (pair_set v z) q
+  off-ends start = record {
+    part = inside;
+    once = λ w ww t o. let r = or_parts (v == w) (z == w) o in off-ear w ww t (λ i. both_ways (v == w) r.0 (eq-eqb v w i)) (λ i. both_ways (z == w) r.1 (eq-eqb z w i));
+    away = λ w ww o. elim (or_cases (v == w) (z == w) o) [
+      | inl i ↦ subst (λ k. degree g q k ≡ 0) (eqb-true v w i) start
+      | inr i ↦ subst (λ k. degree g q k ≡ 0) (eqb-true z w i) (at-end start)
+    ];
+  }
+
+-- an ear serves, if the stage with it is matching covered
+pub stage-serves : (g : Graph) → IsGraph g → (f : Set) → IsStage g f → (v : ℕ) (es : List ℕ) → IsEar g f v es → IsStage g (with_edges f es) → (q : Set) × IsPerfectOff g f (pair_set v (last_vertex g v es)) q
+stage-serves g is f stage v [] ear next = absurd (true≢false (sym ear.odd))
+stage-serves g is f stage v (e ∷ es) ear next =
+    let here = or_left (e == e) (mem es e) (eq-eqb e e refl) in
+    let w = ear.follow.0.0 in
+    let m = next.allowed e w (or_right (f e) (mem (e ∷ es) e) here) in
+    let a = ends_of-other_end g e v v ear.follow.0.1 in
+    let b = ap bit (eq-eqb v v refl) in
+    let start = at-start g is f stage v (e ∷ es) ear m.0 m.1 e w (ear.new e here) m.2 (omega arith) in
+    ((λ d. m.0 d && f d), off-ends g is f stage v (e ∷ es) ear m.0 m.1 start)
+
+module _ (g : Graph) (is : IsGraph g) (f : Set) (stage : IsStage g f) (ears : List PlainEar) (each : (a : PlainEar) → IsIn a ears → IsEar g f a.begin a.edges) (never : NoneServes g f ears) where
+  not-alone : (a : PlainEar) → IsIn a ears → IsStage g (with_edges f a.edges) → ⊥
+  not-alone a i next = never a i (stage-serves g is f stage a.begin a.edges (each a i) next)
+
+  -- two ears are needed where no ear serves alone
+  pub found-needed : (s : PlainStep) → FindsTwo g f ears s → IsNeeded g f s
+  found-needed s found =
+      let among = before-among found.0 found.1 ears found.2 in
+      subst (IsNeeded g f) (sym found.3) (not-alone found.0 among.0, not-alone found.1 among.1)
+
+-- needed steps that go on
+pub needed-go_on : (g : Graph) (first f new : Set) (before : List PlainStep) (s : PlainStep) → IsNeeded g f s → ((i : ℕ) → new i ≡ next_stage f s i) → ((others : List PlainStep) → AreNeeded g f others → AreNeeded g first (before ++ others)) →
+    (others : List PlainStep) → AreNeeded g new others → AreNeeded g first ((before ++ s ∷ []) ++ others)
+needed-go_on g first f new before s needed same so_far others are =
+    subst (λ (xs : List PlainStep). AreNeeded g first xs) (sym (append_assoc before (s ∷ []) others))
+    (so_far (s ∷ others) (needed, subst (λ (h : Set). AreNeeded g h others) (fun_ext same) are))

@@ -1,0 +1,76 @@
+-- Matchings inside a set of vertices: edges that meet each vertex of it once, and do not cross
+-- it, are a perfect matching of the graph that it induces.
+use Rattle.std.proofs.Common.{◌≡◌, ℕ, suc, zero, ◌+◌, ◌≤◌, Bool, true, false, ◌==◌, refl, sym, ap, ap₂, ◌∙◌, arith, ◌&&◌, not, eqb-true, subst, inl, inr}
+use Rattle.std.proofs.lemmas.Bool.{true≢false, not-false, not-true}
+use Rattle.counting.proofs.Totals.{total_congr, total_none}
+use Rattle.counting.specs.Counts.{Within, bit}
+use Rattle.counting.specs.Sets.{Set}
+use Rattle.graph_core.proofs.Edits.{ends_le_degree}
+use Rattle.graph_core.proofs.Textbook.{one_end}
+use Rattle.graph_core.specs.Graph.{Graph, HasEnds, degree, first_end, in_cut, inside, second_end, size}
+use Rattle.theorems.specs.Matchings.{MatchesWithin}
+
+-- edges that meet each vertex of x once, of which none crosses x: those inside x are a perfect
+-- matching of G[X]
+pub perfect_within : (g : Graph) (m x : Set) → ((v : ℕ) → Within g.order v → x v ≡ true → degree g m v ≡ 1) → ((e : ℕ) → Within (size g) e → (m e && in_cut g x e) ≡ false) → MatchesWithin g m x
+perfect_within g m x met no_cross = record {
+  once = λ v w o. keep v (not-false (x v) o) ∙ met v w (not-false (x v) o);
+  away = λ v w o. drop v (not-true (x v) o);
+}
+  where
+    first : (a b c t : Bool) → (t ≡ true → b ≡ true) → (a && ((b && not c) || (not b && c))) ≡ false → ((a && (b && c)) && t) ≡ (a && t)
+    first a b c t f h = grind arith
+
+    second : (a b c t : Bool) → (t ≡ true → c ≡ true) → (a && ((b && not c) || (not b && c))) ≡ false → ((a && (b && c)) && t) ≡ (a && t)
+    second a b c t f h = grind arith
+
+    keep : (v : ℕ) → x v ≡ true → degree g (λ e. m e && inside g x e) v ≡ degree g m v
+    keep v o = ap₂ ◌+◌
+        (total_congr (size g) (λ e. bit ((m e && inside g x e) && (first_end g e == v))) (λ e. bit (m e && (first_end g e == v))) (λ e w. ap bit (first (m e) (x (first_end g e)) (x (second_end g e)) (first_end g e == v) (λ t. ap x (eqb-true (first_end g e) v t) ∙ o) (no_cross e w))))
+        (total_congr (size g) (λ e. bit ((m e && inside g x e) && (second_end g e == v))) (λ e. bit (m e && (second_end g e == v))) (λ e w. ap bit (second (m e) (x (first_end g e)) (x (second_end g e)) (second_end g e == v) (λ t. ap x (eqb-true (second_end g e) v t) ∙ o) (no_cross e w))))
+
+    gone : (a b c t : Bool) → (t ≡ true → b ≡ false) → ((a && (b && c)) && t) ≡ false
+    gone a b c t f = grind arith
+
+    gone' : (a b c t : Bool) → (t ≡ true → c ≡ false) → ((a && (b && c)) && t) ≡ false
+    gone' a b c t f = grind arith
+
+    drop : (v : ℕ) → x v ≡ false → degree g (λ e. m e && inside g x e) v ≡ 0
+    drop v o =
+        let a = total_none (size g) (λ e. bit ((m e && inside g x e) && (first_end g e == v))) (λ e w. ap bit (gone (m e) (x (first_end g e)) (x (second_end g e)) (first_end g e == v) (λ t. ap x (eqb-true (first_end g e) v t) ∙ o))) in
+        let b = total_none (size g) (λ e. bit ((m e && inside g x e) && (second_end g e == v))) (λ e w. ap bit (gone' (m e) (x (first_end g e)) (x (second_end g e)) (second_end g e == v) (λ t. ap x (eqb-true (second_end g e) v t) ∙ o))) in omega arith
+
+-- an edge crosses x where one of its ends is in x and the other is not, and nowhere else
+pub crossing_ends : (g : Graph) (x : Set) (e : ℕ) → in_cut g x e ≡ true → (v w : ℕ) × HasEnds g e v w × (x v ≡ true) × (x w ≡ false)
+crossing_ends g x e h = go (x (first_end g e)) (x (second_end g e)) refl refl h
+  where
+    go : (s t : Bool) → x (first_end g e) ≡ s → x (second_end g e) ≡ t → ((s && not t) || (not s && t)) ≡ true → (v w : ℕ) × HasEnds g e v w × (x v ≡ true) × (x w ≡ false)
+    go true false p q h = (first_end g e, second_end g e, inl (refl, refl), p, q)
+    go false true p q h = (second_end g e, first_end g e, inr (refl, refl), q, p)
+    go true true p q h = absurd (true≢false (sym h))
+    go false false p q h = absurd (true≢false (sym h))
+
+-- of an edge that crosses x with one end off x the other is in x
+pub other_end : (g : Graph) (x : Set) (e v w : ℕ) → HasEnds g e v w → in_cut g x e ≡ true → x v ≡ false → x w ≡ true
+other_end g x e v w h cross xv = elim h [
+  | inl q ↦ go (x v) (x w) xv (subst (λ k. ((x k && not (x w)) || (not (x k) && x w)) ≡ true) q.0 (subst (λ k. ((x (first_end g e) && not (x k)) || (not (x (first_end g e)) && x k)) ≡ true) q.1 cross))
+  | inr q ↦ go' (x v) (x w) xv (subst (λ k. ((x k && not (x v)) || (not (x k) && x v)) ≡ true) q.0 (subst (λ k. ((x (first_end g e) && not (x k)) || (not (x (first_end g e)) && x k)) ≡ true) q.1 cross))
+]
+  where
+    go : (s t : Bool) → s ≡ false → ((s && not t) || (not s && t)) ≡ true → t ≡ true
+    go s t p h = grind arith
+
+    go' : (s t : Bool) → s ≡ false → ((t && not s) || (not t && s)) ≡ true → t ≡ true
+    go' s t p h = grind arith
+
+-- a matching of which no edge is at v has none with the end v
+pub not_at : (g : Graph) (m : Set) (e v w : ℕ) → Within (size g) e → m e ≡ true → HasEnds g e v w → degree g m v ≡ 0 → ⊥
+not_at g m e v w we me h z =
+    let a = one_end g e v (elim h [ inl q ↦ inl q.0 | inr q ↦ inr q.1 ]) in
+    let b = ends_le_degree g m e v we me in absurd (omega arith)
+
+-- what a matching does not miss it meets once
+pub met_once : (k : ℕ) → k ≤ 1 → (k ≡ 0 → ⊥) → k ≡ 1
+met_once zero l n = absurd (n refl)
+met_once (suc zero) l n = refl
+met_once (suc (suc k)) l n = absurd (omega arith)
