@@ -3,6 +3,7 @@
 ghost use Rattle.tree_core.specs.Derivations.{IsDerivation};
 ghost use Rattle.tree_core.specs.View.{shape_of};
 
+use crate::built_trees::same_tree;
 use crate::choices::{FIRST, LAST, derived};
 use crate::made::made;
 use graph_core::MultiGraph;
@@ -10,27 +11,9 @@ use plain_graph::CYCLE_OF_8;
 use std::alloc::{AllocError as Memory, Global};
 use std::test::Fail;
 use tree_core::laws::derivation_stands;
-use tree_core::{Moves, Tree, apply, fits};
+use tree_core::{Moves, Tree, apply, copy, fits};
 use uncross::{compare, expose};
-
-// Whether two trees say the same.
-fn same_tree(first: &Tree, second: &Tree) -> bool {
-    match first {
-        Tree::Leaf => matches!(second, Tree::Leaf),
-        Tree::Cut {
-            shore,
-            kept,
-            merged,
-        } => match second {
-            Tree::Leaf => false,
-            Tree::Cut {
-                shore: other,
-                kept: other_kept,
-                merged: other_merged,
-            } => *shore == *other && same_tree(kept, other_kept) && same_tree(merged, other_merged),
-        },
-    }
-}
+use vset_core::VSet;
 
 // What the moves make of a tree, as far as they fit.
 fn replayed(tree: Tree, n: u32, moves: &Moves) -> Tree {
@@ -93,8 +76,16 @@ fn derivations_of_the_cycle_of_eight(rt: HostRuntime) -> Result<(), Fail> {
     Ok(())
 }
 
+// Whether the tree is a cut with this shore.
+fn has_root(tree: &Tree, wanted: VSet) -> bool {
+    match tree {
+        Tree::Leaf => false,
+        Tree::Cut { shore, .. } => *shore == wanted,
+    }
+}
+
 // Whether the root shore of a derivation is brought to the root of another, with a map for each
-// of so many leaves.
+// of so many leaves, and the moves make the tree that is answered.
 fn root_exposed(
     alloc: Global,
     g: &MultiGraph,
@@ -108,11 +99,14 @@ fn root_exposed(
     match second {
         Tree::Leaf => Ok(false),
         Tree::Cut { shore, .. } => {
+            let before = copy(alloc, &first)?;
             let exposed = expose(alloc, g, first, *shore)?;
-            match &exposed.tree {
-                Tree::Leaf => Ok(false),
-                Tree::Cut { shore: root, .. } => Ok(*root == *shore && exposed.maps.len() == many),
-            }
+            let made = replayed(before, g.order(), &exposed.moves);
+            Ok(
+                has_root(&made, *shore)
+                    && same_tree(&made, &exposed.tree)
+                    && exposed.maps.len() == many,
+            )
         }
     }
 }

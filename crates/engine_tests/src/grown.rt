@@ -1,5 +1,5 @@
-//! Generated graphs and the leaves of their decomposition: the quick tests beside the complete
-//! finder, and their ear lists.
+//! Generated graphs and the leaves of their decomposition: the quick tests beside the plain way by
+//! pairs, and their ear lists.
 use crate::choices::{FIRST, leaf_graphs};
 use allowed_edges::together;
 use ear_core::{EarJudgement, build_ears, check_ears};
@@ -8,15 +8,15 @@ use grow_gen::grow;
 use plain_graph::{is_bipartite, is_covered};
 use quick_kinds::{quick_brace, quick_brick};
 use std::alloc::{AllocError as Memory, Global};
-use tight_cuts::find_any;
+use tight_cuts::candidates_by_pairs;
 
-// Whether the graph is covered, and the quick test for its sort finds a nontrivial tight cut
-// exactly when the finder does.
+// Whether the graph is covered, and the quick test for its sort finds a nontrivial tight cut if and
+// only if the plain way by pairs does, which asks no quick test.
 fn agrees(alloc: Global, g: &MultiGraph) -> Result<bool, Memory> {
     if !is_covered(alloc, g)? {
         return Ok(false);
     }
-    let is_whole = find_any(alloc, g)?.is_none();
+    let is_whole = candidates_by_pairs(alloc, g)?.is_empty();
     if is_bipartite(alloc, g)? {
         if g.order() < 4 {
             return Ok(is_whole);
@@ -43,7 +43,7 @@ fn number_agrees(alloc: Global, number: u64) -> Result<bool, Memory> {
 }
 
 #[test]
-fn quick_tests_agree_with_the_finder(rt: HostRuntime) -> Result<(), Memory> {
+fn quick_tests_agree_with_the_way_by_pairs(rt: HostRuntime) -> Result<(), Memory> {
     let mut agree = true;
     for number in 1..21u64 {
         agree = agree && number_agrees(rt.alloc(), number)?;

@@ -1,6 +1,7 @@
 //! Worked trees, each answer once.
 ghost use Rattle.std.specs.Prelude.{◌≤◌, length};
 
+use crate::built_trees::{cut_into, is_tree};
 use crate::made::{made, set_of};
 use graph_core::{MultiGraph, Reason};
 use plain_graph::{HEXAGON, PETERSEN, PRISM, TRIANGLE_IN_K33, TWO_EDGES};
@@ -9,14 +10,6 @@ use std::test::Fail;
 use tree_check::{Judgement, Replayed, Why, check, replay};
 use tree_core::{Move, Moves, Path, Tree, fits};
 use vset_core::VSet;
-
-fn cut(alloc: Global, shore: VSet, kept: Tree, merged: Tree) -> Result<Tree, Memory> {
-    Ok(Tree::Cut {
-        shore,
-        kept: Box::new(alloc, kept)?,
-        merged: Box::new(alloc, merged)?,
-    })
-}
 
 // The answer to a tree, and none where it does not fit the graph.
 fn judged(alloc: Global, g: &MultiGraph, tree: &Tree) -> Result<Option<Judgement>, Memory> {
@@ -29,7 +22,7 @@ fn judged(alloc: Global, g: &MultiGraph, tree: &Tree) -> Result<Option<Judgement
 
 // The answer to a cut with two leaves.
 fn judged_cut(alloc: Global, g: &MultiGraph, shore: VSet) -> Result<Option<Judgement>, Memory> {
-    let tree = cut(alloc, shore, Tree::Leaf, Tree::Leaf)?;
+    let tree = cut_into(alloc, shore, Tree::Leaf, Tree::Leaf)?;
     judged(alloc, g, &tree)
 }
 
@@ -114,8 +107,8 @@ fn shores_of_a_hexagon(rt: HostRuntime) -> Result<(), Fail> {
 #[test]
 fn a_shore_below_that_is_no_union_of_blocks(rt: HostRuntime) -> Result<(), Fail> {
     let hexagon = made(rt.alloc(), 6, &HEXAGON)?;
-    let below = cut(rt.alloc(), set_of(&[1, 4, 5]), Tree::Leaf, Tree::Leaf)?;
-    let tree = cut(rt.alloc(), VSet::full(3), below, Tree::Leaf)?;
+    let below = cut_into(rt.alloc(), set_of(&[1, 4, 5]), Tree::Leaf, Tree::Leaf)?;
+    let tree = cut_into(rt.alloc(), VSet::full(3), below, Tree::Leaf)?;
     assert!(rt; is_refused(&judged(rt.alloc(), &hexagon, &tree)?, 2, 1));
     Ok(())
 }
@@ -162,7 +155,7 @@ fn replayed_hexagon(alloc: Global, moves: &Moves) -> Result<Option<Replayed>, Fa
     requires { length moves.now ≤ 3 }
 {
     let hexagon = made(alloc, 6, &HEXAGON)?;
-    let tree = cut(alloc, VSet::full(3), Tree::Leaf, Tree::Leaf)?;
+    let tree = cut_into(alloc, VSet::full(3), Tree::Leaf, Tree::Leaf)?;
     if !fits(&tree, hexagon.order()) {
         return Ok(None);
     }
@@ -172,15 +165,11 @@ fn replayed_hexagon(alloc: Global, moves: &Moves) -> Result<Option<Replayed>, Fa
     }
 }
 
-// Whether the last tree is a cut with that shore.
-fn is_done_with(answer: &Option<Replayed>, expected: VSet) -> bool {
+// Whether the last tree is the one with these shores.
+fn is_done_with(alloc: Global, answer: &Option<Replayed>, shores: &[&[u32]]) -> Result<bool, Fail> {
     match answer {
-        Some(
-            Replayed::Done {
-                tree: Tree::Cut { shore, .. },
-            },
-        ) => *shore == expected,
-        _ => false,
+        Some(Replayed::Done { tree }) => is_tree(alloc, tree, shores),
+        _ => Ok(false),
     }
 }
 
@@ -222,7 +211,7 @@ fn after(alloc: Global, steps: &[Step]) -> Result<Option<Replayed>, Fail> {
 #[test]
 fn scripts_replayed(rt: HostRuntime) -> Result<(), Fail> {
     let answer = after(rt.alloc(), &[Some((1, 4))])?;
-    assert!(rt; is_done_with(&answer, set_of(&[2, 3, 4])));
+    assert!(rt; is_done_with(rt.alloc(), &answer, &[&[2, 3, 4], &[], &[]])?);
     let answer = after(rt.alloc(), &[Some((2, 4)), Some((4, 2))])?;
     assert!(rt; is_refused_move(&answer, 1, &[2, 4, 6]));
     Ok(())

@@ -6,9 +6,9 @@
 //! the engine is proved a second time with its tests, and most calls ask for a covered graph,
 //! which `allowed_edges` decides.
 //!
-//! `made` and `choices` have what the tests share. `sets`, `nets`, `graphs`, `matchings`, `pairs`,
-//! `quotients`, `trees`, `kinds`, `orders`, `judgements`, `ears` and `growing` ask the calls of
-//! one crate each; `definitions` asks the plain program itself.
+//! `made`, `built_trees` and `choices` have what the tests share. `sets`, `nets`, `graphs`,
+//! `matchings`, `pairs`, `quotients`, `trees`, `kinds`, `orders`, `judgements`, `ears` and
+//! `growing` ask the calls of one crate each; `definitions` asks the plain program itself.
 //!
 //! `cuts`: `tight_cuts::is_tight` is compared with the plain program, which goes through all
 //! perfect matchings, on a table of small matching covered graphs and on each set with an odd
@@ -22,8 +22,8 @@
 //! literature.
 //!
 //! `grown`: on generated graphs and on the leaves of their decomposition the quick tests of
-//! `quick_kinds` agree with the complete finder, the ear lists that are built are accepted, and
-//! the table of pairs of a large graph ends.
+//! `quick_kinds` agree with the plain way by pairs, the ear lists that are built are accepted,
+//! and the table of pairs of a large graph ends.
 //!
 //! `quick_lists`: on worked and generated graphs and their leaves, wheels, prisms and Möbius
 //! ladders `tight_cuts::candidates` answers what the plain search by pairs does, and
@@ -39,12 +39,15 @@
 //! `numbered` and `shapes` make the graphs. A test that must find something says how much it found.
 //!
 //! `compared`: two derivations of the cycle of eight are compared, the moves lead from the one to
-//! the other, and a shore is exposed.
+//! the other, and a shore is exposed. `worked_pairings`: all moves and all maps of the worked pairs
+//! of derivations, by `compare` and by `expose`.
 //!
 //! A test is a table and a small function that walks it: each test is proved, and a table of
 //! constants costs little to prove. Source of the graphs: Lovász and Plummer, "Matching Theory".
 #![tactic(auto)]
 
+#[cfg(test)]
+mod built_trees;
 #[cfg(test)]
 mod by_pairs;
 #[cfg(test)]
@@ -95,3 +98,5 @@ mod shapes;
 mod trees;
 #[cfg(test)]
 mod worked;
+#[cfg(test)]
+mod worked_pairings;

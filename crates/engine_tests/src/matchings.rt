@@ -7,6 +7,7 @@ ghost use Rattle.graph_core.specs.Matchings.{missed_count};
 ghost use Rattle.match_core.specs.MatchingRows.{IsOf, edges_of};
 
 use crate::made::{made, set_of};
+use gallai_edmonds::sets;
 use graph_core::{MultiGraph, Numbers};
 use match_core::{Matching, frame, maximum, perfect_with, perfect_without, repair};
 use plain_graph::{FLOWER, K4, PATH, PETERSEN, STAR, TRIANGLE, TWO_EDGES};
@@ -67,6 +68,29 @@ fn finds_the_sets_of_gallai_and_edmonds(rt: HostRuntime) -> Result<(), Fail> {
         let sets = frame(rt.alloc(), &graph)?;
         assert!(rt; sets.outer == set_of(outer) && sets.inner == set_of(inner));
         assert!(rt; sets.found.berge == set_of(berge));
+    }
+    Ok(())
+}
+
+// A star and an edge that hangs on its centre by a vertex.
+const STAR_AND_EDGE: [(u32, u32); 5] = [(1, 2), (1, 3), (1, 4), (1, 5), (5, 6)];
+
+// A graph, by its order and its edges, and its sets D, A and C.
+static THREE_SETS: [(u32, &[(u32, u32)], [&[u32]; 3]); 6] = [
+    (4, &K4, [&[], &[], &[1, 2, 3, 4]]),
+    (4, &STAR, [&[2, 3, 4], &[1], &[]]),
+    (3, &TRIANGLE, [&[1, 2, 3], &[], &[]]),
+    (4, &PATH, [&[], &[], &[1, 2, 3, 4]]),
+    (6, &STAR_AND_EDGE, [&[2, 3, 4], &[1], &[5, 6]]),
+    (3, &[], [&[1, 2, 3], &[], &[]]),
+];
+
+#[test]
+fn answers_the_three_sets(rt: HostRuntime) -> Result<(), Fail> {
+    for (order, edges, [d, a, c]) in &THREE_SETS {
+        let graph = made(rt.alloc(), *order, edges)?;
+        let three = sets(rt.alloc(), &graph)?;
+        assert!(rt; three.d == set_of(d) && three.a == set_of(a) && three.c == set_of(c));
     }
     Ok(())
 }

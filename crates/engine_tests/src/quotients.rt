@@ -5,7 +5,7 @@ use crate::made::{made, set_of};
 use contraction::{Contracted, Partition, lift, quotient};
 use graph_core::{Ends, MultiGraph, Numbers};
 use match_core::perfect_with;
-use plain_graph::{CYCLE_OF_8, DOUBLED_SQUARE, TRIANGLE_IN_K33};
+use plain_graph::{CYCLE_OF_8, DOUBLED_SQUARE, K4, TRIANGLE_IN_K33};
 use std::alloc::Global;
 use std::test::Fail;
 use vset_core::{MOST_VERTICES, VSet};
@@ -105,61 +105,69 @@ const DOUBLED: Cut = Cut {
     shore: &[],
 };
 
+// Three vertices of the complete graph of four are one: three edges go to the fourth.
+const THREE_OF_FOUR: Cut = Cut {
+    order: 4,
+    edges: &K4,
+    shore: &[1, 2, 3],
+};
+
 fn contracted_at(alloc: Global, cut: &Cut) -> Result<Contracted, Fail> {
     let graph = made(alloc, cut.order, cut.edges)?;
     contracted(alloc, &graph, set_of(cut.shore))
 }
 
-// An edge of a quotient: its ends, its least and its greatest remembered edge.
-type Remembered = (u32, u32, u32, u32);
+// An edge of a quotient: its ends, and all its remembered edges.
+type Remembered = (u32, u32, &'static [u32]);
 
 // The edges of quotients, in order.
-static QUOTIENTS: [(Cut, &[Remembered]); 5] = [
+static QUOTIENTS: [(Cut, &[Remembered]); 6] = [
     (
         FAR_SIDE,
         &[
-            (1, 2, 1, 1),
-            (1, 3, 2, 2),
-            (1, 4, 4, 4),
-            (2, 3, 3, 3),
-            (2, 4, 5, 5),
-            (3, 4, 6, 6),
+            (1, 2, &[1]),
+            (1, 3, &[2]),
+            (1, 4, &[4]),
+            (2, 3, &[3]),
+            (2, 4, &[5]),
+            (3, 4, &[6]),
         ],
     ),
     (
         TRIANGLE_SIDE,
         &[
-            (1, 2, 4, 4),
-            (1, 3, 5, 5),
-            (1, 4, 6, 6),
-            (2, 5, 7, 7),
-            (2, 6, 10, 10),
-            (3, 5, 8, 8),
-            (3, 6, 11, 11),
-            (4, 5, 9, 9),
-            (4, 6, 12, 12),
+            (1, 2, &[4]),
+            (1, 3, &[5]),
+            (1, 4, &[6]),
+            (2, 5, &[7]),
+            (2, 6, &[10]),
+            (3, 5, &[8]),
+            (3, 6, &[11]),
+            (4, 5, &[9]),
+            (4, 6, &[12]),
         ],
     ),
     (
         FIVE_OF_EIGHT,
-        &[(1, 2, 5, 5), (1, 4, 8, 8), (2, 3, 6, 6), (3, 4, 7, 7)],
+        &[(1, 2, &[5]), (1, 4, &[8]), (2, 3, &[6]), (3, 4, &[7])],
     ),
     (
         WHOLE_CYCLE,
         &[
-            (1, 2, 1, 1),
-            (1, 8, 8, 8),
-            (2, 3, 2, 2),
-            (3, 4, 3, 3),
-            (4, 5, 4, 4),
-            (5, 6, 5, 5),
-            (6, 7, 6, 6),
-            (7, 8, 7, 7),
+            (1, 2, &[1]),
+            (1, 8, &[8]),
+            (2, 3, &[2]),
+            (3, 4, &[3]),
+            (4, 5, &[4]),
+            (5, 6, &[5]),
+            (6, 7, &[6]),
+            (7, 8, &[7]),
         ],
     ),
+    (THREE_OF_FOUR, &[(1, 2, &[3, 5, 6])]),
     (
         DOUBLED,
-        &[(1, 2, 1, 2), (1, 4, 5, 5), (2, 3, 3, 3), (3, 4, 4, 4)],
+        &[(1, 2, &[1, 2]), (1, 4, &[5]), (2, 3, &[3]), (3, 4, &[4])],
     ),
 ];
 
@@ -168,10 +176,8 @@ fn is_edge(q: &Contracted, e: u32, wanted: &Remembered) -> bool {
     if e < 1 || e > q.graph().size() {
         return false;
     }
-    let (a, b, least, greatest) = *wanted;
-    let ends = q.graph().ends(e);
-    let kept = q.remembered(e);
-    ends == Ends { a, b } && kept.first() == Some(&least) && kept.last() == Some(&greatest)
+    let (a, b, edges) = *wanted;
+    q.graph().ends(e) == Ends { a, b } && q.remembered(e) == edges
 }
 
 // Whether the quotient has these edges, in their order.

@@ -1,8 +1,9 @@
-//! Small trees: their sizes, their copies and their leaves.
+//! Small trees: their sizes, their copies and their leaves, and what a move makes of them.
 ghost use Rattle.std.specs.Prelude.{◌≡◌, IfOk};
 ghost use Rattle.tree_core.specs.Shapes.{leaf, cut};
 ghost use Rattle.tree_core.specs.View.{shape_of};
 
+use crate::built_trees::{Shores, cut_into, is_tree, same_tree, tree_of};
 use crate::made::set_of;
 use contraction::Partition;
 use std::alloc::{AllocError as Memory, Global};
@@ -17,13 +18,7 @@ use vset_core::VSet;
 fn one_cut(alloc: Global, shore: VSet) -> Result<Tree, Memory>
     ensures { IfOk result (λ tree. shape_of tree ≡ cut shore leaf leaf) }
 {
-    let kept = Box::new(alloc, Tree::Leaf)?;
-    let merged = Box::new(alloc, Tree::Leaf)?;
-    Ok(Tree::Cut {
-        shore,
-        kept,
-        merged,
-    })
+    cut_into(alloc, shore, Tree::Leaf, Tree::Leaf)
 }
 
 // The blocks of the two leaves of the hexagon with the shore 1 2 3.
@@ -69,6 +64,43 @@ fn sizes_and_copies(rt: HostRuntime) -> Result<(), Fail> {
     Ok(())
 }
 
+// Trees whose two trees below the root are not equal.
+static UNEQUAL: [Shores; 4] = [
+    &[&[1, 2, 3, 4, 5], &[1, 2, 3], &[], &[], &[]],
+    &[&[1, 2, 3], &[], &[1, 2, 3, 4, 5], &[], &[]],
+    &[&[3, 4, 5], &[1, 2, 3], &[], &[], &[4, 5, 6], &[], &[]],
+    &[
+        &[3, 4, 5],
+        &[1, 2, 3],
+        &[],
+        &[5, 6, 7],
+        &[],
+        &[],
+        &[2, 3, 4],
+        &[],
+        &[],
+    ],
+];
+
+// Whether a copy of the tree is the tree, and is no other tree of the table.
+fn is_copied(alloc: Global, shores: &[&[u32]], place: usize) -> Result<bool, Fail> {
+    let tree = tree_of(alloc, shores)?;
+    let other = copy(alloc, &tree)?;
+    let mut alike = same_tree(&other, &tree);
+    for (i, others) in UNEQUAL.iter().enumerate() {
+        alike = alike && is_tree(alloc, &other, others)? == (i == place);
+    }
+    Ok(alike)
+}
+
+#[test]
+fn a_copy_is_the_tree(rt: HostRuntime) -> Result<(), Fail> {
+    for (place, shores) in UNEQUAL.iter().enumerate() {
+        assert!(rt; is_copied(rt.alloc(), shores, place)?);
+    }
+    Ok(())
+}
+
 #[test]
 fn paths_and_lists_of_partitions(rt: HostRuntime) -> Result<(), Fail> {
     let mut path = Path::new(rt.alloc());
@@ -81,8 +113,43 @@ fn paths_and_lists_of_partitions(rt: HostRuntime) -> Result<(), Fail> {
     Ok(())
 }
 
+// The tree that a move makes; none where it makes none.
+fn moved(tree: Tree, n: u32, step: &Move) -> Option<Tree> {
+    if !fits(&tree, n) {
+        return None;
+    }
+    apply(tree, n, step).ok()
+}
+
+// Whether the move makes of the first tree the second.
+fn turns_into(
+    alloc: Global,
+    n: u32,
+    step: &Move,
+    first: &[&[u32]],
+    second: &[&[u32]],
+) -> Result<bool, Fail> {
+    match moved(tree_of(alloc, first)?, n, step) {
+        Some(made) => is_tree(alloc, &made, second),
+        None => Ok(false),
+    }
+}
+
 #[test]
 fn a_switch_moves_the_cut_of_the_hexagon(rt: HostRuntime) -> Result<(), Fail> {
+    let path = Path::new(rt.alloc());
+    let step = Move::Switch {
+        path,
+        u: VSet::one(1),
+        v: VSet::one(4),
+    };
+    let first: Shores = &[&[1, 2, 3], &[], &[]];
+    assert!(rt; turns_into(rt.alloc(), 6, &step, first, &[&[2, 3, 4], &[], &[]])?);
+    Ok(())
+}
+
+#[test]
+fn a_switch_of_the_hexagon_by_its_own_call(rt: HostRuntime) -> Result<(), Fail> {
     let tree = one_cut(rt.alloc(), VSet::full(3))?;
     assert!(rt; fits(&tree, 6));
     let path = Path::new(rt.alloc());
@@ -90,11 +157,7 @@ fn a_switch_moves_the_cut_of_the_hexagon(rt: HostRuntime) -> Result<(), Fail> {
         Ok(made) => made,
         Err((back, _)) => back,
     };
-    let Tree::Cut { shore, .. } = &made else {
-        assert!(rt; false);
-        return Ok(());
-    };
-    assert!(rt; *shore == set_of(&[2, 3, 4]));
+    assert!(rt; is_tree(rt.alloc(), &made, &[&[2, 3, 4], &[], &[]])?);
     Ok(())
 }
 
@@ -102,36 +165,121 @@ fn a_switch_moves_the_cut_of_the_hexagon(rt: HostRuntime) -> Result<(), Fail> {
 fn a_rotate_at_the_root_is_stuck(rt: HostRuntime) -> Result<(), Fail> {
     let tree = one_cut(rt.alloc(), VSet::full(3))?;
     let path = Path::new(rt.alloc());
-    let stuck = rotate(tree, &path).is_err();
-    assert!(rt; stuck);
+    let Err((back, _)) = rotate(tree, &path) else {
+        assert!(rt; false);
+        return Ok(());
+    };
+    assert!(rt; is_tree(rt.alloc(), &back, &[&[1, 2, 3], &[], &[]])?);
     let mut moves = Moves::new(rt.alloc());
     moves.push(Move::Rotate { path })?;
     assert!(rt; moves.len() == 1 && matches!(moves.get(0), Move::Rotate { .. }));
     Ok(())
 }
 
+// A side of the root, a tree, and the tree that Rotate makes of it with the lower cut at that
+// side: a worked pair, and each of the three cases over trees that are not equal.
+static ROTATED: [(Side, Shores, Shores); 4] = [
+    (
+        Side::Kept,
+        &[&[1, 2, 3, 4, 5], &[1, 2, 3], &[], &[], &[]],
+        &[&[1, 2, 3], &[], &[1, 2, 3, 4, 5], &[], &[]],
+    ),
+    (
+        Side::Kept,
+        &[
+            &[1, 2, 3, 4, 5],
+            &[1, 2, 3],
+            &[2],
+            &[],
+            &[],
+            &[4],
+            &[],
+            &[],
+            &[6],
+            &[],
+            &[],
+        ],
+        &[
+            &[1, 2, 3],
+            &[2],
+            &[],
+            &[],
+            &[1, 2, 3, 4, 5],
+            &[4],
+            &[],
+            &[],
+            &[6],
+            &[],
+            &[],
+        ],
+    ),
+    (
+        Side::Merged,
+        &[
+            &[1, 2, 3],
+            &[2],
+            &[],
+            &[],
+            &[1, 2, 3, 4, 5],
+            &[4],
+            &[],
+            &[],
+            &[6],
+            &[],
+            &[],
+        ],
+        &[
+            &[1, 2, 3, 4, 5],
+            &[1, 2, 3],
+            &[2],
+            &[],
+            &[],
+            &[4],
+            &[],
+            &[],
+            &[6],
+            &[],
+            &[],
+        ],
+    ),
+    (
+        Side::Merged,
+        &[
+            &[1, 2, 3],
+            &[2],
+            &[],
+            &[],
+            &[5, 6, 7],
+            &[4],
+            &[],
+            &[],
+            &[6],
+            &[],
+            &[],
+        ],
+        &[
+            &[5, 6, 7],
+            &[4],
+            &[],
+            &[],
+            &[1, 2, 3],
+            &[2],
+            &[],
+            &[],
+            &[6],
+            &[],
+            &[],
+        ],
+    ),
+];
+
 #[test]
 fn a_rotate_brings_the_lower_cut_up(rt: HostRuntime) -> Result<(), Fail> {
-    let lower = one_cut(rt.alloc(), VSet::full(3))?;
-    let kept = Box::new(rt.alloc(), lower)?;
-    let merged = Box::new(rt.alloc(), Tree::Leaf)?;
-    let tree = Tree::Cut {
-        shore: VSet::full(5),
-        kept,
-        merged,
-    };
-    let mut path = Path::new(rt.alloc());
-    path.push(Side::Kept)?;
-    assert!(rt; fits(&tree, 8));
-    let made = match apply(tree, 8, &Move::Rotate { path }) {
-        Ok(made) => made,
-        Err((back, _)) => back,
-    };
-    let Tree::Cut { shore, kept, .. } = &made else {
-        assert!(rt; false);
-        return Ok(());
-    };
-    assert_eq!(rt; shore.len(), 3);
-    assert!(rt; matches!(**kept, Tree::Leaf));
+    for (side, first, second) in &ROTATED {
+        let mut path = Path::new(rt.alloc());
+        path.push(*side)?;
+        let step = Move::Rotate { path };
+        assert!(rt; turns_into(rt.alloc(), 8, &step, first, second)?);
+    }
     Ok(())
 }

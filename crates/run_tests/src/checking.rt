@@ -1,5 +1,7 @@
 //! Worked trees and ear lists, given and built, and their refusals.
-use crate::graphs::{CUBE, HEXAGON, K4, PATH, PETERSEN, PRISM, TRIANGLE_IN_K33, TWO_EDGES};
+use crate::graphs::{
+    CUBE, CUBE_EARS, HEXAGON, K4, PATH, PETERSEN, PRISM, TRIANGLE_IN_K33, TWO_EDGES,
+};
 use crate::trial::{Row, answers, first_wrong, report};
 use bench_top::Status;
 use std::alloc::Global;
@@ -70,13 +72,7 @@ fn decompositions_are_accepted(rt: HostRuntime) -> Result<(), Fail> {
 
 // Ear lists of the graph.
 static ACCEPTED_EARS: [Row; 2] = [
-    (
-        &[
-            CUBE,
-            "r mcg 8 12\nstart 1\near 2 2 3 4\near 1 9 5 10\near 3 11 7 12\near 6 6\near 5 8\n",
-        ],
-        "accepted steps 5 single 5 double 0\n",
-    ),
+    (&[CUBE, CUBE_EARS], "accepted steps 5 single 5 double 0\n"),
     (
         &[K4, "r mcg 4 6\nstart 1\near 2 4 6 3\near 1 2\nwith 2 5\n"],
         "accepted steps 2 single 1 double 1\n",

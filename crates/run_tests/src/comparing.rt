@@ -60,10 +60,14 @@ static REFUSED: [Row; 2] = [
 ];
 
 // Two trees of the hexagon, of which one is outside the format.
-static MALFORMED: [Row; 2] = [
+static MALFORMED: [Row; 3] = [
     (
         &[HEXAGON, "t mcg 6\ncut 3 2\nleaf\nleaf\n", HEXAGON_TREE],
         "file 2 line 2 kind 9\n",
+    ),
+    (
+        &[HEXAGON, "t mcg 6\ncut 2 6\nleaf\nleaf\n", HEXAGON_TREE],
+        "file 2 line 2 kind 10\n",
     ),
     (
         &[HEXAGON, HEXAGON_TREE, "t mcg 6\ncut 2 6\nleaf\nleaf\n"],

@@ -1,7 +1,8 @@
 //! Faults of the outside, over all commands: each read and each write fails in turn, each file is
 //! missing in turn, the room is too small, and nothing fails.
 use crate::graphs::{
-    CUBE, HEXAGON, HEXAGON_TREE, K4, NAMED_CYCLE, OTHER_HEXAGON_TREE, PATH, PRISM, TWO_EDGES,
+    CUBE, CUBE_EARS, HEXAGON, HEXAGON_TREE, K4, NAMED_CYCLE, OTHER_HEXAGON_TREE, PATH, PRISM,
+    TRIANGLE_IN_K33, TWO_EDGES,
 };
 use crate::trial::{ran, ran_over, shelf_of, shelf_without, words_of};
 use bench_top::{Status, run};
@@ -11,8 +12,10 @@ use std::test::Fail;
 
 // Runs of each command that are done or refused, and two whose last file is outside its format:
 // the words, the files that they name, and the status.
-static RUNS: [(&[&str], &[&str], Status); 24] = [
+static RUNS: [(&[&str], &[&str], Status); 29] = [
     (&["analyse", "g"], &[K4], Status::Done),
+    (&["analyse", "g"], &[CUBE], Status::Done),
+    (&["analyse", "g"], &[TRIANGLE_IN_K33], Status::Done),
     (&["analyse", "g"], &[TWO_EDGES], Status::Done),
     (&["convert", "g"], &[NAMED_CYCLE], Status::Done),
     (&["analyse6", "g"], &["C~\n"], Status::Done),
@@ -34,6 +37,12 @@ static RUNS: [(&[&str], &[&str], Status); 24] = [
         &[PRISM, "t mcg 6\ncut 1 2 3\nleaf\nleaf\n"],
         Status::Negative,
     ),
+    (
+        &["check", "g", "s"],
+        &[TRIANGLE_IN_K33, "t mcg 8\ncut 1 2 3\nleaf\nleaf\n"],
+        Status::Done,
+    ),
+    (&["checkears", "g", "s"], &[CUBE, CUBE_EARS], Status::Done),
     (
         &["checkears", "g", "s"],
         &[K4, "r mcg 4 6\nstart 1\near 2 4 6 3\near 1 2\nwith 2 5\n"],
@@ -76,6 +85,7 @@ static RUNS: [(&[&str], &[&str], Status); 24] = [
         &[HEXAGON, "t mcg 6\ncut 1 2\nleaf\nleaf\n", "m mcg 6\n"],
         Status::Negative,
     ),
+    (&["grow", "5", "1"], &[], Status::Done),
     (&["grow", "7", "1"], &[], Status::Done),
     (&["grow", "7", "3"], &[], Status::Done),
     (&["analyse", "g"], &["p mcg 2 1\ne 1 1\n"], Status::BadInput),

@@ -26,6 +26,10 @@ pub const PRISM: &str =
 pub const CUBE: &str =
     "p mcg 8 12\ne 1 2\ne 2 3\ne 3 4\ne 1 4\ne 5 6\ne 6 7\ne 7 8\ne 5 8\ne 1 5\ne 2 6\ne 3 7\ne 4 8\n";
 
+// An ear list of the cube.
+pub const CUBE_EARS: &str =
+    "r mcg 8 12\nstart 1\near 2 2 3 4\near 1 9 5 10\near 3 11 7 12\near 6 6\near 5 8\n";
+
 // The complete bipartite graph of three and three vertices with a triangle for one vertex.
 pub const TRIANGLE_IN_K33: &str =
     "p mcg 8 12\ne 1 2\ne 1 3\ne 2 3\ne 1 4\ne 2 5\ne 3 6\ne 7 4\ne 7 5\ne 7 6\ne 8 4\ne 8 5\ne 8 6\n";

@@ -5,6 +5,7 @@
 //! and `growing` have the worked reports of the commands. `named`: graphs in version 2 over the
 //! commands whose reports list no names. `words`: words that match no row, over which nothing is
 //! read. `malformed`: one table for each text format, with each row of its table of faults.
+//! `bad_files`: files beyond the limits of size, and which of several bad files is named.
 //! `faults`: over all commands each read and each write fails in turn, each file is missing in
 //! turn, and the room of the sink is too small; and over a sink that only counts nothing fails.
 //!
@@ -15,6 +16,8 @@
 
 #[cfg(test)]
 mod analysing;
+#[cfg(test)]
+mod bad_files;
 #[cfg(test)]
 mod checking;
 #[cfg(test)]

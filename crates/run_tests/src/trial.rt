@@ -81,6 +81,19 @@ pub fn answers(
     Ok(answer == status && written.as_str() == report)
 }
 
+/// Whether the words refuse the last of these files for its first fault.
+pub fn is_refused(
+    alloc: Global,
+    words: &[&str],
+    files: &[&str],
+    line: u32,
+    kind: u32,
+) -> Result<bool, Fail> {
+    let file = files.len();
+    let report = format!(in alloc; "file {file} line {line} kind {kind}\n")?;
+    answers(alloc, words, files, Status::BadInput, &report)
+}
+
 /// The place of the first row whose files give another answer than this status, or another report
 /// than the row's.
 pub fn first_wrong(

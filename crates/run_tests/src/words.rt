@@ -6,7 +6,7 @@ use outside::MemSink;
 use std::alloc::Global;
 use std::test::Fail;
 
-static WORDS: [&[&str]; 35] = [
+static WORDS: [&[&str]; 37] = [
     &[],
     &["--help"],
     &["analyse"],
@@ -37,11 +37,13 @@ static WORDS: [&[&str]; 35] = [
     &["grow", "7"],
     &["grow", "7", "0"],
     &["grow", "7", "17"],
+    &["grow", "1", "17"],
     &["grow", "x", "3"],
     &["grow", "1234567890", "3"],
     &["grow", "7", "3", "g"],
     &["grow", "7", "-1"],
     &["grow", "-1", "3"],
+    &["grow", "-1", "2"],
 ];
 
 // Whether the words are refused, and no file is read: the first read would fail.
