@@ -72,8 +72,8 @@ module _ (g : Graph) (is : IsGraph g) (f : Set) (stage : IsStage g f) (v : ℕ) 
   -- an edge of the ear at v is in the matching, so no other one is
   at-start : (e : ℕ) → Within (size g) e → f e ≡ false → m e ≡ true → 1 ≤ ends_of g e v → degree g q v ≡ 0
   at-start e we off t l =
-      let a = degree_put g q e true v we in
-      let b = ap (λ k. bit k * ends_of g e v) (out (m e) (f e) off) in
+      let a : degree g (put q e true) v + bit (q e) * ends_of g e v ≡ degree g q v + bit true * ends_of g e v = degree_put g q e true v we in
+      let b : bit (q e) * ends_of g e v ≡ bit false * ends_of g e v = ap (λ k. bit k * ends_of g e v) (out (m e) (f e) off) in
       let c = degree_le g (put q e true) m v (λ d wd i. among d i) in
       let d = met-once v (met-within g is f v ear.start) ear.start in omega arith
     where

@@ -1,6 +1,6 @@
 -- Matchings inside a set of vertices: edges that meet each vertex of it once, and do not cross
 -- it, are a perfect matching of the graph that it induces.
-use Rattle.std.proofs.Common.{◌≡◌, ℕ, suc, zero, ◌+◌, ◌≤◌, Bool, true, false, ◌==◌, refl, sym, ap, ap₂, ◌∙◌, arith, ◌&&◌, not, eqb-true, subst, inl, inr}
+use Rattle.std.proofs.Common.{◌≡◌, ℕ, suc, zero, ◌+◌, ◌≤◌, Bool, true, false, ◌==◌, refl, sym, ap, ap₂, ◌∙◌, arith, ◌&&◌, ◌||◌, not, eqb-true, subst, inl, inr}
 use Rattle.std.proofs.lemmas.Bool.{true≢false, not-false, not-true}
 use Rattle.counting.proofs.Totals.{total_congr, total_none}
 use Rattle.counting.specs.Counts.{Within, bit}

@@ -1,6 +1,6 @@
 -- The shores of a derivation are a maximal family of nested cuts. By induction: where the two
 -- sides of a cut have such families, these and the cut are one.
-use Rattle.std.proofs.Common.{ℕ, List, ◌∷◌, ◌++◌, sym, inl, inr, subst}
+use Rattle.std.proofs.Common.{ℕ, List, ◌∷◌, ◌++◌, refl, sym, inl, inr, subst}
 use Rattle.std.proofs.lemmas.Bool.{both_ways}
 use Rattle.counting.specs.Lists.{IsIn, mem}
 use Rattle.graph_core.specs.Graph.{Graph}
