@@ -12,7 +12,6 @@ pub mod AlikeTexts
 pub mod AlikeReasons
 pub mod AlikeAnalyses
 pub mod AlikeRefusals
-pub mod OneTree
 pub mod OneOutput
 pub mod TextsStand
 pub mod WrittenBack

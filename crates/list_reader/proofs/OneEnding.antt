@@ -102,14 +102,13 @@ module _ (tells : Place → List ℕ → List ℕ → Type 0) (bad : Place → L
     first_bad_once place lines found other a b first second =
         let same =
         same_before place first.before second.before first.line second.line first.behind second.behind found.kind other.kind a b
-        (sym first.cut ∙ second.cut) first.told second.told first.named.bad_line second.named.bad_line in
-        (
+        (sym first.cut ∙ second.cut) first.told second.told first.named.bad_line second.named.bad_line in (
           one_output tells place second.before a b one (subst (λ (ls : List (List ℕ)). AllTold tells place ls a) same.0 first.told) second.told,
           first.named.number ∙ ap (λ (ls : List (List ℕ)). (place_behind place ls).number) same.0 ∙ sym second.named.number,
           fault_once bad (place_behind place second.before) second.line found.kind other.kind one_fault
-          (subst (λ (l : List ℕ). LineBad bad (place_behind place second.before) l found.kind) same.1
-          (subst (λ (ls : List (List ℕ)). LineBad bad (place_behind place ls) first.line found.kind) same.0 first.named.bad_line))
-          second.named.bad_line,
+              (subst (λ (l : List ℕ). LineBad bad (place_behind place second.before) l found.kind) same.1
+              (subst (λ (ls : List (List ℕ)). LineBad bad (place_behind place ls) first.line found.kind) same.0 first.named.bad_line))
+              second.named.bad_line,
         )
 
     pub stop_once :
