@@ -15,3 +15,4 @@ pub mod AlikeRefusals
 pub mod OneOutput
 pub mod TextsStand
 pub mod WrittenBack
+pub mod WritesMade
