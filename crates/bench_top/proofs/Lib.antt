@@ -12,7 +12,7 @@ pub mod AlikeTexts
 pub mod AlikeReasons
 pub mod AlikeAnalyses
 pub mod AlikeRefusals
-pub mod OneTree
 pub mod OneOutput
 pub mod TextsStand
 pub mod WrittenBack
+pub mod WritesMade

@@ -46,7 +46,7 @@ use Rattle.bench_top.proofs.AlikeRefusals.{refused-alike}
 use Rattle.bench_top.proofs.AlikeTexts.{alike-along, alike-none, graph6-alike, named-alike}
 use Rattle.bench_top.proofs.LoadedGraphs.{Holds, loaded-graph}
 use Rattle.bench_top.proofs.Settled.{KeepsGraph, settled}
-use Rattle.bench_top.proofs.OneTree.{PicksOnce, named-once, script-once, picked-once, kinds-once, tally-once}
+use Rattle.list_lines.proofs.OneTree.{PicksOnce, named-once, script-once, picked-once, kinds-once, tally-once}
 
 -- what is reported on a derivation
 tells-once : (named : NamedGraph) (t : Shape) (output other : List ℕ) → TellsDerivation named t Done output → TellsDerivation named t Done other → output ≡ other

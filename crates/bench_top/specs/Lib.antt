@@ -2,3 +2,4 @@ pub mod Calm
 pub mod Endings
 pub mod Fixed
 pub mod RoundTrips
+pub mod Writes

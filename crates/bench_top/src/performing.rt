@@ -4,6 +4,7 @@ ghost use Rattle.outside.specs.Faults.{Rose};
 ghost use Rattle.outside.specs.Shelf.{Named, ReadsFirst, ReadsInTurn};
 ghost use Rattle.bench_top.specs.Calm.{HasRead};
 ghost use Rattle.bench_top.specs.Endings.{IsStopOf, ReportedBad, ReportsBad, StopsAfter, Unread, stop_in};
+ghost use Rattle.bench_top.specs.Writes.{GivesTold, WritesAs};
 ghost use Rattle.bench_tasks.specs.Asked.{asked};
 ghost use Rattle.bench_tasks.specs.Loading.{Absent, loaded};
 ghost use Rattle.bench_tasks.specs.Loads.{LoadsAs, task_of, Held};
@@ -92,6 +93,9 @@ pub fn perform<S: Shelf, K: Sink>(
         → result.status ≡ Status.WriteFault
         → CutShort (LoadedGives (loaded files (asked command.entry)))
         (K.written sink.old) (K.written sink.new) }
+    ensures writes { WritesAs K.written K.writes (GivesTold (S.files shelf.old)
+        (λ files. LoadedGives (loaded files (asked command.entry))))
+        result.status sink.old sink.new }
     // Which file stopped it, and what was written of a bad one.
     ensures stops { (files : List Named) → S.files shelf.old ≡ Some files →
         IsStopOf (S.steady shelf.old) result.stop (loaded files (asked command.entry)) }

@@ -11,6 +11,7 @@ ghost use Rattle.bench_tasks.specs.Reads.{file_names, names_in, names_until};
 ghost use Rattle.bench_outcomes.specs.Success.{Succeeds};
 ghost use Rattle.bench_top.specs.Calm.{HasRead, IsCalm};
 ghost use Rattle.bench_top.specs.Endings.{IsStopOf, ReportedBad, StopsAfter, Unread};
+ghost use Rattle.bench_top.specs.Writes.{GivesTold, WritesAs};
 
 use crate::ending::Ending;
 use crate::performing::perform;
@@ -74,6 +75,11 @@ pub fn run_ending<S: Shelf, K: Sink>(
         → result.status ≡ Status.WriteFault
         → CutShort (Outcome (map string_bytes words.now) files) (K.written sink.old)
         (K.written sink.new) }
+    // The writes are those of that output, each of what is left of it, up to the end or to one
+    // that failed: no write follows it, and where nothing is reported there is no write.
+    ensures writes { WritesAs K.written K.writes
+        (GivesTold (S.files shelf.old) (Outcome (map string_bytes words.now)))
+        result.status sink.old sink.new }
 
     // Over a steady shelf a read fails only where a named file is not held and all before it are
     // held and good.
@@ -182,6 +188,11 @@ pub fn run<S: Shelf, K: Sink>(
     ensures cut { (files : List Named) → S.files shelf.old ≡ Some files → result ≡ Status.WriteFault
         → CutShort (Outcome (map string_bytes words.now) files) (K.written sink.old)
         (K.written sink.new) }
+    // The writes are those of that output, each of what is left of it, up to the end or to one
+    // that failed: no write follows it, and where nothing is reported there is no write.
+    ensures writes { WritesAs K.written K.writes
+        (GivesTold (S.files shelf.old) (Outcome (map string_bytes words.now)))
+        result sink.old sink.new }
 
     // Over a steady shelf a read fails only where a named file is not held and all before it are
     // held and good.

@@ -52,7 +52,7 @@ fn speak<S: Keeping, K: Outlet, E: Sink>(
     sink: &mut K,
     errors: &mut E,
 ) -> Status
-    ensures runs { IsRun S.files S.steady S.faults S.reads K.written K.faults
+    ensures runs { IsRun S.files S.steady S.faults S.reads K.written K.writes K.faults
         (map string_bytes words.now) result shelf.old shelf.new sink.old sink.new }
     ensures quiet { is_quiet ≡ true → errors.new ≡ errors.old }
     ensures speaks { is_quiet ≡ false →
@@ -95,7 +95,7 @@ pub fn run_front<S: Keeping, K: Outlet, E: Sink>(
     // For all others status and output are those of `run`, and what is said is the text for the
     // ending.
     ensures runs { answer_of (map string_bytes words.now) ≡ None →
-        IsRun S.files S.steady S.faults S.reads K.written K.faults
+        IsRun S.files S.steady S.faults S.reads K.written K.writes K.faults
         (map string_bytes words.now) result shelf.old shelf.new sink.old sink.new }
     ensures quiet { is_quiet ≡ true → errors.new ≡ errors.old }
     ensures speaks { answer_of (map string_bytes words.now) ≡ None → is_quiet ≡ false →

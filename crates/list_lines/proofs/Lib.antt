@@ -3,3 +3,10 @@ pub mod SimpleQuotients
 pub mod SingleLeaves
 pub mod LeafTexts
 pub mod Matched
+pub mod OneTree
+pub mod ReadMultigraphs
+pub mod PairedCounts
+pub mod SameKinds
+pub mod Counts
+pub mod OneStanding
+pub mod OneAnswer

@@ -8,9 +8,9 @@
 //! is bad exactly when it stands for no graph (`HasFault`).
 //!
 //! Stands on `graph6_text` for the lines, on `graph_facts`, `separation_kit` and `leaf_kinds` for
-//! what a graph is, and on `decomposer`, `tree_core` and `contraction` for its leaves. That the
-//! numbers of bricks and braces depend on no choice is a law of its own (Lovász, "Matching
-//! structure and the matching lattice", 1987).
+//! what a graph is, and on `decomposer`, `tree_core` and `contraction` for its leaves. What is told
+//! of a line is one: that the numbers of bricks and braces depend on no choice stands on the law
+//! of pairings of `move_laws` (Lovász, "Matching structure and the matching lattice", 1987).
 #![tactic(auto)]
 
 mod kind_lines;

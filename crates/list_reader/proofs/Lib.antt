@@ -7,3 +7,4 @@ pub mod Stages
 pub mod LeftBytes
 pub mod Readings
 pub mod Streaming
+pub mod OneEnding

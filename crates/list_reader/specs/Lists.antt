@@ -63,3 +63,11 @@ pub record CutShort (tells : Place → List ℕ → List ℕ → Type 0) (place 
 -- each line has at most one output
 abbrev pub HasOneOutput : (Place → List ℕ → List ℕ → Type 0) → Type 0
 HasOneOutput tells = (place : Place) (line a b : List ℕ) → tells place line a → tells place line b → a ≡ b
+
+-- each line has at most one kind of a first fault
+abbrev pub HasOneFault : (Place → List ℕ → FaultKind → Type 0) → Type 0
+HasOneFault bad = (place : Place) (line : List ℕ) (kind other : FaultKind) → bad place line kind → bad place line other → kind ≡ other
+
+-- no line has both an output and a fault
+abbrev pub TellsApart : (Place → List ℕ → List ℕ → Type 0) → (Place → List ℕ → FaultKind → Type 0) → Type 0
+TellsApart tells bad = (place : Place) (line output : List ℕ) (kind : FaultKind) → tells place line output → bad place line kind → ⊥

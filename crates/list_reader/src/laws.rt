@@ -1,6 +1,7 @@
 //! The laws on lists. Each is the contract of a function that does nothing.
 ghost use Rattle.std.specs.Prelude.{◌≡◌, ℕ, List};
-ghost use Rattle.list_reader.specs.Lists.{AllTold, HasOneOutput};
+ghost use Rattle.list_reader.specs.Lists.{AllTold, HasOneFault, HasOneOutput, TellsApart, ToldToBad, WholeTold};
+ghost use Rattle.list_reader.specs.declared.ending.BadLine.{BadLine};
 ghost use Rattle.list_reader.specs.declared.place.Place.{Place};
 
 use crate::teller::LineTeller;
@@ -12,6 +13,25 @@ pub fn one_output_law<T: LineTeller>(teller: &T)
         → HasOneOutput (T.tells teller.now)
         → AllTold (T.tells teller.now) place lines a →
         AllTold (T.tells teller.now) place lines b → a ≡ b }
+{
+    let _ = teller;
+}
+
+/// Where the teller has no line with both an output and a fault, a list that is told whole has no
+/// bad line and lacks none. Where it also has one output and one kind of a fault for each line,
+/// the first line that is bad or missing is one, with one kind, and one output is told before it.
+pub fn one_ending_law<T: LineTeller>(teller: &T)
+    ensures whole { (place : Place) (lines : List (List ℕ)) (found : BadLine) (a b : List ℕ)
+        → TellsApart (T.tells teller.now) (T.bad teller.now)
+        → WholeTold (T.tells teller.now) (T.lacks teller.now) place lines a
+        → ToldToBad (T.tells teller.now) (T.bad teller.now) (T.lacks teller.now) place lines found b
+        → ⊥ }
+    ensures bad { (place : Place) (lines : List (List ℕ)) (found other : BadLine) (a b : List ℕ)
+        → TellsApart (T.tells teller.now) (T.bad teller.now)
+        → HasOneOutput (T.tells teller.now) → HasOneFault (T.bad teller.now)
+        → ToldToBad (T.tells teller.now) (T.bad teller.now) (T.lacks teller.now) place lines found a
+        → ToldToBad (T.tells teller.now) (T.bad teller.now) (T.lacks teller.now) place lines other b
+        → (a ≡ b) × (found.number ≡ other.number) × (found.kind ≡ other.kind) }
 {
     let _ = teller;
 }

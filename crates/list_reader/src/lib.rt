@@ -12,7 +12,8 @@
 //! ending, whatever the pieces were in which they came; after each read the lines that it made
 //! whole are told and written before the next (`Step`); no write follows a failed one; a fault of
 //! the outside comes only where its count rose; at a fault of the source each line that was read
-//! is told and written. `one_output_law`: where a line has one output, a list has.
+//! is told and written. `one_output_law`, `one_ending_law`: where a line has one output or one kind
+//! of a first fault, and not both, a list has one output and one ending that its bytes decide.
 //!
 //! Stands on `outside` for the source and the sink and on the kinds of faults of `graph_core`.
 //! Source of the header: B. D. McKay, "Description of graph6, sparse6 and digraph6 encodings".
@@ -28,7 +29,7 @@ mod teller;
 mod telling;
 
 pub use ending::{BadLine, Ending};
-pub use laws::one_output_law;
+pub use laws::{one_ending_law, one_output_law};
 pub use place::Place;
 pub use reading::tell_all;
 pub use teller::{LineTeller, Told};

@@ -4,7 +4,7 @@
 -- and only if the graph is, by induction on the tree.
 use Rattle.std.proofs.Common.{◌≡◌, ◌∙◌, ◌↔◌, ℕ, ◌+◌, ◌*◌, ◌≤◌, List, refl, sym, ap, arith}
 use Rattle.std.specs.List.{AllByRecursion}
-use Rattle.theorems.proofs.Counts.{same_counts}
+use Rattle.list_lines.proofs.Counts.{same_counts}
 use Rattle.counting.specs.Lists.{mem}
 use Rattle.graph_core.proofs.Complements.{complement_of-rises, mem-complement_of}
 use Rattle.graph_core.proofs.ShoreLists.{complement-tight}

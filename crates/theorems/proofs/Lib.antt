@@ -8,7 +8,6 @@ pub mod CoarserPartitions
 pub mod CoarserQuotients
 pub mod CommandOrders
 pub mod ConnectedShores
-pub mod Counts
 pub mod CubicCovered
 pub mod CubicCuts
 pub mod CubicDegrees
@@ -34,7 +33,6 @@ pub mod Neighbourhoods
 pub mod NestedCuts
 pub mod NestedFamilies
 pub mod OutcomesExist
-pub mod PairedCounts
 pub mod Parted
 pub mod PartitionSides
 pub mod PickedDerivations
@@ -43,7 +41,6 @@ pub mod QuotientCounts
 pub mod Quotients
 pub mod ReplaysExist
 pub mod ReportsExist
-pub mod SameKinds
 pub mod SidesAcrossCuts
 pub mod StrongDigraphs
 pub mod ThreeConnected

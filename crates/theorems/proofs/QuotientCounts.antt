@@ -4,7 +4,7 @@
 -- those of the graph.
 use Rattle.std.proofs.Common.{[], ◌≡◌, ◌∙◌, ◌↔◌, ℕ, zero, suc, ◌+◌, ◌≤◌, ◌<◌, List, ◌∷◌, ◌++◌, length, not, inl, inr, refl, sym, ap, arith, subst}
 use Rattle.contraction.proofs.QuotientLaws.{tight_at_up}
-use Rattle.theorems.proofs.Counts.{same_counts}
+use Rattle.list_lines.proofs.Counts.{same_counts}
 use Rattle.counting.proofs.Counts.{count_le}
 use Rattle.counting.proofs.RisingLists.{rising_list-congr}
 use Rattle.counting.specs.Counts.{Within}

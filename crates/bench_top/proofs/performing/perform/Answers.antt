@@ -1,11 +1,14 @@
 use Rattle.std.proofs.Common.{List, ℕ, ◌≡◌, length, take, subst, ap, Err, ◌<◌}
-use Rattle.outside.specs.Sink.{appended}
+use Rattle.outside.specs.Sink.{IsCutOff, IsWritten, appended}
 use Rattle.bench_tasks.specs.Asked.{asked}
 use Rattle.bench_tasks.specs.Loading.{loaded}
 use Rattle.bench_tasks.specs.Reads.{file_names}
 use Rattle.bench_tasks.specs.Loads.{task_of}
 use Rattle.bench_top.proofs.ReadsMade.{absent-fault, first-reads}
 use Rattle.bench_top.proofs.Stops.{is-stop, reported-bad, stops-after, unread}
+use Rattle.bench_outcomes.specs.Outcome.{LoadedGives}
+use Rattle.bench_top.specs.Writes.{GivesTold}
+use Rattle.bench_top.proofs.WritesMade.{wrote-nothing, wrote-report}
 use Rattle.bench_top.proofs.performing.perform.Goals as goal
 
 pub returns-in-Ok-emit-clause-asks : goal.returns-in-Ok-emit-clause-asks
@@ -74,3 +77,28 @@ returns-in-Ok-emit-clause-reported g c = λ bad.
 pub returns-clause-unread : goal.returns-clause-unread
 returns-clause-unread g c = λ fault.
     rw c.stop_of-stop.ensures (unread c.gather-gathered.result (c.in-Err.ensures.read_fault.0 (ap Err fault)))
+
+pub returns-in-Ok-emit-clause-writes : goal.returns-in-Ok-emit-clause-writes
+returns-in-Ok-emit-clause-writes g c =
+    wrote-report g.K.Sink.written g.K.Sink.writes (GivesTold (g.S.Shelf.files c.args.shelf.now) (λ files. LoadedGives (loaded files (asked c.args.command))))
+    c.in-Ok.report.status c.in-Ok.report.bytes.items c.args.sink.now c.emit.new.sink c.in-Ok.ensures.reported
+    (λ files told. c.in-Ok.ensures.gives _ (c.gather-gathered.ensures.loads.loads files told))
+    (subst (λ (l : List ℕ). g.K.Sink.written c.emit.new.sink ≡ appended (g.K.Sink.written c.args.sink.now) l) c.deref.ensures.value c.in-Ok-emit.ensures.ok)
+    (subst (λ (l : List ℕ). IsWritten g.K.Sink.writes l c.args.sink.now c.emit.new.sink) c.deref.ensures.value c.in-Ok-emit.ensures.whole)
+
+pub returns-in-Ok-clause-writes : goal.returns-in-Ok-clause-writes
+returns-in-Ok-clause-writes g c =
+    let cut = c.in-Err-emit.ensures.err in
+    record {
+      status = c.in-Ok.report.status;
+      output = c.in-Ok.report.bytes.items;
+      count = cut.0;
+      right = λ files told. c.in-Ok.ensures.gives _ (c.gather-gathered.ensures.loads.loads files told);
+      now = subst (λ (l : List ℕ). g.K.Sink.written c.emit.new.sink ≡ appended (g.K.Sink.written c.args.sink.now) (take cut.0 l)) c.deref.ensures.value cut.2;
+      cut = subst (λ (l : List ℕ). IsCutOff g.K.Sink.writes l cut.0 c.args.sink.now c.emit.new.sink) c.deref.ensures.value cut.3;
+    }
+
+pub returns-clause-writes : goal.returns-clause-writes
+returns-clause-writes g c =
+    wrote-nothing g.K.Sink.written g.K.Sink.writes (GivesTold (g.S.Shelf.files c.args.shelf.now) (λ files. LoadedGives (loaded files (asked c.args.command))))
+    c.in-Err.status c.args.sink.now c.in-Err.ensures.stops

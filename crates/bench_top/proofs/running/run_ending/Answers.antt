@@ -7,6 +7,7 @@ use Rattle.bench_tasks.specs.Loading.{All, Absent, loaded}
 use Rattle.bench_outcomes.specs.Outcome.{CommandGives, CutShort}
 use Rattle.bench_tasks.specs.Reads.{names_in}
 use Rattle.bench_top.specs.Endings.{IsStopOf, StopsAfter}
+use Rattle.bench_top.specs.Writes.{GivesTold, WritesAs}
 use Rattle.bench_top.proofs.Completeness.{done-given, done-or_memory}
 use Rattle.bench_top.proofs.running.run_ending.Goals as goal
 
@@ -39,3 +40,9 @@ pub returns-in-Some-clause-stops_after : goal.returns-in-Some-clause-stops_after
 returns-in-Some-clause-stops_after g c =
     let row : Some (asked c.in-Some.command) ≡ command_of (map string_bytes c.args.words.now) = search rules in
     subst (λ (o : Option Command). StopsAfter g.S.Shelf.reads (names_in o) c.perform.result.stop c.args.shelf.now c.perform.new.shelf) row c.perform.ensures.stops_after
+
+pub returns-in-Some-clause-writes : goal.returns-in-Some-clause-writes
+returns-in-Some-clause-writes g c =
+    let row : Some (asked c.in-Some.command) ≡ command_of (map string_bytes c.args.words.now) = search rules in
+    subst (λ (o : Option Command). WritesAs g.K.Sink.written g.K.Sink.writes (GivesTold (g.S.Shelf.files c.args.shelf.now) (λ files. CommandGives files o)) c.perform.result.status c.args.sink.now c.perform.new.sink)
+    row c.perform.ensures.writes

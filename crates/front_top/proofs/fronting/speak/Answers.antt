@@ -15,6 +15,7 @@ returns-clause-runs g c = record {
   as_steady = c.run_ending-ending.ensures.steady;
   outcome = c.run_ending-ending.ensures.outcome;
   cut = c.run_ending-ending.ensures.cut;
+  writes_made = c.run_ending-ending.ensures.writes;
   missing = c.run_ending-ending.ensures.missing;
   absent = c.run_ending-ending.ensures.absent;
   bad = c.run_ending-ending.ensures.bad;

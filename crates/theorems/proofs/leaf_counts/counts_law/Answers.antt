@@ -1,4 +1,4 @@
-use Rattle.theorems.proofs.Counts.{same_counts}
+use Rattle.list_lines.proofs.Counts.{same_counts}
 use Rattle.theorems.proofs.leaf_counts.counts_law.Goals as goal
 
 pub returns : goal.returns

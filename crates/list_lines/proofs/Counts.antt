@@ -20,8 +20,8 @@ use Rattle.list_lines.specs.Standings.{IsCounted}
 use Rattle.list_lines.specs.declared.query.Property.{Property}
 use Rattle.list_lines.specs.declared.query.Property.TheVariants as property
 use Rattle.list_lines.specs.declared.query.Property.TheVariants.{Covered, Uncovered, Brace, Bicritical, Composite, Bricks, Braces}
-use Rattle.theorems.proofs.PairedCounts.{paired_length, paired_tests}
-use Rattle.theorems.proofs.SameKinds.{same_kind}
+use Rattle.list_lines.proofs.PairedCounts.{paired_length, paired_tests}
+use Rattle.list_lines.proofs.SameKinds.{same_kind}
 
 module _ (g : Graph) (is : IsGraph g) (s t : Shape) (ds : IsDerivation g s) (dt : IsDerivation g t) (maps : List PlainLeafMap) (pairs : IsPairing g (leaves g.order s) (leaves g.order t) maps)
     (ks ls : List LeafKind) (firsts : AreLeafKinds g (leaves g.order s) ks) (seconds : AreLeafKinds g (leaves g.order t) ls) where

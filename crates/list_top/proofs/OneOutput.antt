@@ -1,0 +1,49 @@
+-- A line has one output or one kind of a first fault, and not both. So the bytes of a list leave
+-- open neither whether its lines are told whole nor what is written.
+use Rattle.std.proofs.Common.{◌≡◌, ◌∙◌, ℕ, List, true, false, inl, inr, sym}
+use Rattle.text_faults.specs.declared.faults.FaultKind.{FaultKind}
+use Rattle.list_lines.proofs.OneAnswer.{fault_once, output_once, output_or_fault}
+use Rattle.list_lines.specs.declared.query.Query.{Query}
+use Rattle.list_reader.proofs.OneEnding.{stop_once, whole_not_bad}
+use Rattle.list_reader.proofs.OneOutput.{one_output}
+use Rattle.list_reader.specs.Lines.{lines_of}
+use Rattle.list_reader.specs.Lists.{HasOneFault, HasOneOutput, TellsApart, ToldToBad}
+use Rattle.list_reader.specs.Places.{first_place}
+use Rattle.list_reader.specs.declared.ending.BadLine.{BadLine}
+use Rattle.list_reader.specs.declared.place.Place.{Place}
+use Rattle.list_top.specs.Listings.{IsBadLine, TellsLineOf, is_further, lacks_of}
+use Rattle.list_top.specs.Outcomes.{EndsWith, Outcome}
+use Rattle.list_top.specs.declared.status.Status.TheVariants.{BadInput, Done}
+
+pub one_output_each : (query : Query) → HasOneOutput (TellsLineOf query)
+one_output_each query place line a b one two = output_once query place.number line a b one.1 two.1
+
+pub one_fault_each : (query : Query) → HasOneFault (IsBadLine query)
+one_fault_each query place line kind other (inl one) (inl two) = one.1 ∙ sym two.1
+one_fault_each query place line kind other (inl one) (inr two) = let no : true ≡ false = sym one.0 ∙ two.0 in absurd (cc no)
+one_fault_each query place line kind other (inr one) (inl two) = let no : true ≡ false = sym two.0 ∙ one.0 in absurd (cc no)
+one_fault_each query place line kind other (inr one) (inr two) = fault_once line kind other one.1 two.1
+
+pub told_or_bad : (query : Query) → TellsApart (TellsLineOf query) (IsBadLine query)
+told_or_bad query place line output kind told (inl bad) = let no : true ≡ false = sym bad.0 ∙ told.0 in cc no
+told_or_bad query place line output kind told (inr bad) = output_or_fault query place.number line output kind told.1 bad.1
+
+-- a list that is done has no bad line
+pub done_or_bad : (query : Query) (bytes a b : List ℕ) → Outcome query bytes Done a → Outcome query bytes BadInput b → ⊥
+done_or_bad query bytes a b done bad =
+    whole_not_bad (TellsLineOf query) (IsBadLine query) (told_or_bad query) (lacks_of query) first_place (lines_of bytes) bad.found a b done bad.told
+
+pub done_once : (query : Query) (bytes a b : List ℕ) → Outcome query bytes Done a → Outcome query bytes Done b → a ≡ b
+done_once query bytes a b one two = one_output (TellsLineOf query) first_place (lines_of bytes) a b (one_output_each query) one.told two.told
+
+-- the first bad line is one
+pub stops_once :
+    (query : Query) (bytes : List ℕ) (found other : BadLine) (a b : List ℕ) →
+    ToldToBad (TellsLineOf query) (IsBadLine query) (lacks_of query) first_place (lines_of bytes) found a →
+    ToldToBad (TellsLineOf query) (IsBadLine query) (lacks_of query) first_place (lines_of bytes) other b →
+    (a ≡ b) × (found.number ≡ other.number) × (found.kind ≡ other.kind)
+stops_once query bytes found other a b one two =
+    stop_once (TellsLineOf query) (IsBadLine query) (told_or_bad query) (one_output_each query) (one_fault_each query) (lacks_of query) first_place (lines_of bytes) found other a b one two
+
+pub bad_once : (query : Query) (bytes a b : List ℕ) → Outcome query bytes BadInput a → Outcome query bytes BadInput b → a ≡ b
+bad_once query bytes a b one two = (stops_once query bytes one.found two.found a b one.told two.told).0
