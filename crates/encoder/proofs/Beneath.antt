@@ -15,7 +15,7 @@ use Rattle.graph_core.specs.Walks.{adjacent}
 use Rattle.graph_core.proofs.EndLists.{adjacent-ends, joins}
 use Rattle.graph6_text.specs.Digits.{bytes_of}
 use Rattle.graph6_text.specs.Pairs.{column_pairs}
-use Rattle.graph6_text.specs.Writing.{adjacency_bits, graph6_of, size_of, ReadsBack}
+use Rattle.graph6_text.specs.Writing.{adjacency_bits, graph6_of, size_of}
 use Rattle.graph6_text.proofs.DistinctPairs.{Each, Apart, AreDistinct, distinct-append, joins-back, simple_from_distinct}
 use Rattle.encoder.specs.SimpleGraphs.{IsBeneath, with_new_edge}
 
@@ -138,13 +138,3 @@ graph6_beneath g h beneath =
     same_bits : (ps : List (ℕ × ℕ)) → map (λ pair. adjacent h none pair.0 pair.1) ps ≡ map (λ pair. adjacent g none pair.0 pair.1) ps
     same_bits [] = refl
     same_bits (p ∷ ps) = ap₂ ◌∷◌ (beneath.adjacent_pairs p.0 p.1) (same_bits ps)
-
--- a text that stands for the simple graph beneath
-pub reads_beneath : (g h : Graph) (text : List ℕ) → IsBeneath g h → ReadsBack text h → ReadsBack text g
-reads_beneath g h text beneath back = record {
-  graph = back.graph;
-  stands = back.stands;
-  order = back.order ∙ beneath.order;
-  simple = back.simple;
-  adjacent_pairs = λ u v. back.adjacent_pairs u v ∙ beneath.adjacent_pairs u v;
-}

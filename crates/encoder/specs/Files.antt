@@ -19,10 +19,8 @@ most_bytes = 1048576
 pub record IsEncoded (file output : List ℕ) : Type 0 where
   pub named : NamedGraph
   pub stands : Stands either_version file named
-  pub text : List ℕ
-  pub line : output ≡ text ++ 10 ∷ []
-  pub is_graph6 : text ≡ graph6_of named.graph
-  pub reads_back : ReadsBack text named.graph
+  pub line : output ≡ graph6_of named.graph ++ 10 ∷ []
+  pub reads_back : ReadsBack (graph6_of named.graph) named.graph
 
 -- the line of that number, counted from 1, without its line feed; nothing where the file has fewer
 abbrev pub kept_line : List ℕ → ℕ → List ℕ

@@ -2,7 +2,7 @@
 ghost use Rattle.std.specs.Prelude.{◌≡◌, ◌<◌, ◌-◌, ◌^◌, ◌∷◌, ◌++◌, [], IfOk, IfErr, length};
 ghost use Rattle.text_faults.specs.Readings.{IsFirstFault};
 ghost use Rattle.graph_text.specs.EitherVersion.{either_version};
-ghost use Rattle.graph6_text.specs.Writing.{graph6_of, ReadsBack};
+ghost use Rattle.graph6_text.specs.Writing.{graph6_of};
 ghost use Rattle.encoder.specs.Files.{IsEncoded};
 
 use crate::simple::simple_beneath;
@@ -12,14 +12,14 @@ use graph6_text::write_graph6;
 use std::alloc::{AllocError as Memory, Global};
 use text_faults::TextFault;
 
-// The graph6 text of the simple graph beneath a graph.
-fn graph6_text(alloc: Global, g: &MultiGraph) -> Result<Vec<u8>, Memory>
-    ensures text { IfOk result (λ text. text.items ≡ graph6_of g.now) }
-    ensures reads_back { IfOk result (λ text. ReadsBack text.items g.now) }
+// The graph6 text of the simple graph beneath a graph, with a line feed.
+fn line_of(alloc: Global, g: &MultiGraph) -> Result<Vec<u8>, Memory>
+    ensures { IfOk result (λ line. line.items ≡ graph6_of g.now ++ 10 ∷ []) }
 {
     let simple = simple_beneath(alloc, g)?;
-    let text = write_graph6(alloc, &simple)?;
-    Ok(text)
+    let mut line = write_graph6(alloc, &simple)?;
+    line.push(b'\n')?;
+    Ok(line)
 }
 
 /// The line of a graph file: the graph6 text of the simple graph beneath its graph, with a line
@@ -32,9 +32,11 @@ pub fn graph6_line(alloc: Global, file: &[u8]) -> Result<Vec<u8>, TextFault>
 {
     match read_any(alloc, file) {
         Ok(named) => {
-            let mut line = graph6_text(alloc, &named.graph)?;
-            line.push(b'\n')?;
-            Ok(line)
+            named.graph.keeps_limits();
+            match line_of(alloc, &named.graph) {
+                Ok(line) => Ok(line),
+                Err(_) => Err(TextFault::Memory),
+            }
         }
         Err(fault) => Err(fault),
     }

@@ -110,7 +110,7 @@ fn say_bad_graph<E: Sink>(errors: &mut E, name: &str, found: &BadLine) -> Result
         line: found.number,
         kind: found.kind.number(),
     };
-    say_bad_file(errors, PROGRAM, &bad, Some(&found.text))
+    say_bad_file(errors, PROGRAM, &bad, Some(found.text.as_slice()))
 }
 
 // Says that memory ran out before anything was written.
