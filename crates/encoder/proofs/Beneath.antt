@@ -1,13 +1,12 @@
 -- The simple graph beneath a graph, and its graph6 text. Idea: of the first k edges those are kept
 -- whose ends no kept edge joins, so the kept pairs are distinct, and they join the same vertices
 -- as the first k edges do. A graph6 text depends on the order and on the adjacent pairs alone.
-use Rattle.std.proofs.Common.{◌≡◌, ℕ, zero, suc, ◌+◌, ◌-◌, ◌≤◌, ◌==◌, ◌&&◌, ◌||◌, Bool, true, false, cond, List, [], ◌∷◌, ◌++◌, length, map, refl, sym, subst, ap, ap₂, ◌∙◌, arith, ◌⊎◌, inl, inr}
+use Rattle.std.proofs.Common.{◌≡◌, ℕ, suc, ◌+◌, ◌≤◌, ◌==◌, ◌&&◌, ◌||◌, Bool, true, false, cond, List, [], ◌∷◌, ◌++◌, map, refl, sym, subst, ap, ap₂, ◌∙◌, arith, ◌⊎◌, inl, inr}
 use Rattle.std.proofs.lemmas.Bool.{false≢true}
 use Rattle.std.proofs.lemmas.Bool.Decides.{nat_tests}
 use Rattle.std.proofs.lemmas.List.{length-append}
 use Rattle.std.proofs.lemmas.List.Folds.{list_any-append}
 use Rattle.std.specs.List.{list_any}
-use Rattle.counting.specs.Counts.{Within}
 use Rattle.counting.specs.Sets.{none}
 use Rattle.counting.specs.Tests.{some}
 use Rattle.graph_core.specs.Graph.{Graph, size, first_end, second_end, has_ends, with_edge}
@@ -26,8 +25,9 @@ pub record KeepsFirst (g : Graph) (k : ℕ) (h : Graph) : Type 0 where
   pub few : size h ≤ k
   pub pairs : (u v : ℕ) → adjacent h none u v ≡ some k (has_ends g u v)
 
-pub keeps_none : (g h : Graph) → h ≡ record { order = g.order; ends = [] } → KeepsFirst g 0 h
-keeps_none g h is = subst (λ (q : Graph). KeepsFirst g 0 q) (sym is) (record { order = refl; distinct = tt; few = omega arith; pairs = λ u v. refl })
+pub keeps_none : (g h : Graph) (n : ℕ) → n ≡ g.order → h ≡ record { order = n; ends = [] } → KeepsFirst g 0 h
+keeps_none g h n same is =
+    subst (λ (q : Graph). KeepsFirst g 0 q) (sym is) (record { order = same; distinct = tt; few = omega arith; pairs = λ u v. refl })
 
 or_false : (b : Bool) → (b || false) ≡ b
 or_false false = refl
@@ -99,26 +99,25 @@ keeps_new g k h keeps apart =
           ∙ ap₂ ◌||◌ (sym (adjacent-ends h u v) ∙ keeps.pairs u v) (or_false (joins u v edge));
     }
 
--- edge e was added unless its ends were joined, as a loop counts
-pub keeps_more : (g : Graph) (e : ℕ) (h more : Graph) → 1 ≤ e → KeepsFirst g (e - 1) h →
-    more ≡ with_new_edge h (first_end g e) (second_end g e) → KeepsFirst g (e + 1 - 1) more
-keeps_more g e h more one keeps is =
-    let here : e ≡ suc (e - 1) = omega arith in
-    let next : suc (e - 1) ≡ e + 1 - 1 = omega arith in
-    subst (λ (k : ℕ). KeepsFirst g k more) next
-    (step (adjacent h none (first_end g (suc (e - 1))) (second_end g (suc (e - 1)))) refl
-    (is ∙ ap (λ (i : ℕ). with_new_edge h (first_end g i) (second_end g i)) here))
+-- edge k + 1 was added unless its ends were joined
+pub keeps_more : (g : Graph) (k : ℕ) (h more : Graph) → KeepsFirst g k h →
+    more ≡ with_new_edge h (first_end g (k + 1)) (second_end g (k + 1)) → KeepsFirst g (k + 1) more
+keeps_more g k h more keeps is =
+    let next : k + 1 ≡ suc k = omega arith in
+    subst (λ (n : ℕ). KeepsFirst g n more) (sym next)
+    (step (adjacent h none (first_end g (suc k)) (second_end g (suc k))) refl
+    (is ∙ ap (λ (i : ℕ). with_new_edge h (first_end g i) (second_end g i)) next))
   where
-    step : (test : Bool) → test ≡ adjacent h none (first_end g (suc (e - 1))) (second_end g (suc (e - 1))) →
-        more ≡ with_new_edge h (first_end g (suc (e - 1))) (second_end g (suc (e - 1))) → KeepsFirst g (suc (e - 1)) more
+    step : (test : Bool) → test ≡ adjacent h none (first_end g (suc k)) (second_end g (suc k)) →
+        more ≡ with_new_edge h (first_end g (suc k)) (second_end g (suc k)) → KeepsFirst g (suc k) more
     step true joined same =
         let kept : more ≡ h =
-        same ∙ ap (λ (b : Bool). cond b h (with_edge h (first_end g (suc (e - 1))) (second_end g (suc (e - 1))))) (sym joined) in
-        subst (λ (q : Graph). KeepsFirst g (suc (e - 1)) q) (sym kept) (keeps_joined g (e - 1) h keeps (sym joined))
+        same ∙ ap (λ (b : Bool). cond b h (with_edge h (first_end g (suc k)) (second_end g (suc k)))) (sym joined) in
+        subst (λ (q : Graph). KeepsFirst g (suc k) q) (sym kept) (keeps_joined g k h keeps (sym joined))
     step false apart same =
-        let added : more ≡ with_edge h (first_end g (suc (e - 1))) (second_end g (suc (e - 1))) =
-        same ∙ ap (λ (b : Bool). cond b h (with_edge h (first_end g (suc (e - 1))) (second_end g (suc (e - 1))))) (sym apart) in
-        subst (λ (q : Graph). KeepsFirst g (suc (e - 1)) q) (sym added) (keeps_new g (e - 1) h keeps (sym apart))
+        let added : more ≡ with_edge h (first_end g (suc k)) (second_end g (suc k)) =
+        same ∙ ap (λ (b : Bool). cond b h (with_edge h (first_end g (suc k)) (second_end g (suc k)))) (sym apart) in
+        subst (λ (q : Graph). KeepsFirst g (suc k) q) (sym added) (keeps_new g k h keeps (sym apart))
 
 -- where all edges were seen, it is the simple graph beneath
 pub keeps_all : (g h : Graph) (k : ℕ) → k ≡ size g → KeepsFirst g k h → IsBeneath g h

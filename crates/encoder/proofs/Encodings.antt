@@ -1,5 +1,5 @@
 -- What was written of a graph file, by its bytes: one case for each ending.
-use Rattle.std.proofs.Common.{◌≡◌, ◌∙◌, ◌<◌, ◌≤◌, ℕ, List, [], ◌++◌, length, take, refl, sym, subst, ap, inl, inr}
+use Rattle.std.proofs.Common.{◌≡◌, ◌∙◌, ◌<◌, ◌≤◌, ℕ, List, [], length, take, refl, sym, subst, ap, inl, inr}
 use Rattle.std.specs.declared.option.Option.{Option}
 use Rattle.std.specs.declared.option.Option.TheVariants.{Some, None}
 use Rattle.outside.specs.Sink.{appended, IsCutOff, IsWritten}
@@ -9,7 +9,7 @@ use Rattle.list_reader.specs.declared.ending.Ending.{Ending}
 use Rattle.list_reader.specs.declared.ending.Ending.TheVariants.{Done, Bad, ReadFault, WriteFault, Memory}
 use Rattle.list_reader.specs.Endings.{Appended, IsLeft}
 use Rattle.encoder.specs.Files.{Encodes, IsEncoded, NamesTooLong, most_bytes}
-use Rattle.encoder.specs.Reads.{EncodesFile, IsReadPast, IsReadWhole, LeavesMore, ReadsFirst, WritesUpTo, WroteCutOff, WroteEncoded}
+use Rattle.encoder.specs.Reads.{EncodesFile, IsReadWhole, LeavesMore, ReadsFirst, WritesUpTo, WroteCutOff, WroteEncoded}
 
 -- the text of the file was written, as the piece
 pub wrote_encoded :

@@ -28,8 +28,8 @@ pub fn simple_beneath(alloc: Global, g: &MultiGraph) -> Result<MultiGraph, Memor
     ensures { IfOk result (IsBeneath g.now) }
 {
     let mut simple = MultiGraph::new(alloc, g.order())?;
-    for e in 1..=g.size() {
-        push_new_edge(&mut simple, g, e)?;
+    for done in 0..g.size() {
+        push_new_edge(&mut simple, g, done + 1)?;
     }
     Ok(simple)
 }

@@ -1,4 +1,4 @@
-use Rattle.std.proofs.Common.{◌≡◌, ℕ, List, refl, subst, inl}
+use Rattle.std.proofs.Common.{ℕ, List, Err, ap, refl, subst, inl}
 use Rattle.list_reader.specs.declared.ending.Ending.TheVariants.{ReadFault, Memory}
 use Rattle.encoder.specs.Reads.{WritesUpTo}
 use Rattle.encoder.proofs.Encodings.{after_read, file_encoded, long_file, no_file, told_file}
@@ -27,13 +27,13 @@ returns-in-Ok-clause-encodes g c file is =
 
 pub returns-in-Err-TooLong-clause-reads_first : goal.returns-in-Err-TooLong-clause-reads_first
 returns-in-Err-TooLong-clause-reads_first g c =
-    inl (record { read = c.in-Err-TooLong.ensures.past refl; named = c.too_long.ensures; nothing = refl })
+    inl (record { read = c.in-Err-TooLong.ensures.past (ap Err c.in-Err-TooLong.field-0-is); named = c.too_long.ensures; nothing = refl })
 
 pub returns-in-Err-TooLong-clause-tells : goal.returns-in-Err-TooLong-clause-tells
 returns-in-Err-TooLong-clause-tells g c =
-    let past = c.in-Err-TooLong.ensures.past refl in
+    let past = c.in-Err-TooLong.ensures.past (ap Err c.in-Err-TooLong.field-0-is) in
     long_file c.too_long.result (g.S.Source.left c.args.source.now) (g.K.Sink.written c.args.sink.now) past.bytes
-    (c.in-Err-TooLong.ensures.more refl) past.longer c.too_long.ensures
+    (c.in-Err-TooLong.ensures.more (ap Err c.in-Err-TooLong.field-0-is)) past.longer c.too_long.ensures
 
 pub returns-in-Err-TooLong-clause-encodes : goal.returns-in-Err-TooLong-clause-encodes
 returns-in-Err-TooLong-clause-encodes g c file is =
@@ -41,7 +41,7 @@ returns-in-Err-TooLong-clause-encodes g c file is =
     (returns-in-Err-TooLong-clause-tells g c) is
 
 pub returns-in-Err-Failed-clause-reads_first : goal.returns-in-Err-Failed-clause-reads_first
-returns-in-Err-Failed-clause-reads_first g c = (c.in-Err-Failed.ensures.torn refl, refl)
+returns-in-Err-Failed-clause-reads_first g c = (c.in-Err-Failed.ensures.torn (ap Err c.in-Err-Failed.field-0-is), refl)
 
 pub returns-in-Err-Failed-clause-tells : goal.returns-in-Err-Failed-clause-tells
 returns-in-Err-Failed-clause-tells g c =

@@ -7,7 +7,7 @@ use Rattle.encoder.proofs.reading.read_through.Goals as goal
 
 pub reading-init : goal.reading-init
 reading-init g c = record {
-  so_far = so_far_none g.S.Source.left g.S.Source.reads c.new.result.items c.args.source.now c.new.ensures.items;
+  so_far = so_far_none g.S.Source.left g.S.Source.reads c.new-held.result.items c.args.source.now c.new-held.ensures.items;
   faults = omega arith;
 }
 

@@ -1,4 +1,4 @@
-use Rattle.std.proofs.Common.{◌≡◌, ◌∙◌, ◌∷◌, ◌++◌, [], List, ℕ, ap}
+use Rattle.std.proofs.Common.{◌∙◌, ◌∷◌, ◌++◌, [], List, ℕ, ap}
 use Rattle.encoder.proofs.Beneath.{graph6_beneath}
 use Rattle.encoder.proofs.text.line_of.Goals as goal
 
