@@ -64,7 +64,7 @@ fn say_bad<'a, E: Sink>(
             let bad = BadFile {
                 name: file.name,
                 role: file.role,
-                line,
+                line: line as u64,
                 kind,
             };
             say_bad_file(errors, PROGRAM, &bad, line_kept(kept, line))

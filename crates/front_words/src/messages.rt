@@ -24,7 +24,7 @@ pub struct BadFile<'a> {
     /// What it is read as.
     pub role: Role,
     /// The line of its first fault, counted from 1; 0 where it is too long.
-    pub line: u32,
+    pub line: u64,
     /// The number of the kind of the fault.
     pub kind: u32,
 }
@@ -92,7 +92,7 @@ fn say_outside<'a, K: Sink>(
 {
     let by = Text(program);
     let name = Shown(bad.name.as_bytes(), MOST_OF_NAME);
-    let line = Number(bad.line as u64);
+    let line = Number(bad.line);
     let what = Text(fault_words(bad.role, bad.kind));
     let note = Text(note_words(bad.role, bad.kind));
     let end = Text("\n");

@@ -32,6 +32,7 @@ pub const LIST_USAGE: &str = "usage: mcg6 COMMAND WORDS.. <LIST
   leaves [ORDER] [FILE]        a line for each leaf of its decomposition, as a graph
   graph [FILE]                 the file of one graph, for mcg
   select WHAT [FILE]           the lines whose graph has a property
+  encode FILE                  the line of a file for mcg; parallel edges count once
 ORDER is first, last or balanced. WHAT is covered, uncovered, brick, brace, bicritical,
 composite, bricks=K or braces=K. The list has a graph in graph6 on each line, and is
 standard input or FILE. FORMATS.md has the lines that mcg6 writes.

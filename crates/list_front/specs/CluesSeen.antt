@@ -3,10 +3,11 @@ use Rattle.std.specs.Option.{option_map}
 use Rattle.list_front.specs.Words.{Known}
 use Rattle.list_front.specs.declared.speaking.Clues.{Clues}
 
--- what is known, with the bytes of the name
+-- what is known, with the bytes of the names
 abbrev pub known_by : Clues → Known
 known_by clues = record {
   name = option_map (λ name. name.now) clues.name;
+  encoded = option_map (λ name. name.now) clues.encoded;
   reason = clues.reason;
   is_abandoned = clues.is_abandoned;
 }

@@ -2,10 +2,11 @@
 -- one fact.
 use Rattle.std.specs.Prelude.{◌≡◌, ◌↔◌, ℕ, List}
 use Rattle.std.specs.declared.option.Option.{Option}
-use Rattle.std.specs.declared.option.Option.TheVariants.{Some, None}
+use Rattle.std.specs.declared.option.Option.TheVariants.{Some}
 use Rattle.outside.specs.Faults.{Rose}
 use Rattle.list_reader.specs.Endings.{Appended, ReadsTold}
-use Rattle.list_top.specs.Commands.{Command, command_of}
+use Rattle.list_top.specs.Commands.{Command, MatchNone, command_of, encode_of}
+use Rattle.list_top.specs.Encodings.{EncodeOutcome, EncodesSome, ReadsFirstTo}
 use Rattle.list_top.specs.Listings.{TellsLineOf}
 use Rattle.list_top.specs.Outcomes.{Outcome, Streams, TellsSome}
 use Rattle.list_top.specs.declared.status.Status.{Status}
@@ -16,7 +17,7 @@ use Rattle.list_top.specs.declared.status.Status.TheVariants.{Usage, ReadFault, 
 pub record IsListRun {S K : Type 0} (left : S → Option (List ℕ)) (faults : S → ℕ) (reads : S → Option (List ℕ) → S → Type 0)
     (written : K → Option (List ℕ)) (sink_faults : K → ℕ) (writes : K → List ℕ → ℕ → K → Type 0) (words : List (List ℕ)) (ended : Status)
     (first last : S) (before now : K) : Type 0 where
-  pub usage : (ended ≡ Usage) ↔ (command_of words ≡ None)
+  pub usage : (ended ≡ Usage) ↔ MatchNone words
   pub unread : ended ≡ Usage → last ≡ first
   pub nothing : ended ≡ Usage → now ≡ before
   pub read_fault : ended ≡ ReadFault → Rose (faults first) (faults last)
@@ -29,3 +30,8 @@ pub record IsListRun {S K : Type 0} (left : S → Option (List ℕ)) (faults : S
       → Appended (ReadsTold (TellsLineOf command.query) (left first) (left last)) (written before) (written now)
   pub streams : (command : Command) → command_of words ≡ Some command
       → Streams command.query reads written writes ended first before last now
+  pub encodes : (name file : List ℕ) → encode_of words ≡ Some name → left first ≡ Some file
+      → Appended (EncodeOutcome file ended) (written before) (written now)
+  pub encodes_some : (name : List ℕ) → encode_of words ≡ Some name → EncodesSome ended (left first) (written before) (written now)
+  pub reads_first : (name : List ℕ) → encode_of words ≡ Some name
+      → ReadsFirstTo reads written writes ended first before last now

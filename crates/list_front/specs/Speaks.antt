@@ -9,7 +9,8 @@ use Rattle.outside.specs.Sink.{appended}
 use Rattle.outside.specs.declared.sink.SinkFailed.{SinkFailed}
 use Rattle.list_reader.specs.declared.ending.Ending.{Ending}
 use Rattle.list_reader.specs.Endings.{TellsList}
-use Rattle.list_top.specs.Commands.{Command, file_of}
+use Rattle.encoder.specs.Reads.{EncodesFile}
+use Rattle.list_top.specs.Commands.{Command, command_of, encode_of, file_named_by}
 use Rattle.list_top.specs.Listings.{TellsLineOf, IsBadLine, lacks_of}
 use Rattle.list_top.specs.declared.status.Status.{Status}
 use Rattle.list_top.specs.declared.status.Status.TheVariants.{Done, WriteFault}
@@ -21,17 +22,21 @@ pub record IsSaid {E : Type 0} (written : E → Option (List ℕ)) (faults : E �
   pub answer : Result (Unit {0}) SinkFailed
   pub says : Says {F = SinkFailed} written faults text answer before now
 
--- what was said after a run of the command that ended with this status: the words for the ending
--- of the list, up to which what was written is what the command asks of the lines; so a bad line
--- that is named is the first of the list. Given why the list cannot be read, whether nobody reads
--- the output any more, what was left of the source, and what the sink had before and has now
-pub record Speaks {E : Type 0} (written : E → Option (List ℕ)) (faults : E → ℕ) (command : Option Command) (ended : Status)
+-- what was said after a run of these words that ended with this status: the words for its ending,
+-- up to which what was written is what the words ask of the lines of the list, or what the graph
+-- file gives; so a bad line that is named is the first. Given why the file cannot be read, whether
+-- nobody reads the output any more, what was left of the source, and what the sink had before and
+-- has now
+pub record Speaks {E : Type 0} (written : E → Option (List ℕ)) (faults : E → ℕ) (words : List (List ℕ)) (ended : Status)
     (reason : Option Reason) (is_abandoned : Bool) (left sink_before sink_now : Option (List ℕ)) (before now : E) : Type 0 where
   pub ending : Option Ending
   pub of_status : ended ≡ status_in ending
-  pub tells : (asked : Command) (last : Ending) → command ≡ Some asked → ending ≡ Some last
+  pub tells : (asked : Command) (last : Ending) → command_of words ≡ Some asked → ending ≡ Some last
       → TellsList (TellsLineOf asked.query) (IsBadLine asked.query) (lacks_of asked.query) last left sink_before sink_now
-  pub said : IsSaid written faults (words_of ending (record { name = file_of command; reason = reason; is_abandoned = is_abandoned })) before now
+  pub encodes : (name : List ℕ) (last : Ending) → encode_of words ≡ Some name → ending ≡ Some last
+      → EncodesFile last left sink_before sink_now
+  pub said : IsSaid written faults
+      (words_of ending (record { name = file_named_by words; encoded = encode_of words; reason = reason; is_abandoned = is_abandoned })) before now
 
 -- a text was the whole answer: it was written whole and all is done, or a beginning of it if
 -- the sink failed

@@ -4,26 +4,31 @@ use Rattle.std.specs.declared.option.Option.{Option}
 use Rattle.std.specs.declared.option.Option.TheVariants.{Some, None}
 use Rattle.outside.specs.declared.explain.Reason.{Reason}
 use Rattle.text_faults.specs.Kinds.{kind_number}
+use Rattle.list_reader.specs.declared.ending.BadLine.{BadLine}
 use Rattle.list_reader.specs.declared.ending.Ending.{Ending}
 use Rattle.list_reader.specs.declared.ending.Ending.TheVariants.{Done, Bad, ReadFault, WriteFault, Memory}
 use Rattle.list_top.specs.Statuses.{status_of}
 use Rattle.list_top.specs.declared.status.Status.{Status}
 use Rattle.list_top.specs.declared.status.Status.TheVariants.{Usage}
+use Rattle.front_words.specs.declared.faults.Role.TheVariants.{Graph}
 use Rattle.front_words.specs.ListMessages.{bad_line_text, unread_list_text}
+use Rattle.front_words.specs.Messages.{bad_file_text, unread_text}
 use Rattle.front_words.specs.Usage.{list_usage_text}
 
 -- the name of the program
 abbrev pub program : List ℕ
 program = codes "mcg6"
 
--- what is known of the faults of a run: the name of the file that holds the list, if it is not
--- standard input, why the list cannot be read, and that nobody reads the output any more
+-- what is known of the faults of a run: the name of the file that is read, if it is not standard
+-- input, and that of the graph file whose graph6 text is asked for, if it is; why the file cannot
+-- be read, and that nobody reads the output any more
 pub record Known : Type 0 where
   pub name : Option (List ℕ)
+  pub encoded : Option (List ℕ)
   pub reason : Option Reason
   pub is_abandoned : Bool
 
--- the status of a run that ended so; with no ending the words matched no command
+-- the status of a run that ended so; with no ending the words matched no row
 abbrev pub status_in : Option Ending → Status
 status_in None = Usage
 status_in (Some ending) = status_of ending
@@ -44,7 +49,29 @@ list_words ReadFault known = unread_list_text program known.name known.reason
 list_words WriteFault known = unwritten_words known.is_abandoned
 list_words Memory known = memory_words
 
+-- where memory ran out before anything was written
+abbrev pub nothing_words : List ℕ
+nothing_words = codes "mcg6: memory ran out; nothing was written\n"
+
+-- of a bad graph file: its name, where it is outside the format and how, and the line
+abbrev pub bad_graph_words : (name : List ℕ) → BadLine → List ℕ
+bad_graph_words name found = bad_file_text program name Graph found.number (kind_number found.kind) (Some found.text.items)
+
+-- what is said of the graph file of that name, whose encoding ended so; nothing where its graph6
+-- text was written
+abbrev pub file_words : (name : List ℕ) → Ending → Known → List ℕ
+file_words name Done known = []
+file_words name (Bad found) known = bad_graph_words name found
+file_words name ReadFault known = unread_text program name known.reason
+file_words name WriteFault known = unwritten_words known.is_abandoned
+file_words name Memory known = nothing_words
+
+-- what is said of a list, or of the graph file of that name, that ended so
+abbrev pub ending_words : (encoded : Option (List ℕ)) → Ending → Known → List ℕ
+ending_words None ending known = list_words ending known
+ending_words (Some name) ending known = file_words name ending known
+
 -- what is said of a run that ended so
 abbrev pub words_of : Option Ending → Known → List ℕ
 words_of None known = list_usage_text
-words_of (Some ending) known = list_words ending known
+words_of (Some ending) known = ending_words known.encoded ending known

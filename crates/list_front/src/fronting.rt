@@ -2,7 +2,6 @@
 ghost use Rattle.std.specs.Prelude.{◌≡◌, ℕ, List, map, string_bytes, true, false, Some, None};
 ghost use Rattle.std.specs.declared.option.Option.{Option};
 ghost use Rattle.list_reader.specs.declared.ending.Ending.{Ending};
-ghost use Rattle.list_top.specs.Commands.{command_of};
 ghost use Rattle.list_front.specs.Answers.{answer_of};
 ghost use Rattle.list_front.specs.CluesSeen.{known_by};
 ghost use Rattle.list_front.specs.Runs.{IsListRun};
@@ -13,7 +12,7 @@ use crate::answers::answer_of;
 use crate::speaking::{Clues, say_ending, status_in};
 use front_words::say_bytes;
 use list_reader::Ending;
-use list_top::{Status, file_name, run_to_ending};
+use list_top::{Status, encode_name, file_name, run_to_ending};
 use outside::{Outlet, Reason, Sink, SinkFailed, Source};
 use std::alloc::Global;
 
@@ -44,7 +43,7 @@ fn say_unless_quiet<'a, E: Sink>(
     let _ = say_ending(errors, ending, clues);
 }
 
-// Runs the words, and then says how the list ended, unless it is to be quiet.
+// Runs the words, and then says how that ended, unless it is to be quiet.
 fn speak<S: Source, K: Outlet, E: Sink>(
     alloc: Global,
     words: &[String],
@@ -58,13 +57,14 @@ fn speak<S: Source, K: Outlet, E: Sink>(
         (map string_bytes words.now) result source.old source.new sink.old sink.new }
     ensures quiet { is_quiet ≡ true → errors.new ≡ errors.old }
     ensures speaks { is_quiet ≡ false →
-        Speaks E.written E.faults (command_of (map string_bytes words.now)) result reason
+        Speaks E.written E.faults (map string_bytes words.now) result reason
         (K.is_abandoned sink.new) (S.left source.old) (K.written sink.old) (K.written sink.new)
         errors.old errors.new }
 {
     let ending = run_to_ending(alloc, words, source, sink);
     let clues = Clues {
         name: file_name(words),
+        encoded: encode_name(words),
         reason,
         is_abandoned: sink.is_abandoned(),
     };
@@ -72,11 +72,11 @@ fn speak<S: Source, K: Outlet, E: Sink>(
     status_in(&ending)
 }
 
-/// Does what the words ask for, as `run` of `list_top`, and then says on the second sink how the
-/// list ended, in words, unless it is to be quiet. Words that ask for the usage or the version
+/// Does what the words ask for, as `run` of `list_top`, and then says on the second sink how that
+/// ended, in words, unless it is to be quiet. Words that ask for the usage or the version
 /// are answered on the first sink, and nothing is read.
 ///
-/// The reason is why the list cannot be read, where the caller knows that. A fault of the second
+/// The reason is why the file cannot be read, where the caller knows that. A fault of the second
 /// sink changes nothing else.
 pub fn run_list_front<S: Source, K: Outlet, E: Sink>(
     alloc: Global,
@@ -96,13 +96,13 @@ pub fn run_list_front<S: Source, K: Outlet, E: Sink>(
         answer_of (map string_bytes words.now) ≡ Some text → errors.new ≡ errors.old }
 
     // For all others status, output and source are those of `run`, and what is said is the text
-    // for the ending of the list.
+    // for the ending.
     ensures runs { answer_of (map string_bytes words.now) ≡ None →
         IsListRun S.left S.faults S.reads K.written K.faults K.writes
         (map string_bytes words.now) result source.old source.new sink.old sink.new }
     ensures quiet { is_quiet ≡ true → errors.new ≡ errors.old }
     ensures speaks { answer_of (map string_bytes words.now) ≡ None → is_quiet ≡ false →
-        Speaks E.written E.faults (command_of (map string_bytes words.now)) result reason
+        Speaks E.written E.faults (map string_bytes words.now) result reason
         (K.is_abandoned sink.new) (S.left source.old) (K.written sink.old) (K.written sink.new)
         errors.old errors.new }
 {

@@ -1,11 +1,14 @@
 //! What is said of each ending.
 ghost use Rattle.std.specs.Prelude.{◌≡◌, ◌↔◌, [], None, Some};
+ghost use Rattle.std.specs.Option.{option_map};
 ghost use Rattle.front_words.specs.Saying.{Says};
 ghost use Rattle.list_front.specs.CluesSeen.{known_by};
-ghost use Rattle.list_front.specs.Words.{list_words, memory_words, status_in, unwritten_words, words_of};
+ghost use Rattle.list_front.specs.Words.{bad_graph_words, ending_words, file_words, list_words, memory_words, nothing_words, status_in, unwritten_words, words_of};
 
-use front_words::{list_usage, say_bad_line, say_bytes, say_unread_list};
-use list_reader::Ending;
+use front_words::{
+    BadFile, Role, list_usage, say_bad_file, say_bad_line, say_bytes, say_unread, say_unread_list,
+};
+use list_reader::{BadLine, Ending};
 use list_top::{Status, status_of};
 use outside::{Reason, Sink, SinkFailed};
 
@@ -15,15 +18,17 @@ const PROGRAM: &str = "mcg6";
 /// What is known of the faults of a run.
 #[derive(Clone, Copy, Drop)]
 pub struct Clues<'a> {
-    /// The name of the file that holds the list, if it is not standard input.
+    /// The name of the file that is read, if it is not standard input.
     pub name: Option<&'a str>,
-    /// Why the list cannot be read, where that is known.
+    /// The name of the graph file whose graph6 text is asked for, if it is.
+    pub encoded: Option<&'a str>,
+    /// Why the file cannot be read, where that is known.
     pub reason: Option<Reason>,
     /// Nobody reads the output any more.
     pub is_abandoned: bool,
 }
 
-/// The status of a run that ended so; with no ending the words matched no command.
+/// The status of a run that ended so; with no ending the words matched no row.
 pub fn status_in(ending: &Option<Ending>) -> Status
     ensures status { result ≡ status_in ending.now }
     ensures usage { result ≡ Status.Usage ↔ (ending.now ≡ None) }
@@ -43,8 +48,8 @@ fn say_nothing<E: Sink>(_errors: &mut E) -> Result<(), SinkFailed>
     Ok(())
 }
 
-/// Says what the ending of a run means, or with no ending that the words matched no command;
-/// nothing where each line was told. Takes no memory.
+/// Says what the ending of a run means, or with no ending that the words matched no row; nothing
+/// where each line was told, or the graph6 text written. Takes no memory.
 pub fn say_ending<'a, E: Sink>(
     errors: &mut E,
     ending: &Option<Ending>,
@@ -54,9 +59,65 @@ pub fn say_ending<'a, E: Sink>(
         errors.old errors.new }
 {
     match ending {
-        Some(ending) => say_list_ending(errors, ending, clues),
+        Some(ending) => say_some_ending(errors, ending, clues),
         None => say_bytes(errors, list_usage().as_bytes()),
     }
+}
+
+// Says how a list ended, or the encoding of a graph file.
+fn say_some_ending<'a, E: Sink>(
+    errors: &mut E,
+    ending: &Ending,
+    clues: Clues<'a>,
+) -> Result<(), SinkFailed>
+    ensures { Says E.written E.faults
+        (ending_words (option_map (λ name. name.now) clues.entry.encoded) ending.now
+        (known_by clues.entry)) result errors.old errors.new }
+{
+    match clues.encoded {
+        Some(name) => say_file_ending(errors, name, ending, clues),
+        None => say_list_ending(errors, ending, clues),
+    }
+}
+
+// Says how the encoding of the graph file of that name ended; nothing where its text was written.
+fn say_file_ending<'a, E: Sink>(
+    errors: &mut E,
+    name: &'a str,
+    ending: &Ending,
+    clues: Clues<'a>,
+) -> Result<(), SinkFailed>
+    ensures { Says E.written E.faults (file_words name.now ending.now (known_by clues.entry)) result
+        errors.old errors.new }
+{
+    match ending {
+        Ending::Done => say_nothing(errors),
+        Ending::Bad { found } => say_bad_graph(errors, name, found),
+        Ending::ReadFault => say_unread(errors, PROGRAM, name, clues.reason),
+        Ending::WriteFault => say_unwritten(errors, clues.is_abandoned),
+        Ending::Memory => say_nothing_written(errors),
+    }
+}
+
+// Says of a bad graph file its name, where it is outside the format and how, and the line.
+fn say_bad_graph<E: Sink>(errors: &mut E, name: &str, found: &BadLine) -> Result<(), SinkFailed>
+    ensures { Says E.written E.faults (bad_graph_words name.now found.now) result
+        errors.old errors.new }
+{
+    let bad = BadFile {
+        name,
+        role: Role::Graph,
+        line: found.number,
+        kind: found.kind.number(),
+    };
+    say_bad_file(errors, PROGRAM, &bad, Some(found.text.as_slice()))
+}
+
+// Says that memory ran out before anything was written.
+fn say_nothing_written<E: Sink>(errors: &mut E) -> Result<(), SinkFailed>
+    ensures { Says E.written E.faults nothing_words result errors.old errors.new }
+{
+    say_bytes(errors, b"mcg6: memory ran out; nothing was written\n")
 }
 
 // Says how a list ended; nothing where each line was told.

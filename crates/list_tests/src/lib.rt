@@ -1,11 +1,15 @@
-//! Tests of what is told of the lines of a list, by public calls alone.
+//! Tests of what is told of the lines of a list, and of graph files as graph6, by public calls
+//! alone.
 //!
 //! `kinds` asks each query for single lines: a row has the line and what is written for it.
 //! `selections` counts what is kept of the connected cubic graphs, whose table is in `cubic`.
+//! `encoding` asks for the lines of graph files.
 #![tactic(auto)]
 
 #[cfg(test)]
 mod cubic;
+#[cfg(test)]
+mod encoding;
 #[cfg(test)]
 mod kinds;
 #[cfg(test)]

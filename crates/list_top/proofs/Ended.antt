@@ -1,4 +1,4 @@
--- What a list gives up to an ending is what it stands for with the status of that ending: one
+-- What a list or a graph file gives up to an ending is what it stands for with the status of that ending: one
 -- case for each ending.
 use Rattle.std.proofs.Common.{ℕ, List}
 use Rattle.std.specs.declared.option.Option.{Option}
@@ -9,6 +9,9 @@ use Rattle.list_reader.specs.Endings.{Appended, TellsList}
 use Rattle.list_top.specs.Listings.{TellsLineOf, IsBadLine, lacks_of}
 use Rattle.list_top.specs.Outcomes.{EndsWith, Outcome, TellsSome}
 use Rattle.list_top.specs.Statuses.{status_of}
+use Rattle.encoder.specs.Files.{Encodes}
+use Rattle.encoder.specs.Reads.{EncodesFile}
+use Rattle.list_top.specs.Encodings.{EncodeOutcome, EncodesSome}
 
 outcome_of_ending :
     (query : Query) (bytes : List ℕ) (ending : Ending) (output : List ℕ) → EndsWith query bytes ending output →
@@ -38,4 +41,30 @@ tells_some query ending left before now list = record {
   bytes = list.bytes;
   is_left = list.is_left;
   outcome = appended_outcome query list.bytes ending before now list.gives;
+}
+
+encode_outcome_of_ending :
+    (file : List ℕ) (ending : Ending) (output : List ℕ) → Encodes file ending output → EncodeOutcome file (status_of ending) output
+encode_outcome_of_ending file Done output encodes = encodes
+encode_outcome_of_ending file (Bad found) output encodes = record { found = found; bad = encodes.0; nothing = encodes.1 }
+encode_outcome_of_ending file ReadFault output encodes = encodes
+encode_outcome_of_ending file WriteFault output encodes = encodes
+encode_outcome_of_ending file Memory output encodes = encodes
+
+-- the same of a graph file
+pub appended_encoding :
+    (file : List ℕ) (ending : Ending) (before now : Option (List ℕ)) →
+    Appended (Encodes file ending) before now → Appended (EncodeOutcome file (status_of ending)) before now
+appended_encoding file ending before now appended = record {
+  output = appended.output;
+  right = encode_outcome_of_ending file ending appended.output appended.right;
+  written = appended.written;
+}
+
+pub encodes_some :
+    (ending : Ending) (left before now : Option (List ℕ)) → EncodesFile ending left before now → EncodesSome (status_of ending) left before now
+encodes_some ending left before now encodes = record {
+  file = encodes.file;
+  is_left = encodes.is_left;
+  outcome = appended_encoding encodes.file ending before now encodes.encodes;
 }

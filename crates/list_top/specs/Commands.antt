@@ -1,5 +1,5 @@
 -- What the words ask for: one case for each row of the table of words.
-use Rattle.std.specs.Prelude.{ℕ, List, [], ◌∷◌, drop, nat_eq, codes, if◌then◌else◌}
+use Rattle.std.specs.Prelude.{◌≡◌, ℕ, List, [], ◌∷◌, drop, nat_eq, codes, if◌then◌else◌}
 use Rattle.std.specs.declared.option.Option.{Option}
 use Rattle.std.specs.declared.option.Option.TheVariants.{Some, None}
 use Rattle.std.specs.List.{starts_with}
@@ -89,3 +89,23 @@ command_of (word ∷ second ∷ third ∷ fourth ∷ words) = None
 abbrev pub file_of : Option Command → Option (List ℕ)
 file_of None = None
 file_of (Some command) = command.file
+
+-- `encode` and a word: the word is the name of the graph file
+abbrev pub encode_pair : List ℕ → List ℕ → Option (List ℕ)
+encode_pair word file = if bytes_eq word (codes "encode") then Some file else None
+
+-- the name of the graph file whose graph6 text the words ask for, if they do: they then ask for
+-- nothing of a list
+abbrev pub encode_of : List (List ℕ) → Option (List ℕ)
+encode_of [] = None
+encode_of (word ∷ []) = None
+encode_of (word ∷ file ∷ []) = encode_pair word file
+encode_of (word ∷ file ∷ third ∷ words) = None
+
+-- the words match no row
+abbrev pub MatchNone : List (List ℕ) → Type 0
+MatchNone words = (command_of words ≡ None) × (encode_of words ≡ None)
+
+-- the name of the file that the words ask for, if there is one: a graph file, or that of a list
+abbrev pub file_named_by : List (List ℕ) → Option (List ℕ)
+file_named_by words = option_or (encode_of words) (file_of (command_of words))

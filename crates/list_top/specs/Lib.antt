@@ -3,3 +3,4 @@ pub mod Asked
 pub mod Listings
 pub mod Statuses
 pub mod Outcomes
+pub mod Encodings

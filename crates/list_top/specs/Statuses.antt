@@ -1,4 +1,4 @@
--- The statuses, their codes, and the endings of lists.
+-- The statuses, their codes, and the endings of runs.
 use Rattle.std.specs.Prelude.{ℕ}
 use Rattle.list_reader.specs.declared.ending.Ending.{Ending}
 use Rattle.list_reader.specs.declared.ending.Ending.TheVariants as ending
@@ -14,7 +14,7 @@ code_of BadInput = 4
 code_of WriteFault = 5
 code_of Memory = 6
 
--- the status of a list that ended so
+-- the status of a run that ended so
 abbrev pub status_of : Ending → Status
 status_of ending.Done = Done
 status_of (ending.Bad found) = BadInput

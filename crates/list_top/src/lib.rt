@@ -1,16 +1,19 @@
-//! The top call of the program `mcg6`: `run` does what the words ask for, for each graph of a list.
+//! The top call of the program `mcg6`: `run` does what the words ask for, for each graph of a
+//! list, or for a graph file.
 //!
 //! The words are a `Command`: what is asked of each graph (`Query` of `list_lines`), and the file
-//! that holds the list, if it is not the standard input. The list is read by `tell_all` of
-//! `list_reader`, line by line. Main definitions, in specs/: `command_of` (what the words ask
-//! for), `TellsLineOf` and `IsBadLine` (what is told of one line), `lacks_of` (what a list lacks:
-//! a file of one graph has one graph), and `Outcome`, which ties the bytes of the list, the
-//! status and the output together. Main promises: the clauses of `run`; `run_to_ending` answers
-//! beside them what is found of the first bad line; one list has one status and one output, unless
-//! memory runs out or a fault of the outside comes (`one_output_law`).
+//! that holds the list, if it is not the standard input; or they ask for the graph6 text of a
+//! graph file. The list is read by `tell_all` of `list_reader`, line by line, and the graph file
+//! by `encode` of `encoder`. Main definitions, in specs/: `command_of` and `encode_of` (what the
+//! words ask for), `TellsLineOf` and `IsBadLine` (what answers one line), `lacks_of` (what a list
+//! lacks: a file of one graph has one graph), and `Outcome` and `EncodeOutcome`, which tie the
+//! bytes of the list or of the file, the status and the output together. Main promises: the
+//! clauses of `run`; `run_to_ending` answers beside them what is found of the first bad line; one
+//! list has one status and one output, unless memory runs out or reading or writing fails
+//! (`one_output_law`).
 //!
-//! Stands on `list_lines`, `list_reader`, `line_text` for numbers, and `outside` for the source
-//! and the sink.
+//! Stands on `list_lines`, `list_reader`, `encoder`, `line_text` for numbers, and `outside` for
+//! the source and the sink.
 #![tactic(auto)]
 
 mod command;
@@ -21,6 +24,6 @@ mod running;
 mod status;
 
 pub use laws::{one_line_law, one_output_law};
-pub use plan::file_name;
+pub use plan::{encode_name, file_name};
 pub use running::{run, run_to_ending};
 pub use status::{Status, status_of};

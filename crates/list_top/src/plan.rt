@@ -1,7 +1,7 @@
 //! Reading the words.
 ghost use Rattle.std.specs.Prelude.{◌≡◌, map, string_bytes};
 ghost use Rattle.std.specs.Option.{option_map};
-ghost use Rattle.list_top.specs.Commands.{command_of, file_of, property_named, bricks_property, braces_property, counted_property, query_named, leaves_named, select_named, pair_named, pair_command, command_with};
+ghost use Rattle.list_top.specs.Commands.{command_of, encode_of, encode_pair, file_named_by, file_of, property_named, bricks_property, braces_property, counted_property, query_named, leaves_named, select_named, pair_named, pair_command, command_with};
 ghost use Rattle.list_top.specs.Asked.{asked, text_of};
 
 use crate::command::Command;
@@ -145,12 +145,45 @@ pub fn plan(words: &[String]) -> Option<Command<'_>>
     }
 }
 
-/// The name of the file that holds the list, where the words ask for one. Takes no memory.
-pub fn file_name(words: &[String]) -> Option<&str>
+// The name of the file that holds the list, where the words ask for one.
+fn list_name(words: &[String]) -> Option<&str>
     ensures { text_of result ≡ file_of (command_of (map string_bytes words.now)) }
 {
     match plan(words) {
         Some(command) => command.file,
         None => None,
+    }
+}
+
+// The file, where the word asks for its graph6 text.
+fn encode_pair<'a>(word: &str, file: &'a str) -> Option<&'a str>
+    ensures { text_of result ≡ encode_pair word.now file.now }
+{
+    match word {
+        "encode" => Some(file),
+        _ => None,
+    }
+}
+
+/// The name of the graph file whose graph6 text the words ask for, if they do. Takes no memory.
+pub fn encode_name(words: &[String]) -> Option<&str>
+    ensures { text_of result ≡ encode_of (map string_bytes words.now) }
+{
+    match words {
+        [] => None,
+        [_] => None,
+        [word, file] => encode_pair(word.as_str(), file.as_str()),
+        _ => None,
+    }
+}
+
+/// The name of the file that the words ask for: of a graph file whose graph6 text they ask for, or
+/// of the file that holds the list. Takes no memory.
+pub fn file_name(words: &[String]) -> Option<&str>
+    ensures { text_of result ≡ file_named_by (map string_bytes words.now) }
+{
+    match encode_name(words) {
+        Some(name) => Some(name),
+        None => list_name(words),
     }
 }

@@ -4,28 +4,73 @@ ghost use Rattle.outside.specs.Faults.{Rose};
 ghost use Rattle.list_reader.specs.declared.ending.Ending.{Ending};
 ghost use Rattle.list_reader.specs.declared.ending.Ending.TheVariants as ending;
 ghost use Rattle.list_reader.specs.Endings.{Appended, ReadsTold, TellsList};
-ghost use Rattle.list_top.specs.Commands.{Command, command_of};
+ghost use Rattle.encoder.specs.Files.{Encodes};
+ghost use Rattle.encoder.specs.Reads.{EncodesFile, ReadsFirst};
+ghost use Rattle.list_top.specs.Commands.{Command, MatchNone, command_of, encode_of};
+ghost use Rattle.list_top.specs.Encodings.{EncodeOutcome, EncodesSome, ReadsFirstTo};
 ghost use Rattle.list_top.specs.Listings.{TellsLineOf, IsBadLine, lacks_of};
 ghost use Rattle.list_top.specs.Outcomes.{EndsWith, Outcome, Streams, StreamsTo, TellsSome};
 
 use crate::lister::Lister;
-use crate::plan::plan;
+use crate::plan::{encode_name, plan};
 use crate::status::{Status, status_of};
+use encoder::encode;
 use list_reader::{Ending, tell_all};
 use outside::{Sink, Source};
 use std::alloc::Global;
 
-/// Does what the words ask for, as `run` does, and answers how the list ended: of a list that
-/// ends with a bad line the number of the first one, its text as far as it was kept, and the kind
-/// of its first fault. `None` comes exactly when the words match no command.
+// Does what the words ask of a list, if they ask for something of one.
+fn tell_list<S: Source, K: Sink>(
+    alloc: Global,
+    words: &[String],
+    source: &mut S,
+    sink: &mut K,
+) -> Option<Ending>
+    ensures usage { result ≡ None ↔ (command_of (map string_bytes words.now) ≡ None) }
+    ensures unread { result ≡ None → source.new ≡ source.old }
+    ensures nothing { result ≡ None → sink.new ≡ sink.old }
+    ensures read_fault { result ≡ Some ending.ReadFault →
+        Rose (S.faults source.old) (S.faults source.new) }
+    ensures write_fault { result ≡ Some ending.WriteFault →
+        Rose (K.faults sink.old) (K.faults sink.new) }
+    ensures outcome { (command : Command) (bytes : List ℕ) (ending : Ending)
+        → command_of (map string_bytes words.now) ≡ Some command → S.left source.old ≡ Some bytes
+        → result ≡ Some ending
+        → Appended (EndsWith command.query bytes ending) (K.written sink.old) (K.written sink.new) }
+    ensures tells { (command : Command) (ending : Ending)
+        → command_of (map string_bytes words.now) ≡ Some command → result ≡ Some ending
+        → TellsList (TellsLineOf command.query) (IsBadLine command.query) (lacks_of command.query)
+        ending (S.left source.old) (K.written sink.old) (K.written sink.new) }
+    ensures torn { (command : Command) → command_of (map string_bytes words.now) ≡ Some command
+        → result ≡ Some ending.ReadFault
+        → Appended (ReadsTold (TellsLineOf command.query) (S.left source.old) (S.left source.new))
+        (K.written sink.old) (K.written sink.new) }
+    ensures streams { (command : Command) (ending : Ending)
+        → command_of (map string_bytes words.now) ≡ Some command → result ≡ Some ending
+        → StreamsTo command.query S.reads K.written K.writes ending source.old sink.old source.new
+        sink.new }
+{
+    match plan(words) {
+        Some(command) => {
+            let query = command.query;
+            Some(tell_all(alloc, &Lister { query }, source, sink))
+        }
+        None => None,
+    }
+}
+
+/// Does what the words ask for, as `run` does, and answers how it ended: of a list that ends with
+/// a bad line the number of the first one, its text as far as it was kept, and the kind of its
+/// first fault; of a bad graph file the same, the text without its line feed. `None` comes exactly
+/// when the words match no row.
 pub fn run_to_ending<S: Source, K: Sink>(
     alloc: Global,
     words: &[String],
     source: &mut S,
     sink: &mut K,
 ) -> Option<Ending>
-    // None comes exactly when the words match no command, and then nothing was read or written.
-    ensures usage { result ≡ None ↔ (command_of (map string_bytes words.now) ≡ None) }
+    // None comes exactly when the words match no row, and then nothing was read or written.
+    ensures usage { result ≡ None ↔ MatchNone (map string_bytes words.now) }
     ensures unread { result ≡ None → source.new ≡ source.old }
     ensures nothing { result ≡ None → sink.new ≡ sink.old }
     // A fault of the outside comes only where its count rose in this call.
@@ -55,31 +100,44 @@ pub fn run_to_ending<S: Source, K: Sink>(
         → command_of (map string_bytes words.now) ≡ Some command → result ≡ Some ending
         → StreamsTo command.query S.reads K.written K.writes ending source.old sink.old source.new
         sink.new }
+
+    // Where the words ask for the graph6 text of a graph file: what was written is what the file
+    // gives up to this ending, in whatever pieces it was read.
+    ensures encodes { (name file : List ℕ) (ending : Ending)
+        → encode_of (map string_bytes words.now) ≡ Some name → S.left source.old ≡ Some file
+        → result ≡ Some ending
+        → Appended (Encodes file ending) (K.written sink.old) (K.written sink.new) }
+    // Where the source does not tell what is left, it is what some file gives.
+    ensures encodes_some { (name : List ℕ) (ending : Ending)
+        → encode_of (map string_bytes words.now) ≡ Some name → result ≡ Some ending
+        → EncodesFile ending (S.left source.old) (K.written sink.old) (K.written sink.new) }
+    // The file is read to its end before the first write; nothing is written of a bad file.
+    ensures reads_first { (name : List ℕ) (ending : Ending)
+        → encode_of (map string_bytes words.now) ≡ Some name → result ≡ Some ending
+        → ReadsFirst S.reads K.written K.writes ending source.old sink.old source.new sink.new }
 {
-    match plan(words) {
-        Some(command) => {
-            let query = command.query;
-            Some(tell_all(alloc, &Lister { query }, source, sink))
-        }
-        None => None,
+    match encode_name(words) {
+        Some(_) => Some(encode(alloc, source, sink)),
+        None => tell_list(alloc, words, source, sink),
     }
 }
 
 /// Does what the words ask for: reads the list that is left of the source, and writes to the sink
-/// what is asked of each of its graphs, in order, as it reads. Of a bad line nothing is written:
-/// `run_to_ending` answers what is found of it.
+/// what is asked of each of its graphs, in order, as it reads; or reads the graph file that is left
+/// of the source, and writes the graph6 text of its graph. Of a bad line or file nothing is
+/// written: `run_to_ending` answers what is found of it.
 ///
 /// The clauses say, for each status, its cause. `outcome` ties the words, the bytes of the list,
 /// the status and the output together: `Outcome` has one case for each status and cites the
-/// definitions of `list_lines`.
+/// definitions of `list_lines`. `encodes` does the same for a graph file, by those of `encoder`.
 pub fn run<S: Source, K: Sink>(
     alloc: Global,
     words: &[String],
     source: &mut S,
     sink: &mut K,
 ) -> Status
-    // Usage comes exactly when the words match no command, and then nothing was read or written.
-    ensures usage { result ≡ Status.Usage ↔ (command_of (map string_bytes words.now) ≡ None) }
+    // Usage comes exactly when the words match no row, and then nothing was read or written.
+    ensures usage { result ≡ Status.Usage ↔ MatchNone (map string_bytes words.now) }
     ensures unread { result ≡ Status.Usage → source.new ≡ source.old }
     ensures nothing { result ≡ Status.Usage → sink.new ≡ sink.old }
     // A fault of the outside comes only where its count rose in this call.
@@ -107,6 +165,21 @@ pub fn run<S: Source, K: Sink>(
     // failed.
     ensures streams { (command : Command) → command_of (map string_bytes words.now) ≡ Some command
         → Streams command.query S.reads K.written K.writes result source.old sink.old source.new
+        sink.new }
+
+    // Where the words ask for the graph6 text of a graph file: what was written is what the file
+    // gives, in whatever pieces it was read.
+    ensures encodes { (name file : List ℕ)
+        → encode_of (map string_bytes words.now) ≡ Some name → S.left source.old ≡ Some file
+        → Appended (EncodeOutcome file result) (K.written sink.old) (K.written sink.new) }
+    // Where the source does not tell what is left, it is what some file gives.
+    ensures encodes_some { (name : List ℕ)
+        → encode_of (map string_bytes words.now) ≡ Some name
+        → EncodesSome result (S.left source.old) (K.written sink.old) (K.written sink.new) }
+    // The file is read to its end before the first write; nothing is written of a bad file, and no
+    // write follows one that failed.
+    ensures reads_first { (name : List ℕ) → encode_of (map string_bytes words.now) ≡ Some name
+        → ReadsFirstTo S.reads K.written K.writes result source.old sink.old source.new
         sink.new }
 {
     match run_to_ending(alloc, words, source, sink) {

@@ -7,18 +7,19 @@ use list_reader::Ending;
 /// How a run ended. The codes are those of `mcg`, which has one more, 1.
 #[derive(Clone, Copy, Debug, PartialEq, Eq)]
 pub enum Status {
-    /// Each line was told.
+    /// Each line was told, or the graph file encoded.
     Done = 0,
     /// The words match no command; nothing was read or written.
     Usage = 2,
-    /// The list could not be read; the outputs of the whole lines before were written.
+    /// The list could not be read, and the outputs of the whole lines before were written; or the
+    /// graph file could not be.
     ReadFault = 3,
     /// A line is bad, or missing; the outputs of the lines before it were written, and nothing of
-    /// it.
+    /// it. Of a bad graph file nothing was written.
     BadInput = 4,
     /// The output could not be written whole; a part of it may have been.
     WriteFault = 5,
-    /// Memory ran out; the outputs of some first lines were written.
+    /// Memory ran out; the outputs of some first lines were written, and nothing of a graph file.
     Memory = 6,
 }
 
@@ -31,7 +32,7 @@ impl Status {
     }
 }
 
-/// The status of a list that ended so. Takes no memory.
+/// The status of a run that ended so. Takes no memory.
 pub fn status_of(ending: &Ending) -> Status
     ensures status { result ≡ status_of ending.now }
     ensures usage { result ≢ Status.Usage }

@@ -1,4 +1,4 @@
-use Rattle.list_front.proofs.Ended.{ended, ending_outcome, ending_streams, ending_tells}
+use Rattle.list_front.proofs.Ended.{ended, ended_file, ending_encodes, ending_encodes_some, ending_outcome, ending_reads_first, ending_streams, ending_tells}
 use Rattle.list_front.proofs.fronting.speak.Goals as goal
 
 pub returns-clause-runs : goal.returns-clause-runs
@@ -21,14 +21,24 @@ returns-clause-runs g c =
       streams = λ command is.
           ending_streams command _ _ _ run.result _ _ _ _ _ of.status (ended _ _ command run.ensures.usage is)
           (λ last at. run.ensures.streams command last is at);
+      encodes = λ name file is left.
+          ending_encodes file run.result _ _ _ of.status (ended_file _ _ name run.ensures.usage is)
+          (λ last at. run.ensures.encodes name file last is left at);
+      encodes_some = λ name is.
+          ending_encodes_some run.result _ _ _ _ of.status (ended_file _ _ name run.ensures.usage is)
+          (λ last at. run.ensures.encodes_some name last is at);
+      reads_first = λ name is.
+          ending_reads_first _ _ _ run.result _ _ _ _ _ of.status (ended_file _ _ name run.ensures.usage is)
+          (λ last at. run.ensures.reads_first name last is at);
     }
 
 pub returns-clause-speaks : goal.returns-clause-speaks
 returns-clause-speaks g c = λ loud.
-    let said = rw (c.file_name.ensures, c.is_abandoned.ensures) at (c.say_unless_quiet.ensures.says loud) in
+    let said = rw (c.file_name.ensures, c.encode_name.ensures, c.is_abandoned.ensures) at (c.say_unless_quiet.ensures.says loud) in
     record {
       ending = c.run_to_ending-ending.result;
       of_status = c.status_in.ensures.status;
       tells = λ asked last is at. c.run_to_ending-ending.ensures.tells asked last is at;
+      encodes = λ name last is at. c.run_to_ending-ending.ensures.encodes_some name last is at;
       said = said;
     }

@@ -2,7 +2,8 @@ use Rattle.std.proofs.Common.{◌≡◌, refl, subst, sym}
 use Rattle.list_reader.specs.Endings.{Appended}
 use Rattle.list_top.specs.declared.status.Status.{Status}
 use Rattle.list_top.specs.Outcomes.{Outcome, Streams, TellsSome}
-use Rattle.list_top.proofs.Ended.{appended_outcome, tells_some}
+use Rattle.list_top.specs.Encodings.{EncodeOutcome, EncodesSome}
+use Rattle.list_top.proofs.Ended.{appended_encoding, appended_outcome, encodes_some, tells_some}
 use Rattle.list_top.proofs.running.run.Goals as goal
 
 pub returns-in-Some-clause-outcome : goal.returns-in-Some-clause-outcome
@@ -24,4 +25,25 @@ returns-in-Some-clause-streams g c command is = record {
   ending = c.in-Some.ending;
   of_status = c.status_of.ensures.status;
   stream = c.in-Some.ensures.streams command c.in-Some.ending is refl;
+}
+
+pub returns-in-Some-clause-encodes : goal.returns-in-Some-clause-encodes
+returns-in-Some-clause-encodes g c name file asked left =
+    subst (λ (s : Status). Appended (EncodeOutcome file s) (g.K.Sink.written c.args.sink.now) (g.K.Sink.written c.run_to_ending.new.sink))
+    (sym c.status_of.ensures.status)
+    (appended_encoding file c.in-Some.ending (g.K.Sink.written c.args.sink.now) (g.K.Sink.written c.run_to_ending.new.sink)
+    (c.in-Some.ensures.encodes name file c.in-Some.ending asked left refl))
+
+pub returns-in-Some-clause-encodes_some : goal.returns-in-Some-clause-encodes_some
+returns-in-Some-clause-encodes_some g c name asked =
+    subst (λ (s : Status). EncodesSome s (g.S.Source.left c.args.source.now) (g.K.Sink.written c.args.sink.now) (g.K.Sink.written c.run_to_ending.new.sink))
+    (sym c.status_of.ensures.status)
+    (encodes_some c.in-Some.ending (g.S.Source.left c.args.source.now) (g.K.Sink.written c.args.sink.now) (g.K.Sink.written c.run_to_ending.new.sink)
+    (c.in-Some.ensures.encodes_some name c.in-Some.ending asked refl))
+
+pub returns-in-Some-clause-reads_first : goal.returns-in-Some-clause-reads_first
+returns-in-Some-clause-reads_first g c name asked = record {
+  ending = c.in-Some.ending;
+  of_status = c.status_of.ensures.status;
+  order = c.in-Some.ensures.reads_first name c.in-Some.ending asked refl;
 }

@@ -1,0 +1,3 @@
+pub mod SimpleGraphs
+pub mod Files
+pub mod Reads
