@@ -1,7 +1,6 @@
 -- An edge is allowed exactly when its ends are partners; the list of the allowed edges, the least
--- edge that is not allowed, and whether a maximum matching is perfect. A perfect matching with the
--- edge, less the edge, is perfect without its ends, and back. A perfect matching is as large as
--- any.
+-- edge that is none, and whether a maximum matching is perfect. A perfect matching with the edge,
+-- less the edge, is perfect without its ends, and back. A perfect matching is as large as any.
 use Rattle.std.proofs.Common.{◌≡◌, ◌↔◌, ℕ, ◌==◌, ◌&&◌, ◌||◌, not, Bool, true, false, List, refl, sym, ap, ◌∙◌, arith, subst, ne_eqb, eq-eqb, inl, inr}
 use Rattle.counting.proofs.Booleans.{same_tests}
 use Rattle.std.proofs.lemmas.Bool.{both_ways, cases_Bool, or_right}
@@ -40,7 +39,7 @@ module _ (g : Graph) (is : IsMultigraph g) (e : ℕ) (we : Within (size g) e) wh
       without_itself : (d p : Bool) → d ≡ false → (true && true && not d && p) ≡ p
       without_itself d p h = grind arith
 
--- the row of one end shows whether the edge is allowed
+-- the row of one end tells whether the edge is allowed
 pub row-allowed : (g : Graph) (table : List (List ℕ)) (row : List ℕ) (e a b : ℕ) → IsMultigraph g → Within (size g) e → ArePartners g none table → row ≡ item table a → a ≡ first_end g e → b ≡ second_end g e → mem row b ≡ is_allowed g e
 row-allowed g table row e a b is we are row_is first second =
     let w = is.ends e we in
@@ -66,7 +65,7 @@ maximum-perfect g m is max = (
       let misses = perfect_misses g none p.0 p.1 in omega arith,
 )
 
--- if a perfect matching is not excluded, there is one: whether there is one is decided
+-- where a perfect matching is not excluded, there is one: whether there is one is decided
 pub perfect_unless_none : (g : Graph) → ¬ (¬ (HasPerfect g none)) → HasPerfect g none
 perfect_unless_none g h = elim (cases_Bool (has_perfect g none)) [
   | inl t ↦ has_perfect_says g none t

@@ -1,5 +1,5 @@
 -- The first of the components is that of vertex 1, since no vertex is less; a graph is connected
--- if it holds all vertices. A walk from one vertex to another leads over 1.
+-- where it holds all vertices. A walk from one vertex to another leads over 1.
 use Rattle.std.proofs.Common.{◌≡◌, ℕ, suc, zero, ◌≤◌, ◌<◌, true, false, not, ◌&&◌, ◌↔◌, List, [], ◌∷◌, ◌++◌, map, length, cond, sym, ap, ◌∙◌, arith, subst, nat_lt, ltb-true}
 use Rattle.std.specs.Prelude.{IfNone, IfSome, None, Option, Some, slice_get}
 use Rattle.std.proofs.lemmas.Bool.{both_ways, and_parts, false_from_ne_true}
@@ -40,7 +40,7 @@ first_component g part l h =
     let first : slice_get (map (λ u. rising_list g.order (joined g none u)) (rising_list g.order (is_least g none))) 0 ≡ Some (rising_list g.order (joined g none 1)) = ap (λ us. slice_get (map (λ u. rising_list g.order (joined g none u)) us) 0) r.1 in
     cc
 
--- there is a component if there is a vertex
+-- there is a component where there is a vertex
 pub some_component : (g : Graph) → 1 ≤ g.order → 0 < length (components g none)
 unfolding components
 some_component g l =
@@ -80,7 +80,7 @@ module _ (g : Graph) (is : IsGraph g) (l : 1 ≤ g.order) (nothing : List ℕ) (
         before = λ w ww lt. reached w ww (least.before w lt);
       }
 
-  -- if there is no other, the graph is connected
+  -- where there is no other, the graph is connected
   pub all_joined : others ≡ [] → IsConnected g
   all_joined empty u v wu wv = joined_on g none u 1 v (joined_back g none 1 u (from_one u wu)) (from_one v wv)
     where

@@ -22,7 +22,7 @@ pub fn allowed(alloc: Global, g: &MultiGraph) -> Result<Numbers, Memory>
     allowed_in(alloc, g, &table)
 }
 
-/// The edges that `allowed` answers, from the table of partners of `g` if it has a perfect
+/// The edges that `allowed` answers, from the table of partners of `g` where it has a perfect
 /// matching.
 pub fn allowed_in(
     alloc: Global,

@@ -3,7 +3,7 @@
 //! An edge is allowed if some perfect matching contains it (`Allowed` of `graph_core`), and a
 //! graph is matching covered if it has at least two vertices, is connected, and all its edges are
 //! allowed (`IsCovered`). `allowed` lists exactly the allowed edges. `covered` answers whether the
-//! graph is matching covered and, if it is not, the first reason that applies (`IsVerdict`):
+//! graph is matching covered and, where it is not, the first reason that applies (`IsVerdict`):
 //! fewer than two vertices, no connection, no perfect matching, or the least edge that is not
 //! allowed. Both are read off the table of partners: an edge is allowed exactly when its ends are
 //! partners. `allowed_in` and `verdict_in` take a table that is at hand.

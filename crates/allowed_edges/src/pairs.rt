@@ -103,7 +103,7 @@ pub fn together(alloc: Global, g: &MultiGraph) -> Result<PairTable, Memory>
     together_beside(alloc, g, &[])
 }
 
-/// A table as `together` answers it, if the cuts of these shores are tight. Two edges in one
+/// A table as `together` answers it, where the cuts of these shores are tight. Two edges in one
 /// of these cuts lie in no perfect matching together, so nothing is asked of them.
 pub fn together_beside(alloc: Global, g: &MultiGraph, shores: &[VSet]) -> Result<PairTable, Memory>
     requires { All (λ s. IsTight g.now (mem s)) shores.now }
@@ -146,7 +146,7 @@ fn settle_edges(
     Ok(())
 }
 
-// Settles the edge `e` after those before it.
+// Settles the edge `e`, where those before it are settled.
 fn settle_edge(
     alloc: Global,
     g: &MultiGraph,
@@ -196,7 +196,7 @@ fn settle_pairs(
     Ok(kept)
 }
 
-// Settles the pair of `e` and `f` after those before it.
+// Settles the pair of `e` and `f`, where those before it are settled.
 fn settle_pair(
     alloc: Global,
     g: &MultiGraph,

@@ -1,4 +1,4 @@
-//! Whether a graph has a perfect matching, and its table of partners if it has one.
+//! Whether a graph has a perfect matching, and its table of partners where it has one.
 ghost use Rattle.std.specs.Prelude.{◌≡◌, ◌↔◌, None, IsTrue, IfSome, IfOk};
 ghost use Rattle.counting.specs.Lists.{mem};
 ghost use Rattle.counting.specs.Sets.{none};

@@ -41,7 +41,7 @@ pub fn perfect_with_edge(
 }
 
 /// A perfect matching that holds `e` and `f`, which share no end, from a perfect matching that
-/// holds `e`; `None` if and only if no perfect matching does.
+/// holds `e`; `None` exactly where no perfect matching does.
 pub fn perfect_with_pair(
     alloc: Global,
     g: &MultiGraph,

@@ -15,7 +15,7 @@ use std::alloc::{AllocError as Memory, Global};
 use vset_core::{MOST_VERTICES, VSet};
 
 /// A perfect matching of G - met, from a matching of it: with an edge more between two vertices
-/// that it misses, or with two edges in place of one. `None` if neither serves, which says
+/// that it misses, or with two edges in place of one. `None` where neither serves, which says
 /// nothing of G - met.
 pub fn completed(
     alloc: Global,
@@ -179,7 +179,7 @@ fn enclosed(m: &Matching, near: VSet, far: VSet) -> Option<MatchRow>
     None
 }
 
-// The first edge with the ends `x` and `y`. The edges are gone through only if there is one.
+// The first edge with the ends `x` and `y`. The edges are gone through only where there is one.
 fn edge_between(g: &MultiGraph, x: u32, y: u32) -> Option<u32>
     requires first { Within MOST_VERTICES x }
     requires second { Within MOST_VERTICES y }

@@ -20,7 +20,7 @@ use match_core::{Found, PartnerTable, maximum};
 use std::alloc::{AllocError as Memory, Global};
 use vset_core::VSet;
 
-/// Whether `g` is matching covered, and the first reason if it is not, in the order: `Small`,
+/// Whether `g` is matching covered, and the first reason where it is not, in the order: `Small`,
 /// `Parted`, `Unmatched`, `Unallowed`.
 pub fn covered(alloc: Global, g: &MultiGraph) -> Result<Verdict, Memory>
     ensures { IfOk result (IsVerdict g.now) }
@@ -32,7 +32,7 @@ pub fn covered(alloc: Global, g: &MultiGraph) -> Result<Verdict, Memory>
 }
 
 /// The verdict that `covered` answers, from the components of `g`, a maximum matching with its
-/// Berge set, and the table of partners if the matching is perfect. Takes no memory.
+/// Berge set, and the table of partners where the matching is perfect. Takes no memory.
 pub fn verdict_in(
     g: &MultiGraph,
     parts: &SetList,

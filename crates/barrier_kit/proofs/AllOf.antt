@@ -38,7 +38,7 @@ all_unfound p (x ∷ xs) h = elim (cases_Bool (p x)) [
   | inr f ↦ All-cons (λ k. p k ≡ false) x xs f (all_unfound p xs (ap (λ b. cond b (Some x) (find p xs)) (sym f) ∙ h))
 ]
 
--- and nothing is found if nothing passes
+-- and nothing is found where nothing passes
 pub unfound_all : {X : Type 0} (p : X → Bool) (xs : List X) → All (λ k. p k ≡ false) xs → find p xs ≡ None
 unfound_all p [] h = refl
 unfound_all p (x ∷ xs) h = ap (λ b. cond b (Some x) (find p xs)) (All-head (λ k. p k ≡ false) x xs h) ∙ unfound_all p xs (All-tail (λ k. p k ≡ false) x xs h)

@@ -150,7 +150,7 @@ module _ (g : Graph) (is : IsGraph g) (cov : IsCovered g) (odd_cycle : (x : Set)
           let c = barrier_cut s.0 s.1 a b wa wb d s.2 s.3 in absurd (brick (joined g s.0 c.vertex) c.tight c.nontrivial)
     ]
 
--- a graph without loops has sides if it is bipartite
+-- a graph without loops has sides where it is bipartite
 pub no_sides : (g : Graph) → HasNoLoop g → (IsBipartite g → ⊥) → (x : Set) → IsSide g x → ⊥
 no_sides g loopless h x two = h (x, λ e w. two e w (loopless e w))
 

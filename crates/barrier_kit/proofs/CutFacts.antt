@@ -1,4 +1,4 @@
--- What holds of the cuts that shores give: each is a canonical nontrivial shore, tight if the
+-- What holds of the cuts that shores give: each is a canonical nontrivial shore, tight where the
 -- shores are, and there is none exactly when each shore is trivial. Inductions over the shores; a
 -- step appends at most one canonical shore.
 use Rattle.std.proofs.Common.{◌≡◌, ℕ, ◌≤◌, Bool, true, false, refl, sym, ap, ◌∙◌, arith, ◌&&◌, not, cond, List, [], ◌∷◌, ◌++◌, fold, length, nat_le, leb-true, inl, inr}

@@ -1,4 +1,4 @@
--- Hall's theorem: if each part of a set has at least as many neighbours, each member gets a
+-- Hall's theorem: where each part of a set has at least as many neighbours, each member gets a
 -- neighbour of its own. By induction on the set: either some proper part is just met, and both
 -- sides are done apart, or one member takes any neighbour.
 use Rattle.std.proofs.Common.{◌≡◌, ℕ, suc, zero, ◌+◌, ◌≤◌, ◌<◌, ◌≢◌, Bool, true, false, cond, ◌==◌, refl, sym, ap, ap₂, ◌∙◌, arith, ◌&&◌, ◌||◌, not, eq-eqb, eqb-true, nat_lt, lt-ltb, ltb-true, inl, inr}

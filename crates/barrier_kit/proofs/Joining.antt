@@ -29,7 +29,7 @@ use Rattle.graph_core.specs.Walks.{joined}
 abbrev pub touches : Graph → Set → ℕ → ℕ → Bool
 touches g s z u = some (size g) (connects g (singleton z) (joined g s u))
 
--- if each edge from z leads into y, the cut of y is that of z and that of both
+-- where each edge from z leads into y, the cut of y is that of z and that of both
 pub cut_split : (g : Graph) (m z y : Set) → ((e : ℕ) → Within (size g) e → m e ≡ true → (z (first_end g e) ≡ true → y (second_end g e) ≡ true) × (z (second_end g e) ≡ true → y (first_end g e) ≡ true)) →
     ((e : ℕ) → Within (size g) e → (z (first_end g e) ≡ true → y (first_end g e) ≡ false) × (z (second_end g e) ≡ true → y (second_end g e) ≡ false)) → edges_in_cut g m y ≡ edges_in_cut g m z + edges_in_cut g m (union z y)
 cut_split g m z y into apart = total_congr (size g) _ _ (λ e w. go e w (m e) refl) ∙ total_add (size g) (λ e. bit (m e && in_cut g z e)) (λ e. bit (m e && in_cut g (union z y) e))

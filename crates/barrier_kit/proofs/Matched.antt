@@ -1,5 +1,5 @@
--- Small facts on perfect matchings without a set of vertices, and on counts that are tight. If
--- each term is at least one and the sum is at most the number of terms, each term is one.
+-- Small facts on perfect matchings without a set of vertices, and on counts that are tight. Where
+-- each term is at least one and the sum is no more than the number of terms, each term is one.
 use Rattle.std.proofs.Common.{◌≡◌, ℕ, ◌+◌, ◌≤◌, ◌≢◌, Bool, true, false, ◌==◌, refl, sym, ap, ◌∙◌, arith, ◌&&◌, ◌||◌, not, eq-eqb, eqb-true, inl, inr}
 use Rattle.std.proofs.lemmas.Bool.{cases_Bool, true≢false, false_from_ne_true, both_ways, not-false, not-true}
 use Rattle.graph_core.proofs.Perfect.{perfect_matching, perfect_misses}

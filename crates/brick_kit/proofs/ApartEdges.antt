@@ -1,5 +1,5 @@
 -- A set with three vertices on both sides has two edges in its cut without a common end, or the
--- ends of one edge separate. If each edge of the cut has an end of the first one, no other
+-- ends of one edge separate. Where each edge of the cut has an end of the first one, no other
 -- edge leaves the set.
 use Rattle.std.proofs.Common.{◌≡◌, ℕ, Bool, true, false, ◌==◌, ◌&&◌, ◌||◌, not, refl, sym, ap, ◌∙◌, arith, inl, inr, ◌⊎◌, ne_eqb}
 use Rattle.std.proofs.lemmas.Bool.{and_parts, both_ways, cases_Bool, eqb-false, not-true, or_from, or_parts, true≢false}

@@ -1,4 +1,4 @@
--- Matchings that are heaviest if each edge inside k weighs one less, and among those have most
+-- Matchings that are heaviest where each edge inside k weighs one less, and among those have most
 -- edges inside k. Such a one is heaviest for one weight in which the lowered weights count for
 -- more than all edges inside; with its edges inside a swap set replaced by those of a heaviest
 -- matching it is best again.
@@ -29,7 +29,7 @@ pub record IsBest (g : Graph) (w : ℕ → ℕ) (k m : Set) : Type 0 where
   pub low : (n : Set) → IsMatching g none n → weight_of g (lowered w (inside g k)) n ≤ weight_of g (lowered w (inside g k)) m
   pub most : (n : Set) → IsMatching g none n → HasWeight g w n → weight_of g (lowered w (inside g k)) n ≡ weight_of g (lowered w (inside g k)) m → held g n k ≤ held g m k
 
--- of two numbers of which the first counts more than s times, the first decides, and if the
+-- of two numbers of which the first counts more than s times, the first decides, and where the
 -- first are equal the second
 first_of_two : (s x y c d : ℕ) → suc s * x + c ≤ suc s * y + d → d ≤ s → x ≤ y
 first_of_two s x y c d h l = elim (cases_lt y x) [

@@ -1,4 +1,4 @@
--- No matching weighs more than a cover, and if one weighs as much the cover is exact at its
+-- No matching weighs more than a cover, and where one weighs as much the cover is exact at its
 -- edges and its sets. The weight of a cover is summed vertex by vertex and set by set.
 use Rattle.std.proofs.Common.{◌≡◌, ℕ, suc, zero, ◌+◌, ◌*◌, ◌/◌, ◌≤◌, Bool, true, false, ◌&&◌, List, refl, sym, ap₂, ◌∙◌, arith}
 use Rattle.std.specs.Prelude.{All}

@@ -1,5 +1,5 @@
 -- Two tight shores that cross: the meet or the union is nontrivial, or the vertex in both and the
--- one in neither separate. If the meet is even the complement of the second is taken. No edge
+-- one in neither separate. Where the meet is even the complement of the second is taken. No edge
 -- joins the two differences.
 use Rattle.std.proofs.Common.{◌≡◌, ℕ, ◌≤◌, Bool, true, false, cond, ◌==◌, ◌&&◌, ◌||◌, not, refl, sym, ap, ◌∙◌, arith, inl, inr, ◌⊎◌, ne_eqb}
 use Rattle.std.proofs.lemmas.Bool.{and_from, and_parts, both_ways, cases_Bool, eqb-false, not-true, or_from, or_parts, true≢false, or_left}

@@ -30,7 +30,7 @@ same_side g x e u v ends h = elim ends [
     table false true t = absurd (true≢false t)
     table false false t = refl
 
--- an edge is inside x if both ends are in x
+-- an edge is inside x where both ends are in x
 pub ends_inside : (g : Graph) (x : Set) (e u v : ℕ) → HasEnds g e u v → inside g x e ≡ (x u && x v)
 ends_inside g x e u v ends = elim ends [
   | inl p ↦ ap₂ (λ a b. x a && x b) p.0 p.1

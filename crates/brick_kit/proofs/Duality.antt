@@ -1,5 +1,5 @@
 -- Each weight has a matching and a cover of the same weight. By induction on the sum of all
--- weights. If each heaviest matching meets some vertex, the edges at that vertex are lowered;
+-- weights. Where each heaviest matching meets some vertex, the edges at that vertex are lowered;
 -- else a component of the edges that have weight is an odd set, and the edges inside it are
 -- lowered.
 use Rattle.std.proofs.Common.{◌≡◌, ℕ, suc, zero, ◌+◌, ◌*◌, ◌≤◌, ◌<◌, true, ◌⊎◌, List, [], refl, sym, ◌∙◌, arith, inl, inr}

@@ -11,7 +11,7 @@ use Rattle.counting.proofs.Booleans.{bit_times_le}
 use Rattle.graph_core.specs.Graph.{Graph, size}
 use Rattle.brick_kit.specs.Weights.{sum_over, weight_of}
 
--- a sum is less if no term is more and one is less
+-- a sum is less where no term is more and one is less
 pub total_less : (n : ℕ) (f h : ℕ → ℕ) → ((v : ℕ) → Within n v → f v ≤ h v) → (a : ℕ) → Within n a → f a < h a → total n f < total n h
 total_less n f h l a w s = elim (cases_lt (total n f) (total n h)) [
   | inl k ↦ k

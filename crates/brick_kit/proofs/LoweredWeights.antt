@@ -1,5 +1,5 @@
 -- Weights lowered by one at the edges of a set that have any.
--- Edge by edge the old weight is the new one, and one more if there was some.
+-- Edge by edge the old weight is the new one, and one more where there was some.
 use Rattle.std.proofs.Common.{◌≡◌, ℕ, suc, zero, ◌+◌, ◌-◌, ◌*◌, ◌≤◌, ◌<◌, Bool, true, false, ◌&&◌, nat_lt, refl, ap, ◌∙◌, arith, lt-ltb}
 use Rattle.counting.proofs.Totals.{total_congr, total_le}
 use Rattle.counting.specs.Counts.{Within, bit, count, total}

@@ -1,4 +1,4 @@
--- If each vertex of a part is missed by some heaviest matching, the part is odd and a best
+-- Where each vertex of a part is missed by some heaviest matching, the part is odd and a best
 -- matching fills it but for one vertex. By induction on a walk between two vertices that a best
 -- matching would miss: the swap makes another one miss a vertex of the walk. So the part goes
 -- into a cover of the lowered weights, and makes it a cover of the weights.

@@ -1,6 +1,6 @@
 -- The numbers of two vertices of a bicritical graph are bounded by twice s and the members that
--- separate them. The sums over a perfect matching and over one without the two vertices differ by
--- the two numbers.
+-- part them. The sums over a perfect matching and over one without the two vertices differ by the
+-- two numbers.
 use Rattle.std.proofs.Common.{◌≡◌, ℕ, suc, zero, ◌+◌, ◌*◌, ◌≤◌, ◌≢◌, Bool, true, false, ◌==◌, ◌&&◌, ◌||◌, not, List, [], ◌∷◌, refl, sym, ap, ap₂, ◌∙◌, arith, mul-add, eqb-true}
 use Rattle.std.specs.Prelude.{All}
 use Rattle.std.proofs.lemmas.Bool.{both_ways}
@@ -67,7 +67,7 @@ odd_or_parted g m x a b is wa wb d p odd = go (x a) (x b) (edges_in_cut g m x) (
     go false false zero k c e o = absurd (even c k (omega arith) o)
     go false false (suc cut) k c e o = omega arith
 
--- each member that does not separate a and b has an edge of a matching without the two in its cut
+-- each member that does not part a and b has an edge of a matching without the two in its cut
 members_crossed : (g : Graph) (p m : Set) (a b : ℕ) (xs : List Set) → IsGraph g → IsPerfect g none p → Within g.order a → Within g.order b → a ≢ b → IsPerfect g (pair_set a b) m → All (IsTight g) xs →
     sum_over (edges_in_cut g p) xs ≤ sum_over (edges_in_cut g m) xs + apart xs a b
 members_crossed g p m a b [] is pp wa wb d pm tight = omega arith

@@ -1,6 +1,6 @@
--- Two edges of the cut of a member without a common end: another member separates the one from the
--- other. The numbers at the four ends say that the members separate the ends of the edges less
--- often than the ends on the two sides.
+-- Two edges of the cut of a member without a common end: another member parts the one from the
+-- other. The numbers at the four ends say that the members part the ends of the edges less often
+-- than the ends on the two sides.
 use Rattle.std.proofs.Common.{◌≡◌, ℕ, ◌+◌, ◌≤◌, ◌<◌, ◌≢◌, Bool, true, false, ◌&&◌, ◌||◌, not, List, [], ◌∷◌, refl, sym, ap, ap₂, ◌∙◌, arith, inl, inr, add_comm}
 use Rattle.std.specs.Prelude.{All}
 use Rattle.std.proofs.lemmas.Bool.{cases_lt, true≢false}
@@ -35,7 +35,7 @@ pub record Picked (g : Graph) (xs : List Set) (t : Set) (rest : List Set) : Type
   pub sums : (f : Set → ℕ) → sum_over f xs ≡ f t + sum_over f rest
   pub tight : All (IsTight g) xs → IsTight g t × All (IsTight g) rest
 
--- if a sum is less some term is less
+-- where a sum is less some term is less
 pub some_less : (g : Graph) (f h : Set → ℕ) (xs : List Set) → sum_over f xs < sum_over h xs → (t : Set) × (rest : List Set) × Picked g xs t rest × (f t < h t)
 some_less g f h [] l = absurd (omega arith)
 some_less g f h (x ∷ xs) l = elim (cases_lt (f x) (h x)) [
@@ -51,7 +51,7 @@ some_less g f h (x ∷ xs) l = elim (cases_lt (f x) (h x)) [
   )
 ]
 
--- which set separates two vertices does not depend on their order
+-- which set parts two vertices does not depend on their order
 pub apart_turned : (xs : List Set) (u v : ℕ) → apart xs u v ≡ apart xs v u
 apart_turned xs u v = sum_same (λ x. bit (parts x u v)) (λ x. bit (parts x v u)) xs (λ x. ap bit (turn (x u) (x v)))
   where

@@ -1,5 +1,5 @@
--- A balanced list with two members uncrossed is balanced, and its members separate fewer pairs.
--- Vertex by vertex the meet and the union separate as often as the two members, and twice less if
+-- A balanced list with two members uncrossed is balanced, and its members part fewer pairs.
+-- Vertex by vertex the meet and the union part as often as the two members, and twice less where
 -- these cross.
 use Rattle.std.proofs.Common.{◌≡◌, ℕ, ◌+◌, ◌*◌, ◌≤◌, ◌<◌, Bool, true, false, ◌&&◌, ◌||◌, not, List, ◌∷◌, refl, ap, ◌∙◌, arith}
 use Rattle.std.proofs.lemmas.List.Elements.{All-cons, All-head, All-tail}
@@ -67,7 +67,7 @@ balance_picked g s q x t xs rest p b = let k = p.tight (All-tail (IsTight g) x x
   each = λ e w. b.each e w ∙ ap (λ k. (s + s) + (bit (parts x (first_end g e) (second_end g e)) + k)) (p.sums (λ y. bit (parts y (first_end g e) (second_end g e))));
 }
 
--- a set and its complement separate the same vertices
+-- a set and its complement part the same vertices
 pub parts_turned : (t : Set) (u v : ℕ) → parts t u v ≡ parts (complement t) u v
 parts_turned t u v = turn (t u) (t v)
   where

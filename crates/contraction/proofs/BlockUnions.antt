@@ -1,5 +1,5 @@
 -- Unions of blocks as the code tests them: each block has all of its vertices in the set, or none.
--- A block is a union's if one of its vertices is, so its name decides.
+-- A block is a union's where one of its vertices is, so its name decides.
 use Rattle.std.proofs.Common.{◌≡◌, ℕ, ◌<◌, ◌==◌, Bool, true, false, not, cond, ◌||◌, ◌&&◌, List, [], ◌∷◌, length, refl, sym, ap, ap₂, ◌∙◌, arith, inl, inr, filter, eq-eqb, ne_eqb, suc}
 use Rattle.std.specs.List.{list_all}
 use Rattle.std.proofs.lemmas.Bool.{both_ways, and_parts, and_from, or_cases, or_left, or_right, false_from_ne_true, not-true}
@@ -14,7 +14,7 @@ use Rattle.graph_core.specs.Partitions.{AreBlocks, IsPartition, block, insert_bl
 use Rattle.graph_core.specs.Shores.{IsUnion}
 use Rattle.contraction.specs.Partition.{IsUnionAt, KeepsPartition, PartitionValue}
 
--- no vertex of b is in s if their common part is empty
+-- no vertex of b is in s where their common part is empty
 pub apart-met : (b s met : List ℕ) → ((v : ℕ) → mem met v ≡ (mem b v && mem s v)) → (length met == 0) ≡ is_apart b s
 apart-met b s [] meets = sym (true_all_in b (λ v. not (mem s v)) (λ v m. ap not (false_from_ne_true (mem s v) (λ t. both_ways false refl (meets v ∙ and_from (mem b v) (mem s v) m t)))))
 apart-met b s (w ∷ met) meets = ne_eqb (suc (length met)) 0 (λ e. absurd (omega arith)) ∙ sym (false_from_ne_true (is_apart b s) (λ h.
@@ -64,7 +64,7 @@ module _ (n : ℕ) (p : List (List ℕ)) (s : List ℕ) (is : AreBlocks n p) whe
       each c k true e = or_left (is_subset c s) (is_apart c s) e
       each c k false e = or_right (is_subset c s) (is_apart c s) (true_all_in c (λ v. not (mem s v)) (λ v m. ap not (within_block c k v m ∙ e)))
 
-  -- a block is in a union of blocks if its name is
+  -- a block is in a union of blocks where its name is
   pub subset-name : IsUnion n p (mem s) → (c : List ℕ) → Has p c → is_subset c s ≡ mem s (last_of c)
   subset-name union c k =
       let r = has_block p c k in

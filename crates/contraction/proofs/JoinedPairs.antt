@@ -1,5 +1,5 @@
--- The pairs of vertices that edges join, in lexicographic order: the rows of later neighbours give
--- them, none comes twice, and there are at most as many as edges. A pair goes to its least edge,
+-- The pairs of vertices that edges join, in lexicographic order: the rows of later neighbours
+-- give them, none comes twice, and there are no more than edges. A pair goes to its least edge,
 -- and no other pair goes there.
 use Rattle.std.proofs.Common.{◌≡◌, ℕ, ◌+◌, ◌-◌, ◌*◌, ◌≤◌, ◌<◌, ◌==◌, Bool, true, false, cond, ◌&&◌, List, [], ◌∷◌, ◌++◌, length, refl, sym, ap, ap₂, ◌∙◌, arith, ◌⊎◌, inl, inr, filter, map, flat_map, nat_lt, get_or, eq-eqb, subst, suc, zero}
 use Rattle.std.specs.List.{list_any}
@@ -140,7 +140,7 @@ joined-at g i l =
 abbrev pick : Graph → ℕ → ℕ
 pick g i = least_of (size g) (has_ends g (get_or (joined_pairs g) (i - 1) (0, 0)).0 (get_or (joined_pairs g) (i - 1) (0, 0)).1)
 
--- there are at most as many pairs as edges
+-- there are no more pairs than edges
 pub joined-few : (g : Graph) → length (joined_pairs g) ≤ size g
 unfolding image
 joined-few g =

@@ -1,5 +1,5 @@
 -- The law of contraction said of quotients, for both shores of a tight cut. The quotient is
--- matching covered if the contracted graph is, and the complement of a tight shore is a tight
+-- matching covered where the contracted graph is, and the complement of a tight shore is a tight
 -- shore.
 use Rattle.std.proofs.Common.{ℕ, List}
 use Rattle.counting.proofs.Lists.{mem-within, member-of_set}

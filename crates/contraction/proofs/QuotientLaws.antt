@@ -1,5 +1,5 @@
 -- The quotient and the contracted graph have the same adjacent pairs, so both are matching
--- covered or neither is, and a union of blocks is tight in the one if it is in the other.
+-- covered or neither is, and a union of blocks is tight in the one where it is in the other.
 use Rattle.std.proofs.Common.{◌≡◌, ℕ, ◌<◌, ◌≢◌, true, not, ◌==◌, List, length, refl, sym, ap, ◌∙◌, arith, inl, inr, subst, ne_eqb}
 use Rattle.std.proofs.lemmas.Bool.{and_parts, and_from, cases_order}
 use Rattle.counting.proofs.Tests.{some_true, true_some}
@@ -20,7 +20,7 @@ use Rattle.graph_core.specs.Shores.{IsTightAt, IsUnion, blocks_in}
 use Rattle.graph_core.specs.Tight.{IsTight}
 
 module _ (g : Graph) (p : List (List ℕ)) (is : IsGraph g) (pp : AreBlocks g.order p) where
-  -- a < b are joined in the quotient if they are in the contracted graph
+  -- a < b are joined in the quotient where they are in the contracted graph
   up : (a b : ℕ) → Within (length p) a → Within (length p) b → a < b → some (size (contracted g p)) (has_ends (contracted g p) a b) ≡ true → some (size (quotient g p)) (has_ends (quotient g p) a b) ≡ true
   up a b wa wb l h =
       let s : some (size g) (has_ends (contracted g p) a b) ≡ true = ap (λ k. some k (has_ends (contracted g p) a b)) (sym (contracted-size g p)) ∙ h in

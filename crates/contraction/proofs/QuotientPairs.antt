@@ -15,7 +15,7 @@ pub ends-contracted : (n : ℕ) (p : List (List ℕ)) (edges ends : List Ends) �
 unfolding contracted
 ends-contracted n p edges ends h = ap (λ (ks : List (ℕ × ℕ)). record { order = length p; ends = ks }) (h ∙ sym (map-map (λ (k : ℕ × ℕ). (place p k.0, place p k.1)) pair_of edges))
 
--- the next edge goes after those before it if it has the two ends
+-- the next edge goes after those before it where it has the two ends
 pub edges-more : (es : List Ends) (a b k : ℕ) (before after : List ℕ) (d : Ends) → k < length es → before ≡ rising_list k (has_ends (graph_of 0 es) a b) → after ≡ before ++ cond (are_ends a b (get_or es k d)) ((k + 1) ∷ []) [] → after ≡ rising_list (k + 1) (has_ends (graph_of 0 es) a b)
 edges-more es a b k before after d l old new =
     let e : suc k ≡ k + 1 = omega arith in

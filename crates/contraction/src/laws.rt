@@ -1,4 +1,4 @@
-//! The laws that join a quotient and its partition. Each is the contract of a
+//! The laws that lead from a quotient to the partition and back. Each is the contract of a
 //! function that does nothing.
 ghost use Rattle.std.specs.Prelude.{◌≡◌, ℕ, List, true, ◌↔◌};
 ghost use Rattle.counting.specs.Sets.{Set, none};

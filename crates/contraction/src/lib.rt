@@ -5,13 +5,13 @@
 //! test `is_union` and the number `blocks_in` are exactly the definitions of graph_core's specs
 //! `Partitions` and `Shores`. `quotient` answers a `Contracted`: the quotient graph with one edge
 //! for each two adjacent blocks, in lexicographic order of their places, and for each edge the
-//! `remembered` edges of the graph between its two blocks; `lift_set` takes a set of places to the
-//! vertices of its blocks.
+//! `remembered` edges of the graph between its two blocks; `lift_set` leads a set of places back
+//! to vertices.
 //!
-//! `lift` takes a matching of the quotient up to edges of the graph, the least remembered edge of
+//! `lift` leads a matching of the quotient up to edges of the graph, the least remembered edge of
 //! each row. `lift_law` and `projection_law` say that perfect matchings go up and down, with as
 //! many edges in each cut; `covered_quotient_law` and `tight_quotient_law`, that the quotient is
-//! covered, and a shore tight in it, if it is so at the partition. The law of contraction is
+//! covered, and a shore tight in it, where it is so at the partition. The law of contraction is
 //! graph_core's; `merged_quotients_law` says it of quotients, for both shores of a tight cut.
 //!
 //! Stands on `graph_core` and `match_core`; remembered edges are kept in an `indexmap` by the

@@ -19,7 +19,7 @@ use match_core::Matching;
 use std::alloc::{AllocError as Memory, Global};
 
 /// The matching `m` of the quotient graph lifted to the graph: the least remembered edge of each
-/// row, in rising order. If `m` is perfect, the lifted edges are a perfect matching at the
+/// row, in rising order. Where `m` is perfect, the lifted edges are a perfect matching at the
 /// partition: each block has an end of exactly one of them.
 pub fn lift(alloc: Global, q: &Contracted, m: &Matching) -> Result<Numbers, Memory>
     requires { IsOf q.now.graph m.now }

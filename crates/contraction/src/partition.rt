@@ -81,7 +81,7 @@ impl Partition {
         self.blocks[i]
     }
 
-    /// Whether `set` is a union of blocks; no set with a vertex beyond n is. Takes no memory.
+    /// Whether `set` is a union of blocks; a set with a vertex beyond n is none. Takes no memory.
     pub fn is_union(&self, set: VSet) -> bool
         ensures { IsTrue result ↔ IsUnionAt self.now set }
     {
@@ -180,7 +180,7 @@ fn count_inside(blocks: &[VSet], set: VSet) -> usize
     blocks.iter().filter(|block| block.is_subset(set)).count()
 }
 
-/// The name of a block: its greatest vertex, and 0 if it is empty. Takes no memory.
+/// The name of a block: its greatest vertex, and 0 where it is empty. Takes no memory.
 pub fn name_of(block: VSet) -> u32
     ensures { result ≡ last_of block }
 {

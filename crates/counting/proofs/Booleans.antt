@@ -59,7 +59,7 @@ nor_left a b p = grind arith
 pub nor_right : (a b : Bool) → b ≡ true → not (a || b) ≡ false
 nor_right a b p = grind arith
 
--- if one implies the other
+-- where one implies the other
 pub and_implied : (a b : Bool) → (b ≡ true → a ≡ true) → (a && b) ≡ b
 and_implied a b p = grind arith
 

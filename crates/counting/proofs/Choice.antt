@@ -86,7 +86,7 @@ set_found n p r m h = elim (cases_Bool (some_set n p)) [
 pub negated : (n : ℕ) (p : Set → Bool) → Respects n p → Respects n (λ m. not (p m))
 negated n p r = record { same = λ m k h. ap not (r.same m k h) }
 
--- each set passes if the test says so
+-- each set passes where the test says so
 pub each_passes : (n : ℕ) (p : Set → Bool) → Respects n p → each_set n p ≡ true → (m : Set) → p m ≡ true
 each_passes n p r h m = not-false (p m) (some_set_none n (λ k. not (p k)) (negated n p r) (not-true (some_set n (λ k. not (p k))) h) m)
 

@@ -40,7 +40,7 @@ complement_odd n x a b = go (is_odd (count n x)) (is_odd (count n (complement x)
     go : (s t : Bool) → s ≡ true → cond s (not t) t ≡ false → t ≡ true
     go s t a b = grind arith
 
--- a number is odd if division by two leaves one
+-- a number is odd where division by two leaves one
 pub is_odd_remainder : (n : ℕ) → is_odd n ≡ (n % 2 == 1)
 is_odd_remainder n =
     let h : n ≡ (n / 2 + n / 2) + n % 2 = omega arith in

@@ -178,7 +178,7 @@ split_least n xs ys v r s m least others = same_rising_list n xs (v ∷ ys) r wh
       | inr d ↦ let g = ne_eqb v w d in rw g (sym (f ∙ rw (g, e) (and_true a)))
     ]
 
--- if not all are in x, one is outside
+-- where not all are in x, one is outside
 pub false_all_in : (xs : List ℕ) (x : Set) → all_in xs x ≡ false → (v : ℕ) × (mem xs v ≡ true) × (x v ≡ false)
 false_all_in [] x h = absurd (both_ways true h refl)
 false_all_in (y ∷ xs) x h = step (λ f. false_all_in xs x f) (x y) refl h

@@ -61,7 +61,7 @@ some_term (suc n) f h = elim (cases_eq (f (suc n)) 0) [
   | inr e ↦ (suc n, omega arith, omega arith)
 ]
 
--- if each term is at least the other sum's, and the sum is not more, the terms are equal
+-- where each term is at least the other sum's, and the sum is not more, the terms are equal
 pub total_tight : (n : ℕ) (f g : ℕ → ℕ) → ((v : ℕ) → Within n v → g v ≤ f v) → total n f ≤ total n g → (v : ℕ) → Within n v → f v ≡ g v
 total_tight zero f g h l v w = absurd (omega arith)
 total_tight (suc n) f g h l v w =

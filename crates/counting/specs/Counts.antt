@@ -5,7 +5,7 @@ use Rattle.std.specs.Prelude.{ℕ, ◌+◌, ◌≤◌, Bool, true, false, not, s
 abbrev pub Within : ℕ → ℕ → Type 0
 Within n v = (1 ≤ v) × (v ≤ n)
 
--- 1 if the test holds, else 0
+-- 1 where the test holds, else 0
 abbrev pub bit : Bool → ℕ
 bit true = 1
 bit false = 0

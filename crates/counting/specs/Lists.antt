@@ -48,7 +48,7 @@ pub record Lists (n : ℕ) (xs : List ℕ) (P : ℕ → Type 0) : Type 0 where
   pub sound : (v : ℕ) → mem xs v ≡ true → P v
   pub complete : (v : ℕ) → Within n v → P v → mem xs v ≡ true
 
--- the last of a list, which is the greatest of a rising one; 0 if the list is empty
+-- the last of a list, which is the greatest of a rising one; 0 where the list is empty
 abbrev pub last_of : List ℕ → ℕ
 last_of [] = 0
 last_of (x ∷ []) = x

@@ -33,7 +33,7 @@ item_at (x ∷ xs) u h = elim (or_cases (x == u) (mem xs u) h) [
   | inr t ↦ let r = item_at xs u t in (suc r.0, (let a = r.1 in omega arith), r.2)
 ]
 
--- if v is in the list of u, it is in one of the lists
+-- where v is in the list of u, it is in one of the lists
 any_mapped : (f : ℕ → List ℕ) (xs : List ℕ) (u v : ℕ) → mem xs u ≡ true → mem (f u) v ≡ true → Any (λ (c : List ℕ). mem c v ≡ true) (map f xs)
 any_mapped f xs u v h m =
     let r = item_at xs u h in

@@ -20,7 +20,7 @@ abbrev Rising : List (ℕ × ℕ) → Type 0
 Rising [] = Unit {0}
 Rising (k ∷ ks) = ((i j : ℕ) → HasPair ks i j → ComesBefore k (i, j)) × Rising ks
 
--- two rising lists in a row rise if the first is before the second
+-- two rising lists in a row rise where the first is before the second
 parts_rise : (ks ls : List (ℕ × ℕ)) → Rising ks → Rising ls → ((i j a b : ℕ) → HasPair ks i j → HasPair ls a b → ComesBefore (i, j) (a, b)) → Rising (ks ++ ls)
 parts_rise [] ls r s h = s
 parts_rise (k ∷ ks) ls r s h = (

@@ -47,7 +47,7 @@ first_of-lists n f (u ∷ us) least =
     cons : {a b : ℕ} {xs ys : List ℕ} → a ≡ b → xs ≡ ys → a ∷ xs ≡ b ∷ ys
     cons e k = rw e (rw k refl)
 
--- u is the least of the list if it is in the set and no number of the set is below it
+-- u is the least of the list where it is in the set and no number of the set is below it
 least-of_list : (n : ℕ) (x : Set) (u : ℕ) → Within n u → x u ≡ true → ((v : ℕ) → Within n v → x v ≡ true → u ≤ v) → IsLeastOf (rising_list n x) u
 least-of_list n x u w held below = record {
   member = rising_holds n x u w held;

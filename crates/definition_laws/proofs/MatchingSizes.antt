@@ -11,7 +11,7 @@ use Rattle.graph_core.proofs.Decide.{is_matching_congr, is_matching_true, true_i
 use Rattle.graph_core.specs.Graph.{Graph, size}
 use Rattle.graph_core.specs.Matchings.{IsMatching, has_matching_of, is_matching}
 
--- some matching has k edges if the test says so
+-- some matching has k edges where the test says so
 pub has_matching_says : (g : Graph) (r : Set) (k : ℕ) → has_matching_of g r k ≡ true → (m : Set) × IsMatching g r m × (count (size g) m ≡ k)
 has_matching_says g r k h =
     let q = some_set_found (size g) (λ m. is_matching g r m && (count (size g) m == k)) h in

@@ -23,7 +23,7 @@ is_end g e v p = let a = ends_of_is g e (first_end g e) (second_end g e) (inl (r
   ]
 ]
 
--- if no edge of m has an end in r, each vertex of r has degree 0 in m
+-- where no edge of m has an end in r, each vertex of r has degree 0 in m
 avoids_zero : (g : Graph) (r m : Set) → Avoids g r m → (v : ℕ) → Within g.order v → r v ≡ true → degree g m v ≡ 0
 avoids_zero g r m av v wv o = degree_sum g m v ∙ total_none (size g) (λ e. bit (m e) * ends_of g e v) (λ e we. none_at e we (m e) refl)
   where
@@ -50,7 +50,7 @@ avoids_none g m e v we wv me o end = absurd (true≢false (sym o))
 pub matching-words : (g : Graph) (r m : Set) → IsMatching g r m → Avoids g r m × ShareNoEnd g m
 matching-words g r m mm = (zero_avoids g r m mm.away, matching_apart g m (record { once = mm.once; away = λ v w o. absurd (true≢false (sym o)) }))
 
--- if no edge is a loop, such a set is a matching
+-- where no edge is a loop, such a set is a matching
 pub words-matching : (g : Graph) (r m : Set) → IsGraph g → HasNoLoop g → Avoids g r m → ShareNoEnd g m → IsMatching g r m
 words-matching g r m is no_loop av apart = record { once = (apart_matching g m is no_loop apart).once; away = avoids_zero g r m av }
 
@@ -74,7 +74,7 @@ perfect-meets g r m p v wv out =
     let end : IsEnd g f.0 v = elim f.3.1 [ inl k ↦ inl k.0 | inr k ↦ inr k.1 ] in
     (f.0, f.1, f.2, end, λ e we me ee. share e f.0 v we f.1 wv me f.2 ee end)
 
--- and if no edge of m has an end in r or is a loop, this is a perfect matching
+-- and where no edge of m has an end in r or is a loop, this is a perfect matching
 pub meets-perfect : (g : Graph) (r m : Set) → HoldsNoLoop g m → Avoids g r m → MeetsEachOnce g r m → IsPerfect g r m
 meets-perfect g r m loops av meets = record { once = once; away = avoids_zero g r m av }
   where

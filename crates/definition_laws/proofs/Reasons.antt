@@ -37,7 +37,7 @@ all_or_least n P decided = go n (omega arith)
       ]
     ]
 
--- if vertex 1 is joined to each vertex, each is joined to each
+-- where vertex 1 is joined to each vertex, each is joined to each
 connected_from_one : (g : Graph) → ((v : ℕ) → Within g.order v → Joined g none 1 v) → IsConnected g
 connected_from_one g all u v wu wv = joined_on g none u 1 v (joined_back g none 1 u (all u wu)) (all v wv)
 

@@ -39,7 +39,7 @@ pub fn canonical_partition_law()
 {}
 
 /// The pairs that `unlike_pair` and `cut_pair` answer are the first in lexicographic order: the
-/// first a < b without which there is no perfect matching, and the first without which at
+/// first a < b without which there is not a perfect matching, and the first without which at
 /// least two components are left. That they answer one exactly when there is one is
 /// `first_pairs_law` of `separation_kit`.
 pub fn first_pair_law()

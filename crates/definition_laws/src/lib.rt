@@ -1,7 +1,7 @@
-//! The definitions of the field mean what a textbook says.
+//! Do the definitions of the field mean what a textbook says?
 //!
 //! Many definitions of `graph_core` are degrees, counts or tests that compute, since proofs and
-//! code need them so. Each law here ties one of them to what it means: a test is true exactly
+//! code want them so. Each law here ties one of them to what it means: a test is true exactly
 //! when its relation holds, and a relation holds exactly when the words of a textbook do
 //! (`specs/Words.antt`). Of the other crates only `bench_top` stands on this one, for
 //! `reason_law`.

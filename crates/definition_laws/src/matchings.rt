@@ -1,6 +1,6 @@
 //! Matchings, tight cuts and the Gallai-Edmonds sets in the words of a textbook.
 //!
-//! The definitions go by degrees, since proofs and code need them so: a matching has degree at
+//! The definitions go by degrees, since proofs and code want them so: a matching has degree at
 //! most 1 at each vertex. Each law here is the contract of a function that does nothing.
 ghost use Rattle.std.specs.Prelude.{◌≡◌, ℕ, ◌+◌, ◌*◌, ◌⊎◌, true, ◌↔◌};
 ghost use Rattle.counting.specs.Counts.{Within, count};

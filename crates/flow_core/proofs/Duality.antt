@@ -1,4 +1,4 @@
--- Max flow and min cut: a flow is at most each cut, and if a set of nodes is left by no arc
+-- Max flow and min cut: a flow is at most each cut, and where a set of nodes is left by no arc
 -- with room, it is the least minimum cut. Idea: sum what goes out of the nodes of a set, node by
 -- node and arc by arc.
 use Rattle.std.proofs.Common.{◌≡◌, ℕ, suc, zero, ◌≤◌, ◌<◌, ◌≢◌, Bool, true, false, cond, ◌==◌, refl, sym, ap, ap₂, ◌∙◌, arith, ◌&&◌, ◌||◌, not, inl, inr, List, [], ◌∷◌, length, sum_by, eq-eqb, ne_eqb}
@@ -210,11 +210,11 @@ module _ (net : Net) (source sink : ℕ) (amounts : List ℤ) (value : ℕ) (is 
       let b = flow-le-value_of (singleton source) (record { holds = eq-eqb source source refl; lacks = ne_eqb source sink d }) in
       let t = value_of-le-total net (singleton source) in omega arith
 
-  -- if a flow is as much as a cut, the arcs of the cut are full
+  -- where a flow is as much as a cut, the arcs of the cut are full
   cut_full : (x : Set) → Separates source sink x → value_of net x ≡ value → AllFull x net.arcs amounts
   cut_full x s e = across-full x net.arcs amounts flow.fits (sym (flow_across x s) ∙ ap pos (sym e))
 
-  -- and if they are full, it is as much
+  -- and where they are full, it is as much
   full_value : (x : Set) → Separates source sink x → AllFull x net.arcs amounts → value_of net x ≡ value
   full_value x s f = let a = flow_across x s in let b = full-across x net.arcs amounts flow.fits f in omega (arith, ints)
 
@@ -228,7 +228,7 @@ module _ (net : Net) (source sink : ℕ) (amounts : List ℤ) (value : ℕ) (is 
         absurd (full_stays x (arc_at net.arcs step.arc) (amount_at amounts step.arc) (AllFull-at x net.arcs amounts flow.fits (cut_full x s e) step.arc step.is_arc) w v step.joins (walk_stays x s e u w ws h r.0) t step.room)
   ]
 
-  -- the nodes that are reached from the source over arcs with room, if the sink is not among
+  -- the nodes that are reached from the source over arcs with room, where the sink is not among
   -- them, are the least minimum cut
   pub reached_least : (set : List ℕ) → IsReachedSet net amounts source sink set → IsLeastCut net source sink set value
   reached_least set r = record {

@@ -1,6 +1,6 @@
 -- A path that goes from level to level: how it grows, goes back and starts again, and that there
 -- is always less left to do. Idea: visit j is at level j, so no node comes twice; each arc is
--- passed over once, and a path has at most as many nodes as there are levels.
+-- passed over once, and a path is no longer than there are levels.
 use Rattle.std.proofs.Common.{◌≡◌, ◌≢◌, ℕ, zero, suc, ◌+◌, ◌-◌, ◌≤◌, ◌<◌, List, [], ◌∷◌, ◌++◌, length, get_or, set, take, min, sym, ◌∙◌, ap, subst, arith, inl, inr, length-append, slice_index}
 use Rattle.std.specs.Prelude.{ℤ}
 use Rattle.std.proofs.Math.Seq.{get_or-append_seam}

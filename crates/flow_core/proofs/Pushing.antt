@@ -83,7 +83,7 @@ out_by-sent_amount n arc u w amount d v is (inr x) =
     backward false true z k = omega (arith, ints)
     backward false false z k = omega (arith, ints)
 
--- and the amount stays within the capacity if d is at most the room
+-- and the amount stays within the capacity where d is at most the room
 pub sent_amount-fits : (arc : Arc) (u : ℕ) (amount : ℤ) (d : ℕ) → unsigned_abs amount ≤ arc.capacity → pos d ≤ℤ room_from u arc amount → unsigned_abs (sent_amount arc u amount d) ≤ arc.capacity
 sent_amount-fits arc u amount d f l = go (arc.a == u) l
   where

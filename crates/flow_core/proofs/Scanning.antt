@@ -106,7 +106,7 @@ IsScanning-full net amounts sink head from row place visits seen s node t = reco
 abbrev pub taken : ℕ → ℕ → ℕ → ℕ → Visit
 taken node parent arc room = record { node = node; parent = parent; arc = arc; room = room }
 
--- what stands after an arc is taken to a new node: the tree with a visit more, and if the node
+-- what stands after an arc is taken to a new node: the tree with a visit more, and where the node
 -- is not the sink, a search that scans on
 pub record IsTaken (net : Net) (amounts : List ℤ) (sink head : ℕ) (from : Visit) (row : List ℕ) (place : ℕ) (visits : List Visit) (node : ℕ) (longer : List Visit) (more : List ℕ) : Type 0 where
   pub first : first_node longer ≡ first_node visits
@@ -164,7 +164,7 @@ module _ (net : Net) (amounts : List ℤ) (sink head : ℕ) (from : Visit) (row 
   taken-first : first_node longer ≡ first_node visits
   taken-first = ap (λ (u : Visit). u.node) (earlier 0 s.search.tree.some)
 
-  -- if the new node is not the sink, the scan goes on
+  -- where the new node is not the sink, the scan goes on
   IsScanning-take : node ≢ sink → IsScanning net amounts sink head from row (place + 1) longer more
   IsScanning-take d = record {
     search = record {

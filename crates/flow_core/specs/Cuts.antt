@@ -9,12 +9,12 @@ abbrev pub IsCut : CutAnswer → Type 0
 IsCut (Cut set value) = Unit {0}
 IsCut (Exceeds flow) = ⊥
 
--- what holds of the cut, if the answer is one
+-- what holds of the cut, where the answer is one
 abbrev pub IfCut : CutAnswer → (List ℕ → ℕ → Type 0) → Type 0
 IfCut (Cut set value) P = P set value
 IfCut (Exceeds flow) P = Unit {0}
 
--- what holds of the flow, if the answer is one
+-- what holds of the flow, where the answer is one
 abbrev pub IfExceeds : CutAnswer → (Flow → Type 0) → Type 0
 IfExceeds (Cut set value) P = Unit {0}
 IfExceeds (Exceeds flow) P = P flow

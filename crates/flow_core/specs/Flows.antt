@@ -3,7 +3,7 @@ use Rattle.std.specs.Prelude.{◌≡◌, ℕ, ◌≤◌, ◌≢◌, List, [], �
 use Rattle.counting.specs.Counts.{Within}
 use Rattle.flow_core.specs.Nets.{Arc, Net}
 
--- what an arc with this amount takes out of v; below zero if it brings in
+-- what an arc with this amount takes out of v; below zero where it brings in
 abbrev pub out_by : ℕ → Arc → ℤ → ℤ
 out_by v arc amount = (if arc.a == v then amount else pos 0) -ℤ (if arc.b == v then amount else pos 0)
 

@@ -6,7 +6,7 @@ use Rattle.flow_core.specs.Search.{IsTree, first_node, last_node}
 use Rattle.flow_core.specs.declared.search.Outcome.{Outcome}
 use Rattle.flow_core.specs.declared.search.Outcome.TheVariants.{Path, Closed}
 
--- a search tree that ends at the sink, or the set of all nodes reached if the sink is not
+-- a search tree that ends at the sink, or the set of all nodes reached where the sink is not
 abbrev pub IsOutcome : Net → List ℤ → ℕ → ℕ → Outcome → Type 0
 IsOutcome net amounts source sink (Path visits) = IsTree net amounts visits.items × (first_node visits.items ≡ source) × (last_node visits.items ≡ sink)
 IsOutcome net amounts source sink (Closed set) = IsReachedSet net amounts source sink set

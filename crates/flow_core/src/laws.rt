@@ -7,7 +7,7 @@ ghost use Rattle.flow_core.specs.Flows.{IsFlow};
 ghost use Rattle.flow_core.specs.Residual.{IsReachedSet};
 
 /// Flows and cuts (Ford and Fulkerson, 1956): no flow is more than the value of a set with the
-/// source and without the sink; and if the sink is not reached from the source over arcs with
+/// source and without the sink; and where the sink is not reached from the source over arcs with
 /// room, the nodes that are reached are the least minimum cut, whose value is that of the flow.
 pub fn flow_law()
     ensures bound { (net : Net) (source sink : ℕ) (amounts : List ℤ) (value : ℕ) → IsNet net →

@@ -86,9 +86,9 @@ impl Layers {
         self.places[from as usize] = place + 1;
     }
 
-    /// Takes the next arc at the last node of the path: goes on over it if it has room and
-    /// leads to the next level, and passes it over otherwise. If no arc is left, goes one step
-    /// back; answers false if there is no step to go back.
+    /// Takes the next arc at the last node of the path: goes on over it where it has room and
+    /// leads to the next level, and passes it over otherwise. Where no arc is left, goes one step
+    /// back; answers false where there is no step to go back.
     fn go_on(
         &mut self,
         net: &Net,

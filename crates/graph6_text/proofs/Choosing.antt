@@ -16,7 +16,7 @@ chosen-no_bits : (pairs : List (ℕ × ℕ)) → chosen pairs [] ≡ []
 chosen-no_bits [] = refl
 chosen-no_bits (pair ∷ pairs) = refl
 
--- the loop over pairs and bits: if one of them has come to its end, all edges are there
+-- the loop over pairs and bits: where one of them has come to its end, all edges are there
 pub edges_all : (g : Graph) (n : ℕ) (rest : List Ends) (bits : List Bool) (edges : List (ℕ × ℕ)) → g.order ≡ n → g.ends ++ chosen (map pair_of rest) bits ≡ edges →
     (length rest ≡ 0) ⊎ (length bits ≡ 0) → g ≡ record { order = n; ends = edges }
 edges_all g n rest bits edges order ends stop =

@@ -63,7 +63,7 @@ column_more (suc a) b old front more h inv e =
     let s : suc a - 1 ≡ a = omega arith in
     e ∙ ap (λ (xs : List (ℕ × ℕ)). xs ++ (suc a, b) ∷ []) (inv ∙ ap (λ (k : ℕ). old ++ column k b) s) ∙ append_assoc old (column a b) ((suc a, b) ∷ [])
 
--- if the loop over columns has come to its end
+-- where the loop over columns has come to its end
 pub columns_all : (b n : ℕ) (front : List (ℕ × ℕ)) → n < b → b ≤ n + 1 → front ≡ column_pairs (b - 1) → front ≡ column_pairs n
 columns_all b n front h k inv = let e : b - 1 ≡ n = omega arith in inv ∙ ap column_pairs e
 

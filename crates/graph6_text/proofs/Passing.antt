@@ -1,4 +1,4 @@
--- What the checks of a body show of it. Idea: if no fault of a list of tests is first, each
+-- What the checks of a body tell of it. Idea: where no fault of a list of tests is first, each
 -- test fails; and the first fault of two lists of tests is that of the one, or else that of the
 -- other.
 use Rattle.counting.proofs.Booleans.{and_fails_second}
@@ -105,7 +105,7 @@ pub is_first-behind : (xs ys : List (Bool × Fault)) (e : TextFault) → first_f
 is_first-behind xs ys (fault.At line kind) none h = first_fault-append xs ys none ∙ h
 is_first-behind xs ys fault.Memory none h = tt
 
--- the last two rows of the table, which the bits give
+-- the last two rows of the table, which the bits tell
 abbrev pub padding_row : ℕ → List Bool → List (Bool × Fault)
 padding_row from bits = (list_any (λ bit. bit) (drop from bits), (1, Padding)) ∷ []
 

@@ -25,7 +25,7 @@ use Rattle.graph6_text.proofs.DistinctPairs.{present, present_at_most, any_chose
 use Rattle.graph6_text.proofs.Passing.{none_from_all_fail, outcome-graph}
 use Rattle.graph6_text.proofs.RoundTrip.{AreZeros, Filled, bits-bytes_of, length-bytes_of, is_digit-byte_of, digits-bytes_of}
 
--- each byte of a list of digits is a digit
+-- a list of digits holds no byte that is none
 digits_only : (xs ys : List ℕ) (byte : ℕ) → is_digit byte ≡ false → list_all is_digit (xs ++ byte ∷ ys) ≡ true → ⊥
 digits_only xs ys byte other h =
     both_ways (is_digit byte) other (and_parts (is_digit byte) (list_all is_digit ys) (and_parts (list_all is_digit xs) (list_all is_digit (byte ∷ ys)) (sym (list_all-append is_digit xs (byte ∷ ys)) ∙ h)).1).0
@@ -61,7 +61,7 @@ no_line_feed (byte ∷ text) h =
     let least = digit_bounds byte p.0 in
     or_from (byte == 10) (list_any (λ byte. byte == 10) text) (ne_eqb byte 10 (omega arith)) (no_line_feed text p.1)
 
--- the size is read as the number that it was written for, and reports no fault
+-- the size is read as the number that it was written for, and tells no fault
 record Sized (n : ℕ) (rest body : List ℕ) : Type 0 where
   order : order_of body ≡ n
   behind : data_of body ≡ rest
@@ -188,7 +188,7 @@ module _ (g : Graph) (limits : IsWithinLimits g) where
   abbrev is_edge : ℕ → ℕ → ℕ × ℕ → Bool
   is_edge u v p = adjacent g none p.0 p.1 && joins u v p
 
-  -- a pair that is u and v is adjacent if they are
+  -- a pair that is u and v is adjacent where they are
   not_edge : (u v : ℕ) → adjacent g none u v ≡ false → (p : ℕ × ℕ) → is_edge u v p ≡ false
   not_edge u v none_there p = elim (cases_Bool (joins u v p)) [
     | inl s ↦ and_left (adjacent g none p.0 p.1) (joins u v p) (false_from_ne_true (adjacent g none p.0 p.1) (λ t. elim (joins-cases u v p s) [

@@ -1,5 +1,5 @@
 -- Bits that are written as bytes are read again, with zeros after them; and bytes that are read
--- as bits are written again, if only zeros stand after the bits. Idea: six bits and a digit
+-- as bits are written again, where only zeros stand after the bits. Idea: six bits and a digit
 -- determine each other, by division; then six by six.
 use Rattle.std.proofs.Common.{◌≡◌, ℕ, suc, zero, ◌+◌, ◌*◌, ◌/◌, ◌%◌, ◌<◌, ◌==◌, Bool, true, false, cond, List, [], ◌∷◌, ◌++◌, length, take, drop, refl, sym, ap, ap₂, ◌∙◌, arith, leb}
 use Rattle.std.proofs.lemmas.Bool.{and_parts, and_from, or_parts, or_from, leb-true, le-leb}
@@ -13,7 +13,7 @@ bit_lt : (b : Bool) → bit b < 2
 bit_lt true = omega arith
 bit_lt false = omega arith
 
--- a bit's weight, and a bit that a number below 2 stands for
+-- a bit's weight, and a bit that is told by a number below 2
 weight_is : (b : Bool) (w : ℕ) → cond b w 0 ≡ w * bit b
 weight_is true w = omega arith
 weight_is false w = omega arith
@@ -27,7 +27,7 @@ test_is zero w h = omega arith
 test_is (suc zero) w h = omega arith
 test_is (suc (suc x)) w h = absurd (omega arith)
 
--- the quotients of a digit by the weights give its bits
+-- the quotients of a digit by the weights tell its bits
 places : (n a b c d e f : ℕ) → a < 2 → b < 2 → c < 2 → d < 2 → e < 2 → f < 2 → n ≡ 32 * a + (16 * b + (8 * c + (4 * d + (2 * e + (1 * f + 0))))) →
     ((n / 32) % 2 ≡ a) × ((n / 16) % 2 ≡ b) × ((n / 8) % 2 ≡ c) × ((n / 4) % 2 ≡ d) × ((n / 2) % 2 ≡ e) × ((n / 1) % 2 ≡ f)
 places n a b c d e f ha hb hc hd he hf h = (omega arith, omega arith, omega arith, omega arith, omega arith, omega arith)
@@ -135,7 +135,7 @@ digits-bytes_of (a ∷ b ∷ c ∷ d ∷ []) = digit_first (a ∷ b ∷ c ∷ d 
 digits-bytes_of (a ∷ b ∷ c ∷ d ∷ e ∷ []) = digit_first (a ∷ b ∷ c ∷ d ∷ e ∷ []) [] refl
 digits-bytes_of (a ∷ b ∷ c ∷ d ∷ e ∷ f ∷ bits) = digit_first (a ∷ b ∷ c ∷ d ∷ e ∷ f ∷ []) (bytes_of bits) (digits-bytes_of bits)
 
--- if only zeros stand after the first k bits, these weigh as much as all
+-- where only zeros stand after the first k bits, these weigh as much as all
 weight_of-take : (ws : List ℕ) (bits : List Bool) (k : ℕ) → AreZeros (drop k bits) → weight_of ws (take k bits) ≡ weight_of ws bits
 weight_of-take [] bits k h = refl
 weight_of-take (w ∷ ws) [] zero h = refl
@@ -154,7 +154,7 @@ zeros-front : (xs ys : List Bool) → AreZeros (xs ++ ys) → AreZeros xs
 zeros-front [] ys h = refl
 zeros-front (x ∷ xs) ys h = let p = or_parts x (list_any (λ bit. bit) (xs ++ ys)) h in or_from x (list_any (λ bit. bit) xs) p.0 (zeros-front xs ys p.1)
 
--- one byte, of which the first k bits are asked for
+-- one byte, of which the first k bits are wanted
 first_byte : (byte k : ℕ) (bytes : List ℕ) → list_all is_digit (byte ∷ bytes) ≡ true → AreZeros (drop k (bits_of_digit (digit_of byte)) ++ bits_of bytes) →
     byte_of (digit_of_bits (take k (bits_of_digit (digit_of byte)))) ≡ byte
 first_byte byte k bytes is zeros =

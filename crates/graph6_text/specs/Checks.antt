@@ -11,7 +11,7 @@ Checks (Ok passed) rows = first_fault rows ≡ None
 Checks (Err (fault.At line kind)) rows = first_fault rows ≡ Some (line, kind)
 Checks (Err fault.Memory) rows = ⊥
 
--- the first fault of these rows, or lack of memory
+-- the first fault of these rows, or want of memory
 abbrev pub IsFirstFault : List (Bool × Fault) → TextFault → Type 0
 IsFirstFault rows (fault.At line kind) = first_fault rows ≡ Some (line, kind)
 IsFirstFault rows fault.Memory = Unit {0}

@@ -64,7 +64,7 @@ graph_of body = record { order = order_of body; ends = chosen (column_pairs (ord
 abbrev pub Fault : Type 0
 Fault = ℕ × FaultKind
 
--- the faults of a body in their order, each with the test that finds it
+-- the faults of a body in their order, each with the test that tells it
 abbrev pub faults_of : List ℕ → List (Bool × Fault)
 faults_of body =
     (length body == 0, (1, Missing)) ∷

@@ -21,7 +21,7 @@ use text_faults::{FaultKind, TextFault};
 /// may end with one line end; it holds one graph. The edges come column by column of the
 /// adjacency matrix. `At` comes exactly when the text stands for no graph, with line and kind of
 /// its first fault, in this order: nothing remains (Missing); a line feed remains (Extra, at line
-/// 2, while every other fault is at line 1); a byte is outside 63 to 126 (Range); a long size is
+/// 2, where every other fault is at line 1); a byte is outside 63 to 126 (Range); a long size is
 /// cut short (Missing) or is of 36 bits (Limit) or of at most 62 vertices (LongForm); more than
 /// `MOST_VERTICES` vertices (Limit); the data are too short (Missing) or too long (Extra); a
 /// filling bit is set (Padding); more than `MOST_EDGES` edges (Limit).
@@ -68,7 +68,7 @@ fn is_any_set(bits: &[bool]) -> bool
     bits.iter().any(|bit| *bit)
 }
 
-/// Adds the pair if its bit is set.
+/// Adds the pair where its bit is set.
 fn add_chosen(graph: &mut MultiGraph, pair: Ends, bit: bool) -> Result<(), TextFault>
     requires { size graph.old ≤ 2048 }
     ensures order { OnOk result (graph.new.order ≡ graph.old.order) }

@@ -14,7 +14,7 @@ use Rattle.graph_core.specs.Partitions.{AreBlocks, IsMerge, block, contracted, p
 use Rattle.graph_core.specs.Shores.{IsUnion, blocks_in}
 use Rattle.graph_core.specs.Tight.{Merges}
 
--- the block at the place of v holds v, if some block does
+-- the block at the place of v holds v, where some block does
 place_holds : (p : List (List ℕ)) (v i : ℕ) → Within (length p) i → mem (block p i) v ≡ true → Within (length p) (place p v) × (mem (block p (place p v)) v ≡ true)
 place_holds [] v i w h = absurd (omega arith)
 place_holds (b ∷ p) v i w h = go (place_holds p v (i - 1)) (mem b v) refl
@@ -57,7 +57,7 @@ mem_first (w ∷ vs) v h = ap (λ b. b || mem vs w) (eq-eqb w w refl)
 abbrev pub carried : List (List ℕ) → List (List ℕ) → ℕ → ℕ
 carried p q i = place q (first (block p i))
 
--- a block is in a union of blocks if one of its vertices is
+-- a block is in a union of blocks where one of its vertices is
 pub in_union : (n : ℕ) (p : List (List ℕ)) (x : Set) → AreBlocks n p → IsUnion n p x → (i v : ℕ) → Within (length p) i → mem (block p i) v ≡ true → blocks_in p x i ≡ x v
 in_union n p x is union i v wi h = go (x v) refl
   where

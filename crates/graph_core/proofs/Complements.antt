@@ -1,5 +1,5 @@
 -- The numbers of 1 to n outside a list, as a list: it rises, it has a number exactly when the
--- list has not, and if the list is a union of blocks so is it.
+-- list has not, and where the list is a union of blocks so is it.
 use Rattle.std.proofs.Common.{◌≡◌, ℕ, zero, suc, ◌∷◌, [], List, Bool, true, false, cond, not, refl, ap, ap₂, subst, sym, ◌∙◌, ◌++◌}
 use Rattle.counting.specs.Counts.{Within}
 use Rattle.counting.specs.Sets.{complement}

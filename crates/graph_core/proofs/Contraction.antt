@@ -19,7 +19,7 @@ use Rattle.graph_core.specs.Matchings.{Allowed, IsPerfect}
 use Rattle.graph_core.specs.Tight.{CutIsTight, IsTight, Merges}
 use Rattle.graph_core.specs.Walks.{Joined, Walk, adjacent}
 
--- a cut that each perfect matching meets once is tight, if there is one
+-- a cut that each perfect matching meets once is tight, where there is one
 pub tight_from_cut : (g : Graph) (x m : Set) → IsGraph g → IsPerfect g none m → CutIsTight g x → IsTight g x
 tight_from_cut g x m is p h = record {
   odd = once x (h m p);
@@ -209,7 +209,7 @@ module _ (g : Graph) (is : IsGraph g) (x : Set) (h : Graph) (f : ℕ → ℕ) (c
           bits : (a b i : Bool) → (a && i) ≡ false → (cond i b a && not i) ≡ a
           bits a b i q = grind arith
 
-      -- if an edge crosses, k and the other matching agree
+      -- where an edge crosses, k and the other matching agree
       agree : (e : ℕ) → Within (size g) e → in_cut g x e ≡ true → k e ≡ other.0 e
       agree e w t = go (k e) (other.0 e) refl refl
         where

@@ -118,14 +118,14 @@ missed_or_met g r v w =
 perfect_respects : (g : Graph) (r : Set) → Respects (size g) (is_perfect g r)
 perfect_respects g r = record { same = λ m k h. is_perfect_congr g r m k h }
 
--- some perfect matching is there if the test finds one
+-- some perfect matching is there where the test finds one
 pub has_perfect_says : (g : Graph) (r : Set) → has_perfect g r ≡ true → HasPerfect g r
 has_perfect_says g r h = let q = some_set_found (size g) (is_perfect g r) h in (q.0, is_perfect_true g r q.0 q.1)
 
 pub has_perfect_found : (g : Graph) (r : Set) → HasPerfect g r → has_perfect g r ≡ true
 has_perfect_found g r h = set_found (size g) (is_perfect g r) (perfect_respects g r) h.0 (true_is_perfect g r h.0 h.1)
 
--- an edge is allowed if the test says so
+-- an edge is allowed where the test says so
 pub is_allowed_says : (g : Graph) (e : ℕ) → is_allowed g e ≡ true → Allowed g e
 is_allowed_says g e h =
     let q = some_set_found (size g) (λ m. is_perfect g none m && m e) h in
@@ -135,7 +135,7 @@ is_allowed_says g e h =
 pub is_allowed_found : (g : Graph) (e : ℕ) → Within (size g) e → Allowed g e → is_allowed g e ≡ true
 is_allowed_found g e w a = set_found (size g) (λ m. is_perfect g none m && m e) (record { same = λ m k h. ap₂ ◌&&◌ (is_perfect_congr g none m k h) (h e w) }) a.0 (and_from (is_perfect g none a.0) (a.0 e) (true_is_perfect g none a.0 a.1) a.2)
 
--- two vertices are equivalent if the test says so
+-- two vertices are equivalent where the test says so
 pub is_equivalent_says : (g : Graph) (a b : ℕ) → is_equivalent g a b ≡ true → Equivalent g a b
 is_equivalent_says g a b h = elim (or_cases (a == b) (not (has_perfect g (pair_set a b))) h) [
   | inl e ↦ inl (eqb-true a b e)
@@ -155,11 +155,11 @@ is_equivalent_found g a b (inr h) = elim (cases_Bool (has_perfect g (pair_set a 
     back : (x y : Bool) → y ≡ false → (x || not y) ≡ true
     back x y h = grind arith
 
--- the test for one edge in the cut of x, if m is a perfect matching
+-- the test for one edge in the cut of x, where m is a perfect matching
 cut_respects : (g : Graph) (x : Set) → Respects (size g) (λ m. not (is_perfect g none m) || (count (size g) (λ e. m e && in_cut g x e) == 1))
 cut_respects g x = record { same = λ m k h. ap₂ ◌||◌ (ap not (is_perfect_congr g none m k h)) (ap (λ d. d == 1) (count_congr (size g) _ _ (λ e w. ap (λ b. b && in_cut g x e) (h e w)))) }
 
--- a shore is tight if the test says so
+-- a shore is tight where the test says so
 pub is_tight_says : (g : Graph) (x : Set) → is_tight g x ≡ true → IsTight g x
 is_tight_says g x h =
     let b = and_parts (is_odd (count g.order x) && is_odd (count g.order (complement x))) _ h in

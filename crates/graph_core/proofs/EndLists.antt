@@ -1,4 +1,4 @@
--- An edge joins two vertices if an item of the list of ends has them. Idea: edge e is item e -
+-- An edge joins two vertices where an item of the list of ends has them. Idea: edge e is item e -
 -- 1, so that "some of the first k edges" is "some of the first k items", by induction on k.
 use Rattle.std.proofs.Common.{◌≡◌, ℕ, suc, zero, ◌+◌, ◌-◌, ◌≤◌, Bool, ◌==◌, ◌&&◌, ◌||◌, List, length, take, take_all, get_or, refl, sym, ap, ap₂, ◌∙◌, arith, le_refl}
 use Rattle.std.specs.List.{list_any}
@@ -20,7 +20,7 @@ some_take p xs d (suc k) h =
     ap₂ ◌||◌ (some_take p xs d k (omega arith)) (ap (λ (i : ℕ). p (get_or xs i d)) back)
     ∙ sym (list_any_more p xs k d (omega arith)) ∙ ap (λ (j : ℕ). list_any p (take j xs)) (sym one)
 
--- some place, counted from 1, passes if some item does
+-- some place, counted from 1, passes where some item does
 pub some_items : {X : Type 0} (p : X → Bool) (xs : List X) (d : X) → some (length xs) (λ e. p (get_or xs (e - 1) d)) ≡ list_any p xs
 some_items p xs d = some_take p xs d (length xs) (le_refl (length xs)) ∙ ap (list_any p) (take_all (length xs) xs (le_refl (length xs)))
 

@@ -1,4 +1,4 @@
--- A graph with one edge more: its ends, that it keeps the limits of size if there is room, and
+-- A graph with one edge more: its ends, that it keeps the limits of size where there is room, and
 -- that its rows are the old rows with each end of the new edge in the row of the other. Idea: the
 -- new edge is the last item of the list of ends, and "some edge joins v and w" is "some item
 -- does".
@@ -29,7 +29,7 @@ each_end P g a b new old e w = elim (cases_eq (e - 1) (size g)) [
       subst₂ P (sym (ap (λ (p : ℕ × ℕ). p.0) p)) (sym (ap (λ (p : ℕ × ℕ). p.1) p)) (old e (omega arith))
 ]
 
--- the larger graph keeps the limits if there is room for one more edge
+-- the larger graph keeps the limits where there is room for one more edge
 pub limits-with_edge : (g : Graph) (a b : ℕ) → IsWithinLimits g → Within g.order a → Within g.order b → a ≢ b → size g < 2048 → IsWithinLimits (with_edge g a b)
 limits-with_edge g a b limits first second differ room = record {
   vertices = limits.vertices;

@@ -48,7 +48,7 @@ module _ (g : Graph) (is : IsGraph g) (m : Set) where
   parity x perfect = total_congr g.order _ _ (λ v w. omega (arith, ap (λ k. bit (x v) * k) (perfect.once v w refl))) ∙ degrees x
 
 -- two cuts: each edge is in the cuts of x and y as often as in those of the meet and the union,
--- and twice if it joins the differences
+-- and twice where it joins the differences
 bits_of_cuts : (k a b c d : Bool) →
     bit (k && ((a && not b) || (not a && b))) + bit (k && ((c && not d) || (not c && d)))
     ≡ bit (k && (((a && c) && not (b && d)) || (not (a && c) && (b && d)))) + bit (k && (((a || c) && not (b || d)) || (not (a || c) && (b || d))))

@@ -1,5 +1,5 @@
--- A matching is perfect exactly when it misses no vertex outside the removed ones.
--- A count is 0 exactly when no number passes the test.
+-- A matching is perfect exactly if it misses no vertex outside the removed ones.
+-- A count is 0 exactly if no number passes the test.
 use Rattle.std.proofs.Common.{◌≡◌, ℕ, zero, suc, ◌≤◌, Bool, true, false, ◌==◌, refl, ap, arith, ◌&&◌, not, ne_eqb}
 use Rattle.counting.proofs.Totals.{total_none, at_le_total}
 use Rattle.counting.specs.Counts.{Within, bit}

@@ -1,4 +1,4 @@
--- What a row of the adjacency matrix, met with the set of the vertices that are left, says of
+-- What a row of the adjacency matrix, met with the set of the vertices that are left, tells of
 -- the neighbours that are left.
 use Rattle.std.proofs.Common.{◌≡◌, ℕ, ◌-◌, true, false, ◌&&◌, sym, ap, ◌∙◌, arith, List, [], length, get_or}
 use Rattle.std.proofs.lemmas.Bool.{and_parts, both_ways, false_from_ne_true, and_from}

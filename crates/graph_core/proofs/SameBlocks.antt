@@ -53,7 +53,7 @@ block_rises n p c is h =
       within = λ k d l. is.partition.within r.0 (slice_index_or c k d) r.1 (ap (λ z. mem z (slice_index_or c k d)) r.2 ∙ mem-item c k d l);
     }
 
--- two vertices share a block of p if they share one of q
+-- two vertices share a block of p where they share one of q
 abbrev pub Finer : ℕ → (p q : List (List ℕ)) → Type 0
 Finer n p q = (u v : ℕ) → Within n u → Within n v → place p u ≡ place p v → place q u ≡ place q v
 

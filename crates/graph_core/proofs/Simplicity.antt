@@ -8,7 +8,7 @@ use Rattle.graph_core.specs.Simple.{IsSimple}
 use Rattle.graph_core.proofs.Walks.{has_ends-cases}
 use Rattle.graph_core.proofs.Adjacency.{has_ends-from}
 
--- A graph is simple if no edge has the ends of an earlier one. Idea: of two edges with the
+-- A graph is simple where no edge has the ends of an earlier one. Idea: of two edges with the
 -- same ends one is earlier, and "has the ends of" holds both ways.
 
 -- edge f has the ends of edge e

@@ -1,5 +1,5 @@
 -- A matching by degrees is a set of edges of which no two share an end. Two edges at a vertex
--- would make its degree two; if no two are there, a sum of ends is at most one.
+-- would make its degree two; where no two are there, a sum of ends is at most one.
 use Rattle.std.proofs.Common.{◌≡◌, ℕ, suc, zero, ◌+◌, ◌*◌, ◌≤◌, ◌≢◌, Bool, true, false, ◌==◌, refl, sym, ap, ◌∙◌, arith, inl, inr, eq-eqb, ne_eqb}
 use Rattle.std.proofs.lemmas.Bool.{cases_eq, true≢false}
 use Rattle.counting.proofs.Totals.{total_none}
@@ -34,7 +34,7 @@ ends_one g e v d = let a = ends_of_is g e (first_end g e) (second_end g e) (inl 
       | inr p ↦ let a = ap bit (ne_eqb x v p) in let b = bit_le_one (y == v) in omega arith
     ]
 
--- and if no edge is a loop, such a set is a matching
+-- and where no edge is a loop, such a set is a matching
 pub apart_matching : (g : Graph) (m : Set) → IsGraph g → HasNoLoop g → ShareNoEnd g m → IsMatching g none m
 apart_matching g m is no_loop h = record { once = once; away = λ v w o. absurd (true≢false (sym o)) }
   where

@@ -1,6 +1,6 @@
--- A search tree hangs its vertices on those that were found before, so the path up from a vertex is
--- a walk to a root, as long as the vertex is deep. Two paths up from the ends of an edge, closed by
--- the edge, are an odd walk if the depths are alike.
+-- A search tree hangs its vertices on those that were found before, so the way up from a vertex
+-- is a walk to a root, as long as the vertex is deep. Two ways up from the ends of an edge,
+-- closed by the edge, are an odd walk where the depths are alike.
 use Rattle.std.proofs.Common.{◌≡◌, ℕ, suc, zero, ◌+◌, ◌<◌, Bool, true, false, refl, ap, ◌∙◌, arith, ◌&&◌, not, inl, inr, List, [], ◌∷◌, ◌++◌, length, nat_lt, lt-ltb}
 use Rattle.std.proofs.lemmas.Bool.{and_from, and_parts, both_ways, cases_order}
 use Rattle.std.proofs.lemmas.List.{length-append}
@@ -58,7 +58,7 @@ module _ (g : Graph) (s roots : Set) (parent depth : ℕ → ℕ) (is : IsGraph 
     )
   ]
 
-  -- the path up leads to a root
+  -- the way up leads to a root
   pub above_root : (k v : ℕ) → StandsAt g s roots parent depth k v → (roots (above parent k v) ≡ true) × StandsAt g s roots parent depth zero (above parent k v)
   above_root zero v at = (root_at v at, at)
   above_root (suc k) v at = above_root k (parent v) (hangs_at k v at).1
@@ -101,7 +101,7 @@ least_same g s is u v wu wv a b j = elim (cases_order u v) [
         let q = true_some g.order (λ v. joined g s u v && nat_lt v u) v wv (and_from (joined g s u v) (nat_lt v u) (walk_joined g s is u v wu j) (lt-ltb v u l)) in
         both_ways (not (some g.order (λ v. joined g s u v && nat_lt v u))) (ap not q) p.1
 
--- the paths of a vertex and of its parent
+-- the ways of a vertex and of its parent
 pub way_up-step : (parent depth : ℕ → ℕ) (v : ℕ) → depth v ≡ depth (parent v) + 1 → way_up parent (depth v) v ≡ parent v ∷ way_up parent (depth (parent v)) (parent v)
 way_up-step parent depth v h = let e : depth v ≡ suc (depth (parent v)) = omega arith in ap (λ k. way_up parent k v) e
 

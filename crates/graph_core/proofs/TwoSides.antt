@@ -1,4 +1,4 @@
--- Along a walk the side changes with each step, so the length of a walk shows whether its ends
+-- Along a walk the side changes with each step, so the length of a walk tells whether its ends
 -- are on the same side: hence no closed walk is odd, and the left side is fixed by the least
 -- vertices. In a search tree the sides are the parities of depths.
 use Rattle.std.proofs.Common.{◌≡◌, ℕ, suc, ◌+◌, ◌<◌, Bool, true, false, cond, refl, sym, ap, ap₂, ◌∙◌, arith, ◌&&◌, ◌||◌, not, inl, inr, List, [], ◌∷◌, ◌++◌, subst, length, append_assoc}
@@ -136,7 +136,7 @@ module _ (g : Graph) (parent depth : ℕ → ℕ) (is : IsGraph g) (forest : IsF
       twice false true e = absurd (both_ways false refl e)
       twice false false e = refl
 
-  -- if the ends of each edge are at depths of different parity, the even depths are the left
+  -- where the ends of each edge are at depths of different parity, the even depths are the left
   -- side
   pub even_side : ((e : ℕ) → Within (size g) e → is_odd (depth (first_end g e)) ≡ not (is_odd (depth (second_end g e)))) → IsLeftSide g (rising_list g.order (λ v. not (is_odd (depth v))))
   even_side differ = record {

@@ -24,11 +24,11 @@ pair-graph_of n es i d h =
     let p : get_or (map pair_of es) (suc i - 1) (0, 0) ≡ pair_of (get_or es i d) = rw s (get_or-map pair_of es i d (0, 0) h) in
     (ap (λ (p : ℕ × ℕ). p.0) p, ap (λ (p : ℕ × ℕ). p.1) p)
 
--- edge i + 1 has the ends u and v if item i has
+-- edge i + 1 has the ends u and v where item i has
 pub has_ends-graph_of : (n : ℕ) (es : List Ends) (u v i : ℕ) (d : Ends) → i < length es → has_ends (graph_of n es) u v (suc i) ≡ are_ends u v (get_or es i d)
 has_ends-graph_of n es u v i d h = let p = pair-graph_of n es i d h in rw (p.0, p.1) refl
 
--- some of the first k edges has the ends u and v if some of the first k items has
+-- some of the first k edges has the ends u and v where some of the first k items has
 pub some-take : (n : ℕ) (es : List Ends) (u v k : ℕ) → k ≤ length es → some k (has_ends (graph_of n es) u v) ≡ list_any (are_ends u v) (take k es)
 some-take n es u v zero h = refl
 some-take n es u v (suc k) h =
@@ -36,7 +36,7 @@ some-take n es u v (suc k) h =
     let e : suc k ≡ k + 1 = omega arith in
     ap₂ ◌||◌ (some-take n es u v k (omega arith)) (has_ends-graph_of n es u v k d (omega arith)) ∙ sym (list_any_more (are_ends u v) es k d (omega arith)) ∙ ap (λ j. list_any (are_ends u v) (take j es)) (sym e)
 
--- some edge has the ends u and v if some item has
+-- some edge has the ends u and v where some item has
 pub some-graph_of : (n : ℕ) (es : List Ends) (u v : ℕ) → some (size (graph_of n es)) (has_ends (graph_of n es) u v) ≡ list_any (are_ends u v) es
 some-graph_of n es u v =
     ap (λ k. some k (has_ends (graph_of n es) u v)) (size-graph_of n es) ∙ some-take n es u v (length es) (le_refl (length es)) ∙ ap (list_any (are_ends u v)) (take_all (length es) es (le_refl (length es)))

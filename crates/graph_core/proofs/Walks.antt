@@ -157,7 +157,7 @@ joined_or_not g s is u v w = elim (walk_or_not g.order (adjacent g s) (adjacent_
   | inr n ↦ inr (λ j. n j.0 j.1)
 ]
 
--- two vertices are not joined if a set separates them that no edge leaves
+-- two vertices are not joined where a set parts them that no edge leaves
 pub parted : (g : Graph) (u v : ℕ) → IsGraph g → Within g.order u → Within g.order v → (Joined g none u v → ⊥) ↔ ((x : Set) × (x u ≡ true) × (x v ≡ false) × ((e : ℕ) → Within (size g) e → in_cut g x e ≡ false))
 unfolding Joined IsClosed
 parted g u v is wu wv = (there, back)

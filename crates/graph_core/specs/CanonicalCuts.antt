@@ -13,7 +13,7 @@ is_listed cuts s = list_any (λ c. is_subset s c && is_subset c s) cuts
 abbrev pub canonical_list : ℕ → List ℕ → List ℕ
 canonical_list n s = rising_list n (canonical_shore n (mem s))
 
--- the list with the cut of s, which is left out if a side has fewer than three vertices or the
+-- the list with the cut of s, which is left out where a side has fewer than three vertices or the
 -- cut is in the list
 abbrev pub with_cut : ℕ → List (List ℕ) → List ℕ → List (List ℕ)
 with_cut n cuts s = if is_nontrivial n (canonical_shore n (mem s)) && not (is_listed cuts (canonical_list n s)) then cuts ++ canonical_list n s ∷ [] else cuts

@@ -44,11 +44,11 @@ HasPerfect g r = (m : Set) × IsPerfect g r m
 abbrev pub Allowed : Graph → ℕ → Type 0
 Allowed g e = (m : Set) × IsPerfect g none m × (m e ≡ true)
 
--- some perfect matching contains both e and f; if e = f it contains e
+-- some perfect matching contains both e and f; where e = f it contains e
 abbrev pub Together : Graph → ℕ → ℕ → Type 0
 Together g e f = (m : Set) × IsPerfect g none m × (m e ≡ true) × (m f ≡ true)
 
--- at most one edge of m is at v, and none if v is in r
+-- at most one edge of m is at v, and none where v is in r
 abbrev pub fits_at : Graph → Set → Set → Set
 fits_at g r m v = nat_le (degree g m v) (cond (r v) 0 1)
 
@@ -56,7 +56,7 @@ fits_at g r m v = nat_le (degree g m v) (cond (r v) 0 1)
 abbrev pub is_matching : Graph → Set → Set → Bool
 is_matching g r m = every g.order (fits_at g r m)
 
--- one edge of m is at v, and none if v is in r
+-- one edge of m is at v, and none where v is in r
 abbrev pub right_degree : Graph → Set → Set → Set
 right_degree g r m v = degree g m v == cond (r v) 0 1
 

@@ -15,12 +15,12 @@ pub record Hangs (g : Graph) (s : Set) (parent depth : ℕ → ℕ) (v : ℕ) : 
 pub record IsForest (g : Graph) (s roots : Set) (parent depth : ℕ → ℕ) : Type 0 where
   pub stands : (v : ℕ) → Within g.order v → s v ≡ false → ((roots v ≡ true) × (depth v ≡ 0)) ⊎ Hangs g s parent depth v
 
--- the vertices on the path up from v, k steps, without v
+-- the vertices on the way up from v, k steps, without v
 abbrev pub way_up : (ℕ → ℕ) → ℕ → ℕ → List ℕ
 way_up parent zero v = []
 way_up parent (suc k) v = parent v ∷ way_up parent k (parent v)
 
--- the vertices on the path down to v, k steps, without the first
+-- the vertices on the way down to v, k steps, without the first
 abbrev pub way_down : (ℕ → ℕ) → ℕ → ℕ → List ℕ
 way_down parent zero v = []
 way_down parent (suc k) v = way_down parent k (parent v) ++ v ∷ []

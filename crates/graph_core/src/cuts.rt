@@ -58,7 +58,7 @@ fn holds(cuts: &[VSet], shore: VSet) -> bool
 }
 
 /// Appends the cut of `shore` by its canonical shore, the one without the greatest vertex `n`. It
-/// is left out if a side has fewer than three vertices or the cut is in the list. After
+/// is left out where a side has fewer than three vertices or the cut is in the list. After
 /// `Memory` the list is unchanged.
 pub fn add_cut(cuts: &mut SetList, n: u32, shore: VSet) -> Result<(), Memory>
     requires { Within MOST_VERTICES n }

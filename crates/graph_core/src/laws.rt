@@ -52,7 +52,7 @@ pub fn weak_duality_law()
         odd_component_count g (union r s) ≤ missed_count g r m + count g.order s }
 {}
 
-/// Uncrossing: if X and Y are tight shores at a partition whose quotient is covered, and an
+/// Uncrossing: where X and Y are tight shores at a partition whose quotient is covered, and an
 /// odd number of blocks is in both, then the intersection and the union are tight, and no edge
 /// joins the two differences.
 pub fn uncrossing_law()
@@ -115,7 +115,7 @@ pub fn cut_at_law()
         edges_in_cut (contracted g p) m (blocks_in p x) ≡ edges_in_cut g m x }
 {}
 
-/// Contraction: if a tight shore X of a partition with a covered quotient is merged, the
+/// Contraction: where a tight shore X of a partition with a covered quotient is merged, the
 /// quotient stays covered, a shore that is tight then was tight before, and a shore that was
 /// tight and is a union of the new blocks is tight then.
 pub fn contraction_law()

@@ -10,7 +10,7 @@
 //! The definitions, in specs/: matchings and perfect matchings of a graph without a vertex set
 //! (`Matchings`), walks and components (`Walks`, `Components`), Berge sets and the Gallai-Edmonds
 //! sets (`BergeSets`, `GallaiEdmonds`), matching covered graphs and the first reason why a graph
-//! is not one (`Covered`), the canonical partition, barriers and pairs (`Structure`), tight cuts
+//! is none (`Covered`), the canonical partition, barriers and pairs (`Structure`), tight cuts
 //! (`Tight`), and partitions into blocks with their quotients and shores (`Partitions`,
 //! `Quotients`, `Shores`).
 //!
@@ -18,7 +18,7 @@
 //! cut, and uncrossing of two. In other words for a reader the definitions stand in
 //! `definition_laws`.
 //!
-//! Stands on `counting`, `listed` and `vset_core`, and hands on `FaultKind` and `TextFault` of
+//! Stands on `counting`, `listed` and `vset_core`, and gives on `FaultKind` and `TextFault` of
 //! `text_faults`. Sources: Lovász and Plummer, "Matching Theory"; Lovász, "Matching structure and
 //! the matching lattice" (1987); Lucchesi and Murty, "Perfect Matchings".
 #![tactic(auto)]

@@ -1,4 +1,4 @@
-//! Search trees: for each vertex its parent and its depth, and the paths up and down.
+//! Search trees: for each vertex its parent and its depth, and the ways up and down.
 ghost use Rattle.std.specs.Prelude.{◌≡◌, ◌≤◌, ◌<◌, ◌++◌, ◌∷◌, not, OnOk, IfOk, length};
 ghost use Rattle.counting.specs.Counts.{Within, is_odd};
 ghost use Rattle.counting.specs.Lists.{rising_list};
@@ -26,7 +26,7 @@ impl TreeNode {
     }
 }
 
-/// Appends the vertices on the path up from `from` to the root, without `from`.
+/// Appends the vertices on the way up from `from` to the root, without `from`.
 pub(crate) fn climb(nodes: &[TreeNode], from: u32, walk: &mut Numbers) -> Result<(), Memory>
     requires rooted { IsRooted nodes.now }
     requires within { Within (length nodes.now) from }
@@ -41,7 +41,7 @@ pub(crate) fn climb(nodes: &[TreeNode], from: u32, walk: &mut Numbers) -> Result
     Ok(())
 }
 
-/// Appends the vertices on the path down from the root to `to`, without the root.
+/// Appends the vertices on the way down from the root to `to`, without the root.
 pub(crate) fn descend(nodes: &[TreeNode], to: u32, walk: &mut Numbers) -> Result<(), Memory>
     requires rooted { IsRooted nodes.now }
     requires within { Within (length nodes.now) to }

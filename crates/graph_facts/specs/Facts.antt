@@ -25,8 +25,8 @@ pub record IsFrame (g : Graph) (f : FrameSets) : Type 0 where
   pub missed : (v : ℕ) → Within g.order v → (mem f.outer v ≡ true) ↔ InD g v
   pub next : (v : ℕ) → Within g.order v → (mem f.inner v ≡ true) ↔ InA g v
 
--- the components of g, one side if g is bipartite, its frame, and its partners, known if and only
--- if g has a perfect matching
+-- the components of g, one side where g is bipartite, its frame, and its partners, known exactly
+-- where g has a perfect matching
 pub record AreFacts (g : Graph) (parts : List (List ℕ)) (side : Option (List ℕ)) (frame : FrameSets) (table : Option (List (List ℕ))) : Type 0 where
   pub parts_are : parts ≡ components g none
   pub side_is : (s : List ℕ) → side ≡ Some s → IsSide g (mem s)

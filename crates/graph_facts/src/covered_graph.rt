@@ -63,7 +63,7 @@ impl<'g> Covered<'g> {
         Ok(Covered { facts })
     }
 
-    /// A graph of which the facts are at hand, if it is known to be covered. Takes no memory.
+    /// A graph of which the facts are at hand, where it is known to be covered. Takes no memory.
     pub fn from_facts(facts: Facts<'g>) -> Covered<'g>
         requires { IsCovered facts }
         ensures { result ≡ facts.entry }

@@ -19,7 +19,7 @@ use std::marker::Model;
 use vset_core::VSet;
 
 /// A graph with its components, its side, a maximum matching with the Gallai-Edmonds sets, and
-/// its table of partners if the matching is perfect. Contracts see the graph.
+/// its table of partners where the matching is perfect. Contracts see the graph.
 #[derive(Drop)]
 pub struct Facts<'g> {
     graph: &'g MultiGraph,
@@ -126,7 +126,7 @@ impl<'g> Facts<'g> {
         &self.table
     }
 
-    /// Whether the graph is matching covered, and the first reason if it is not. Takes no
+    /// Whether the graph is matching covered, and the first reason where it is not. Takes no
     /// memory.
     pub fn verdict(&self) -> Verdict
         ensures { IsVerdict self.now result }

@@ -1,7 +1,7 @@
 //! What is known of a graph, made once.
 //!
-//! `Facts` is a graph with its components, one side if it is bipartite, a maximum matching with
-//! the Gallai-Edmonds sets D and A, and the table of partners if the matching is perfect
+//! `Facts` is a graph with its components, one side where it is bipartite, a maximum matching with
+//! the Gallai-Edmonds sets D and A, and the table of partners where the matching is perfect
 //! (`AreFacts`). All is made by `Facts::of` with one search each, and read from then on: the
 //! verdict, the allowed edges and the numbers of a report take no further search.
 //!

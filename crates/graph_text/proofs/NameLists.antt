@@ -43,7 +43,7 @@ module _ {X Y : Type 0} (test : Y → Bool) (view : X → Y) where
   list_any-map [] = refl
   list_any-map (x ∷ xs) = ap (λ b. test (view x) || b) (list_any-map xs)
 
--- if the item at each place is another word, the word is not among them
+-- where the item at each place is another word, the word is not among them
 pub among-none : (names : List (List ℕ)) (word : List ℕ) → ((i : ℕ) → i < length names → get_or names i [] ≢ word) → is_among names word ≡ false
 among-none [] word others = refl
 among-none (name ∷ names) word others = elim (cases_Bool (bytes_eq word name)) [

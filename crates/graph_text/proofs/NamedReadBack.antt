@@ -73,7 +73,7 @@ different-names names a b are first second other = elim (cases_Bool (bytes_eq (g
   | inr is ↦ is
 ]
 
--- the line of an edge, if one is expected
+-- the line of an edge, where one is wanted
 edge-taken : (order edges : ℕ) (names : List (List ℕ)) (a b : ℕ) (done : List (ℕ × ℕ)) → length names ≡ order → AreNames names → length done < edges → IsEdgeIn order (a, b) → either_version.line (either order edges names done) (named_edge_words names (a, b)) ≡ Ok (either order edges names (done ++ (a, b) ∷ []))
 unfolding has_form
 edge-taken order edges names a b done all are wanted is =

@@ -26,7 +26,7 @@ unfolding has_form
 header-taken order edges few_vertices few_edges =
     rw (number_of-decimal order (omega arith), number_of-decimal edges (omega arith)) (grind (arith, nat_tests))
 
--- the line of an edge, if one is expected
+-- the line of an edge, where one is wanted
 edge-taken : (order edges a b : ℕ) (done : List (ℕ × ℕ)) → length done < edges → order ≤ 128 → IsEdgeIn order (a, b) → version_one.line (body order edges done) (edge_words (a, b)) ≡ Ok (body order edges (done ++ (a, b) ∷ []))
 unfolding has_form
 edge-taken order edges a b done wanted few is =

@@ -1,6 +1,6 @@
--- Version 1 within both versions. If the header is not one of version 2, the two formats say
+-- Version 1 within both versions. Where the header is not one of version 2, the two formats say
 -- the same to each line, so by induction over the lines the same comes of the text. A header of
--- version 2 is not one of version 1; after it names are kept, so that no graph without names comes
+-- version 2 is none of version 1; after it names are kept, so that no graph without names comes
 -- of the text.
 use Rattle.std.proofs.Common.{◌≡◌, ◌↔◌, ℕ, ◌+◌, ◌==◌, ◌&&◌, ◌||◌, not, nat_lt, Bool, true, false, cond, codes, List, [], ◌∷◌, ◌++◌, length, Option, Some, None, is_some, Result, Ok, Err, IfOk, inl, inr, refl, sym, ◌∙◌, ap, ap₂, subst}
 use Rattle.std.specs.Result.{result_map_both}
@@ -68,7 +68,7 @@ reading-unnamed (line ∷ lines) count is =
     ap (λ (stepped : Result EitherSoFar FaultKind). go_on line.number stepped (λ body. reading_from either_version (Some body) lines count)) (header-unnamed line.words is)
     ∙ seen-step line.number lines count (header line.words) (λ body. reading-nameless body lines count)
 
--- a header of version 2 is not one of version 1
+-- a header of version 2 is none of version 1
 second-word : (word : List ℕ) → bytes_eq word (codes "mcg2") ≡ true → bytes_eq word (codes "mcg") ≡ false
 second-word word is = ap (λ w. bytes_eq w (codes "mcg")) ((bytes_eq-Decides word (codes "mcg2")).0 is)
 

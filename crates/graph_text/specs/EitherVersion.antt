@@ -1,4 +1,4 @@
--- Both versions of the graph format. The second word of the header says which one it is: version
+-- Both versions of the graph format. The second word of the header tells which one it is: version
 -- 2 has a header `p mcg2 N M`, N lines `v NAME` and M lines `e X Y` between names.
 use Rattle.std.specs.Prelude.{ℕ, ◌==◌, ◌&&◌, ◌||◌, not, nat_lt, Bool, false, List, [], ◌∷◌, ◌++◌, codes, length, Option, Some, None, Result, Ok, Err, if◌then◌else◌}
 use Rattle.std.specs.Str.{bytes_eq}
@@ -22,7 +22,7 @@ pub record EitherSoFar : Type 0 where
 abbrev pub named_so_far : GraphSoFar → List (List ℕ) → EitherSoFar
 named_so_far body names = record { so_far = body; names = Some names }
 
--- a graph, and the names of its vertices if it has names
+-- a graph, and the names of its vertices where it has names
 pub record NamedGraph : Type 0 where
   pub graph : Graph
   pub names : Option (List (List ℕ))

@@ -26,7 +26,7 @@ edge_line body words =
     ∷ [])
     (record body { graph = with_edge body.graph a b })
 
--- a significant line after the header is an edge, or too much if all edges have been read
+-- a significant line after the header is an edge, or too much where all edges have been read
 abbrev pub graph_line : GraphSoFar → List (List ℕ) → Result GraphSoFar FaultKind
 graph_line body words = if size body.graph == body.edges then Err kind.Extra else edge_line body words
 

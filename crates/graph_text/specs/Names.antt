@@ -17,7 +17,7 @@ is_name word = nat_le 1 (length word) && (nat_le (length word) 16 && list_all is
 abbrev pub is_among : List (List ℕ) → List ℕ → Bool
 is_among names word = list_any (bytes_eq word) names
 
--- the number of the vertex with this name, if the k-th name is that of vertex k
+-- the number of the vertex with this name, where the k-th name is that of vertex k
 abbrev pub vertex_of : List (List ℕ) → List ℕ → ℕ
 vertex_of names word = position_or_len (bytes_eq word) names + 1
 

@@ -13,6 +13,6 @@ so_far body = record { graph = body.graph; edges = body.edges }
 abbrev pub either_so_far : EitherBody → EitherSoFar
 either_so_far either = record { so_far = so_far either.body; names = either.names }
 
--- the graph, and the names of its vertices if it has names
+-- the graph, and the names of its vertices where it has names
 abbrev pub named_graph : Named → NamedGraph
 named_graph named = record { graph = named.graph; names = named.names }

@@ -197,7 +197,7 @@ impl LineFormat for EitherVersion {
 
 /// Reads a graph in either version of the format: the graph that the bytes stand for, with the
 /// names of its vertices in version 2 and none in version 1, or the first line outside the format
-/// with the kind of its fault. Lack of memory may come at any time.
+/// with the kind of its fault. Want of memory may come at any time.
 pub fn read_any(alloc: Global, bytes: &[u8]) -> Result<Named, TextFault>
     requires { length bytes.now < 2 ^ 32 - 1 }
     ensures value { IfOk result (λ named. Stands either_version bytes.now (named_graph named)) }

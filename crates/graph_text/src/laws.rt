@@ -34,7 +34,7 @@ pub fn written_names_stand()
 
 /// The two readers agree on version 1. A text stands for a graph without names exactly when it
 /// stands for it in version 1; a text that is not judged by version 2 has the same first fault in
-/// both formats; and if the first significant line is a header of version 2, that line is the
+/// both formats; and where the first significant line is a header of version 2, that line is the
 /// first fault in version 1, of the kind Header.
 pub fn versions_law()
     ensures reads { (text : List ℕ) (g : Graph)

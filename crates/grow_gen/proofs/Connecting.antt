@@ -1,5 +1,5 @@
 -- A splice of two covered cubic graphs is connected. Idea: let no edge leave a set S of its
--- vertices. By parity each of the joined edges is inside S if S has an odd number of old
+-- vertices. By parity each of the joined edges is inside S where S has an odd number of old
 -- vertices, and else each is outside; so S, with the vertex that was given up put on that side,
 -- is all or nothing in both graphs.
 use Rattle.std.proofs.Common.{◌≡◌, ℕ, suc, ◌+◌, ◌≤◌, ◌≢◌, Bool, true, false, cond, ◌==◌, ◌&&◌, ◌||◌, not, inl, inr, List, [], ◌∷◌, length, map, filter, refl, sym, ap, ap₂, ◌∙◌, arith, subst, eq-eqb, ne_eqb}
@@ -89,7 +89,7 @@ crosses-none b x e h = ap (λ p. bit (b && ((p && not (x e.1)) || (not p && x e.
     clear true false = refl
     clear false s = refl
 
--- if no edge of the splice leaves x, the edges of g that leave x without w are those at w with
+-- where no edge of the splice leaves x, the edges of g that leave x without w are those at w with
 -- their new end in x
 pub sum_edges-crossing : (n w : ℕ) (x : Set) (ts : List ℕ) (bs : List Bool) (es : List (ℕ × ℕ)) → Each (IsEdge n) es → Each (Stays x) (rehung_edges w ts es) → length bs ≡ length es → length (flags_at w bs es) ≤ length ts →
     sum_edges (λ b e. bit (b && crosses (without w x) e)) bs es ≡ caught x (flags_at w bs es) ts

@@ -1,4 +1,4 @@
--- What changes when the edges at w get other ends in the place of w: nothing at the other
+-- What changes where the edges at w get other ends in the place of w: nothing at the other
 -- vertices, and a new end meets the edges that were given it. Idea: along the list of edges, with
 -- the marks of the edges at w taken out in order.
 use Rattle.std.proofs.Common.{◌≡◌, ℕ, suc, ◌+◌, ◌≤◌, ◌<◌, ◌≢◌, Bool, true, false, cond, ◌==◌, ◌&&◌, ◌⊎◌, inl, inr, List, [], ◌∷◌, length, refl, sym, ap, ap₂, ◌∙◌, arith, subst, eq-eqb, ne_eqb, eqb-true}

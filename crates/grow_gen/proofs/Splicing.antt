@@ -92,7 +92,7 @@ module _ (g h : Graph) (w i : ℕ) (mg : IsMultigraph g) (mh : IsMultigraph h) (
   abbrev pub Agree : List Bool → List Bool → Type 0
   Agree bs cs = flags_at w bs g.ends ≡ permuted i (flags_at 1 cs h.ends)
 
-  -- if they agree, a new vertex has the ends that it has in h
+  -- where they agree, a new vertex has the ends that it has in h
   pub degree-new : (bs cs : List Bool) → length bs ≡ size g → length cs ≡ size h → Agree bs cs → (x : ℕ) → 2 ≤ x → x ≤ h.order →
       degree (splice g w h (permutation i)) (marked (both_marks bs cs)) (new x) ≡ degree h (marked cs) x
   unfolding splice

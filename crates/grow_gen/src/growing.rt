@@ -109,7 +109,7 @@ fn member_at(set: VSet, place: u32) -> u32
 }
 
 /// A class without `w` and with the vertices that the piece brings into it: those opposite to its
-/// vertex 1 if `w` is in the class, and the others if it is not.
+/// vertex 1 where `w` is in the class, and the others where it is not.
 fn next_class(class: VSet, piece: Piece, n: u32, w: u32) -> VSet
     requires room { n + piece_order piece ≤ MOST_VERTICES + 2 }
     requires rising { IsRisingIn n class }

@@ -7,8 +7,8 @@ ghost use Rattle.graph_core.specs.Simple.{IsSimple};
 ghost use Rattle.grow_gen.specs.Cubic.{IsCubic};
 ghost use Rattle.grow_gen.specs.Splices.{splice, permutation};
 
-/// Splicing: two cubic multigraphs give a cubic multigraph, without parallel edges if they
-/// have none, and covered if they are.
+/// Splicing: two cubic multigraphs give a cubic multigraph, without parallel edges where they
+/// have none, and covered where they are.
 pub fn splice_law()
     ensures multigraph { (g h : Graph) (w i : ℕ) → IsMultigraph g → IsMultigraph h → IsCubic g →
         IsCubic h → 2 ≤ h.order →

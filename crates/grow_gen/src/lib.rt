@@ -10,7 +10,7 @@
 //!
 //! Bipartite pieces are braces and the others bricks, and the skeleton of the growth is chosen so
 //! that the cut of each piece is tight; that the pieces are the bricks and braces of the graph is
-//! not a promise of this crate.
+//! no promise of this crate.
 //!
 //! Stands on `graph_core`, `vset_core`, `rand_pcg` and `rand_core`. Splicing is in Lucchesi and
 //! Murty, "Perfect Matchings" (2024); the generator of words is O'Neill's (2014).

@@ -1,4 +1,4 @@
--- What is written of a number is a word of digits, and std proves that they read as that number.
+-- What is written of a number is a word of digits, and std tells that they read as that number.
 -- Below 10 ^ 9 they are nine at most, so the word is a number.
 use Rattle.std.proofs.Common.{◌≡◌, ℕ, suc, ◌^◌, ◌≤◌, ◌<◌, List, [], ◌∷◌, All, length, map, Bool, true, not, ◌||◌, ◌==◌, cond, Some, None, refl, ◌∙◌, ap, ap₂, arith, rules}
 use Rattle.std.specs.Char.{is_ascii_digit}

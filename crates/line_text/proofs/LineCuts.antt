@@ -73,7 +73,7 @@ lines_of-first text some = elim (cases_lt (position_or_len is_line_feed text) (l
       lines_of-unfed text some unfed ∙ ap (λ l. l ∷ []) (sym line) ∙ ap (λ ls. before_first is_line_feed text ∷ ls) (sym lines_of-nil ∙ ap lines_of (sym rest))
 ]
 
--- if a search finds no line feed, the first line is the whole text
+-- where a search finds no line feed, the first line is the whole text
 pub position_or_len-from_position : (text : List ℕ) → unwrap_or (position is_line_feed text) (length text) ≡ position_or_len is_line_feed text
 position_or_len-from_position text = elim (cases_lt (position_or_len is_line_feed text) (length text)) [
   | inl fed ↦ rw (lt-ltb (position_or_len is_line_feed text) (length text) fed) refl

@@ -12,7 +12,7 @@ pub record Rules (Body Value Kind : Type 0) : Type 0 where
   pub close : Body → Result Value Kind
   pub headless : Kind
 
--- a rule's table: the kind of the first test that applies, or the value if none does
+-- a rule's table: the kind of the first test that applies, or the value where none does
 abbrev pub checked : {A Kind : Type 0} → List (Bool × Kind) → A → Result A Kind
 checked [] value = Ok value
 checked (test ∷ tests) value = if test.0 then Err test.1 else checked tests value

@@ -6,8 +6,8 @@ use Rattle.std.specs.List.{slice_split}
 abbrev pub is_line_feed : ℕ → Bool
 is_line_feed byte = byte == 10
 
--- the parts before, between and after the line feeds are the lines; an empty part after the last
--- line feed is not a line
+-- the parts before, between and after the line feeds are the lines, but an empty part after the
+-- last line feed is none
 abbrev pub lines_of_parts : List (List ℕ) → List (List ℕ)
 lines_of_parts [] = []
 lines_of_parts (part ∷ []) = if length part == 0 then [] else part ∷ []

@@ -40,7 +40,7 @@ go_on number (Ok body) next = next body
 go_on number (Err kind) next = Err (number, kind)
 
 module _ {Body Value Kind : Type 0} (rules : Rules Body Value Kind) where
-  -- the state after a line with these words, which says nothing if it is skipped
+  -- the state after a line with these words, which says nothing where it is skipped
   abbrev pub state_after : Option Body → List (List ℕ) → Result (Option Body) Kind
   state_after from words = if is_skipped words then Ok from else result_map_both (λ body. Some body) (λ kind. kind) (step rules from words)
 
@@ -60,7 +60,7 @@ module _ {Body Value Kind : Type 0} (rules : Rules Body Value Kind) where
   IsFirst text (fault.At line kind) = FirstFault rules text line kind
   IsFirst text fault.Memory = Unit {0}
 
-  -- reading line by line says of a text whether it stands for a value, and else its first fault
+  -- reading line by line tells of a text whether it stands for a value, and else its first fault
   pub record ReadingTells (text : List ℕ) : Type 0 where
     pub values : (value : Value) → Stands rules text value ↔ (reading_of text ≡ Ok value)
     pub faults : (number : ℕ) (kind : Kind) → FirstFault rules text number kind ↔ (reading_of text ≡ Err (number, kind))

@@ -17,7 +17,7 @@ is_blank byte = (byte == 32) || ((byte == 9) || (byte == 13))
 unfoldable pub words_of : List ℕ → List (List ℕ)
 words_of line = filter (λ run. not (length run == 0)) (slice_split is_blank line)
 
--- the word at a place, counted from 0, or the empty word if there is none
+-- the word at a place, counted from 0, or the empty word where there is none
 abbrev pub word_at : List (List ℕ) → ℕ → List ℕ
 word_at words place = slice_index_or words place []
 

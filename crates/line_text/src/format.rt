@@ -36,7 +36,7 @@ impl<K, T: Drop> From<AllocFailed<T>> for Refusal<K> {
 /// Why a text is not read.
 #[derive(Clone, Copy, Debug, PartialEq, Eq, Drop)]
 pub enum LineFault<K> {
-    /// The first fault of the text and the number of its line, counted from 1. If the text
+    /// The first fault of the text and the number of its line, counted from 1. Where the text
     /// ends too early, that is the number of its lines plus one.
     At { line: u32, kind: K },
     /// Memory ran out, whatever the text says.

@@ -13,7 +13,7 @@
 //! `abbrev` of `specs/`: one `checked` table a rule, over `has_form`, `word_at`, `is_number` and
 //! `value_of`. (2) A type with its parameters, and an `impl LineFormat` whose methods make the
 //! tests of the tables in their order, by `has_form`, `word`, `number` and `numbers`; most often
-//! it needs no proof file. (3) Its reader: a call of `read`, and a `match` into its own faults.
+//! it wants no proof file. (3) Its reader: a call of `read`, and a `match` into its own faults.
 //! (4) For its writer an induction over the value: its lines lead to it (`Begins`). The rest is
 //! `written_text_stands`.
 //!

@@ -19,7 +19,7 @@ fn line_len(text: &[u8]) -> usize
 }
 
 /// The first line of a text, without its line feed, and the text after that line feed; `None`
-/// if nothing is left.
+/// where nothing is left.
 ///
 /// By calls on what is left, a text is walked over line by line: `a` and `a` with a line feed
 /// have one line, a line feed alone has one empty line, and no bytes have no line.

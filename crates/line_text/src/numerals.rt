@@ -36,8 +36,8 @@ fn value_of_digits(digits: &[u8]) -> u32
 /// The number that a word writes in decimal, from 0 to 999,999,999: one to nine ASCII digits,
 /// leading zeros allowed.
 ///
-/// `None` exactly when the word is not a number: if it has no byte, more than nine, or one
-/// that is not an ASCII digit.
+/// `None` exactly when the word is not a number: where it has no byte, more than nine, or one
+/// that is no ASCII digit.
 #[tactic(auto, unfolding(crate::specs::Numerals::number_of))]
 pub fn number(word: &[u8]) -> Option<u32>
     ensures { result ≡ number_of word.now }

@@ -36,7 +36,7 @@ pub fn is_skipped(words: &[&[u8]]) -> bool
     }
 }
 
-/// The word at a place, counted from 0, or the empty word if there is none.
+/// The word at a place, counted from 0, or the empty word where there is none.
 pub fn word<'a>(words: &[&'a [u8]], place: usize) -> &'a [u8]
     ensures { result.now ≡ word_at (texts_of words.now) place }
 {

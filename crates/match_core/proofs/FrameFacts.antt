@@ -1,5 +1,5 @@
 -- What a matching with a frame is: maximum, with the Gallai-Edmonds sets as its outer and inner
--- vertices; perfect if and only if no vertex is outer. A missed vertex is outer, and an
+-- vertices; perfect exactly where there is no outer vertex. A missed vertex is outer, and an
 -- outer vertex is missed by some matching as large.
 use Rattle.std.proofs.Common.{◌≡◌, ℕ, suc, zero, ◌≤◌, ◌<◌, ◌≢◌, Bool, true, false, ◌==◌, ◌↔◌, refl, sym, ap, ◌∙◌, arith, List, [], ◌∷◌, length, subst, inl, inr, eq-eqb}
 use Rattle.std.proofs.lemmas.Bool.{both_ways, true≢false, false_from_ne_true}
@@ -51,7 +51,7 @@ module _ (g : Graph) (r : Set) (mark passed : List Bool) (passed_is : passed ≡
       same : (e : ℕ) → Within (size g) e → mem es e ≡ marks mark e
       same e w = ap (λ xs. mem xs e) es_is ∙ listed_marks g (marks passed) e w ∙ ap (λ row. marks row e) passed_is
 
--- what the engine answers if nothing is removed, with its marks passed on
+-- what the engine answers where nothing is removed, with its marks passed on
 module _ (g : Graph) (is : IsGraph g) (removed : List ℕ) (b : Best) (nothing : removed ≡ []) (found : IsBest g (mem removed) b) (passed : List Bool) (passed_is : passed ≡ b.mark.items) where
   best : IsBest g none b
   best = subst (λ (r : Set). IsBest g r b) (fun_ext (λ v. ap (λ s. mem s v) nothing)) found
@@ -118,7 +118,7 @@ module _ (g : Graph) (is : IsGraph g) (removed : List ℕ) (b : Best) (nothing :
     pub inner_rises : IsRisingIn 128 b.sets.inner → IsRisingIn g.order b.sets.inner
     inner_rises rises = set-narrower 128 g.order b.sets.inner rises (λ v q. ((best.sets v).1 q).1)
 
--- a matching with a frame is perfect if and only if no vertex is outer
+-- a matching with a frame is perfect exactly when there is no outer vertex
 module _ (g : Graph) (is : IsGraph g) (r m outer inner : Set) (mm : IsMatching g r m) (frame : Frame g r (count (size g) m) outer inner) where
   no_outer-perfect : ((v : ℕ) → outer v ≡ false) → IsPerfect g r m
   no_outer-perfect h = record { once = λ v w rv. one (degree g m v) (mm.once v w) (λ z. met v w rv z); away = mm.away }

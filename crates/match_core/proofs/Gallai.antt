@@ -1,4 +1,4 @@
--- Gallai's lemma: if each vertex is missed by some maximum matching, none misses two vertices
+-- Gallai's lemma: where each vertex is missed by some maximum matching, none misses two vertices
 -- of one component. By induction on a walk between the two, and an exchange of one edge that
 -- makes two maximum matchings share one edge more.
 use Rattle.std.proofs.Common.{◌≡◌, ℕ, suc, zero, ◌+◌, ◌*◌, ◌≤◌, ◌<◌, ◌≢◌, Bool, true, false, cond, ◌==◌, refl, sym, ap, ◌∙◌, arith, ◌&&◌, not, eq-eqb, ne_eqb, eqb-true, inl, inr, subst, List, [], ◌∷◌}
@@ -209,7 +209,7 @@ module _ (g : Graph) (is : IsGraph g) (r m n : Set) (mm : IsMaximum g r m) (nn :
   pub exchange : (l : Set) × IsMaximum g r l × (degree g l t ≡ 0) × (shared (size g) m l ≡ shared (size g) m n + 1)
   exchange = (k, record { is = record { once = once; away = away }; most = λ j p. let a = nn.most j p in let b = count_k in omega arith }, miss_t, more)
 
--- if each vertex is missed by some maximum matching, none misses two vertices of one component
+-- where each vertex is missed by some maximum matching, none misses two vertices of one component
 module _ (g : Graph) (is : IsGraph g) (r : Set) (missed_by : (v : ℕ) → Within g.order v → r v ≡ false → (m : Set) × IsMaximum g r m × (degree g m v ≡ 0)) where
   -- by how much n shares with m
   never : (fuel : ℕ) (m n : Set) → IsMaximum g r m → IsMaximum g r n → (u v t : ℕ) → Within g.order u → Within g.order v → Within g.order t → u ≢ v → r u ≡ false → r v ≡ false → r t ≡ false →

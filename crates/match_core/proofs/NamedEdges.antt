@@ -1,5 +1,5 @@
 -- The row of mates names an edge of the matching at each vertex that it meets. What does a row
--- show? The other end of the edge at a vertex, that a perfect matching has one at each, and which
+-- tell? The other end of the edge at a vertex, that a perfect matching has one at each, and which
 -- vertices the matching misses.
 use Rattle.std.proofs.Common.{◌≡◌, ℕ, ◌-◌, ◌≢◌, Bool, true, false, cond, ◌==◌, ◌&&◌, not, refl, sym, ap, ◌∙◌, arith, List, [], length, subst, nat_lt, nat_le, lt-ltb}
 use Rattle.std.proofs.lemmas.Bool.{le-leb, and_parts}

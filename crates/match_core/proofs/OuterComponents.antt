@@ -99,7 +99,7 @@ module _ (g : Graph) (is : IsGraph g) (x : Set) where
         ]) ∙ sym f
       ]
 
--- labels with the component of v put outside the classes, if it is even
+-- labels with the component of v put outside the classes, where it is even
 module _ (g : Graph) (is : IsGraph g) (x : Set) (label : ℕ → ℕ) (p : ℕ) (labels : IsOddLabelling g x label p) (v : ℕ) (wv : Within g.order v) (xv : x v ≡ false) (even : is_odd (count g.order (joined g x v)) ≡ false) where
   abbrev pub without_component : ℕ → ℕ
   without_component w = cond (joined g x v w) 0 (label w)

@@ -1,8 +1,8 @@
 -- The outer vertices of a maximum matching that misses one vertex are exactly the vertices
 -- without which there is a perfect matching. A matching as large that misses v misses v alone, so
 -- it is perfect without v; and a perfect matching without v is as large, since both leave one
--- vertex of an odd number. If more than one vertex is missed, no matching misses one alone. A
--- perfect matching without two vertices misses just these, so if there are partners, a maximum
+-- vertex of an odd number. Where more than one vertex is missed, no matching misses one alone. A
+-- perfect matching without two vertices misses just these, so where there are partners, a maximum
 -- matching misses none or two.
 use Rattle.std.proofs.Common.{◌≡◌, ◌≢◌, ℕ, zero, suc, ◌+◌, ◌-◌, ◌*◌, ◌≤◌, ◌↔◌, List, length, Bool, true, false, ◌==◌, ◌&&◌, ◌||◌, not, refl, sym, ap, ◌∙◌, arith, inl, inr, eq-eqb, eqb-true, ne_eqb}
 use Rattle.counting.proofs.Booleans.{or_false}
@@ -124,7 +124,7 @@ module _ (g : Graph) (is : IsGraph g) (r m outer inner : Set) (mm : IsMatching g
   most_edges : (p : Set) → IsMatching g r p → count (size g) p ≤ count (size g) m
   most_edges = (certificate_maximum g r inner (count (size g) m) frame.label frame.classes is frame.certificate m mm refl).most
 
-  -- if one vertex is missed, an outer vertex is missed alone by some matching
+  -- where one vertex is missed, an outer vertex is missed alone by some matching
   outer-perfect : (v : ℕ) → missed_count g r m ≡ 1 → Within g.order v → outer v ≡ true → HasPerfect g (union r (singleton v))
   outer-perfect v one w t =
       let f = frame.missable v w t in
@@ -158,13 +158,13 @@ module _ (g : Graph) (is : IsGraph g) (r m outer inner : Set) (mm : IsMatching g
         both_ways (outer v) f (perfect-outer v w (not-true (r v) b.0) (has_perfect_says g (union r (singleton v)) b.1)).1))
   ]
 
-  -- if another number of vertices is missed, the row is empty
+  -- where another number of vertices is missed, the row is empty
   no_row : missed_count g r m ≢ 1 → (v : ℕ) → Within g.order v → (not (r v) && has_perfect g (union r (singleton v))) ≡ false
   no_row d v w = false_from_ne_true (not (r v) && has_perfect g (union r (singleton v))) (λ h.
       let b = and_parts (not (r v)) (has_perfect g (union r (singleton v))) h in
       d (perfect-outer v w (not-true (r v) b.0) (has_perfect_says g (union r (singleton v)) b.1)).0)
 
-  -- if there are partners, no vertex is missed or two
+  -- where there are partners, no vertex is missed or two
   pair-missed : (u v : ℕ) → Within g.order u → Within g.order v → r u ≡ false → r v ≡ false → u ≢ v → HasPerfect g (union r (pair_set u v)) → missed_count g r m ≢ 0 → missed_count g r m ≡ 2
   pair-missed u v wu wv ru rv d p some =
       let a = perfect-two g r p.0 u v is wu wv ru rv d p.1 in
@@ -179,7 +179,7 @@ module _ (g : Graph) (is : IsGraph g) (r : Set) (b : Best) (best : IsBest g r b)
   counted : missed ≡ missed_count g r (marks b.mark.items)
   counted = missed_is ∙ ap (λ row. missed_count g r (marks row)) mark_is
 
-  -- if one is missed, the outer vertices are the row
+  -- where one is missed, the outer vertices are the row
   pub one_missed-row : missed ≡ 1 → (v : ℕ) → Within g.order v → mem b.sets.outer v ≡ (not (r v) && has_perfect g (union r (singleton v)))
   one_missed-row one = outer-row g is r (marks b.mark.items) (mem b.sets.outer) (mem b.sets.inner) best.matching best.frame (sym counted ∙ one)
 
@@ -187,7 +187,7 @@ module _ (g : Graph) (is : IsGraph g) (r : Set) (b : Best) (best : IsBest g r b)
   pub more_missed-row : missed ≢ 1 → (v : ℕ) → Within g.order v → (not (r v) && has_perfect g (union r (singleton v))) ≡ false
   more_missed-row more = no_row g is r (marks b.mark.items) (mem b.sets.outer) (mem b.sets.inner) best.matching best.frame (λ q. more (counted ∙ q))
 
-  -- no vertex has a partner if another number is missed than none or two
+  -- no vertex has a partner where another number is missed than none or two
   no_partners : missed ≢ 0 → missed ≢ 2 → (u v : ℕ) → Within g.order u → Within g.order v → are_partners g r u v ≡ false
   no_partners some other u v wu wv = false_from_ne_true (are_partners g r u v) (λ h.
       let parts = four (r u) (r v) (u == v) (has_perfect g (union r (pair_set u v))) h in

@@ -1,6 +1,6 @@
 -- The walk from one missed vertex to the other, edge by edge of a perfect matching and of the
 -- given one in turn, in rows: how does it go on, and where does it end? Each turn makes the path
--- longer by two edges; if the given matching ends, the path is whole and repairs it.
+-- longer by two edges; where the given matching ends, the path is whole and repairs it.
 use Rattle.std.proofs.Common.{◌≡◌, ℕ, suc, zero, ◌+◌, ◌-◌, ◌<◌, ◌≢◌, Bool, true, false, ◌==◌, ◌&&◌, not, refl, sym, ap, ap₂, ◌∙◌, arith, List, [], ◌∷◌, ◌++◌, length, inl, inr, ◌⊎◌, subst}
 use Rattle.std.proofs.lemmas.Bool.{cases_eq, cases_lt, cases_order, false_from_ne_true, and_right}
 use Rattle.std.proofs.Math.ListN.{get_or-append}
@@ -19,7 +19,7 @@ use Rattle.match_search.proofs.Alike.{path_alike}
 use Rattle.match_search.proofs.LongerPaths.{longer, longer_below, longer_at, longer_after}
 use Rattle.match_search.proofs.SymmetricDifference.{further, further_other, m_a, mended, path_short, w_off}
 
--- if two pass, a third does not
+-- where two pass, a third does not
 pub no_third_passes : (n : ℕ) (p : Set) (a b : ℕ) → count n p ≡ 2 → Within n a → Within n b → a ≢ b → p a ≡ true → p b ≡ true → (u : ℕ) → Within n u → p u ≡ true → (u ≡ a) ⊎ (u ≡ b)
 no_third_passes n p a b two wa wb ab pa pb u wu pu = elim (cases_eq u a) [
   | inl q ↦ inl q
@@ -60,7 +60,7 @@ no_third_passes n p a b two wa wb ab pa pb u wu pu = elim (cases_eq u a) [
           ]
         ]
 
--- if m misses two vertices in all, these are the two
+-- where m misses two vertices in all, these are the two
 pub only_two_missed : (g : Graph) (r m : Set) (x y : ℕ) → missed_count g r m ≡ 2 → Misses g r m x → Misses g r m y → x ≢ y → (u : ℕ) → Within g.order u → r u ≡ false → degree g m u ≡ 0 → (u ≡ x) ⊎ (u ≡ y)
 unfolding missed_count
 only_two_missed g r m x y two mx my xy u wu ru du = no_third_passes g.order (λ v. not (r v) && (degree g m v == 0)) x y two mx.within my.within xy (passes x mx.outside mx.missed) (passes y my.outside my.missed) u wu (passes u ru du)

@@ -125,7 +125,7 @@ pub record TutteBerge (g : Graph) (r : Set) : Type 0 where
 union_none : (r : Set) → union r none ≡ r
 union_none r = fun_ext (λ v. or_false (r v))
 
--- if each vertex is missed by some maximum matching
+-- where each vertex is missed by some maximum matching
 all_missed : (g : Graph) (r : Set) → IsGraph g → ((v : ℕ) → Within g.order v → r v ≡ false → (m : Set) × IsMaximum g r m × (degree g m v ≡ 0)) → TutteBerge g r
 unfolding Joined
 all_missed g r is h =
@@ -139,7 +139,7 @@ all_missed g r is h =
           omega (arith, missed_odd g is r m.0 m.1 (λ u v j d a b. no_two g is r h j.0 m.0 m.1 u v j.1 d a b), ap (odd_component_count g) (union_none r));
     }
 
--- if each maximum matching meets v
+-- where each maximum matching meets v
 one_met : (g : Graph) (r : Set) → IsGraph g → (v : ℕ) → Within g.order v → r v ≡ false → ((m : Set) → IsMaximum g r m → 0 < degree g m v) → TutteBerge g (union r (singleton v)) → TutteBerge g r
 one_met g r is v w o met ih = record { s = union ih.s (singleton v); outside = out; m = m.0; is = m.1.is; equal = equal }
   where

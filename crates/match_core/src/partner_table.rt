@@ -1,16 +1,16 @@
-//! The table of partners: which two vertices can be missed together.
+//! Which two vertices can be missed together?
 //!
 //! Two vertices u and v outside a set R are partners if G - R - u - v has a perfect matching. A
-//! table of them says much about the structure of a graph: an edge is allowed exactly when its ends
+//! table of them tells much of the structure of a graph: an edge is allowed exactly when its ends
 //! are partners, the class of u in the canonical partition is what is left outside its row, and G
 //! is bicritical exactly when each row has all vertices but its own.
 //!
 //! The table is made from a maximum matching of G - R. A perfect matching without two vertices
-//! misses just these two, so if a maximum matching misses another number than none or two, no
-//! vertex has a partner, and no row is searched. Else a row costs one search. If none is
+//! misses just these two, so where a maximum matching misses another number than none or two, no
+//! vertex has a partner, and no row is searched. Else a row costs one search. Where none is
 //! missed, the matching less its edge at u misses one vertex of G - R - u, the mate of u; no step
 //! can enlarge it, so the first step answers a frame, and the outer vertices of a frame are
-//! exactly those that some matching as large misses. If two are missed, a row costs one
+//! exactly those that some matching as large misses. Where two are missed, a row costs one
 //! augmentation more at most.
 ghost use Rattle.std.specs.Prelude.{◌≡◌, ℕ, ◌+◌, ◌-◌, ◌≤◌, ◌==◌, ◌&&◌, ◌||◌, not, true, length, IfOk};
 ghost use Rattle.counting.specs.Counts.{Within, count};
@@ -58,7 +58,7 @@ impl PartnerTable {
 
 /// The partners of each vertex in G - removed, from any matching `m` of `g`: two vertices outside
 /// `removed` are partners if there is a perfect matching without `removed` and these two. The row
-/// of a vertex of `removed` is empty. `m` is made maximum without `removed` once. If it then
+/// of a vertex of `removed` is empty. `m` is made maximum without `removed` once. Where it then
 /// misses another number of vertices than none or two, no row is searched; else a row costs one
 /// search, after one augmentation at most.
 pub fn partners(
@@ -78,7 +78,7 @@ pub fn partners(
     rows_from(alloc, g, removed, &most)
 }
 
-// Whether there can be partners if a maximum matching misses so many vertices.
+// Whether there can be partners where a maximum matching misses so many vertices.
 fn leaves_partners(missed: usize) -> bool
     ensures { result ≡ (missed == 0 || missed == 2) }
 {
@@ -111,7 +111,7 @@ fn empty_rows(alloc: Global, n: u32) -> Result<PartnerTable, Memory>
     Ok(PartnerTable { rows })
 }
 
-/// The partners of each vertex of `g`: of two different vertices, if there is a perfect
+/// The partners of each vertex of `g`: of two different vertices, where there is a perfect
 /// matching without them.
 pub fn all_partners(alloc: Global, g: &MultiGraph) -> Result<PartnerTable, Memory>
     ensures { IfOk result (ArePartners g.now none) }

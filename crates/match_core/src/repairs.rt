@@ -26,7 +26,7 @@ pub struct Mate {
     pub vertex: u32,
 }
 
-/// A perfect matching of G - removed, if `m` is a matching of it that misses exactly two
+/// A perfect matching of G - removed, where `m` is a matching of it that misses exactly two
 /// vertices: the edges in exactly one of the two matchings form one path between these vertices.
 /// `None` exactly when G - removed has no perfect matching.
 pub fn repair(

@@ -1,5 +1,5 @@
 -- What an augmentation by mates hands on: its matching is held again, with fewer exposed
--- vertices; and if it ends, the marks of a matching with its mates and its frame are the best.
+-- vertices; and where it ends, the marks of a matching with its mates and its frame are the best.
 use Rattle.std.proofs.Common.{◌≡◌, ℕ, suc, ◌+◌, ◌<◌, ◌==◌, ◌&&◌, not, nat_lt, nat_le, sym, ap, ◌∙◌, subst, arith, lt-ltb, List, length}
 use Rattle.std.proofs.lemmas.Bool.{and_from, le-leb}
 use Rattle.counting.proofs.Counts.{count_congr}

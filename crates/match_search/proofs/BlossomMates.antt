@@ -1,5 +1,5 @@
 -- A blossom is shrunk to its base: which matchings has the smaller graph, by mates, and what are
--- they in the graph? If the base is exposed, a matching misses the blossom; if it has a
+-- they in the graph? Where the base is exposed, a matching misses the blossom; where it has a
 -- mate, the edge between them can be put at a vertex of the blossom that the mate touches.
 use Rattle.std.proofs.Common.{◌≡◌, ◌≢◌, ℕ, suc, zero, ◌+◌, ◌*◌, ◌≤◌, ◌<◌, true, false, ◌==◌, refl, sym, ap, ◌∙◌, arith, eq-eqb, ne_eqb, eqb-true, inl, inr, not, ◌&&◌, ◌||◌, subst, List}
 use mathlib.Core.Path.{fun_ext}
@@ -136,7 +136,7 @@ module _ (g : Graph) (is : IsGraph g) (r f m : Set) (n : ℕ) (c e : ℕ → ℕ
     mate_out : (v : ℕ) → Within g.order v → mate v ≢ 0 → v ≢ z → cs v ≡ false
     mate_out v w q s = false_from_ne_true (cs v) (λ t. q (removed_mate H graph rs m2 mate has v w (removed_in v t s)))
 
-    -- if the base is exposed, the matching misses the blossom, and is one of g
+    -- where the base is exposed, the matching misses the blossom, and is one of g
     module _ (free : mate z ≡ 0) where
       pub blossom_missed : (v : ℕ) → Within g.order v → cs v ≡ true → degree g m2 v ≡ 0
       blossom_missed v w t =
@@ -169,7 +169,7 @@ module _ (g : Graph) (is : IsGraph g) (r f m : Set) (n : ℕ) (c e : ℕ → ℕ
             (d.0, in_g d.0 d.1, d.2, edge_stays g cs z es pulls cz v (mate v) d.0 cv cm (in_g d.0 d.1) d.3);
       }
 
-  -- if the base has a mate x, and an edge of g joins x to a vertex u of the blossom
+  -- where the base has a mate x, and an edge of g joins x to a vertex u of the blossom
   module _ (m2 : Set) (mate : ℕ → ℕ) (has : HasMates H rs m2 mate) (taken : mate z ≢ 0) where
     abbrev pub x : ℕ
     x = mate z

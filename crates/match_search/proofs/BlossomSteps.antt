@@ -77,7 +77,7 @@ module _ (g : Graph) (is : IsGraph g) (r f m : Set) (n : ℕ) (c e : ℕ → ℕ
       framed h = subst (λ (k : ℕ). Frame g r k (mem wide.outer) (mem wide.inner)) ((downs g is r f m n c e opened).2 ∙ opened.same)
           (subst₂ (λ (o i : Set). Frame g r (count (size H) m + pairs) o i) (sym outer_is) (sym (ap mem w.1)) h)
 
-  -- opened if the base is exposed, and if it has a mate
+  -- opened where the base is exposed, and where it has a mate
   pub opened_free : (m2 : Set) (mate : ℕ → ℕ) → HasMates H rs m2 mate → mate z ≡ 0 → (new : ℕ → ℕ) → ((v : ℕ) → new v ≡ paired_round mate n c 1 n v) → (full : Set) × HasMates g r full new × (count (size g) full ≡ count (size H) m2 + pairs)
   opened_free m2 mate has free new h =
       let low = free_mates g is r f m n c e opened m2 mate has free in

@@ -1,5 +1,5 @@
--- The cycle of a blossom, as the code reads it off two closing paths, with its members and with the
--- mates that are left. What is proved of the places on the paths is so said of the cycle.
+-- The ring of a blossom, as the code reads it off two closing ways, with its members and with the
+-- mates that are left. What is proved of the places on the ways is so said of the ring.
 use Rattle.std.proofs.Common.{◌≡◌, ◌≢◌, ℕ, suc, ◌+◌, ◌-◌, ◌/◌, ◌≤◌, ◌<◌, ap, ap₂, ◌∙◌, arith, subst, length, List}
 use mathlib.Core.Path.{fun_ext}
 use Rattle.counting.specs.Counts.{Within}
@@ -41,11 +41,11 @@ module _ (w : Ways) (meeting : Meeting) (last : IsLastMeeting w.row.items 0 (suc
   pub ring_within : (s : ℕ) → Within (suc (w.second + w.second - meeting.j + (w.first + w.first - meeting.i))) s → Within g.order (numbers cs s)
   ring_within = (blossom_cycle g r f mate w are meeting.i meeting.j i_in j_in last.meet latest cs c_low c_high).within
 
-  -- the path to the base has an even number of edges
+  -- the way to the base has an even number of edges
   pub stem_half : meeting.j ≡ meeting.j / 2 + meeting.j / 2
   stem_half = half_is g r f mate w are meeting.i meeting.j i_in j_in last.meet latest cs c_low c_high
 
-  -- the pairs are exchanged along the path to the base, and the cycle is cleared
+  -- the pairs are exchanged along the way to the base, and the ring is cleared
   module _ (blossom : Blossom) (ring_is : blossom.ring.items ≡ cs) (long : length cs ≡ w.second + w.second - meeting.j + (w.first + w.first - meeting.i) + 2)
       (listing : List ℕ) (listing_is : listing ≡ cs) (members : (v : ℕ) → mem blossom.members v ≡ listed (length listing - 1) (numbers listing) v)
       (way : List ℕ) (way_is : way ≡ w.row.items) (between : List ℕ) (flip : (v : ℕ) → numbers between v ≡ flipped_mates (numbers mate) (part way (w.first + w.first + 1)) (meeting.j / 2) v)

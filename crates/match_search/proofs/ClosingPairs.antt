@@ -1,6 +1,6 @@
--- Two closing paths by mates: if they do not meet, the exchanged pairs and the pair of their last
--- vertices are a matching with one edge more; if they meet, the mates without the blossom are those
--- of the opened matching.
+-- Two closing ways by mates: where they do not meet, the exchanged pairs and the pair of their
+-- last vertices are a matching with one edge more; where they meet, the mates without the blossom
+-- are those of the opened matching.
 use Rattle.std.proofs.Common.{◌≡◌, ◌≢◌, ℕ, suc, ◌+◌, ◌-◌, ◌*◌, ◌/◌, ◌≤◌, ◌<◌, Bool, true, false, cond, ◌==◌, refl, sym, ap, ◌∙◌, arith, ne_eqb, inl, inr, subst, length, List, ◌&&◌, not}
 use mathlib.Core.Path.{fun_ext}
 use Rattle.std.proofs.lemmas.Bool.{cases_Bool, cases_eq, both_ways, and_parts, false_from_ne_true}
@@ -126,7 +126,7 @@ module _ (g : Graph) (r f : Set) (mate : List ℕ) (w : Ways) (are : AreClosingW
   abbrev pub qq : IsAlternating g r f l Q b
   qq = are.second_path
 
-  -- the vertices of the paths have mates in the row of mates
+  -- the vertices of the ways have mates in the row of mates
   pub first_in : (j : ℕ) → j ≤ k + k → P j < length mate
   first_in j lj = let v = pp.path.within j lj in let e = are.long in omega arith
 

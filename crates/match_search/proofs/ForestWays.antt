@@ -1,4 +1,4 @@
--- The paths to the two ends of a closing edge: they are paths of the forest, with outer and inner
+-- The ways to the two ends of a closing edge: they are paths of the forest, with outer and inner
 -- vertices in turn.
 use Rattle.std.proofs.Common.{◌≡◌, ℕ, suc, ◌+◌, ◌≤◌, ◌<◌, true, refl, sym, ap, ◌∙◌, arith, subst, length, List, get_or}
 use Rattle.counting.specs.Counts.{is_odd}
@@ -17,8 +17,7 @@ use Rattle.match_search.proofs.LongerPaths.{ends_by}
 use Rattle.match_search.proofs.Reaching.{pairs_few}
 use Rattle.match_search.proofs.WaysUp.{pairs_read}
 
--- the numbers of pairs of two paths are those of the forest, and small: a path meets no vertex
--- twice
+-- the numbers of pairs of two ways are those of the forest, and small: a path meets no vertex twice
 pub record AreShortWays (t : AlternatingForest) (o : Adjacent) (first second : ℕ) : Type 0 where
   pub first_is : first ≡ numbers t.pairs.items o.v
   pub second_is : second ≡ numbers t.pairs.items o.w

@@ -122,7 +122,7 @@ module _ (g : Graph) (is : IsGraph g) (r f : Set) (mm : IsMatching g r f) (outer
           go false false (suc zero) l p q = refl
           go false true d l p q = omega arith
 
-  -- if each edge from an outer vertex leads to an inner one
+  -- where each edge from an outer vertex leads to an inner one
   module _ (closed : (d x y : ℕ) → Within (size g) d → HasEnds g d x y → r x ≡ false → r y ≡ false → x ≢ y → outer x ≡ true → inner y ≡ true) where
     abbrev rank : ℕ → ℕ
     rank u = cond (outer u) (count u outer) 0

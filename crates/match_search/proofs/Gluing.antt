@@ -1,5 +1,5 @@
 -- Perfect matchings through given edges: edges that share no vertex, with a perfect matching of
--- the graph without their ends. Degrees add if the sets of edges have none in common, and the
+-- the graph without their ends. Degrees add where the sets of edges have none in common, and the
 -- two meet each vertex in turn.
 use Rattle.std.proofs.Common.{◌≡◌, ℕ, suc, zero, ◌+◌, ◌*◌, ◌≤◌, ◌<◌, ◌≢◌, Bool, true, false, ◌==◌, ◌||◌, ◌&&◌, not, refl, sym, ap, ◌∙◌, arith, inl, inr, eq-eqb, eqb-true, List, [], ◌∷◌, length, take, get_or, subst}
 use Rattle.std.proofs.lemmas.Bool.{both_ways, cases_Bool, or_left, or_right, true≢false}

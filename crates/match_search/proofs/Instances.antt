@@ -1,5 +1,5 @@
--- What an instance says of its graph, and the instance of a whole graph. A vertex that is left
--- is near if its row holds it, or if it is a blossom with a member in the row.
+-- What an instance tells of its graph, and the instance of a whole graph. A vertex that is left
+-- is near where its row holds it, or where it is a blossom with a member in the row.
 use Rattle.std.proofs.Common.{◌≡◌, ◌≢◌, ◌↔◌, ℕ, ◌≤◌, true, false, ◌==◌, refl, sym, ap, ◌∙◌, arith, eq-eqb, eqb-true, inl, inr, ◌⊎◌, not, ◌&&◌, ◌||◌, nat_lt, nat_le, lt-ltb, ltb-true, length, List, [], ◌∷◌}
 use Rattle.std.proofs.lemmas.Bool.{and_from, and_parts, both_ways, cases_Bool, false_from_ne_true, le-leb, leb-true, not-true, or_cases, true≢false, cases_eq}
 use Rattle.counting.proofs.Tests.{true_some}

@@ -27,7 +27,7 @@ use Rattle.match_search.proofs.Instances.{instance_alike, near_edge}
 use Rattle.match_search.proofs.ParentForests.{done_frame}
 use Rattle.match_search.proofs.ShrunkInstances.{shrunk_instance}
 
--- the base of a blossom, as the code reads it, is the first vertex of the cycle, and a vertex of
+-- the base of a blossom, as the code reads it, is the first vertex of the ring, and a vertex of
 -- the graph
 module _ (g : Graph) (r f : Set) (mate : List ℕ) (b : Blossom) (held : HoldsBlossom g r f mate b) (base : ℕ) (read : base ≡ get_or b.ring.items 1 base) where
   pub base_read : base ≡ numbers b.ring.items 1

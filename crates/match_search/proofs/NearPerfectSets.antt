@@ -1,5 +1,5 @@
 -- A set of edges is near-perfect in C for a vertex t: it meets each vertex of C but t once. How
--- many ends does it have at each vertex, and how many edges? And how do the degrees add up if the
+-- many ends has it at each vertex, and how many edges? And how do the degrees add up where the
 -- edges of a set are those of two others?
 use Rattle.std.proofs.Common.{◌≡◌, ℕ, suc, ◌+◌, ◌*◌, ◌≤◌, ◌≢◌, Bool, true, false, cond, ◌==◌, refl, sym, ap, ap₂, ◌∙◌, arith, ◌&&◌, ◌||◌, not, eq-eqb, ne_eqb, inl, inr}
 use Rattle.std.proofs.lemmas.Bool.{cases_Bool, true≢false}

@@ -1,6 +1,6 @@
 -- An odd cycle has a near-perfect matching for each of its vertices: every other edge on the way
--- round. The two edges at a vertex have neighbouring places, of which exactly one is chosen unless
--- the round starts there.
+-- round. The two edges at a vertex have neighbouring places, of which exactly one is chosen
+-- unless the way starts there.
 use Rattle.std.proofs.Common.{◌≡◌, ℕ, suc, zero, ◌+◌, ◌*◌, ◌<◌, ◌≢◌, Bool, true, false, cond, ◌==◌, refl, sym, ap, ap₂, ◌∙◌, arith, ◌&&◌, ◌||◌, not, eq-eqb, ne_eqb, eqb-true, ◌⊎◌, inl, inr, nat_lt, lt-ltb, le-ltb, mul-add, subst}
 use Rattle.std.proofs.lemmas.Bool.{cases_eq, cases_order}
 use Rattle.counting.proofs.Tests.{some_none, some_true, true_some}

@@ -1,6 +1,6 @@
--- The opening of a blossom after its shrinking, in the words of what its caller knows. If the base
--- is free, the cycle is paired round from it; else the mate of the base is near a vertex of the
--- cycle, its tip.
+-- The opening of a blossom after its shrinking, in the words of what its caller knows. Where the
+-- base is free, the ring is paired round from it; else the mate of the base is near a vertex of
+-- the ring, its tip.
 use Rattle.std.proofs.Common.{◌≡◌, ◌≢◌, ℕ, suc, ◌≤◌, ◌∙◌, true, arith, length, List, get_or}
 use Rattle.std.proofs.lemmas.Grind.{get_or_default_zero}
 use Rattle.counting.specs.Counts.{Within}
@@ -16,7 +16,7 @@ use Rattle.match_search.specs.declared.instance.Instance.{Instance}
 use Rattle.match_search.proofs.BlossomMates.{below_size, outside_edge, outside_near, outside_within}
 use Rattle.match_search.proofs.BlossomSteps.{blossom_short, opened_free, opened_taken, same_count}
 
--- the cycle has three vertices at least and few, and the first one is the base that the code reads
+-- the ring has three vertices at least and few, and the first one is the base that the code reads
 pub record IsSmallRing (g : Graph) (mate : List ℕ) (b : Blossom) (base : ℕ) : Type 0 where
   pub three : 3 ≤ blossom_length b
   pub short : blossom_length b ≤ 128
@@ -32,7 +32,7 @@ module _ (g : Graph) (r f m n : Set) (s : Instance) (mate : List ℕ) (b : Bloss
       let short = blossom_short g is.instance_is.graph r f m (blossom_length b) (numbers b.ring.items) is.edge is.opened in
       record { three = three; short = omega arith; few = few; long = is.long; base_is = read ∙ get_or_default_zero b.ring.items 1 base (omega arith) }
 
-  -- if the base is free
+  -- where the base is free
   pub opened_base : numbers mate (numbers b.ring.items 1) ≡ 0 → (new : List ℕ) → ((v : ℕ) → numbers new v ≡ paired_round (numbers mate) (blossom_length b) (numbers b.ring.items) 1 (blossom_length b) v) → IsCompleted g r f m n new
   opened_base free new round =
       let done = opened_free g is.instance_is.graph r f m (blossom_length b) (numbers b.ring.items) is.edge is.opened n (numbers mate) is.mates free (numbers new) round in
@@ -41,7 +41,7 @@ module _ (g : Graph) (r f m n : Set) (s : Instance) (mate : List ℕ) (b : Bloss
       let same_n = same_count g is.instance_is.graph r f m (blossom_length b) (numbers b.ring.items) is.edge is.opened n in
       (done.0, done.1, (let d = done.2 in omega arith))
 
-  -- if it has a mate
+  -- where it has a mate
   module _ (taken : numbers mate (numbers b.ring.items 1) ≢ 0) where
     pub mate_within : Within g.order (numbers mate (numbers b.ring.items 1))
     mate_within = outside_within g is.instance_is.graph r f m (blossom_length b) (numbers b.ring.items) is.edge is.opened n (numbers mate) is.mates taken

@@ -61,7 +61,7 @@ module _ (g : Graph) (r f : Set) (s : Instance) (mate : List ℕ) (is : HoldsMat
           go (nat_lt 0 u && nat_le u g.order) (not (r u)) (numbers mate u == 0) (degree g f u == 0) (λ t. let b = and_parts (nat_lt 0 u) (nat_le u g.order) t in let x = Rattle.std.proofs.Common.ltb-true 0 u b.0 in let y = leb-true u g.order b.1 in exposed_is u (omega arith, omega arith))
 
   module _ (t : AlternatingForest) (holds : HoldsAlternating g r f mate t) where
-    -- if no edge leaves the forest, it is a frame
+    -- where no edge leaves the forest, it is a frame
     pub done_frame : ((x : ℕ) → mem t.outer x ≡ true → IsDone s t x) → Frame g r (count (size g) f) (mem t.outer) (mem t.inner)
     done_frame done = final_frame g is.instance_is.graph r f is.mates.matching (mem t.outer) (mem t.inner) (numbers t.pairs.items) holds.v holds.e holds.forest
         (λ d x y w ends rx ry n o.
@@ -128,7 +128,7 @@ module _ (g : Graph) (r f : Set) (s : Instance) (mate : List ℕ) (is : HoldsMat
         path_at : (u j : ℕ) → u ≢ z → path u j ≡ holds.v u j
         path_at u j n = ap (λ (b : Bool). (cond b along (holds.v u)) j) (ne_eqb u z n)
 
-        -- the path up from the new outer vertex
+        -- the way up from the new outer vertex
         up_new : (u : ℕ) → u ≡ z → GoesUp mate h path u x
         up_new u q = record {
           parent = ap (numbers h.parent.items) (ap (numbers mate) q ∙ branch_mate.1) ∙ grew.parent y ∙ with_here (numbers t.parent.items) y x y refl;

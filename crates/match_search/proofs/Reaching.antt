@@ -1,4 +1,4 @@
--- What the neighbours of an outer vertex that are left and not inner show, and that a branch more
+-- What the neighbours of an outer vertex that are left and not inner tell, and that a branch more
 -- is a step nearer to the end.
 use Rattle.std.proofs.Common.{◌≡◌, ◌≢◌, ℕ, suc, ◌+◌, ◌-◌, ◌*◌, ◌≤◌, ◌<◌, true, false, ◌==◌, sym, ap, ◌∙◌, arith, eq-eqb, ne_eqb, inl, inr, not, ◌&&◌, ◌||◌, List, []}
 use Rattle.std.proofs.lemmas.Bool.{cases_Bool, both_ways, and_parts, and_from, not-true, false_from_ne_true}
@@ -24,7 +24,7 @@ module _ (s : Instance) (t : AlternatingForest) (x : ℕ) (met near reach : List
       let c = (met_is y).0 b.0 in
       (c.1, c.0, (λ q. both_ways (not (x == y)) (ap not (eq-eqb x y q)) b.1), not-true (mem t.inner y) a.1)
 
-  -- if nothing is reached, the vertex is done
+  -- where nothing is reached, the vertex is done
   pub none_reached : reach ≡ [] → IsDone s t x
   none_reached e y n l d = elim (cases_Bool (mem t.inner y)) [
     | inl i ↦ i

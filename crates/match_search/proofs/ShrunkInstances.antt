@@ -50,7 +50,7 @@ module _ (g : Graph) (c : Set) (z : ℕ) (es : List (ℕ × ℕ)) (pulls : IsShr
     | inr t ↦ absurd (both_ways (c u) t (ap c (sym (kept_vertex u t) ∙ q) ∙ cz))
   ]
 
-  -- edges between vertices outside c stay, and a vertex outside c is joined to z if it was
+  -- edges between vertices outside c stay, and a vertex outside c is joined to z where it was
   -- joined to one of c
   pub edge_stays : (x y d : ℕ) → c x ≡ false → c y ≡ false → Within (size g) d → HasEnds H d x y → HasEnds g d x y
   edge_stays x y d cx cy w ends = let o = origin_ends d x y w ends in subst (λ (v : ℕ). HasEnds g d x v) (origin_out o.1 y o.4 cy) (subst (λ (u : ℕ). HasEnds g d u o.1) (origin_out o.0 x o.3 cx) o.2)

@@ -1,4 +1,4 @@
--- A matching that misses two vertices becomes perfect along one path, if a perfect matching
+-- A matching that misses two vertices becomes perfect along one path, where a perfect matching
 -- exists. The path goes on by the perfect matching's edge and the given one's in turn until it
 -- meets the other missed vertex.
 use Rattle.graph_core.proofs.Perfect.{perfect_matching}
@@ -201,7 +201,7 @@ module _ (g : Graph) (is : IsGraph g) (r m n : Set) (mm : IsMatching g r m) (per
               (longer_below (suc (k + k)) v d.3.0 c.3.0 0 (omega arith) ∙ start) (omega arith)
         ]
 
-    -- a matching that misses x and y alone is one alternating path away from a perfect one, if
+    -- a matching that misses x and y alone is one alternating path away from a perfect one, where
     -- there is one
     pub repair : Within g.order x → r x ≡ false → degree g m x ≡ 0 → RepairPath g r m x y
     repair wx rx dx = walk_on (suc g.order) 0 (λ i. x) (λ i. 0) (record {

@@ -1,4 +1,4 @@
--- One step of the path up from an outer vertex: over its mate to its grandparent.
+-- One step of the way up from an outer vertex: over its mate to its grandparent.
 use Rattle.std.proofs.Common.{◌≡◌, ◌≢◌, ℕ, suc, ◌+◌, ◌≤◌, ◌<◌, true, sym, ap, ◌∙◌, arith, inl, inr, subst, List, get_or}
 use Rattle.std.proofs.lemmas.Grind.{get_or_default_zero}
 use Rattle.std.proofs.lemmas.Bool.{cases_eq}
@@ -36,7 +36,7 @@ module _ (g : Graph) (r f : Set) (mate : List ℕ) (t : AlternatingForest) (h : 
       let p = up_parts in
       subst (λ (x : ℕ). Within g.order x) p.2 ((h.forest.path u o).path.within (suc (numbers t.pairs.items grandparent + numbers t.pairs.items grandparent)) (let k = p.1 in omega arith))
 
-  -- the row with the last two vertices of the path of u, which are those of the path of x, read
+  -- the row with the last two vertices of the path of u, which are those of the path of x, told
   -- from place 2 k on
   pub way_written : (x : ℕ) (row new : List ℕ) (start : ℕ) → ((j : ℕ) → j ≤ numbers t.pairs.items u + numbers t.pairs.items u → h.v u j ≡ h.v x j) → ((j : ℕ) → numbers t.pairs.items u + numbers t.pairs.items u < j → j ≤ numbers t.pairs.items x + numbers t.pairs.items x → numbers row (start + j) ≡ h.v x j) →
       (place : ℕ) → suc place ≡ start + (numbers t.pairs.items u + numbers t.pairs.items u) → ((j : ℕ) → numbers new j ≡ with_mate (with_mate (numbers row) (suc place) u) place (numbers mate u) j) →

@@ -1,4 +1,4 @@
--- How the code keeps an alternating forest: an inner vertex names its parent, and the path goes on
+-- How the code keeps an alternating forest: an inner vertex names its parent, and the way goes on
 -- from there by mates.
 use Rattle.std.specs.Prelude.{◌≢◌, ◌≡◌, ℕ, suc, ◌+◌, ◌≤◌, ◌==◌, ◌&&◌, ◌||◌, true, length, List, Some, None}
 use Rattle.counting.specs.Sets.{Set}
@@ -32,7 +32,7 @@ pub record IsSized (n : ℕ) (t : AlternatingForest) : Type 0 where
   pub parents_long : length t.parent.items ≡ suc n
   pub pairs_long : length t.pairs.items ≡ suc n
 
--- the path up from u: its mate hangs on p, and the path of u is that of p and on by its mate
+-- the way up from u: its mate hangs on p, and the path of u is that of p and on by its mate
 pub record GoesUp (mate : List ℕ) (t : AlternatingForest) (v : ℕ → ℕ → ℕ) (u p : ℕ) : Type 0 where
   pub parent : numbers t.parent.items (numbers mate u) ≡ p
   pub outer : mem t.outer p ≡ true

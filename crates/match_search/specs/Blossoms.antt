@@ -32,7 +32,7 @@ pub record ClosesForest (g : Graph) (r f : Set) (mate : List ℕ) (t : Alternati
   pub different : o.v ≢ o.w
   pub edge : (d : ℕ) × Within (size g) d × HasEnds g d o.v o.w
 
--- the place at which the second path begins
+-- the place at which the second way begins
 abbrev pub second_start : Ways → ℕ
 second_start w = suc (w.first + w.first)
 

@@ -1,5 +1,5 @@
 -- Alternating paths and forests (Edmonds 1965), by places: a path has an even number of edges,
--- counted in pairs.
+-- told in pairs.
 use Rattle.std.specs.Prelude.{◌≡◌, ℕ, zero, suc, ◌+◌, ◌≤◌, ◌<◌, true, false, not}
 use Rattle.counting.specs.Counts.{Within, is_odd}
 use Rattle.counting.specs.Sets.{Set, put}

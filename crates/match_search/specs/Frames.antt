@@ -7,7 +7,7 @@ use Rattle.counting.specs.Sets.{Set, complement, union}
 use Rattle.graph_core.specs.Graph.{Graph, HasEnds, degree, first_end, second_end, size, with_ends}
 use Rattle.graph_core.specs.Matchings.{IsMatching}
 
--- z if v is in c, else v
+-- z where v is in c, else v
 abbrev pub shrunk_vertex : Set → ℕ → ℕ → ℕ
 shrunk_vertex c z v = cond (c v) z v
 

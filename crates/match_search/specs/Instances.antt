@@ -10,8 +10,8 @@ use Rattle.match_search.specs.declared.instance.Instance.{Instance}
 abbrev pub Touches : Instance → ℕ → ℕ → Type 0
 Touches s v w = (u : ℕ) × (mem (item s.rows.items v) u ≡ true) × (mem (item s.members.items w) u ≡ true)
 
--- the instance is g without r: vertices that are left touch if an edge joins them; a loop
--- does not matter. Each is a member of itself, and its only one if it is not a blossom
+-- the instance is g without r: vertices that are left touch where an edge joins them; a loop is
+-- no matter. Each is a member of itself, and its only one where it is not a blossom
 pub record IsInstance (g : Graph) (r : Set) (s : Instance) : Type 0 where
   pub graph : IsGraph g
   pub few : g.order ≤ 128

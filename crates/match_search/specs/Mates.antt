@@ -1,5 +1,5 @@
--- Matchings by mates: for each vertex the other end of its edge, 0 if it is exposed. Which of
--- parallel edges joins two mates is left open.
+-- Matchings by mates: for each vertex the other end of its edge, 0 where it is exposed. Which of
+-- parallel edges joins two mates is not told.
 use Rattle.std.specs.Prelude.{◌≡◌, ◌≢◌, ℕ, zero, suc, ◌+◌, ◌<◌, ◌⊎◌, ◌==◌, cond, true, false, List}
 use Rattle.counting.specs.Counts.{Within}
 use Rattle.counting.specs.Sets.{Set, none}
@@ -45,7 +45,7 @@ pub record NamesMates (ends : List Ends) (m : Set) (mate : List ℕ) (k : ℕ) :
   pub met : (v : ℕ) → numbers mate v ≢ 0 → (j : ℕ) × (j < k) × (m (j + 1) ≡ true) × (((end_a ends j ≡ v) × (end_b ends j ≡ numbers mate v)) ⊎ ((end_a ends j ≡ numbers mate v) × (end_b ends j ≡ v)))
   pub missed : (v : ℕ) → numbers mate v ≡ 0 → (j : ℕ) → j < k → m (j + 1) ≡ true → (end_a ends j ≢ v) × (end_b ends j ≢ v)
 
--- an edge of m joins v to its mate, named by either of the two
+-- an edge of m joins v to its mate, told by either of the two
 abbrev pub JoinsMates : Graph → (ℕ → ℕ) → Set → ℕ → Type 0
 JoinsMates g mate m v = (e w : ℕ) × Within (size g) e × (m e ≡ true) × HasEnds g e v w × ((mate v ≡ w) ⊎ (mate w ≡ v))
 

@@ -16,7 +16,7 @@ pub record IsGathered (before : List (List ℕ)) (x : Set) (z : ℕ) (after : Li
   pub own : IsUnionOf before x (item after z)
   pub others : (v : ℕ) → Within (length before) v → z ≢ v → item after v ≡ item before v
 
--- h is s with the cycle shrunk to the base, which has the neighbours and the members of the cycle
+-- h is s with the ring shrunk to the base, which has the neighbours and the members of the ring
 pub record IsShrinking (s : Instance) (ring : Set) (base : ℕ) (h : Instance) : Type 0 where
   pub rows : IsGathered s.rows.items ring base h.rows.items
   pub members : IsGathered s.members.items ring base h.members.items

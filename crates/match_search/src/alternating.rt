@@ -14,7 +14,7 @@ use std::alloc::{AllocError as Memory, Global};
 use vset_core::{MOST_VERTICES, VSet};
 
 /// An alternating forest: its outer and its inner vertices, for each inner vertex its parent, and
-/// for each outer vertex the number of pairs of edges on its path to the root.
+/// for each outer vertex the number of pairs of edges on its way to the root.
 #[derive(Drop)]
 pub struct AlternatingForest {
     pub outer: VSet,
@@ -23,7 +23,7 @@ pub struct AlternatingForest {
     pub pairs: Vec<usize>,
 }
 
-/// The vertices that are left and exposed, if the candidates hold all of these.
+/// The vertices that are left and exposed, where the candidates hold all of these.
 pub fn exposed_in(candidates: VSet, left: VSet, mate: &[u32]) -> VSet
     requires vertices { (v : ℕ) → mem left v ≡ true → v < length mate.now }
     requires candidates { MayBeExposed left mate.now candidates }

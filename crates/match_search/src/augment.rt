@@ -3,11 +3,11 @@
 //! From the exposed vertices a forest of alternating paths grows. An edge between two of its
 //! outer vertices gives a path that augments the matching, or a blossom. A blossom is shrunk to
 //! its base: a matching of the smaller graph can be completed in it, and a proof that there is no
-//! larger one holds for the graph too. If no edge leaves the forest, its inner vertices show
+//! larger one holds for the graph too. Where no edge leaves the forest, its inner vertices show
 //! that the matching is maximum: without them each outer vertex, a blossom or not, is in an odd
 //! component of its own.
 //!
-//! After a shrinking the forest is grown anew. That takes few steps: the pairs on the path to the
+//! After a shrinking the forest is grown anew. That takes few steps: the pairs on the way to the
 //! base were exchanged, so the base is exposed and a root, and the rest of the blossom is gone.
 ghost use Rattle.std.specs.Prelude.{◌≡◌, ◌<◌, length, IfOk, OnOk, Some};
 ghost use Rattle.counting.specs.Sets.{Set};
@@ -65,7 +65,7 @@ pub fn augment_once(
     }
 }
 
-// Closes the paths of a forest to two of its outer vertices that an edge joins: the matching is
+// Closes the ways of a forest to two of its outer vertices that an edge joins: the matching is
 // augmented along them, or a blossom is answered and its vertices are exposed.
 fn close_gap(
     alloc: Global,

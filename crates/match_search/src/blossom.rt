@@ -1,7 +1,7 @@
-//! Blossoms: if the paths to two adjacent outer vertices meet, an odd cycle closes. Its first
+//! Blossoms: where the ways to two adjacent outer vertices meet, an odd cycle closes. Its first
 //! vertex, where they meet last, is the base. Each vertex of a blossom can be the one that the
-//! edges inside it miss, so the blossom may be shrunk to its base: a matching of the smaller graph
-//! leaves it at one vertex, and is completed round the cycle from there.
+//! edges inside it miss, so the blossom may be shrunk to its base: a matching of the smaller
+//! graph leaves it at one vertex, and is completed round the cycle from there.
 ghost use Rattle.std.specs.Prelude.{◌≡◌, ◌≢◌, ℕ, ◌+◌, ◌-◌, ◌<◌, ◌≤◌, true, length, suc, IfOk, Some};
 ghost use Rattle.counting.specs.Counts.{Within};
 ghost use Rattle.counting.specs.Sets.{Set};
@@ -26,7 +26,7 @@ pub struct Blossom {
     pub members: VSet,
 }
 
-/// The blossom of two paths that meet. The pairs are exchanged along the path to the base, and the
+/// The blossom of two ways that meet. The pairs are exchanged along the way to the base, and the
 /// vertices of the blossom exposed.
 pub fn blossom_of(
     alloc: Global,
@@ -58,7 +58,7 @@ pub fn blossom_of(
     Ok(Blossom { ring, members })
 }
 
-// Exchanges the pairs along two paths that do not meet, and makes their last vertices a pair.
+// Exchanges the pairs along two ways that do not meet, and makes their last vertices a pair.
 fn augment(ways: &Ways, mate: &mut [u32])
     requires ways { (g : Graph) × (r : Set) × (f : Set) × AreClosingWays g r f mate.old ways.now }
     requires apart { (i j : ℕ) → i < suc (ways.now.first + ways.now.first) →
@@ -78,8 +78,8 @@ fn augment(ways: &Ways, mate: &mut [u32])
     );
 }
 
-/// Closes two paths: the matching is augmented along them, or, if they meet, a blossom is answered
-/// and its vertices are exposed.
+/// Closes two ways: the matching is augmented along them, or, where they meet, a blossom is
+/// answered and its vertices are exposed.
 pub fn close(alloc: Global, ways: &Ways, mate: &mut [u32]) -> Result<Option<Blossom>, Memory>
     requires { (g : Graph) × (r : Set) × (f : Set) × AreClosingWays g r f mate.old ways.now }
     ensures closed { IfOk result (λ b. (g : Graph) (r f : Set) →
@@ -97,7 +97,7 @@ pub fn close(alloc: Global, ways: &Ways, mate: &mut [u32]) -> Result<Option<Blos
     }
 }
 
-// The place of a vertex of the cycle that is in a row.
+// The place of a vertex of the ring that is in a row.
 fn place_in(row: VSet, ring: &[u32]) -> usize
     requires some { 1 ≤ length ring.now }
     requires within { (i : ℕ) → Within (length ring.now - 1) i →
@@ -115,8 +115,8 @@ fn place_in(row: VSet, ring: &[u32]) -> usize
     1
 }
 
-/// Opens a blossom after its shrinking: if the base has a mate, this becomes the mate of a
-/// neighbour of it in the cycle, and the other vertices of the cycle are paired round from there;
+/// Opens a blossom after its shrinking: where the base has a mate, this becomes the mate of a
+/// neighbour of it in the ring, and the other vertices of the ring are paired round from there;
 /// else they are paired round from the base.
 pub fn open(instance: &Instance, blossom: &Blossom, mate: &mut [u32])
     requires { (g : Graph) × (r : Set) × (f : Set) × (m : Set) × (n : Set) ×

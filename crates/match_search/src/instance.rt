@@ -2,11 +2,11 @@
 //! its base.
 //!
 //! A vertex that is left stands for its members: at first itself alone, and after a shrinking all
-//! vertices that became it. Its row keeps the neighbours that its members had before any shrinking.
-//! So two vertices are adjacent if the row of one holds a member of the other (`Touches`), and a
-//! shrinking writes no more than the row and the members of the base, each as the union over the
-//! blossom. No row of a neighbour changes, and a shrinking is undone by putting back what stood
-//! there.
+//! vertices that became it. Its row keeps the neighbours that its members had before any
+//! shrinking. So two vertices are adjacent where the row of one holds a member of the other
+//! (`Touches`), and a shrinking writes no more than the row and the members of the base, each as
+//! the union over the blossom. No neighbour is told of it, and it is undone by putting back what
+//! stood there.
 ghost use Rattle.std.specs.Prelude.{◌≡◌, ◌≢◌, ℕ, ◌+◌, ◌-◌, ◌<◌, ◌≤◌, true, false, length, IfOk, ◌∷◌, [], ◌↔◌};
 ghost use Rattle.counting.specs.Counts.{Within};
 ghost use Rattle.counting.specs.Sets.{Set};
@@ -115,7 +115,7 @@ fn write_row(rows: &mut [VSet], v: u32, row: VSet)
     rows[v as usize - 1] = row;
 }
 
-// Makes the row of the base the union of those of the cycle, and answers what it was.
+// Makes the row of the base the union of those of the ring, and answers what it was.
 fn gather(rows: &mut [VSet], ring: VSet, base: u32) -> VSet
     requires vertices { (v : ℕ) → mem ring v ≡ true → Within (length rows.old) v }
     requires base { Within (length rows.old) base }
@@ -139,8 +139,8 @@ pub struct Unshrunk {
 }
 
 impl Instance {
-    /// Shrinks a cycle of vertices to its base: the base has then the neighbours and the members of
-    /// the cycle, and the other vertices of the cycle are removed. Takes no memory, and answers
+    /// Shrinks a ring of vertices to its base: the base has then the neighbours and the members
+    /// of the ring, and the other vertices of the ring are removed. Takes no memory, and answers
     /// what `unshrink` puts back.
     pub fn shrink(&mut self, ring: VSet, base: u32) -> Unshrunk
         requires few { length self.old.rows.items ≤ MOST_VERTICES }

@@ -1,4 +1,4 @@
-//! Matchings by mates: for each vertex the other end of its edge, 0 if it is exposed.
+//! Matchings by mates: for each vertex the other end of its edge, 0 where it is exposed.
 ghost use Rattle.std.specs.Prelude.{◌≡◌, ℕ, ◌+◌, ◌-◌, ◌^◌, ◌<◌, ◌≤◌, cond, length, IfOk};
 ghost use Rattle.counting.specs.Counts.{Within};
 ghost use Rattle.counting.specs.Sets.{Set};
@@ -13,7 +13,7 @@ use crate::cycle::is_every_other;
 use graph_core::Ends;
 use std::alloc::{AllocError as Memory, Global};
 
-/// Makes a vertex exposed. Its mate, if it has one, keeps its own entry.
+/// Makes a vertex exposed. Its mate, if it has one, is not told of it.
 pub fn expose(mate: &mut [u32], v: u32)
     requires within { v < length mate.old }
     ensures { (u : ℕ) → numbers mate.new u ≡ with_mate (numbers mate.old) v 0 u }

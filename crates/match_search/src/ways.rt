@@ -1,4 +1,4 @@
-//! The paths of an alternating forest: that from the root to an outer vertex is read from the
+//! The ways of an alternating forest: the path from the root to an outer vertex, read from the
 //! vertex up to the root.
 ghost use Rattle.std.specs.Prelude.{◌≡◌, ℕ, ◌+◌, ◌<◌, ◌≤◌, true, length, suc, IfOk};
 ghost use Rattle.counting.specs.Sets.{Set};
@@ -46,7 +46,7 @@ pub fn write_way(row: &mut [u32], start: usize, forest: &AlternatingForest, mate
     row[start] = v;
 }
 
-/// The paths to two outer vertices, one after the other in a row: the vertices of each from its
+/// The ways to two outer vertices, one after the other in a row: the vertices of each from its
 /// root on, and the numbers of pairs of their edges.
 #[derive(Drop)]
 pub struct Ways {
@@ -55,8 +55,8 @@ pub struct Ways {
     pub second: usize,
 }
 
-// Writes the path to the first of two vertices at the start of a row, and that to the second after
-// it.
+// Writes the way to the first of two vertices at the start of a row, and the way to the second
+// after it.
 fn write_ways(
     row: &mut [u32],
     start: usize,
@@ -80,7 +80,7 @@ fn write_ways(
     write_way(row, start, forest, mate, gap.w);
 }
 
-/// The paths to two outer vertices that an edge joins.
+/// The ways to two outer vertices that an edge joins.
 pub fn ways_to(
     alloc: Global,
     forest: &AlternatingForest,

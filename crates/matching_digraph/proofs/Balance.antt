@@ -108,7 +108,7 @@ module _ (g : Graph) (is : IsGraph g) where
         second true false true false true h = refl
         second true false true false false h = refl
 
-    -- if each perfect matching leaves y by one edge and y has one vertex more on the left, no
+    -- where each perfect matching leaves y by one edge and y has one vertex more on the left, no
     -- edge leaves it from the and_fails_second
     pub none_right : IsCovered g → (y : Set) → CutIsTight g y → count g.order (meet y x) ≡ count g.order (minus y x) + 1 → (e : ℕ) → Within (size g) e → leaves_right y e ≡ false
     none_right cov y tight more e w = elim (cases_eq (first_end g e) (second_end g e)) [

@@ -29,7 +29,7 @@ mates_from g m u v e w t h = true_some (size g) (λ e. m e && has_ends g u v e) 
 pub mates_edge : (g : Graph) (m : Set) (u v : ℕ) → are_mates g m u v ≡ true → (e : ℕ) × Within (size g) e × (m e ≡ true) × (has_ends g u v e ≡ true)
 mates_edge g m u v h = let r = some_true (size g) (λ e. m e && has_ends g u v e) h in let p = and_parts (m r.0) (has_ends g u v r.0) r.2 in (r.0, r.1, p.0, p.1)
 
--- a test of both ends, if the edge has the ends u and v
+-- a test of both ends, where the edge has the ends u and v
 pub at_ends : (g : Graph) (P : ℕ → ℕ → Type 0) (u v e : ℕ) → ((s t : ℕ) → P s t → P t s) → has_ends g u v e ≡ true → P (first_end g e) (second_end g e) → P u v
 at_ends g P u v e turn h p = elim (has_ends-cases g u v e h) [
   | inl k ↦ subst (λ s. P s v) k.0 (subst (P (first_end g e)) k.1 p)

@@ -30,7 +30,7 @@ pub fn reached_law()
 
 /// No nontrivial tight shore has a and lacks its mate b exactly when all vertices but b are
 /// reached past a from any one other vertex r, and all but a past b in the digraph of the other
-/// side: if the digraph without the edge ab of the matching, with the ends of each other edge
+/// side: where the digraph without the edge ab of the matching, with the ends of each other edge
 /// of it as one node, is strongly connected.
 pub fn unparted_law()
     ensures { (g : Graph) (x m : Set) (a b r : ℕ) →
@@ -42,7 +42,7 @@ pub fn unparted_law()
 {}
 
 /// A bipartite covered graph has no nontrivial tight cut exactly when no nontrivial tight shore
-/// separates a vertex of the side from its mate in one perfect matching.
+/// parts a vertex of the side from its mate in one perfect matching.
 pub fn parted_mates_law()
     ensures { (g : Graph) (x m : Set) → IsGraph g → IsCovered g → IsSide g x → IsPerfect g none m →
         HasNoTightCut g

@@ -1,13 +1,13 @@
 //! Tight cuts of bipartite graphs by reachability in the digraph of a perfect matching.
 //!
-//! Which tight shores separate the ends of an edge of a perfect matching? Direct each edge of the
-//! matching from one side to the other, and take an arc from each vertex of the other side to each
-//! of its neighbours (`arc`). In a covered graph the tight shores with the vertex a of the side and
+//! Which tight shores part an edge of a perfect matching? Direct each edge of the matching from
+//! one side to the other, and take an arc from each vertex of the other side to each of its
+//! neighbours (`arc`). In a covered graph the tight shores with the vertex a of the side and
 //! without its mate are exactly the vertex sets that no arc leaves but that of a
 //! (`tight_shores_law`). So the least of them with a vertex r is what walks reach from r past a
 //! (`Digraph::shore`), and none is nontrivial exactly when two floods, one in the digraph of each
-//! side, reach all (`Digraph::is_unparted`). A covered bipartite graph is a brace exactly when this
-//! holds at each edge of the matching (`parted_mates_law`).
+//! side, reach all (`Digraph::is_unparted`). A covered bipartite graph is a brace exactly when
+//! this holds at each edge of the matching (`parted_mates_law`).
 //!
 //! A flood goes over rows of words, a `VSet` for each vertex, and takes no memory.
 //!

@@ -48,7 +48,7 @@ mem-times [] k l = absurd (omega arith)
 mem-times (j ∷ o) zero l = let z = ap bit (eq-eqb j j refl) in omega arith
 mem-times (j ∷ o) (suc k) l = let a = mem-times o k (omega arith) in omega arith
 
--- if no number stands twice, each stands at its position
+-- where no number stands twice, each stands at its position
 pub position-once : (o : List ℕ) (k : ℕ) → ((i : ℕ) → times o i ≤ 1) → k < length o → position o (slice_index o k) ≡ k + 1
 position-once [] k h l = absurd (omega arith)
 position-once (j ∷ o) zero h l = ap (λ b. cond b 1 (position o j + 1)) (eq-eqb j j refl)

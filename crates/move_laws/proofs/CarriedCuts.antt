@@ -166,7 +166,7 @@ module _ (g : Graph) (is : IsGraph g) (h k : ℕ → ℕ) (p q : List (List ℕ)
     rest-rises : IsRisingIn g.order rest
     rest-rises = rising_list-rises g.order (λ v. not (mem x (k v)))
 
-    -- the image is the shore of the carried cut if the greatest vertex is in no image, and
+    -- the image is the shore of the carried cut where the greatest vertex is in no image, and
     -- else the complement is
     pub image-cut : mem x (k g.order) ≡ false → IsCutAt g q image
     image-cut off = record { set = image-rises; tight = image_is_tight; nontrivial = image_is_nontrivial; canonical = image-mem g.order greatest ∙ off }

@@ -1,5 +1,5 @@
 -- The leaves of a carried tree: they are those of the tree, as same leaves by the names of the
--- images of blocks, and two parts change their places if the complement of an image is taken.
+-- images of blocks, and two parts change their places where the complement of an image is taken.
 use Rattle.std.proofs.Common.{Bool, List, ap, arith, false, length, not, refl, sym, true, ℕ, ◌∙◌, ◌≡◌, cond, map, subst, ◌+◌, ◌-◌}
 use Rattle.std.proofs.lemmas.List.{get_or-map, length-map, map-append}
 use Rattle.std.specs.Prelude.{[], ◌++◌}

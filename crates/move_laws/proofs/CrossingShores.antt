@@ -1,5 +1,5 @@
 -- Exposing a shore that crosses the root shore: the inner and the outer corner are exposed first
--- if they are no single blocks, a Switch exchanges them, and Rotate brings the shore back over
+-- where they are no single blocks, a Switch exchanges them, and Rotate brings the shore back over
 -- both.
 use Rattle.std.proofs.Common.{Bool, List, None, Some, ap, arith, cond, false, if◌then◌else◌, inl, inr, not, refl, sym, true, ℕ, ◌&&◌, ◌∙◌, ◌≡◌, Option}
 use Rattle.counting.proofs.Odd.{odd-add}
@@ -23,7 +23,7 @@ use Rattle.move_laws.proofs.OverOuterCorner.{OuterTurned}
 use Rattle.move_laws.specs.Corners.{outer_of, outer_shore, partner}
 use Rattle.move_laws.specs.Scripts.{AreRising}
 
--- the two corners exposed if they are big, and then over both
+-- the two corners exposed where they are big, and then over both
 over_inner_found : (g : Graph) (p : List (List ℕ)) (x z y : List ℕ) (c : Corners g p x z) → IsRisingIn g.order y → mem x g.order ≡ false → mem y g.order ≡ false → Kind g.order y z →
     (a b : Shape) → AreRising g.order (cut x a b) → IsDerivationAt g p (cut x a b) → Exposes g a → Exposes g b → Exposed g p (cut x a b) y
 over_inner_found g p x z y c sy nx ny kind a b f d ia ib =

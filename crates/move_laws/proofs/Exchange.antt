@@ -1,4 +1,4 @@
--- The exchange law: if a block on each side of a tight shore is exchanged and the new shore is
+-- The exchange law: where a block on each side of a tight shore is exchanged and the new shore is
 -- tight, the four parts are regions as the exchange of blocks asks, so the partitions below the
 -- two shores are the same leaves.
 use Rattle.std.proofs.Common.{Bool, List, ap, arith, cond, false, inl, inr, length, not, refl, suc, sym, true, ℕ, ◌&&◌, ◌+◌, ◌||◌, ◌∙◌, ◌≡◌, ◌≢◌}

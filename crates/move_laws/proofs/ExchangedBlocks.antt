@@ -50,7 +50,7 @@ exchange_over g is p r q a u b v s t pp four mr mq link = record {
     or_b w true e h = ap (λ z. z || v w) e
     or_b w false e h = ap₂ ◌||◌ e h
 
-    -- if w is in Q ∪ v, h w is in v
+    -- where w is in Q ∪ v, h w is in v
     lands : (w : ℕ) → Within g.order w → (b w || v w) ≡ true → (k : Bool) → b w ≡ k → place p (cond k t w) ≡ place p t
     lands w ww h true e = refl
     lands w ww h false e = four.right.one w ww (sym (ap (λ z. z || v w) e) ∙ h)

@@ -1,4 +1,4 @@
--- Four regions of a matching covered graph, two of them single blocks u and v: if b has an
+-- Four regions of a matching covered graph, two of them single blocks u and v: where b has an
 -- even number of blocks and no edge to a, a perfect matching with an edge from u to b shows an
 -- edge from v to b.
 use Rattle.std.proofs.Common.{Bool, List, ap, ap₂, arith, eq-eqb, false, inl, inr, ne_eqb, not, refl, suc, sym, true, ℕ, ◌&&◌, ◌+◌, ◌==◌, ◌||◌, ◌∙◌, ◌≡◌, ◌≢◌, ◌≤◌}

@@ -195,7 +195,7 @@ move_pairs g s t (rotate_at (side ∷ path)) st f d proper e dt =
 move_pairs g s t (switch_at path u v) st f d proper e dt =
     part-pairing g (leaves g.order s) (leaves g.order t) (order_at (switch_order g.order u v) path 0 s) (names_at g.order u v path (singles g.order) s) (switch_along g u v path (singles g.order) 0 s t st f d dt proper e)
 
--- a proper Switch keeps derivations if its new shore is canonical, nontrivial and tight
+-- a proper Switch keeps derivations where its new shore is canonical, nontrivial and tight
 pub switch_derives_law : (g : Graph) (p : List (List ℕ)) (s : Shape) (u v z : List ℕ) (a b : Shape) → IsGraph g → IsPartition g.order p → IsCovered (contracted g p) → IsDerivationAt g p s → BlocksAt g.order p [] u v s → switch_result_at g.order u v s ≡ Some (cut z a b) → IsCutAt g p z → IsDerivationAt g p (cut z a b)
 switch_derives_law g p leaf u v z a b is list cov d blocks e cz = absurd (none-some _ e)
 switch_derives_law g p (cut x c m) u v z a b is list cov d blocks e cz = go (is_proper u x && is_proper v (complement_of g.order x)) refl e

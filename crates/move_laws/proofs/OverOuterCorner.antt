@@ -1,4 +1,4 @@
--- A crossing shore is brought over the outer corner: if this is one block at once, and else
+-- A crossing shore is brought over the outer corner: where this is one block at once, and else
 -- after it was brought to the root of `merged`, and back over it.
 use Rattle.std.proofs.Common.{Bool, List, None, Some, [], ap, arith, false, if◌then◌else◌, inl, inr, length, map, not, refl, subst, sym, true, ℕ, ◌*◌, ◌++◌, ◌+◌, ◌||◌, ◌∙◌, ◌∷◌, ◌≡◌, ◌≤◌, Option, option_and_then, option_map}
 use Rattle.counting.proofs.RisingLists.{rising_list-rises, true_all_in, all_in_false}

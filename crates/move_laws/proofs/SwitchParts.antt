@@ -28,14 +28,14 @@ use Rattle.move_laws.proofs.Switches.{Each, each_of, in_inner_rest, in_outer_res
 use Rattle.move_laws.specs.Exchange.{Corner}
 use Rattle.move_laws.specs.Isomorphisms.{carry}
 
--- if no complement is taken the order stays
+-- where no complement is taken the order stays
 plain_order : (n : ℕ) (f : ℕ → ℕ) (q : List (List ℕ)) (t : Shape) → Each n q t → ((y : List ℕ) → mem y n ≡ false → IsUnion n q (mem y) → mem y (f n) ≡ false) → (k : ℕ) → carry_order n f k t ≡ numbers k (leaf_count t)
 plain_order n f q leaf e h k = refl
 plain_order n f q (cut y a b) e h k =
     ap (λ c. cond c (carry_order n f (k + leaf_count a) b ++ carry_order n f k a) (carry_order n f k a ++ carry_order n f (k + leaf_count a) b)) (h y e.0 e.1)
     ∙ ap₂ ◌++◌ (plain_order n f q a e.2 h k) (plain_order n f q b e.3 h (k + leaf_count a)) ∙ sym (numbers-split k (leaf_count a) (leaf_count b))
 
--- if complements are taken as the shores contain u
+-- where complements are taken as the shores contain u
 turned_order : (n : ℕ) (f : ℕ → ℕ) (u : List ℕ) (q : List (List ℕ)) (t : Shape) → Each n q t → ((y : List ℕ) → mem y n ≡ false → IsUnion n q (mem y) → is_subset u y ≡ mem y (f n)) → (k : ℕ) → kept_order_if_greatest_stays u k t ≡ carry_order n f k t
 turned_order n f u q leaf e h k = refl
 turned_order n f u q (cut y a b) e h k =
@@ -190,7 +190,7 @@ module _ (g : Graph) (p : List (List ℕ)) (stage : Stage g p) (x u v : List ℕ
       go true nv dm = switch_part_v g p stage x u v s t bx d.0.canonical su sv (corner_of (tight_v dm.0.tight)) k a b f d nv (cut_big g p stage (union_list g.order (outer_rest g.order x v) u) dm.0.set dm.0)
       go false nv dm = switch_part_q g p stage x u v s t bx d.0.canonical su sv (corner_of (tight_q dm.0.tight)) k a b f d nv (cut_big g p stage (union_list g.order (inner_rest g.order x u) v) dm.0.set dm.0)
 
-  -- the result is a derivation if its new shore is canonical, nontrivial and tight
+  -- the result is a derivation where its new shore is canonical, nontrivial and tight
   pub switch_derives : (z : List ℕ) (c e : Shape) → IsCutAt g p z → (if mem v g.order then cut (union_list g.order (outer_rest g.order x v) u) (merged_if_greatest_comes g.order x u b) (kept_if_greatest_comes g.order x u v a) else cut (union_list g.order (inner_rest g.order x u) v) (kept_if_greatest_stays g.order x u v a) (merged_if_greatest_stays g.order x u v b)) ≡ cut z c e → IsDerivationAt g p (cut z c e)
   unfolding made
   switch_derives z c e cz same = subst (IsDerivationAt g p) same (go (mem v g.order) refl (subst (IsCutAt g p) (sym (ap root same)) cz))

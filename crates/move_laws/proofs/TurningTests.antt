@@ -22,11 +22,11 @@ fits_carry n k (cut x a b) = go (mem x (k n)) (fits_carry n k a) (fits_carry n k
     go true fa fb = ((rising_list-rises n (λ v. not (mem x (k v))), fb.0, fa.0), omega (arith, fa.1, fb.1))
     go false fa fb = ((rising_list-rises n (λ v. mem x (k v)), fa.0, fb.0), omega (arith, fa.1, fb.1))
 
--- Rotate in `merged`, if the upper shore lies in the lower one
+-- Rotate in `merged`, where the upper shore lies in the lower one
 pub rotate-inside : (x y : List ℕ) (a c d : Shape) → is_subset x y ≡ true → rotate_result_at Merged (cut x a (cut y c d)) ≡ Some (cut y (cut x a c) d)
 rotate-inside x y a c d h = ap (λ k. if k then Some (cut y (cut x a c) d) else (if is_apart x y then Some (cut y c (cut x a d)) else None)) h
 
--- and if the two are apart
+-- and where the two are apart
 pub rotate-apart : (x y : List ℕ) (a c d : Shape) → is_subset x y ≡ false → is_apart x y ≡ true → rotate_result_at Merged (cut x a (cut y c d)) ≡ Some (cut y c (cut x a d))
 rotate-apart x y a c d h k = ap (λ k. if k then Some (cut y (cut x a c) d) else (if is_apart x y then Some (cut y c (cut x a d)) else None)) h ∙ ap (λ k. if k then Some (cut y c (cut x a d)) else None) k
 

@@ -35,7 +35,7 @@ abbrev pub carry_cut : ℕ → (ℕ → ℕ) → List ℕ → Bool → Shape →
 carry_cut n k x t a b = cond t (cut (rising_list n (λ v. not (mem x (k v)))) b a) (cut (rising_list n (λ v. mem x (k v))) a b)
 
 -- the tree with each shore replaced by the canonical one of its image and the image's complement,
--- and the two trees exchanged if the complement is taken
+-- and the two trees exchanged where the complement is taken
 abbrev pub carry : ℕ → (ℕ → ℕ) → Shape → Shape
 carry n k leaf = leaf
 carry n k (cut x a b) = carry_cut n k x (mem x (k n)) (carry n k a) (carry n k b)

@@ -45,7 +45,7 @@ pub fn exchange()
 /// nontrivial, at the one exactly when its image is at the other. A tree is a derivation at the
 /// one exactly when its shores stand there, each without the greatest vertex, and the carried
 /// tree is a derivation at the other: each shore is replaced by the canonical one of its image
-/// and the image's complement, and the two trees change places if the complement is taken.
+/// and the image's complement, and the two trees change places where the complement is taken.
 /// Carried back, such a tree is what it was.
 pub fn carrying()
     ensures tight { (g : Graph) (p q : List (List ℕ)) (names : List ℕ) (x : Set) → IsGraph g →

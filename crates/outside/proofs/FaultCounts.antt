@@ -1,5 +1,5 @@
 -- A count of faults never falls, so a rise in one call of a chain is a rise over the whole chain,
--- and if a whole chain shows no rise, none of its calls does. All of it is linear arithmetic
+-- and where a whole chain shows no rise, none of its calls does. All of it is linear arithmetic
 -- on the counts.
 use Rattle.std.proofs.Common.{◌≡◌, ℕ, ◌<◌, arith}
 use Rattle.std.proofs.lemmas.Bool.Decides.{nat_tests}

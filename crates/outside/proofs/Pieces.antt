@@ -1,5 +1,5 @@
 -- What is written piece by piece is written as one: a piece after a piece is the two joined.
--- The case with known bytes is the associativity of lists, the other computes.
+-- The told case is the associativity of lists, the other computes.
 use Rattle.std.proofs.Common.{◌≡◌, ℕ, ◌+◌, ◌-◌, List, [], ◌++◌, length, take, drop, refl, ap, sym, subst, ◌∙◌, arith, append_assoc, length-drop}
 use Rattle.std.proofs.lemmas.List.{append-nil, take_all}
 use Rattle.std.proofs.Math.Seq.{take-add}

@@ -6,7 +6,7 @@ abbrev pub next_fault : ℕ → ℕ
 next_fault faults = min (faults + 1) (2 ^ 64 - 1)
 
 -- the count of faults after a write that took so many bytes of a piece of that size: one more
--- if none was taken and the piece is not empty
+-- where none was taken and the piece is not empty
 abbrev pub faults_after : ℕ → ℕ → ℕ → ℕ
 faults_after faults count size = if count == 0 && nat_lt 0 size then next_fault faults else faults
 

@@ -10,7 +10,7 @@ use Rattle.outside.specs.Shelf.{Named, TellsFile}
 abbrev pub bytes_kept : Option (Vec ℕ) → Option (List ℕ)
 bytes_kept kept = option_map (λ bytes. bytes.items) kept
 
--- what is kept after a read of that name, if anything: if the files are known, the file of that
+-- what is kept after a read of that name, if anything: where the files are told, the file of that
 -- name
 abbrev pub IsFileOf : Option (List Named) → List ℕ → Option (List ℕ) → Type 0
 IsFileOf files name None = Unit {0}

@@ -22,7 +22,7 @@ size_for sizes call = max (slice_index_or sizes (call - 1) (2 ^ 64 - 1)) 1
 abbrev pub portion : SourceState → ℕ → ℕ
 portion source size = min size (min (size_for source.sizes (next_call source.calls)) (length source.left))
 
--- the bytes of a read, none if it failed
+-- the bytes of a read, none where it failed
 abbrev pub bytes_given : Option (List ℕ) → List ℕ
 bytes_given None = []
 bytes_given (Some bytes) = bytes

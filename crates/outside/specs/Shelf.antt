@@ -1,4 +1,4 @@
--- What a shelf makes known of its files.
+-- What a shelf tells of its files.
 use Rattle.std.specs.Prelude.{◌≡◌, ℕ, ◌<◌, ◌≤◌, List, [], ◌∷◌, length, take, if◌then◌else◌}
 use Rattle.std.specs.declared.option.Option.{Option}
 use Rattle.std.specs.declared.option.Option.TheVariants.{Some, None}
@@ -8,7 +8,7 @@ use Rattle.std.specs.Str.{bytes_eq}
 abbrev pub Named : Type 0
 Named = List ℕ × List ℕ
 
--- the bytes of the first file of that name; none if the name is not held
+-- the bytes of the first file of that name; none where the name is not held
 abbrev pub file_named : List ℕ → List Named → Option (List ℕ)
 file_named name [] = None
 file_named name (file ∷ files) = if bytes_eq file.0 name then Some file.1 else file_named name files
@@ -26,12 +26,12 @@ ReadsInTurn {S} reads (name ∷ names) first last = (next : S) × (reads first n
 abbrev pub ReadsFirst : {S : Type 0} → (S → List ℕ → S → Type 0) → List (List ℕ) → S → S → Type 0
 ReadsFirst reads names first last = (count : ℕ) × ((count ≤ length names) × ReadsInTurn reads (take count names) first last)
 
--- if the files are known, this is the file of that name, or none
+-- where the files are told, this is the file of that name, or none
 abbrev pub TellsFile : Option (List Named) → List ℕ → Option (List ℕ) → Type 0
 TellsFile None name file = Unit {0}
 TellsFile (Some files) name file = file_named name files ≡ file
 
--- if the files are known, the one of that name is longer than the limit; if not, more bytes
+-- where the files are told, the one of that name is longer than the limit; where not, more bytes
 -- than it were taken
 abbrev pub IsLonger : Option (List Named) → List ℕ → ℕ → ℕ → Type 0
 IsLonger None name limit taken = limit < taken

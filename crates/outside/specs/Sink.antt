@@ -1,16 +1,16 @@
--- What a sink makes known of its bytes, and which writes lead from one sink to another.
+-- What a sink tells of its bytes, and which writes lead from one sink to another.
 use Rattle.std.specs.Prelude.{◌≡◌, ℕ, ◌+◌, ◌<◌, zero, suc, List, ◌++◌, length, drop}
 use Rattle.std.specs.declared.result.Result.{Result}
 use Rattle.std.specs.declared.result.Result.TheVariants.{Ok, Err}
 use Rattle.std.specs.declared.option.Option.{Option}
 use Rattle.std.specs.declared.option.Option.TheVariants.{Some, None}
 
--- the bytes written once a piece is appended, if they are known
+-- the bytes written once a piece is appended, where they are told
 abbrev pub appended : Option (List ℕ) → List ℕ → Option (List ℕ)
 appended None piece = None
 appended (Some bytes) piece = Some (bytes ++ piece)
 
--- how many bytes a write took: none if it failed
+-- how many bytes a write took: none where it failed
 abbrev pub taken_by : {E : Type 0} → Result ℕ E → ℕ
 taken_by (Ok count) = count
 taken_by (Err error) = 0

@@ -5,7 +5,7 @@ ghost use Rattle.std.specs.declared.option.Option.TheVariants.{None};
 use crate::{Sink, SinkFailed};
 use std::marker::Model;
 
-/// A sink that counts bytes and keeps none: it takes every piece whole, never fails, and shows no
+/// A sink that counts bytes and keeps none: it takes every piece whole, never fails, and tells no
 /// content.
 ///
 /// A contract sees it as the number of bytes written, which stays at the greatest u64 once it is

@@ -16,11 +16,11 @@ use std::rt::Files;
 // how many bytes one turn of a read asks for
 const PIECE: usize = 4096;
 
-/// A shelf of the files that a runtime reaches by name: the trusted edge, which says nothing about
-/// the content and is never steady.
+/// A shelf of the files that a runtime reaches by name: the trusted edge, which tells nothing of
+/// content and is never steady.
 ///
 /// A contract sees it as an `OpenState`: the bytes that the last read took, the count of faults,
-/// which stays at the greatest u64 once it is there, and why the last read failed, if it did.
+/// which stays at the greatest u64 once it is there, and why the last read failed, where it did.
 #[derive(Drop)]
 pub struct DirShelf<'a, R: Files> {
     runtime: &'a R,
@@ -75,7 +75,7 @@ fn reason_unopened<R: Files>(runtime: &R, name: &str, kind: ErrorKind) -> Reason
 }
 
 // Appends the bytes of the file of that name: all of them, if they are at most `limit`, else
-// `limit + 1`. Each turn takes at least one byte or ends the read. If a call fails, the reason
+// `limit + 1`. Each turn takes at least one byte or ends the read. Where a call fails, the reason
 // is put down.
 fn fill<R: Files>(
     runtime: &R,

@@ -26,10 +26,10 @@ pub enum Reason {
 pub trait Explain: Shelf {
     ghost use Rattle.outside.specs.declared.explain.Reason.{Reason};
 
-    /// Why the last read failed, if it did and the shelf knows.
+    /// Why the last read failed, where it did and the shelf knows.
     ghost reason: { Self → Option Reason };
 
-    /// Why the last read failed, if it did and the shelf knows. Takes no memory.
+    /// Why the last read failed, where it did and the shelf knows. Takes no memory.
     fn reason(&self) -> Option<Reason>
         ensures { result ≡ reason self.now };
 }

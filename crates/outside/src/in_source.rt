@@ -9,7 +9,7 @@ use std::io::Read;
 use std::marker::Model;
 
 /// A source over a reader of the runtime, as its standard input or a file that it opened: the
-/// trusted edge, which says nothing about the content.
+/// trusted edge, which tells nothing of content.
 ///
 /// A contract sees it as the count of faults, which stays at the greatest u64 once it is there.
 #[derive(Drop)]
@@ -27,7 +27,7 @@ impl<R: Read + Drop> Model for InSource<R> {
 }
 
 impl<R: Read + Drop> InSource<R> {
-    /// The source that this reader is. With none, as when a file was not opened, each read
+    /// The source that this reader is. With none, as where a file was not opened, each read
     /// fails. It takes no memory.
     pub fn new(reader: Option<R>) -> InSource<R>
         ensures { result ≡ 0 }

@@ -15,10 +15,10 @@ pub trait Keeping: Explain {
     ghost use Rattle.std.specs.declared.option.Option.{Option};
     ghost use Rattle.outside.specs.Keeping.{IsFileOf};
 
-    /// The bytes that the last read gave, if it gave some.
+    /// The bytes that the last read gave, where it gave some.
     ghost kept: { Self → Option (List ℕ) };
 
-    /// The bytes that the last read gave, if it gave some. Takes no memory.
+    /// The bytes that the last read gave, where it gave some. Takes no memory.
     fn kept(&self) -> Option<&[u8]>
         ensures { option_map (λ bytes. bytes.now) result ≡ kept self.now };
 
@@ -30,7 +30,7 @@ pub trait Keeping: Explain {
 /// A shelf that keeps the bytes of the file that it read last, and is in all else the shelf that
 /// it is made of.
 ///
-/// Nothing is kept if the last read gave no bytes. A read takes memory for its bytes twice.
+/// Nothing is kept where the last read gave no bytes. A read takes memory for its bytes twice.
 #[derive(Drop)]
 pub struct KeepingShelf<S: Shelf + Drop> {
     /// The shelf that is read.

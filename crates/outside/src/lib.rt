@@ -3,18 +3,18 @@
 //!
 //! A `Shelf` gives the bytes of a file by its name, a `Source` gives the bytes of an input piece
 //! by piece, and a `Sink` takes those of an output. Each counts its faults, and a fault comes
-//! only if that count rose in the call (`Rose`); so a caller who answers "it could not be
-//! read" or "it could not be written" can be held to it. A shelf may make its files known
+//! only where that count rose in the call (`Rose`); so a caller who answers "it could not be
+//! read" or "it could not be written" can be held to it. A shelf may tell its files
 //! (`file_named`), a source the bytes that are left (`prepended`), a sink its bytes (`appended`):
-//! then what is read and written is known exactly. A steady shelf, whose files are known, fails
+//! then what is read and written is known exactly. A steady shelf, which tells its files, fails
 //! only at a name that it does not hold.
 //!
 //! Two kinds of forms keep these contracts. `MemShelf`, `MemSource`, `MemSink` and `CountSink`
-//! stand in memory, and their contracts give every answer and every next state, the planned faults
-//! among them: a caller is tried over them. `DirShelf`, `InSource` and `OutSink` are the files, the
-//! standard input and the standard output of the runtime, and `LineSink` its standard error, line
-//! by line, the trusted edge: they say nothing about the content. A call of theirs that a signal
-//! interrupts is tried again. `emit` writes a whole output to a sink.
+//! stand in memory, and their contracts give every answer and every next state, the planned
+//! faults among them: a caller is tried over them. `DirShelf`, `InSource` and `OutSink` are the
+//! files, the standard input and the standard output of the runtime, and `LineSink` its standard
+//! error, line by line, the trusted edge: they tell nothing of content. A call of theirs that a
+//! signal interrupts is tried again. `emit` writes a whole output to a sink.
 //!
 //! For who has to say in words what went wrong, a `KeepingShelf` keeps the bytes of the file that
 //! it read last (`Keeping`), a shelf may `Explain` why a read failed, and an `Outlet` is a sink

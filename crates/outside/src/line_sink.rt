@@ -10,7 +10,7 @@ use std::marker::Model;
 const ROOM: usize = 512;
 
 /// A stream of a runtime to which lines go out whole, as its standard error: the trusted edge,
-/// which says nothing about the content.
+/// which tells nothing of content.
 ///
 /// What is written is held until a line feed comes or the room is full, and then goes out by one
 /// call, so that lines of several programs do not mix. What does not end with a line feed stays

@@ -19,7 +19,7 @@ struct StoredFile {
     bytes: Vec<u8>,
 }
 
-/// A shelf in memory, whose files are known, and whose reads of chosen numbers fail.
+/// A shelf in memory, which tells its files, and whose reads of chosen numbers fail.
 ///
 /// A contract sees it as a `ShelfState`: the files by name and bytes, in the order they were put,
 /// the numbers kept, the counts of calls and of faults, each of which stays at its type's

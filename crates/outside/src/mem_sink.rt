@@ -9,7 +9,7 @@ use crate::{Outlet, Sink, SinkFailed};
 use std::alloc::{AllocError as Memory, Global};
 use std::marker::Model;
 
-/// A sink in memory, whose bytes are known: it has a room, takes at most so many bytes for one
+/// A sink in memory, which tells its bytes: it has a room, takes at most so many bytes for one
 /// call, and its writes of chosen numbers fail.
 ///
 /// A contract sees it as a `SinkState`: the bytes written, the room, the most for one call, the
@@ -43,7 +43,7 @@ impl Model for MemSink {
 
 impl MemSink {
     /// An empty sink with room for `room` bytes, all of it taken from memory now, which takes at
-    /// most `most` bytes for one call. `Memory` if the room is not to be had.
+    /// most `most` bytes for one call. `Memory` where the room is not to be had.
     pub fn new(alloc: Global, room: usize, most: usize) -> Result<MemSink, Memory>
         requires { 1 ≤ most }
         ensures { IfOk result (λ sink. sink ≡ record {

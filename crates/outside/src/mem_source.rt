@@ -9,8 +9,8 @@ use crate::{Source, SourceFailed};
 use std::alloc::{AllocError as Memory, Global};
 use std::marker::Model;
 
-/// A source in memory, whose bytes left are known: each call gives at most so many as are planned
-/// for it, and the reads of chosen numbers fail.
+/// A source in memory, which tells the bytes that are left: each call gives at most so many as
+/// are planned for it, and the reads of chosen numbers fail.
 ///
 /// A contract sees it as a `SourceState`: the bytes left, the most for each call, the numbers
 /// kept, and the counts of calls and of faults, each of which stays at its type's greatest value

@@ -1,4 +1,4 @@
-//! Reads and writes that are tried again if a signal interrupts them.
+//! Reads and writes that are tried again where a signal interrupts them.
 ghost use Rattle.std.specs.Prelude.{◌≤◌, IfOk, length};
 
 use std::io::{ErrorKind, Read, Result, Write};

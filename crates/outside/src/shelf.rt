@@ -34,11 +34,11 @@ impl Error for ShelfFault {}
 
 /// A place that gives the bytes of a file by its name.
 ///
-/// If it makes its files known, a read is known exactly: it gives the first file of that name. If
-/// not, as over real files, the count of faults and the number of bytes taken still say why a read
-/// gave none.
+/// Where it tells its files, a read is known exactly: it gives the first file of that name. Where
+/// it does not, as over real files, the count of faults and the number of bytes taken still say
+/// why a read gave none.
 pub trait Shelf {
-    /// The files that are held, in order, if the shelf makes them known.
+    /// The files that are held, in order, where the shelf tells them.
     ghost files: { Self → Option (List Named) };
 
     /// How many bytes the last read took.
@@ -57,9 +57,9 @@ pub trait Shelf {
 
     /// The bytes of the first file of that name, if they are at most `limit`.
     ///
-    /// `Failed` comes only if the count of faults rose in this call, and over a steady shelf
-    /// only if the name is not held. `TooLong` comes only if the file has more bytes than
-    /// `limit`, or, if the files are not known, if more than `limit` bytes were taken.
+    /// `Failed` comes only where the count of faults rose in this call, and over a steady shelf
+    /// only where the name is not held. `TooLong` comes only where the file has more bytes than
+    /// `limit`, or, where the files are not told, where more than `limit` bytes were taken.
     /// `Memory` may come at any time. No read changes the files.
     fn read(&mut self, alloc: Global, name: &str, limit: usize) -> Result<Vec<u8>, ShelfFault>
         requires { limit < 2 ^ 64 - 1 }
@@ -81,6 +81,6 @@ pub trait Shelf {
         ensures too_long { IsErrOf result ShelfFault.TooLong →
             IsLonger (files self.old) name.now limit (taken self.new) };
 
-    /// A steady shelf makes its files known.
+    /// A steady shelf tells its files.
     ghost steady_tells: { (shelf : Self) → IsTrue (steady shelf) → IsSome (files shelf) };
 }

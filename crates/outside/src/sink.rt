@@ -25,22 +25,22 @@ impl Error for SinkFailed {}
 /// nothing is left, until `SinkFailed`, or until nothing is taken of a rest that is not empty:
 /// the last two are faults, and are counted.
 pub trait Sink {
-    /// The bytes written so far, if the sink makes them known.
+    /// The bytes written so far, where the sink tells them.
     ghost written: { Self → Option (List ℕ) };
 
     /// The count of writes that failed or took nothing of a piece that is not empty; it never
     /// falls.
     ghost faults: { Self → ℕ };
 
-    /// A write of that piece, which took so many of its bytes (0 if it failed), leads from the
+    /// A write of that piece, which took so many of its bytes (0 where it failed), leads from the
     /// first sink to the second. Code that is generic over its sink knows no other way from one
-    /// sink to the next, so by this it says which pieces it wrote, in which order, and that no
+    /// sink to the next, so by this it tells which pieces it wrote, in which order, and that no
     /// write follows a failed one (`IsWritten`, `IsCutOff`).
     ghost writes: { Self → List ℕ → ℕ → Self → Type 0 };
 
     /// Appends the first bytes of the piece, and answers how many.
     ///
-    /// `SinkFailed`, and 0 for a piece that is not empty, come only if the count of faults
+    /// `SinkFailed`, and 0 for a piece that is not empty, come only where the count of faults
     /// rose in this call. After `SinkFailed` what was written is as before.
     fn write(&mut self, bytes: &[u8]) -> Result<usize, SinkFailed>
         ensures writes { writes self.old bytes.now (taken_by result) self.new }

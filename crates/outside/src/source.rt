@@ -25,7 +25,7 @@ impl Error for SourceFailed {}
 /// only at the end. So the bytes that are left are the same whatever the pieces are in which they
 /// come.
 pub trait Source {
-    /// The bytes that are left to read, if the source makes them known.
+    /// The bytes that are left to read, where the source tells them.
     ghost left: { Self → Option (List ℕ) };
 
     /// The count of reads that failed; it never falls.
@@ -33,12 +33,12 @@ pub trait Source {
 
     /// A read that gave these bytes, or failed, leads from the first source to the second. Code
     /// that is generic over its source knows no other way from one source to the next, so by this
-    /// it says what its reads gave, and in which order.
+    /// it tells what its reads gave, and in which order.
     ghost reads: { Self → Option (List ℕ) → Self → Type 0 };
 
     /// Puts the next bytes at the front of the piece, and answers how many.
     ///
-    /// 0 for a piece that is not empty comes only at the end. `SourceFailed` comes only if the
+    /// 0 for a piece that is not empty comes only at the end. `SourceFailed` comes only where the
     /// count of faults rose in this call, and then as many bytes are left as before.
     fn read(&mut self, piece: &mut [u8]) -> Result<usize, SourceFailed>
         ensures reads { reads self.old (given_by result piece.new) self.new }

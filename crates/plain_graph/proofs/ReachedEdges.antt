@@ -1,5 +1,5 @@
 -- A graph whose edges are the first k pairs of a list: it is a multigraph within the limits, so
--- each of these pairs is two different vertices, and there are not too many of them.
+-- each of these pairs is two different vertices, and they are no more than a graph may have.
 use Rattle.std.proofs.Common.{◌≡◌, ℕ, ◌-◌, ◌<◌, ◌≤◌, List, length, take, suc, sym, ap, ◌∙◌, subst, arith}
 use Rattle.std.proofs.lemmas.List.{get_or-take, length-take-le}
 use Rattle.counting.specs.Counts.{Within}

@@ -34,7 +34,7 @@ first_of : (o : Option ℕ) (xs : List ℕ) (u : ℕ) → IfSome o (IsLeastOf xs
 first_of None xs u some m none = absurd (both_ways (mem xs u) (ap (λ ys. mem ys u) none) m)
 first_of (Some x) xs u some m none = some
 
--- a vertex outside s is the least of its component if it is the first of the vertices that it
+-- a vertex outside s is the least of its component where it is the first of the vertices that it
 -- is joined to
 pub least-first : (g : Graph) (s : Set) (u : ℕ) (part : List ℕ) (o : Option ℕ) → Within g.order u → s u ≡ false → ((v : ℕ) → Within g.order v → mem part v ≡ joined g s u v) → ((v : ℕ) → mem part v ≡ true → Within g.order v) →
     IfSome o (IsLeastOf part) → IfNone o (part ≡ []) → (unwrap_or o u == u) ≡ is_least g s u

@@ -1,4 +1,4 @@
--- What a trial of all sets of edges says of the tests that quantify over sets: a matching is on
+-- What a trial of all sets of edges tells of the tests that quantify over sets: a matching is on
 -- the list as its rising list, and a test of a set of edges sees nothing but the edges.
 use Rattle.std.proofs.Common.{◌≡◌, ℕ, ◌+◌, ◌≤◌, ◌<◌, ◌==◌, ◌&&◌, true, false, not, refl, sym, ap, ap₂, ◌∙◌, arith, List, [], length, get_or, eq-eqb, eqb-true, ne_eqb, subst, inl, inr, max}
 use Rattle.counting.proofs.Booleans.{same_tests}
@@ -44,7 +44,7 @@ perfect_matchings-all g r m p =
     Contains-filter (λ m. is_perfect g r (mem m)) (subsets (size g)) (rising_list (size g) m) (subsets-all (size g) m)
     (is_perfect_congr g r (mem (rising_list (size g) m)) m (mem-rising_list (size g) m) ∙ true_is_perfect g r m p)
 
--- there is a perfect matching if the list is not empty
+-- there is a perfect matching where the list is not empty
 pub has_perfect-list : (g : Graph) (r : Set) → not (length (perfect_matchings_of g r) == 0) ≡ has_perfect g r
 has_perfect-list g r = elim (cases_Bool (has_perfect g r)) [
   | inl t ↦ let p = has_perfect_says g r t in let c = perfect_matchings-all g r p.0 p.1 in
@@ -58,7 +58,7 @@ has_perfect-list g r = elim (cases_Bool (has_perfect g r)) [
         zero_from_none : (n : ℕ) → (0 < n → ⊥) → n ≡ 0
         zero_from_none n h = omega arith
 
--- an edge is allowed if an item of the list contains it
+-- an edge is allowed where an item of the list contains it
 pub is_allowed-list : (g : Graph) (e : ℕ) → Within (size g) e → list_any (λ m. mem m e) (perfect_matchings_of g none) ≡ is_allowed g e
 is_allowed-list g e w = same_tests (list_any (λ m. mem m e) (perfect_matchings_of g none)) (is_allowed g e)
     (λ t. let a = Any-from_list_any (λ m. mem m e) (perfect_matchings_of g none) t in
@@ -66,7 +66,7 @@ is_allowed-list g e w = same_tests (list_any (λ m. mem m e) (perfect_matchings_
     (λ t. let a = is_allowed_says g e t in let c = perfect_matchings-all g none a.0 a.1 in
     list_any_at (λ m. mem m e) (perfect_matchings_of g none) c.0 (rising_list (size g) a.0) c.1 (ap (λ m. mem m e) c.2 ∙ mem-rising_list (size g) a.0 e w ∙ a.2))
 
--- a shore is tight if its sides are odd and each item of the list has one edge in its cut
+-- a shore is tight where its sides are odd and each item of the list has one edge in its cut
 pub is_tight-list : (g : Graph) (x : Set) → (has_odd_sides g x && list_all (λ m. edges_in_cut g (mem m) x == 1) (perfect_matchings_of g none)) ≡ is_tight g x
 is_tight-list g x = elim (cases_Bool (has_odd_sides g x)) [
   | inr f ↦ and_left (has_odd_sides g x) (list_all (λ m. edges_in_cut g (mem m) x == 1) (perfect_matchings_of g none)) f ∙ sym (and_left (has_odd_sides g x) _ f)
@@ -94,7 +94,7 @@ matching_of-size g r m h =
 pub matching_of-none : (g : Graph) (r : Set) → has_matching_of g r 0 ≡ true
 matching_of-none g r = subst (λ k. has_matching_of g r k ≡ true) (total_none (size g) _ (λ e w. refl)) (matching_of-size g r none (true_is_matching g r none (none_matching g r)))
 
--- if no item of the list of all sets that is a matching is longer, no matching is
+-- where no item of the list of all sets that is a matching is longer, no matching is
 pub greatest-list : (g : Graph) (r : Set) (most : ℕ) → All (λ m. is_matching g r (mem m) ≡ true → length m ≤ most) (subsets (size g)) → (m : Set) → IsMatching g r m → count (size g) m ≤ most
 greatest-list g r most h m p =
     let c = subsets-all (size g) m in

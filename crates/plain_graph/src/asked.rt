@@ -15,7 +15,7 @@ pub fn is_covered(alloc: Global, g: &MultiGraph) -> Result<bool, Memory>
     g.keeps_limits();
     match covered(alloc, g)? {
         Verdict::Covered => Ok(true),
-        // one reason is named, so that the borrow checker knows their type
+        // one reason is named, so that the borrow checker is told of their type
         Verdict::NotCovered(Reason::Small) => Ok(false),
         Verdict::NotCovered(_) => Ok(false),
     }

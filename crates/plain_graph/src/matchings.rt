@@ -81,7 +81,7 @@ pub fn is_allowed(alloc: Global, graph: &MultiGraph, edge: u32) -> Result<bool, 
 }
 
 /// The greatest size of those of the sets that are matchings of the graph without `removed`, and
-/// 0 if none is.
+/// 0 where none is.
 fn greatest_among(graph: &MultiGraph, removed: VSet, sets: &[VSet]) -> u32
     requires small { IsSmall graph.now }
     requires edges { All (IsRisingIn (size graph.now)) sets.now }

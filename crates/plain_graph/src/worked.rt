@@ -152,9 +152,9 @@ pub const TWO_K4: [(u32, u32); 11] = [
 ];
 
 /// The graph of `order` vertices with these edges, numbered in their order. A fault is that of
-/// the first edge that has one: `Range` if an end is not a vertex, `Loop` if the two ends
-/// are one vertex, `TooMany` if there are `MOST_EDGES` edges before it; without a fault there
-/// are no errors but `Memory`.
+/// the first edge that has one: `Range` where an end is not a vertex, `Loop` where the two ends
+/// are one vertex, `TooMany` where there are `MOST_EDGES` edges before it; without a fault there
+/// is no error but `Memory`.
 pub fn graph_with(alloc: Global, order: u32, edges: &[(u32, u32)]) -> Result<MultiGraph, AddFault>
     requires { order ≤ MOST_VERTICES }
     ensures graph { IfOk result (λ g. g ≡ record { order = order; ends = edges.now }) }

@@ -1,7 +1,7 @@
--- Does a bipartite covered graph have a nontrivial tight cut if a perfect matching is left without
+-- Has a bipartite covered graph a nontrivial tight cut, where a perfect matching is left without
 -- any two vertices of each side? No: a tight set has one vertex more of one side, and no edge
--- leaves it from the other; so two of the larger side in it, and two of the other side outside it,
--- leave no perfect matching.
+-- leaves it from the other; so two of the larger side in it, and two of the other side outside
+-- it, leave no perfect matching.
 use Rattle.std.proofs.Common.{◌≡◌, ℕ, suc, zero, ◌+◌, ◌*◌, ◌≤◌, ◌≢◌, Bool, true, false, ◌==◌, refl, sym, ap, ◌∙◌, arith, ◌&&◌, ◌||◌, not, ne_eqb, eqb-true}
 use Rattle.std.proofs.lemmas.Bool.{true≢false, and_parts, not-false, not-true}
 use Rattle.barrier_kit.proofs.Matched.{perfect_congr}

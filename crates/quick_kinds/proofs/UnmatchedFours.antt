@@ -1,4 +1,4 @@
--- Which cut of a bipartite covered graph is tight, if two vertices of each side leave no
+-- Which cut of a bipartite covered graph is tight, where two vertices of each side leave no
 -- perfect matching? Hall's condition fails for some vertices, and these with their neighbours are
 -- a nontrivial tight set.
 use Rattle.std.proofs.Common.{◌≡◌, ℕ, ◌+◌, ◌*◌, ◌≤◌, ◌<◌, ◌≢◌, Bool, true, false, ◌==◌, refl, sym, ap, ap₂, ◌∙◌, arith, ◌&&◌, ◌||◌, not, eq-eqb, ne_eqb, eqb-true, nat_lt, ltb-true, ltb-false, ◌⊎◌, inl, inr}
@@ -159,7 +159,7 @@ module _ (g : Graph) (is : IsGraph g) (cov : IsCovered g) where
         all : (v : ℕ) → Within g.order v → complement (λ v. some g.order (λ z. lefts z && star z v)) v ≡ four_set a c b d v
         all v w = ap not (cover v w) ∙ not_not (four_set a c b d v)
 
-    -- and if it does not, a tight set
+    -- and where it does not, a tight set
     module _ (z : Set) (few : count g.order (neighbours g.order beside rights (meet z lefts)) < count g.order (meet z lefts)) where
       abbrev some_left : Set
       some_left = meet z lefts

@@ -191,7 +191,7 @@ words-names : (names : List (List ℕ)) → AllByRecursion (λ (name : List ℕ)
 words-names [] each = tt
 words-names (name ∷ names) each = (is_word-name name each.0, words-names names each.1)
 
--- the lines that name the first vertices of a graph are comments, if they are written so
+-- the lines that name the first vertices of a graph are comments, where they are written so
 pub given_names-commented : (report text : List ℕ) (names : List (List ℕ)) (comments : Bool) (k : ℕ) → AreNames names → k ≤ length names → text ≡ report ++ name_lines comments names k → comments ≡ true → IsCommented report text
 given_names-commented report text names comments k are some is marked =
     let few = are.few in

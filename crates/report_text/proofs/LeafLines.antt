@@ -1,5 +1,5 @@
--- The lines of the leaves grow by those of one leaf: those before it give their own kinds.
--- By induction over the leaves, and what stands at a place stays when a kind is appended.
+-- The lines of the leaves grow by those of one leaf: those before it tell their own kinds.
+-- By induction over the leaves, and what stands at a place stays where a kind is appended.
 use Rattle.std.proofs.Common.{◌≡◌, ◌≤◌, ℕ, zero, suc, ◌+◌, ◌-◌, List, [], ◌∷◌, ◌++◌, length, map, ap, ap₂, refl, subst, subst₂, sym, ◌∙◌, get_or, slice_get, Some, inl, inr, arith}
 use Rattle.std.proofs.Math.ListN.{get_or-append}
 use Rattle.std.proofs.Math.Seq.{get_or-append_seam}
@@ -17,7 +17,7 @@ use Rattle.tree_core.specs.declared.tallies.LeafKind.{LeafKind}
 use Rattle.tree_core.specs.declared.tallies.LeafKind.TheVariants.{Brick}
 use Rattle.report_text.proofs.WrittenLines.{leaf-written}
 
--- the lines of the first leaves do not give the kinds of later ones
+-- the lines of the first leaves don't tell the kinds of later ones
 lines-before : (g : Graph) (ps : List (List (List ℕ))) (kinds more : List LeafKind) (i : ℕ) → i ≤ length kinds → leaf_lines g ps kinds i ≡ leaf_lines g ps (kinds ++ more) i
 lines-before g ps kinds more zero l = refl
 lines-before g ps kinds more (suc i) l =

@@ -12,7 +12,7 @@ pub record IsCommented (text report : List ℕ) : Type 0 where
   pub each : AllByRecursion IsComment lines
   pub is : report ≡ text ++ written lines
 
--- what is reported on leaves is in numbers of at most nine digits: the leaves are partitions of
+-- what is told of leaves is told in numbers of at most nine digits: the leaves are partitions of
 -- the vertices of the graph, there are no more kinds than leaves, and there are not too many
 -- vertices, edges and leaves
 pub record HasFewLeaves (g : Graph) (ps : List (List (List ℕ))) (kinds : List LeafKind) : Type 0 where

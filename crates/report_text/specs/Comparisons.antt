@@ -1,5 +1,5 @@
 -- The report of `compare` on two derivations of one graph, as a function of the values that it
--- reports: how many leaves the first has and how many moves there are, the moves in order, and for
+-- tells: how many leaves the first has and how many moves there are, the moves in order, and for
 -- each leaf of the first its partner and for each of its blocks the image.
 use Rattle.std.specs.Prelude.{ℕ, List, [], ◌∷◌, ◌++◌, length, codes}
 use Rattle.std.specs.Fmt.{decimal}

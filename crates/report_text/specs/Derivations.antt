@@ -1,5 +1,5 @@
 -- The report of `decompose` on a matching covered graph, as a function of the values that it
--- reports: a text, which is that of the tree, and after it comments: for each leaf its kind, its
+-- tells: a text, which is that of the tree, and after it comments: for each leaf its kind, its
 -- blocks, and for each two adjacent blocks the edges of the graph between them; and last how many
 -- leaves there are.
 use Rattle.std.specs.Prelude.{ℕ, zero, suc, List, [], ◌++◌, length, slice_index_or, codes}

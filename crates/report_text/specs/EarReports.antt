@@ -1,4 +1,4 @@
--- The report of `ears` on a matching covered graph, as a function of the values that it reports: a
+-- The report of `ears` on a matching covered graph, as a function of the values that it tells: a
 -- text, which is that of the ear list, and after it a comment with the number of its steps, of
 -- those of one ear, and of those of two.
 use Rattle.std.specs.Prelude.{ℕ, List, ◌++◌, codes}

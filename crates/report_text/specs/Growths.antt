@@ -1,4 +1,4 @@
--- The report of `grow`, as a function of the values that it reports: a text, which is that of the
+-- The report of `grow`, as a function of the values that it tells: a text, which is that of the
 -- graph, and after it as comments the leaves of two of its decompositions, counted, and how many
 -- leaves their comparison pairs.
 use Rattle.std.specs.Prelude.{ℕ, List, ◌++◌, codes}

@@ -1,4 +1,4 @@
--- The lines that judge a tree or an ear list, as functions of the values that they report.
+-- The lines that judge a tree or an ear list, as functions of the values that they tell.
 use Rattle.std.specs.Prelude.{ℕ, List, [], ◌++◌, Option, Some, None, codes}
 use Rattle.std.specs.Fmt.{decimal}
 use Rattle.report_text.specs.Reports.{numbers_text}
@@ -24,7 +24,7 @@ accepted_line tally = codes "accepted leaves " ++ decimal tally.leaves ++ codes 
 unfoldable pub numbered : List ℕ → ℕ → List ℕ
 numbered words number = words ++ decimal number
 
--- a line that words and a number begin, and that reports the refusal of a tree: the node, the
+-- a line that words and a number begin, and that tells the refusal of a tree: the node, the
 -- reason, and what shows it
 abbrev pub refused_line : (words : List ℕ) (number node why : ℕ) → Shown → List ℕ
 refused_line words number node why what =

@@ -1,4 +1,4 @@
--- The lines of the reports as functions of the values that they report; the report of `analyse` is
+-- The lines of the reports as functions of the values that they tell; the report of `analyse` is
 -- in Analyses.antt.
 use Rattle.std.specs.Prelude.{ℕ, zero, suc, List, [], ◌∷◌, ◌++◌, length, slice_index_or, Bool, if◌then◌else◌, codes}
 use Rattle.std.specs.Fmt.{decimal}
@@ -23,7 +23,7 @@ count_line word count = word ++ codes " " ++ decimal count ++ codes "\n"
 abbrev pub components_line : ℕ → List ℕ
 components_line count = count_line (codes "components") count
 
--- the line that says whether the graph is bipartite
+-- the line that tells whether the graph is bipartite
 abbrev pub bipartite_line : Bool → List ℕ
 bipartite_line holds = codes "bipartite " ++ yes_or_no holds ++ codes "\n"
 
@@ -36,7 +36,7 @@ numbers_text (n ∷ ns) = codes " " ++ (decimal n ++ numbers_text ns)
 abbrev pub list_line : List ℕ → List ℕ → List ℕ
 list_line word ns = word ++ (numbers_text ns ++ codes "\n")
 
--- what is said of two vertices that no walk joins
+-- what is told of two vertices that no walk joins
 abbrev pub parts_text : (a b : ℕ) → List ℕ
 parts_text a b = codes " parts " ++ decimal a ++ codes " " ++ decimal b
 

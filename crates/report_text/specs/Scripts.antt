@@ -1,4 +1,4 @@
--- The reports on scripts of moves, as functions of the values that they report: of a script that
+-- The reports on scripts of moves, as functions of the values that they tell: of a script that
 -- was made its text and how many leaves and moves there are; of one that was replayed the text of
 -- the last tree and the number of moves, or the move that fails.
 use Rattle.std.specs.Prelude.{ℕ, List, ◌++◌, codes}

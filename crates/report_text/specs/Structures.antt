@@ -1,5 +1,5 @@
 -- The lines on the structure of a matching covered graph, as functions of the values that they
--- report.
+-- tell.
 use Rattle.std.specs.Prelude.{ℕ, List, [], ◌∷◌, ◌++◌, length, codes}
 use Rattle.std.specs.declared.option.Option.{Option}
 use Rattle.std.specs.declared.option.Option.TheVariants.{Some, None}
@@ -27,7 +27,7 @@ classes_lines classes = (codes "classes " ++ decimal (length classes) ++ codes "
 abbrev pub pair_line : List ℕ → Ends → List ℕ
 pair_line words pair = words ++ codes " " ++ decimal pair.a ++ codes " " ++ decimal pair.b ++ codes "\n"
 
--- the line that says whether the graph is bicritical, and if not, two vertices that show it
+-- the line that tells whether the graph is bicritical, and if not, two vertices that show it
 abbrev pub bicritical_line : Option Ends → List ℕ
 bicritical_line None = codes "bicritical yes\n"
 bicritical_line (Some pair) = pair_line (codes "bicritical no") pair

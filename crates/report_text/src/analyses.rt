@@ -10,7 +10,7 @@ use graph_core::{Numbers, Verdict};
 use std::alloc::{AllocError as Memory, Global};
 use vset_core::VSet;
 
-/// What `analyse` reports on a graph.
+/// What `analyse` tells of a graph.
 #[derive(Drop)]
 pub struct AnalysisLines {
     /// The number of vertices.
@@ -101,7 +101,7 @@ fn push_to_verdict(text: &mut String, lines: &AnalysisLines) -> Result<(), Memor
     push_verdict(text, &lines.verdict)
 }
 
-// The lines on the structure, if there is one.
+// The lines on the structure, where there is one.
 fn push_any_structure(text: &mut String, structure: &Option<Structure>) -> Result<(), Memory>
     ensures { OnOk result
         (string_bytes text.new ≡ with_structure (string_bytes text.old) structure.now) }
@@ -112,7 +112,7 @@ fn push_any_structure(text: &mut String, structure: &Option<Structure>) -> Resul
     }
 }
 
-/// Writes the lines of `analyse`: those of every graph, and then those on the structure, if
+/// Writes the lines of `analyse`: those of every graph, and then those on the structure, where
 /// there is one.
 #[tactic(auto, unfolding(crate::specs::Analyses::analysis_text))]
 pub fn analysis(alloc: Global, lines: &AnalysisLines) -> Result<Vec<u8>, Memory>

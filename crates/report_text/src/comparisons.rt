@@ -11,7 +11,7 @@ use move_text::push_move;
 use std::alloc::{AllocError as Memory, Global};
 use tree_core::{Move, Moves};
 
-/// What is reported on one leaf of the first tree.
+/// What is told of one leaf of the first tree.
 #[derive(Drop)]
 pub struct MapLine {
     /// The number of the leaf, counted from 1 in preorder.
@@ -24,7 +24,7 @@ pub struct MapLine {
     pub images: Numbers,
 }
 
-/// What is reported on the leaves of the first tree.
+/// What is told of the leaves of the first tree.
 pub type MapLines = Listed<MapLine>;
 
 /// The names of the blocks of a partition, in order: the greatest vertex of each.
@@ -115,7 +115,7 @@ fn push_maps(text: &mut String, maps: &[MapLine]) -> Result<(), Memory>
 }
 
 /// Writes how many leaves there are and how many moves, the moves in order, and for each leaf its
-/// partner and, for each of its blocks, the block's name and that of its image. If a leaf has
+/// partner and, for each of its blocks, the block's name and that of its image. Where a leaf has
 /// more names than images, or the other way round, what has no partner at the same place is left
 /// out.
 #[tactic(auto, unfolding(crate::specs::Comparisons::pairing_text))]

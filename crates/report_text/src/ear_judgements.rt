@@ -4,7 +4,7 @@ ghost use Rattle.report_text.specs.Judgements.{ear_judgement_text, edge_text, re
 
 use std::alloc::{AllocError as Memory, Global};
 
-/// What is reported on an ear list.
+/// What is told of an ear list.
 #[derive(Clone, Copy, Debug, PartialEq, Eq)]
 pub enum EarLine {
     /// It is an ear list with so many steps, so many of one ear and so many of two.

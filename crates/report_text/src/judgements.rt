@@ -18,7 +18,7 @@ pub enum Shown {
     Cut { shore: VSet },
 }
 
-/// What is reported on a tree.
+/// What is told of a tree.
 #[derive(Drop)]
 pub enum TreeLine {
     /// It is a derivation, with so many leaves.

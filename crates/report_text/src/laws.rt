@@ -14,7 +14,7 @@ pub fn derivation_comments_law()
         → HasFewLeaves g ps kinds → IsCommented text (derivation_text text g ps kinds) }
 {}
 
-/// If the lines that name vertices are written as comments, they are comments: each name is to
+/// Where the lines that name vertices are written as comments, they are comments: each name is to
 /// be a word.
 pub fn names_comments_law()
     ensures { (report : List ℕ) (names : List (List ℕ)) → AreWords names → length names < 10 ^ 9

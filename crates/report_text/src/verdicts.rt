@@ -6,7 +6,7 @@ use crate::numbers::push_set;
 use graph_core::{Reason, Verdict};
 use std::alloc::{AllocError as Memory, Global};
 
-// What is said of two vertices that no walk joins.
+// What is told of two vertices that no walk joins.
 fn push_parts(text: &mut String, a: u32, b: u32) -> Result<(), Memory>
     ensures { OnOk result (string_bytes text.new ≡ string_bytes text.old ++ parts_text a b) }
 {

@@ -1,5 +1,5 @@
 -- The shores of all cut pairs as the code goes through them: the pairs in order, and at each cut
--- pair the components in order. A step of the loop is a step of the fold; without a cut pair
+-- pair the components in order. A step of the loop is a step of the fold; where no cut pair is,
 -- nothing is added.
 use Rattle.std.proofs.Common.{◌≡◌, ℕ, ◌+◌, ◌<◌, ◌≤◌, true, false, ◌==◌, ◌||◌, ◌&&◌, cond, not, sym, ap, ap₂, ◌∙◌, arith, List, [], ◌∷◌, ◌++◌, map, flat_map, filter, fold, length, take, get_or, append-nil, inl, inr}
 use Rattle.std.specs.Prelude.{All, is_none}

@@ -1,5 +1,5 @@
--- What holds of the cuts at cut pairs: each is tight, there is one if a bicritical graph has a
--- cut pair, and none if it has none. What holds of each component at each cut pair holds of
+-- What holds of the cuts at cut pairs: each is tight, there is one where a bicritical graph has a
+-- cut pair, and none where it has none. What holds of each component at each cut pair holds of
 -- each item of the list.
 use Rattle.std.proofs.Common.{◌≡◌, ◌≢◌, ◌↔◌, ℕ, ◌≤◌, ◌<◌, Bool, true, false, ◌==◌, ◌&&◌, ◌||◌, not, refl, sym, ap, arith, inl, inr, List, [], map, filter, flat_map, nat_le, nat_lt, lt-ltb, leb-true, subst, ap₂, get_or, Option, Some, None}
 use Rattle.std.specs.Prelude.{All, find, is_none, if◌then◌else◌}
@@ -42,7 +42,7 @@ pair_holds n P all a b wa wb l =
     rising_all n (nat_lt a) (λ b. P (a, b)) (map_all P (pair_with a) (rising_list n (nat_lt a))
     (rising_all n everything (λ a. All P (map (pair_with a) (rising_list n (nat_lt a)))) (flat_all P (λ a. map (pair_with a) (rising_list n (nat_lt a))) (rising_list n everything) all) a wa refl)) b wb (lt-ltb a b l)
 
--- there is no first pair exactly when the graph is bicritical
+-- no pair is unlike exactly when the graph is bicritical
 pub unlike-none : (g : Graph) → (unlike_pair g ≡ None) ↔ IsBicritical g
 unfolding unlike_pair
 unlike-none g = (

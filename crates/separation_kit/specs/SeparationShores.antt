@@ -16,7 +16,7 @@ is_cut_pair g k = nat_le 2 (component_count g (pair_set k.0 k.1))
 abbrev pub shores_at_pair : Graph → ℕ × ℕ → List (List ℕ)
 shores_at_pair g k = map (λ s. rising_list g.order (union (mem s) (singleton k.0))) (components g (pair_set k.0 k.1))
 
--- these shores for each cut pair in lexicographic order, if the graph is bicritical and has
+-- these shores for each cut pair in lexicographic order, where the graph is bicritical and has
 -- four vertices or more
 unfoldable pub separation_shores : Graph → List (List ℕ)
 separation_shores g = if is_bicritical g && nat_le 4 g.order then flat_map (shores_at_pair g) (filter (is_cut_pair g) (rising_pairs g.order)) else []

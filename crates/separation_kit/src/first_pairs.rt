@@ -1,4 +1,4 @@
-//! A covered graph with the pairs of vertices that show whether it is bicritical, and then whether
+//! A covered graph with the pairs of vertices that tell whether it is bicritical, and then where
 //! two vertices separate it.
 ghost use Rattle.std.specs.Prelude.{◌≡◌, ◌↔◌, IsTrue, IfOk};
 ghost use Rattle.std.specs.Option.{option_map};
@@ -15,7 +15,7 @@ use std::alloc::{AllocError as Memory, Global};
 use std::marker::Model;
 
 /// A covered graph with the first pair of vertices that shows it not bicritical, and its first cut
-/// pair if it is bicritical. Contracts see the graph.
+/// pair where it is bicritical. Contracts see the graph.
 #[derive(Drop)]
 pub struct FirstPairs<'c, 'g> {
     covered: &'c Covered<'g>,
@@ -38,7 +38,7 @@ impl<'c, 'g> Model for FirstPairs<'c, 'g> {
 }
 
 impl<'c, 'g> FirstPairs<'c, 'g> {
-    /// The pairs of a covered graph. A cut pair is looked for only if the graph is bicritical.
+    /// The pairs of a covered graph. A cut pair is looked for only where the graph is bicritical.
     pub fn of(alloc: Global, covered: &'c Covered<'g>) -> Result<FirstPairs<'c, 'g>, Memory>
         ensures { IfOk result (λ pairs. pairs ≡ covered.now) }
     {
@@ -106,7 +106,7 @@ impl<'c, 'g> FirstPairs<'c, 'g> {
         self.cut
     }
 
-    /// The first cut pair, bicritical or not. It is looked for only if it is not at hand.
+    /// The first cut pair, bicritical or not. It is looked for only where it is not at hand.
     pub fn any_cut(&self, alloc: Global) -> Result<Option<Pair>, Memory>
         ensures { IfOk result (λ cut. option_map pair_of cut ≡ cut_pair self.now) }
     {
@@ -117,7 +117,7 @@ impl<'c, 'g> FirstPairs<'c, 'g> {
     }
 }
 
-// The first cut pair of a graph that is bicritical.
+// The first cut pair of a graph without an unlike pair.
 fn cut_where_bicritical(
     alloc: Global,
     c: &Covered,

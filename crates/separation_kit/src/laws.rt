@@ -12,15 +12,15 @@ ghost use Rattle.graph_core.specs.Walks.{joined};
 ghost use Rattle.graph_core.specs.CanonicalCuts.{IsCanonicalCut};
 ghost use Rattle.separation_kit.specs.SeparationShores.{separation_cuts, separation_shores};
 
-/// `unlike_pair` finds no pair exactly when the graph is bicritical, and `cut_pair` finds none
-/// exactly when no two vertices separate it.
+/// There is no first pair exactly when there is none: a graph is bicritical where none is unlike,
+/// and no two vertices separate it where there is no cut pair.
 pub fn first_pairs_law()
     ensures bicritical { (g : Graph) → (unlike_pair g ≡ None) ↔ IsBicritical g }
     ensures separated { (g : Graph) → (cut_pair g ≡ None) ↔ ((u v : ℕ) → ¬ (IsCutPair g u v)) }
 {}
 
 /// Two vertices u and v without which a graph has a perfect matching: each component without them
-/// is even and has, with u, a tight cut, which is nontrivial if there are two components or
+/// is even and has, with u, a tight cut, which is nontrivial where there are two components or
 /// more (Edmonds, Lovász and Pulleyblank 1982).
 pub fn separation_law()
     ensures even { (g : Graph) (u v a : ℕ) → IsGraph g → Within g.order u → Within g.order v →
@@ -49,7 +49,7 @@ pub fn separation_cuts_law()
     ensures none { (g : Graph) → IsGraph g → cut_pair g ≡ None → separation_cuts g ≡ [] }
 {}
 
-/// A brick, that is, a covered graph that is not bipartite and has no nontrivial tight cut, has at
+/// A brick, that is a covered graph that is not bipartite and has no nontrivial tight cut, has at
 /// least four vertices, is bicritical and has no cut pair (Lovász 1987).
 pub fn brick_law()
     ensures four { (g : Graph) → IsMultigraph g → IsCovered g → ¬ (IsBipartite g) → 4 ≤ g.order }

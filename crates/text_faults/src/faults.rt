@@ -49,8 +49,8 @@ impl FaultKind {
     }
 }
 
-/// Why a text was not read: the first line outside its format with the kind of its fault, or lack
-/// of memory. Lines are counted from 1; if lines are missing at the end, the line is one more
+/// Why a text was not read: the first line outside its format with the kind of its fault, or want
+/// of memory. Lines are counted from 1; where lines are missing at the end, the line is one more
 /// than there are.
 #[derive(Clone, Copy, Debug, PartialEq, Eq, Error)]
 pub enum TextFault {
@@ -60,7 +60,7 @@ pub enum TextFault {
     Memory,
 }
 
-/// Lack of memory, for `?` in a reader.
+/// Want of memory, for `?` in a reader.
 impl From<AllocError> for TextFault {
     ghost use Rattle.text_faults.specs.declared.faults.TextFault.TheVariants.{Memory};
 

@@ -1,5 +1,5 @@
 -- What stands below a cut: both partitions are partitions, their quotients are matching covered
--- if that of the node is, and each has one block for the merged side and the blocks of the
+-- where that of the node is, and each has one block for the merged side and the blocks of the
 -- other side. So a tree of cuts has few leaves, by induction.
 use Rattle.std.proofs.lemmas.List.Elements.{All-append}
 use Rattle.std.proofs.Common.{◌≡◌, ℕ, zero, suc, ◌+◌, ◌*◌, ◌≤◌, ◌<◌, ◌-◌, List, length, All, subst, refl, sym, ap, ◌∙◌, arith}

@@ -1,5 +1,5 @@
 -- A derivation of a graph within the limits has at most 127 nodes, since there are few leaves
--- if the graph has at least four vertices, and no cut if it has fewer. Its leaves are
+-- where the graph has at least four vertices, and no cut where it has fewer. Its leaves are
 -- partitions of the graph's vertices.
 use Rattle.std.proofs.Common.{◌≡◌, ℕ, ◌≤◌, ◌<◌, List, [], ◌∷◌, length, map, All, ap, refl, arith, zero, suc, inl, inr}
 use Rattle.std.proofs.lemmas.Bool.{cases_lt}

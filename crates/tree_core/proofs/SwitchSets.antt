@@ -1,5 +1,5 @@
 -- Sets of vertices 1 to n as the lists of their tests: unions, differences and complements, also
--- if n is greater than any vertex that a set can hold.
+-- where n is greater than any vertex that a set can hold.
 use Rattle.std.proofs.Common.{◌≡◌, ℕ, ◌-◌, ◌≤◌, ◌<◌, Bool, true, false, not, ◌&&◌, ◌||◌, List, [], ◌∷◌, All, min, refl, sym, ap, ◌∙◌, arith, inl, inr, ◌⊎◌, subst, get_or, suc, ◌==◌, eqb-true}
 use Rattle.counting.proofs.Booleans.{same_tests}
 use Rattle.std.proofs.lemmas.Bool.{and_from, and_parts, both_ways, or_cases}

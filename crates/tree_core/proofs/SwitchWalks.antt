@@ -11,7 +11,7 @@ use Rattle.tree_core.specs.declared.path.Side.TheVariants.{Kept, Merged}
 abbrev pub cut_turned : Bool → List ℕ → (a b : Shape) → Shape
 cut_turned turned s a b = if turned then cut s b a else cut s a b
 
--- the shore, and the two trees, which change places if the shore is turned
+-- the shore, and the two trees, which change places where the shore is turned
 pub after_cut : (comes : Bool) (side : Side) (n : ℕ) (x u v s : List ℕ) (a b : Shape) →
     cut_turned (is_turned comes side u s) (shore_after comes side n x u v s) (tree_after comes side n x u v a) (tree_after comes side n x u v b) ≡ tree_after comes side n x u v (cut s a b)
 after_cut true Kept n x u v s a b = refl

@@ -41,7 +41,7 @@ order_at f (side ∷ path) k leaf = numbers k 1
 order_at f (Kept ∷ path) k (cut x a b) = order_at f path k a ++ numbers (k + leaf_count a) (leaf_count b)
 order_at f (Merged ∷ path) k (cut x a b) = numbers k (leaf_count a) ++ order_at f path (k + leaf_count a) b
 
--- Rotate keeps the order, but if the two shores have no common vertex the leaves of the first
+-- Rotate keeps the order, but where the two shores have no common vertex the leaves of the first
 -- two trees exchange their places
 abbrev pub rotate_order : Side → ℕ → Shape → List ℕ
 rotate_order Merged k (cut x a (cut y b c)) =
@@ -58,7 +58,7 @@ kept_order_if_greatest_stays u k (cut s a b) =
     then kept_order_if_greatest_stays u (k + leaf_count a) b ++ kept_order_if_greatest_stays u k a
     else kept_order_if_greatest_stays u k a ++ kept_order_if_greatest_stays u (k + leaf_count a) b
 
--- Switch exchanges the two trees if the greatest vertex n comes in, with v, and else turns the
+-- Switch exchanges the two trees where the greatest vertex n comes in, with v, and else turns the
 -- leaves of `kept`
 abbrev pub switch_order : ℕ → (u v : List ℕ) → ℕ → Shape → List ℕ
 switch_order n u v k leaf = numbers k 1

@@ -63,12 +63,12 @@ abbrev pub with_child : Side → List ℕ → (other child : Shape) → Shape
 with_child Kept x other child = cut x child other
 with_child Merged x other child = cut x other child
 
--- Rotate if the lower node is `kept` of x
+-- Rotate where the lower node is `kept` of x
 abbrev pub rotate_result_kept : List ℕ → Shape → Shape → Option Shape
 rotate_result_kept x leaf c = None
 rotate_result_kept x (cut y a b) c = Some (cut y a (cut x b c))
 
--- Rotate if it is `merged` of x: x is a subset of y, or the two have no common vertex
+-- Rotate where it is `merged` of x: x is a subset of y, or the two have no common vertex
 abbrev pub rotate_result_merged : List ℕ → Shape → Shape → Option Shape
 rotate_result_merged x a leaf = None
 rotate_result_merged x a (cut y b c) =
@@ -121,7 +121,7 @@ inner_rest n x u = minus_list n x u
 abbrev pub outer_rest : ℕ → (x v : List ℕ) → List ℕ
 outer_rest n x v = minus_list n (complement_of n x) v
 
--- a set if a test holds, and the empty set else
+-- a set where a test holds, and the empty set else
 abbrev pub list_if : Bool → List ℕ → List ℕ
 list_if t x = cond t x []
 

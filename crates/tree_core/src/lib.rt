@@ -9,12 +9,12 @@
 //!
 //! `fits`, `nodes`, `depth`, `copy` and `leaves` are exactly these definitions;
 //! `laws::derivation_stands` says that the leaves of a derivation may be asked for. A `Path` leads
-//! from the root to a node. The kind of a leaf depends on its quotient: a brace if it is
+//! from the root to a node. The kind of a leaf is told by its quotient: a brace where it is
 //! bipartite, and a brick otherwise; `count_leaves` counts them (`IsTally` of `specs/Tallies`).
 //!
 //! Two moves change a tree (`specs/Moves`): Rotate brings a cut over its parent, and Switch
 //! exchanges two sets of vertices between a shore and its complement. `rotate`, `switch` and
-//! `apply` are exactly these partial functions, take no memory, and hand the same tree back if
+//! `apply` are exactly these partial functions, take no memory, and hand the same tree back where
 //! a move has no result. `specs/LeafMaps` says where a move and a script of moves take each leaf
 //! and its blocks.
 //!

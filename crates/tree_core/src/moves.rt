@@ -50,7 +50,7 @@ impl Move {
     }
 }
 
-/// The answer if a move does not fit the tree.
+/// The answer where a move does not fit the tree.
 #[derive(Clone, Copy, Debug, PartialEq, Eq)]
 pub struct Stuck;
 

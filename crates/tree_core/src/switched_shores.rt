@@ -34,7 +34,7 @@ pub(crate) fn minus_of(x: VSet, y: VSet, n: u32) -> VSet
     left
 }
 
-/// A set if a test holds, and the empty set else.
+/// A set where a test holds, and the empty set else.
 pub(crate) fn set_if(test: bool, x: VSet, n: u32) -> VSet
     requires { All (Within n) x }
     ensures list { result ≡ list_if test x }
@@ -104,7 +104,7 @@ pub(crate) fn is_proper_outside(v: VSet, x: VSet, n: u32) -> bool
     !v.is_subset(VSet::empty()) && is_outside(v, x, n) && !covers_outside(v, x, n)
 }
 
-/// What of the complement of `x` is not in `v`, if `v` holds the greatest vertex.
+/// What of the complement of `x` is not in `v`, where `v` holds the greatest vertex.
 pub(crate) fn outer_rest_of(x: VSet, v: VSet, n: u32) -> VSet
     requires { mem v n ≡ true }
     ensures list { result ≡ outer_rest n x v }

@@ -12,7 +12,7 @@ use contraction::{Partition, quotient};
 use graph_core::{MultiGraph, Sides};
 use std::alloc::{AllocError as Memory, Global};
 
-/// The kind of a leaf, from its quotient.
+/// The kind of a leaf, told by its quotient.
 #[derive(Clone, Copy, Debug, PartialEq, Eq)]
 pub enum LeafKind {
     /// The quotient is not bipartite.

@@ -59,7 +59,7 @@ pub fn nodes(tree: &Tree) -> usize
     }
 }
 
-/// The greatest number of nodes on a path from the root to a leaf, 1 if the tree is a leaf.
+/// The greatest number of nodes on a path from the root to a leaf, 1 where the tree is a leaf.
 /// Takes no memory.
 #[tactic(auto, using(crate::proofs::Sizes::depth_at_most_nodes))]
 pub fn depth(tree: &Tree) -> usize

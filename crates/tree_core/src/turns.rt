@@ -26,7 +26,7 @@ pub enum Turn {
     },
 }
 
-/// Makes the turn at the end of the path. The same tree is handed back if it has no result.
+/// Makes the turn at the end of the path. The same tree is handed back where it has no result.
 pub(crate) fn turn_along(tree: Tree, path: &[Side], turn: &Turn) -> Result<Tree, Tree>
     requires { MayTurn turn.now (shape_of tree) }
     ensures { IsAnswer (result_at (turn_result turn.now) path.now (shape_of tree)) (shape_of tree)

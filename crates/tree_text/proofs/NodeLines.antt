@@ -1,4 +1,4 @@
--- The line of a node that is one of the words of a node, and not one too many, is decided by the
+-- The line of a node that is one of the words of a node, and not one too many, is told by the
 -- tests of its vertices.
 use Rattle.std.proofs.Common.{◌≡◌, ◌<◌, ◌+◌, ℕ, Bool, true, false, not, nat_le, List, ap₂, arith, Err}
 use Rattle.std.specs.Prelude.{if◌then◌else◌}

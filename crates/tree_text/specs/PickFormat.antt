@@ -26,7 +26,7 @@ pick_header words =
     ∷ [])
     (record { count = count; picks = [] })
 
--- a significant line after the header is a pick, or too much if all have been read
+-- a significant line after the header is a pick, or too much where all have been read
 abbrev pub pick_line : PicksSoFar → List (List ℕ) → Result PicksSoFar FaultKind
 pick_line body words =
     checked ((length body.picks == body.count, kind.Extra)

@@ -77,7 +77,7 @@ node_line n nodes place words =
     checked ((nat_le most_nodes nodes, kind.Limit) ∷ (not (is_node_line words), kind.Word) ∷ shore_tests n words)
     (record { nodes = nodes + 1; reading = with_node place (is_leaf_line words) (shore_told words) })
 
--- a significant line after the header is a node, or too much if the tree is whole
+-- a significant line after the header is a node, or too much where the tree is whole
 abbrev pub line_behind : ℕ → ℕ → Reading → List (List ℕ) → Result TreeSoFar FaultKind
 line_behind n nodes (whole t) words = Err kind.Extra
 line_behind n nodes (wanted place) words = node_line n nodes place words

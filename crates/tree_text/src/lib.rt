@@ -4,7 +4,7 @@
 //! mcg N`, and a line for each node in preorder, `leaf` or `cut` with the vertices of the shore.
 //! It stands for a list of picks by those of `specs/PickFormat`: a header `s mcg K` and K lines
 //! `pick P`. `read_tree` and `read_picks` answer what a text stands for, or its first fault, each
-//! exactly when the rules say so. `write_tree` writes the canonical text of `specs/Writing`, and
+//! exactly where the rules say so. `write_tree` writes the canonical text of `specs/Writing`, and
 //! reading it gives the tree again: `laws::written_tree_stands`. What a text stands for fits n,
 //! and its shores are nonempty and rise: `laws::read_tree_fits`. `shores` has the tests of lists
 //! of vertices, which the format of moves shares.

@@ -106,7 +106,7 @@ impl LineFormat for PickFormat {
 }
 
 /// Reads a list of picks: the numbers that the bytes stand for, or the first line outside the
-/// format with the kind of its fault. Lack of memory may come at any time.
+/// format with the kind of its fault. Want of memory may come at any time.
 pub fn read_picks(alloc: Global, bytes: &[u8]) -> Result<Numbers, TextFault>
     requires { length bytes.now < 2 ^ 32 - 1 }
     ensures value { IfOk result (λ picks. Stands pick_format bytes.now picks) }

@@ -170,7 +170,7 @@ impl LineFormat for TreeFormat {
 
 /// Reads a tree of cuts over 1 to `n`: the tree that the bytes stand for, or the first line
 /// outside the format with the kind of its fault. The tree fits `n`, its shores are not empty,
-/// and it has at most 127 nodes. Lack of memory may come at any time.
+/// and it has at most 127 nodes. Want of memory may come at any time.
 pub fn read_tree(alloc: Global, bytes: &[u8], n: u32) -> Result<Tree, TextFault>
     requires order { n ≤ MOST_VERTICES }
     requires length { length bytes.now < 2 ^ 32 - 1 }

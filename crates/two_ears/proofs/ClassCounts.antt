@@ -1,5 +1,5 @@
--- Equivalences that lie in one another: how many classes do they have? The label of a class is its
--- least member, so what holds of the labels of partitions holds of classes.
+-- How many classes have equivalences that lie in one another? The label of a class is its least
+-- member, so what holds of the labels of partitions holds of classes.
 use Rattle.std.proofs.Common.{◌≡◌, ℕ, suc, zero, ◌+◌, ◌≤◌, ◌≢◌, Bool, true, false, cond, ◌==◌, refl, sym, ap, ap₂, ◌∙◌, arith, ◌&&◌, not, eq-eqb, eqb-true, inl, inr, nat_lt, ltb-true, lt-ltb}
 use Rattle.std.proofs.lemmas.Bool.{cases_eq, cases_Bool, cases_lt, and_parts, and_from, both_ways, true≢false, false_from_ne_true, not-true}
 use Rattle.counting.proofs.Counts.{count_congr}
@@ -99,7 +99,7 @@ coarser n p q ep eq h =
     let b = label_classes n p ep in
     let c = label_classes n q eq in omega arith
 
--- and fewer if it joins two that the other keeps apart
+-- and fewer where it joins two that the other keeps apart
 pub strictly : (n : ℕ) (p q : ℕ → ℕ → Bool) → IsEquivalence n p → IsEquivalence n q → IsFiner n p q → (x y : ℕ) → Within n x → Within n y → q x y ≡ true → p x y ≡ false → class_count n q + 1 ≤ class_count n p
 strictly n p q ep eq h x y wx wy qxy pxy =
     let f = label n p ep in

@@ -188,7 +188,7 @@ module _ (g : Graph) (xs : List (ℕ × ℕ)) (r m b : Set) (is : IsGraph g) (h 
           let a = odd_leaving g r m (joined (with_ends g xs) b u) is p (λ v wv k. false_from_ne_true (r v) (λ i. both_ways (b v) (component_out (with_ends g xs) b u v h.graph e k) (less v wv i))) in
           let c = odd_pos (edges_in_cut g m (joined (with_ends g xs) b u)) (sym a ∙ f) in omega arith
 
-  -- the odd components are at most the edges of m that leave b
+  -- the odd components are no more than the edges of m that leave b
   pub odd_at_most : odd_component_count (with_ends g xs) b ≤ edges_in_cut g m b
   unfolding odd_component_count
   odd_at_most = le_trans (total_le g.order _ _ odd_needs) (le_of_eq (cut_sum g xs b m is h))

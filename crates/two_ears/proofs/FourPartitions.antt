@@ -1,5 +1,5 @@
 -- Take two partitions, one that is finer than both, and one that is finer than each that both are
--- finer than: how many classes do the two have together? No more than the other two together. The
+-- finer than: how many classes have the two together? No more than the other two together. The
 -- finer one becomes the first of the two by merging one pair after another; each merge takes one
 -- class from it, and at most one from the second, which is merged along.
 use Rattle.std.proofs.Common.{◌≡◌, ℕ, suc, zero, ◌+◌, ◌≤◌, arith, inl, inr}

@@ -10,8 +10,8 @@ ghost use Rattle.two_ears.specs.AddedEdges.{with_pairs};
 ghost use Rattle.counting.specs.Lists.{IsIn};
 ghost use Rattle.two_ears.specs.VertexPairs.{AreDisjoint, in_pairs, vertices_of};
 
-/// If a matching covered graph has a perfect matching without all vertices of some disjoint pairs,
-/// it has one without the vertices of two of these pairs, or of one: p and q may be one pair.
+/// Of pairs of vertices without which together a matching covered graph has a perfect matching
+/// two are such, or one is: p and q may be one pair.
 pub fn two_ears_law()
     ensures { (g : Graph) → IsGraph g → IsCovered g → (ps : List (ℕ × ℕ)) → ps ≢ [] →
         AreDisjoint g.order ps → HasPerfect g (in_pairs ps)
@@ -19,7 +19,7 @@ pub fn two_ears_law()
         HasPerfect g (union (vertices_of p) (vertices_of q)) }
 {}
 
-/// If a matching covered graph is matching covered with further edges, it is with one of them,
+/// Where a matching covered graph is matching covered with further edges, it is with one of them,
 /// or with two.
 pub fn further_edges_law()
     ensures { (g : Graph) → IsGraph g → IsCovered g → (ps : List (ℕ × ℕ)) → ps ≢ [] →

@@ -1,4 +1,4 @@
--- If the search closes, the nodes that it has reached are the least minimum cut.
+-- Where the search closes, the nodes that it has reached are the least minimum cut.
 use Rattle.std.proofs.Common.{◌≡◌, ◌≤◌, ◌∙◌, List, ℕ, ap, subst, arith}
 use Rattle.flow_core.specs.Flows.{IsFlow}
 use Rattle.flow_core.specs.Nets.{IsLeastCut}

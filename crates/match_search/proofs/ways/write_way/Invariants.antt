@@ -6,7 +6,7 @@ use Rattle.match_search.specs.AlternatingForests.{HoldsAlternating}
 use Rattle.match_search.specs.Rows.{numbers}
 use Rattle.match_search.proofs.ways.write_way.Given as goal
 
--- the path from v down to x is written
+-- the way from v down to x is written
 abbrev pub invariant-loop-i : goal.invariant-loop-i
 invariant-loop-i l = record {
   same : length l.row ≡ length l.initial.row;

@@ -1,4 +1,4 @@
--- If the flow grows, it comes nearer to the sum of all capacities, which outweighs the new
+-- Where the flow grows, it comes nearer to the sum of all capacities, which outweighs the new
 -- start of the path.
 use Rattle.std.proofs.Common.{◌≡◌, ◌≢◌, ◌+◌, ◌-◌, ◌≤◌, List, length, sym, ◌∙◌, ap, subst, arith}
 use Rattle.std.proofs.lemmas.List.{get_or_read}

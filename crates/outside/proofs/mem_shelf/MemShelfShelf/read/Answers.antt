@@ -1,4 +1,4 @@
--- If the number of the call is kept, the next read fails; of a file that is given the bytes
+-- Where the number of the call is kept, the next read fails; of a file that is given the bytes
 -- are counted.
 use Rattle.std.proofs.Common.{arith, inl, refl}
 use Rattle.outside.specs.MemShelf.{FailsNext}
