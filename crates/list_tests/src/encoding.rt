@@ -9,6 +9,7 @@ use std::test::Fail;
 use text_faults::FaultKind;
 
 // How an encoding ends: with a bad line of this number, kind and text, or otherwise.
+#[derive(Clone, Copy)]
 enum Wanted {
     Done,
     Bad(u64, FaultKind, &'static str),

@@ -6,7 +6,7 @@ use Rattle.list_reader.specs.declared.ending.BadLine.{BadLine}
 use Rattle.list_reader.specs.declared.ending.Ending.{Ending}
 use Rattle.list_reader.specs.Lines.{lines_of}
 use Rattle.list_reader.specs.Lists.{BeginningTold, WholeTold, ToldToBad, CutShort}
-use Rattle.list_reader.specs.Endings.{Appended, Gives, IsLeft}
+use Rattle.list_reader.specs.Endings.{Appended, Gives, IsLeft, TellsList}
 use Rattle.list_reader.specs.Places.{first_place}
 use Rattle.list_reader.specs.Streams.{IsStream}
 use Rattle.list_top.specs.Listings.{TellsLineOf, IsBadLine, lacks_of}
