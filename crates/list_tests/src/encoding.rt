@@ -9,7 +9,6 @@ use std::test::Fail;
 use text_faults::FaultKind;
 
 // How an encoding ends: with a bad line of this number, kind and text, or otherwise.
-#[derive(Clone, Copy)]
 enum Wanted {
     Done,
     Bad(u64, FaultKind, &'static str),
@@ -132,7 +131,13 @@ fn the_room_is_too_small(rt: HostRuntime) -> Result<(), Fail> {
     Ok(())
 }
 
-// Whether a file of comments with so many bytes ends so.
+// How many empty lines a file has, and how its encoding ends.
+static LONG_FILES: [(usize, Wanted); 2] = [
+    (MOST_BYTES, Wanted::Bad(1_048_577, FaultKind::Header, "")),
+    (MOST_BYTES + 1, Wanted::Bad(0, FaultKind::Limit, "")),
+];
+
+// Whether the encoding of a file of so many empty lines ends so.
 fn ends_so(alloc: Global, length: usize, wanted: &Wanted) -> Result<bool, Memory> {
     let file = vec![in alloc; b'\n'; length]?;
     let source = MemSource::new(alloc, &file)?;
@@ -142,9 +147,8 @@ fn ends_so(alloc: Global, length: usize, wanted: &Wanted) -> Result<bool, Memory
 
 #[test]
 fn a_file_is_too_long(rt: HostRuntime) -> Result<(), Fail> {
-    let headless = Wanted::Bad(MOST_BYTES as u64 + 1, FaultKind::Header, "");
-    assert!(rt; ends_so(rt.alloc(), MOST_BYTES, &headless)?);
-    let too_long = Wanted::Bad(0, FaultKind::Limit, "");
-    assert!(rt; ends_so(rt.alloc(), MOST_BYTES + 1, &too_long)?);
+    for (length, wanted) in &LONG_FILES {
+        assert!(rt; ends_so(rt.alloc(), *length, wanted)?);
+    }
     Ok(())
 }
