@@ -93,8 +93,7 @@ module _ (g : Graph) (is : IsGraph g) (cov : IsCovered g) (m : Set) (perfect : I
     away u v (w ∷ ws) ua ub va vb h =
         let p = and_parts (not (a == u)) (arc g x m u w) h.0 in
         let wa = begins (arc g x m) a w v ws va h.1 in
-        let wb : w ≢ b = λ q. into u ua ub (ap (arc g x m u) (sym q) ∙ p.1) in
-        (
+        let wb : w ≢ b = λ q. into u ua ub (ap (arc g x m u) (sym q) ∙ p.1) in (
           and_from (not (a == u) && not (b == u)) ((not (a == w) && not (b == w)) && arc g x m u w) (and_from (not (a == u)) (not (b == u)) p.0 (tested u b ub))
               (and_from (not (a == w) && not (b == w)) (arc g x m u w) (and_from (not (a == w)) (not (b == w)) (tested w a wa) (tested w b wb)) p.1),
           away w v ws wa wb va vb h.1,
