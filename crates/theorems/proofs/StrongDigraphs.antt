@@ -29,7 +29,7 @@ from_test u v h q = both_ways (v == u) (not-true (v == u) h) (eq-eqb v u (sym q)
 -- a walk that begins no step at a and ends elsewhere begins elsewhere
 begins : (adj : ℕ → ℕ → Bool) (a u v : ℕ) (ws : List ℕ) → v ≢ a → Walk (step_past a adj) u ws v → u ≢ a
 begins adj a u v [] va h q = va (sym h ∙ q)
-begins adj a u v (w ∷ ws) va h = from_test u a (and_parts (not (a == u)) (adj u w) h.0).0
+begins adj a u v (w ∷ ws) va h q = from_test u a (and_parts (not (a == u)) (adj u w) h.0).0 q
 
 module _ (g : Graph) (is : IsGraph g) (x m : Set) (a b : ℕ) where
   abbrev past : ℕ → ℕ → Bool
@@ -48,9 +48,9 @@ module _ (g : Graph) (is : IsGraph g) (x m : Set) (a b : ℕ) where
   -- a step that keeps away from a and b is an arc that does not begin at a
   step_arc : (u v : ℕ) → without u v ≡ true → (past u v ≡ true) × (arc g x m u v ≡ true)
   step_arc u v h =
-      let p = and_parts (not (a == u) && not (b == u)) ((not (a == v) && not (b == v)) && arc g x m u v) h in
-      let q = and_parts (not (a == v) && not (b == v)) (arc g x m u v) p.1 in
-      (and_from (not (a == u)) (arc g x m u v) (and_parts (not (a == u)) (not (b == u)) p.0).0 q.1, q.1)
+      let p = and_parts ((not (a == u) && not (b == u)) && (not (a == v) && not (b == v))) (arc g x m u v) h in
+      let q = and_parts (not (a == u) && not (b == u)) (not (a == v) && not (b == v)) p.0 in
+      (and_from (not (a == u)) (arc g x m u v) (and_parts (not (a == u)) (not (b == u)) q.0).0 p.1, p.1)
 
   -- a set that no arc leaves but from a holds what such a walk leads to
   kept : (y : Set) → NoArcLeaves g x m a y → (u v : ℕ) (ws : List ℕ) → y u ≡ true → Walk without u ws v → y v ≡ true
@@ -94,8 +94,9 @@ module _ (g : Graph) (is : IsGraph g) (cov : IsCovered g) (m : Set) (perfect : I
         let p = and_parts (not (a == u)) (arc g x m u w) h.0 in
         let wa = begins (arc g x m) a w v ws va h.1 in
         let wb : w ≢ b = λ q. into u ua ub (ap (arc g x m u) (sym q) ∙ p.1) in (
-          and_from (not (a == u) && not (b == u)) ((not (a == w) && not (b == w)) && arc g x m u w) (and_from (not (a == u)) (not (b == u)) p.0 (tested u b ub))
-              (and_from (not (a == w) && not (b == w)) (arc g x m u w) (and_from (not (a == w)) (not (b == w)) (tested w a wa) (tested w b wb)) p.1),
+          and_from ((not (a == u) && not (b == u)) && (not (a == w) && not (b == w))) (arc g x m u w)
+              (and_from (not (a == u) && not (b == u)) (not (a == w) && not (b == w)) (and_from (not (a == u)) (not (b == u)) p.0 (tested u b ub)) (and_from (not (a == w)) (not (b == w)) (tested w a wa) (tested w b wb)))
+              p.1,
           away w v ws wa wb va vb h.1,
         )
 
