@@ -15,7 +15,7 @@ use Rattle.counting.specs.Lists.{IsRisingIn, mem}
 use Rattle.counting.specs.Sets.{none}
 use Rattle.counting.proofs.Booleans.{and_comm, or_false}
 use Rattle.graph_core.specs.Graph.{Graph, IsGraph, first_end, in_cut, second_end, size}
-use Rattle.graph_core.specs.Matchings.{IsEnd, IsPerfect, Together}
+use Rattle.graph_core.specs.Matchings.{HasPerfect, IsEnd, IsPerfect, Together}
 use Rattle.graph_core.specs.PairLists.{IsLean, IsPairList}
 use Rattle.graph_core.specs.Tight.{IsTight}
 use Rattle.graph_core.proofs.Edits.{two_ends_le_degree}
@@ -24,7 +24,7 @@ use Rattle.match_core.specs.declared.matching.MatchRow.{MatchRow}
 use Rattle.match_core.proofs.ClearedMatchings.{end_at}
 use Rattle.match_core.proofs.MatchingEdges.{rows-rise}
 use Rattle.allowed_edges.specs.Leaving.{share_end}
-use Rattle.allowed_edges.specs.PairTables.{AreGrown, PairsValue, SettlesEdges, SettlesPairs, edge_lists, holds_both}
+use Rattle.allowed_edges.specs.PairTables.{AreGrown, PairsValue, SettlesEdges, SettlesPairs, Sought, edge_lists, holds_both}
 
 -- what a longer list holds
 pub held_more : (ms : List (List ℕ)) (es : List ℕ) (e f : ℕ) → holds_both (ms ++ es ∷ []) e f ≡ (holds_both ms e f || (mem es e && mem es f))
@@ -103,6 +103,36 @@ settles_found g e f p q m s same list of keeps perfect he hf new = settles_pair 
   done = λ b wb above below t. ap (λ ms. holds_both ms e b) (lists_more p q m list) ∙ still_held (edge_lists p) (edges_of m) e b (s.done b wb above below t);
 }) (λ t. ap (λ ms. holds_both ms e f) (lists_more p q m list) ∙ now_held (edge_lists p) (edges_of m) e f he hf)
 
+-- seeking a pair settles no less, and that pair
+pub settles_sought : (g : Graph) (e a b : ℕ) (p q : PairsValue) → SettlesEdges g e p → holds_both (edge_lists p) a b ≡ false → Sought g a b p q → SettlesEdges g e q
+settles_sought g e a b p q s new (inl m) = settles_more g e p q m.added a b s m.edge_count m.list m.with.of m.keeps m.with.perfect m.with.held m.held new
+settles_sought g e a b p q s new (inr n) = subst (SettlesEdges g e) (sym n.0) s
+
+pub settles_sought_pair : (g : Graph) (e f : ℕ) (p q : PairsValue) → SettlesPairs g e f p → holds_both (edge_lists p) e f ≡ false → Sought g e f p q → SettlesPairs g e (f + 1) q
+settles_sought_pair g e f p q s new (inl m) = settles_found g e f p q m.added s m.edge_count m.list m.with.of m.keeps m.with.perfect m.with.held m.held new
+settles_sought_pair g e f p q s new (inr n) = subst (SettlesPairs g e (f + 1)) (sym n.0) (settles_pair g e f p s (λ t. absurd (n.1 t)))
+
+-- without a matching nothing before edge 1 is to be settled
+pub settles_nothing : (g : Graph) (p : PairsValue) → p.size ≡ size g → p.list ≡ [] → SettlesEdges g 1 p
+settles_nothing g p same empty = record {
+  edge_count = same;
+  of = subst (All (IsOf g)) (sym empty) (none_of (IsOf g));
+  grown = subst (λ (ms : List MatchingValue). AreGrown g (map edges_of ms)) (sym empty) (record { rising = none_of (IsRisingIn (size g)); perfect = none_of (λ (m : List ℕ). IsPerfect g none (mem m)); lean = λ k w. absurd (let l = w.0 in let r = w.1 in omega arith) });
+  done = λ a b wa wb l k t. absurd (let w = wa.0 in omega arith);
+}
+  where
+    none_of : {A : Type 0} (P : A → Type 0) → All P []
+    none_of P i x l = absurd (omega arith)
+
+-- in a graph without a perfect matching all is settled
+pub settles_unmatched : (g : Graph) (p : PairsValue) → SettlesEdges g 1 p → (HasPerfect g none → ⊥) → SettlesEdges g (size g + 1) p
+settles_unmatched g p s h = record {
+  edge_count = s.edge_count;
+  of = s.of;
+  grown = s.grown;
+  done = λ a b wa wb l k t. absurd (h (t.0, t.1));
+}
+
 -- an edge with all its pairs
 pub settles_edge : (g : Graph) (e : ℕ) (p : PairsValue) → SettlesPairs g e (size g + 1) p → (Together g e e → holds_both (edge_lists p) e e ≡ true) → SettlesEdges g (e + 1) p
 settles_edge g e p s h = record {
@@ -165,6 +195,16 @@ held_turned : (ms : List (List ℕ)) (e f : ℕ) → holds_both ms e f ≡ holds
 held_turned [] e f = refl
 held_turned (m ∷ ms) e f = ap (λ b. b || holds_both ms e f) (and_comm (mem m e) (mem m f)) ∙ ap (λ b. (mem m f && mem m e) || b) (held_turned ms e f)
 
+-- some listed matching has both
+one_holds : (p : PairsValue) (e f : ℕ) → holds_both (edge_lists p) e f ≡ true → Any (λ (m : List ℕ). (mem m e ≡ true) × (mem m f ≡ true)) (edge_lists p)
+one_holds p e f h =
+    let a = Any-from_list_any (λ m. mem m e && mem m f) (edge_lists p) h in
+    (a.0, a.1, a.2, a.3, and_parts (mem a.1 e) (mem a.1 f) a.4)
+
+-- edges that a listed matching holds lie together
+pub held_together : (g : Graph) (k : ℕ) (p : PairsValue) → SettlesEdges g k p → (e f : ℕ) → holds_both (edge_lists p) e f ≡ true → Together g e f
+held_together g k p s e f h = let a = one_holds p e f h in (mem a.1, subst (λ (m : List ℕ). IsPerfect g none (mem m)) a.3 (s.grown.perfect a.0 a.1 a.2), a.4.0, a.4.1)
+
 -- all edges
 module _ (g : Graph) (p : PairsValue) (s : SettlesEdges g (size g + 1) p) where
   together_held : (e f : ℕ) → Within (size g) e → Within (size g) f → Together g e f → holds_both (edge_lists p) e f ≡ true
@@ -176,23 +216,15 @@ module _ (g : Graph) (p : PairsValue) (s : SettlesEdges g (size g + 1) p) where
     ]
   ]
 
-  one_holds : (e f : ℕ) → holds_both (edge_lists p) e f ≡ true → Any (λ (m : List ℕ). (mem m e ≡ true) × (mem m f ≡ true)) (edge_lists p)
-  one_holds e f h =
-      let a = Any-from_list_any (λ m. mem m e && mem m f) (edge_lists p) h in
-      (a.0, a.1, a.2, a.3, and_parts (mem a.1 e) (mem a.1 f) a.4)
-
   pub settled_pairs : IsPairList g (edge_lists p)
   settled_pairs = record {
     rising = s.grown.rising;
     perfect = s.grown.perfect;
-    both = λ e f we wf t. one_holds e f (together_held e f we wf t);
+    both = λ e f we wf t. one_holds p e f (together_held e f we wf t);
   }
 
   pub settled_both : (e f : ℕ) → Within (size g) e → Within (size g) f → (holds_both (edge_lists p) e f ≡ true) ↔ Together g e f
-  settled_both e f we wf = (
-    (λ h. let a = one_holds e f h in (mem a.1, subst (λ (m : List ℕ). IsPerfect g none (mem m)) a.3 (s.grown.perfect a.0 a.1 a.2), a.4.0, a.4.1)),
-    together_held e f we wf,
-  )
+  settled_both e f we wf = (held_together g (size g + 1) p s e f, together_held e f we wf)
 
 -- with no vertex taken out the same rows are left
 clear_of_none : (rows : List MatchRow) → filter (is_clear none) rows ≡ rows

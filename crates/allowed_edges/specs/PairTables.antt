@@ -1,14 +1,15 @@
 -- Tables of pairs: perfect matchings, among them for each two edges that lie together one with
 -- both.
-use Rattle.std.specs.Prelude.{◌≡◌, ℕ, ◌≤◌, ◌<◌, Bool, true, ◌&&◌, List, map, All}
+use Rattle.std.specs.Prelude.{◌≡◌, ℕ, ◌≤◌, ◌<◌, ◌⊎◌, Bool, true, ◌&&◌, List, [], ◌∷◌, ◌++◌, map, All}
 use Rattle.std.specs.List.{list_any}
 use Rattle.counting.specs.Counts.{Within}
 use Rattle.counting.specs.Lists.{IsRisingIn, mem}
 use Rattle.counting.specs.Sets.{none}
-use Rattle.graph_core.specs.Graph.{Graph, size}
+use Rattle.graph_core.specs.Graph.{Graph, first_end, second_end, size}
 use Rattle.graph_core.specs.Matchings.{IsPerfect, Together}
 use Rattle.graph_core.specs.PairLists.{IsLean}
-use Rattle.match_core.specs.MatchingRows.{IsOf, MatchingValue, edges_of}
+use Rattle.match_core.specs.MatchingRows.{IsOf, KeepsMatching, MatchingValue, edges_of}
+use Rattle.match_search.specs.Rows.{numbers}
 
 -- the number of edges of the graph, and matchings of it
 pub record PairsValue : Type 0 where
@@ -34,6 +35,25 @@ pub record IsPerfectWith (g : Graph) (e : ℕ) (m : MatchingValue) : Type 0 wher
   pub of : IsOf g m
   pub perfect : IsPerfect g none (mem (edges_of m))
   pub held : mem (edges_of m) e ≡ true
+
+-- the row names edge k of g at both of its ends
+pub record NamesEdge (g : Graph) (at : List ℕ) (k : ℕ) : Type 0 where
+  pub within : Within (size g) k
+  pub first : numbers at (first_end g k) ≡ k
+  pub second : numbers at (second_end g k) ≡ k
+
+-- q lists one matching more than p: a perfect one of g that holds e and f
+pub record ListsPair (g : Graph) (e f : ℕ) (p q : PairsValue) : Type 0 where
+  pub added : MatchingValue
+  pub edge_count : q.size ≡ p.size
+  pub list : q.list ≡ p.list ++ added ∷ []
+  pub keeps : KeepsMatching added
+  pub with : IsPerfectWith g e added
+  pub held : mem (edges_of added) f ≡ true
+
+-- q lists one such matching more than p, or e and f do not lie together
+abbrev pub Sought : Graph → (e f : ℕ) → (p q : PairsValue) → Type 0
+Sought g e f p q = ListsPair g e f p q ⊎ ((q ≡ p) × (Together g e f → ⊥))
 
 -- such matchings of g; of each edge below e and any other that lie together one holds both
 pub record SettlesEdges (g : Graph) (e : ℕ) (p : PairsValue) : Type 0 where

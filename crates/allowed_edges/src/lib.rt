@@ -20,16 +20,20 @@
 #![tactic(auto)]
 
 mod edges;
+mod exchanges;
+mod pair_table;
 mod pairs;
 mod perfect;
 mod questions;
 mod sharing;
 mod short_paths;
 mod table;
+mod varied;
 mod verdict;
 
 pub use edges::{allowed, allowed_in, is_allowed_in};
-pub use pairs::{PairTable, together, together_beside};
+pub use pair_table::PairTable;
+pub use pairs::{complete_pairs, no_pairs, seek_pair, together, together_beside};
 pub use perfect::partners_where_perfect;
 pub use questions::{perfect_with_edge, perfect_with_pair};
 pub use sharing::share_end;

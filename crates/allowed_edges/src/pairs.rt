@@ -9,82 +9,15 @@ ghost use Rattle.graph_core.specs.PairLists.{IsLean, IsPairList};
 ghost use Rattle.graph_core.specs.Tight.{IsTight};
 ghost use Rattle.match_core.specs.MatchingRows.{IsOf, edges_of};
 ghost use Rattle.allowed_edges.specs.Leaving.{share_end};
-ghost use Rattle.allowed_edges.specs.PairTables.{IsPerfectWith, SettlesEdges, SettlesPairs, edge_lists, holds_both};
+ghost use Rattle.allowed_edges.specs.PairTables.{IsPerfectWith, SettlesEdges, SettlesPairs, Sought, edge_lists, holds_both};
 
+use crate::pair_table::PairTable;
 use crate::questions::{perfect_with_edge, perfect_with_pair};
 use crate::sharing::{share_cut, share_end};
-use crate::table::{EdgeTable, mark_pairs};
-use graph_core::{MOST_EDGES, MultiGraph};
+use graph_core::MultiGraph;
 use match_core::{Matching, perfect_without};
 use std::alloc::{AllocError as Memory, Global};
-use std::marker::Model;
 use vset_core::VSet;
-
-/// Perfect matchings of a graph, and for each two edges whether one of them contains both.
-/// Contracts see the number of edges of the graph and the list of the matchings.
-#[derive(Drop)]
-pub struct PairTable {
-    size: u32,
-    table: EdgeTable,
-    list: Vec<Matching>,
-}
-
-impl Model for PairTable {
-    ghost use Rattle.std.specs.Prelude.{map};
-    ghost use Rattle.allowed_edges.specs.PairTables.{PairsValue, holds_both};
-    ghost use Rattle.allowed_edges.specs.EdgeTables.{MarksPairs};
-    ghost use Rattle.match_core.specs.MatchingRows.{edges_of};
-
-    ghost Value = { PairsValue };
-
-    ghost view = { λ pairs. record { size = pairs.size; list = pairs.list.items } };
-
-    ghost invariant = { λ pairs. MarksPairs pairs.size (holds_both (map edges_of pairs.list.items)) pairs.table };
-}
-
-impl PairTable {
-    /// Whether some listed matching contains both `e` and `f`; for e = f, whether one contains e.
-    /// Takes no memory.
-    pub fn both(&self, e: u32, f: u32) -> bool
-        requires first { Within self.now.size e }
-        requires second { Within self.now.size f }
-        ensures { result ≡ holds_both (edge_lists self.now) e f }
-    {
-        self.table.is_marked(e, f)
-    }
-
-    /// The matchings. Takes no memory.
-    pub fn list(&self) -> &[Matching]
-        ensures { result.now ≡ self.now.list }
-    {
-        &self.list
-    }
-
-    // No matching yet, of a graph with `size` edges.
-    fn new(alloc: Global, size: u32) -> Result<PairTable, Memory>
-        requires { size ≤ MOST_EDGES }
-        ensures size { IfOk result (λ pairs. pairs.size ≡ size) }
-        ensures list { IfOk result (λ pairs. pairs.list ≡ []) }
-    {
-        Ok(PairTable {
-            size,
-            table: EdgeTable::new(alloc, size)?,
-            list: Vec::new(alloc),
-        })
-    }
-
-    // Lists one matching more, and marks all pairs of its edges.
-    fn add(&mut self, found: Matching) -> Result<(), Memory>
-        requires { All (λ row. Within self.old.size row.edge) found.rows }
-        ensures size { OnOk result (self.new.size ≡ self.old.size) }
-        ensures list { OnOk result (self.new.list ≡ self.old.list ++ found ∷ []) }
-    {
-        let place = self.list.len();
-        self.list.push(found)?;
-        mark_pairs(&mut self.table, &self.list[place]);
-        Ok(())
-    }
-}
 
 /// The table of the pairs of edges of `g` that lie together: `both` is true exactly when some
 /// perfect matching contains both edges, and `list` is a pair list, in which each matching holds
@@ -115,14 +48,62 @@ pub fn together_beside(alloc: Global, g: &MultiGraph, shores: &[VSet]) -> Result
         (λ pairs. (e f : ℕ) → Within (size g.now) e → Within (size g.now) f →
         (holds_both (edge_lists pairs) e f ≡ true) ↔ Together g.now e f) }
 {
-    let mut pairs = PairTable::new(alloc, g.size())?;
+    let mut pairs = no_pairs(alloc, g)?;
+    complete_pairs(alloc, g, shores, &mut pairs)?;
+    Ok(pairs)
+}
+
+/// The table of `g` without a matching.
+pub fn no_pairs(alloc: Global, g: &MultiGraph) -> Result<PairTable, Memory>
+    ensures { IfOk result (SettlesEdges g.now 1) }
+{
+    let pairs = PairTable::new(alloc, g)?;
+    Ok(pairs)
+}
+
+/// Completes a table in which some matchings are listed: it is then as `together_beside` answers it
+/// for these shores.
+pub fn complete_pairs(
+    alloc: Global,
+    g: &MultiGraph,
+    shores: &[VSet],
+    pairs: &mut PairTable,
+) -> Result<(), Memory>
+    requires shores { All (λ s. IsTight g.now (mem s)) shores.now }
+    requires begun { SettlesEdges g.now 1 pairs.old }
+    ensures { IfOk result (λ _. SettlesEdges g.now (size g.now + 1) pairs.new) }
+{
     match perfect_without(alloc, g, VSet::empty())? {
-        None => Ok(pairs),
-        Some(kept) => {
-            settle_edges(alloc, g, shores, &kept, &mut pairs)?;
-            Ok(pairs)
-        }
+        None => Ok(()),
+        Some(kept) => settle_edges(alloc, g, shores, &kept, pairs),
     }
+}
+
+/// Seeks a perfect matching that holds `e` and `f` if no listed one holds both, and lists it. The
+/// answer holds `e`, and is the one from which to seek further: the last that was found.
+pub fn seek_pair(
+    alloc: Global,
+    g: &MultiGraph,
+    kept: Matching,
+    pairs: &mut PairTable,
+    e: u32,
+    f: u32,
+) -> Result<Matching, Memory>
+    requires edge { Within (size g.now) e }
+    requires other { Within (size g.now) f }
+    requires kept { IsPerfectWith g.now e kept }
+    requires begun { SettlesEdges g.now 1 pairs.old }
+    ensures begun { IfOk result (λ _. SettlesEdges g.now 1 pairs.new) }
+    ensures next { IfOk result (IsPerfectWith g.now e) }
+{
+    if pairs.both(e, f) {
+        return Ok(kept);
+    }
+    if share_end(g, e, f) {
+        return Ok(kept);
+    }
+    let next = list_pair(alloc, g, kept, pairs, e, f)?;
+    Ok(next)
 }
 
 // Settles all edges.
@@ -136,8 +117,7 @@ fn settle_edges(
     requires shores { All (λ s. IsTight g.now (mem s)) shores.now }
     requires of { IsOf g.now kept.now }
     requires perfect { IsPerfect g.now none (mem (edges_of kept.now)) }
-    requires size { pairs.old.size ≡ size g.now }
-    requires none { pairs.old.list ≡ [] }
+    requires begun { SettlesEdges g.now 1 pairs.old }
     ensures { IfOk result (λ _. SettlesEdges g.now (size g.now + 1) pairs.new) }
 {
     for k in 0..g.size() {
@@ -219,11 +199,34 @@ fn settle_pair(
     if is_settled(g, shores, pairs, e, f) {
         return Ok(kept);
     }
+    list_pair(alloc, g, kept, pairs, e, f)
+}
+
+// Lists a perfect matching that holds `e` and `f`, of which no listed one holds both, if there is
+// one. The answer is the matching to seek from further.
+fn list_pair(
+    alloc: Global,
+    g: &MultiGraph,
+    kept: Matching,
+    pairs: &mut PairTable,
+    e: u32,
+    f: u32,
+) -> Result<Matching, Memory>
+    requires edge { Within (size g.now) e }
+    requires other { Within (size g.now) f }
+    requires apart { share_end g.now e f ≡ false }
+    requires size { pairs.old.size ≡ size g.now }
+    requires kept { IsPerfectWith g.now e kept }
+    ensures sought { IfOk result (λ _. Sought g.now e f pairs.old pairs.new) }
+    ensures next { IfOk result (IsPerfectWith g.now e) }
+{
+    g.keeps_limits();
     match perfect_with_pair(alloc, g, &kept, e, f)? {
         None => Ok(kept),
         Some(found) => {
-            found.keeps_matching();
-            listed(alloc, pairs, found)
+            let other = pairs.varied(alloc, g, found, e, f)?;
+            other.keeps_matching();
+            listed(alloc, pairs, other)
         }
     }
 }

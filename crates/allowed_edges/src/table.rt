@@ -50,6 +50,14 @@ impl EdgeTable {
         self.rows[e as usize][f as usize]
     }
 
+    /// The marks in the row of `e`.
+    pub fn row(&self, e: u32) -> &[bool]
+        requires { e < length self.now }
+        ensures { result.now ≡ row_of self.now e }
+    {
+        &self.rows[e as usize]
+    }
+
     /// Marks the edges of a matching in the row of `e`.
     fn mark_row(&mut self, e: u32, m: &Matching)
         requires row { e < length self.old }

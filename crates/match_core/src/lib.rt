@@ -5,8 +5,8 @@
 //! `IsMaximum`). `frame` answers the Gallai-Edmonds sets beside it, read off the last forest of
 //! the search. `perfect_without` and `perfect_with` answer a perfect matching under conditions,
 //! and `None` exactly when there is none; `Matching::cleared` and `Matching::joined` take rows
-//! out of a matching and put one in. `partners` answers the table of the pairs of vertices that
-//! can be missed together (`ArePartners`).
+//! out of a matching and put one in, and `matching_of` makes one of marked edges. `partners`
+//! answers the table of the pairs of vertices that can be missed together (`ArePartners`).
 //!
 //! The search itself stands below, in `match_search`: a matching enlarged until a frame shows that
 //! none is larger. The law of Tutte and Berge stands beside the questions (`tutte_berge_law`).
@@ -23,7 +23,7 @@ mod questions;
 mod repairs;
 
 pub use frames::{Found, FrameSets, frame, maximum};
-pub use matching::{MatchRow, Matching};
+pub use matching::{MatchRow, Matching, matching_of};
 pub use partner_table::{PartnerTable, all_partners, partners};
 pub use questions::{perfect_with, perfect_without};
 pub use repairs::repair;

@@ -1,0 +1,11 @@
+use Rattle.std.proofs.Common.{◌≡◌, ◌+◌, ℕ, true, length}
+use Rattle.graph_core.specs.Graph.{size}
+use Rattle.match_search.specs.Rows.{marks}
+use Rattle.allowed_edges.specs.PairTables.{NamesEdge}
+use Rattle.allowed_edges.proofs.varied.named_marks.Given as goal
+
+abbrev pub invariant-loop-k : goal.invariant-loop-k
+invariant-loop-k l = record {
+  long : length l.mark.items ≡ size l.g + 1;
+  named : (e : ℕ) → marks l.mark.items e ≡ true → NamesEdge l.g l.at e;
+}
