@@ -5,5 +5,6 @@ pub mod FirstRefusals
 pub mod ThreeAnswers
 pub mod Scanning
 pub mod MovesFit
+pub mod SoundMoves
 pub mod ReplaySteps
 pub mod ReplayAnswers

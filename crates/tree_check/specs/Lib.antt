@@ -1,4 +1,5 @@
 pub mod Refusals
 pub mod Judgements
 pub mod Scans
+pub mod SoundMoves
 pub mod Replays

@@ -10,7 +10,9 @@
 //!
 //! `replay` makes a script of moves on a derivation and judges each tree on the way: it gives the
 //! last tree exactly when all are derivations, and else names the first failing move, with what
-//! `check` answers if its result is not a derivation (`IsReplay` of `specs/Replays`).
+//! `check` answers if its result is not a derivation (`IsReplay` of `specs/Replays`). By the laws of
+//! moves a Rotate needs no test, and a Switch of two blocks only that of its new shore, at the
+//! node where it stands; the whole tree is judged after any other Switch, or if that test fails.
 //!
 //! `laws::first_refusal_law`: a derivation has no refusal, and each other tree of a matching
 //! covered graph has exactly one, up to the perfect matching that it shows.
@@ -18,9 +20,9 @@
 //! those of `replay`.
 //!
 //! Stands on `allowed_edges` for the verdict, on `contraction` for quotients, on `tight_cuts` for
-//! the test of a cut and for the candidates at a partition, and on `tree_core` for trees. Source:
-//! Lovász, "Matching structure and the matching lattice" (1987); Lucchesi and Murty, "Perfect
-//! Matchings".
+//! the test of a cut and for the candidates at a partition, on `tree_core` for trees, and on
+//! `move_laws` for what moves keep. Source: Lovász, "Matching structure and the matching lattice"
+//! (1987); Lucchesi and Murty, "Perfect Matchings".
 #![tactic(auto)]
 
 mod judgement;
@@ -28,6 +30,7 @@ pub mod laws;
 mod replaying;
 mod rules;
 mod scan;
+mod sound_moves;
 
 pub use judgement::{Judgement, Why};
 pub use replaying::{Replayed, replay};

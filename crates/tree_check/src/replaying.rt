@@ -7,6 +7,7 @@ ghost use Rattle.tree_check.specs.Replays.{IsReplay, IsMoved};
 
 use crate::judgement::Why;
 use crate::scan::{Scanned, scan_covered};
+use crate::sound_moves::is_sound;
 use graph_core::MultiGraph;
 use std::alloc::{AllocError as Memory, Global};
 use tree_core::{Move, Moves, Tree, apply};
@@ -34,7 +35,8 @@ enum Moved {
     Refused { node: u32, why: Why },
 }
 
-// Makes one move on a derivation, and judges the result.
+// Makes one move on a derivation, and judges the result: the whole tree only if the laws of moves
+// do not tell that it is a derivation.
 fn step(alloc: Global, g: &MultiGraph, tree: Tree, item: &Move) -> Result<Moved, Memory>
     requires { IsDerivation g.now (shape_of tree) }
     ensures { IfOk result (IsMoved g.now (shape_of tree) (move_of item.now)) }
@@ -42,6 +44,9 @@ fn step(alloc: Global, g: &MultiGraph, tree: Tree, item: &Move) -> Result<Moved,
     let Ok(made) = apply(tree, g.order(), item) else {
         return Ok(Moved::Stuck);
     };
+    if is_sound(alloc, g, &made, item)? {
+        return Ok(Moved::Passed { tree: made });
+    }
     match scan_covered(alloc, g, &made)? {
         Scanned::Passed { .. } => Ok(Moved::Passed { tree: made }),
         Scanned::Refused { node, why } => Ok(Moved::Refused { node, why }),

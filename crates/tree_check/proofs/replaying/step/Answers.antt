@@ -14,6 +14,13 @@ pub apply-requires : goal.apply-requires
 apply-requires c =
     subst (λ k. Fits k (shape_of c.args.tree)) (sym c.order.ensures.is) (fits-derivation c.args.g.now (shape_of c.args.tree) c.requires)
 
+pub is_sound-requires : goal.is_sound-requires
+is_sound-requires c = (
+  shape_of c.args.tree,
+  c.requires,
+  subst (λ k. move_result k (shape_of c.args.tree) (move_of c.args.item.now) ≡ Some (shape_of c.in-Ok.made)) c.order.ensures.is c.in-Ok.ensures.ok,
+)
+
 pub scan_covered-requires-clause-fits : goal.scan_covered-requires-clause-fits
 scan_covered-requires-clause-fits c =
     move-fits c.args.g.now.order (shape_of c.args.tree) (shape_of c.in-Ok.made) (move_of c.args.item.now) (fits-derivation c.args.g.now (shape_of c.args.tree) c.requires)

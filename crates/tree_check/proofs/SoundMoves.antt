@@ -1,0 +1,44 @@
+-- A Switch at the end of its path. The two sets are blocks if they are unions that count one block
+-- each, and then the law of the Switch says that its result is a derivation if its shore is a cut.
+use Rattle.std.proofs.Common.{◌≡◌, ℕ, List, [], ◌∷◌, length, Some, sym, ap, ◌∙◌, subst, arith}
+use Rattle.counting.proofs.Counts.{only_one}
+use Rattle.counting.specs.Sets.{Set}
+use Rattle.contraction.proofs.QuotientLaws.{covered_down}
+use Rattle.graph_core.proofs.BlockSets.{at_place}
+use Rattle.graph_core.proofs.Blocks.{place_in}
+use Rattle.graph_core.specs.Covered.{IsCovered}
+use Rattle.graph_core.specs.Graph.{Graph, IsGraph}
+use Rattle.graph_core.specs.Partitions.{AreBlocks, IsPartition, place}
+use Rattle.graph_core.specs.Quotients.{quotient}
+use Rattle.graph_core.specs.Shores.{IsUnion, block_count, blocks_in}
+use Rattle.move_laws.proofs.CarriedCuts.{some_of}
+use Rattle.move_laws.proofs.MoveParts.{switch_derives_law}
+use Rattle.tree_core.specs.Derivations.{IsCutAt, IsDerivationAt}
+use Rattle.tree_core.specs.Moves.{IsBlockOf}
+use Rattle.tree_core.specs.Shapes.{Shape, cut}
+use Rattle.tree_core.specs.declared.path.Side.{Side}
+use Rattle.tree_check.specs.SoundMoves.{IsBlock, IsSwitched}
+
+-- a union of blocks that counts one is a block
+pub block-of_one : (n : ℕ) (p : List (List ℕ)) → AreBlocks n p → (u : Set) → IsUnion n p u → block_count p u ≡ 1 → (s : ℕ) × IsBlockOf n p u s
+block-of_one n p pp u union one =
+    let r = some_of n p pp u union (omega (arith, one)) in (
+      r.0,
+      record {
+        closed = union;
+        within = r.1;
+        holds = r.2;
+        one = λ v w h. only_one (length p) (blocks_in p u) one (place p v) (place p r.0) (place_in n p pp v w).0 (place_in n p pp r.0 r.1).0
+            (at_place n p pp u union v w ∙ h) (at_place n p pp u union r.0 r.1 ∙ r.2);
+      },
+    )
+
+-- a Switch at its node
+pub switched-here : (g : Graph) (p : List (List ℕ)) (path : List Side) (u v : List ℕ) (t : Shape) (z : List ℕ) (a b : Shape) → IsGraph g → IsPartition g.order p → IsCovered (quotient g p) → length path ≡ 0 → t ≡ cut z a b → IsSwitched g p path u v t →
+    IsBlock g.order p u × IsBlock g.order p v × IsCutAt g p z → IsDerivationAt g p t
+switched-here g p (side ∷ path) u v t z a b is pp covered here is_t made found = absurd (omega arith)
+switched-here g p [] u v t z a b is pp covered here is_t made found =
+    let left = found.0 in
+    let right = found.1 in
+    subst (IsDerivationAt g p) (sym is_t)
+    (switch_derives_law g p made.0 u v z a b is pp (covered_down g p is pp.partition covered) made.1 ((left.0, right.0), left.1, right.1) (made.2 ∙ ap Some is_t) found.2)

@@ -1,0 +1,20 @@
+-- What a move makes of some derivation.
+use Rattle.std.specs.Prelude.{◌≡◌, ℕ, List, Some}
+use Rattle.counting.specs.Lists.{IsRisingIn, mem}
+use Rattle.graph_core.specs.Graph.{Graph}
+use Rattle.tree_core.specs.Derivations.{IsDerivation, IsDerivationAt}
+use Rattle.tree_core.specs.Moves.{IsBlockOf, PlainMove, move_result, switch_result}
+use Rattle.tree_core.specs.Shapes.{Shape}
+use Rattle.tree_core.specs.declared.path.Side.{Side}
+
+-- the move makes t of some derivation of g
+abbrev pub IsMadeBy : Graph → PlainMove → Shape → Type 0
+IsMadeBy g m t = (s : Shape) × IsDerivation g s × (move_result g.order s m ≡ Some t)
+
+-- the Switch of u and v at the end of the path makes t of some derivation at p
+abbrev pub IsSwitched : Graph → List (List ℕ) → List Side → (u v : List ℕ) → Shape → Type 0
+IsSwitched g p path u v t = (s : Shape) × IsDerivationAt g p s × (switch_result g.order path u v s ≡ Some t)
+
+-- the rising list is one of the blocks of p
+abbrev pub IsBlock : ℕ → List (List ℕ) → List ℕ → Type 0
+IsBlock n p u = IsRisingIn n u × ((s : ℕ) × IsBlockOf n p (mem u) s)
