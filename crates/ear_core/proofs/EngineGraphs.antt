@@ -10,7 +10,7 @@ use Rattle.counting.specs.Counts.{bit, count, Within}
 use Rattle.counting.specs.Sets.{Set, union, put, pair_set, complement}
 use Rattle.counting.specs.Tests.{some}
 use Rattle.ear_core.proofs.TraceEdges.{some-met, unmet, degree_le}
-use Rattle.ear_core.specs.StageGraphs.{listed}
+use Rattle.ear_core.specs.StageGraphs.{by_rank, listed}
 use Rattle.two_ears.proofs.AddedEdges.{size-added, degree-added}
 use Rattle.ear_core.specs.Stages.{is_met, IsPerfectOff, IsPerfectOf}
 use Rattle.graph_core.proofs.Decide.{degree_congr}
@@ -34,10 +34,6 @@ listed_size g f (suc k) = go (f (suc k)) (listed_size g f k)
     go : (b : Bool) → length (listed g f k) ≡ count k f → length (cond b (listed g f k ++ ((first_end g (suc k), second_end g (suc k)) ∷ [])) (listed g f k)) ≡ count k f + bit b
     go true e = let s = size-added g (listed g f k) (first_end g (suc k), second_end g (suc k)) in omega arith
     go false e = omega arith
-
--- the edges of f that m has by rank
-abbrev pub by_rank : Set → Set → Set
-by_rank f m e = f e && m (count e f)
 
 -- the degree by rank, for the first k edges
 pub listed_degree : (g : Graph) (f m : Set) (v k : ℕ) → degree (with_ends g (listed g f k)) m v ≡ count k (λ e. by_rank f m e && (first_end g e == v)) + count k (λ e. by_rank f m e && (second_end g e == v))
@@ -77,7 +73,7 @@ module _ (g : Graph) (f r : Set) where
   pub rank_of : Set → Set
   rank_of m i = some (size g) (λ e. (f e && m e) && (count e f == i))
 
-  same_rank : (m : Set) → ((e : ℕ) → Within (size g) e → m e ≡ true → f e ≡ true) → (e : ℕ) → Within (size g) e → by_rank f (rank_of m) e ≡ m e
+  pub same_rank : (m : Set) → ((e : ℕ) → Within (size g) e → m e ≡ true → f e ≡ true) → (e : ℕ) → Within (size g) e → by_rank f (rank_of m) e ≡ m e
   unfolding rank_of
   same_rank m part e w = same_tests (f e && rank_of m (count e f)) (m e)
       (λ t. let a = and_parts (f e) (rank_of m (count e f)) t in

@@ -24,3 +24,7 @@ pub mod Stepping
 pub mod Following
 pub mod WholeStages
 pub mod NeededPairs
+pub mod MarkedMatchings
+pub mod Rests
+pub mod LoneMatchings
+pub mod LoneLeads

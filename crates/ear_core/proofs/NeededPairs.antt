@@ -16,7 +16,7 @@ use Rattle.ear_core.proofs.Searching.{before-among}
 use Rattle.ear_core.proofs.Stepping.{still-met}
 use Rattle.ear_core.proofs.TraceEdges.{degree_le, ends_of-other_end, trail_has, unmet}
 use Rattle.ear_core.specs.Asking.{FindsTwo, NoneServes}
-use Rattle.ear_core.specs.EarLists.{AreNeeded, IsNeeded, PlainEar, PlainStep, next_stage}
+use Rattle.ear_core.specs.EarLists.{AreEach, IsNeeded, PlainEar, PlainStep, next_stage}
 use Rattle.ear_core.specs.Ears.{IsEar, last_vertex}
 use Rattle.ear_core.specs.Stages.{IsPerfectOf, IsPerfectOff, IsStage, is_met, with_edges}
 
@@ -153,9 +153,9 @@ module _ (g : Graph) (is : IsGraph g) (f : Set) (stage : IsStage g f) (ears : Li
       let among = before-among found.0 found.1 ears found.2 in
       subst (IsNeeded g f) (sym found.3) (not-alone found.0 among.0, not-alone found.1 among.1)
 
--- needed steps that go on
-pub needed-go_on : (g : Graph) (first f new : Set) (before : List PlainStep) (s : PlainStep) → IsNeeded g f s → ((i : ℕ) → new i ≡ next_stage f s i) → ((others : List PlainStep) → AreNeeded g f others → AreNeeded g first (before ++ others)) →
-    (others : List PlainStep) → AreNeeded g new others → AreNeeded g first ((before ++ s ∷ []) ++ others)
-needed-go_on g first f new before s needed same so_far others are =
-    subst (λ (xs : List PlainStep). AreNeeded g first xs) (sym (append_assoc before (s ∷ []) others))
-    (so_far (s ∷ others) (needed, subst (λ (h : Set). AreNeeded g h others) (fun_ext same) are))
+-- steps that go on from a stage, each as P asks
+pub each-go_on : (P : Set → PlainStep → Type 0) (first f new : Set) (before : List PlainStep) (s : PlainStep) → P f s → ((i : ℕ) → new i ≡ next_stage f s i) → ((others : List PlainStep) → AreEach P f others → AreEach P first (before ++ others)) →
+    (others : List PlainStep) → AreEach P new others → AreEach P first ((before ++ s ∷ []) ++ others)
+each-go_on P first f new before s holds same so_far others are =
+    subst (λ (xs : List PlainStep). AreEach P first xs) (sym (append_assoc before (s ∷ []) others))
+    (so_far (s ∷ others) (holds, subst (λ (h : Set). AreEach P h others) (fun_ext same) are))

@@ -92,7 +92,7 @@ before-among a b [] i = absurd i
 before-among a b (c ∷ ears) i = elim i [ inl p ↦ (inl p.0, inr p.1) | inr j ↦ let r = before-among a b ears j in (inr r.0, inr r.1) ]
 
 -- the ends of an ear of the list are counted
-ends-among : (g : Graph) (a : PlainEar) (ears : List PlainEar) (w : ℕ) → IsIn a ears → bit (a.begin == w) + bit (last_vertex g a.begin a.edges == w) ≤ pairs_at (ends_of_ears g ears) w
+pub ends-among : (g : Graph) (a : PlainEar) (ears : List PlainEar) (w : ℕ) → IsIn a ears → bit (a.begin == w) + bit (last_vertex g a.begin a.edges == w) ≤ pairs_at (ends_of_ears g ears) w
 ends-among g a [] w i = absurd i
 ends-among g a (c ∷ ears) w i = elim i [
   | inl e ↦ let x = ap (λ (b : PlainEar). bit (b.begin == w) + bit (last_vertex g b.begin b.edges == w)) e in omega arith

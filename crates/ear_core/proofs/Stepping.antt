@@ -147,11 +147,10 @@ round-ears g f m n used unused old ears empty x =
     let is : ears ≡ x.0 = x.1 ∙ ap (λ (xs : List PlainEar). xs ++ x.0) empty in
     subst (λ (xs : List PlainEar). AreMatedEars g f m n none xs) (sym is) (subst (λ (us : List ℕ). AreMatedEars g f m n (mem us) x.0) unused x.2)
 
--- they are candidates for a step
-pub round-candidates : (g : Graph) → IsGraph g → (f : Set) (m : MatchingValue) → IsPerfectRows g m → (n : ℕ → ℕ) (e : ℕ) → Within (size g) e → mem (edges_of m) e ≡ true → f e ≡ false → (is_met g f (first_end g e) || is_met g f (second_end g e)) ≡ true →
+-- they are candidates for a step, where the matching leads out of the stage
+pub round-candidates : (g : Graph) → IsGraph g → (f : Set) (m : MatchingValue) → IsPerfectRows g m → (n : ℕ → ℕ) → (v : ℕ) × Within g.order v × (is_met g f v ≡ true) × (f (row_edge m.rows v) ≡ false) →
     (ears : List PlainEar) → AreMatedEars g f (row_edge m.rows) n none ears → AreCandidates g f ears
-round-candidates g is f m rows n e w holds off leads ears mated =
-    let v = led-out g is f m rows e w holds off leads in
+round-candidates g is f m rows n v ears mated =
     mated-candidates g f (row_edge m.rows) n (mem (edges_of m)) rows.perfect (rows-mates g is m rows) (λ v wv. (row-found g is m rows v wv).1) (λ v d wv wd md h. row-is g is m rows v d wv wd md h) ears mated v.0 v.1 v.2 v.3
 
 module _ (g : Graph) (f new : Set) (s : PlainStep) (same : (i : ℕ) → new i ≡ next_stage f s i) where

@@ -55,14 +55,31 @@ abbrev pub IsNeeded : Graph → Set → PlainStep → Type 0
 IsNeeded g f (one a) = Unit {0}
 IsNeeded g f (two a b) = (¬ IsStage g (next_stage f (one a))) × (¬ IsStage g (next_stage f (one b)))
 
+-- each step of the list from the stage f on is as P asks of the stage before it
+abbrev pub AreEach : (Set → PlainStep → Type 0) → Set → List PlainStep → Type 0
+AreEach P f [] = Unit {0}
+AreEach P f (s ∷ steps) = P f s × AreEach P (next_stage f s) steps
+
 -- each step of two ears from the stage f on is needed
 abbrev pub AreNeeded : Graph → Set → List PlainStep → Type 0
-AreNeeded g f [] = Unit {0}
-AreNeeded g f (s ∷ steps) = IsNeeded g f s × AreNeeded g (next_stage f s) steps
+AreNeeded g f steps = AreEach (IsNeeded g) f steps
 
 -- no step of the list can be refined: where it adds two ears they cannot be added one by one
 abbrev pub IsUnrefinable : Graph → PlainEars → Type 0
 IsUnrefinable g list = AreNeeded g (singleton list.start) list.steps
+
+-- a step of two ears is forced: no ear list goes on from the stage f by a single ear
+abbrev pub IsForced : Graph → Set → PlainStep → Type 0
+IsForced g f (one a) = Unit {0}
+IsForced g f (two a b) = (c : PlainEar) (steps : List PlainStep) → AreSteps g f (one c ∷ steps) → ⊥
+
+-- each step of two ears from the stage f on is forced
+abbrev pub AreForced : Graph → Set → List PlainStep → Type 0
+AreForced g f steps = AreEach (IsForced g) f steps
+
+-- the list adds two ears only at stages from which no ear list goes on by a single ear
+abbrev pub TakesSingles : Graph → PlainEars → Type 0
+TakesSingles g list = AreForced g (singleton list.start) list.steps
 
 -- no ear of a step is empty
 abbrev pub HasEdges : PlainStep → Type 0

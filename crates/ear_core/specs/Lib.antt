@@ -9,3 +9,4 @@ pub mod StageGraphs
 pub mod AlternatingEars
 pub mod Asking
 pub mod TakenSteps
+pub mod LoneEars

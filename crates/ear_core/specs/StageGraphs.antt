@@ -1,7 +1,7 @@
 -- The graph that the engine is asked about: the vertices of g with the edges of a stage alone,
 -- which get numbers of their own in the order of those in g.
-use Rattle.std.specs.Prelude.{◌≡◌, ◌<◌, ◌≤◌, ℕ, zero, suc, true, List, [], ◌∷◌, ◌++◌, ◌||◌, ◌==◌, cond, Option, Some, None}
-use Rattle.counting.specs.Counts.{Within}
+use Rattle.std.specs.Prelude.{◌≡◌, ◌<◌, ◌≤◌, ℕ, zero, suc, true, List, [], ◌∷◌, ◌++◌, ◌&&◌, ◌||◌, ◌==◌, cond, Option, Some, None}
+use Rattle.counting.specs.Counts.{count, Within}
 use Rattle.counting.specs.Sets.{Set}
 use Rattle.graph_core.specs.Graph.{Graph, size, first_end, second_end}
 use Rattle.ear_core.specs.Stages.{AllowedBy}
@@ -10,6 +10,10 @@ use Rattle.ear_core.specs.Stages.{AllowedBy}
 abbrev pub listed : Graph → Set → ℕ → List (ℕ × ℕ)
 listed g f zero = []
 listed g f (suc k) = cond (f (suc k)) (listed g f k ++ (first_end g (suc k), second_end g (suc k)) ∷ []) (listed g f k)
+
+-- the edges of f that m has by rank
+abbrev pub by_rank : Set → Set → Set
+by_rank f m e = f e && m (count e f)
 
 -- of the edges of `asked` none below the least known one lies in no perfect matching of the graph
 -- of f; that one does

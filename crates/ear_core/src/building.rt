@@ -8,13 +8,15 @@ ghost use Rattle.graph_core.specs.Graph.{size, first_end, second_end, IsBipartit
 ghost use Rattle.match_core.specs.MatchingRows.{edges_of};
 ghost use Rattle.match_search.specs.Rows.{marks};
 ghost use Rattle.ear_core.specs.AlternatingEars.{IsPerfectRows, KeepsMates, row_edge};
-ghost use Rattle.ear_core.specs.EarLists.{AreNeeded, AreSteps, IsEarList, IsNeeded, IsSingle, IsStep, IsUnrefinable, next_stage, FitsEars, FitsStep, HasEdges};
+ghost use Rattle.ear_core.specs.EarLists.{AreForced, AreNeeded, AreSteps, IsEarList, IsForced, IsNeeded, IsSingle, IsStep, IsUnrefinable, next_stage, FitsEars, FitsStep, HasEdges, TakesSingles};
+ghost use Rattle.ear_core.specs.LoneEars.{LeadsAtTwo};
 ghost use Rattle.ear_core.specs.Stages.{is_met, IsStage};
 ghost use Rattle.ear_core.specs.View.{ears_of, step_of};
 
 use crate::choosing::choose;
 use crate::ears::{EarList, Step, Steps};
 use crate::faults::met_by;
+use crate::lone_ears::lone_matching;
 use crate::steps::mark_step;
 use crate::tracing::collect;
 use allowed_edges::perfect_with_edge;
@@ -23,13 +25,15 @@ use match_core::{Matching, perfect_without};
 use std::alloc::{AllocError as Memory, Global};
 use vset_core::VSet;
 
-/// An ear list of a matching covered graph, from its edge 1. Two ears are added at once only if
-/// neither of them alone keeps the stage matching covered, so no step can be refined; if the graph
-/// is bipartite, each step has one ear. One perfect matching is kept. At each stage another one
-/// that holds an edge leading out of it makes ears together with the kept one. The first of these
-/// that keeps the stage matching covered is added, and if there is none, the first two that do so
-/// together. The numbers of the list are in range and no ear is empty. `Memory` is want of memory
-/// alone. Lovász and Plummer, "Matching Theory", section 5.4.
+/// An ear list of a matching covered graph, from its edge 1. Two ears are added at once only at a
+/// stage from which no ear list goes on by a single ear; neither of the two alone keeps the stage
+/// matching covered, so no step can be refined. If the graph is bipartite, each step has one ear.
+/// One perfect matching is kept. At each stage another one that holds an edge leading out of it
+/// makes ears together with the kept one. The first of these that keeps the stage matching covered
+/// is added. If there is none, a perfect matching is sought that leads out of the stage at two
+/// vertices alone: it makes a single ear. Only where there is none are the first two ears added
+/// that keep the stage matching covered together. The numbers of the list are in range and no ear
+/// is empty. `Memory` is want of memory alone. Lovász and Plummer, "Matching Theory", section 5.4.
 pub fn build_ears(alloc: Global, g: &MultiGraph) -> Result<EarList, Memory>
     requires { IsCovered g.now }
     ensures list { IfOk result (λ list. IsEarList g.now (ears_of list)) }
@@ -37,6 +41,7 @@ pub fn build_ears(alloc: Global, g: &MultiGraph) -> Result<EarList, Memory>
     ensures fits { IfOk result (λ list. FitsEars g.now.order (size g.now) (ears_of list)) }
     ensures filled { IfOk result (λ list. AllByRecursion HasEdges (ears_of list).steps) }
     ensures unrefinable { IfOk result (λ list. IsUnrefinable g.now (ears_of list)) }
+    ensures singles { IfOk result (λ list. TakesSingles g.now (ears_of list)) }
     ensures single { IfOk result
         (λ list. IsBipartite g.now → AllByRecursion IsSingle (ears_of list).steps) }
 {
@@ -66,6 +71,8 @@ fn steps_from(
         (λ steps. AreSteps g.now (marks mark.old.items) (map step_of steps)) }
     ensures needed { IfOk result
         (λ steps. AreNeeded g.now (marks mark.old.items) (map step_of steps)) }
+    ensures forced { IfOk result
+        (λ steps. AreForced g.now (marks mark.old.items) (map step_of steps)) }
     ensures single { IfOk result
         (λ steps. IsBipartite g.now → AllByRecursion IsSingle (map step_of steps)) }
 {
@@ -145,6 +152,7 @@ fn next_step(
         (λ step. KeepsMates g.now (row_edge kept.now.rows)
         (is_met g.now (next_stage (marks mark.now) (step_of step)))) }
     ensures needed { IfOk result (λ step. IsNeeded g.now (marks mark.now) (step_of step)) }
+    ensures forced { IfOk result (λ step. IsForced g.now (marks mark.now) (step_of step)) }
     ensures single { IfOk result (λ step. IsBipartite g.now → IsSingle (step_of step)) }
 {
     g.keeps_limits();
@@ -152,16 +160,58 @@ fn next_step(
     let Some(leading) = perfect_with_edge(alloc, g, kept, edge)? else {
         unreachable!()
     };
+    let step = step_by(alloc, g, mark, met, kept, &leading)?;
+    if is_single(&step) {
+        return Ok(step);
+    }
+    match lone_matching(alloc, g, mark, met)? {
+        Some(lone) => step_by(alloc, g, mark, met, kept, &lone),
+        None => Ok(step),
+    }
+}
+
+// Whether a step adds one ear.
+fn is_single(step: &Step) -> bool
+    ensures { result ≡ true → IsSingle (step_of step.now) }
+{
+    match step.second {
+        None => true,
+        Some(_) => false,
+    }
+}
+
+// The step that the ears of the kept matching and of `leading` allow, which leads out of the
+// stage. The stage meets the vertices `met`.
+fn step_by(
+    alloc: Global,
+    g: &MultiGraph,
+    mark: &[bool],
+    met: VSet,
+    kept: &Matching,
+    leading: &Matching,
+) -> Result<Step, Memory>
+    requires long { length mark.now ≡ size g.now + 1 }
+    requires met { (v : ℕ) → mem met v ≡ is_met g.now (marks mark.now) v }
+    requires stage { IsStage g.now (marks mark.now) }
+    requires kept { IsPerfectRows g.now kept.now }
+    requires mates { KeepsMates g.now (row_edge kept.now.rows) (is_met g.now (marks mark.now)) }
+    requires leading { IsPerfectRows g.now leading.now }
+    requires leads { (v : ℕ) × Within g.now.order v × (is_met g.now (marks mark.now) v ≡ true) ×
+        (marks mark.now (row_edge leading.now.rows v) ≡ false) }
+    ensures fits { IfOk result (λ step. FitsStep g.now.order (size g.now) (step_of step)) }
+    ensures step { IfOk result (λ step. IsStep g.now (marks mark.now) (step_of step)) }
+    ensures stage { IfOk result
+        (λ step. IsStage g.now (next_stage (marks mark.now) (step_of step))) }
+    ensures mates { IfOk result
+        (λ step. KeepsMates g.now (row_edge kept.now.rows)
+        (is_met g.now (next_stage (marks mark.now) (step_of step)))) }
+    ensures needed { IfOk result (λ step. IsNeeded g.now (marks mark.now) (step_of step)) }
+    ensures single { IfOk result (λ step. IsBipartite g.now → IsSingle (step_of step)) }
+    ensures lone { LeadsAtTwo g.now (marks mark.now) (mem (edges_of leading.now)) →
+        IfOk result (λ step. IsSingle (step_of step)) }
+{
+    g.keeps_limits();
     let mut ears = Vec::new(alloc);
-    collect(
-        alloc,
-        g,
-        mark,
-        met,
-        &leading,
-        kept,
-        VSet::empty(),
-        &mut ears,
-    )?;
+    collect(alloc, g, mark, met, leading, kept, VSet::empty(), &mut ears)?;
     choose(alloc, g, mark, met, &ears)
 }

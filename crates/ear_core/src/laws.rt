@@ -1,11 +1,13 @@
 //! Laws of ear lists. Each is the contract of a function that does nothing.
-ghost use Rattle.std.specs.Prelude.{◌≡◌, ◌↔◌, ℕ, true, List, [], None};
+ghost use Rattle.std.specs.Prelude.{◌≡◌, ◌↔◌, ℕ, true, List, [], ◌∷◌, None};
 ghost use Rattle.counting.specs.Counts.{Within};
 ghost use Rattle.counting.specs.Sets.{Set, everything};
 ghost use Rattle.graph_core.specs.Covered.{IsCovered};
 ghost use Rattle.graph_core.specs.Graph.{Graph, IsGraph, IsMultigraph, size};
+ghost use Rattle.graph_core.specs.Matchings.{HasPerfect};
+ghost use Rattle.ear_core.specs.LoneEars.{LeadsAtTwo};
 ghost use Rattle.ear_core.specs.Stages.{IsStage, AllowedBy, is_met};
-ghost use Rattle.ear_core.specs.EarLists.{PlainEars, PlainStep, next_stage, IsEarList, IsStep, AreSteps};
+ghost use Rattle.ear_core.specs.EarLists.{PlainEar, PlainEars, PlainStep, next_stage, one, IsEarList, IsStep, AreSteps};
 ghost use Rattle.ear_core.specs.Refusals.{step_fault, IsFirstRefusal};
 ghost use Rattle.ear_core.specs.Ears.{IsEar, IsEarPair};
 ghost use Rattle.ear_core.specs.EarTests.{Passes, Why, inner_vertices};
@@ -48,4 +50,15 @@ pub fn whole_stage_law()
         → ((v : ℕ) → Within g.order v → is_met g f v ≡ true) → (IsStage g f ↔ IsCovered g) }
     ensures list { (g : Graph) (list : PlainEars) → IsMultigraph g → IsEarList g list
         → ((v : ℕ) → Within g.order v → is_met g everything v ≡ true) → IsCovered g }
+{}
+
+/// A stage of a covered graph from which an ear list goes on leaves a rest with a perfect matching.
+/// If the list goes on by a single ear, then some perfect matching of the graph leads out of the
+/// stage at two vertices alone.
+pub fn single_ears_law()
+    ensures rest { (g : Graph) → IsMultigraph g → IsCovered g → (f : Set) (steps : List PlainStep) →
+        AreSteps g f steps → HasPerfect g (is_met g f) }
+    ensures leads { (g : Graph) → IsMultigraph g → IsCovered g → (f : Set) → IsStage g f →
+        (c : PlainEar) (steps : List PlainStep) → AreSteps g f (one c ∷ steps) →
+        (m : Set) × LeadsAtTwo g f m }
 {}

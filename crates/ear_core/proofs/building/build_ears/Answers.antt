@@ -5,7 +5,7 @@ use Rattle.match_search.specs.Rows.{marks}
 use Rattle.std.specs.Prelude.{slice_set}
 use Rattle.std.proofs.Common.{true}
 use Rattle.ear_core.specs.AlternatingEars.{row_edge, KeepsMates}
-use Rattle.ear_core.specs.EarLists.{AreNeeded, AreSteps}
+use Rattle.ear_core.specs.EarLists.{AreForced, AreNeeded, AreSteps}
 use Rattle.ear_core.specs.Stages.{is_met}
 use Rattle.ear_core.specs.View.{ears_of, step_of}
 use Rattle.ear_core.proofs.FirstStage.{first-stage}
@@ -54,3 +54,11 @@ returns-clause-unrefinable c =
     let less : 1 < length items = search rules in
     let same : (i : ℕ) → marks (slice_set items 1 true) i ≡ singleton 1 i = one-marked items _ 1 (c.in_ok-mark.ensures.items_if_clones_equal (λ y q. q)) less in
     subst (λ (f : Set). AreNeeded g f (map step_of c.in_ok-steps.steps)) (fun_ext same) c.in_ok-steps.ensures.needed
+
+pub returns-clause-singles : goal.returns-clause-singles
+returns-clause-singles c =
+    let g = c.args.g.now in
+    let items = c.in_ok-mark.mark.items in
+    let less : 1 < length items = search rules in
+    let same : (i : ℕ) → marks (slice_set items 1 true) i ≡ singleton 1 i = one-marked items _ 1 (c.in_ok-mark.ensures.items_if_clones_equal (λ y q. q)) less in
+    subst (λ (f : Set). AreForced g f (map step_of c.in_ok-steps.steps)) (fun_ext same) c.in_ok-steps.ensures.forced

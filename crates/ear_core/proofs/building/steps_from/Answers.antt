@@ -5,10 +5,10 @@ use Rattle.counting.specs.Counts.{Within}
 use Rattle.graph_core.specs.Graph.{size, first_end, second_end}
 use Rattle.match_search.specs.Rows.{marks}
 use Rattle.ear_core.specs.AlternatingEars.{row_edge, KeepsMates}
-use Rattle.ear_core.specs.EarLists.{PlainStep, AreNeeded, AreSteps, IsNeeded, IsSingle, IsStep, next_stage}
+use Rattle.ear_core.specs.EarLists.{PlainStep, AreForced, AreNeeded, AreSteps, IsForced, IsNeeded, IsSingle, IsStep, next_stage}
 use Rattle.ear_core.specs.Stages.{is_met, IsStage}
 use Rattle.ear_core.specs.View.{step_of}
-use Rattle.ear_core.proofs.NeededPairs.{needed-go_on}
+use Rattle.ear_core.proofs.NeededPairs.{each-go_on}
 use Rattle.ear_core.proofs.Taking.{second_fits}
 use Rattle.ear_core.proofs.Searching.{at-none}
 use Rattle.ear_core.proofs.Stepping.{all-on, stage-there, mates-there, fewer-off, steps-go_on, all-single}
@@ -30,6 +30,7 @@ stages-preserved c =
     let step = subst (λ (items : List Bool). IsStep g (marks items) s) is c.in_ok-step.ensures.step in
     let stage = subst (λ (items : List Bool). IsStage g (next_stage (marks items) s)) is c.in_ok-step.ensures.stage in
     let needed = subst (λ (items : List Bool). IsNeeded g (marks items) s) is c.in_ok-step.ensures.needed in
+    let forced = subst (λ (items : List Bool). IsForced g (marks items) s) is c.in_ok-step.ensures.forced in
     let mates = subst (λ (items : List Bool). KeepsMates g n (is_met g (next_stage (marks items) s))) is c.in_ok-step.ensures.mates in
     let pushed : map step_of c.push.new.self ≡ map step_of c.stages.steps ++ s ∷ [] = ap (map step_of) c.in_ok-push.ensures.ok ∙ map-append step_of c.stages.steps _ in
     record {
@@ -39,7 +40,9 @@ stages-preserved c =
       so_far = λ others goes. subst (λ (steps : List PlainStep). AreSteps g (marks c.args.mark.now.items) (steps ++ others)) (sym pushed)
           (steps-go_on g (marks c.args.mark.now.items) f new (map step_of c.stages.steps) s step stage c.mark_step.ensures.each c.stages.invariant.so_far others goes);
       needed = λ others are. subst (λ (steps : List PlainStep). AreNeeded g (marks c.args.mark.now.items) (steps ++ others)) (sym pushed)
-          (needed-go_on g (marks c.args.mark.now.items) f new (map step_of c.stages.steps) s needed c.mark_step.ensures.each c.stages.invariant.needed others are);
+          (each-go_on (IsNeeded g) (marks c.args.mark.now.items) f new (map step_of c.stages.steps) s needed c.mark_step.ensures.each c.stages.invariant.needed others are);
+      forced = λ others are. subst (λ (steps : List PlainStep). AreForced g (marks c.args.mark.now.items) (steps ++ others)) (sym pushed)
+          (each-go_on (IsForced g) (marks c.args.mark.now.items) f new (map step_of c.stages.steps) s forced c.mark_step.ensures.each c.stages.invariant.forced others are);
       single = λ sides. subst (AllByRecursion IsSingle) (sym pushed) (all-single (map step_of c.stages.steps) s (c.stages.invariant.single sides) (c.in_ok-step.ensures.single sides));
     }
 
@@ -65,3 +68,8 @@ pub returns-clause-needed : goal.returns-clause-needed
 returns-clause-needed c =
     let g = c.args.g.now in
     subst (λ (steps : List PlainStep). AreNeeded g (marks c.args.mark.now.items) steps) (append-nil (map step_of c.stages.steps)) (c.stages.invariant.needed [] tt)
+
+pub returns-clause-forced : goal.returns-clause-forced
+returns-clause-forced c =
+    let g = c.args.g.now in
+    subst (λ (steps : List PlainStep). AreForced g (marks c.args.mark.now.items) steps) (append-nil (map step_of c.stages.steps)) (c.stages.invariant.forced [] tt)

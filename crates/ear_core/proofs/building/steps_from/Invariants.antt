@@ -5,7 +5,7 @@ use Rattle.counting.specs.Sets.{complement}
 use Rattle.graph_core.specs.Graph.{size, IsBipartite}
 use Rattle.match_search.specs.Rows.{marks}
 use Rattle.ear_core.specs.AlternatingEars.{KeepsMates, row_edge}
-use Rattle.ear_core.specs.EarLists.{PlainStep, AreNeeded, AreSteps, IsSingle}
+use Rattle.ear_core.specs.EarLists.{PlainStep, AreForced, AreNeeded, AreSteps, IsSingle}
 use Rattle.ear_core.specs.Stages.{is_met, IsStage}
 use Rattle.ear_core.specs.View.{step_of}
 use Rattle.ear_core.proofs.building.steps_from.Given as goal
@@ -18,6 +18,7 @@ invariant-stages l = record {
   mates : KeepsMates l.g (row_edge l.kept.rows) (is_met l.g (marks l.mark.items));
   so_far : (others : List PlainStep) → AreSteps l.g (marks l.mark.items) others → AreSteps l.g (marks l.initial.mark.items) (map step_of l.steps ++ others);
   needed : (others : List PlainStep) → AreNeeded l.g (marks l.mark.items) others → AreNeeded l.g (marks l.initial.mark.items) (map step_of l.steps ++ others);
+  forced : (others : List PlainStep) → AreForced l.g (marks l.mark.items) others → AreForced l.g (marks l.initial.mark.items) (map step_of l.steps ++ others);
   single : IsBipartite l.g → AllByRecursion IsSingle (map step_of l.steps);
 }
 

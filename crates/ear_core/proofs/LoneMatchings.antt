@@ -1,0 +1,150 @@
+-- From a single ear to a matching. If a stage with an ear is matching covered and the rest has a perfect
+-- matching, then this one, the odd edges of the ear and a perfect matching of the stage without the two
+-- ends are a perfect matching that leads out of the stage at the two ends alone.
+use Rattle.std.proofs.Common.{◌≡◌, ◌≢◌, ℕ, ◌<◌, ◌≤◌, Bool, true, false, cond, ◌==◌, ◌&&◌, ◌||◌, not, refl, sym, ap, ◌∙◌, arith, eq-eqb, inl, inr, subst, List, [], ◌∷◌}
+use Rattle.std.proofs.Math.Path.{fun_ext}
+use Rattle.std.proofs.lemmas.Bool.{both_ways, cases_Bool, cases_order, false_from_ne_true, or_cases, or_from, or_left, or_right, true≢false}
+use Rattle.counting.proofs.Booleans.{or_comm, or_false, or_false_back}
+use Rattle.counting.specs.Counts.{Within, bit}
+use Rattle.counting.specs.Lists.{mem}
+use Rattle.counting.specs.Sets.{Set, none, pair_set, union}
+use Rattle.graph_core.proofs.Edits.{ends_le_degree, ends_of}
+use Rattle.graph_core.specs.Covered.{IsCovered}
+use Rattle.graph_core.specs.Graph.{Graph, IsGraph, IsMultigraph, first_end, second_end, size}
+use Rattle.graph_core.specs.Matchings.{IsEnd, IsPerfect}
+use Rattle.match_core.specs.MatchingRows.{has_end_in}
+use Rattle.ear_core.proofs.AddedEars.{evens_at, odd_on}
+use Rattle.ear_core.proofs.NeededPairs.{stage-serves}
+use Rattle.ear_core.proofs.NextStages.{met-within}
+use Rattle.ear_core.proofs.Rests.{apart-rest, covered-meets, filled, rest-perfect}
+use Rattle.ear_core.proofs.ServingEars.{off-same}
+use Rattle.ear_core.proofs.Stepping.{still-met}
+use Rattle.ear_core.proofs.TraceEdges.{mem_odds, trail_has}
+use Rattle.ear_core.specs.EarLists.{AreSteps, IsForced, IsSingle, PlainEar, PlainStep, one, two}
+use Rattle.ear_core.specs.Ears.{IsEar, last_vertex}
+use Rattle.ear_core.specs.LoneEars.{IsPerfectBy, LeadsAtTwo, barred, is_open}
+use Rattle.ear_core.specs.NearlyStages.{odds}
+use Rattle.ear_core.specs.Stages.{IsPerfectOff, IsStage, is_met, with_edges}
+
+-- the two vertices of a pair
+pub pair-is : (first both : List ℕ) (u v : ℕ) → first ≡ u ∷ [] → ((w : ℕ) → mem both w ≡ (mem first w || v == w)) → (w : ℕ) → mem both w ≡ pair_set u v w
+pair-is first both u v is joined w = joined w ∙ ap (λ (xs : List ℕ). mem xs w || v == w) is ∙ ap (λ b. b || v == w) (or_false (u == w))
+
+-- by the same edges
+pub same-by : (g : Graph) (x y : Set) → ((e : ℕ) → Within (size g) e → x e ≡ y e) → (m : Set) → IsPerfectBy g x m → IsPerfectBy g y m
+same-by g x y same m p = record { perfect = p.perfect; part = λ e w t. sym (same e w) ∙ p.part e w t }
+
+-- the two vertices may be named in either order
+open-turned : (g : Graph) (f : Set) (u v e : ℕ) → is_open g f u v e ≡ is_open g f v u e
+open-turned g f u v e = ap (λ (p : Set). not (has_end_in g (λ w. cond (f e) (p w) (is_met g f w && not (p w))) e)) (fun_ext (λ w. or_comm (u == w) (v == w)))
+
+-- so the pairs with the lesser vertex first are all
+pub none-lone : (g : Graph) → IsGraph g → (f met : Set) → ((v : ℕ) → met v ≡ is_met g f v) →
+    ((u v : ℕ) → Within g.order u → u < v → Within g.order v → met u ≡ true → met v ≡ true → (m : Set) → IsPerfectBy g (is_open g f u v) m → ⊥) → (m : Set) → LeadsAtTwo g f m → ⊥
+none-lone g is f met same never m leads =
+    let u = leads.0 in
+    let v = leads.1 in
+    let wu = met-within g is f u leads.3 in
+    let wv = met-within g is f v leads.4 in
+    elim (cases_order u v) [
+      | inl e ↦ leads.2 e
+      | inr o ↦ elim o [
+        | inl less ↦ never u v wu less wv (same u ∙ leads.3) (same v ∙ leads.4) m leads.5
+        | inr more ↦ never v u wv more wu (same v ∙ leads.4) (same u ∙ leads.3) m (same-by g (is_open g f u v) (is_open g f v u) (λ e w. open-turned g f u v e) m leads.5)
+      ]
+    ]
+
+-- an edge with no barred end is open
+open-ends : (g : Graph) (f : Set) (u v e : ℕ) → ((w : ℕ) → IsEnd g e w → barred g f u v e w ≡ false) → is_open g f u v e ≡ true
+open-ends g f u v e free = ap not (or_from (barred g f u v e (first_end g e)) (barred g f u v e (second_end g e)) (free (first_end g e) (inl refl)) (free (second_end g e) (inr refl)))
+
+-- an end counts
+end-counts : (g : Graph) (e w : ℕ) → IsEnd g e w → 1 ≤ ends_of g e w
+unfolding ends_of
+end-counts g e w h = elim h [
+  | inl i ↦ let x = ap bit (eq-eqb (first_end g e) w i) in omega arith
+  | inr i ↦ let x = ap bit (eq-eqb (second_end g e) w i) in omega arith
+]
+
+-- the two ends of an ear differ
+pub ends-differ : (g : Graph) (f : Set) (v : ℕ) (es : List ℕ) → IsEar g f v es → v ≢ last_vertex g v es
+ends-differ g f v es ear same =
+    let a = evens_at g f v es ear v in
+    let b = ear.once v in
+    let c = ap bit (eq-eqb v v refl) in
+    let d = ap bit (eq-eqb (last_vertex g v es) v (sym same)) in absurd (omega arith)
+
+module _ (g : Graph) (is : IsGraph g) (f : Set) (v : ℕ) (es : List ℕ) (ear : IsEar g f v es) (q : Set) (serves : IsPerfectOff g f (pair_set v (last_vertex g v es)) q) (r : Set) (rest : IsPerfect g (is_met g (with_edges f es)) r) where
+  z : ℕ
+  z = last_vertex g v es
+
+  grown : IsPerfectOff g (with_edges f es) none (with_edges q (odds es))
+  grown = odd_on g f v es ear none q (λ w ww t. absurd (true≢false (sym t))) refl refl
+      (off-same g f (pair_set v (last_vertex g v es)) (union (pair_set v (last_vertex g v es)) none) q (λ w. or_false_back (pair_set v (last_vertex g v es) w)) serves)
+
+  -- an edge on the stage has no end at the ends of the ear
+  on-open : (e : ℕ) → Within (size g) e → q e ≡ true → is_open g f v (last_vertex g v es) e ≡ true
+  on-open e we t = open-ends g f v (last_vertex g v es) e (λ w end.
+      ap (λ b. cond b (pair_set v (last_vertex g v es) w) (is_met g f w && not (pair_set v (last_vertex g v es) w))) (serves.part e we t)
+      ∙ false_from_ne_true (pair_set v (last_vertex g v es) w) (λ i.
+      let a = serves.away w (end-within e we w end) i in
+      let b = ends_le_degree g q e w we t in
+      let c = end-counts g e w end in omega arith))
+    where
+      end-within : (e : ℕ) → Within (size g) e → (w : ℕ) → IsEnd g e w → Within g.order w
+      end-within e we w end = elim end [ inl i ↦ subst (Within g.order) i (is e we).0 | inr i ↦ subst (Within g.order) i (is e we).1 ]
+
+  -- an edge off the stage has no end at another vertex of the stage
+  off-open : (e : ℕ) → f e ≡ false → ((w : ℕ) → IsEnd g e w → is_met g f w ≡ true → pair_set v (last_vertex g v es) w ≡ true) → is_open g f v (last_vertex g v es) e ≡ true
+  off-open e off among = open-ends g f v (last_vertex g v es) e (λ w end.
+      ap (λ b. cond b (pair_set v (last_vertex g v es) w) (is_met g f w && not (pair_set v (last_vertex g v es) w))) off
+      ∙ out (is_met g f w) (pair_set v (last_vertex g v es) w) (among w end))
+    where
+      out : (a b : Bool) → (a ≡ true → b ≡ true) → (a && not b) ≡ false
+      out true b h = ap not (h refl)
+      out false b h = refl
+
+  ear-open : (e : ℕ) → mem es e ≡ true → is_open g f v (last_vertex g v es) e ≡ true
+  ear-open e i = off-open e (ear.new e i) (λ w end t. elim (cases_Bool (pair_set v (last_vertex g v es) w)) [
+    | inl p ↦ p
+    | inr p ↦ absurd (both_ways (is_met g f w) (ear.inner w (trail_has g v es ear.follow e w i (end-counts g e w end))
+        (λ s. both_ways (pair_set v (last_vertex g v es) w) p (or_left (v == w) (last_vertex g v es == w) (eq-eqb v w (sym s))))
+        (λ s. both_ways (pair_set v (last_vertex g v es) w) p (or_right (v == w) (last_vertex g v es == w) (eq-eqb (last_vertex g v es) w (sym s))))) t)
+  ])
+
+  rest-open : (e : ℕ) → Within (size g) e → r e ≡ true → is_open g f v (last_vertex g v es) e ≡ true
+  rest-open e we t = off-open e (false_from_ne_true (f e) (λ i. both_ways (r e) (apart e we (or_left (f e) (mem es e) i)) t))
+      (λ w end i. absurd (let a = rest.away w (met-within g is f w i) (still-met g f es w i) in
+      let b = ends_le_degree g r e w we t in
+      let c = end-counts g e w end in omega arith))
+    where
+      apart : (e : ℕ) → Within (size g) e → with_edges f es e ≡ true → r e ≡ false
+      apart = apart-rest g is (with_edges f es) none (with_edges q (odds es)) r (λ w t. absurd (true≢false (sym t))) grown rest
+
+  pub lone-made : IsPerfectBy g (is_open g f v (last_vertex g v es)) (union (with_edges q (odds es)) r)
+  lone-made = record {
+    perfect = filled g is (with_edges f es) none (with_edges q (odds es)) r (λ w t. absurd (true≢false (sym t))) grown rest;
+    part = λ e we t. elim (or_cases (with_edges q (odds es) e) (r e) t) [
+      | inr i ↦ rest-open e we i
+      | inl i ↦ elim (or_cases (q e) (mem (odds es) e) i) [ inl j ↦ on-open e we j | inr j ↦ ear-open e (mem_odds es e j) ]
+    ];
+  }
+
+-- where an ear list goes on by a single ear, a perfect matching leads out at two vertices alone
+pub single-leads : (g : Graph) → IsMultigraph g → IsCovered g → (f : Set) → IsStage g f → (c : PlainEar) (steps : List PlainStep) → AreSteps g f (one c ∷ steps) → (m : Set) × LeadsAtTwo g f m
+single-leads g is cov f stage c steps goes =
+    let q = stage-serves g is.ends f stage c.begin c.edges goes.0 goes.1 in
+    let r = rest-perfect g is.ends (covered-meets g is cov) (with_edges f c.edges) steps goes.2 in (
+      union (with_edges q.0 (odds c.edges)) r.0,
+      (c.begin, last_vertex g c.begin c.edges, ends-differ g f c.begin c.edges goes.0, goes.0.start, goes.0.end, lone-made g is.ends f c.begin c.edges goes.0 q.0 q.1 r.0 r.1),
+    )
+
+-- so where none does, each step is forced
+pub none-forced : (g : Graph) → IsMultigraph g → IsCovered g → (f : Set) → IsStage g f → ((m : Set) → LeadsAtTwo g f m → ⊥) → (s : PlainStep) → IsForced g f s
+none-forced g is cov f stage never (one a) = tt
+none-forced g is cov f stage never (two a b) = λ c steps goes. let m = single-leads g is cov f stage c steps goes in never m.0 m.1
+
+-- a single step is forced
+pub single-forced : (g : Graph) (f : Set) (s : PlainStep) → IsSingle s → IsForced g f s
+single-forced g f (one a) single = tt
+single-forced g f (two a b) single = absurd single

@@ -1,0 +1,15 @@
+use Rattle.std.proofs.Common.{◌≡◌, ◌≤◌}
+use Rattle.counting.specs.Counts.{count}
+use Rattle.counting.specs.Lists.{mem, rising_list}
+use Rattle.match_search.specs.Rows.{marks}
+use Rattle.match_core.specs.MatchingRows.{edges_of}
+use Rattle.ear_core.specs.StageGraphs.{by_rank}
+use Rattle.ear_core.proofs.lone_ears.edges_by_rank.Given as goal
+
+-- the edges so far, and how many edges so far are marked
+abbrev pub invariant-loop-k : goal.invariant-loop-k
+invariant-loop-k l = record {
+  rank : l.rank ≡ count l.k (marks l.row);
+  few : l.rank ≤ l.k;
+  edges : l.edges ≡ rising_list l.k (by_rank (marks l.row) (mem (edges_of l.m)));
+}

@@ -1,0 +1,18 @@
+use Rattle.std.proofs.Common.{rules, ◌≡◌, ◌∙◌, ◌+◌, ◌==◌, ◌||◌, ap, drop, false, map, sym, true}
+use Rattle.std.proofs.lemmas.Bool.{or_left}
+use Rattle.counting.specs.Lists.{mem}
+use Rattle.match_core.specs.declared.matching.MatchRow.{MatchRow}
+use Rattle.ear_core.proofs.MarkedMatchings.{edges-at}
+use Rattle.ear_core.proofs.lone_ears.has_edge.Goals as goal
+
+pub returns-then-row-e : goal.returns-then-row-e
+returns-then-row-e c =
+    let row = c.row.result in
+    let here : (row.edge == c.args.e) ≡ true = search rules in
+    sym (c.loop-i.invariant ∙ edges-at c.args.m.now.rows c.loop-i.i row c.args.e c.row.ensures ∙ or_left (row.edge == c.args.e) _ here)
+
+pub loop-i-preserved : goal.loop-i-preserved
+loop-i-preserved c =
+    let row = c.row.result in
+    let here : (row.edge == c.args.e) ≡ false = search rules in
+    c.loop-i.invariant ∙ edges-at c.args.m.now.rows c.loop-i.i row c.args.e c.row.ensures ∙ ap (λ b. b || mem (map (λ (r : MatchRow). r.edge) (drop (c.loop-i.i + 1) c.args.m.now.rows)) c.args.e) here

@@ -1,0 +1,13 @@
+use Rattle.std.proofs.Common.{rules, ◌≡◌, subst, sym}
+use Rattle.match_search.specs.Rows.{marks}
+use Rattle.ear_core.proofs.LoneMatchings.{none-lone}
+use Rattle.counting.specs.Counts.{Within}
+use Rattle.counting.specs.Lists.{mem}
+use Rattle.ear_core.proofs.lone_ears.lone_matching.Goals as goal
+
+pub returns-clause-none : goal.returns-clause-none
+returns-clause-none c =
+    let g = c.args.g.now in
+    let all : c.loop-k.k ≡ g.order = search rules in
+    none-lone g c.keeps_limits.ensures.multigraph.ends (marks c.args.mark.now) (mem c.args.met) c.requires.met
+    (λ u v wu low wv mu mv. c.loop-k.invariant u v (subst (λ n. Within n u) (sym all) wu) low wv mu mv)

@@ -1,0 +1,16 @@
+use Rattle.std.proofs.Common.{◌≡◌, ◌+◌, ℕ, length}
+use Rattle.counting.specs.Counts.{Within}
+use Rattle.counting.specs.Lists.{mem}
+use Rattle.counting.specs.Sets.{pair_set}
+use Rattle.graph_core.specs.Graph.{size}
+use Rattle.match_search.specs.Rows.{marks}
+use Rattle.ear_core.specs.LoneEars.{is_open}
+use Rattle.ear_core.specs.Stages.{is_met}
+use Rattle.ear_core.proofs.lone_ears.open_edges.Given as goal
+
+-- the edges so far are marked right
+abbrev pub invariant-loop-k : goal.invariant-loop-k
+invariant-loop-k l = record {
+  long : length l.row.items ≡ size l.g + 1;
+  each : (u v : ℕ) → ((w : ℕ) → mem l.met w ≡ is_met l.g (marks l.mark) w) → ((w : ℕ) → mem l.pair w ≡ pair_set u v w) → (e : ℕ) → Within l.k e → marks l.row.items e ≡ is_open l.g (marks l.mark) u v e;
+}

@@ -1,0 +1,26 @@
+-- Perfect matchings that lead out of a stage at two of its vertices alone. Together with a perfect
+-- matching that keeps the stage such a one makes a single ear, and all single ears are found so.
+use Rattle.std.specs.Prelude.{◌≡◌, ◌≢◌, ℕ, true, ◌&&◌, not, cond}
+use Rattle.counting.specs.Counts.{Within}
+use Rattle.counting.specs.Sets.{Set, none, pair_set}
+use Rattle.graph_core.specs.Graph.{Graph, size}
+use Rattle.graph_core.specs.Matchings.{IsPerfect}
+use Rattle.match_core.specs.MatchingRows.{has_end_in}
+use Rattle.ear_core.specs.Stages.{is_met}
+
+-- where edge e must have no end: an edge of f at u and v, another one at other vertices of f
+abbrev pub barred : Graph → Set → ℕ → ℕ → ℕ → Set
+barred g f u v e w = cond (f e) (pair_set u v w) (is_met g f w && not (pair_set u v w))
+
+-- edge e may lie in a perfect matching that leads out of f at u and v alone
+abbrev pub is_open : Graph → Set → ℕ → ℕ → Set
+is_open g f u v e = not (has_end_in g (barred g f u v e) e)
+
+-- m is a perfect matching of g by edges of x
+pub record IsPerfectBy (g : Graph) (x m : Set) : Type 0 where
+  pub perfect : IsPerfect g none m
+  pub part : (e : ℕ) → Within (size g) e → m e ≡ true → x e ≡ true
+
+-- m leads out of f at two of its vertices alone
+abbrev pub LeadsAtTwo : Graph → Set → Set → Type 0
+LeadsAtTwo g f m = (u : ℕ) × (v : ℕ) × (u ≢ v) × (is_met g f u ≡ true) × (is_met g f v ≡ true) × IsPerfectBy g (is_open g f u v) m

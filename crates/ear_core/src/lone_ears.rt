@@ -1,0 +1,178 @@
+//! The search for a perfect matching that leads out of a stage at two of its vertices alone.
+ghost use Rattle.std.specs.Prelude.{◌≡◌, ◌+◌, ◌<◌, ◌&&◌, ℕ, length, true, IfOk, IfSome, IfNone};
+ghost use Rattle.counting.specs.Counts.{Within};
+ghost use Rattle.counting.specs.Lists.{mem, rising_list};
+ghost use Rattle.counting.specs.Sets.{Set, pair_set};
+ghost use Rattle.graph_core.specs.Graph.{size, with_ends};
+ghost use Rattle.match_core.specs.MatchingRows.{edges_of, IsOf};
+ghost use Rattle.match_search.specs.Rows.{marks};
+ghost use Rattle.ear_core.specs.AlternatingEars.{IsPerfectRows};
+ghost use Rattle.ear_core.specs.LoneEars.{is_open, IsPerfectBy, LeadsAtTwo};
+ghost use Rattle.ear_core.specs.StageGraphs.{by_rank};
+ghost use Rattle.ear_core.specs.Stages.{is_met};
+
+use crate::stages::marked_graph;
+use graph_core::{MultiGraph, Numbers};
+use match_core::{Matching, perfect_with, perfect_without};
+use std::alloc::{AllocError as Memory, Global};
+use vset_core::VSet;
+
+// Whether edge `e` may lie in a perfect matching that leads out of the stage at the two vertices
+// of `pair` alone. The stage of the marked edges meets the vertices `met`.
+fn is_open(g: &MultiGraph, mark: &[bool], met: VSet, pair: VSet, e: u32) -> bool
+    requires long { length mark.now ≡ size g.now + 1 }
+    requires edge { Within (size g.now) e }
+    ensures { (u v : ℕ) → ((w : ℕ) → mem met w ≡ is_met g.now (marks mark.now) w)
+        → ((w : ℕ) → mem pair w ≡ pair_set u v w) → result ≡ is_open g.now (marks mark.now) u v e }
+{
+    g.keeps_limits();
+    let ends = g.ends(e);
+    let barred = if mark[e as usize] {
+        pair
+    } else {
+        met.minus(pair)
+    };
+    !(barred.contains(ends.a) || barred.contains(ends.b))
+}
+
+// The marks of these edges.
+fn open_edges(
+    alloc: Global,
+    g: &MultiGraph,
+    mark: &[bool],
+    met: VSet,
+    pair: VSet,
+) -> Result<Vec<bool>, Memory>
+    requires long { length mark.now ≡ size g.now + 1 }
+    ensures long { IfOk result (λ row. length row.items ≡ size g.now + 1) }
+    ensures each { (u v : ℕ) → ((w : ℕ) → mem met w ≡ is_met g.now (marks mark.now) w)
+        → ((w : ℕ) → mem pair w ≡ pair_set u v w) → IfOk result
+        (λ row. (e : ℕ) → Within (size g.now) e →
+        marks row.items e ≡ is_open g.now (marks mark.now) u v e) }
+{
+    g.keeps_limits();
+    let mut row = vec![in alloc; false; g.size() as usize + 1]?;
+    for k in 0..g.size() {
+        row[k as usize + 1] = is_open(g, mark, met, pair, k + 1);
+    }
+    Ok(row)
+}
+
+// Whether edge `e` is one of the matching.
+fn has_edge(m: &Matching, e: u32) -> bool
+    ensures { result ≡ mem (edges_of m.now) e }
+{
+    for i in 0..m.len() {
+        if m.row(i).edge == e {
+            return true;
+        }
+    }
+    false
+}
+
+// The marked edges whose rank among the marked ones is an edge of `m`.
+fn edges_by_rank(
+    alloc: Global,
+    g: &MultiGraph,
+    row: &[bool],
+    m: &Matching,
+) -> Result<Numbers, Memory>
+    requires { length row.now ≡ size g.now + 1 }
+    ensures { IfOk result
+        (λ es. es ≡ rising_list (size g.now) (by_rank (marks row.now) (mem (edges_of m.now)))) }
+{
+    g.keeps_limits();
+    let mut edges = Numbers::new(alloc);
+    let mut rank = 0;
+    for k in 0..g.size() {
+        if row[k as usize + 1] {
+            rank += 1;
+            if has_edge(m, rank) {
+                edges.push(k + 1)?;
+            }
+        }
+    }
+    Ok(edges)
+}
+
+// A perfect matching of `g` by marked edges.
+fn perfect_by(alloc: Global, g: &MultiGraph, row: &[bool]) -> Result<Option<Matching>, Memory>
+    requires { length row.now ≡ size g.now + 1 }
+    ensures rows { IfOk result (λ o. IfSome o (IsPerfectRows g.now)) }
+    ensures part { IfOk result
+        (λ o. IfSome o (λ m. IsPerfectBy g.now (marks row.now) (mem (edges_of m)))) }
+    ensures none { IfOk result
+        (λ o. IfNone o ((m : Set) → IsPerfectBy g.now (marks row.now) m → ⊥)) }
+{
+    g.keeps_limits();
+    let stage = marked_graph(alloc, g, row)?;
+    let Some(found) = perfect_without(alloc, &stage, VSet::empty())? else {
+        return Ok(None);
+    };
+    let edges = edges_by_rank(alloc, g, row, &found)?;
+    match perfect_with(alloc, g, &edges)? {
+        Some(m) => Ok(Some(m)),
+        None => unreachable!(),
+    }
+}
+
+// A perfect matching that leads out of the stage of the marked edges, which meets the vertices
+// `met`, at `u` and a vertex after it alone.
+fn lone_from(
+    alloc: Global,
+    g: &MultiGraph,
+    mark: &[bool],
+    met: VSet,
+    u: u32,
+) -> Result<Option<Matching>, Memory>
+    requires long { length mark.now ≡ size g.now + 1 }
+    requires met { (v : ℕ) → mem met v ≡ is_met g.now (marks mark.now) v }
+    requires vertex { Within g.now.order u }
+    requires on { mem met u ≡ true }
+    ensures rows { IfOk result (λ o. IfSome o (IsPerfectRows g.now)) }
+    ensures two { IfOk result
+        (λ o. IfSome o (λ m. LeadsAtTwo g.now (marks mark.now) (mem (edges_of m)))) }
+    ensures none { IfOk result
+        (λ o. IfNone o ((v : ℕ) → u < v → Within g.now.order v → mem met v ≡ true → (m : Set) →
+        IsPerfectBy g.now (is_open g.now (marks mark.now) u v) m → ⊥)) }
+{
+    g.keeps_limits();
+    for k in u..g.order() {
+        let v = k + 1;
+        if met.contains(v) {
+            let row = open_edges(alloc, g, mark, met, VSet::one(u).with(v))?;
+            if let Some(m) = perfect_by(alloc, g, &row)? {
+                return Ok(Some(m));
+            }
+        }
+    }
+    Ok(None)
+}
+
+/// A perfect matching that leads out of the stage of the marked edges, which meets the vertices
+/// `met`, at two of its vertices alone; `None` exactly when there is none.
+pub fn lone_matching(
+    alloc: Global,
+    g: &MultiGraph,
+    mark: &[bool],
+    met: VSet,
+) -> Result<Option<Matching>, Memory>
+    requires long { length mark.now ≡ size g.now + 1 }
+    requires met { (v : ℕ) → mem met v ≡ is_met g.now (marks mark.now) v }
+    ensures rows { IfOk result (λ o. IfSome o (IsPerfectRows g.now)) }
+    ensures two { IfOk result
+        (λ o. IfSome o (λ m. LeadsAtTwo g.now (marks mark.now) (mem (edges_of m)))) }
+    ensures none { IfOk result
+        (λ o. IfNone o ((m : Set) → LeadsAtTwo g.now (marks mark.now) m → ⊥)) }
+{
+    g.keeps_limits();
+    for k in 0..g.order() {
+        let u = k + 1;
+        if met.contains(u) {
+            if let Some(m) = lone_from(alloc, g, mark, met, u)? {
+                return Ok(Some(m));
+            }
+        }
+    }
+    Ok(None)
+}
