@@ -1,3 +1,4 @@
 pub mod DerivationTexts
 pub mod EarSteps
 pub mod GrownSizes
+pub mod Settled

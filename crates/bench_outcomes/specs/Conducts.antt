@@ -11,6 +11,14 @@ use Rattle.ear_core.specs.EarLists.{IsEarList}
 use Rattle.bench_outcomes.specs.Shown.{MayBeBerge, MayShowOfTree, MayShowOfMoves, MayShowOfTwo}
 use Rattle.bench_tasks.specs.Tasks.{Task}
 use Rattle.bench_tasks.specs.Tasks as task
+use Rattle.bench_tasks.specs.declared.verbs.GraphVerb.TheVariants.{Analyse, Convert, Decompose, Ears}
+use Rattle.bench_tasks.specs.declared.verbs.SimpleGraphVerb.TheVariants.{Analyse6}
+use Rattle.bench_tasks.specs.declared.verbs.TreeVerb.TheVariants.{Check}
+use Rattle.bench_tasks.specs.declared.verbs.PicksVerb.TheVariants.{DecomposeBy}
+use Rattle.bench_tasks.specs.declared.verbs.EarsVerb.TheVariants.{CheckEars}
+use Rattle.bench_tasks.specs.declared.verbs.MovesVerb.TheVariants.{Replay}
+use Rattle.bench_tasks.specs.declared.verbs.TreesVerb.TheVariants.{Compare, Script}
+use Rattle.bench_tasks.specs.declared.verbs.NumbersVerb.TheVariants.{Grow}
 
 -- the ways to behave; what may be shown are numbers of which there may be many
 pub data Conduct : Type 1 where
@@ -35,15 +43,15 @@ LeadsOn g tree moves = IsDerivation g tree × ((last : Shape) × TurnsThrough g 
 
 -- the table of tasks: one line for each command
 abbrev pub conduct_of : Task → Conduct
-conduct_of (task.Analyse named) = Tells (MayBeBerge named.graph)
-conduct_of (task.Convert named) = Writes
-conduct_of (task.Analyse6 g) = Tells (MayBeBerge g)
-conduct_of (task.Decompose named order) = Needs (IsCovered named.graph) (MayBeBerge named.graph)
-conduct_of (task.DecomposeBy named picks) = Needs (IsCovered named.graph) (MayBeBerge named.graph)
-conduct_of (task.Check named tree) = Needs (IsDerivation named.graph tree) (MayShowOfTree named.graph tree)
-conduct_of (task.CheckEars named list) = Needs (IsCovered named.graph × IsEarList named.graph list) (MayBeBerge named.graph)
-conduct_of (task.Ears named) = Chooses (IsCovered named.graph) (MayBeBerge named.graph)
-conduct_of (task.Replay named tree moves) = Needs (LeadsOn named.graph tree moves) (MayShowOfMoves named.graph tree moves)
-conduct_of (task.Compare named first second) = Chooses (AreDerivations named.graph first second) (MayShowOfTwo named.graph first second)
-conduct_of (task.Script named first second) = Chooses (AreDerivations named.graph first second) (MayShowOfTwo named.graph first second)
-conduct_of (task.Grow seed pieces) = Writes
+conduct_of (task.OnGraph Analyse named) = Tells (MayBeBerge named.graph)
+conduct_of (task.OnGraph Convert named) = Writes
+conduct_of (task.OnSimpleGraph Analyse6 g) = Tells (MayBeBerge g)
+conduct_of (task.OnGraph (Decompose order) named) = Needs (IsCovered named.graph) (MayBeBerge named.graph)
+conduct_of (task.OnPicks DecomposeBy named picks) = Needs (IsCovered named.graph) (MayBeBerge named.graph)
+conduct_of (task.OnTree Check named tree) = Needs (IsDerivation named.graph tree) (MayShowOfTree named.graph tree)
+conduct_of (task.OnEars CheckEars named list) = Needs (IsCovered named.graph × IsEarList named.graph list) (MayBeBerge named.graph)
+conduct_of (task.OnGraph Ears named) = Chooses (IsCovered named.graph) (MayBeBerge named.graph)
+conduct_of (task.OnMoves Replay named tree moves) = Needs (LeadsOn named.graph tree moves) (MayShowOfMoves named.graph tree moves)
+conduct_of (task.OnTrees Compare named first second) = Chooses (AreDerivations named.graph first second) (MayShowOfTwo named.graph first second)
+conduct_of (task.OnTrees Script named first second) = Chooses (AreDerivations named.graph first second) (MayShowOfTwo named.graph first second)
+conduct_of (task.OnNumbers Grow seed pieces) = Writes

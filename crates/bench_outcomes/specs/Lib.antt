@@ -10,3 +10,4 @@ pub mod Comparisons
 pub mod Growths
 pub mod Outcome
 pub mod Success
+pub mod Refusing

@@ -34,6 +34,14 @@ use Rattle.bench_outcomes.specs.Comparisons.{CompareGives, ScriptGives}
 use Rattle.bench_outcomes.specs.Growths.{Grown}
 use Rattle.bench_tasks.specs.Tasks.{Task}
 use Rattle.bench_tasks.specs.Tasks as task
+use Rattle.bench_tasks.specs.declared.verbs.GraphVerb.TheVariants.{Analyse, Convert, Decompose, Ears}
+use Rattle.bench_tasks.specs.declared.verbs.SimpleGraphVerb.TheVariants.{Analyse6}
+use Rattle.bench_tasks.specs.declared.verbs.TreeVerb.TheVariants.{Check}
+use Rattle.bench_tasks.specs.declared.verbs.PicksVerb.TheVariants.{DecomposeBy}
+use Rattle.bench_tasks.specs.declared.verbs.EarsVerb.TheVariants.{CheckEars}
+use Rattle.bench_tasks.specs.declared.verbs.MovesVerb.TheVariants.{Replay}
+use Rattle.bench_tasks.specs.declared.verbs.TreesVerb.TheVariants.{Compare, Script}
+use Rattle.bench_tasks.specs.declared.verbs.NumbersVerb.TheVariants.{Grow}
 use Rattle.bench_tasks.specs.Loading.{Loaded, All, Bad, Absent, loaded}
 use Rattle.bench_outcomes.specs.Facts.{IsAnalysis}
 use Rattle.bench_outcomes.specs.declared.status.Status.{Status}
@@ -95,18 +103,18 @@ DecomposeGives picks named status output = Decomposed picks named status output 
 
 -- what a command gives for what it works on: one case for each row of the table of words
 abbrev pub ResultOf : Task → Status → List ℕ → Type 0
-ResultOf (task.Analyse named) status output = Analysed named status output
-ResultOf (task.Convert named) status output = Converted named status output
-ResultOf (task.Analyse6 g) status output = Analysed6 g status output
-ResultOf (task.Decompose named order) status output = DecomposeGives (NamedPicks order) named status output
-ResultOf (task.DecomposeBy named picks) status output = DecomposeGives (ScriptPicks picks) named status output
-ResultOf (task.Check named tree) status output = CheckGives named.graph tree status output
-ResultOf (task.CheckEars named list) status output = EarCheckGives named.graph list status output
-ResultOf (task.Ears named) status output = EarsGives named.graph status output
-ResultOf (task.Replay named tree moves) status output = ReplayGives named.graph tree moves status output
-ResultOf (task.Compare named first second) status output = CompareGives named.graph first second status output
-ResultOf (task.Script named first second) status output = ScriptGives named.graph first second status output
-ResultOf (task.Grow seed pieces) status output = Grown seed pieces status output
+ResultOf (task.OnGraph Analyse named) status output = Analysed named status output
+ResultOf (task.OnGraph Convert named) status output = Converted named status output
+ResultOf (task.OnSimpleGraph Analyse6 g) status output = Analysed6 g status output
+ResultOf (task.OnGraph (Decompose order) named) status output = DecomposeGives (NamedPicks order) named status output
+ResultOf (task.OnPicks DecomposeBy named picks) status output = DecomposeGives (ScriptPicks picks) named status output
+ResultOf (task.OnTree Check named tree) status output = CheckGives named.graph tree status output
+ResultOf (task.OnEars CheckEars named list) status output = EarCheckGives named.graph list status output
+ResultOf (task.OnGraph Ears named) status output = EarsGives named.graph status output
+ResultOf (task.OnMoves Replay named tree moves) status output = ReplayGives named.graph tree moves status output
+ResultOf (task.OnTrees Compare named first second) status output = CompareGives named.graph first second status output
+ResultOf (task.OnTrees Script named first second) status output = ScriptGives named.graph first second status output
+ResultOf (task.OnNumbers Grow seed pieces) status output = Grown seed pieces status output
 
 -- what a command gives for what its files hold
 abbrev pub LoadedGives : Loaded Task → Status → List ℕ → Type 0

@@ -1,14 +1,13 @@
 //! A graph that grows from a seed, with its leaves counted and compared, as `grow` reports it.
 ghost use Rattle.std.specs.Prelude.{◌≡◌, IfOk};
-ghost use Rattle.graph_core.specs.Covered.{IsCovered};
 ghost use Rattle.tree_core.specs.View.{shape_of};
 ghost use Rattle.decomposer.specs.Orders.{NamedPicks};
 ghost use Rattle.bench_outcomes.specs.Growths.{Grown, IsCounted};
 
 use bench_outcomes::{Report, Status};
 use bench_tasks::Growth;
-use decomposer::{NamedOrder, Refused, decompose};
-use graph_core::MultiGraph;
+use decomposer::{NamedOrder, decompose_covered};
+use graph_facts::Covered;
 use graph_text::write_graph;
 use grow_gen::grow;
 use report_text::grown;
@@ -17,18 +16,12 @@ use tree_core::{Tally, Tree, tally_of_tree};
 use uncross::compare;
 
 // The derivation of a covered graph that the order picks, with its leaves counted.
-fn counted(alloc: Global, g: &MultiGraph, order: NamedOrder) -> Result<(Tree, Tally), Memory>
-    requires { IsCovered g.now }
-    ensures { IfOk result (λ found. IsCounted (NamedPicks order) g.now (shape_of found.0) found.1) }
+fn counted(alloc: Global, c: &Covered, order: NamedOrder) -> Result<(Tree, Tally), Memory>
+    ensures { IfOk result (λ found. IsCounted (NamedPicks order) c.now (shape_of found.0) found.1) }
 {
-    match decompose(alloc, g, &order) {
-        Ok(tree) => {
-            let tally = tally_of_tree(alloc, g, &tree)?;
-            Ok((tree, tally))
-        }
-        Err(Refused::NotCovered(_)) => unreachable!(),
-        Err(Refused::Memory) => Err(Memory),
-    }
+    let tree = decompose_covered(alloc, c, &order)?;
+    let tally = tally_of_tree(alloc, c.graph(), &tree)?;
+    Ok((tree, tally))
 }
 
 /// The report on the graph that grows from a seed: its text, the leaves of its derivations by the
@@ -39,8 +32,9 @@ pub fn grow_report(alloc: Global, growth: Growth) -> Result<Report, Memory>
 {
     let g = grow(alloc, growth.seed as u64, growth.pieces)?;
     let text = write_graph(alloc, &g)?;
-    let (first, first_tally) = counted(alloc, &g, NamedOrder::First)?;
-    let (last, last_tally) = counted(alloc, &g, NamedOrder::Last)?;
+    let covered = Covered::known(alloc, &g)?;
+    let (first, first_tally) = counted(alloc, &covered, NamedOrder::First)?;
+    let (last, last_tally) = counted(alloc, &covered, NamedOrder::Last)?;
     let pairing = compare(alloc, &g, &first, &last)?;
     let pairs = pairing.maps.len() as u32;
     Ok(Report {

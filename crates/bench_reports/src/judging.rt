@@ -2,9 +2,9 @@
 ghost use Rattle.std.specs.Prelude.{◌≡◌, IfOk};
 ghost use Rattle.graph_text.specs.SoFar.{named_graph};
 ghost use Rattle.bench_tasks.specs.Loads.{graph_in, task_of};
-ghost use Rattle.bench_tasks.specs.Refusing.{TaskMayRefuse};
 ghost use Rattle.bench_outcomes.specs.Facts.{HasMaximum, IsAnalysis};
 ghost use Rattle.bench_outcomes.specs.Outcome.{Analysed, Converted, Analysed6, IsReported, ResultOf};
+ghost use Rattle.bench_outcomes.specs.Refusing.{TaskMayRefuse};
 
 use crate::checking::check_report;
 use crate::comparing::{compare_report, script_report};
@@ -15,7 +15,10 @@ use crate::naming::{given_or_plain, with_given_names};
 use crate::replaying::replay_report;
 use crate::structures::structure_where_covered;
 use bench_outcomes::{Report, Status};
-use bench_tasks::{GivenMoves, SimpleGraph, Task};
+use bench_tasks::{
+    EarsVerb, GivenMoves, GraphVerb, MovesVerb, NumbersVerb, PicksVerb, SimpleGraph,
+    SimpleGraphVerb, Task, TreeVerb, TreesVerb,
+};
 use gallai_edmonds::sets_of;
 use graph_core::MultiGraph;
 use graph_facts::Facts;
@@ -113,37 +116,63 @@ fn analyse6_report(alloc: Global, simple: SimpleGraph) -> Result<Report, Memory>
     })
 }
 
-// What a task gives, by its kind.
+// What a task gives, by its verb.
 fn report_of(alloc: Global, task: Task) -> Result<Report, Memory>
     ensures { IfOk result
         (λ report. ResultOf (task_of task) report.status report.bytes.items) }
 {
     match task {
-        Task::Analyse { named } => analyse_report(alloc, &named),
-        Task::Convert { named } => convert_report(alloc, named),
-        Task::Analyse6 { simple } => analyse6_report(alloc, simple),
-        Task::Decompose { named, order } => decompose_report(alloc, &named, &order),
-        Task::DecomposeBy { named, picks } => decompose_by_report(alloc, &named, &picks),
-        Task::Check { given } => check_report(alloc, &given.named.graph, &given.tree),
-        Task::CheckEars { given } => checkears_report(alloc, &given.named.graph, &given.list),
-        Task::Ears { named } => ears_report(alloc, &named.graph),
-        Task::Replay { given } => {
+        Task::OnGraph {
+            verb: GraphVerb::Analyse,
+            named,
+        } => analyse_report(alloc, &named),
+        Task::OnGraph {
+            verb: GraphVerb::Convert,
+            named,
+        } => convert_report(alloc, named),
+        Task::OnGraph {
+            verb: GraphVerb::Decompose { order },
+            named,
+        } => decompose_report(alloc, &named, &order),
+        Task::OnGraph {
+            verb: GraphVerb::Ears,
+            named,
+        } => ears_report(alloc, &named.graph),
+        Task::OnSimpleGraph {
+            verb: SimpleGraphVerb::Analyse6,
+            simple,
+        } => analyse6_report(alloc, simple),
+        Task::OnTree {
+            verb: TreeVerb::Check,
+            given,
+        } => check_report(alloc, &given.named.graph, &given.tree),
+        Task::OnPicks {
+            verb: PicksVerb::DecomposeBy,
+            given,
+        } => decompose_by_report(alloc, &given.named, &given.picks),
+        Task::OnEars {
+            verb: EarsVerb::CheckEars,
+            given,
+        } => checkears_report(alloc, &given.named.graph, &given.list),
+        Task::OnMoves {
+            verb: MovesVerb::Replay,
+            given,
+        } => {
             let GivenMoves { named, tree, moves } = given;
             replay_report(alloc, &named.graph, tree, &moves)
         }
-        Task::Compare { given } => compare_report(
-            alloc,
-            &given.named.graph,
-            &given.first,
-            &given.second,
-        ),
-        Task::Script { given } => script_report(
-            alloc,
-            &given.named.graph,
-            &given.first,
-            &given.second,
-        ),
-        Task::Grow { growth } => grow_report(alloc, growth),
+        Task::OnTrees {
+            verb: TreesVerb::Compare,
+            given,
+        } => compare_report(alloc, &given.named.graph, &given.first, &given.second),
+        Task::OnTrees {
+            verb: TreesVerb::Script,
+            given,
+        } => script_report(alloc, &given.named.graph, &given.first, &given.second),
+        Task::OnNumbers {
+            verb: NumbersVerb::Grow,
+            growth,
+        } => grow_report(alloc, growth),
     }
 }
 

@@ -19,9 +19,14 @@ use Rattle.tree_text.specs.TreeFormat.{tree_format}
 use Rattle.move_text.specs.MoveFormat.{move_format}
 use Rattle.ear_core.specs.EarLists.{PlainEars}
 use Rattle.ear_text.specs.EarFormat.{ear_format}
-use Rattle.bench_tasks.specs.Commands.{Command, Analyse, Convert, Analyse6, Decompose, DecomposeBy, Check, CheckEars, Ears, Replay, Compare, Script, Grow}
+use Rattle.bench_tasks.specs.Commands.{Command, OnGraph, OnSimpleGraph, OnTree, OnPicks, OnEars, OnMoves, OnTrees, OnNumbers}
 use Rattle.bench_tasks.specs.Tasks.{Task}
 use Rattle.bench_tasks.specs.Tasks as task
+use Rattle.bench_tasks.specs.declared.verbs.TreeVerb.{TreeVerb}
+use Rattle.bench_tasks.specs.declared.verbs.PicksVerb.{PicksVerb}
+use Rattle.bench_tasks.specs.declared.verbs.EarsVerb.{EarsVerb}
+use Rattle.bench_tasks.specs.declared.verbs.MovesVerb.{MovesVerb}
+use Rattle.bench_tasks.specs.declared.verbs.TreesVerb.{TreesVerb}
 
 -- the most bytes that a file may have
 abbrev pub most_bytes : ℕ
@@ -86,27 +91,47 @@ move_file files name order = file_read 3 (reading_of (move_format order)) (file_
 abbrev pub tree_given : List Named → (graph tree : List ℕ) → Loaded (NamedGraph × Shape)
 tree_given files graph tree = and_then (graph_file files graph) (λ named. loaded_as (λ t. (named, t)) (tree_file files 2 tree named.graph.order))
 
--- the same with a second tree
-abbrev pub trees_given : List Named → (graph first second : List ℕ) → Loaded (NamedGraph × (Shape × Shape))
-trees_given files graph first second =
-    and_then (tree_given files graph first) (λ given. loaded_as (λ t. (given.0, (given.1, t))) (tree_file files 3 second given.0.graph.order))
+-- a graph, and a list of picks
+abbrev pub picks_given : List Named → (graph picks : List ℕ) → Loaded (NamedGraph × List ℕ)
+picks_given files graph picks = and_then (graph_file files graph) (λ named. loaded_as (λ list. (named, list)) (pick_file files picks))
 
--- the same with moves
+-- a graph, and a list of ears for it
+abbrev pub ears_given : List Named → (graph ears : List ℕ) → Loaded (NamedGraph × PlainEars)
+ears_given files graph ears = and_then (graph_file files graph) (λ named. loaded_as (λ list. (named, list)) (ear_file files ears named.graph))
+
+-- a graph, a tree for it, and moves
 abbrev pub moves_given : List Named → (graph tree moves : List ℕ) → Loaded (NamedGraph × (Shape × List PlainMove))
 moves_given files graph tree moves =
     and_then (tree_given files graph tree) (λ given. loaded_as (λ ms. (given.0, (given.1, ms))) (move_file files moves given.0.graph.order))
 
+-- a graph, and two trees for it
+abbrev pub trees_given : List Named → (graph first second : List ℕ) → Loaded (NamedGraph × (Shape × Shape))
+trees_given files graph first second =
+    and_then (tree_given files graph first) (λ given. loaded_as (λ t. (given.0, (given.1, t))) (tree_file files 3 second given.0.graph.order))
+
+-- the task of a verb on such
+abbrev pub on_tree : TreeVerb → NamedGraph × Shape → Task
+on_tree verb given = task.OnTree verb given.0 given.1
+
+abbrev pub on_picks : PicksVerb → NamedGraph × List ℕ → Task
+on_picks verb given = task.OnPicks verb given.0 given.1
+
+abbrev pub on_ears : EarsVerb → NamedGraph × PlainEars → Task
+on_ears verb given = task.OnEars verb given.0 given.1
+
+abbrev pub on_moves : MovesVerb → NamedGraph × (Shape × List PlainMove) → Task
+on_moves verb given = task.OnMoves verb given.0 given.1.0 given.1.1
+
+abbrev pub on_trees : TreesVerb → NamedGraph × (Shape × Shape) → Task
+on_trees verb given = task.OnTrees verb given.0 given.1.0 given.1.1
+
 -- what the files of a command hold
 abbrev pub loaded : List Named → Command → Loaded Task
-loaded files (Analyse graph) = loaded_as task.Analyse (graph_file files graph)
-loaded files (Convert graph) = loaded_as task.Convert (graph_file files graph)
-loaded files (Analyse6 graph) = loaded_as task.Analyse6 (graph6_file files graph)
-loaded files (Decompose graph order) = loaded_as (λ named. task.Decompose named order) (graph_file files graph)
-loaded files (DecomposeBy graph picks) = and_then (graph_file files graph) (λ named. loaded_as (task.DecomposeBy named) (pick_file files picks))
-loaded files (Check graph tree) = loaded_as (λ given. task.Check given.0 given.1) (tree_given files graph tree)
-loaded files (CheckEars graph ears) = and_then (graph_file files graph) (λ named. loaded_as (task.CheckEars named) (ear_file files ears named.graph))
-loaded files (Ears graph) = loaded_as task.Ears (graph_file files graph)
-loaded files (Replay graph tree moves) = loaded_as (λ given. task.Replay given.0 given.1.0 given.1.1) (moves_given files graph tree moves)
-loaded files (Compare graph first second) = loaded_as (λ given. task.Compare given.0 given.1.0 given.1.1) (trees_given files graph first second)
-loaded files (Script graph first second) = loaded_as (λ given. task.Script given.0 given.1.0 given.1.1) (trees_given files graph first second)
-loaded files (Grow seed pieces) = All (task.Grow seed pieces)
+loaded files (OnGraph verb graph) = loaded_as (task.OnGraph verb) (graph_file files graph)
+loaded files (OnSimpleGraph verb graph) = loaded_as (task.OnSimpleGraph verb) (graph6_file files graph)
+loaded files (OnTree verb graph tree) = loaded_as (on_tree verb) (tree_given files graph tree)
+loaded files (OnPicks verb graph picks) = loaded_as (on_picks verb) (picks_given files graph picks)
+loaded files (OnEars verb graph ears) = loaded_as (on_ears verb) (ears_given files graph ears)
+loaded files (OnMoves verb graph tree moves) = loaded_as (on_moves verb) (moves_given files graph tree moves)
+loaded files (OnTrees verb graph first second) = loaded_as (on_trees verb) (trees_given files graph first second)
+loaded files (OnNumbers verb seed pieces) = All (task.OnNumbers verb seed pieces)

@@ -13,8 +13,9 @@ use Rattle.tree_core.specs.View.{shape_of}
 use Rattle.tree_core.specs.MoveView.{moves_of}
 use Rattle.tree_core.specs.Moves.{PlainMove}
 use Rattle.tree_core.specs.Shapes.{Shape}
+use Rattle.ear_core.specs.EarLists.{PlainEars}
 use Rattle.ear_core.specs.View.{ears_of}
-use Rattle.bench_tasks.specs.Loading.{Loaded, All, Bad}
+use Rattle.bench_tasks.specs.Loading.{Loaded, All, Bad, on_tree, on_picks, on_ears, on_moves, on_trees}
 use Rattle.bench_tasks.specs.Reads.{FailsAs, IsReadFault}
 use Rattle.bench_tasks.specs.Tasks.{Task}
 use Rattle.bench_tasks.specs.Tasks as task
@@ -22,6 +23,8 @@ use Rattle.bench_tasks.specs.declared.stop.Stop.{Stop}
 use Rattle.bench_tasks.specs.declared.stop.Stop.TheVariants as stop
 use Rattle.bench_tasks.specs.declared.tasks.SimpleGraph.{SimpleGraph}
 use Rattle.bench_tasks.specs.declared.tasks.GivenTree.{GivenTree}
+use Rattle.bench_tasks.specs.declared.tasks.GivenPicks.{GivenPicks}
+use Rattle.bench_tasks.specs.declared.tasks.GivenEars.{GivenEars}
 use Rattle.bench_tasks.specs.declared.tasks.GivenTrees.{GivenTrees}
 use Rattle.bench_tasks.specs.declared.tasks.GivenMoves.{GivenMoves}
 use Rattle.bench_tasks.specs.declared.tasks.Task.TheVariants as code
@@ -34,30 +37,32 @@ Held = Loaded Task
 abbrev pub graph_in : SimpleGraph → Graph
 graph_in simple = simple.graph
 
--- a graph with a tree, with two trees, and with a tree and moves, as they are seen
+-- a graph with what is given beside it, as they are seen
 abbrev pub given_tree : GivenTree → NamedGraph × Shape
 given_tree given = (named_graph given.named, shape_of given.tree)
 
-abbrev pub given_trees : GivenTrees → NamedGraph × (Shape × Shape)
-given_trees given = (named_graph given.named, (shape_of given.first, shape_of given.second))
+abbrev pub given_picks : GivenPicks → NamedGraph × List ℕ
+given_picks given = (named_graph given.named, given.picks)
+
+abbrev pub given_ears : GivenEars → NamedGraph × PlainEars
+given_ears given = (named_graph given.named, ears_of given.list)
 
 abbrev pub given_moves : GivenMoves → NamedGraph × (Shape × List PlainMove)
 given_moves given = (named_graph given.named, (shape_of given.tree, moves_of given.moves))
 
+abbrev pub given_trees : GivenTrees → NamedGraph × (Shape × Shape)
+given_trees given = (named_graph given.named, (shape_of given.first, shape_of given.second))
+
 -- the task as it is seen
 abbrev pub task_of : code.the_data → Task
-task_of (code.Analyse named) = task.Analyse (named_graph named)
-task_of (code.Convert named) = task.Convert (named_graph named)
-task_of (code.Analyse6 simple) = task.Analyse6 (graph_in simple)
-task_of (code.Decompose named order) = task.Decompose (named_graph named) order
-task_of (code.DecomposeBy named picks) = task.DecomposeBy (named_graph named) picks
-task_of (code.Check given) = task.Check (named_graph given.named) (shape_of given.tree)
-task_of (code.CheckEars given) = task.CheckEars (named_graph given.named) (ears_of given.list)
-task_of (code.Ears named) = task.Ears (named_graph named)
-task_of (code.Replay given) = task.Replay (named_graph given.named) (shape_of given.tree) (moves_of given.moves)
-task_of (code.Compare given) = task.Compare (named_graph given.named) (shape_of given.first) (shape_of given.second)
-task_of (code.Script given) = task.Script (named_graph given.named) (shape_of given.first) (shape_of given.second)
-task_of (code.Grow growth) = task.Grow growth.seed growth.pieces
+task_of (code.OnGraph verb named) = task.OnGraph verb (named_graph named)
+task_of (code.OnSimpleGraph verb simple) = task.OnSimpleGraph verb (graph_in simple)
+task_of (code.OnTree verb given) = on_tree verb (given_tree given)
+task_of (code.OnPicks verb given) = on_picks verb (given_picks given)
+task_of (code.OnEars verb given) = on_ears verb (given_ears given)
+task_of (code.OnMoves verb given) = on_moves verb (given_moves given)
+task_of (code.OnTrees verb given) = on_trees verb (given_trees given)
+task_of (code.OnNumbers verb growth) = task.OnNumbers verb growth.seed growth.pieces
 
 -- a stop names the first bad file; nothing is said of a failed read or of lack of memory
 abbrev pub StopsAs : {A : Type 0} → Stop → Loaded A → Type 0

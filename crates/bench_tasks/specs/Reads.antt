@@ -1,31 +1,18 @@
 -- Which files a run reads, and in which order.
-use Rattle.std.specs.Prelude.{◌≡◌, ◌≤◌, List, [], ◌∷◌, ℕ, Bool, IsTrue, length, take}
+use Rattle.std.specs.Prelude.{◌≡◌, ◌≤◌, List, [], ℕ, Bool, IsTrue, length, take}
 use Rattle.std.specs.declared.option.Option.{Option}
 use Rattle.std.specs.declared.option.Option.TheVariants.{Some, None}
 use Rattle.std.specs.declared.result.Result.{Result}
 use Rattle.std.specs.declared.result.Result.TheVariants.{Ok, Err}
 use Rattle.outside.specs.Shelf.{ReadsInTurn, ReadsFirst}
-use Rattle.bench_tasks.specs.Commands.{Command, Analyse, Convert, Analyse6, Decompose, DecomposeBy, Check, CheckEars, Ears, Replay, Compare, Script, Grow}
+use Rattle.bench_tasks.specs.Commands.{Command}
+use Rattle.bench_tasks.specs.Files.{file_names}
 use Rattle.bench_tasks.specs.Loading.{Loaded, All, Bad, Absent}
 use Rattle.bench_tasks.specs.declared.stop.Stop.{Stop}
 use Rattle.bench_tasks.specs.declared.stop.Stop.TheVariants as stop
 
--- the names of the files of a command, in the order of the words
-abbrev pub file_names : Command → List (List ℕ)
-file_names (Analyse graph) = graph ∷ []
-file_names (Convert graph) = graph ∷ []
-file_names (Analyse6 graph) = graph ∷ []
-file_names (Decompose graph order) = graph ∷ []
-file_names (DecomposeBy graph picks) = graph ∷ picks ∷ []
-file_names (Check graph tree) = graph ∷ tree ∷ []
-file_names (CheckEars graph ears) = graph ∷ ears ∷ []
-file_names (Ears graph) = graph ∷ []
-file_names (Replay graph tree moves) = graph ∷ tree ∷ moves ∷ []
-file_names (Compare graph first second) = graph ∷ first ∷ second ∷ []
-file_names (Script graph first second) = graph ∷ first ∷ second ∷ []
-file_names (Grow seed pieces) = []
-
--- the same of the words, which may match no row: then there are none
+-- the names of the files of the command that the words ask for; they may match no row: then
+-- there are none
 abbrev pub names_in : Option Command → List (List ℕ)
 names_in None = []
 names_in (Some command) = file_names command

@@ -1,22 +1,39 @@
--- What a command works on: the command with what its files hold in place of their names.
-use Rattle.std.specs.Prelude.{ℕ, List}
+-- What a command works on: its verb with what its files hold in place of their names.
+use Rattle.std.specs.Prelude.{◌≡◌, ℕ, List}
 use Rattle.graph_core.specs.Graph.{Graph}
 use Rattle.graph_text.specs.EitherVersion.{NamedGraph}
 use Rattle.tree_core.specs.Shapes.{Shape}
 use Rattle.tree_core.specs.Moves.{PlainMove}
 use Rattle.ear_core.specs.EarLists.{PlainEars}
-use Rattle.decomposer.specs.declared.orders.NamedOrder.{NamedOrder}
+use Rattle.bench_tasks.specs.Commands.{Command}
+use Rattle.bench_tasks.specs.Commands as command
+use Rattle.bench_tasks.specs.declared.verbs.GraphVerb.{GraphVerb}
+use Rattle.bench_tasks.specs.declared.verbs.SimpleGraphVerb.{SimpleGraphVerb}
+use Rattle.bench_tasks.specs.declared.verbs.TreeVerb.{TreeVerb}
+use Rattle.bench_tasks.specs.declared.verbs.PicksVerb.{PicksVerb}
+use Rattle.bench_tasks.specs.declared.verbs.EarsVerb.{EarsVerb}
+use Rattle.bench_tasks.specs.declared.verbs.MovesVerb.{MovesVerb}
+use Rattle.bench_tasks.specs.declared.verbs.TreesVerb.{TreesVerb}
+use Rattle.bench_tasks.specs.declared.verbs.NumbersVerb.{NumbersVerb}
 
 pub data Task : Type 0 where
-  Analyse : (named : NamedGraph) → Task
-  Convert : (named : NamedGraph) → Task
-  Analyse6 : (graph : Graph) → Task
-  Decompose : (named : NamedGraph) (order : NamedOrder) → Task
-  DecomposeBy : (named : NamedGraph) (picks : List ℕ) → Task
-  Check : (named : NamedGraph) (tree : Shape) → Task
-  CheckEars : (named : NamedGraph) (list : PlainEars) → Task
-  Ears : (named : NamedGraph) → Task
-  Replay : (named : NamedGraph) (tree : Shape) (moves : List PlainMove) → Task
-  Compare : (named : NamedGraph) (first second : Shape) → Task
-  Script : (named : NamedGraph) (first second : Shape) → Task
-  Grow : (seed pieces : ℕ) → Task
+  OnGraph : (verb : GraphVerb) (named : NamedGraph) → Task
+  OnSimpleGraph : (verb : SimpleGraphVerb) (graph : Graph) → Task
+  OnTree : (verb : TreeVerb) (named : NamedGraph) (tree : Shape) → Task
+  OnPicks : (verb : PicksVerb) (named : NamedGraph) (picks : List ℕ) → Task
+  OnEars : (verb : EarsVerb) (named : NamedGraph) (list : PlainEars) → Task
+  OnMoves : (verb : MovesVerb) (named : NamedGraph) (tree : Shape) (moves : List PlainMove) → Task
+  OnTrees : (verb : TreesVerb) (named : NamedGraph) (first second : Shape) → Task
+  OnNumbers : (verb : NumbersVerb) (seed pieces : ℕ) → Task
+
+-- the task is one of the command: it has its verb, and works on what such files may hold
+abbrev pub IsTaskOf : Command → Task → Type 0
+IsTaskOf (command.OnGraph verb graph) (OnGraph other named) = other ≡ verb
+IsTaskOf (command.OnSimpleGraph verb graph) (OnSimpleGraph other g) = other ≡ verb
+IsTaskOf (command.OnTree verb graph tree) (OnTree other named t) = other ≡ verb
+IsTaskOf (command.OnPicks verb graph picks) (OnPicks other named list) = other ≡ verb
+IsTaskOf (command.OnEars verb graph ears) (OnEars other named list) = other ≡ verb
+IsTaskOf (command.OnMoves verb graph tree moves) (OnMoves other named t list) = other ≡ verb
+IsTaskOf (command.OnTrees verb graph first second) (OnTrees other named s t) = other ≡ verb
+IsTaskOf (command.OnNumbers verb seed pieces) (OnNumbers other start many) = (other ≡ verb) × ((start ≡ seed) × (many ≡ pieces))
+IsTaskOf command task = ⊥

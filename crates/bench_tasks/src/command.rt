@@ -2,7 +2,9 @@
 ghost use Rattle.std.specs.Prelude.{◌≤◌};
 ghost use Rattle.bench_tasks.specs.Commands.{most_pieces};
 
-use decomposer::NamedOrder;
+use crate::verbs::{
+    EarsVerb, GraphVerb, MovesVerb, NumbersVerb, PicksVerb, SimpleGraphVerb, TreeVerb, TreesVerb,
+};
 
 /// What a graph grows from.
 #[derive(Clone, Copy)]
@@ -15,66 +17,54 @@ pub struct Growth {
     ghost few: { pieces ≤ most_pieces },
 }
 
-/// A command with the names of its files.
+/// A command: its verb with the names of its files, by the files that it reads.
 #[derive(Clone, Copy, Drop)]
 pub enum Command<'a> {
-    /// The structure of the graph of a file.
-    Analyse {
-        graph: &'a str,
+    /// On a graph.
+    OnGraph {
+        verb: GraphVerb,
+        graph_file: &'a str,
     },
-    /// The canonical text of the graph of a file, with names.
-    Convert {
-        graph: &'a str,
+    /// On a simple graph.
+    OnSimpleGraph {
+        verb: SimpleGraphVerb,
+        graph_file: &'a str,
     },
-    /// The structure of the graph of a graph6 file.
-    Analyse6 {
-        graph: &'a str,
+    /// On a graph and a tree.
+    OnTree {
+        verb: TreeVerb,
+        graph_file: &'a str,
+        tree_file: &'a str,
     },
-    /// A decomposition of the graph of a file, in a named order.
-    Decompose {
-        graph: &'a str,
-        order: NamedOrder,
+    /// On a graph and a list of picks.
+    OnPicks {
+        verb: PicksVerb,
+        graph_file: &'a str,
+        picks_file: &'a str,
     },
-    /// A decomposition of the graph of a file, in the order of a pick file.
-    DecomposeBy {
-        graph: &'a str,
-        picks: &'a str,
+    /// On a graph and a list of ears.
+    OnEars {
+        verb: EarsVerb,
+        graph_file: &'a str,
+        ears_file: &'a str,
     },
-    /// Whether the tree of a file is a derivation of the graph of a file.
-    Check {
-        graph: &'a str,
-        tree: &'a str,
+    /// On a graph, a tree and moves.
+    OnMoves {
+        verb: MovesVerb,
+        graph_file: &'a str,
+        tree_file: &'a str,
+        moves_file: &'a str,
     },
-    /// Whether the list of a file is an ear list of the graph of a file.
-    CheckEars {
-        graph: &'a str,
-        ears: &'a str,
+    /// On a graph and two trees.
+    OnTrees {
+        verb: TreesVerb,
+        graph_file: &'a str,
+        first_file: &'a str,
+        second_file: &'a str,
     },
-    /// An ear list of the graph of a file.
-    Ears {
-        graph: &'a str,
-    },
-    /// What the moves of a file make of the tree of a file, a derivation of the graph of a file.
-    Replay {
-        graph: &'a str,
-        tree: &'a str,
-        moves: &'a str,
-    },
-    /// How the leaves of the trees of two files, derivations of the graph of a file, are paired.
-    Compare {
-        graph: &'a str,
-        first: &'a str,
-        second: &'a str,
-    },
-    /// The moves that turn the tree of a file into that of another, both derivations of the graph
-    /// of a file.
-    Script {
-        graph: &'a str,
-        first: &'a str,
-        second: &'a str,
-    },
-    /// A graph that grows.
-    Grow {
+    /// On numbers; it reads no file.
+    OnNumbers {
+        verb: NumbersVerb,
         growth: Growth,
     },
 }

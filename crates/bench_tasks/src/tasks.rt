@@ -9,7 +9,9 @@ ghost use Rattle.ear_core.specs.EarLists.{FitsEars};
 ghost use Rattle.ear_core.specs.View.{ears_of};
 
 use crate::command::Growth;
-use decomposer::NamedOrder;
+use crate::verbs::{
+    EarsVerb, GraphVerb, MovesVerb, NumbersVerb, PicksVerb, SimpleGraphVerb, TreeVerb, TreesVerb,
+};
 use ear_core::EarList;
 use graph_core::{MultiGraph, Numbers};
 use graph_text::Named;
@@ -28,6 +30,13 @@ pub struct GivenTree {
     pub named: Named,
     pub tree: Tree,
     ghost fits: { ∥ Fits named.graph.order (shape_of tree) ∥₁ },
+}
+
+/// A graph, and a list of picks.
+#[derive(Drop)]
+pub struct GivenPicks {
+    pub named: Named,
+    pub picks: Numbers,
 }
 
 /// A graph, and two trees whose shores lie below its order.
@@ -58,31 +67,47 @@ pub struct GivenEars {
     ghost fits: { ∥ FitsEars named.graph.order (size named.graph) (ears_of list) ∥₁ },
 }
 
-/// A command with what its files hold in place of their names.
+/// The verb of a command with what its files hold, by the files that it reads.
 #[derive(Drop)]
 pub enum Task {
-    /// The structure of a graph.
-    Analyse { named: Named },
-    /// The canonical text of a graph.
-    Convert { named: Named },
-    /// The structure and the graph6 text of a simple graph.
-    Analyse6 { simple: SimpleGraph },
-    /// A decomposition of a graph, in a named order.
-    Decompose { named: Named, order: NamedOrder },
-    /// A decomposition of a graph, in the order of a list of picks.
-    DecomposeBy { named: Named, picks: Numbers },
-    /// Whether a tree is a derivation of a graph.
-    Check { given: GivenTree },
-    /// Whether a list is an ear list of a graph.
-    CheckEars { given: GivenEars },
-    /// An ear list of a graph.
-    Ears { named: Named },
-    /// What moves make of a tree, a derivation of a graph.
-    Replay { given: GivenMoves },
-    /// How the leaves of two trees, derivations of a graph, are paired.
-    Compare { given: GivenTrees },
-    /// The moves that turn the first of two trees into the second, both derivations of a graph.
-    Script { given: GivenTrees },
-    /// A graph that grows.
-    Grow { growth: Growth },
+    /// On a graph.
+    OnGraph {
+        verb: GraphVerb,
+        named: Named,
+    },
+    /// On a simple graph.
+    OnSimpleGraph {
+        verb: SimpleGraphVerb,
+        simple: SimpleGraph,
+    },
+    /// On a graph and a tree.
+    OnTree {
+        verb: TreeVerb,
+        given: GivenTree,
+    },
+    /// On a graph and a list of picks.
+    OnPicks {
+        verb: PicksVerb,
+        given: GivenPicks,
+    },
+    /// On a graph and a list of ears.
+    OnEars {
+        verb: EarsVerb,
+        given: GivenEars,
+    },
+    /// On a graph, a tree and moves.
+    OnMoves {
+        verb: MovesVerb,
+        given: GivenMoves,
+    },
+    /// On a graph and two trees.
+    OnTrees {
+        verb: TreesVerb,
+        given: GivenTrees,
+    },
+    /// On numbers.
+    OnNumbers {
+        verb: NumbersVerb,
+        growth: Growth,
+    },
 }

@@ -1,10 +1,13 @@
 //! What the words ask for: one command for each row of the table of words.
 ghost use Rattle.std.specs.Prelude.{◌≡◌, map, string_bytes};
 ghost use Rattle.std.specs.Option.{option_map};
-ghost use Rattle.bench_tasks.specs.Commands.{command_of, graph_command, grow_command, pair_command, triple_command};
+ghost use Rattle.bench_tasks.specs.Commands.{OnGraph, OnTrees, command_of, graph_command, grow_command, pair_command, triple_command};
 ghost use Rattle.bench_tasks.specs.Asked.{asked};
 
 use crate::command::{Command, Growth};
+use crate::verbs::{
+    EarsVerb, GraphVerb, MovesVerb, NumbersVerb, PicksVerb, SimpleGraphVerb, TreeVerb, TreesVerb,
+};
 use decomposer::NamedOrder;
 use grow_gen::MOST_PIECES;
 use line_text::number;
@@ -17,7 +20,8 @@ fn grow_command<'a>(seed: &str, pieces: &str) -> Option<Command<'a>>
     let seed = number(seed.as_bytes())?;
     let pieces = number(pieces.as_bytes())?;
     if (1..=MOST_PIECES).contains(&pieces) {
-        Some(Command::Grow {
+        Some(Command::OnNumbers {
+            verb: NumbersVerb::Grow,
             growth: Growth { seed, pieces },
         })
     } else {
@@ -25,36 +29,65 @@ fn grow_command<'a>(seed: &str, pieces: &str) -> Option<Command<'a>>
     }
 }
 
+// The command of that verb on the graph of that file.
+fn on_graph(verb: GraphVerb, graph_file: &str) -> Command<'_>
+    ensures { asked result ≡ OnGraph verb graph_file.now }
+{
+    Command::OnGraph { verb, graph_file }
+}
+
+// The command of that verb on the graph of a file and the trees of two.
+fn on_trees<'a>(
+    verb: TreesVerb,
+    graph_file: &'a str,
+    first_file: &'a str,
+    second_file: &'a str,
+) -> Command<'a>
+    ensures { asked result ≡ OnTrees verb graph_file.now first_file.now second_file.now }
+{
+    Command::OnTrees {
+        verb,
+        graph_file,
+        first_file,
+        second_file,
+    }
+}
+
 // The command that a word and the name of a file ask for.
-fn graph_command<'a>(word: &str, graph: &'a str) -> Option<Command<'a>>
-    ensures { option_map asked result ≡ graph_command word.now graph.now }
+fn graph_command<'a>(word: &str, graph_file: &'a str) -> Option<Command<'a>>
+    ensures { option_map asked result ≡ graph_command word.now graph_file.now }
 {
     match word {
-        "analyse" => Some(Command::Analyse { graph }),
-        "convert" => Some(Command::Convert { graph }),
-        "analyse6" => Some(Command::Analyse6 { graph }),
-        "ears" => Some(Command::Ears { graph }),
+        "analyse" => Some(on_graph(GraphVerb::Analyse, graph_file)),
+        "convert" => Some(on_graph(GraphVerb::Convert, graph_file)),
+        "analyse6" => Some(Command::OnSimpleGraph {
+            verb: SimpleGraphVerb::Analyse6,
+            graph_file,
+        }),
+        "ears" => Some(on_graph(GraphVerb::Ears, graph_file)),
         _ => None,
     }
 }
 
 // The command that a word, the name of a file, and a second name or the word of an order ask for;
 // or a word and two numbers.
-fn pair_command<'a>(word: &str, graph: &'a str, second: &'a str) -> Option<Command<'a>>
-    ensures { option_map asked result ≡ pair_command word.now graph.now second.now }
+fn pair_command<'a>(word: &str, graph_file: &'a str, second: &'a str) -> Option<Command<'a>>
+    ensures { option_map asked result ≡ pair_command word.now graph_file.now second.now }
 {
     match word {
-        "check" => Some(Command::Check {
-            graph,
-            tree: second,
+        "check" => Some(Command::OnTree {
+            verb: TreeVerb::Check,
+            graph_file,
+            tree_file: second,
         }),
-        "checkears" => Some(Command::CheckEars {
-            graph,
-            ears: second,
+        "checkears" => Some(Command::OnEars {
+            verb: EarsVerb::CheckEars,
+            graph_file,
+            ears_file: second,
         }),
-        "grow" => grow_command(graph, second),
+        "grow" => grow_command(graph_file, second),
         "decompose" => match NamedOrder::of_word(second) {
-            Some(order) => Some(Command::Decompose { graph, order }),
+            Some(order) => Some(on_graph(GraphVerb::Decompose { order }, graph_file)),
             None => None,
         },
         _ => None,
@@ -65,31 +98,26 @@ fn pair_command<'a>(word: &str, graph: &'a str, second: &'a str) -> Option<Comma
 // further one ask for.
 fn triple_command<'a>(
     word: &str,
-    graph: &'a str,
+    graph_file: &'a str,
     second: &'a str,
     third: &'a str,
 ) -> Option<Command<'a>>
-    ensures { option_map asked result ≡ triple_command word.now graph.now second.now third.now }
+    ensures { option_map asked result ≡
+        triple_command word.now graph_file.now second.now third.now }
 {
     match word {
-        "replay" => Some(Command::Replay {
-            graph,
-            tree: second,
-            moves: third,
+        "replay" => Some(Command::OnMoves {
+            verb: MovesVerb::Replay,
+            graph_file,
+            tree_file: second,
+            moves_file: third,
         }),
-        "compare" => Some(Command::Compare {
-            graph,
-            first: second,
-            second: third,
-        }),
-        "script" => Some(Command::Script {
-            graph,
-            first: second,
-            second: third,
-        }),
-        "decompose" if second == "script" => Some(Command::DecomposeBy {
-            graph,
-            picks: third,
+        "compare" => Some(on_trees(TreesVerb::Compare, graph_file, second, third)),
+        "script" => Some(on_trees(TreesVerb::Script, graph_file, second, third)),
+        "decompose" if second == "script" => Some(Command::OnPicks {
+            verb: PicksVerb::DecomposeBy,
+            graph_file,
+            picks_file: third,
         }),
         _ => None,
     }

@@ -1,4 +1,4 @@
--- Two refusals of one task have one text, but for the list of numbers that they show: the first
+-- Two refusals of one thing have one text, but for the list of numbers that they show: the first
 -- node that breaks a rule is one, and so is the rule, and the first step or move that fails.
 use Rattle.std.proofs.Common.{◌≡◌, ◌∙◌, ℕ, List, ◌++◌, inl, inr, refl, sym, ap, ap₂, subst, arith}
 use Rattle.std.specs.Prelude.{codes}
@@ -23,18 +23,16 @@ use Rattle.bench_outcomes.specs.Checks.{CheckGives, RefusedTree, Refuses, shown_
 use Rattle.bench_outcomes.specs.Comparisons.{CompareGives, RefusesPair, ScriptGives}
 use Rattle.bench_outcomes.specs.EarChecks.{EarCheckGives, EarsGives, RefusedEars, named_edge}
 use Rattle.bench_outcomes.specs.EarChecks as ears
-use Rattle.bench_top.specs.Fixed.{DifferAtMostIn, MayShow}
+use Rattle.bench_top.specs.Fixed.{DifferAtMostIn}
 use Rattle.bench_outcomes.specs.Shown.{MayBeBerge, MayCross, MayCrossBehind, MayShowOfMoves, MayShowOfTree, MayShowOfTwo}
-use Rattle.bench_outcomes.specs.Outcome.{DecomposeGives, ResultOf}
+use Rattle.bench_outcomes.specs.Outcome.{DecomposeGives}
 use Rattle.bench_outcomes.specs.Replays.{MovesGive, RefusedMove, ReplayGives, StuckMove}
-use Rattle.bench_tasks.specs.Tasks.{Task}
-use Rattle.bench_tasks.specs.Tasks as task
 use Rattle.bench_outcomes.specs.declared.status.Status.TheVariants.{Negative}
 use Rattle.graph_text.specs.EitherVersion.{NamedGraph}
 use Rattle.tight_cuts.specs.Candidates.{Candidate}
 use Rattle.bench_top.proofs.AlikeReasons.{uncovered-alike}
 use Rattle.bench_top.proofs.AlikeTexts.{alike-along, alike-before, alike-behind, alike-lists, alike-wider}
-use Rattle.bench_top.proofs.Settled.{KeepsGraph, refused-tree}
+use Rattle.bench_outcomes.proofs.Settled.{refused-tree}
 
 -- the line of a refusal, for reasons that are one but for the matching
 line-alike : (fact : List ℕ → Type 0) (words : List ℕ) (number node : ℕ) (a b : Why) → without_matching a ≡ without_matching b →
@@ -132,29 +130,29 @@ fails-derived g t moves output (inl replayed) = replayed.derivation
 fails-derived g t moves output (inr (inl stuck)) = stuck.derivation
 fails-derived g t moves output (inr (inr refused)) = refused.derivation
 
-replay-alike : (g : Graph) → IsGraph g → (t : Shape) (moves : List PlainMove) (output other : List ℕ) → ReplayGives g t moves Negative output → ReplayGives g t moves Negative other →
+pub replay-alike : (g : Graph) → IsGraph g → (t : Shape) (moves : List PlainMove) (output other : List ℕ) → ReplayGives g t moves Negative output → ReplayGives g t moves Negative other →
     DifferAtMostIn (MayShowOfMoves g t moves) output other
 replay-alike g is t moves output other (inl one) (inl two) =
     alike-wider (MayCrossBehind g t moves) (MayShowOfMoves g t moves) output other (λ numbers may. inr (inr may)) (failed-alike g is t moves output other one two)
-replay-alike g is t moves output other (inl one) (inr two) = absurd ((refused-tree g is t 1 Negative other two).1 (fails-derived g t moves output one))
-replay-alike g is t moves output other (inr one) (inl two) = absurd ((refused-tree g is t 1 Negative output one).1 (fails-derived g t moves other two))
+replay-alike g is t moves output other (inl one) (inr two) = absurd (refused-tree g is t 1 Negative other two (fails-derived g t moves output one))
+replay-alike g is t moves output other (inr one) (inl two) = absurd (refused-tree g is t 1 Negative output one (fails-derived g t moves other two))
 replay-alike g is t moves output other (inr one) (inr two) =
     alike-wider (MayShowOfTree g t) (MayShowOfMoves g t moves) output other
     (λ numbers may. elim may [ inl berge ↦ inl berge | inr cross ↦ inr (inl cross) ]) (refuses-alike g is t 1 output other one two)
 
 -- a graph that is not covered
-decompose-alike : (picks : List Candidate → ℕ → ℕ → Type 0) (named : NamedGraph) (output other : List ℕ) → DecomposeGives picks named Negative output → DecomposeGives picks named Negative other →
+pub decompose-alike : (picks : List Candidate → ℕ → ℕ → Type 0) (named : NamedGraph) (output other : List ℕ) → DecomposeGives picks named Negative output → DecomposeGives picks named Negative other →
     DifferAtMostIn (MayBeBerge named.graph) output other
 decompose-alike picks named output other (inl one) two = let no = one.told.done in absurd (cc no)
 decompose-alike picks named output other (inr one) (inl two) = let no = two.told.done in absurd (cc no)
 decompose-alike picks named output other (inr one) (inr two) = uncovered-alike named.graph Negative Negative output other one two
 
-ears-alike : (g : Graph) (output other : List ℕ) → EarsGives g Negative output → EarsGives g Negative other → DifferAtMostIn (MayBeBerge g) output other
+pub ears-alike : (g : Graph) (output other : List ℕ) → EarsGives g Negative output → EarsGives g Negative other → DifferAtMostIn (MayBeBerge g) output other
 ears-alike g output other (inl one) two = let no = one.done in absurd (cc no)
 ears-alike g output other (inr one) (inl two) = let no = two.done in absurd (cc no)
 ears-alike g output other (inr one) (inr two) = uncovered-alike g Negative Negative output other one two
 
-list-alike : (g : Graph) (list : PlainEars) (output other : List ℕ) → EarCheckGives g list Negative output → EarCheckGives g list Negative other → DifferAtMostIn (MayBeBerge g) output other
+pub list-alike : (g : Graph) (list : PlainEars) (output other : List ℕ) → EarCheckGives g list Negative output → EarCheckGives g list Negative other → DifferAtMostIn (MayBeBerge g) output other
 list-alike g list output other (inl one) two = let no = one.done in absurd (cc no)
 list-alike g list output other (inr one) (inl two) = let no = two.done in absurd (cc no)
 list-alike g list output other (inr (inl one)) (inr (inl two)) = inl (ears-once g list output other one two)
@@ -162,33 +160,18 @@ list-alike g list output other (inr (inl one)) (inr (inr two)) = absurd (two.unc
 list-alike g list output other (inr (inr one)) (inr (inl two)) = absurd (one.uncovered two.covered)
 list-alike g list output other (inr (inr one)) (inr (inr two)) = uncovered-alike g Negative Negative output other one two
 
-check-alike : (g : Graph) → IsGraph g → (t : Shape) (output other : List ℕ) → CheckGives g t Negative output → CheckGives g t Negative other →
+pub check-alike : (g : Graph) → IsGraph g → (t : Shape) (output other : List ℕ) → CheckGives g t Negative output → CheckGives g t Negative other →
     DifferAtMostIn (MayShowOfTree g t) output other
 check-alike g is t output other (inl one) two = let no = one.done in absurd (cc no)
 check-alike g is t output other (inr one) (inl two) = let no = two.done in absurd (cc no)
 check-alike g is t output other (inr one) (inr two) = refuses-alike g is t 1 output other one two
 
-compare-alike : (g : Graph) → IsGraph g → (s t : Shape) (output other : List ℕ) → CompareGives g s t Negative output → CompareGives g s t Negative other → DifferAtMostIn (MayShowOfTwo g s t) output other
+pub compare-alike : (g : Graph) → IsGraph g → (s t : Shape) (output other : List ℕ) → CompareGives g s t Negative output → CompareGives g s t Negative other → DifferAtMostIn (MayShowOfTwo g s t) output other
 compare-alike g is s t output other (inl one) two = let no = one.done in absurd (cc no)
 compare-alike g is s t output other (inr one) (inl two) = let no = two.done in absurd (cc no)
 compare-alike g is s t output other (inr one) (inr two) = pair-alike g is s t output other one two
 
-script-alike : (g : Graph) → IsGraph g → (s t : Shape) (output other : List ℕ) → ScriptGives g s t Negative output → ScriptGives g s t Negative other → DifferAtMostIn (MayShowOfTwo g s t) output other
+pub script-alike : (g : Graph) → IsGraph g → (s t : Shape) (output other : List ℕ) → ScriptGives g s t Negative output → ScriptGives g s t Negative other → DifferAtMostIn (MayShowOfTwo g s t) output other
 script-alike g is s t output other (inl one) two = let no = one.done in absurd (cc no)
 script-alike g is s t output other (inr one) (inl two) = let no = two.done in absurd (cc no)
 script-alike g is s t output other (inr one) (inr two) = pair-alike g is s t output other one two
-
--- each task that is refused
-pub refused-alike : (t : Task) → KeepsGraph t → (output other : List ℕ) → ResultOf t Negative output → ResultOf t Negative other → DifferAtMostIn (MayShow t) output other
-refused-alike (task.Analyse named) is output other one two = let no = one.done in absurd (cc no)
-refused-alike (task.Convert named) is output other one two = let no = one.done in absurd (cc no)
-refused-alike (task.Analyse6 g) is output other one two = let no = one.done in absurd (cc no)
-refused-alike (task.Decompose named order) is output other one two = decompose-alike _ named output other one two
-refused-alike (task.DecomposeBy named picks) is output other one two = decompose-alike _ named output other one two
-refused-alike (task.Check named tree) is output other one two = check-alike named.graph is tree output other one two
-refused-alike (task.CheckEars named list) is output other one two = list-alike named.graph list output other one two
-refused-alike (task.Ears named) is output other one two = ears-alike named.graph output other one two
-refused-alike (task.Replay named tree moves) is output other one two = replay-alike named.graph is tree moves output other one two
-refused-alike (task.Compare named first second) is output other one two = compare-alike named.graph is first second output other one two
-refused-alike (task.Script named first second) is output other one two = script-alike named.graph is first second output other one two
-refused-alike (task.Grow seed pieces) is output other one two = let no = one.done in absurd (cc no)

@@ -10,7 +10,7 @@ use Rattle.bench_tasks.specs.Tasks.{Task}
 use Rattle.bench_outcomes.specs.declared.status.Status.{Status}
 use Rattle.bench_outcomes.specs.declared.status.Status.TheVariants.{Done, Negative, Usage, ReadFault, BadInput, WriteFault, Memory}
 use Rattle.bench_top.proofs.LoadedGraphs.{Holds, loaded-graph}
-use Rattle.bench_top.proofs.Settled.{KeepsGraph, Settles, settled}
+use Rattle.bench_outcomes.proofs.Settled.{KeepsGraph, Settles, settled}
 
 -- done and refused are two things
 not-both : (status : Status) → status ≡ Done → status ≡ Negative → ⊥

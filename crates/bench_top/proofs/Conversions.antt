@@ -10,6 +10,7 @@ use Rattle.graph_text.specs.EitherVersion.{NamedGraph, either_version}
 use Rattle.bench_tasks.specs.Loading.{Loaded, All, Bad, Absent, loaded_as, graph_file, most_bytes}
 use Rattle.bench_outcomes.specs.Outcome.{LoadedGives, Outcome, Converted, given_or_plain}
 use Rattle.bench_tasks.specs.Tasks as task
+use Rattle.bench_tasks.specs.declared.verbs.GraphVerb.TheVariants.{Convert}
 use Rattle.bench_outcomes.specs.declared.status.Status.{Status}
 use Rattle.bench_outcomes.specs.declared.status.Status.TheVariants.{Done}
 use Rattle.bench_top.proofs.Completeness.{status-once}
@@ -23,20 +24,20 @@ written_graph named = record { graph = named.graph; names = Some (given_or_plain
 again : (named : NamedGraph) (output : List ℕ) → Converted named Done output → Converted (written_graph named) Done output
 again named output first = record { done = refl; text = first.text; stands = first.stands }
 
-convert-again : (held : Loaded NamedGraph) (again_held : Loaded NamedGraph) (output : List ℕ) → ((named : NamedGraph) → Converted named Done output → again_held ≡ All (written_graph named)) → LoadedGives (loaded_as task.Convert held) Done output → LoadedGives (loaded_as task.Convert again_held) Done output
+convert-again : (held : Loaded NamedGraph) (again_held : Loaded NamedGraph) (output : List ℕ) → ((named : NamedGraph) → Converted named Done output → again_held ≡ All (written_graph named)) → LoadedGives (loaded_as (task.OnGraph Convert) held) Done output → LoadedGives (loaded_as (task.OnGraph Convert) again_held) Done output
 convert-again (All named) again_held output holds gives =
-    subst (λ (h : Loaded NamedGraph). LoadedGives (loaded_as task.Convert h) Done output) (sym (holds named gives)) (again named output gives)
+    subst (λ (h : Loaded NamedGraph). LoadedGives (loaded_as (task.OnGraph Convert) h) Done output) (sym (holds named gives)) (again named output gives)
 convert-again (Bad file line kind) again_held output holds gives = let no = gives.0 in cc no
 convert-again (Absent file) again_held output holds gives = absurd gives
 
-pub convert-twice : (files others : List Named) (name other : List ℕ) (output : List ℕ) → LoadedGives (loaded_as task.Convert (graph_file files name)) Done output → file_named other others ≡ Some output → length output ≤ most_bytes → LoadedGives (loaded_as task.Convert (graph_file others other)) Done output
+pub convert-twice : (files others : List Named) (name other : List ℕ) (output : List ℕ) → LoadedGives (loaded_as (task.OnGraph Convert) (graph_file files name)) Done output → file_named other others ≡ Some output → length output ≤ most_bytes → LoadedGives (loaded_as (task.OnGraph Convert) (graph_file others other)) Done output
 convert-twice files others name other output gives held within =
     convert-again (graph_file files name) (graph_file others other) output
     (λ named first. file_read-value 1 (reading_of either_version) (file_named other others) output (written_graph named) held within (Stands-reading_of either_version output (written_graph named) first.stands))
     gives
 
 -- the conversion of a file that holds one is done and gives it
-convert-one : (held : Loaded NamedGraph) (output other : List ℕ) → LoadedGives (loaded_as task.Convert held) Done output → LoadedGives (loaded_as task.Convert held) Done other → other ≡ output
+convert-one : (held : Loaded NamedGraph) (output other : List ℕ) → LoadedGives (loaded_as (task.OnGraph Convert) held) Done output → LoadedGives (loaded_as (task.OnGraph Convert) held) Done other → other ≡ output
 convert-one (All named) output other one two = two.text ∙ sym one.text
 convert-one (Bad file line kind) output other one two = let no = one.0 in cc no
 convert-one (Absent file) output other one two = absurd one

@@ -4,18 +4,19 @@ use Rattle.std.proofs.Common.{ℕ, Bool, true, false, cond, nat_lt, List, length
 use Rattle.outside.specs.Shelf.{Named, file_named}
 use Rattle.line_text.specs.Reading.{reading_of}
 use Rattle.graph6_text.specs.Reading.{outcome_of}
-use Rattle.graph_core.specs.Graph.{IsMultigraph}
+use Rattle.ear_core.specs.EarLists.{PlainEars}
+use Rattle.graph_core.specs.Graph.{Graph, IsMultigraph}
 use Rattle.text_faults.specs.declared.faults.FaultKind.{FaultKind}
 use Rattle.graph_text.specs.EitherVersion.{NamedGraph, either_version}
 use Rattle.tree_core.specs.Moves.{PlainMove}
 use Rattle.tree_core.specs.Shapes.{Shape}
-use Rattle.bench_tasks.specs.Commands.{Command, Analyse, Convert, Analyse6, Decompose, DecomposeBy, Check, CheckEars, Ears, Replay, Compare, Script, Grow}
-use Rattle.bench_tasks.specs.Loading.{Loaded, All, Bad, Absent, and_then, ear_file, file_read, from_reading, graph6_file, graph_file, loaded, loaded_as, most_bytes, move_file, moves_given, pick_file, tree_file, tree_given, trees_given}
+use Rattle.bench_tasks.specs.Commands.{Command, OnGraph, OnSimpleGraph, OnTree, OnPicks, OnEars, OnMoves, OnTrees, OnNumbers}
+use Rattle.bench_tasks.specs.Loading.{Loaded, All, Bad, Absent, and_then, ear_file, ears_given, file_read, from_reading, graph6_file, graph_file, loaded, loaded_as, most_bytes, move_file, moves_given, on_ears, on_moves, on_picks, on_tree, on_trees, pick_file, picks_given, tree_file, tree_given, trees_given}
 use Rattle.bench_tasks.specs.Tasks.{Task}
 use Rattle.bench_tasks.specs.Tasks as task
 use Rattle.bench_top.proofs.ReadGraphs.{GoesOn, HasGraph, IsRead, read-graph}
 use Rattle.bench_top.proofs.ReadSimpleGraphs.{read-simple_graph}
-use Rattle.bench_top.proofs.Settled.{KeepsGraph}
+use Rattle.bench_outcomes.proofs.Settled.{KeepsGraph}
 
 -- the fact holds of what is held, if all is held and good
 abbrev pub Holds : {A : Type 0} → (A → Type 0) → Loaded A → Type 0
@@ -58,49 +59,48 @@ graph-holds files name = read-holds HasGraph 1 (reading_of either_version) (file
 graph6-holds : (files : List Named) (name : List ℕ) → Holds IsMultigraph (graph6_file files name)
 graph6-holds files name = read-holds IsMultigraph 1 outcome_of (file_named name files) read-simple_graph
 
+-- what is given beside a graph leaves it as it is
+beside-holds : {B C : Type 0} (files : List Named) (graph : List ℕ) (further : NamedGraph → Loaded B) (make : NamedGraph → B → C) (HasIts : C → Type 0) →
+    ((named : NamedGraph) (b : B) → HasGraph named → HasIts (make named b)) → Holds HasIts (and_then (graph_file files graph) (λ named. loaded_as (make named) (further named)))
+beside-holds files graph further make HasIts gives =
+    then-holds HasGraph HasIts (graph_file files graph) (λ named. loaded_as (make named) (further named)) (graph-holds files graph)
+    (λ named is. as-holds Anything HasIts (make named) (further named) (λ b any. gives named b is) (any-holds (further named)))
+
 abbrev TreeHasGraph : NamedGraph × Shape → Type 0
 TreeHasGraph given = IsRead given.0.graph
 
-abbrev TreesHaveGraph : NamedGraph × (Shape × Shape) → Type 0
-TreesHaveGraph given = IsRead given.0.graph
-
-abbrev MovesHaveGraph : NamedGraph × (Shape × List PlainMove) → Type 0
-MovesHaveGraph given = IsRead given.0.graph
-
 tree_given-holds : (files : List Named) (graph tree : List ℕ) → Holds TreeHasGraph (tree_given files graph tree)
 tree_given-holds files graph tree =
-    then-holds HasGraph TreeHasGraph (graph_file files graph) (λ named. loaded_as (λ t. (named, t)) (tree_file files 2 tree named.graph.order)) (graph-holds files graph)
-    (λ named is. as-holds Anything TreeHasGraph (λ t. (named, t)) (tree_file files 2 tree named.graph.order) (λ t any. is) (any-holds (tree_file files 2 tree named.graph.order)))
+    beside-holds files graph (λ named. tree_file files 2 tree named.graph.order) (λ named t. (named, t)) TreeHasGraph (λ named t is. is)
 
-trees_given-holds : (files : List Named) (graph first second : List ℕ) → Holds TreesHaveGraph (trees_given files graph first second)
-trees_given-holds files graph first second =
-    then-holds TreeHasGraph TreesHaveGraph (tree_given files graph first) (λ given. loaded_as (λ t. (given.0, (given.1, t))) (tree_file files 3 second given.0.graph.order)) (tree_given-holds files graph first)
-    (λ given is. as-holds Anything TreesHaveGraph (λ t. (given.0, (given.1, t))) (tree_file files 3 second given.0.graph.order) (λ t any. is) (any-holds (tree_file files 3 second given.0.graph.order)))
+-- the same of what is given beside a graph and a tree
+beside_tree-holds : {B C : Type 0} (files : List Named) (graph tree : List ℕ) (further : NamedGraph × Shape → Loaded B) (make : NamedGraph × Shape → B → C) (HasIts : C → Type 0) →
+    ((given : NamedGraph × Shape) (b : B) → TreeHasGraph given → HasIts (make given b)) → Holds HasIts (and_then (tree_given files graph tree) (λ given. loaded_as (make given) (further given)))
+beside_tree-holds files graph tree further make HasIts gives =
+    then-holds TreeHasGraph HasIts (tree_given files graph tree) (λ given. loaded_as (make given) (further given)) (tree_given-holds files graph tree)
+    (λ given is. as-holds Anything HasIts (make given) (further given) (λ b any. gives given b is) (any-holds (further given)))
 
-moves_given-holds : (files : List Named) (graph tree moves : List ℕ) → Holds MovesHaveGraph (moves_given files graph tree moves)
-moves_given-holds files graph tree moves =
-    then-holds TreeHasGraph MovesHaveGraph (tree_given files graph tree) (λ given. loaded_as (λ ms. (given.0, (given.1, ms))) (move_file files moves given.0.graph.order)) (tree_given-holds files graph tree)
-    (λ given is. as-holds Anything MovesHaveGraph (λ ms. (given.0, (given.1, ms))) (move_file files moves given.0.graph.order) (λ ms any. is) (any-holds (move_file files moves given.0.graph.order)))
+-- a graph that is read has no loops
+read-keeps : (g : Graph) → IsRead g → IsMultigraph g
+read-keeps g is = record { ends = is.ends; no_loop = is.no_loop }
 
--- what a command works on
+-- what a command works on, by the files that it reads
 pub loaded-graph : (files : List Named) (command : Command) → Holds KeepsGraph (loaded files command)
-loaded-graph files (Analyse graph) =
-    as-holds HasGraph KeepsGraph task.Analyse (graph_file files graph) (λ named is. record { ends = is.ends; no_loop = is.no_loop }) (graph-holds files graph)
-loaded-graph files (Convert graph) = as-holds Anything KeepsGraph task.Convert (graph_file files graph) (λ named any. tt) (any-holds (graph_file files graph))
-loaded-graph files (Analyse6 graph) = as-holds IsMultigraph KeepsGraph task.Analyse6 (graph6_file files graph) (λ g is. is) (graph6-holds files graph)
-loaded-graph files (Decompose graph order) = as-holds Anything KeepsGraph (λ named. task.Decompose named order) (graph_file files graph) (λ named any. tt) (any-holds (graph_file files graph))
-loaded-graph files (DecomposeBy graph picks) =
-    then-holds Anything KeepsGraph (graph_file files graph) (λ named. loaded_as (task.DecomposeBy named) (pick_file files picks)) (any-holds (graph_file files graph))
-    (λ named any. as-holds Anything KeepsGraph (task.DecomposeBy named) (pick_file files picks) (λ p none. tt) (any-holds (pick_file files picks)))
-loaded-graph files (Check graph tree) = as-holds TreeHasGraph KeepsGraph (λ given. task.Check given.0 given.1) (tree_given files graph tree) (λ given is. is.ends) (tree_given-holds files graph tree)
-loaded-graph files (CheckEars graph ears) =
-    then-holds Anything KeepsGraph (graph_file files graph) (λ named. loaded_as (task.CheckEars named) (ear_file files ears named.graph)) (any-holds (graph_file files graph))
-    (λ named any. as-holds Anything KeepsGraph (task.CheckEars named) (ear_file files ears named.graph) (λ list none. tt) (any-holds (ear_file files ears named.graph)))
-loaded-graph files (Ears graph) = as-holds Anything KeepsGraph task.Ears (graph_file files graph) (λ named any. tt) (any-holds (graph_file files graph))
-loaded-graph files (Replay graph tree moves) =
-    as-holds MovesHaveGraph KeepsGraph (λ given. task.Replay given.0 given.1.0 given.1.1) (moves_given files graph tree moves) (λ given is. is.ends) (moves_given-holds files graph tree moves)
-loaded-graph files (Compare graph first second) =
-    as-holds TreesHaveGraph KeepsGraph (λ given. task.Compare given.0 given.1.0 given.1.1) (trees_given files graph first second) (λ given is. is.ends) (trees_given-holds files graph first second)
-loaded-graph files (Script graph first second) =
-    as-holds TreesHaveGraph KeepsGraph (λ given. task.Script given.0 given.1.0 given.1.1) (trees_given files graph first second) (λ given is. is.ends) (trees_given-holds files graph first second)
-loaded-graph files (Grow seed pieces) = tt
+loaded-graph files (OnGraph verb graph) =
+    as-holds HasGraph KeepsGraph (task.OnGraph verb) (graph_file files graph) (λ named is. read-keeps named.graph is) (graph-holds files graph)
+loaded-graph files (OnSimpleGraph verb graph) = as-holds IsMultigraph KeepsGraph (task.OnSimpleGraph verb) (graph6_file files graph) (λ g is. is) (graph6-holds files graph)
+loaded-graph files (OnTree verb graph tree) =
+    as-holds TreeHasGraph KeepsGraph (on_tree verb) (tree_given files graph tree) (λ given is. read-keeps given.0.graph is) (tree_given-holds files graph tree)
+loaded-graph files (OnPicks verb graph picks) =
+    as-holds (λ (given : NamedGraph × List ℕ). IsRead given.0.graph) KeepsGraph (on_picks verb) (picks_given files graph picks) (λ given is. read-keeps given.0.graph is)
+    (beside-holds files graph (λ named. pick_file files picks) (λ named list. (named, list)) (λ given. IsRead given.0.graph) (λ named list is. is))
+loaded-graph files (OnEars verb graph ears) =
+    as-holds (λ (given : NamedGraph × PlainEars). IsRead given.0.graph) KeepsGraph (on_ears verb) (ears_given files graph ears) (λ given is. read-keeps given.0.graph is)
+    (beside-holds files graph (λ named. ear_file files ears named.graph) (λ named list. (named, list)) (λ given. IsRead given.0.graph) (λ named list is. is))
+loaded-graph files (OnMoves verb graph tree moves) =
+    as-holds (λ (given : NamedGraph × (Shape × List PlainMove)). IsRead given.0.graph) KeepsGraph (on_moves verb) (moves_given files graph tree moves) (λ given is. read-keeps given.0.graph is)
+    (beside_tree-holds files graph tree (λ given. move_file files moves given.0.graph.order) (λ given ms. (given.0, (given.1, ms))) (λ given. IsRead given.0.graph) (λ given ms is. is))
+loaded-graph files (OnTrees verb graph first second) =
+    as-holds (λ (given : NamedGraph × (Shape × Shape)). IsRead given.0.graph) KeepsGraph (on_trees verb) (trees_given files graph first second) (λ given is. read-keeps given.0.graph is)
+    (beside_tree-holds files graph first (λ given. tree_file files 3 second given.0.graph.order) (λ given t. (given.0, (given.1, t))) (λ given. IsRead given.0.graph) (λ given t is. is))
+loaded-graph files (OnNumbers verb seed pieces) = tt

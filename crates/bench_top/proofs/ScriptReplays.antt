@@ -13,12 +13,12 @@ use Rattle.tree_text.specs.Writing.{tree_text}
 use Rattle.move_text.specs.MoveFormat.{move_format}
 use Rattle.report_text.specs.Scripts.{replayed_text}
 use Rattle.bench_outcomes.specs.Comparisons.{ScriptGives, Scripted}
-use Rattle.bench_tasks.specs.Loading.{Loaded, All, Bad, Absent, and_then, file_read, loaded_as, most_bytes, move_file, moves_given, tree_file, tree_given, trees_given}
-use Rattle.bench_tasks.specs.Commands.{Replay}
+use Rattle.bench_tasks.specs.Loading.{Loaded, All, Bad, Absent, and_then, file_read, loaded_as, most_bytes, move_file, moves_given, on_moves, on_trees, tree_file, tree_given, trees_given}
+use Rattle.bench_tasks.specs.Commands.{OnMoves}
 use Rattle.bench_outcomes.specs.Outcome.{LoadedGives, Outcome}
 use Rattle.bench_top.specs.RoundTrips.{ReplaysScript}
-use Rattle.bench_tasks.specs.Tasks.{Task}
-use Rattle.bench_tasks.specs.Tasks as task
+use Rattle.bench_tasks.specs.declared.verbs.MovesVerb.TheVariants.{Replay}
+use Rattle.bench_tasks.specs.declared.verbs.TreesVerb.TheVariants.{Script}
 use Rattle.bench_outcomes.specs.declared.status.Status.{Status}
 use Rattle.bench_outcomes.specs.declared.status.Status.TheVariants.{Done}
 use Rattle.bench_top.proofs.Completeness.{status-once}
@@ -36,13 +36,6 @@ tree_read graph tree =
 tree_given-same : (files again : List Named) (graph tree : List ℕ) → file_named graph again ≡ file_named graph files → file_named tree again ≡ file_named tree files → tree_given again graph tree ≡ tree_given files graph tree
 tree_given-same files again graph tree one two = ap₂ tree_read one two
 
--- the task of a script, and that of a replay
-abbrev script_task : NamedGraph × (Shape × Shape) → Task
-script_task given = task.Script given.0 given.1.0 given.1.1
-
-abbrev replay_task : NamedGraph × (Shape × List PlainMove) → Task
-replay_task given = task.Replay given.0 given.1.0 given.1.1
-
 module _ (files again : List Named) (graph first second script output : List ℕ) (held : file_named script again ≡ Some output) (within : length output ≤ most_bytes) where
   -- a script that was reported
   replays : (named : NamedGraph) (s t : Shape) → tree_given again graph first ≡ All (named, s) → trees_given files graph first second ≡ All (named, (s, t)) → Scripted named.graph s t Done output → ReplaysScript files again graph first second script output
@@ -57,8 +50,8 @@ module _ (files again : List Named) (graph first second script output : List ℕ
     only = λ status report gives.
         let same = status-once (codes "replay" ∷ graph ∷ first ∷ script ∷ []) again status Done report (replayed_text (tree_text named.graph.order t) (length told.moves)) gives done in (
           same,
-          output-once (codes "replay" ∷ graph ∷ first ∷ script ∷ []) again (Replay graph first script) (replay_task (named, (s, told.moves))) report (replayed_text (tree_text named.graph.order t) (length told.moves)) refl
-              (ap (loaded_as replay_task) read) tt (subst (λ (st : Status). Outcome (codes "replay" ∷ graph ∷ first ∷ script ∷ []) again st report) same gives) done,
+          output-once (codes "replay" ∷ graph ∷ first ∷ script ∷ []) again (OnMoves Replay graph first script) (on_moves Replay (named, (s, told.moves))) report (replayed_text (tree_text named.graph.order t) (length told.moves)) refl
+              (ap (loaded_as (on_moves Replay)) read) tt (subst (λ (st : Status). Outcome (codes "replay" ∷ graph ∷ first ∷ script ∷ []) again st report) same gives) done,
         );
     asks = done-asks (codes "replay" ∷ graph ∷ first ∷ script ∷ []) again (replayed_text (tree_text named.graph.order t) (length told.moves)) done;
   }
@@ -74,7 +67,7 @@ module _ (files again : List Named) (graph first second script output : List ℕ
           ∙ ap (loaded_as (λ (ms : List PlainMove). (named, (s, ms)))) moves_are
 
       done : Outcome (codes "replay" ∷ graph ∷ first ∷ script ∷ []) again Done (replayed_text (tree_text named.graph.order t) (length told.moves))
-      done = subst (λ (h : Loaded (NamedGraph × (Shape × List PlainMove))). LoadedGives (loaded_as replay_task h) Done (replayed_text (tree_text named.graph.order t) (length told.moves)))
+      done = subst (λ (h : Loaded (NamedGraph × (Shape × List PlainMove))). LoadedGives (loaded_as (on_moves Replay) h) Done (replayed_text (tree_text named.graph.order t) (length told.moves)))
           (sym read)
           (inl (inl (record { derivation = told.script.first; reached = t; turns = told.script.turns; done = refl; text = refl })))
 
@@ -87,7 +80,7 @@ module _ (files again : List Named) (graph first second script output : List ℕ
 
   -- by what the file of the second tree is read as
   second_read : (named : NamedGraph) (s : Shape) (h : Loaded Shape) → tree_file files 3 second named.graph.order ≡ h → tree_given again graph first ≡ All (named, s) → tree_given files graph first ≡ All (named, s) →
-      LoadedGives (loaded_as script_task (loaded_as (λ t. (named, (s, t))) h)) Done output → ReplaysScript files again graph first second script output
+      LoadedGives (loaded_as (on_trees Script) (loaded_as (λ t. (named, (s, t))) h)) Done output → ReplaysScript files again graph first second script output
   second_read named s (All t) is given before done =
       gives named s t given
       (ap (λ (h : Loaded (NamedGraph × Shape)). and_then h (λ given. loaded_as (λ t. (given.0, (given.1, t))) (tree_file files 3 second given.0.graph.order))) before
@@ -98,13 +91,13 @@ module _ (files again : List Named) (graph first second script output : List ℕ
 
   -- by what the files of the graph and of the first tree are read as
   first_read : (h : Loaded (NamedGraph × Shape)) → tree_given files graph first ≡ h → tree_given again graph first ≡ h →
-      LoadedGives (loaded_as script_task (and_then h (λ given. loaded_as (λ t. (given.0, (given.1, t))) (tree_file files 3 second given.0.graph.order)))) Done output → ReplaysScript files again graph first second script output
+      LoadedGives (loaded_as (on_trees Script) (and_then h (λ given. loaded_as (λ t. (given.0, (given.1, t))) (tree_file files 3 second given.0.graph.order)))) Done output → ReplaysScript files again graph first second script output
   first_read (All given) before now done = second_read given.0 given.1 (tree_file files 3 second given.0.graph.order) refl now before done
   first_read (Bad file line kind) before now done = let no = done.0 in cc no
   first_read (Absent file) before now done = absurd done
 
 -- what was written is replayed
-pub script-replayed : (files again : List Named) (graph first second script output : List ℕ) → LoadedGives (loaded_as script_task (trees_given files graph first second)) Done output →
+pub script-replayed : (files again : List Named) (graph first second script output : List ℕ) → LoadedGives (loaded_as (on_trees Script) (trees_given files graph first second)) Done output →
     file_named graph again ≡ file_named graph files → file_named first again ≡ file_named first files → file_named script again ≡ Some output → length output ≤ most_bytes → ReplaysScript files again graph first second script output
 script-replayed files again graph first second script output done one two held within =
     first_read files again graph first second script output held within (tree_given files graph first) refl (tree_given-same files again graph first one two) done

@@ -23,16 +23,23 @@ use Rattle.tree_check.proofs.ReplaySteps.{reached-derivation}
 use Rattle.move_text.specs.MoveFormat.{move_format}
 use Rattle.move_text.proofs.MovesRead.{writable-read}
 use Rattle.ear_text.specs.EarFormat.{ear_format}
-use Rattle.bench_tasks.specs.Commands.{Command, Check, CheckEars, Decompose, Ears, Grow, command_of, most_pieces}
+use Rattle.bench_tasks.specs.Commands.{Command, OnEars, OnGraph, OnNumbers, OnTree, command_of, decompose_in, most_pieces}
 use Rattle.decomposer.specs.Orders.{order_named}
+use Rattle.ear_core.specs.EarLists.{PlainEars}
 use Rattle.bench_outcomes.specs.EarChecks.{EarsGives}
 use Rattle.bench_outcomes.specs.Growths.{Grown}
-use Rattle.bench_tasks.specs.Loading.{Loaded, All, Bad, Absent, and_then, ear_file, file_read, from_reading, graph_file, loaded, loaded_as, most_bytes, move_file, moves_given, pick_file, tree_file, tree_given}
+use Rattle.bench_tasks.specs.Loading.{Loaded, All, Bad, Absent, and_then, ear_file, ears_given, file_read, from_reading, graph_file, loaded, loaded_as, most_bytes, move_file, moves_given, on_ears, on_moves, on_picks, on_tree, pick_file, picks_given, tree_file, tree_given}
 use Rattle.bench_outcomes.specs.Outcome.{CommandGives, DecomposeGives, LoadedGives, Outcome, ResultOf}
 use Rattle.bench_outcomes.specs.Replays.{ReplayGives}
 use Rattle.bench_top.specs.RoundTrips.{AsksDone}
 use Rattle.bench_tasks.specs.Tasks.{Task}
 use Rattle.bench_tasks.specs.Tasks as task
+use Rattle.bench_tasks.specs.declared.verbs.GraphVerb.TheVariants.{Decompose, Ears}
+use Rattle.bench_tasks.specs.declared.verbs.TreeVerb.TheVariants.{Check}
+use Rattle.bench_tasks.specs.declared.verbs.PicksVerb.TheVariants.{DecomposeBy}
+use Rattle.bench_tasks.specs.declared.verbs.EarsVerb.TheVariants.{CheckEars}
+use Rattle.bench_tasks.specs.declared.verbs.MovesVerb.TheVariants.{Replay}
+use Rattle.bench_tasks.specs.declared.verbs.NumbersVerb.TheVariants.{Grow}
 use Rattle.decomposer.specs.declared.orders.NamedOrder.{NamedOrder}
 use Rattle.decomposer.specs.declared.orders.NamedOrder.TheVariants.{First}
 use Rattle.bench_outcomes.specs.declared.status.Status.TheVariants.{Done}
@@ -40,7 +47,7 @@ use Rattle.bench_top.proofs.FileReads.{file_read-value}
 use Rattle.bench_outcomes.proofs.GrownSizes.{few-edges, few-vertices, grown-multigraph}
 use Rattle.bench_top.proofs.LoadedGraphs.{Holds, graph-holds, loaded-graph}
 use Rattle.bench_top.proofs.ReadGraphs.{HasGraph, IsRead}
-use Rattle.bench_top.proofs.Settled.{KeepsGraph, settled}
+use Rattle.bench_outcomes.proofs.Settled.{KeepsGraph, settled}
 use Rattle.bench_top.proofs.TextsStand.{few-leaves_of, stands-ears, stands-grown, stands-replayed}
 
 -- what was held if a command was done
@@ -110,6 +117,9 @@ graph_in given = given.0
 abbrev graph_of : NamedGraph × (Shape × List PlainMove) → NamedGraph
 graph_of given = given.0
 
+abbrev picks_graph : NamedGraph × List ℕ → NamedGraph
+picks_graph given = given.0
+
 abbrev moves_in : NamedGraph × (Shape × List PlainMove) → List PlainMove
 moves_in given = given.1.1
 
@@ -128,10 +138,10 @@ module _ (files again : List Named) (graph : List ℕ) (same : file_named graph 
     -- a text of a derivation is checked
     check-done : (named : NamedGraph) (t : Shape) → graph_file files graph ≡ All named → Stands (tree_format named.graph.order) output t → IsDerivation named.graph t → AsksDone (codes "check" ∷ graph ∷ name ∷ []) again
     check-done named t is stands derived = record {
-      command = Check graph name;
+      command = OnTree Check graph name;
       row = refl;
-      task = task.Check named t;
-      held = ap (loaded_as (λ (given : NamedGraph × Shape). task.Check given.0 given.1)) read;
+      task = task.OnTree Check named t;
+      held = ap (loaded_as (on_tree Check)) read;
       succeeds = derived;
     }
       where
@@ -144,10 +154,10 @@ module _ (files again : List Named) (graph : List ℕ) (same : file_named graph 
     decomposed picks named is (inl made) = check-done named made.tree is made.told.stands made.told.derivation
     decomposed picks named is (inr not_covered) = let no = not_covered.negative in cc no
 
-    in-order : (order : Option NamedOrder) → CommandGives files (option_map (Decompose graph) order) Done output → AsksDone (codes "check" ∷ graph ∷ name ∷ []) again
+    in-order : (order : Option NamedOrder) → CommandGives files (option_map (decompose_in graph) order) Done output → AsksDone (codes "check" ∷ graph ∷ name ∷ []) again
     in-order None gives = absurd gives
     in-order (Some order) gives =
-        let made = given (λ named. task.Decompose named order) (graph_file files graph) output gives in
+        let made = given (task.OnGraph (Decompose order)) (graph_file files graph) output gives in
         decomposed _ made.0 made.1.0 made.1.1
 
     pub decomposed-checked : (order : List ℕ) → Outcome (codes "decompose" ∷ graph ∷ order ∷ []) files Done output → AsksDone (codes "check" ∷ graph ∷ name ∷ []) again
@@ -155,26 +165,30 @@ module _ (files again : List Named) (graph : List ℕ) (same : file_named graph 
 
     pub picked-checked : (picks : List ℕ) → Outcome (codes "decompose" ∷ graph ∷ codes "script" ∷ picks ∷ []) files Done output → AsksDone (codes "check" ∷ graph ∷ name ∷ []) again
     picked-checked picks gives =
-        let first = then-given (graph_file files graph) (λ named. loaded_as (task.DecomposeBy named) (pick_file files picks)) output gives in
-        let made = given (task.DecomposeBy first.0) (pick_file files picks) output first.1.1 in
-        decomposed _ first.0 first.1.0 made.1.1
+        let made = given (on_picks DecomposeBy) (picks_given files graph picks) output gives in
+        let first = then-held (graph_file files graph) (λ named. loaded_as (λ list. (named, list)) (pick_file files picks)) made.0 made.1.0 in
+        let all = as-held (λ (list : List ℕ). (first.0, list)) (pick_file files picks) made.0 first.1.1 in
+        decomposed _ made.0.0 (first.1.0 ∙ ap All (ap picks_graph all.1.1)) made.1.1
 
     -- a list of ears that was built is checked
     built : (named : NamedGraph) → graph_file files graph ≡ All named → EarsGives named.graph Done output → AsksDone (codes "checkears" ∷ graph ∷ name ∷ []) again
     built named is (inl made) = record {
-      command = CheckEars graph name;
+      command = OnEars CheckEars graph name;
       row = refl;
-      task = task.CheckEars named made.list;
-      held = ap (λ (h : Loaded NamedGraph). and_then h (λ named. loaded_as (task.CheckEars named) (ear_file again name named.graph))) (graph-again named is)
-          ∙ ap (loaded_as (task.CheckEars named)) (file_read-value 2 (reading_of (ear_format named.graph.order (size named.graph))) (file_named name again) output made.list held within
-          (Stands-reading_of (ear_format named.graph.order (size named.graph)) output made.list
-          (subst (λ (o : List ℕ). Stands (ear_format named.graph.order (size named.graph)) o made.list) (sym made.text) (stands-ears named.graph made.list (graph-read files graph named is) made.is))));
+      task = task.OnEars CheckEars named made.list;
+      held = ap (loaded_as (on_ears CheckEars)) read;
       succeeds = (made.covered, made.is);
     }
+      where
+        read : ears_given again graph name ≡ All (named, made.list)
+        read = ap (λ (h : Loaded NamedGraph). and_then h (λ named. loaded_as (λ list. (named, list)) (ear_file again name named.graph))) (graph-again named is)
+            ∙ ap (loaded_as (λ (list : PlainEars). (named, list))) (file_read-value 2 (reading_of (ear_format named.graph.order (size named.graph))) (file_named name again) output made.list held within
+            (Stands-reading_of (ear_format named.graph.order (size named.graph)) output made.list
+            (subst (λ (o : List ℕ). Stands (ear_format named.graph.order (size named.graph)) o made.list) (sym made.text) (stands-ears named.graph made.list (graph-read files graph named is) made.is))))
     built named is (inr not_covered) = let no = not_covered.negative in cc no
 
     pub built-checked : Outcome (codes "ears" ∷ graph ∷ []) files Done output → AsksDone (codes "checkears" ∷ graph ∷ name ∷ []) again
-    built-checked gives = let made = given task.Ears (graph_file files graph) output gives in built made.0 made.1.0 made.1.1
+    built-checked gives = let made = given (task.OnGraph Ears) (graph_file files graph) output gives in built made.0 made.1.0 made.1.1
 
     -- a tree that was reached is checked
     reached : (named : NamedGraph) (t : Shape) (moves : List PlainMove) → graph_file files graph ≡ All named → length moves < 10 ^ 9 → ReplayGives named.graph t moves Done output → AsksDone (codes "check" ∷ graph ∷ name ∷ []) again
@@ -191,7 +205,7 @@ module _ (files again : List Named) (graph : List ℕ) (same : file_named graph 
 
     pub replayed-checked : (tree moves : List ℕ) → Outcome (codes "replay" ∷ graph ∷ tree ∷ moves ∷ []) files Done output → AsksDone (codes "check" ∷ graph ∷ name ∷ []) again
     replayed-checked tree moves gives =
-        let made = given (λ (given : NamedGraph × (Shape × List PlainMove)). task.Replay given.0 given.1.0 given.1.1) (moves_given files graph tree moves) output gives in
+        let made = given (on_moves Replay) (moves_given files graph tree moves) output gives in
         let trees = then-held (tree_given files graph tree) (λ given. loaded_as (λ ms. (given.0, (given.1, ms))) (move_file files moves given.0.graph.order)) made.0 made.1.0 in
         let all = as-held (λ (ms : List PlainMove). (trees.0.0, (trees.0.1, ms))) (move_file files moves trees.0.0.graph.order) made.0 trees.1.1 in
         let first = then-held (graph_file files graph) (λ named. loaded_as (λ t. (named, t)) (tree_file files 2 tree named.graph.order)) trees.0 trees.1.0 in
@@ -229,17 +243,17 @@ module _ (again : List Named) (name output : List ℕ) (held : file_named name a
       let fits : FitsVersionOne (grown seed pieces) = record { multigraph = grown-multigraph seed pieces; vertices = few-vertices seed pieces some few; edges = few-edges seed pieces some few } in
       let read = grown-read seed pieces fits made in (
         record {
-          command = Ears name;
+          command = OnGraph Ears name;
           row = refl;
-          task = task.Ears (grown_named seed pieces);
-          held = ap (loaded_as task.Ears) read;
+          task = task.OnGraph Ears (grown_named seed pieces);
+          held = ap (loaded_as (task.OnGraph Ears)) read;
           succeeds = made.by_first.derivation.covered;
         },
         record {
-          command = Decompose name First;
+          command = decompose_in name First;
           row = refl;
-          task = task.Decompose (grown_named seed pieces) First;
-          held = ap (loaded_as (λ named. task.Decompose named First)) read;
+          task = task.OnGraph (Decompose First) (grown_named seed pieces);
+          held = ap (loaded_as (task.OnGraph (Decompose First))) read;
           succeeds = made.by_first.derivation.covered;
         },
       )
@@ -249,7 +263,7 @@ module _ (again : List Named) (name output : List ℕ) (held : file_named name a
   grown-served files seed pieces gives = go (is_number seed && (is_number pieces && (nat_le 1 (value_of pieces) && nat_le (value_of pieces) most_pieces))) refl gives
     where
       go : (b : Bool) → (is_number seed && (is_number pieces && (nat_le 1 (value_of pieces) && nat_le (value_of pieces) most_pieces))) ≡ b →
-          CommandGives files (cond b (Some (Grow (value_of seed) (value_of pieces))) None) Done output →
+          CommandGives files (cond b (Some (OnNumbers Grow (value_of seed) (value_of pieces))) None) Done output →
           AsksDone (codes "ears" ∷ name ∷ []) again × AsksDone (codes "decompose" ∷ name ∷ codes "first" ∷ []) again
       go true is made =
           let numbers = (and_parts (is_number seed) (is_number pieces && (nat_le 1 (value_of pieces) && nat_le (value_of pieces) most_pieces)) is).1 in

@@ -6,8 +6,9 @@ ghost use Rattle.outside.specs.Shelf.{ReadsFirst, ReadsInTurn};
 ghost use Rattle.bench_tasks.specs.Commands.{Command, command_of};
 ghost use Rattle.bench_tasks.specs.Loading.{All, Bad, Absent, loaded};
 ghost use Rattle.bench_outcomes.specs.Outcome.{IsReported, IsSettled, Outcome};
-ghost use Rattle.bench_tasks.specs.Refusing.{MayRefuse};
-ghost use Rattle.bench_tasks.specs.Reads.{file_names, names_in, names_until};
+ghost use Rattle.bench_outcomes.specs.Refusing.{MayRefuse};
+ghost use Rattle.bench_tasks.specs.Files.{file_names};
+ghost use Rattle.bench_tasks.specs.Reads.{names_in, names_until};
 ghost use Rattle.bench_outcomes.specs.Success.{Succeeds};
 ghost use Rattle.bench_tasks.specs.Tasks.{Task};
 

@@ -8,9 +8,10 @@ ghost use Rattle.bench_top.specs.Writes.{GivesTold, WritesAs};
 ghost use Rattle.bench_tasks.specs.Asked.{asked};
 ghost use Rattle.bench_tasks.specs.Loading.{Absent, loaded};
 ghost use Rattle.bench_tasks.specs.Loads.{LoadsAs, task_of, Held};
-ghost use Rattle.bench_tasks.specs.Reads.{IsRead, IsReadFault, file_names, names_until};
+ghost use Rattle.bench_tasks.specs.Files.{file_names};
+ghost use Rattle.bench_tasks.specs.Reads.{IsRead, IsReadFault, names_until};
 ghost use Rattle.bench_outcomes.specs.Outcome.{LoadedGives, Appended, CutShort, IsReported, IsSettled};
-ghost use Rattle.bench_tasks.specs.Refusing.{MayRefuse, GatheredMayRefuse};
+ghost use Rattle.bench_outcomes.specs.Refusing.{MayRefuse, GatheredMayRefuse};
 
 use crate::ending::Ending;
 use bench_outcomes::{Report, Status};

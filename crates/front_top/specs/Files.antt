@@ -1,36 +1,34 @@
--- What each file of a command is read as.
-use Rattle.std.specs.Prelude.{ℕ, ◌==◌, List, [], ◌∷◌, slice_get, if◌then◌else◌}
+-- The files of a command, as the words for a person name them.
+use Rattle.std.specs.Prelude.{ℕ, List}
 use Rattle.std.specs.declared.option.Option.{Option}
 use Rattle.std.specs.declared.option.Option.TheVariants.{Some, None}
-use Rattle.bench_tasks.specs.Commands.{Command, Analyse, Convert, Analyse6, Decompose, DecomposeBy, Check, CheckEars, Ears, Replay, Compare, Script, Grow}
+use Rattle.std.specs.Option.{option_map}
+use Rattle.bench_tasks.specs.Commands.{Command}
+use Rattle.bench_tasks.specs.Files as bench
+use Rattle.bench_tasks.specs.declared.files.FileKind.{FileKind}
+use Rattle.bench_tasks.specs.declared.files.FileKind.TheVariants as kind
 use Rattle.front_words.specs.declared.faults.Role.{Role}
 use Rattle.front_words.specs.declared.faults.Role.TheVariants as role
 
--- a file of a command: its name, and what it is read as
+-- what a person calls a file that is read as this
+abbrev pub role_of : FileKind → Role
+role_of kind.Graph = role.Graph
+role_of kind.Graph6 = role.Graph6
+role_of kind.Tree = role.Derivation
+role_of kind.Picks = role.Picks
+role_of kind.Ears = role.Ears
+role_of kind.Moves = role.Moves
+
+-- a file of a command: its name, and what a person calls it
 abbrev pub File : Type 0
 File = List ℕ × Role
 
--- the files of a command, in the order of the words
-abbrev pub files_of : Command → List File
-files_of (Analyse graph) = (graph, role.Graph) ∷ []
-files_of (Convert graph) = (graph, role.Graph) ∷ []
-files_of (Analyse6 graph) = (graph, role.Graph6) ∷ []
-files_of (Decompose graph order) = (graph, role.Graph) ∷ []
-files_of (DecomposeBy graph picks) = (graph, role.Graph) ∷ (picks, role.Picks) ∷ []
-files_of (Check graph tree) = (graph, role.Graph) ∷ (tree, role.Derivation) ∷ []
-files_of (CheckEars graph ears) = (graph, role.Graph) ∷ (ears, role.Ears) ∷ []
-files_of (Ears graph) = (graph, role.Graph) ∷ []
-files_of (Replay graph tree moves) = (graph, role.Graph) ∷ (tree, role.Derivation) ∷ (moves, role.Moves) ∷ []
-files_of (Compare graph first second) = (graph, role.Graph) ∷ (first, role.Derivation) ∷ (second, role.Derivation) ∷ []
-files_of (Script graph first second) = (graph, role.Graph) ∷ (first, role.Derivation) ∷ (second, role.Derivation) ∷ []
-files_of (Grow seed pieces) = []
+abbrev pub called : bench.File → File
+called file = (file.0, role_of file.1)
 
 -- the file at that place, which is 1, 2 or 3
 abbrev pub file_at : Command → ℕ → Option File
-file_at command place =
-    if place == 1 then slice_get (files_of command) 0 else
-    if place == 2 then slice_get (files_of command) 1 else
-    if place == 3 then slice_get (files_of command) 2 else None
+file_at command place = option_map called (bench.file_at command place)
 
 -- the same for words, which may match no command
 abbrev pub file_in : Option Command → ℕ → Option File

@@ -8,8 +8,9 @@ use Rattle.outside.specs.Shelf.{Named, ReadsFirst, ReadsInTurn}
 use Rattle.bench_tasks.specs.Commands.{Command, command_of}
 use Rattle.bench_tasks.specs.Tasks.{Task}
 use Rattle.bench_tasks.specs.Loading.{All, Bad, Absent, loaded}
-use Rattle.bench_tasks.specs.Refusing.{MayRefuse}
-use Rattle.bench_tasks.specs.Reads.{file_names, names_in, names_until}
+use Rattle.bench_outcomes.specs.Refusing.{MayRefuse}
+use Rattle.bench_tasks.specs.Files.{file_names}
+use Rattle.bench_tasks.specs.Reads.{names_in, names_until}
 use Rattle.bench_outcomes.specs.Outcome.{Outcome, Appended, CutShort, IsReported, IsSettled}
 use Rattle.bench_outcomes.specs.Success.{Succeeds}
 use Rattle.bench_outcomes.specs.declared.status.Status.{Status}

@@ -23,10 +23,26 @@ use Rattle.decomposer.specs.Orders.{NamedPicks, ScriptPicks}
 use Rattle.bench_outcomes.specs.Outcome.{CommandGives, LoadedGives, Outcome, ResultOf}
 use Rattle.bench_outcomes.specs.declared.status.Status.{Status}
 use Rattle.bench_outcomes.specs.declared.status.Status.TheVariants.{BadInput}
-use Rattle.bench_tasks.specs.Commands.{Command, Analyse, Analyse6, Check, CheckEars, Compare, Convert, Decompose, DecomposeBy, Ears, Grow, Replay, Script, command_of}
-use Rattle.bench_tasks.specs.Loading.{Loaded, All, Bad, Absent, and_then, ear_file, file_read, from_reading, graph6_file, graph_file, loaded, loaded_as, most_bytes, move_file, moves_given, pick_file, tree_file, tree_given, trees_given}
+use Rattle.bench_tasks.specs.Commands.{Command, OnGraph, OnSimpleGraph, OnTree, OnPicks, OnEars, OnMoves, OnTrees, OnNumbers, command_of}
+use Rattle.bench_tasks.specs.Loading.{Loaded, All, Bad, Absent, and_then, ear_file, ears_given, file_read, from_reading, graph6_file, graph_file, loaded, loaded_as, most_bytes, move_file, moves_given, on_ears, on_moves, on_picks, on_tree, on_trees, pick_file, picks_given, tree_file, tree_given, trees_given}
 use Rattle.bench_tasks.specs.Tasks.{Task}
 use Rattle.bench_tasks.specs.Tasks as task
+use Rattle.bench_tasks.specs.declared.verbs.GraphVerb.{GraphVerb}
+use Rattle.bench_tasks.specs.declared.verbs.GraphVerb.TheVariants.{Analyse, Convert, Decompose, Ears}
+use Rattle.bench_tasks.specs.declared.verbs.SimpleGraphVerb.{SimpleGraphVerb}
+use Rattle.bench_tasks.specs.declared.verbs.SimpleGraphVerb.TheVariants.{Analyse6}
+use Rattle.bench_tasks.specs.declared.verbs.TreeVerb.{TreeVerb}
+use Rattle.bench_tasks.specs.declared.verbs.TreeVerb.TheVariants.{Check}
+use Rattle.bench_tasks.specs.declared.verbs.PicksVerb.{PicksVerb}
+use Rattle.bench_tasks.specs.declared.verbs.PicksVerb.TheVariants.{DecomposeBy}
+use Rattle.bench_tasks.specs.declared.verbs.EarsVerb.{EarsVerb}
+use Rattle.bench_tasks.specs.declared.verbs.EarsVerb.TheVariants.{CheckEars}
+use Rattle.bench_tasks.specs.declared.verbs.MovesVerb.{MovesVerb}
+use Rattle.bench_tasks.specs.declared.verbs.MovesVerb.TheVariants.{Replay}
+use Rattle.bench_tasks.specs.declared.verbs.TreesVerb.{TreesVerb}
+use Rattle.bench_tasks.specs.declared.verbs.TreesVerb.TheVariants.{Compare, Script}
+use Rattle.bench_tasks.specs.declared.verbs.NumbersVerb.{NumbersVerb}
+use Rattle.bench_tasks.specs.declared.verbs.NumbersVerb.TheVariants.{Grow}
 use Rattle.bench_top.proofs.ReadGraphs.{GoesOn, HasGraph, read-graph}
 use Rattle.bench_top.proofs.ReadSimpleGraphs.{read-simple_graph}
 use Rattle.theorems.proofs.AnalysesExist.{analysed-exists, analysed6-exists}
@@ -123,49 +139,64 @@ module _ (files : List Named) where
       let second = made-of (λ ms. (held.0, (held.1, ms))) (move_file files moves held.0.graph.order) given first.2 in
       subst HoldsMoves second.2 (one-tree graph tree held first.1)
 
-  -- each command
+  -- each verb, on what the files that it reads hold
+  on_graph : (verb : GraphVerb) (named : NamedGraph) → IsGiven named → Reported (task.OnGraph verb named)
+  on_graph Analyse named is = analysed-exists named is.limits.multigraph
+  on_graph Convert named is = converted-exists named is
+  on_graph (Decompose order) named is = decomposition-exists (NamedPicks order) named (named-some order) is
+  on_graph Ears named is = built-exists named.graph is.limits.multigraph
+
+  on_simple : (verb : SimpleGraphVerb) (g : Graph) → IsMultigraph g → Reported (task.OnSimpleGraph verb g)
+  on_simple Analyse6 g is = analysed6-exists g is
+
+  of_tree : (verb : TreeVerb) (given : NamedGraph × Shape) → HoldsTree given → Reported (on_tree verb given)
+  of_tree Check given is = check-exists given.0.graph given.1 is.0.limits.multigraph is.1
+
+  of_picks : (verb : PicksVerb) (named : NamedGraph) (picks : List ℕ) → IsGiven named → Reported (task.OnPicks verb named picks)
+  of_picks DecomposeBy named picks is = decomposition-exists (ScriptPicks picks) named (script-some picks) is
+
+  of_ears : (verb : EarsVerb) (named : NamedGraph) (list : PlainEars) → IsGiven named → Within (size named.graph) list.start → Reported (task.OnEars verb named list)
+  of_ears CheckEars named list is start = ear_check-exists named.graph list is.limits.multigraph start
+
+  of_moves : (verb : MovesVerb) (given : NamedGraph × (Shape × List PlainMove)) → HoldsMoves given → Reported (on_moves verb given)
+  of_moves Replay given is = replay-exists given.0.graph given.1.0 given.1.1 is.0.limits.multigraph is.1
+
+  of_trees : (verb : TreesVerb) (given : NamedGraph × (Shape × Shape)) → HoldsTrees given → Reported (on_trees verb given)
+  of_trees Compare given is = comparison-exists given.0.graph given.1.0 given.1.1 is.0.limits.multigraph is.1 is.2
+  of_trees Script given is = script-exists given.0.graph given.1.0 given.1.1 is.0.limits is.1 is.2
+
+  of_numbers : (verb : NumbersVerb) (seed pieces : ℕ) → Reported (task.OnNumbers verb seed pieces)
+  of_numbers Grow seed pieces = grown-exists seed pieces
+
+  -- each command, by the files that it reads
   pub reported : (command : Command) (given : Task) → loaded files command ≡ All given → Reported given
-  reported (Analyse graph) given e =
-      let l = made-of task.Analyse (graph_file files graph) given e in
-      subst Reported l.2 (analysed-exists l.0 (graph-given graph l.0 l.1).limits.multigraph)
-  reported (Convert graph) given e =
-      let l = made-of task.Convert (graph_file files graph) given e in
-      subst Reported l.2 (converted-exists l.0 (graph-given graph l.0 l.1))
-  reported (Analyse6 graph) given e =
-      let l = made-of task.Analyse6 (graph6_file files graph) given e in
-      subst Reported l.2 (analysed6-exists l.0 (graph6-given graph l.0 l.1))
-  reported (Decompose graph order) given e =
-      let l = made-of (λ named. task.Decompose named order) (graph_file files graph) given e in
-      subst Reported l.2 (decomposition-exists (NamedPicks order) l.0 (named-some order) (graph-given graph l.0 l.1))
-  reported (DecomposeBy graph picks) given e =
-      let first = then-of (graph_file files graph) (λ named. loaded_as (task.DecomposeBy named) (pick_file files picks)) given e in
-      let second = made-of (task.DecomposeBy first.0) (pick_file files picks) given first.2 in
-      subst Reported second.2 (decomposition-exists (ScriptPicks second.0) first.0 (script-some second.0) (graph-given graph first.0 first.1))
-  reported (Check graph tree) given e =
-      let l = made-of (λ held. task.Check held.0 held.1) (tree_given files graph tree) given e in
-      let is = one-tree graph tree l.0 l.1 in
-      subst Reported l.2 (check-exists l.0.0.graph l.0.1 is.0.limits.multigraph is.1)
-  reported (CheckEars graph ears) given e =
-      let first = then-of (graph_file files graph) (λ named. loaded_as (task.CheckEars named) (ear_file files ears named.graph)) given e in
-      let named = first.0 in
-      let second = made-of (task.CheckEars named) (ear_file files ears named.graph) given first.2 in
-      subst Reported second.2 (ear_check-exists named.graph second.0 (graph-given graph named first.1).limits.multigraph (ear-start ears named.graph second.0 second.1))
-  reported (Ears graph) given e =
-      let l = made-of task.Ears (graph_file files graph) given e in
-      subst Reported l.2 (built-exists l.0.graph (graph-given graph l.0 l.1).limits.multigraph)
-  reported (Replay graph tree moves) given e =
-      let l = made-of (λ held. task.Replay held.0 held.1.0 held.1.1) (moves_given files graph tree moves) given e in
-      let is = tree-moves graph tree moves l.0 l.1 in
-      subst Reported l.2 (replay-exists l.0.0.graph l.0.1.0 l.0.1.1 is.0.limits.multigraph is.1)
-  reported (Compare graph one two) given e =
-      let l = made-of (λ held. task.Compare held.0 held.1.0 held.1.1) (trees_given files graph one two) given e in
-      let is = two-trees graph one two l.0 l.1 in
-      subst Reported l.2 (comparison-exists l.0.0.graph l.0.1.0 l.0.1.1 is.0.limits.multigraph is.1 is.2)
-  reported (Script graph one two) given e =
-      let l = made-of (λ held. task.Script held.0 held.1.0 held.1.1) (trees_given files graph one two) given e in
-      let is = two-trees graph one two l.0 l.1 in
-      subst Reported l.2 (script-exists l.0.0.graph l.0.1.0 l.0.1.1 is.0.limits is.1 is.2)
-  reported (Grow seed pieces) given e = let same : task.Grow seed pieces ≡ given = cc e in subst Reported same (grown-exists seed pieces)
+  reported (OnGraph verb graph) given e =
+      let l = made-of (task.OnGraph verb) (graph_file files graph) given e in
+      subst Reported l.2 (on_graph verb l.0 (graph-given graph l.0 l.1))
+  reported (OnSimpleGraph verb graph) given e =
+      let l = made-of (task.OnSimpleGraph verb) (graph6_file files graph) given e in
+      subst Reported l.2 (on_simple verb l.0 (graph6-given graph l.0 l.1))
+  reported (OnTree verb graph tree) given e =
+      let l = made-of (on_tree verb) (tree_given files graph tree) given e in
+      subst Reported l.2 (of_tree verb l.0 (one-tree graph tree l.0 l.1))
+  reported (OnPicks verb graph picks) given e =
+      let l = made-of (on_picks verb) (picks_given files graph picks) given e in
+      let first = then-of (graph_file files graph) (λ named. loaded_as (λ list. (named, list)) (pick_file files picks)) l.0 l.1 in
+      let second = made-of (λ (list : List ℕ). (first.0, list)) (pick_file files picks) l.0 first.2 in
+      subst Reported l.2 (subst (λ (h : NamedGraph × List ℕ). Reported (on_picks verb h)) second.2 (of_picks verb first.0 second.0 (graph-given graph first.0 first.1)))
+  reported (OnEars verb graph ears) given e =
+      let l = made-of (on_ears verb) (ears_given files graph ears) given e in
+      let first = then-of (graph_file files graph) (λ named. loaded_as (λ list. (named, list)) (ear_file files ears named.graph)) l.0 l.1 in
+      let second = made-of (λ (list : PlainEars). (first.0, list)) (ear_file files ears first.0.graph) l.0 first.2 in
+      subst Reported l.2 (subst (λ (h : NamedGraph × PlainEars). Reported (on_ears verb h)) second.2
+      (of_ears verb first.0 second.0 (graph-given graph first.0 first.1) (ear-start ears first.0.graph second.0 second.1)))
+  reported (OnMoves verb graph tree moves) given e =
+      let l = made-of (on_moves verb) (moves_given files graph tree moves) given e in
+      subst Reported l.2 (of_moves verb l.0 (tree-moves graph tree moves l.0 l.1))
+  reported (OnTrees verb graph one two) given e =
+      let l = made-of (on_trees verb) (trees_given files graph one two) given e in
+      subst Reported l.2 (of_trees verb l.0 (two-trees graph one two l.0 l.1))
+  reported (OnNumbers verb seed pieces) given e = let same : task.OnNumbers verb seed pieces ≡ given = cc e in subst Reported same (of_numbers verb seed pieces)
 
 -- and so an outcome
 given-outcome : (held : Loaded Task) → ((given : Task) → held ≡ All given → Reported given) → ((file : ℕ) × (held ≡ Absent file)) ⊎ ((status : Status) × (output : List ℕ) × LoadedGives held status output)

@@ -28,10 +28,13 @@ use Rattle.tree_core.specs.Derivations.{IsDerivation}
 use Rattle.tree_core.specs.Leaves.{leaves}
 use Rattle.tree_core.specs.Shapes.{Shape}
 use Rattle.decomposer.specs.Orders.{order_named}
-use Rattle.bench_tasks.specs.Commands.{Compare, Decompose, Script}
-use Rattle.bench_tasks.specs.Loading.{All, Loaded, and_then, graph_file, loaded_as, pick_file, trees_given}
+use Rattle.bench_tasks.specs.Commands.{OnTrees, decompose_in}
+use Rattle.bench_tasks.specs.Loading.{All, Loaded, and_then, graph_file, loaded_as, on_picks, on_trees, pick_file, picks_given, trees_given}
 use Rattle.bench_tasks.specs.Tasks.{Task}
 use Rattle.bench_tasks.specs.Tasks as task
+use Rattle.bench_tasks.specs.declared.verbs.GraphVerb.TheVariants.{Analyse, Decompose, Ears}
+use Rattle.bench_tasks.specs.declared.verbs.PicksVerb.TheVariants.{DecomposeBy}
+use Rattle.bench_tasks.specs.declared.verbs.TreesVerb.TheVariants.{Compare, Script}
 use Rattle.decomposer.specs.declared.orders.NamedOrder.{NamedOrder}
 use Rattle.bench_outcomes.specs.Comparisons.{CompareGives, Compared, ScriptGives, Scripted}
 use Rattle.bench_outcomes.specs.EarChecks.{EarsGives}
@@ -59,7 +62,7 @@ never status done negative = let no : Done ≡ Negative = sym done ∙ negative 
 
 -- `analyse`: the sets
 analysed : (files : List Named) (graph : List ℕ) (named : NamedGraph) (status : Status) (output : List ℕ) → graph_file files graph ≡ All named → Outcome (codes "analyse" ∷ graph ∷ []) files status output → Analysed named status output
-analysed files graph named status output held gives = of_held task.Analyse (graph_file files graph) named status output held gives
+analysed files graph named status output held gives = of_held (task.OnGraph Analyse) (graph_file files graph) named status output held gives
 
 pub told-sets : (files : List Named) (graph : List ℕ) (named : NamedGraph) (status : Status) (output : List ℕ) → graph_file files graph ≡ All named → Outcome (codes "analyse" ∷ graph ∷ []) files status output → (status ≡ Done) × TellsSets named output
 told-sets files graph named status output held gives =
@@ -122,10 +125,10 @@ decomposed picks named status output read cov (inl made) =
       },
     )
 
-in-order : (files : List Named) (graph : List ℕ) (named : NamedGraph) (status : Status) (output : List ℕ) → graph_file files graph ≡ All named → IsCovered named.graph → (order : Option NamedOrder) → CommandGives files (option_map (Decompose graph) order) status output → (status ≡ Done) × TellsDecomposition named.graph output
+in-order : (files : List Named) (graph : List ℕ) (named : NamedGraph) (status : Status) (output : List ℕ) → graph_file files graph ≡ All named → IsCovered named.graph → (order : Option NamedOrder) → CommandGives files (option_map (decompose_in graph) order) status output → (status ≡ Done) × TellsDecomposition named.graph output
 in-order files graph named status output held cov None gives = absurd gives
 in-order files graph named status output held cov (Some order) gives =
-    decomposed _ named status output (graph-read files graph named held) cov (of_held (λ named. task.Decompose named order) (graph_file files graph) named status output held gives)
+    decomposed _ named status output (graph-read files graph named held) cov (of_held (task.OnGraph (Decompose order)) (graph_file files graph) named status output held gives)
 
 pub told-decomposition : (files : List Named) (graph order : List ℕ) (named : NamedGraph) (status : Status) (output : List ℕ) → graph_file files graph ≡ All named → IsCovered named.graph → Outcome (codes "decompose" ∷ graph ∷ order ∷ []) files status output → (status ≡ Done) × TellsDecomposition named.graph output
 told-decomposition files graph order named status output held cov gives = in-order files graph named status output held cov (order_named order) gives
@@ -133,16 +136,10 @@ told-decomposition files graph order named status output held cov gives = in-ord
 pub told-picked : (files : List Named) (graph picks list : List ℕ) (named : NamedGraph) (status : Status) (output : List ℕ) → graph_file files graph ≡ All named → pick_file files picks ≡ All list → IsCovered named.graph → Outcome (codes "decompose" ∷ graph ∷ codes "script" ∷ picks ∷ []) files status output → (status ≡ Done) × TellsDecomposition named.graph output
 told-picked files graph picks list named status output held listed cov gives =
     decomposed _ named status output (graph-read files graph named held) cov
-    (of_held (task.DecomposeBy named) (pick_file files picks) list status output listed
-    (subst (λ (h : Loaded NamedGraph). LoadedGives (and_then h (λ named. loaded_as (task.DecomposeBy named) (pick_file files picks))) status output) held gives))
+    (of_held (on_picks DecomposeBy) (picks_given files graph picks) (named, list) status output
+    (ap (λ (h : Loaded NamedGraph). and_then h (λ named. loaded_as (λ list. (named, list)) (pick_file files picks))) held ∙ ap (loaded_as (λ (list : List ℕ). (named, list))) listed) gives)
 
 -- `compare` and `script`: if both trees are derivations neither is refused
-abbrev compare_task : NamedGraph × (Shape × Shape) → Task
-compare_task given = task.Compare given.0 given.1.0 given.1.1
-
-abbrev script_task : NamedGraph × (Shape × Shape) → Task
-script_task given = task.Script given.0 given.1.0 given.1.1
-
 compared : (named : NamedGraph) (s t : Shape) (status : Status) (output : List ℕ) → status ≡ Done → CompareGives named.graph s t status output → Compared named.graph s t status output
 compared named s t status output done (inl made) = made
 compared named s t status output done (inr (inl first)) = absurd (never status done first.negative)
@@ -157,8 +154,8 @@ scripted named s t status output done (inr (inr (inr not_covered))) = absurd (ne
 
 pub told-pairing : (files : List Named) (graph first second : List ℕ) (named : NamedGraph) (s t : Shape) (status : Status) (output : List ℕ) → trees_given files graph first second ≡ All (named, (s, t)) → IsDerivation named.graph s → IsDerivation named.graph t → Outcome (codes "compare" ∷ graph ∷ first ∷ second ∷ []) files status output → (status ≡ Done) × TellsPairing named.graph s t output
 told-pairing files graph first second named s t status output held ds dt gives =
-    let done = (done-given files (Compare graph first second) (task.Compare named s t) status output (ap (loaded_as compare_task) held) gives).1 (ds, dt) in
-    let r = compared named s t status output done (of_held compare_task (trees_given files graph first second) (named, (s, t)) status output held gives) in (
+    let done = (done-given files (OnTrees Compare graph first second) (task.OnTrees Compare named s t) status output (ap (loaded_as (on_trees Compare)) held) gives).1 (ds, dt) in
+    let r = compared named s t status output done (of_held (on_trees Compare) (trees_given files graph first second) (named, (s, t)) status output held gives) in (
       done,
       record {
         maps = r.maps;
@@ -171,8 +168,8 @@ told-pairing files graph first second named s t status output held ds dt gives =
 
 pub told-script : (files : List Named) (graph first second : List ℕ) (named : NamedGraph) (s t : Shape) (status : Status) (output : List ℕ) → trees_given files graph first second ≡ All (named, (s, t)) → IsDerivation named.graph s → IsDerivation named.graph t → Outcome (codes "script" ∷ graph ∷ first ∷ second ∷ []) files status output → (status ≡ Done) × TellsScript named.graph s t output
 told-script files graph first second named s t status output held ds dt gives =
-    let done = (done-given files (Script graph first second) (task.Script named s t) status output (ap (loaded_as script_task) held) gives).1 (ds, dt) in
-    let r = scripted named s t status output done (of_held script_task (trees_given files graph first second) (named, (s, t)) status output held gives) in
+    let done = (done-given files (OnTrees Script graph first second) (task.OnTrees Script named s t) status output (ap (loaded_as (on_trees Script)) held) gives).1 (ds, dt) in
+    let r = scripted named s t status output done (of_held (on_trees Script) (trees_given files graph first second) (named, (s, t)) status output held gives) in
     (done, record { moves = r.moves; turns = r.script.turns; stands = r.stands })
 
 -- `ears`: an ear list
@@ -190,4 +187,4 @@ eared named status output read cov (inl made) = (
 )
 
 pub told-ears : (files : List Named) (graph : List ℕ) (named : NamedGraph) (status : Status) (output : List ℕ) → graph_file files graph ≡ All named → IsCovered named.graph → Outcome (codes "ears" ∷ graph ∷ []) files status output → (status ≡ Done) × TellsEars named.graph output
-told-ears files graph named status output held cov gives = eared named status output (graph-read files graph named held) cov (of_held task.Ears (graph_file files graph) named status output held gives)
+told-ears files graph named status output held cov gives = eared named status output (graph-read files graph named held) cov (of_held (task.OnGraph Ears) (graph_file files graph) named status output held gives)

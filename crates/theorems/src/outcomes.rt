@@ -14,7 +14,15 @@ ghost use Rattle.tree_check.specs.Refusals.{HasShores};
 ghost use Rattle.ear_core.specs.EarLists.{PlainEars};
 ghost use Rattle.bench_tasks.specs.Commands.{Command, command_of};
 ghost use Rattle.bench_tasks.specs.Loading.{Absent, All, graph_file, loaded, pick_file, trees_given};
-ghost use Rattle.bench_tasks.specs.Tasks.{Analyse, Analyse6, Check, CheckEars, Compare, Convert, Decompose, DecomposeBy, Ears, Grow, Replay, Script, Task};
+ghost use Rattle.bench_tasks.specs.Tasks.{OnEars, OnGraph, OnMoves, OnNumbers, OnPicks, OnSimpleGraph, OnTree, OnTrees, Task};
+ghost use Rattle.bench_tasks.specs.declared.verbs.GraphVerb.TheVariants.{Analyse, Convert, Decompose, Ears};
+ghost use Rattle.bench_tasks.specs.declared.verbs.SimpleGraphVerb.TheVariants.{Analyse6};
+ghost use Rattle.bench_tasks.specs.declared.verbs.TreeVerb.TheVariants.{Check};
+ghost use Rattle.bench_tasks.specs.declared.verbs.PicksVerb.TheVariants.{DecomposeBy};
+ghost use Rattle.bench_tasks.specs.declared.verbs.EarsVerb.TheVariants.{CheckEars};
+ghost use Rattle.bench_tasks.specs.declared.verbs.MovesVerb.TheVariants.{Replay};
+ghost use Rattle.bench_tasks.specs.declared.verbs.TreesVerb.TheVariants.{Compare, Script};
+ghost use Rattle.bench_tasks.specs.declared.verbs.NumbersVerb.TheVariants.{Grow};
 ghost use Rattle.decomposer.specs.declared.orders.NamedOrder.{NamedOrder};
 ghost use Rattle.bench_outcomes.specs.Outcome.{Outcome, ResultOf};
 ghost use Rattle.bench_outcomes.specs.declared.status.Status.{Status};
@@ -83,36 +91,36 @@ pub fn headline_law()
 /// names a file that is missing.
 pub fn report_exists_law()
     ensures analyse { (named : NamedGraph) → IsMultigraph named.graph →
-        (status : Status) × (output : List ℕ) × ResultOf (Analyse named) status output }
+        (status : Status) × (output : List ℕ) × ResultOf (OnGraph Analyse named) status output }
     ensures analyse6 { (g : Graph) → IsMultigraph g →
-        (status : Status) × (output : List ℕ) × ResultOf (Analyse6 g) status output }
+        (status : Status) × (output : List ℕ) × ResultOf (OnSimpleGraph Analyse6 g) status output }
     ensures convert { (named : NamedGraph) → IsGiven named →
-        (status : Status) × (output : List ℕ) × ResultOf (Convert named) status output }
+        (status : Status) × (output : List ℕ) × ResultOf (OnGraph Convert named) status output }
     ensures decompose { (named : NamedGraph) (order : NamedOrder) → IsGiven named →
         (status : Status) × (output : List ℕ) ×
-        ResultOf (Decompose named order) status output }
+        ResultOf (OnGraph (Decompose order) named) status output }
     ensures decompose_by { (named : NamedGraph) (picks : List ℕ) → IsGiven named →
         (status : Status) × (output : List ℕ) ×
-        ResultOf (DecomposeBy named picks) status output }
+        ResultOf (OnPicks DecomposeBy named picks) status output }
     ensures check { (named : NamedGraph) (t : Shape) → IsMultigraph named.graph →
         HasShores named.graph.order t →
-        (status : Status) × (output : List ℕ) × ResultOf (Check named t) status output }
+        (status : Status) × (output : List ℕ) × ResultOf (OnTree Check named t) status output }
     ensures check_ears { (named : NamedGraph) (list : PlainEars) → IsMultigraph named.graph →
         Within (size named.graph) list.start →
-        (status : Status) × (output : List ℕ) × ResultOf (CheckEars named list) status output }
+        (status : Status) × (output : List ℕ) × ResultOf (OnEars CheckEars named list) status output }
     ensures ears { (named : NamedGraph) → IsMultigraph named.graph →
-        (status : Status) × (output : List ℕ) × ResultOf (Ears named) status output }
+        (status : Status) × (output : List ℕ) × ResultOf (OnGraph Ears named) status output }
     ensures replay { (named : NamedGraph) (t : Shape) (moves : List PlainMove) →
         IsMultigraph named.graph → HasShores named.graph.order t →
-        (status : Status) × (output : List ℕ) × ResultOf (Replay named t moves) status output }
+        (status : Status) × (output : List ℕ) × ResultOf (OnMoves Replay named t moves) status output }
     ensures compare { (named : NamedGraph) (s t : Shape) → IsMultigraph named.graph →
         HasShores named.graph.order s → HasShores named.graph.order t →
-        (status : Status) × (output : List ℕ) × ResultOf (Compare named s t) status output }
+        (status : Status) × (output : List ℕ) × ResultOf (OnTrees Compare named s t) status output }
     ensures script { (named : NamedGraph) (s t : Shape) → IsGiven named →
         HasShores named.graph.order s → HasShores named.graph.order t →
-        (status : Status) × (output : List ℕ) × ResultOf (Script named s t) status output }
+        (status : Status) × (output : List ℕ) × ResultOf (OnTrees Script named s t) status output }
     ensures grow { (seed pieces : ℕ) →
-        (status : Status) × (output : List ℕ) × ResultOf (Grow seed pieces) status output }
+        (status : Status) × (output : List ℕ) × ResultOf (OnNumbers Grow seed pieces) status output }
     ensures task { (files : List Named) (command : Command) (task : Task) →
         loaded files command ≡ All task →
         (status : Status) × (output : List ℕ) × ResultOf task status output }

@@ -2,6 +2,7 @@ use Rattle.std.proofs.Common.{◌∙◌, ℕ, ◌≤◌, List, ap, refl, sym, su
 use Rattle.std.proofs.lemmas.List.{length-map}
 use Rattle.graph_core.specs.Graph.{Graph, size}
 use Rattle.graph_text.specs.Writing.{graph_text}
+use Rattle.tree_core.specs.Derivations.{IsDerivation}
 use Rattle.tree_core.specs.Leaves.{leaves}
 use Rattle.tree_core.specs.View.{shape_of}
 use Rattle.graph_core.specs.Partitions.{singles}
@@ -28,7 +29,7 @@ pub overflow_cast-pairs : goal.overflow_cast-pairs
 overflow_cast-pairs c =
     let t = shape_of c.in_ok-first.first in
     let limits = c.in_ok-g.ensures.within_limits in
-    let nodes = few-nodes c.in_ok-g.g t limits.multigraph.ends limits.vertices c.in_ok-first.ensures.derivation in
+    let nodes = few-nodes c.in_ok-g.g t limits.multigraph.ends limits.vertices (subst (λ (g : Graph). IsDerivation g t) c.in_ok-covered.ensures c.in_ok-first.ensures.derivation) in
     let listed = length-leaves_at c.in_ok-g.g.order (singles c.in_ok-g.g.order) t in
     let cuts = leaf_count-cuts t in
     let all = node_count-cuts t in
@@ -43,13 +44,14 @@ returns c =
     let t = shape_of c.in_ok-last.last in
     let maps = maps_of c.in_ok-pairing.pairing.maps in
     let is = c.in_ok-g.ensures.graph in
+    let known = c.in_ok-covered.ensures ∙ is in
     record {
       s = s;
       first = c.in_ok-first.first_tally;
-      by_first = subst (λ (g : Graph). IsCounted (NamedPicks First) g s c.in_ok-first.first_tally) is c.in_ok-first.ensures;
+      by_first = subst (λ (g : Graph). IsCounted (NamedPicks First) g s c.in_ok-first.first_tally) known c.in_ok-first.ensures;
       t = t;
       last = c.in_ok-last.last_tally;
-      by_last = subst (λ (g : Graph). IsCounted (NamedPicks Last) g t c.in_ok-last.last_tally) is c.in_ok-last.ensures;
+      by_last = subst (λ (g : Graph). IsCounted (NamedPicks Last) g t c.in_ok-last.last_tally) known c.in_ok-last.ensures;
       pairs = c.len-pairs.result;
       paired = record {
         maps = maps;

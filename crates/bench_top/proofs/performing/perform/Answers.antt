@@ -2,9 +2,10 @@ use Rattle.std.proofs.Common.{List, ℕ, ◌≡◌, length, take, subst, ap, Err
 use Rattle.outside.specs.Sink.{IsCutOff, IsWritten, appended}
 use Rattle.bench_tasks.specs.Asked.{asked}
 use Rattle.bench_tasks.specs.Loading.{loaded}
-use Rattle.bench_tasks.specs.Reads.{file_names}
+use Rattle.bench_tasks.specs.Files.{file_names}
 use Rattle.bench_tasks.specs.Loads.{task_of}
 use Rattle.bench_top.proofs.ReadsMade.{absent-fault, first-reads}
+use Rattle.bench_top.proofs.Refusals.{may-refuse}
 use Rattle.bench_top.proofs.Stops.{is-stop, reported-bad, stops-after, unread}
 use Rattle.bench_outcomes.specs.Outcome.{LoadedGives}
 use Rattle.bench_top.specs.Writes.{GivesTold}
@@ -22,6 +23,10 @@ returns-in-Ok-clause-asks g c =
 pub returns-clause-asks : goal.returns-clause-asks
 returns-clause-asks g c =
     first-reads g.S.Shelf.reads (file_names (asked c.args.command)) c.args.shelf.now c.gather-gathered.new.shelf c.gather-gathered.result c.gather-gathered.ensures.reads
+
+pub returns-in-Ok-emit-clause-negative : goal.returns-in-Ok-emit-clause-negative
+returns-in-Ok-emit-clause-negative g c = λ negative.
+    may-refuse (asked c.args.command) c.gather-gathered.result c.gather-gathered.ensures.asked (c.in-Ok.ensures.refuses negative)
 
 pub returns-clause-missing : goal.returns-clause-missing
 returns-clause-missing g c = λ files told fault steady.

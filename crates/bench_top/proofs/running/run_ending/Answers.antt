@@ -5,11 +5,17 @@ use Rattle.bench_tasks.specs.Asked.{asked}
 use Rattle.bench_tasks.specs.Commands.{Command, command_of}
 use Rattle.bench_tasks.specs.Loading.{All, Absent, loaded}
 use Rattle.bench_outcomes.specs.Outcome.{CommandGives, CutShort}
+use Rattle.bench_outcomes.specs.Refusing.{MayRefuse}
 use Rattle.bench_tasks.specs.Reads.{names_in}
 use Rattle.bench_top.specs.Endings.{IsStopOf, StopsAfter}
 use Rattle.bench_top.specs.Writes.{GivesTold, WritesAs}
 use Rattle.bench_top.proofs.Completeness.{done-given, done-or_memory}
 use Rattle.bench_top.proofs.running.run_ending.Goals as goal
+
+pub returns-in-Some-clause-negative : goal.returns-in-Some-clause-negative
+returns-in-Some-clause-negative g c = λ negative.
+    let row : Some (asked c.in-Some.command) ≡ command_of (map string_bytes c.args.words.now) = search rules in
+    subst MayRefuse row (c.perform.ensures.negative negative)
 
 pub returns-in-Some-clause-cut : goal.returns-in-Some-clause-cut
 returns-in-Some-clause-cut g c = λ files told fault.

@@ -1,0 +1,34 @@
+-- The files of a command: the one table that says which files it reads, in which order, and as
+-- what.
+use Rattle.std.specs.Prelude.{ℕ, ◌==◌, List, [], ◌∷◌, map, slice_get, if◌then◌else◌}
+use Rattle.std.specs.declared.option.Option.{Option}
+use Rattle.std.specs.declared.option.Option.TheVariants.{None}
+use Rattle.bench_tasks.specs.Commands.{Command, OnGraph, OnSimpleGraph, OnTree, OnPicks, OnEars, OnMoves, OnTrees, OnNumbers}
+use Rattle.bench_tasks.specs.declared.files.FileKind.{FileKind}
+use Rattle.bench_tasks.specs.declared.files.FileKind.TheVariants as kind
+
+-- a file of a command: its name, and what it is read as
+abbrev pub File : Type 0
+File = List ℕ × FileKind
+
+-- the files of a command, in the order of the words
+abbrev pub files_of : Command → List File
+files_of (OnGraph verb graph) = (graph, kind.Graph) ∷ []
+files_of (OnSimpleGraph verb graph) = (graph, kind.Graph6) ∷ []
+files_of (OnTree verb graph tree) = (graph, kind.Graph) ∷ (tree, kind.Tree) ∷ []
+files_of (OnPicks verb graph picks) = (graph, kind.Graph) ∷ (picks, kind.Picks) ∷ []
+files_of (OnEars verb graph ears) = (graph, kind.Graph) ∷ (ears, kind.Ears) ∷ []
+files_of (OnMoves verb graph tree moves) = (graph, kind.Graph) ∷ (tree, kind.Tree) ∷ (moves, kind.Moves) ∷ []
+files_of (OnTrees verb graph first second) = (graph, kind.Graph) ∷ (first, kind.Tree) ∷ (second, kind.Tree) ∷ []
+files_of (OnNumbers verb seed pieces) = []
+
+-- the names of the files of a command, in the order of the words
+abbrev pub file_names : Command → List (List ℕ)
+file_names command = map (λ (file : File). file.0) (files_of command)
+
+-- the file at that place, which is 1, 2 or 3
+abbrev pub file_at : Command → ℕ → Option File
+file_at command place =
+    if place == 1 then slice_get (files_of command) 0 else
+    if place == 2 then slice_get (files_of command) 1 else
+    if place == 3 then slice_get (files_of command) 2 else None
