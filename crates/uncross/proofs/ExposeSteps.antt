@@ -25,11 +25,11 @@ stage_of g n p is e list cov =
     record { graph = is; list = at; covered = covered_down g p is at.partition cov }
 
 -- a derivation at the root of which there is a shore to expose is not a leaf
-pub leaf_exposes : (g : Graph) (n : ℕ) (p : List (List ℕ)) (y : List ℕ) (s : Shape) (t : Shape) (o : Option (List ℕ)) → IsGraph g → n ≡ g.order → IsPartition n p → IsCovered (quotient g p) → s ≡ leaf → IsDerivationAt g p s → o ≡ Some y → CutIf g p o → IsExposed g p s o t None
-leaf_exposes g n p y s t o is e list cov l d so c =
+pub leaf_exposes : (g : Graph) (n : ℕ) (p : List (List ℕ)) (y : List ℕ) (s : Shape) (o : Option (List ℕ)) → IsGraph g → n ≡ g.order → IsPartition n p → IsCovered (quotient g p) → s ≡ leaf → IsDerivationAt g p s → o ≡ Some y → CutIf g p o → ⊥
+leaf_exposes g n p y s o is e list cov l d so c =
     let st = stage_of g n p is e list cov in
     let cy = subst (CutIf g p) so c in
-    absurd (leaf_not g p y st (subst (IsDerivationAt g p) l d) (cut_big g p st y cy.set cy) cy.canonical)
+    leaf_not g p y st (subst (IsDerivationAt g p) l d) (cut_big g p st y cy.set cy) cy.canonical
 
 -- an exposed tree is a derivation, so it fits
 exposed_derives : (g : Graph) (p : List (List ℕ)) (s t : Shape) (o : Option (List ℕ)) (ms : Option (List PlainMove)) → IsDerivationAt g p s → IsExposed g p s o t ms → IsDerivationAt g p t

@@ -1,6 +1,6 @@
 -- What exposing a shore in a derivation of a graph gives: a script of few moves to a derivation
 -- with the shore at its root.
-use Rattle.std.proofs.Common.{List, None, Option, Some, ap, arith, option_map, subst, subst₂, sym, unwrap_or, ℕ, ◌≡◌, ◌∙◌}
+use Rattle.std.proofs.Common.{List, [], None, Option, Some, ap, arith, option_map, subst, subst₂, sym, unwrap_or, ℕ, ◌≡◌, ◌∙◌}
 use Rattle.graph_core.specs.Graph.{Graph}
 use Rattle.graph_core.specs.Partitions.{singles}
 use Rattle.tree_core.specs.MoveView.{moves_of}
@@ -37,9 +37,5 @@ brought g p s y t found other ms e h x k l is =
     record { script = subst (IsProperScript g p s (moves_of ms)) (sym same) up.script; few = up.few }
 
 -- and it is not a leaf
-pub brought_no_leaf : (g : Graph) (p : List (List ℕ)) (s : Shape) (y : List ℕ) (t : Shape) (found : Option (List Move)) (other ms : List Move) → ms ≡ unwrap_or found other → IsExposed g p s (Some y) t (option_map moves_of found) →
-    t ≡ leaf → (k l : Shape) → IsBrought g p s y k l (moves_of ms)
-brought_no_leaf g p s y t found other ms e h is k l =
-    let up = subst (λ (ns : List Move). IsRaised g p s y t (moves_of ns)) (sym e) (raised g p s y t found other h) in
-    let none = ap cut_count (sym is ∙ up.root.2) in
-    absurd (omega arith)
+pub brought_no_leaf : (g : Graph) (p : List (List ℕ)) (s : Shape) (y : List ℕ) (t : Shape) (found : Option (List Move)) → IsExposed g p s (Some y) t (option_map moves_of found) → t ≡ leaf → ⊥
+brought_no_leaf g p s y t found h is = let none = ap cut_count (sym is ∙ (raised g p s y t found [] h).root.2) in omega arith

@@ -1,20 +1,25 @@
--- Two pairings, one after the other, can be composed: each map of the first leads to a leaf of
--- the second, by names of blocks that have a place there.
-use Rattle.std.proofs.Common.{All, List, [], ◌∙◌, ◌∷◌, ap, ap₂, arith, get_or, length, map, refl, subst, subst₂, sym, ℕ, ◌+◌, ◌-◌, ◌≡◌, ◌≤◌}
-use Rattle.std.proofs.lemmas.List.{length-map}
+-- The maps so far, followed by the map of a move: each leads to a leaf by names of its blocks, which
+-- the move gives the names of their images.
+use Rattle.std.proofs.Common.{All, List, Option, Some, None, [], ◌∙◌, ◌∷◌, ap, ap₂, arith, get_or, length, map, refl, subst, suc, sym, ℕ, ◌+◌, ◌-◌, ◌≡◌, ◌≤◌}
+use Rattle.std.proofs.lemmas.List.{get_or-map}
 use Rattle.std.proofs.lemmas.List.Elements.{All-from_get_or}
 use Rattle.contraction.specs.Partition.{PartitionValue}
 use Rattle.counting.specs.Counts.{Within}
 use Rattle.graph_core.specs.Graph.{Graph}
-use Rattle.graph_core.specs.Partitions.{IsPartition, place}
-use Rattle.tree_core.specs.LeafMaps.{PlainLeafMap, leaf_at, map_at, move_maps, name, then_map}
+use Rattle.graph_core.specs.Partitions.{IsPartition, place, singles}
+use Rattle.tree_core.specs.LeafMaps.{PlainLeafMap, leaf_at, map_at, maps_from, move_maps, move_order, name, position, then_map}
 use Rattle.tree_core.specs.Leaves.{leaves, partitions_of}
-use Rattle.tree_core.specs.Moves.{PlainMove}
+use Rattle.tree_core.specs.Moves.{PlainMove, rotate_at, switch_at}
 use Rattle.tree_core.specs.Shapes.{Shape}
 use Rattle.move_laws.proofs.SameLeaves.{name_within}
-use Rattle.uncross.specs.Following.{IsFollowed, IsNamed, LeadsOn, blocks_of, led_on}
-use Rattle.uncross.specs.MapView.{map_of, maps_of}
-use Rattle.uncross.specs.declared.leaf_maps.LeafMap.{LeafMap}
+use Rattle.uncross.proofs.ExchangedLeaves.{exchanged, maps_by-at, names_by, names_nowhere, nowhere, nowhere-own}
+use Rattle.uncross.specs.Exchanges.{exchange_at, images_at}
+use Rattle.uncross.specs.Following.{IsMapInto, IsMapIntoIf, IsNameIn, IsSwitched, blocks_of, led_on, map_after, names_after}
+use Rattle.uncross.specs.MapView.{image_name}
+use Rattle.uncross.specs.declared.block_images.Images.{Images}
+use Rattle.uncross.specs.declared.block_images.Images.TheVariants.{Own}
+use Rattle.uncross.specs.declared.exchanges.Exchange.{Exchange}
+use Rattle.uncross.specs.declared.leaf_maps.Switched.{Switched}
 use Rattle.move_laws.specs.Pairings.{IsPairing}
 use Rattle.move_laws.specs.SameLeaf.{IsSameLeaf, image}
 
@@ -22,52 +27,89 @@ use Rattle.move_laws.specs.SameLeaf.{IsSameLeaf, image}
 back : (k : ℕ) → k + 1 - 1 ≡ k
 back k = omega arith
 
--- a name of a block of q, which the names give a block of p
-named_by : (g : Graph) (p q : List (List ℕ)) (names given : List ℕ) → g.order ≤ 128 → IsPartition g.order q → IsSameLeaf g p q names → length given ≡ length q → (i : ℕ) → Within (length p) i → IsNamed q given (name names i)
-named_by g p q names given few qq same long i w =
-    let n = same.named i w in
-    let v = subst (Within g.order) n.1 (name_within g.order q qq.partition (image q names i) n.0) in
-    record { within = (v.0, omega arith); given = subst (λ k. Within k (place q (name names i))) (sym long) n.0 }
-
--- and so of all names
-all_named : (g : Graph) (p q : List (List ℕ)) (names given : List ℕ) → g.order ≤ 128 → IsPartition g.order q → IsSameLeaf g p q names → length given ≡ length q → All (IsNamed q given) names
-all_named g p q names given few qq same long = All-from_get_or (IsNamed q given) names 0 (λ k l.
+-- the names that make two leaves the same are names of blocks of the second
+names_in : (g : Graph) (p q : List (List ℕ)) (names : List ℕ) → g.order ≤ 128 → IsPartition g.order q → IsSameLeaf g p q names → All (IsNameIn q) names
+names_in g p q names few qq same = All-from_get_or (IsNameIn q) names 0 (λ k l.
     let one = same.one_each in let w : Within (length p) (k + 1) = (omega arith, omega arith) in
-    subst (λ j. IsNamed q given (get_or names j 0)) (back k) (named_by g p q names given few qq same long (k + 1) w))
+    subst (λ j. IsNameIn q (get_or names j 0)) (back k) (name_in (k + 1) w))
+  where
+    name_in : (i : ℕ) → Within (length p) i → IsNameIn q (name names i)
+    name_in i w =
+        let n = same.named i w in
+        let v = subst (Within g.order) n.1 (name_within g.order q qq.partition (image q names i) n.0) in
+        record { within = (v.0, omega arith); stands = n.0; last = n.1 }
 
--- a map of the first pairing
-followed_at : (g : Graph) (ps qs rs : List (List (List ℕ))) (first second : List PlainLeafMap) → g.order ≤ 128 → All (IsPartition g.order) qs → IsPairing g ps qs first → IsPairing g qs rs second → (i : ℕ) → Within (length ps) i → IsFollowed qs second (map_at first i)
-followed_at g ps qs rs first second few parts one two i w =
-    let j = (map_at first i).to in let wj = one.within i w in
-    record {
-      within = wj;
-      named = all_named g (leaf_at ps i) (leaf_at qs j) (map_at first i).images (map_at second j).images few (parts (j - 1) [] (omega arith)) (one.same i w) (two.same j wj).one_each;
-    }
-
--- two pairings can be composed
-pub followed : (g : Graph) (ps qs rs : List (List (List ℕ))) (first second : List PlainLeafMap) → g.order ≤ 128 → All (IsPartition g.order) qs → IsPairing g ps qs first → IsPairing g qs rs second → All (IsFollowed qs second) first
-followed g ps qs rs first second few parts one two = All-from_get_or (IsFollowed qs second) first (record { to = 0; images = [] }) (λ k l.
-    let each = one.one_each in let w : Within (length ps) (k + 1) = (omega arith, omega arith) in
-    subst (λ j. IsFollowed qs second (get_or first j (record { to = 0; images = [] }))) (back k) (followed_at g ps qs rs first second few parts one two (k + 1) w))
+-- the maps of a pairing lead to leaves of its second list
+pub paired_into : (g : Graph) (ps qs : List (List (List ℕ))) (maps : List PlainLeafMap) → g.order ≤ 128 → All (IsPartition g.order) qs → IsPairing g ps qs maps → All (IsMapInto qs) maps
+paired_into g ps qs maps few parts pairs = All-from_get_or (IsMapInto qs) maps (record { to = 0; images = [] }) (λ k l.
+    let each = pairs.one_each in let w : Within (length ps) (k + 1) = (omega arith, omega arith) in
+    subst (λ j. IsMapInto qs (get_or maps j (record { to = 0; images = [] }))) (back k) (at (k + 1) w))
+  where
+    at : (i : ℕ) → Within (length ps) i → IsMapInto qs (map_at maps i)
+    at i w =
+        let j = (map_at maps i).to in let wj = pairs.within i w in
+        record { within = wj; named = names_in g (leaf_at ps i) (leaf_at qs j) (map_at maps i).images few (parts (j - 1) [] (omega arith)) (pairs.same i w) }
 
 -- the blocks of partitions with these blocks
-pub blocks-partitions : (n : ℕ) (ps : List (List (List ℕ))) → blocks_of (partitions_of n ps) ≡ ps
-blocks-partitions n [] = refl
-blocks-partitions n (p ∷ ps) = ap (λ qs. p ∷ qs) (blocks-partitions n ps)
+pub blocks-partitions : (n : ℕ) (qs : List (List (List ℕ))) (parts : List PartitionValue) → parts ≡ partitions_of n qs → blocks_of parts ≡ qs
+blocks-partitions n qs parts are = ap blocks_of are ∙ same qs
+  where
+    same : (qs : List (List (List ℕ))) → blocks_of (partitions_of n qs) ≡ qs
+    same [] = refl
+    same (q ∷ qs) = ap (λ rest. q ∷ rest) (same qs)
 
--- the maps of a move, `seconds`, and the leaves ps of its tree, as the code has them
-module _ (n : ℕ) (t : Shape) (m : PlainMove) (maps : List PlainLeafMap) (seconds : List LeafMap) (ps : List PartitionValue) (are_maps : maps_of seconds ≡ move_maps n t m) (are_leaves : ps ≡ partitions_of n (leaves n t)) where
-  its_leaves : blocks_of ps ≡ leaves n t
-  its_leaves = ap blocks_of are_leaves ∙ blocks-partitions n (leaves n t)
+-- names of blocks that are their own images
+pub own-names_after : (n : ℕ) (q : List (List ℕ)) (names : List ℕ) → All (IsNameIn q) names → names_after n Own q names ≡ names
+own-names_after n q [] all = refl
+own-names_after n q (b ∷ names) all = ap₂ (λ (c : ℕ) (rest : List ℕ). c ∷ rest) (all 0 0 (omega arith)).last (own-names_after n q names (λ i d l. all (suc i) d (omega arith)))
 
-  -- there are as many maps as leaves
-  pub as_many : LeadsOn n t m maps → length seconds ≡ length ps
-  as_many on = sym (length-map seconds map_of) ∙ ap length are_maps ∙ on.one_each ∙ sym (ap length its_leaves) ∙ length-map ps (λ (p : PartitionValue). p.blocks)
+-- names of blocks whose images have names in the order of the blocks
+given-names_after : (n : ℕ) (images : Images) (q : List (List ℕ)) (names : List ℕ) → All (IsNameIn q) names → map (λ b. name (map (image_name n images) q) (place q b)) names ≡ names_after n images q names
+given-names_after n images q [] all = refl
+given-names_after n images q (b ∷ names) all =
+    let w = (all 0 0 (omega arith)).stands in
+    ap₂ (λ (c : ℕ) (rest : List ℕ). c ∷ rest) (get_or-map (image_name n images) q (place q b - 1) [] 0 (omega arith)) (given-names_after n images q names (λ i d l. all (suc i) d (omega arith)))
 
-  -- the maps so far may be followed by these
-  pub follows : LeadsOn n t m maps → All (IsFollowed (blocks_of ps) (maps_of seconds)) maps
-  follows on = subst₂ (λ (qs : List (List (List ℕ))) (ns : List PlainLeafMap). All (IsFollowed qs ns) maps) (sym its_leaves) (sym are_maps) on.followed
+-- a leaf's map, followed by maps that are made of the images of an exchange
+then-by : (n : ℕ) (o : List ℕ) (e : Exchange) (qs : List (List (List ℕ))) (m : PlainLeafMap) → IsMapInto qs m →
+    then_map qs (maps_from o 0 (names_by n e 0 qs)) m ≡ record { to = position o m.to; images = names_after n (images_at e m.to) (leaf_at qs m.to) m.images }
+then-by n o e qs m into =
+    let w = into.within in let i : 0 + (m.to - 1) + 1 ≡ m.to = omega arith in
+    let at : map_at (maps_from o 0 (names_by n e 0 qs)) m.to ≡ record { to = position o m.to; images = map (image_name n (images_at e m.to)) (leaf_at qs m.to) } =
+    maps_by-at o n e 0 qs (m.to - 1) (record { to = 0; images = [] }) (omega arith) ∙ ap (λ i. record { to = position o i; images = map (image_name n (images_at e i)) (leaf_at qs m.to) }) i in
+    ap (λ (s : PlainLeafMap). record { to = s.to; images = map (λ b. name s.images (place (leaf_at qs m.to) b)) m.images }) at
+    ∙ ap (λ (names : List ℕ). record { to = position o m.to; images = names }) (given-names_after n (images_at e m.to) (leaf_at qs m.to) m.images into.named)
 
-  -- and this is where they lead
-  pub leads_to : (after : List PlainLeafMap) → after ≡ map (then_map (blocks_of ps) (maps_of seconds)) maps → after ≡ led_on n t m maps
-  leads_to after e = e ∙ ap₂ (λ (qs : List (List (List ℕ))) (ns : List PlainLeafMap). map (then_map qs ns) maps) its_leaves are_maps
+-- maps that are equal at each item
+each : (f h : PlainLeafMap → PlainLeafMap) (P : PlainLeafMap → Type 0) → ((m : PlainLeafMap) → P m → f m ≡ h m) → (maps : List PlainLeafMap) → All P maps → map f maps ≡ map h maps
+each f h P same [] all = refl
+each f h P same (m ∷ maps) all = ap₂ (λ (c : PlainLeafMap) (rest : List PlainLeafMap). c ∷ rest) (same m (all 0 m (omega arith))) (each f h P same maps (λ i d l. all (suc i) d (omega arith)))
+
+-- the maps that a move leads on to, as the code makes them
+pub led : (n : ℕ) (t : Shape) (m : PlainMove) (s : Option Switched) (maps : List PlainLeafMap) → IsSwitched n t m s → All (IsMapInto (leaves n t)) maps → map (map_after n (move_order n m t) s) maps ≡ led_on n t m maps
+unfolding move_maps
+led n t (rotate_at path) None maps is all = each _ _ (IsMapInto (leaves n t)) step maps all
+  where
+    step : (m : PlainLeafMap) → IsMapInto (leaves n t) m → map_after n (move_order n (rotate_at path) t) None m ≡ then_map (leaves n t) (move_maps n t (rotate_at path)) m
+    step m into =
+        let o = move_order n (rotate_at path) t in let qs = leaves n t in let w = into.within in
+        ap (λ (names : List ℕ). record { to = position o m.to; images = names }) (sym (own-names_after n (leaf_at qs m.to) m.images into.named))
+        ∙ ap (λ (i : Images). record { to = position o m.to; images = names_after n i (leaf_at qs m.to) m.images }) (sym (nowhere-own 0 m.to (omega arith)))
+        ∙ sym (then-by n o (nowhere 0) qs m into)
+        ∙ ap (λ (ns : List (List ℕ)). then_map qs (maps_from o 0 ns) m) (names_nowhere n qs)
+led n t (rotate_at path) (Some s) maps is all = absurd is
+led n t (switch_at path u v) None maps is all = absurd is
+led n t (switch_at path u v) (Some s) maps is all = each _ _ (IsMapInto (leaves n t)) step maps all
+  where
+    step : (m : PlainLeafMap) → IsMapInto (leaves n t) m → map_after n (move_order n (switch_at path u v) t) (Some s) m ≡ then_map (leaves n t) (move_maps n t (switch_at path u v)) m
+    step m into =
+        let o = move_order n (switch_at path u v) t in let qs = leaves n t in
+        ap₂ (λ (e : Exchange) (ps : List (List (List ℕ))). record { to = position o m.to; images = names_after n (images_at e m.to) (leaf_at ps m.to) m.images }) is.1 (blocks-partitions n qs s.leaves is.0)
+        ∙ sym (then-by n o (exchange_at n path u v 0 t) qs m into)
+        ∙ ap (λ (ns : List (List ℕ)). then_map qs (maps_from o 0 ns) m) (exchanged n path u v 0 (singles n) t)
+
+-- the maps lead to leaves where a Switch asks for it
+pub into_if : (n : ℕ) (t : Shape) (m : PlainMove) (s : Option Switched) (maps : List PlainLeafMap) → IsSwitched n t m s → All (IsMapInto (leaves n t)) maps → All (IsMapIntoIf s) maps
+into_if n t m None maps is all = λ i d l. tt
+into_if n t (rotate_at path) (Some s) maps is all = absurd is
+into_if n t (switch_at path u v) (Some s) maps is all = subst (λ (qs : List (List (List ℕ))). All (IsMapInto qs) maps) (sym (blocks-partitions n (leaves n t) s.leaves is.0)) all

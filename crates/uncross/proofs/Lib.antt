@@ -5,9 +5,10 @@ pub mod ExposeSteps
 pub mod CompareSteps
 pub mod MappedSteps
 pub mod PlaceSteps
-pub mod MapLists
 pub mod BlockImages
 pub mod FollowedMaps
 pub mod ScriptSteps
 pub mod ExposedShores
 pub mod ParentPaths
+pub mod ExchangedLeaves
+pub mod OwnMaps

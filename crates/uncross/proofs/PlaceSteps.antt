@@ -5,8 +5,7 @@ use Rattle.std.proofs.lemmas.List.{at_drop_more}
 use Rattle.std.proofs.lemmas.Option.{get_or_from_slice_get, slice_get_within}
 use Rattle.std.specs.Prelude.{slice_get}
 use Rattle.counting.specs.Lists.{mem}
-use Rattle.graph_core.specs.Partitions.{place}
-use Rattle.tree_core.specs.LeafMaps.{name}
+use Rattle.graph_core.specs.Partitions.{block, place}
 
 -- by the block at place i, counted from 0
 place-next : (p : List (List ℕ)) (i v : ℕ) (b : List ℕ) → slice_get p i ≡ Some b → place (drop i p) v ≡ cond (mem b v) 1 (place (drop (i + 1) p) v + 1)
@@ -22,6 +21,6 @@ place-here p i v b t e test holds = place-next p i v b e ∙ ap (λ (s : Bool). 
 pub place-further : (p : List (List ℕ)) (i v : ℕ) (b : List ℕ) (t : Bool) → slice_get p i ≡ Some b → t ≡ mem b v → t ≡ false → place (drop i p) v ≡ place (drop (i + 1) p) v + 1
 place-further p i v b t e test fails = place-next p i v b e ∙ ap (λ (s : Bool). cond s 1 (place (drop (i + 1) p) v + 1)) (sym test ∙ fails)
 
--- the name at a place counted from 0
-pub name-at : (names : List ℕ) (p : List (List ℕ)) (v i : ℕ) → i + 1 ≡ place p v → get_or names i 0 ≡ name names (place p v)
-name-at names p v i e = let from_one : i ≡ place p v - 1 = omega arith in ap (λ (k : ℕ). get_or names k 0) from_one
+-- the block at a place counted from 0
+pub block-at : (p : List (List ℕ)) (v i : ℕ) (b : List ℕ) → i + 1 ≡ place p v → slice_get p i ≡ Some b → b ≡ block p (place p v)
+block-at p v i b e at = let from_one : i ≡ place p v - 1 = omega arith in sym (get_or_from_slice_get p i b [] at) ∙ ap (λ (k : ℕ). get_or p k []) from_one

@@ -1,5 +1,5 @@
 -- The maps of a script, move by move: what holds if some of its moves are made.
-use Rattle.std.proofs.Common.{List, Some, ap, arith, length, map, refl, subst, subst₂, sym, unwrap_or, ℕ, ◌∙◌, ◌∷◌, ◌≡◌, ◌≤◌}
+use Rattle.std.proofs.Common.{All, List, Some, ap, arith, length, map, refl, subst, subst₂, sym, unwrap_or, ℕ, ◌∙◌, ◌∷◌, ◌≡◌, ◌≤◌}
 use Rattle.counting.proofs.Counts.{count_complement}
 use Rattle.graph_core.proofs.Singles.{length-singles}
 use Rattle.graph_core.specs.Graph.{Graph, IsGraph}
@@ -14,13 +14,13 @@ use Rattle.tree_core.specs.LeafMaps.{PlainLeafMap, maps_after, move_maps, own_ma
 use Rattle.tree_core.specs.Leaves.{StandsAt, leaves}
 use Rattle.tree_core.specs.Moves.{PlainMove, move_result}
 use Rattle.tree_core.specs.Shapes.{Fits, Shape, cut, leaf, leaf_count}
-use Rattle.uncross.proofs.FollowedMaps.{followed}
+use Rattle.uncross.proofs.FollowedMaps.{paired_into}
 use Rattle.move_laws.proofs.MoveParts.{move_pairs}
 use Rattle.move_laws.proofs.Rising.{rising-derivation_at}
 use Rattle.move_laws.proofs.ScriptPairs.{own_pairs, pairing-then, script_pairs}
 use Rattle.move_laws.proofs.Scripts.{script_end}
 use Rattle.move_laws.proofs.SingleVertices.{singles_stage}
-use Rattle.uncross.specs.Following.{LeadsOn, led_on}
+use Rattle.uncross.specs.Following.{IsMapInto, led_on}
 use Rattle.move_laws.specs.Pairings.{IsPairing}
 use Rattle.move_laws.specs.Scripts.{IsProperScript}
 
@@ -75,10 +75,6 @@ module _ (g : Graph) (is : IsGraph g) (few : g.order ≤ 128) (n : ℕ) (same : 
     result : move_result n current m ≡ Some road.1.0
     result = ap (λ k. move_result k current m) same ∙ road.1.1
 
-    -- the same, with the result left open
-    pub made : (t : Shape) × (move_result n current m ≡ Some t)
-    made = (road.1.0, result)
-
     -- its maps pair the leaves
     next_pairs : IsPairing g (leaves g.order current) (leaves g.order road.1.0) (move_maps g.order current m)
     next_pairs = move_pairs g current road.1.0 m (singles_stage g is r.derives.covered) (rising-derivation_at g (singles g.order) current r.derives.derives) r.derives.derives road.1.2 road.1.1 road.1.3
@@ -94,14 +90,12 @@ module _ (g : Graph) (is : IsGraph g) (few : g.order ≤ 128) (n : ℕ) (same : 
           value = sym (ap (λ s. maps_after g.order s (map (then_map (leaves g.order current) (move_maps g.order current m)) maps) others) next) ∙ sym (ap (maps_after g.order current maps) e) ∙ r.value;
         }
 
-    -- the maps so far may be followed by those of the move
-    pub leads_on : LeadsOn n current m maps
-    leads_on = subst (λ (k : ℕ). LeadsOn k current m maps) (sym same) (record {
-      one_each = next_pairs.one_each;
-      followed = followed g (leaves g.order first) (leaves g.order current) (leaves g.order road.1.0) maps (move_maps g.order current m) few (partitions-leaves g current r.derives) r.pairs next_pairs;
-    })
+    -- the maps so far lead to leaves of the tree
+    pub leads : All (IsMapInto (leaves n current)) maps
+    leads = subst (λ (k : ℕ). All (IsMapInto (leaves k current)) maps) (sym same)
+        (paired_into g (leaves g.order first) (leaves g.order current) maps few (partitions-leaves g current r.derives) r.pairs)
 
-    -- and if they are, the same holds again
+    -- and if they are followed by those of the move, the same holds again
     pub step : (next : Shape) (after : List PlainLeafMap) → after ≡ led_on n current m maps → ((t : Shape) → move_result n current m ≡ Some t → next ≡ t) → Remains g first next ms others after
     step next after led moved =
         let new : next ≡ road.1.0 = moved road.1.0 result in

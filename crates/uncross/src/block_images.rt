@@ -102,8 +102,8 @@ fn set_if(test: bool, x: VSet) -> VSet
     if test { x } else { VSet::empty() }
 }
 
-// The name of a block's image.
-fn image_name(images: &Images, n: u32, block: VSet) -> u32
+/// The name of a block's image.
+pub fn image_name(images: &Images, n: u32, block: VSet) -> u32
     requires { n ≤ MOST_VERTICES }
     ensures { result ≡ image_name n images.now block }
 {

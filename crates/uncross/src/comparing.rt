@@ -63,12 +63,7 @@ fn bring(
     let Exposure { tree, moves } = expose_at(alloc, g, p, tree, Some(shore))?;
     let moves = moves.unwrap_or(Moves::new(alloc));
     match tree {
-        Tree::Leaf => Ok(Brought {
-            at,
-            kept: Tree::Leaf,
-            merged: Tree::Leaf,
-            moves,
-        }),
+        Tree::Leaf => unreachable!(),
         Tree::Cut { kept, merged, .. } => {
             let kept = Box::into_inner(kept);
             let merged = Box::into_inner(merged);

@@ -1,70 +1,79 @@
-//! What a move does below a node: how the blocks of the leaves there go over to blocks of their
-//! partners.
-ghost use Rattle.std.specs.Prelude.{◌≡◌, ◌≤◌, ◌++◌, ◌∷◌, ℕ, List, [], map};
-ghost use Rattle.tree_core.specs.Derivations.{kept_at, merged_at};
-ghost use Rattle.tree_core.specs.Shapes.{Shape, cut, leaf};
-ghost use Rattle.tree_core.specs.declared.path.Side.{Side};
-ghost use Rattle.uncross.specs.Exchanges.{exchanged_names};
-ghost use Rattle.uncross.specs.MapView.{image_name};
+//! What a Switch does to the leaves of a tree: which of them stand below its node, and how their
+//! blocks go over to blocks of their partners.
+ghost use Rattle.std.specs.Prelude.{◌≡◌, ◌≤◌, ◌+◌};
+ghost use Rattle.tree_core.specs.Shapes.{leaf_count};
+ghost use Rattle.tree_core.specs.View.{shape_of};
+ghost use Rattle.uncross.specs.Exchanges.{exchange_at, images_at};
 
 use crate::block_images::{Images, kept_images, merged_images};
-use tree_core::Side;
+use crate::leaf_orders::count_leaves;
+use tree_core::{Side, Tree};
 use vset_core::{MOST_VERTICES, VSet};
 
-/// What happens below a node.
-#[derive(Drop)]
-pub enum Exchange {
-    /// The blocks of all leaves below have these images.
-    Made(Images),
-    /// At the end of a path from the node two sets are exchanged.
-    Wanted {
-        /// What leaves the shore of the cut there.
-        u: VSet,
-        /// What comes in its place.
-        v: VSet,
-    },
+/// The leaves below the node of a Switch, by their numbers in preorder, counted from 1, and the
+/// images of their blocks.
+#[derive(Clone, Copy)]
+pub struct Exchange {
+    /// The last leaf before them.
+    pub before: u32,
+    /// The last leaf below `kept`.
+    pub middle: u32,
+    /// The last leaf below `merged`.
+    pub last: u32,
+    /// The images of the blocks below `kept`.
+    pub kept: Images,
+    /// The images of the blocks below `merged`.
+    pub merged: Images,
 }
 
 impl Exchange {
-    /// The images of the blocks, if the node is a leaf.
-    pub fn at_leaf(&self) -> Images
-        ensures { (n : ℕ) (path : List Side) (p : List (List ℕ)) →
-            exchanged_names n self.now path p leaf ≡ map (image_name n result) p ∷ [] }
+    /// The images of the blocks of leaf `i`.
+    pub fn images_at(&self, i: u32) -> Images
+        ensures { result ≡ images_at self.now i }
     {
-        match self {
-            Exchange::Made(images) => *images,
-            Exchange::Wanted { .. } => Images::Own,
+        if self.last < i {
+            Images::Own
+        } else if self.middle < i {
+            self.merged
+        } else if self.before < i {
+            self.kept
+        } else {
+            Images::Own
         }
     }
+}
 
-    /// If the node is a cut over 1 to `n` with this shore: the path after its first step, and
-    /// what happens below `kept` and below `merged`.
-    pub fn at_cut<'a>(
-        &self,
-        path: &'a [Side],
-        n: u32,
-        shore: VSet,
-    ) -> (&'a [Side], Exchange, Exchange)
-        requires { n ≤ MOST_VERTICES }
-        ensures { (p : List (List ℕ)) (a b : Shape) →
-            exchanged_names n self.now path.now p (cut shore a b) ≡
-            exchanged_names n result.1 result.0.now (kept_at n p shore) a ++
-            exchanged_names n result.2 result.0.now (merged_at n p shore) b }
-    {
-        match self {
-            Exchange::Made(images) => (path, Exchange::Made(*images), Exchange::Made(*images)),
-            Exchange::Wanted { u, v } => {
-                let (u, v) = (*u, *v);
-                let own = Exchange::Made(Images::Own);
-                match path.split_first() {
-                    None => {
-                        let kept = Exchange::Made(kept_images(n, shore, u, v));
-                        let merged = Exchange::Made(merged_images(n, shore, u, v));
-                        (path, kept, merged)
-                    }
-                    Some((Side::Kept, rest)) => (rest, Exchange::Wanted { u, v }, own),
-                    Some((Side::Merged, rest)) => (rest, own, Exchange::Wanted { u, v }),
-                }
+/// What a Switch of u and v at the end of the path does to the leaves of a tree over 1 to `n`,
+/// where k leaves stand before the tree.
+pub fn exchange_at(n: u32, path: &[Side], u: VSet, v: VSet, k: u32, tree: &Tree) -> Exchange
+    requires order { n ≤ MOST_VERTICES }
+    requires few { k + leaf_count (shape_of tree.now) ≤ 255 }
+    ensures { result ≡ exchange_at n path.now u v k (shape_of tree.now) }
+{
+    match tree {
+        Tree::Leaf => Exchange {
+            before: k,
+            middle: k,
+            last: k,
+            kept: Images::Own,
+            merged: Images::Own,
+        },
+        Tree::Cut {
+            shore,
+            kept,
+            merged,
+        } => {
+            let middle = k + count_leaves(kept);
+            match path.split_first() {
+                None => Exchange {
+                    before: k,
+                    middle,
+                    last: middle + count_leaves(merged),
+                    kept: kept_images(n, *shore, u, v),
+                    merged: merged_images(n, *shore, u, v),
+                },
+                Some((Side::Kept, rest)) => exchange_at(n, rest, u, v, k, kept),
+                Some((Side::Merged, rest)) => exchange_at(n, rest, u, v, middle, merged),
             }
         }
     }

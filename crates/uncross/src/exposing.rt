@@ -139,10 +139,7 @@ pub fn expose_at(
     g.keeps_limits();
     p.keeps_partition();
     match tree {
-        Tree::Leaf => Ok(Exposure {
-            tree: Tree::Leaf,
-            moves: None,
-        }),
+        Tree::Leaf => unreachable!(),
         Tree::Cut {
             shore: x,
             kept,

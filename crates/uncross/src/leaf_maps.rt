@@ -1,12 +1,14 @@
-//! Leaf maps: where each leaf of a tree goes, and its blocks; and what two of them, one after the
-//! other, give.
-ghost use Rattle.std.specs.Prelude.{◌≡◌, length, ◌+◌, All, IfOk, map};
+//! Leaf maps: where each leaf of a tree goes, and its blocks; and what they are after a move more.
+ghost use Rattle.std.specs.Prelude.{◌≡◌, ◌≤◌, ◌+◌, List, ℕ, length, All, IfOk, map};
 ghost use Rattle.counting.specs.Counts.{Within};
 ghost use Rattle.graph_core.specs.Partitions.{place};
-ghost use Rattle.tree_core.specs.LeafMaps.{name, then_map};
-ghost use Rattle.uncross.specs.Following.{IsFollowed, IsNamed, blocks_of};
+ghost use Rattle.tree_core.specs.LeafMaps.{PlainLeafMap, leaf_at, position};
+ghost use Rattle.uncross.specs.Following.{IsMapInto, IsMapIntoIf, IsNameIn, blocks_of, map_after, names_after};
+ghost use Rattle.uncross.specs.Exchanges.{images_at};
 ghost use Rattle.uncross.specs.MapView.{map_of, maps_of};
 
+use crate::block_images::{Images, image_name};
+use crate::exchanges::Exchange;
 use contraction::Partition;
 use graph_core::Numbers;
 use listed::Listed;
@@ -27,6 +29,27 @@ pub struct LeafMap {
 /// The maps of the leaves of a tree, in preorder.
 pub type LeafMaps = Listed<LeafMap>;
 
+/// A Switch, as it is before it is made.
+#[derive(Drop)]
+pub struct Switched {
+    /// The leaves of the tree.
+    pub leaves: Partitions,
+    /// What the Switch does to them.
+    pub exchange: Exchange,
+}
+
+// The place of a number in a list, counted from 1, and one past the end if it is not there.
+fn position_of(order: &[u32], i: u32) -> u32
+    requires { length order.now ≤ 255 }
+    ensures place { result ≡ position order.now i }
+    ensures within { result ≤ length order.now + 1 }
+{
+    match order.split_first() {
+        None => 1,
+        Some((j, rest)) => { if *j == i { 1 } else { position_of(rest, i) + 1 } }
+    }
+}
+
 // The place of the block that holds v, counted from 0, and the number of blocks if none does.
 fn index_of(p: &Partition, v: u32) -> usize
     requires { Within MOST_VERTICES v }
@@ -40,72 +63,94 @@ fn index_of(p: &Partition, v: u32) -> usize
     p.len()
 }
 
-// The names that the blocks of q with these names are given.
+// The names of the images of the blocks of q with these names.
 fn names_after(
     alloc: Global,
-    names: &[u32],
+    n: u32,
+    images: &Images,
     q: &Partition,
-    given: &[u32],
+    names: &[u32],
 ) -> Result<Numbers, Memory>
-    requires { All (IsNamed q.now.blocks given.now) names.now }
-    ensures { IfOk result
-        (λ images. images ≡ map (λ b. name given.now (place q.now.blocks b)) names.now) }
+    requires order { n ≤ MOST_VERTICES }
+    requires named { All (IsNameIn q.now.blocks) names.now }
+    ensures { IfOk result (λ after. after ≡ names_after n images.now q.now.blocks names.now) }
 {
-    let mut images = Numbers::new(alloc);
+    let mut after = Numbers::new(alloc);
     let mut rest = names;
     'names: while let Some((b, others)) = rest.split_first() {
-        images.push(given[index_of(q, *b)])?;
+        after.push(image_name(images, n, q.block(index_of(q, *b))))?;
         rest = others;
     }
-    Ok(images)
+    Ok(after)
 }
 
-// A leaf's map, followed by the map of its partner.
+// The names of the images of the blocks of leaf `to` with these names.
+fn images_after(
+    alloc: Global,
+    n: u32,
+    switched: &Switched,
+    to: u32,
+    names: Numbers,
+) -> Result<Numbers, Memory>
+    requires order { n ≤ MOST_VERTICES }
+    requires named { IsMapInto (blocks_of switched.now.leaves) (record { to = to; images = names }) }
+    ensures { IfOk result (λ after. after ≡
+        names_after n (images_at switched.now.exchange to)
+        (leaf_at (blocks_of switched.now.leaves) to) names) }
+{
+    match switched.exchange.images_at(to) {
+        Images::Own => Ok(names),
+        images => {
+            let leaf = switched.leaves.get(to as usize - 1);
+            names_after(alloc, n, &images, leaf, names.as_slice())
+        }
+    }
+}
+
+// A leaf's map, followed by a move with this order of the leaves, and with a Switch, if it is one.
 fn map_after(
     alloc: Global,
-    first: &LeafMap,
-    leaves: &Partitions,
-    seconds: &LeafMaps,
+    n: u32,
+    order: &[u32],
+    switched: &Option<Switched>,
+    m: LeafMap,
 ) -> Result<LeafMap, Memory>
-    requires one_each { length seconds.now ≡ length leaves.now }
-    requires followed { IsFollowed (blocks_of leaves.now) (maps_of seconds.now) (map_of first.now) }
+    requires order { n ≤ MOST_VERTICES }
+    requires short { length order.now ≤ 255 }
+    requires leads { IsMapIntoIf switched.now (map_of m) }
     ensures { IfOk result
-        (λ m. map_of m ≡ then_map (blocks_of leaves.now) (maps_of seconds.now) (map_of first.now)) }
+        (λ after. map_of after ≡ map_after n order.now switched.now (map_of m)) }
 {
-    let i = first.to as usize - 1;
-    let second = seconds.get(i);
-    let images = names_after(
-        alloc,
-        first.images.as_slice(),
-        leaves.get(i),
-        second.images.as_slice(),
-    )?;
+    let LeafMap { to, images } = m;
+    let images = match switched {
+        None => images,
+        Some(switched) => images_after(alloc, n, switched, to, images)?,
+    };
     Ok(LeafMap {
-        to: second.to,
+        to: position_of(order, to),
         images,
     })
 }
 
-/// Leaf maps followed by the leaf maps `seconds` of their partners, which stand at the partitions
-/// `leaves`.
-pub(crate) fn followed_by(
+/// Leaf maps, each followed by a move with this order of the leaves, and with a Switch, if it is
+/// one.
+pub(crate) fn maps_after(
     alloc: Global,
-    firsts: &LeafMaps,
-    leaves: &Partitions,
-    seconds: &LeafMaps,
+    n: u32,
+    order: &[u32],
+    switched: &Option<Switched>,
+    maps: LeafMaps,
 ) -> Result<LeafMaps, Memory>
-    requires one_each { length seconds.now ≡ length leaves.now }
-    requires followed { All (IsFollowed (blocks_of leaves.now) (maps_of seconds.now))
-        (maps_of firsts.now) }
+    requires order { n ≤ MOST_VERTICES }
+    requires short { length order.now ≤ 255 }
+    requires leads { All (IsMapIntoIf switched.now) (maps_of maps) }
     ensures { IfOk result
-        (λ maps. maps_of maps ≡ map (then_map (blocks_of leaves.now) (maps_of seconds.now))
-        (maps_of firsts.now)) }
+        (λ after. maps_of after ≡ map (map_after n order.now switched.now) (maps_of maps)) }
 {
-    let mut maps = LeafMaps::new(alloc);
-    let mut rest = firsts.as_slice();
-    'maps: while let Some((first, others)) = rest.split_first() {
-        maps.push(map_after(alloc, first, leaves, seconds)?)?;
-        rest = others;
+    let mut after = LeafMaps::new(alloc);
+    let mut rest = maps.into_items().into_iter();
+    'maps: while let Some(m) = rest.next() {
+        after.push(map_after(alloc, n, order, switched, m)?)?;
     }
-    Ok(maps)
+    Ok(after)
 }

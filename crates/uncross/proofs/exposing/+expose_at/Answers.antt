@@ -34,11 +34,11 @@ carry_out_over-requires t c =
     c.in_ok-at-in-Cut.ensures.kept.blocks c.in_ok-at-in-Cut.ensures.merged.blocks (ap shape_of c.into_inner-kept.ensures) (ap shape_of c.into_inner-merged.ensures) c.first.ensures c.second.ensures
     c.in_ok-inner-in-Cut.ensures c.in_ok-outer-in-Cut.ensures c.order.result c.order.ensures.is
 
-pub returns-in-Leaf : goal.returns-in-Leaf
-returns-in-Leaf t c = leaf_exposes c.args.g.now c.args.p.now.order c.args.p.now.blocks c.in-Some.y (shape_of c.args.tree) _ c.args.shore c.keeps_limits.ensures.multigraph.ends c.requires.order c.keeps_partition.ensures.partition c.requires.covered (ap shape_of c.in-Leaf.is) c.requires.derives c.in-Some.is c.requires.shore
+pub unreachable-requires : goal.unreachable-requires
+unreachable-requires t c = leaf_exposes c.args.g.now c.args.p.now.order c.args.p.now.blocks c.in-Some.y (shape_of c.args.tree) c.args.shore c.keeps_limits.ensures.multigraph.ends c.requires.order c.keeps_partition.ensures.partition c.requires.covered (ap shape_of c.in-Leaf.is) c.requires.derives c.in-Some.is c.requires.shore
 
-pub returns-in_ok-tree-in-Cut : goal.returns-in_ok-tree-in-Cut
-returns-in_ok-tree-in-Cut t c =
+pub returns : goal.returns
+returns t c =
     whole_exposed c.args.g.now c.args.p.now.order c.args.p.now.blocks c.in-Cut.x c.in-Some.y (shape_of c.in-Cut.kept.value) (shape_of c.in-Cut.merged.value) (shape_of c.args.tree) (plan_of c.plan_at-plan.result) c.args.shore
     c.keeps_limits.ensures.multigraph.ends c.requires.order c.keeps_partition.ensures.partition c.requires.covered (ap shape_of c.in-Cut.is) c.requires.derives c.in-Some.is c.requires.shore c.plan_at-plan.ensures
     c.in_ok-at-in-Cut.at.kept.blocks c.in_ok-at-in-Cut.at.merged.blocks (shape_of c.into_inner-kept.result) (shape_of c.into_inner-merged.result) (shape_of c.in_ok-inner-in-Cut.inner.tree) (shape_of c.in_ok-outer-in-Cut.outer.tree)

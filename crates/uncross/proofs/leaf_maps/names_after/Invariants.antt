@@ -1,13 +1,14 @@
 -- The names so far, followed by those of the rest, are all of them; and the rest are names of
 -- blocks.
-use Rattle.std.proofs.Common.{◌≡◌, ◌++◌, All, length, map, ℕ}
-use Rattle.graph_core.specs.Partitions.{place}
-use Rattle.tree_core.specs.LeafMaps.{name}
-use Rattle.uncross.specs.Following.{IsNamed}
+use Rattle.std.proofs.Common.{length, ℕ}
+use Rattle.graph_core.specs.Partitions.{block, place}
+use Rattle.uncross.proofs.MappedSteps.{IsMadeOf}
+use Rattle.uncross.specs.Following.{IsNameIn, names_after}
+use Rattle.uncross.specs.MapView.{image_name}
 use Rattle.uncross.proofs.leaf_maps.names_after.Given as goal
 
 abbrev pub invariant-names : goal.invariant-names
-invariant-names l = (map (λ (b : ℕ). name l.given (place l.q.blocks b)) l.names ≡ l.images ++ map (λ (b : ℕ). name l.given (place l.q.blocks b)) l.rest) × All (IsNamed l.q.blocks l.given) l.rest
+invariant-names l = IsMadeOf (λ (b : ℕ). image_name l.n l.images (block l.q.blocks (place l.q.blocks b))) (IsNameIn l.q.blocks) (names_after l.n l.images l.q.blocks l.names) l.after l.rest
 
 -- those left
 abbrev pub decreases-names : goal.decreases-names

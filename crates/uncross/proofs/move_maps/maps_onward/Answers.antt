@@ -1,14 +1,15 @@
+use Rattle.std.proofs.Common.{List, ap, map, ℕ, ◌∙◌}
 use Rattle.tree_core.specs.MoveView.{move_of}
 use Rattle.tree_core.specs.View.{shape_of}
-use Rattle.uncross.proofs.FollowedMaps.{as_many, follows, leads_to}
+use Rattle.uncross.proofs.FollowedMaps.{into_if, led}
+use Rattle.uncross.specs.Following.{map_after}
 use Rattle.uncross.specs.MapView.{maps_of}
 use Rattle.uncross.proofs.move_maps.maps_onward.Goals as goal
 
-pub followed_by-requires-clause-one_each : goal.followed_by-requires-clause-one_each
-followed_by-requires-clause-one_each c = as_many c.args.n (shape_of c.args.tree.now) (move_of c.args.m.now) (maps_of c.args.maps.now) c.in_ok-next.next c.in_ok-partitions.partitions c.in_ok-next.ensures c.in_ok-partitions.ensures c.requires.leads_on
-
-pub followed_by-requires-clause-followed : goal.followed_by-requires-clause-followed
-followed_by-requires-clause-followed c = follows c.args.n (shape_of c.args.tree.now) (move_of c.args.m.now) (maps_of c.args.maps.now) c.in_ok-next.next c.in_ok-partitions.partitions c.in_ok-next.ensures c.in_ok-partitions.ensures c.requires.leads_on
+pub maps_after-requires-clause-leads : goal.maps_after-requires-clause-leads
+maps_after-requires-clause-leads c = into_if c.args.n (shape_of c.args.tree.now) (move_of c.args.m.now) c.in_ok-switched.switched (maps_of c.args.maps) c.in_ok-switched.ensures c.requires.leads
 
 pub returns : goal.returns
-returns c = leads_to c.args.n (shape_of c.args.tree.now) (move_of c.args.m.now) (maps_of c.args.maps.now) c.in_ok-next.next c.in_ok-partitions.partitions c.in_ok-next.ensures c.in_ok-partitions.ensures (maps_of c.in_ok-after.after) c.in_ok-after.ensures
+returns c =
+    c.in_ok-after.ensures ∙ ap (λ (order : List ℕ). map (map_after c.args.n order c.in_ok-switched.switched) (maps_of c.args.maps)) (c.as_slice.ensures ∙ c.in_ok-order.ensures.order)
+    ∙ led c.args.n (shape_of c.args.tree.now) (move_of c.args.m.now) c.in_ok-switched.switched (maps_of c.args.maps) c.in_ok-switched.ensures c.requires.leads

@@ -1,7 +1,7 @@
 use Rattle.std.proofs.Common.{ap}
 use Rattle.tree_core.specs.MoveView.{move_of, moves_of}
 use Rattle.tree_core.specs.View.{shape_of}
-use Rattle.uncross.proofs.ScriptSteps.{fits, leads_on, leaves-few, made, stands, start, step}
+use Rattle.uncross.proofs.ScriptSteps.{fits, leads, leaves-few, stands, start, step}
 use Rattle.uncross.specs.MapView.{maps_of}
 use Rattle.uncross.proofs.move_maps.script_maps.Goals as goal
 
@@ -27,11 +27,8 @@ maps_onward-requires-clause-stands c = stands c.args.g.now c.keeps_limits.ensure
 pub maps_onward-requires-clause-few : goal.maps_onward-requires-clause-few
 maps_onward-requires-clause-few c = leaves-few c.args.g.now (shape_of c.moves.current) c.keeps_limits.ensures.multigraph.ends c.keeps_limits.ensures.vertices c.moves.invariant.derives
 
-pub maps_onward-requires-clause-made : goal.maps_onward-requires-clause-made
-maps_onward-requires-clause-made c = made c.args.g.now c.keeps_limits.ensures.multigraph.ends c.keeps_limits.ensures.vertices c.order-n.result c.order-n.ensures.is (shape_of c.args.tree.now) (shape_of c.moves.current) (moves_of c.args.moves.now) (moves_of c.moves.rest.now) (moves_of c.in-Some.others.now) (move_of c.in-Some.m.now) (maps_of c.moves.maps) c.moves.invariant (ap moves_of c.in-Some.ensures.cases.0)
-
-pub maps_onward-requires-clause-leads_on : goal.maps_onward-requires-clause-leads_on
-maps_onward-requires-clause-leads_on c = leads_on c.args.g.now c.keeps_limits.ensures.multigraph.ends c.keeps_limits.ensures.vertices c.order-n.result c.order-n.ensures.is (shape_of c.args.tree.now) (shape_of c.moves.current) (moves_of c.args.moves.now) (moves_of c.moves.rest.now) (moves_of c.in-Some.others.now) (move_of c.in-Some.m.now) (maps_of c.moves.maps) c.moves.invariant (ap moves_of c.in-Some.ensures.cases.0)
+pub maps_onward-requires-clause-leads : goal.maps_onward-requires-clause-leads
+maps_onward-requires-clause-leads c = leads c.args.g.now c.keeps_limits.ensures.multigraph.ends c.keeps_limits.ensures.vertices c.order-n.result c.order-n.ensures.is (shape_of c.args.tree.now) (shape_of c.moves.current) (moves_of c.args.moves.now) (moves_of c.moves.rest.now) (moves_of c.in-Some.others.now) (move_of c.in-Some.m.now) (maps_of c.moves.maps) c.moves.invariant (ap moves_of c.in-Some.ensures.cases.0)
 
 pub moved-current-requires : goal.moved-current-requires
 moved-current-requires c = fits c.args.g.now c.keeps_limits.ensures.multigraph.ends c.keeps_limits.ensures.vertices c.order-n.result c.order-n.ensures.is (shape_of c.moves.current) c.moves.invariant.derives
