@@ -115,15 +115,21 @@ pub simple-graph_of : (body : List ℕ) → IsSimple (graph_of body)
 unfolding graph_of
 simple-graph_of body = simple_from_distinct (graph_of body) (distinct_chosen (column_pairs (order_of body)) (bits_of (data_of body)) (distinct_column_pairs (order_of body)))
 
-pub canonical : (text : List ℕ) (g : Graph) → body_of text ≡ text → outcome_of text ≡ Ok g → IsSimple g × (graph6_of g ≡ text)
+-- what a text holds without header and line end is the text of its graph
+pub canonical_body : (text : List ℕ) (g : Graph) → outcome_of text ≡ Ok g → IsSimple g × (graph6_of g ≡ body_of text)
 unfolding graph6_of data_of graph_of
-canonical text g bare h =
+canonical_body text g h =
+    let body = body_of text in
     let a = accepted text g h in
-    let none : first_fault (faults_of text) ≡ None = ap (λ (body : List ℕ). first_fault (faults_of body)) (sym bare) ∙ a.0 in
-    let is : graph_of text ≡ g = ap graph_of (sym bare) ∙ a.1 in
-    let front = none-front (take 9 (faults_of text)) (drop 9 (faults_of text)) none in
-    let f = formed text front in
-    let last = all_fail (drop 9 (faults_of text)) (sym (first_fault-append (take 9 (faults_of text)) (drop 9 (faults_of text)) front) ∙ none) in
-    let written : graph6_of (graph_of text) ≡ text =
-    ap₂ ◌++◌ (size_taken text f) (data_taken text f last.0) ∙ take-append-drop (cond (is_long text) 4 1) text in
-    (subst IsSimple is (simple-graph_of text), ap graph6_of (sym is) ∙ written)
+    let front = none-front (take 9 (faults_of body)) (drop 9 (faults_of body)) a.0 in
+    let f = formed body front in
+    let last = all_fail (drop 9 (faults_of body)) (sym (first_fault-append (take 9 (faults_of body)) (drop 9 (faults_of body)) front) ∙ a.0) in
+    let written : graph6_of (graph_of body) ≡ body =
+    ap₂ ◌++◌ (size_taken body f) (data_taken body f last.0) ∙ take-append-drop (cond (is_long body) 4 1) body in
+    (subst IsSimple a.1 (simple-graph_of body), ap graph6_of (sym a.1) ∙ written)
+
+pub bare_written : (text : List ℕ) (g : Graph) → outcome_of text ≡ Ok g → body_of text ≡ graph6_of g
+bare_written text g h = sym (canonical_body text g h).1
+
+pub canonical : (text : List ℕ) (g : Graph) → body_of text ≡ text → outcome_of text ≡ Ok g → IsSimple g × (graph6_of g ≡ text)
+canonical text g bare h = let c = canonical_body text g h in (c.0, c.1 ∙ bare)

@@ -23,7 +23,7 @@ pub fn to_bits(alloc: Global, bytes: &[u8]) -> Result<Vec<bool>, Memory>
     requires { IsTrue (list_all is_digit bytes.now) }
     ensures { IfOk result (λ v. v.items ≡ bits_of bytes.now) }
 {
-    let mut bits = Vec::new(alloc);
+    let mut bits = Vec::with_capacity(alloc, bytes.len().saturating_mul(6))?;
     for byte in bytes {
         push_bits(&mut bits, *byte - ZERO)?;
     }

@@ -2,7 +2,8 @@
 //! a simple graph.
 //!
 //! `read_graph6` answers the graph that a text stands for, or the line and the kind of its first
-//! fault. `write_graph6` answers the text of a simple graph.
+//! fault. `write_graph6` answers the text of a simple graph, and `bare_text` the same from a text
+//! that stands for it.
 //!
 //! Main definitions: `outcome_of`, which is a table of eleven faults in their order and else a
 //! graph (specs/Reading); `graph6_of`, the size and then one bit for each pair of vertices,
@@ -25,5 +26,5 @@ mod read;
 mod write;
 
 pub use laws::{canonical_law, read_back_law};
-pub use read::read_graph6;
+pub use read::{bare_text, read_graph6};
 pub use write::write_graph6;

@@ -10,7 +10,8 @@ use std::alloc::{AllocError as Memory, Global};
 pub fn to_pairs(alloc: Global, n: u32) -> Result<Vec<Ends>, Memory>
     ensures { IfOk result (λ pairs. map pair_of pairs.items ≡ column_pairs n) }
 {
-    let mut pairs = Vec::new(alloc);
+    let most = (n as usize).saturating_mul(n as usize) / 2;
+    let mut pairs = Vec::with_capacity(alloc, most)?;
     for b in 1..=n {
         push_column(&mut pairs, b)?;
     }

@@ -1,13 +1,14 @@
 //! Reading graph6 texts.
-ghost use Rattle.std.specs.Prelude.{◌≡◌, ◌≤◌, ◌++◌, [], ◌∷◌, IfOk, IfErr, OnOk, None, length, drop, map, take};
+ghost use Rattle.std.specs.Prelude.{◌≡◌, ◌≤◌, ◌++◌, [], ◌∷◌, IfOk, IfErr, Ok, OnOk, None, length, drop, map, take};
 ghost use Rattle.std.specs.List.{list_any};
 ghost use Rattle.text_faults.specs.Faults.{IsFault};
-ghost use Rattle.graph_core.specs.Graph.{size};
+ghost use Rattle.graph_core.specs.Graph.{Graph, size};
 ghost use Rattle.graph_core.specs.Simple.{IsSimple};
 ghost use Rattle.graph_core.specs.View.{pair_of};
 ghost use Rattle.graph6_text.specs.Pairs.{chosen, chosen_one};
 ghost use Rattle.graph6_text.specs.Checks.{limit_row, Checks, IsFirstFault};
 ghost use Rattle.graph6_text.specs.Reading.{outcome_of, graph_of, faults_of, first_fault};
+ghost use Rattle.graph6_text.specs.Writing.{graph6_of};
 
 use crate::body::{body, data, order};
 use crate::checks::{check_body, fault};
@@ -33,6 +34,15 @@ pub fn read_graph6(alloc: Global, bytes: &[u8]) -> Result<MultiGraph, TextFault>
     let body = body(bytes);
     check_body(body)?;
     to_graph(alloc, body)
+}
+
+/// A text without the header and the line end that it may have. If the text stands for a graph,
+/// this is what `write_graph6` writes of it. Takes no memory.
+#[tactic(auto, using(crate::proofs::Canonical::bare_written))]
+pub fn bare_text(text: &[u8]) -> &[u8]
+    ensures { (g : Graph) → outcome_of text.now ≡ Ok g → result.now ≡ graph6_of g }
+{
+    body(text)
 }
 
 /// The graph of a body whose size and length are checked.

@@ -1,3 +1,4 @@
+pub mod HeldMates
 pub mod Gallai
 pub mod TutteBerge
 pub mod OddComponents

@@ -19,7 +19,9 @@ use Rattle.graph_core.specs.Matchings.{HasPerfect, IsMatching, IsPerfect, has_pe
 use Rattle.graph_core.proofs.Decide.{has_perfect_found, has_perfect_says}
 use Rattle.graph_core.proofs.Edits.{missed_edges}
 use Rattle.graph_core.proofs.Perfect.{missed_one, perfect_matching, perfect_misses}
+use mathlib.Core.Path.{fun_ext}
 use Rattle.match_search.specs.Frames.{Frame}
+use Rattle.match_search.specs.Missable.{IsMissableRow}
 use Rattle.match_search.specs.Optimal.{IsBest}
 use Rattle.match_core.specs.Partners.{AreEmptyRows, ArePartners, are_partners}
 use Rattle.match_search.specs.Rows.{marks}
@@ -174,18 +176,30 @@ module _ (g : Graph) (is : IsGraph g) (r m outer inner : Set) (mm : IsMatching g
       let two = a.1 in
       omega arith
 
+-- u and then v are taken out
+both_out : (r : Set) (u v : ℕ) → union (union r (singleton u)) (singleton v) ≡ union r (pair_set u v)
+both_out r u v = fun_ext (λ w. assoc (r w) (u == w) (v == w))
+  where
+    assoc : (a b d : Bool) → ((a || b) || d) ≡ (a || (b || d))
+    assoc a b d = grind arith
+
+-- the vertices that can be missed beside u are its partners
+pub missable-partners : (g : Graph) (is : IsGraph g) (r : Set) (u : ℕ) (row : List ℕ) → r u ≡ false → IsMissableRow g (union r (singleton u)) row → (v : ℕ) → Within g.order v → mem row v ≡ are_partners g r u v
+missable-partners g is r u row out missable v w = here ∙ ap (λ (s : Set). not (r v || (u == v)) && has_perfect g s) (both_out r u v) ∙ parts (r u) (r v) (u == v) (has_perfect g (union r (pair_set u v))) out
+  where
+    here : mem row v ≡ (not (r v || (u == v)) && has_perfect g (union (union r (singleton u)) (singleton v)))
+    here = elim (cases_eq (missed_count g (union r (singleton u)) missable.m) 1) [
+      | inl q ↦ missable.one q v ∙ outer-row g is (union r (singleton u)) missable.m missable.outer missable.inner missable.matching missable.frame q v w
+      | inr q ↦ missable.other q v ∙ sym (no_row g is (union r (singleton u)) missable.m missable.outer missable.inner missable.matching missable.frame q v w)
+    ]
+
+    parts : (a b d p : Bool) → a ≡ false → (not (b || d) && p) ≡ (not a && not b && not d && p)
+    parts a b d p h = grind arith
+
 -- what the engine answers, with the number of vertices that it misses, as the code counts them
 module _ (g : Graph) (is : IsGraph g) (r : Set) (b : Best) (best : IsBest g r b) (mark : List Bool) (missed : ℕ) (mark_is : mark ≡ b.mark.items) (missed_is : missed ≡ missed_count g r (marks mark)) where
   counted : missed ≡ missed_count g r (marks b.mark.items)
   counted = missed_is ∙ ap (λ row. missed_count g r (marks row)) mark_is
-
-  -- where one is missed, the outer vertices are the row
-  pub one_missed-row : missed ≡ 1 → (v : ℕ) → Within g.order v → mem b.sets.outer v ≡ (not (r v) && has_perfect g (union r (singleton v)))
-  one_missed-row one = outer-row g is r (marks b.mark.items) (mem b.sets.outer) (mem b.sets.inner) best.matching best.frame (sym counted ∙ one)
-
-  -- and else the row is empty
-  pub more_missed-row : missed ≢ 1 → (v : ℕ) → Within g.order v → (not (r v) && has_perfect g (union r (singleton v))) ≡ false
-  more_missed-row more = no_row g is r (marks b.mark.items) (mem b.sets.outer) (mem b.sets.inner) best.matching best.frame (λ q. more (counted ∙ q))
 
   -- no vertex has a partner where another number is missed than none or two
   no_partners : missed ≢ 0 → missed ≢ 2 → (u v : ℕ) → Within g.order u → Within g.order v → are_partners g r u v ≡ false

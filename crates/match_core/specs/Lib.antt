@@ -1,3 +1,4 @@
+pub mod HeldMates
 pub mod RepairWalks
 pub mod MatchingRows
 pub mod Partners

@@ -12,21 +12,24 @@
 //! can enlarge it, so the first step answers a frame, and the outer vertices of a frame are
 //! exactly those that some matching as large misses. Where two are missed, a row costs one
 //! augmentation more at most.
-ghost use Rattle.std.specs.Prelude.{◌≡◌, ℕ, ◌+◌, ◌-◌, ◌≤◌, ◌==◌, ◌&&◌, ◌||◌, not, true, length, IfOk};
+ghost use Rattle.std.specs.Prelude.{◌≡◌, ℕ, ◌+◌, ◌-◌, ◌≤◌, ◌==◌, ◌&&◌, ◌||◌, not, true, length, IfOk, OnOk};
 ghost use Rattle.counting.specs.Counts.{Within, count};
-ghost use Rattle.counting.specs.Sets.{none, singleton, union};
+ghost use Rattle.counting.specs.Sets.{Set, none};
 ghost use Rattle.counting.specs.Lists.{item, mem};
 ghost use Rattle.graph_core.specs.Graph.{size};
-ghost use Rattle.graph_core.specs.Matchings.{IsMatching, has_perfect, missed_count};
+ghost use Rattle.graph_core.specs.Matchings.{IsMatching, missed_count};
+ghost use Rattle.match_core.specs.HeldMates.{HoldsMates};
 ghost use Rattle.match_core.specs.MatchingRows.{IsOf};
+ghost use Rattle.match_search.specs.Mates.{HasMates};
 ghost use Rattle.match_search.specs.Optimal.{IsBest};
 ghost use Rattle.match_core.specs.Partners.{AreEmptyRows, ArePartners, are_partners};
-ghost use Rattle.match_search.specs.Rows.{marks};
+ghost use Rattle.match_search.specs.Rows.{marks, numbers};
+ghost use Rattle.match_search.specs.Shrinkings.{AreAlike};
 
 use crate::frames::maximum;
 use crate::matching::{Matching, matching_of};
 use graph_core::MultiGraph;
-use match_search::{Best, best_from};
+use match_search::{Best, Instance, best_from, instance_of, mates_of, missable_beside};
 use std::alloc::{AllocError as Memory, Global};
 use std::marker::Model;
 use vset_core::VSet;
@@ -74,8 +77,26 @@ pub fn partners(
     if !leaves_partners(missed_by(g, removed, &mark)) {
         return empty_rows(alloc, g.order());
     }
-    let most = matching_of(alloc, g, &mark)?;
-    rows_from(alloc, g, removed, &most)
+    let mate = mates_in(alloc, g, removed, &mark)?;
+    rows_from(alloc, g, removed, &mate)
+}
+
+// The mates of a matching of G - removed.
+fn mates_in(
+    alloc: Global,
+    g: &MultiGraph,
+    removed: VSet,
+    mark: &[bool],
+) -> Result<Vec<u32>, Memory>
+    requires long { length mark.now ≡ size g.now + 1 }
+    requires matching { IsMatching g.now (mem removed) (marks mark.now) }
+    ensures long { IfOk result (λ mate. length mate.items ≡ g.now.order + 1) }
+    ensures mates { IfOk result
+        (λ mate. HasMates g.now (mem removed) (marks mark.now) (numbers mate.items)) }
+{
+    let n = g.order();
+    let ends = g.edges();
+    mates_of(alloc, n, ends, mark)
 }
 
 // Whether there can be partners where a maximum matching misses so many vertices.
@@ -85,20 +106,23 @@ fn leaves_partners(missed: usize) -> bool
     missed == 0 || missed == 2
 }
 
-// The table with a search for each row.
+// The table with a search for each row, from the mates of a maximum matching.
+#[tactic(auto, using(crate::proofs::HeldMates::first_mates, crate::proofs::HeldMates::mates_alike))]
 fn rows_from(
     alloc: Global,
     g: &MultiGraph,
     removed: VSet,
-    m: &Matching,
+    mate: &[u32],
 ) -> Result<PartnerTable, Memory>
-    requires { IsOf g.now m.now }
+    requires long { length mate.now ≡ g.now.order + 1 }
+    requires mates { (m : Set) × HasMates g.now (mem removed) m (numbers mate.now) }
     ensures { IfOk result (ArePartners g.now (mem removed)) }
 {
     g.keeps_limits();
+    let mut instance = instance_of(alloc, g.rows(), removed)?;
     let mut rows = Vec::with_capacity(alloc, g.order() as usize)?;
     for k in 0..g.order() {
-        rows.push(partners_of(alloc, g, removed, m, k + 1)?)?;
+        rows.push(partners_of(alloc, g, &mut instance, removed, mate, k + 1)?)?;
     }
     Ok(PartnerTable { rows })
 }
@@ -120,47 +144,28 @@ pub fn all_partners(alloc: Global, g: &MultiGraph) -> Result<PartnerTable, Memor
     partners(alloc, g, VSet::empty(), &found.matching)
 }
 
-// The partners of one vertex.
+// The partners of one vertex: the vertices that matchings without it can miss alone. What is changed
+// of the instance is put back.
 fn partners_of(
     alloc: Global,
     g: &MultiGraph,
+    instance: &mut Instance,
     removed: VSet,
-    m: &Matching,
+    mate: &[u32],
     u: u32,
 ) -> Result<VSet, Memory>
-    requires of { IsOf g.now m.now }
+    requires held { HoldsMates g.now (mem removed) instance.old mate.now }
     requires vertex { Within g.now.order u }
     ensures within { IfOk result (λ row. (v : ℕ) → mem row v ≡ true → Within g.now.order v) }
     ensures row { IfOk result
         (λ row. (v : ℕ) → Within g.now.order v → mem row v ≡ are_partners g.now (mem removed) u v) }
+    ensures restored { OnOk result (AreAlike instance.old instance.new) }
 {
     g.keeps_limits();
     if removed.contains(u) {
         return Ok(VSet::empty());
     }
-    missable_alone(alloc, g, removed.with(u), m)
-}
-
-// The vertices without which G - removed has a perfect matching: the outer vertices of a maximum
-// matching that misses one.
-fn missable_alone(
-    alloc: Global,
-    g: &MultiGraph,
-    removed: VSet,
-    m: &Matching,
-) -> Result<VSet, Memory>
-    requires { IsOf g.now m.now }
-    ensures within { IfOk result (λ row. (v : ℕ) → mem row v ≡ true → Within g.now.order v) }
-    ensures row { IfOk result (λ row. (v : ℕ) → Within g.now.order v →
-        mem row v ≡ (not (mem removed v) &&
-        has_perfect g.now (union (mem removed) (singleton v)))) }
-{
-    g.keeps_limits();
-    let Best { mark, sets } = enlarged(alloc, g, removed, m)?;
-    if missed_by(g, removed, &mark) == 1 {
-        return Ok(sets.outer);
-    }
-    Ok(VSet::empty())
+    missable_beside(alloc, instance, mate, u)
 }
 
 // A maximum matching of G - removed, made from a matching of `g` less its edges at `removed`.

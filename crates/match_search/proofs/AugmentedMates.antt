@@ -12,11 +12,12 @@ use Rattle.match_search.specs.Blossoms.{IsMateStep}
 use Rattle.match_search.specs.Frames.{Frame}
 use Rattle.match_search.specs.Instances.{IsInstance}
 use Rattle.match_search.specs.Mates.{HasMates}
+use Rattle.match_search.specs.Missable.{HasFrame}
 use Rattle.match_search.specs.Optimal.{IsBest}
 use Rattle.match_search.specs.Rows.{marks, numbers}
 use Rattle.match_search.specs.declared.best.Best.{Best}
 use Rattle.match_search.specs.declared.instance.Instance.{Instance}
-use Rattle.match_search.specs.declared.answer.Answer.TheVariants.{Final, Grown}
+use Rattle.match_search.specs.declared.answer.Answer.TheVariants.{Grown}
 use Rattle.match_search.specs.Shrinkings.{AreAlike}
 use Rattle.match_search.proofs.Instances.{instance_alike}
 use Rattle.match_search.proofs.SameMates.{exposed_mates, same_mates_count}
@@ -51,11 +52,11 @@ module _ (g : Graph) (is : IsGraph g) (r f : Set) (s s' : Instance) (mate new : 
       let a = count_congr g.order (λ v. mem left v && (numbers new v == 0)) (λ v. not (r v) && (numbers new v == 0)) (λ v w. ap (λ b. b && (numbers new v == 0)) (are v w)) in
       let b = count_congr g.order (λ v. mem left v && (numbers mate v == 0)) (λ v. not (r v) && (numbers mate v == 0)) (λ v w. ap (λ b. b && (numbers mate v == 0)) (are v w)) in omega arith
 
--- marks with the mates of a last step, and its frame
-pub marked_best : (g : Graph) → IsGraph g → (r f : Set) (mate : List ℕ) (b : Best) (step : IsMateStep g r f mate (Final b.sets)) → length b.mark.items ≡ size g + 1 → HasMates g r (marks b.mark.items) (numbers mate) → IsBest g r b
-marked_best g is r f mate b step long has = record {
+-- marks with the mates of a frame
+pub framed_best : (g : Graph) → IsGraph g → (r : Set) (mate : List ℕ) (b : Best) (framed : HasFrame g r mate b.sets) → length b.mark.items ≡ size g + 1 → HasMates g r (marks b.mark.items) (numbers mate) → IsBest g r b
+framed_best g is r mate b framed long has = record {
   long = long;
   matching = has.matching;
-  frame = subst (λ k. Frame g r k (mem b.sets.outer) (mem b.sets.inner)) (sym step.answer.0 ∙ same_mates_count g is r step.m (marks b.mark.items) (numbers mate) step.mates has) step.answer.1;
-  sets = step.answer.2;
+  frame = subst (λ k. Frame g r k (mem b.sets.outer) (mem b.sets.inner)) (same_mates_count g is r framed.m (marks b.mark.items) (numbers mate) framed.mates has) framed.frame;
+  sets = framed.vertices;
 }

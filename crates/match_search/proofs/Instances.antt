@@ -105,6 +105,16 @@ whole_instance g r s is few rows members alone blossoms left = record {
 pub alike_self : (s : Instance) → AreAlike s s
 alike_self s = record { rows_long = refl; members_long = refl; rows = λ v w. refl; members = λ v w. refl; blossoms = refl; left = refl }
 
+pub alike_then : (s h k : Instance) → AreAlike s h → AreAlike h k → AreAlike s k
+alike_then s h k a b = record {
+  rows_long = b.rows_long ∙ a.rows_long;
+  members_long = b.members_long ∙ a.members_long;
+  rows = λ v w. b.rows v (let e = a.rows_long in omega arith) ∙ a.rows v w;
+  members = λ v w. b.members v (let e = a.members_long in omega arith) ∙ a.members v w;
+  blossoms = b.blossoms ∙ a.blossoms;
+  left = b.left ∙ a.left;
+}
+
 -- an instance that holds the same is one of the same graph
 pub instance_alike : (g : Graph) (r : Set) (s h : Instance) → IsInstance g r s → AreAlike s h → IsInstance g r h
 instance_alike g r s h is a = record {

@@ -37,3 +37,4 @@ pub mod WholeGraphs
 pub mod Gluing
 pub mod MarkedMates
 pub mod AugmentedMates
+pub mod MissableRows

@@ -13,3 +13,4 @@ pub mod GraphRows
 pub mod Steps
 pub mod Optimal
 pub mod Questions
+pub mod Missable

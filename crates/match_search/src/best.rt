@@ -1,17 +1,20 @@
 //! A maximum matching of G - removed, with the frame that shows it to be one: a matching is
 //! enlarged by one edge after the other until a step answers a frame instead. Each step leaves
 //! two exposed vertices less, so there are at most half as many as vertices.
-ghost use Rattle.std.specs.Prelude.{◌≡◌, ◌+◌, ◌==◌, ◌&&◌, not, length, IfOk};
+ghost use Rattle.std.specs.Prelude.{◌≡◌, ◌+◌, ◌==◌, ◌&&◌, not, length, IfOk, OnOk};
 ghost use Rattle.counting.specs.Counts.{Within};
 ghost use Rattle.counting.specs.Lists.{mem};
 ghost use Rattle.counting.specs.Sets.{Set};
+ghost use Rattle.graph_core.specs.Graph.{Graph};
 ghost use Rattle.graph_core.specs.Rows.{AreRows};
 ghost use Rattle.graph_core.specs.View.{graph_of};
 ghost use Rattle.graph_core.specs.Matchings.{IsMatching};
 ghost use Rattle.match_search.specs.AlternatingForests.{HoldsMatching};
 ghost use Rattle.match_search.specs.Rows.{marks};
 ghost use Rattle.match_search.specs.GraphRows.{IsGraphRow};
+ghost use Rattle.match_search.specs.Missable.{HasFrame};
 ghost use Rattle.match_search.specs.Optimal.{IsBest};
+ghost use Rattle.match_search.specs.Shrinkings.{AreAlike};
 
 use crate::alternating::AlternatingForest;
 use crate::answer::{Answer, FinalSets};
@@ -63,7 +66,7 @@ pub fn best_from(
     enlarge(alloc, n, ends, &mut instance, &mut mate)
 }
 
-// Enlarges a matching, given by its mates, until a step answers a frame.
+// The marks and the frame of a maximum matching, made from the mates of a matching.
 fn enlarge(
     alloc: Global,
     n: u32,
@@ -78,15 +81,30 @@ fn enlarge(
         HoldsMatching (graph_of n ends.now) r f instance.old mate.old →
         IsBest (graph_of n ends.now) r b) }
 {
+    let sets = last_frame(alloc, instance, mate)?;
+    let mark = marks_of(alloc, n, ends, mate)?;
+    Ok(Best { mark, sets })
+}
+
+/// Enlarges a matching, given by its mates, until a step answers a frame. What is shrunk meanwhile
+/// is put back.
+pub(crate) fn last_frame(
+    alloc: Global,
+    instance: &mut Instance,
+    mate: &mut [u32],
+) -> Result<FinalSets, Memory>
+    requires { (g : Graph) × (r : Set) × (f : Set) × HoldsMatching g r f instance.old mate.old }
+    ensures frame { IfOk result (λ sets. (g : Graph) (r f : Set) →
+        HoldsMatching g r f instance.old mate.old → HasFrame g r mate.new sets) }
+    ensures restored { OnOk result (AreAlike instance.old instance.new) }
+{
+    let n = instance.rows.len() as u32;
     'augmenting: loop {
         let left = instance.left;
         let unused = AlternatingForest::empty(alloc, n)?;
         match augment_once(alloc, instance, unused, left, mate)? {
             Answer::Grown => {}
-            Answer::Final(sets) => {
-                let mark = marks_of(alloc, n, ends, mate)?;
-                return Ok(Best { mark, sets });
-            }
+            Answer::Final(sets) => return Ok(sets),
         }
     }
 }

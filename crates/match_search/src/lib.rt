@@ -24,9 +24,13 @@ mod growing;
 mod instance;
 mod marked;
 mod mates;
+mod missable;
 mod rows;
 mod ways;
 
 pub use answer::FinalSets;
 pub use best::{Best, best_from, find_best, is_addable};
+pub use instance::{Instance, instance_of};
+pub use mates::mates_of;
+pub use missable::missable_beside;
 pub use rows::{falses, is_marked, mark_place, mark_places};

@@ -17,7 +17,6 @@
 #![tactic(auto)]
 
 mod critical;
-mod dominators;
 mod first_pairs;
 mod flood;
 mod laws;

@@ -6,7 +6,7 @@ use Rattle.graph6_text.proofs.pairs.to_pairs.Goals as goal
 use Rattle.graph6_text.proofs.pairs.to_pairs.Goals.{else-loop-b-test, then-loop-b-test+in_ok-push_column+else-b-n}
 
 pub loop-b-init : goal.loop-b-init
-loop-b-init c = (ap (map pair_of) c.new-pairs.ensures.items ∙ sym column_pairs-zero, omega arith)
+loop-b-init c = (ap (map pair_of) c.in_ok-pairs.ensures.items ∙ sym column_pairs-zero, omega arith)
 
 pub loop-b-preserved : goal.loop-b-preserved
 loop-b-preserved c =

@@ -1,11 +1,13 @@
 use Rattle.std.proofs.Common.{◌≡◌, ℕ, true, length}
 use Rattle.counting.specs.Counts.{Within}
 use Rattle.counting.specs.Lists.{item, mem}
+use Rattle.match_core.specs.HeldMates.{HoldsMates}
 use Rattle.match_core.specs.Partners.{are_partners}
 use Rattle.match_core.proofs.partner_table.rows_from.Given as goal
 
 abbrev pub invariant-loop-k : goal.invariant-loop-k
 invariant-loop-k l = record {
+  held : HoldsMates l.g (mem l.removed) l.instance l.mate;
   long : length l.rows.items ≡ l.k;
   within : (u v : ℕ) → Within l.k u → mem (item l.rows.items u) v ≡ true → Within l.g.order v;
   row : (u v : ℕ) → Within l.k u → Within l.g.order v → mem (item l.rows.items u) v ≡ are_partners l.g (mem l.removed) u v;

@@ -1,0 +1,11 @@
+-- Mates as the search of the engine holds them.
+use Rattle.std.specs.Prelude.{ℕ, List}
+use Rattle.counting.specs.Sets.{Set}
+use Rattle.graph_core.specs.Graph.{Graph}
+use Rattle.match_search.specs.AlternatingForests.{HoldsMatching}
+use Rattle.match_search.specs.declared.instance.Instance.{Instance}
+
+-- the instance is g without r, and the mates are those of a matching m of it
+pub record HoldsMates (g : Graph) (r : Set) (s : Instance) (mate : List ℕ) : Type 0 where
+  pub m : Set
+  pub held : HoldsMatching g r m s mate

@@ -1,0 +1,19 @@
+use Rattle.std.proofs.Common.{◌==◌, ◌&&◌, length}
+use Rattle.counting.specs.Counts.{count}
+use Rattle.counting.specs.Lists.{mem}
+use Rattle.counting.specs.Sets.{Set}
+use Rattle.graph_core.specs.Graph.{Graph}
+use Rattle.match_search.specs.AlternatingForests.{HoldsMatching}
+use Rattle.match_search.specs.Rows.{numbers}
+use Rattle.match_search.specs.Shrinkings.{AreAlike}
+use Rattle.match_search.proofs.best.last_frame.Given as goal
+
+abbrev pub invariant-augmenting : goal.invariant-augmenting
+invariant-augmenting l = record {
+  held : (g : Graph) (r f : Set) → HoldsMatching g r f l.initial.instance l.initial.mate → (m : Set) × HoldsMatching g r m l.instance l.mate;
+  alike : AreAlike l.initial.instance l.instance;
+}
+
+-- each augmentation leaves two exposed vertices less
+abbrev pub decreases-augmenting : goal.decreases-augmenting
+decreases-augmenting l = count (length l.initial.instance.rows.items) (λ v. mem l.initial.instance.left v && (numbers l.mate v == 0))

@@ -1,0 +1,8 @@
+use Rattle.std.proofs.Common.{◌≡◌, ◌-◌, ◌==◌, ◌&&◌}
+use Rattle.counting.specs.Counts.{count}
+use Rattle.counting.specs.Lists.{mem}
+use Rattle.match_search.specs.Rows.{numbers}
+use Rattle.match_search.proofs.missable.exposed_count.Given as goal
+
+abbrev pub invariant-loop-v : goal.invariant-loop-v
+invariant-loop-v l = l.found ≡ count (l.v - 1) (λ w. mem l.left w && (numbers l.mate w == 0))

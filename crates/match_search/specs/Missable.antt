@@ -1,0 +1,31 @@
+-- What the last step of a search says of a matching by its mates.
+use Rattle.std.specs.Prelude.{◌≡◌, ◌≢◌, ℕ, true, false, List}
+use Rattle.counting.specs.Counts.{Within, count}
+use Rattle.counting.specs.Sets.{Set}
+use Rattle.counting.specs.Lists.{mem}
+use Rattle.graph_core.specs.Graph.{Graph, size}
+use Rattle.graph_core.specs.Matchings.{IsMatching, missed_count}
+use Rattle.match_search.specs.Frames.{Frame}
+use Rattle.match_search.specs.Mates.{HasMates}
+use Rattle.match_search.specs.Rows.{numbers}
+use Rattle.match_search.specs.Steps.{AreVertexSets}
+use Rattle.match_search.specs.declared.answer.FinalSets.{FinalSets}
+
+-- the mates are those of a matching of g without r, and the sets are its frame
+pub record HasFrame (g : Graph) (r : Set) (mate : List ℕ) (sets : FinalSets) : Type 0 where
+  pub m : Set
+  pub mates : HasMates g r m (numbers mate)
+  pub frame : Frame g r (count (size g) m) (mem sets.outer) (mem sets.inner)
+  pub vertices : AreVertexSets g sets
+
+-- the row has the outer vertices of the frame of a matching m of g without r if m misses one
+-- vertex, and else none
+pub record IsMissableRow (g : Graph) (r : Set) (row : List ℕ) : Type 0 where
+  pub m : Set
+  pub outer : Set
+  pub inner : Set
+  pub matching : IsMatching g r m
+  pub frame : Frame g r (count (size g) m) outer inner
+  pub one : missed_count g r m ≡ 1 → (v : ℕ) → mem row v ≡ outer v
+  pub other : missed_count g r m ≢ 1 → (v : ℕ) → mem row v ≡ false
+  pub within : (v : ℕ) → mem row v ≡ true → Within g.order v

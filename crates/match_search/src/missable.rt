@@ -1,0 +1,89 @@
+//! Which vertices can be missed beside one vertex?
+//!
+//! A vertex is taken out of a graph with a matching by mates, and its mate is exposed. The last
+//! frame of what is left says which vertices matchings as large as the largest miss.
+ghost use Rattle.std.specs.Prelude.{◌≡◌, ℕ, ◌+◌, ◌-◌, ◌<◌, ◌≤◌, ◌==◌, ◌&&◌, true, length, IfOk, OnOk};
+ghost use Rattle.counting.specs.Counts.{count};
+ghost use Rattle.counting.specs.Lists.{mem};
+ghost use Rattle.counting.specs.Sets.{Set, singleton, union};
+ghost use Rattle.graph_core.specs.Graph.{Graph};
+ghost use Rattle.match_search.specs.AlternatingForests.{HoldsMatching};
+ghost use Rattle.match_search.specs.Mates.{with_mate};
+ghost use Rattle.match_search.specs.Missable.{IsMissableRow};
+ghost use Rattle.match_search.specs.Rows.{numbers};
+ghost use Rattle.match_search.specs.Shrinkings.{AreAlike};
+
+use crate::best::last_frame;
+use crate::instance::Instance;
+use crate::mates::expose;
+use std::alloc::{AllocError as Memory, Global};
+use vset_core::{MOST_VERTICES, VSet};
+
+// The mates where a vertex and its mate are exposed.
+fn mates_without(alloc: Global, mate: &[u32], u: u32) -> Result<Vec<u32>, Memory>
+    requires vertex { u < length mate.now }
+    requires mate { numbers mate.now u < length mate.now }
+    ensures long { IfOk result (λ own. length own.items ≡ length mate.now) }
+    ensures each { IfOk result (λ own. (v : ℕ) → numbers own.items v ≡
+        with_mate (with_mate (numbers mate.now) (numbers mate.now u) 0) u 0 v) }
+{
+    let mut own = mate.to_vec(alloc)?;
+    expose(&mut own, mate[u as usize]);
+    expose(&mut own, u);
+    Ok(own)
+}
+
+// How many vertices of a set are exposed.
+fn exposed_count(left: VSet, mate: &[u32]) -> usize
+    requires some { 1 ≤ length mate.now }
+    requires few { length mate.now ≤ MOST_VERTICES + 1 }
+    ensures { result ≡ count (length mate.now - 1) (λ v. mem left v && (numbers mate.now v == 0)) }
+{
+    let mut found = 0;
+    for v in 1..mate.len() {
+        if left.contains(v as u32) && mate[v] == 0 {
+            found += 1;
+        }
+    }
+    found
+}
+
+// The outer vertices of the last frame if a maximum matching misses one vertex, and else none.
+fn outer_of_one(alloc: Global, instance: &mut Instance, mate: &mut [u32]) -> Result<VSet, Memory>
+    requires { (g : Graph) × (r : Set) × (f : Set) × HoldsMatching g r f instance.old mate.old }
+    ensures row { IfOk result (λ row. (g : Graph) (r f : Set) →
+        HoldsMatching g r f instance.old mate.old → IsMissableRow g r row) }
+    ensures restored { OnOk result (AreAlike instance.old instance.new) }
+{
+    let left = instance.left;
+    let sets = last_frame(alloc, instance, mate)?;
+    if exposed_count(left, mate) == 1 {
+        Ok(sets.outer)
+    } else {
+        Ok(VSet::empty())
+    }
+}
+
+/// The vertices that matchings of the graph without `u` can miss alone: the outer vertices of the
+/// frame if a maximum matching misses one vertex, and none if it misses another number. The mates
+/// are those of a matching of the graph. What is changed of the instance is put back.
+pub fn missable_beside(
+    alloc: Global,
+    instance: &mut Instance,
+    mate: &[u32],
+    u: u32,
+) -> Result<VSet, Memory>
+    requires holds { (g : Graph) × (r : Set) × (f : Set) ×
+        HoldsMatching g r f instance.old mate.now }
+    requires left { mem instance.old.left u ≡ true }
+    ensures row { IfOk result (λ row. (g : Graph) (r f : Set) →
+        HoldsMatching g r f instance.old mate.now → IsMissableRow g (union r (singleton u)) row) }
+    ensures restored { OnOk result (AreAlike instance.old instance.new) }
+{
+    let left = instance.left;
+    let mut own = mates_without(alloc, mate, u)?;
+    instance.left = left.without(u);
+    let row = outer_of_one(alloc, instance, &mut own)?;
+    instance.left = left;
+    Ok(row)
+}
