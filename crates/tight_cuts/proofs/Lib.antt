@@ -24,3 +24,4 @@ pub mod LiftedCandidates
 pub mod PartitionCandidates
 pub mod FrontEmpty
 pub mod BipartiteShores
+pub mod OneSided

@@ -6,3 +6,4 @@ pub mod EdgeSearch
 pub mod View
 pub mod CandidatesAt
 pub mod EdgeDigraphs
+pub mod QuietEdges

@@ -92,7 +92,7 @@ pub fn candidates_by_pairs(alloc: Global, g: &MultiGraph) -> Result<CandidateLis
     g.keeps_limits();
     let covered = Covered::known(alloc, g)?;
     let mut list = front_candidates(alloc, &covered)?;
-    let search = NetworkSearch::new(alloc, g, &[], ByPairs)?;
+    let search = NetworkSearch::by_rows(alloc, g, ByPairs)?;
     add_edge_cuts(alloc, g, &search, 0, &mut list)?;
     Ok(list)
 }

@@ -11,75 +11,25 @@ ghost use Rattle.counting.specs.Counts.{Within};
 ghost use Rattle.counting.specs.Lists.{mem};
 ghost use Rattle.counting.specs.Sets.{pair_set};
 ghost use Rattle.graph_core.specs.Components.{components};
+ghost use Rattle.graph_core.specs.Covered.{IsCovered};
 ghost use Rattle.graph_core.specs.Graph.{size};
 ghost use Rattle.graph_core.specs.Matchings.{Together};
 ghost use Rattle.graph_core.specs.Tight.{IsTight};
-ghost use Rattle.allowed_edges.specs.PairTables.{edge_lists, holds_both};
+ghost use Rattle.allowed_edges.specs.PairTables.{SettlesEdges, edge_lists, holds_both};
 ghost use Rattle.tight_cuts.specs.Candidates.{greater_end, lesser_end};
 ghost use Rattle.tight_cuts.specs.EdgeSearch.{AreLeaders, AreRowsAt, AreRowsOf, IsShoreOfEdge, Leads, NoneBefore, at_place};
 ghost use Rattle.tight_cuts.specs.Pieces.{leader};
+ghost use Rattle.tight_cuts.specs.QuietEdges.{AreQuiet};
 
 use crate::edge_cuts::EdgeSearch;
 use crate::groups::{Grouping, common_shore};
-use crate::pieces::{Weights, graph_beside, weights_of};
-use allowed_edges::{PairTable, together_beside};
+use crate::leading::leaders_at;
+use crate::pieces::{Weights, weights_of};
+use crate::quiet_edges::{none_quiet, quiet_edges};
+use allowed_edges::{PairTable, complete_pairs, no_pairs};
 use graph_core::MultiGraph;
 use std::alloc::{AllocError as Memory, Global};
 use vset_core::{MOST_VERTICES, VSet};
-
-// The least vertex of the first piece that holds the vertex, and the vertex itself if none does.
-fn leader_in(pieces: &[VSet], v: u32) -> u32
-    requires { Within MOST_VERTICES v }
-    ensures { result ≡ leader pieces.now v }
-{
-    let mut rest = pieces;
-    while let Some((piece, others)) = rest.split_first() {
-        if piece.contains(v) {
-            return match piece.split_first() {
-                Some((least, _)) => least,
-                None => v,
-            };
-        }
-        rest = others;
-    }
-    v
-}
-
-// For each vertex the least vertex of its component in `h` without `a` and `b`; these two stand
-// for themselves. The row is by vertex number.
-fn leaders_of(alloc: Global, h: &MultiGraph, a: u32, b: u32) -> Result<Vec<u32>, Memory>
-    requires first { Within h.now.order a }
-    requires second { Within h.now.order b }
-    ensures long { IfOk result (λ row. length row.items ≡ h.now.order + 1) }
-    ensures each { IfOk result
-        (λ row. (v : ℕ) → Within h.now.order v →
-        at_place row.items v ≡ leader (components h.now (pair_set a b)) v) }
-{
-    h.keeps_limits();
-    let pieces = h.components_without(alloc, VSet::empty().with(a).with(b))?;
-    let mut row = Vec::new(alloc);
-    row.push(0)?;
-    for k in 0..h.order() {
-        row.push(leader_in(pieces.as_slice(), k + 1))?;
-    }
-    Ok(row)
-}
-
-// For each vertex the least vertex of its piece at edge `e`; the ends of `e` stand for themselves.
-fn leaders_at(alloc: Global, g: &MultiGraph, pairs: &PairTable, e: u32) -> Result<Vec<u32>, Memory>
-    requires edge { Within (size g.now) e }
-    requires size { pairs.now.size ≡ size g.now }
-    requires both { (e f : ℕ) → Within (size g.now) e → Within (size g.now) f →
-        (holds_both (edge_lists pairs.now) e f ≡ true) ↔ Together g.now e f }
-    ensures { IfOk result (λ row. AreLeaders g.now e row.items) }
-{
-    g.keeps_limits();
-    let ends = g.ends(e);
-    let a = ends.a.min(ends.b);
-    let b = ends.a.max(ends.b);
-    let beside = graph_beside(alloc, g, pairs, e)?;
-    leaders_of(alloc, &beside, a, b)
-}
 
 /// A way to ask the pairs (x, y) of one x.
 pub(crate) trait PieceSearch {
@@ -197,17 +147,64 @@ fn first_shore<P: PieceSearch>(
     Ok(None)
 }
 
-/// The search at the edges of any covered graph: the pairs of edges that lie together, how often
-/// the matchings of that table hold each edge, and the way to ask the pairs of one x.
+/// The pairs of edges that lie together, and how often the matchings of that table hold each edge.
 #[derive(Drop)]
-pub(crate) struct NetworkSearch<P> {
+struct PairRows {
     pairs: PairTable,
     weights: Weights,
+}
+
+impl PairRows {
+    // The rows, if the cuts of these shores are tight, from a table in which some matchings are
+    // listed.
+    fn new(
+        alloc: Global,
+        g: &MultiGraph,
+        shores: &[VSet],
+        begun: PairTable,
+    ) -> Result<PairRows, Memory>
+        requires shores { All (λ s. IsTight g.now (mem s)) shores.now }
+        requires begun { SettlesEdges g.now 1 begun }
+        ensures { IfOk result
+            (λ rows. AreRowsOf g.now rows.pairs rows.weights.row.items rows.weights.matchings) }
+    {
+        let mut pairs = begun;
+        complete_pairs(alloc, g, shores, &mut pairs)?;
+        let weights = weights_of(alloc, g, &pairs)?;
+        Ok(PairRows { pairs, weights })
+    }
+
+    // What edge `e` gives.
+    fn shore_of_edge<P: PieceSearch>(
+        &self,
+        alloc: Global,
+        g: &MultiGraph,
+        pieces: &P,
+        e: u32,
+    ) -> Result<Option<VSet>, Memory>
+        requires covered { IsCovered g.now }
+        requires edge { Within (size g.now) e }
+        requires rows { AreRowsOf g.now self.now.pairs self.now.weights.row.items
+            self.now.weights.matchings }
+        ensures { IfOk result (IsShoreOfEdge g.now e) }
+    {
+        let leaders = leaders_at(alloc, g, &self.pairs, e)?;
+        first_shore(alloc, g, pieces, &self.weights, &leaders, e)
+    }
+}
+
+/// The search at the edges of any covered graph: the edges that are seen to give nothing, the rows
+/// for the others, and the way to ask the pairs of one x. There are no rows if no other edge is to
+/// be asked; if one is all the same, they are made for it.
+#[derive(Drop)]
+pub(crate) struct NetworkSearch<P> {
+    quiet: Vec<bool>,
+    rows: Option<PairRows>,
     pieces: P,
 }
 
 impl<P: PieceSearch + Drop> NetworkSearch<P> {
-    /// The search if the cuts of these shores are tight.
+    /// The search if the cuts of these shores are tight; their edges are not to be asked.
     pub(crate) fn new(
         alloc: Global,
         g: &MultiGraph,
@@ -215,26 +212,57 @@ impl<P: PieceSearch + Drop> NetworkSearch<P> {
         pieces: P,
     ) -> Result<NetworkSearch<P>, Memory>
         requires { All (λ s. IsTight g.now (mem s)) shores.now }
-        ensures { IfOk result
-            (λ search. AreRowsOf g.now search.pairs search.weights.row.items
-            search.weights.matchings) }
+        ensures quiet { IfOk result (λ search. AreQuiet g.now search.quiet.items) }
+        ensures rows { IfOk result
+            (λ search. IfSome search.rows (λ rows. AreRowsOf g.now rows.pairs
+            rows.weights.row.items rows.weights.matchings)) }
     {
-        let pairs = together_beside(alloc, g, shores)?;
-        let weights = weights_of(alloc, g, &pairs)?;
+        let mut pairs = no_pairs(alloc, g)?;
+        let quiet = quiet_edges(alloc, g, shores, &mut pairs)?;
+        let rows = if quiet.are_all {
+            None
+        } else {
+            Some(PairRows::new(alloc, g, shores, pairs)?)
+        };
         Ok(NetworkSearch {
-            pairs,
-            weights,
+            quiet: quiet.row,
+            rows,
+            pieces,
+        })
+    }
+
+    /// The search by the rows alone, whatever edge is asked.
+    pub(crate) fn by_rows(
+        alloc: Global,
+        g: &MultiGraph,
+        pieces: P,
+    ) -> Result<NetworkSearch<P>, Memory>
+        ensures quiet { IfOk result (λ search. AreQuiet g.now search.quiet.items) }
+        ensures rows { IfOk result
+            (λ search. IfSome search.rows (λ rows. AreRowsOf g.now rows.pairs
+            rows.weights.row.items rows.weights.matchings)) }
+    {
+        let rows = PairRows::new(alloc, g, &[], no_pairs(alloc, g)?)?;
+        Ok(NetworkSearch {
+            quiet: none_quiet(alloc, g)?,
+            rows: Some(rows),
             pieces,
         })
     }
 }
 
 impl<P: PieceSearch> EdgeSearch for NetworkSearch<P> {
-    ghost is_of = { λ search g. AreRowsOf g search.pairs search.weights.row.items
-        search.weights.matchings };
+    ghost is_of = { λ search g. AreQuiet g search.quiet.items × IfSome search.rows
+        (λ rows. AreRowsOf g rows.pairs rows.weights.row.items rows.weights.matchings) };
 
     fn shore_of_edge(&self, alloc: Global, g: &MultiGraph, e: u32) -> Result<Option<VSet>, Memory> {
-        let leaders = leaders_at(alloc, g, &self.pairs, e)?;
-        first_shore(alloc, g, &self.pieces, &self.weights, &leaders, e)
+        if self.quiet[e as usize] {
+            return Ok(None);
+        }
+        if let Some(rows) = &self.rows {
+            return rows.shore_of_edge(alloc, g, &self.pieces, e);
+        }
+        let rows = PairRows::new(alloc, g, &[], no_pairs(alloc, g)?)?;
+        rows.shore_of_edge(alloc, g, &self.pieces, e)
     }
 }

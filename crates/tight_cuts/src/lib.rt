@@ -17,7 +17,8 @@
 //! odd set is met at least as often as the list is long, and exactly so often if it is tight
 //! (`PairSums`); so the least minimum cut of the network of the pieces is the intersection of all
 //! tight sets that have a piece (`Networks`), and one cut for each piece decides what the edge
-//! gives (`EdgePieces`). `candidates_by_pairs` answers the same by a cut for each pair of pieces,
+//! gives (`EdgePieces`). The pair list is made only if a few perfect matchings do not show that no
+//! edge gives anything (`QuietEdges`). `candidates_by_pairs` answers the same by a cut for each pair of pieces,
 //! and only tests call it. One walk over the edges, `add_edge_cuts`, asks any of the three (the
 //! trait `EdgeSearch`).
 //!
@@ -41,7 +42,9 @@ mod edge_search;
 mod finder;
 mod front;
 mod groups;
+mod leading;
 mod pieces;
+mod quiet_edges;
 mod tightness;
 
 pub use at_partition::{candidates_at, first_candidate_at, first_root_candidate, root_candidates};

@@ -4,7 +4,7 @@ use Rattle.graph_core.specs.Partitions.{singles}
 use Rattle.graph_core.specs.Shores.{IsTightAt, blocks_in}
 use Rattle.graph_core.specs.Tight.{IsNontrivial}
 use Rattle.tight_cuts.specs.Candidates.{Candidate}
-use Rattle.tight_cuts.specs.CandidatesAt.{IsCandidateAt, candidates_at}
+use Rattle.tight_cuts.specs.CandidatesAt.{IsCandidateAt}
 use Rattle.tight_cuts.proofs.PartitionCandidates.{found-root, none-root, root-candidates}
 use Rattle.tight_cuts.proofs.at_partition.root_candidates.Goals as goal
 

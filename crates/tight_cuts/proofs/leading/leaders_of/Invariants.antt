@@ -2,7 +2,7 @@ use Rattle.std.proofs.Common.{◌≡◌, ℕ, ◌+◌, length}
 use Rattle.counting.specs.Counts.{Within}
 use Rattle.tight_cuts.specs.EdgeSearch.{at_place}
 use Rattle.tight_cuts.specs.Pieces.{leader}
-use Rattle.tight_cuts.proofs.edge_search.leaders_of.Given as goal
+use Rattle.tight_cuts.proofs.leading.leaders_of.Given as goal
 
 abbrev pub invariant-loop-k : goal.invariant-loop-k
 invariant-loop-k l = record {

@@ -1,6 +1,6 @@
 use Rattle.std.proofs.Common.{◌≡◌, length}
 use Rattle.tight_cuts.specs.Pieces.{leader}
-use Rattle.tight_cuts.proofs.edge_search.leader_in.Given as goal
+use Rattle.tight_cuts.proofs.leading.leader_in.Given as goal
 
 abbrev pub invariant-loop-piece : goal.invariant-loop-piece
 invariant-loop-piece l = leader l.fn.pieces l.v ≡ leader l.rest l.v

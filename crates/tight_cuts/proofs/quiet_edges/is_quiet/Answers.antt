@@ -1,0 +1,18 @@
+use Rattle.std.proofs.Common.{◌∙◌, sym}
+use Rattle.counting.proofs.RisingLists.{all_in_true}
+use Rattle.counting.specs.Lists.{mem}
+use Rattle.tight_cuts.proofs.OneSided.{alone, none_parted}
+use Rattle.tight_cuts.proofs.quiet_edges.is_quiet.Goals as goal
+
+pub widened-near-requires-clause-near : goal.widened-near-requires-clause-near
+widened-near-requires-clause-near c = alone c.args.g.now c.args.e c.in-Some.start c.one.result c.one.ensures
+
+pub returns-then-is_subset-clause-quiet : goal.returns-then-is_subset-clause-quiet
+returns-then-is_subset-clause-quiet c = λ q.
+    none_parted c.args.g.now c.args.e (mem c.widened-near.result) c.widened-near.ensures
+    (λ v w n m. all_in_true c.without_ends-others.result (mem c.widened-near.result) (sym c.is_subset.ensures ∙ c.if-is_subset.true) v (c.without_ends-others.ensures v w n m))
+
+pub returns-in_ok-reach-in-Some-2-clause-quiet : goal.returns-in_ok-reach-in-Some-2-clause-quiet
+returns-in_ok-reach-in-Some-2-clause-quiet c = λ q.
+    none_parted c.args.g.now c.args.e (mem c.in_ok-reach-in-Some-2.reach) c.in_ok-reach-in-Some-2.ensures.reach
+    (λ v w n m. all_in_true c.without_ends-others.result (mem c.in_ok-reach-in-Some-2.reach) (sym c.is_subset-in-Some-2.ensures ∙ q) v (c.without_ends-others.ensures v w n m))

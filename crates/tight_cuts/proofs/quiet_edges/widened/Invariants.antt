@@ -1,0 +1,9 @@
+use Rattle.counting.specs.Lists.{mem}
+use Rattle.tight_cuts.specs.QuietEdges.{IsOneSided}
+use Rattle.tight_cuts.proofs.quiet_edges.widened.Given as goal
+
+abbrev pub invariant-loop-round : goal.invariant-loop-round
+invariant-loop-round l = IsOneSided l.g l.e (mem l.reach)
+
+abbrev pub invariant-loop-k : goal.invariant-loop-k
+invariant-loop-k l = IsOneSided l.g l.e (mem l.reach)

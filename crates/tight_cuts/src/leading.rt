@@ -1,0 +1,76 @@
+//! The vertices that lead the pieces of an edge.
+ghost use Rattle.std.specs.Prelude.{◌≡◌, ℕ, ◌+◌, ◌↔◌, true, length, IfOk};
+ghost use Rattle.counting.specs.Counts.{Within};
+ghost use Rattle.counting.specs.Sets.{pair_set};
+ghost use Rattle.graph_core.specs.Components.{components};
+ghost use Rattle.graph_core.specs.Graph.{size};
+ghost use Rattle.graph_core.specs.Matchings.{Together};
+ghost use Rattle.allowed_edges.specs.PairTables.{edge_lists, holds_both};
+ghost use Rattle.tight_cuts.specs.EdgeSearch.{AreLeaders, at_place};
+ghost use Rattle.tight_cuts.specs.Pieces.{leader};
+
+use crate::pieces::graph_beside;
+use allowed_edges::PairTable;
+use graph_core::MultiGraph;
+use std::alloc::{AllocError as Memory, Global};
+use vset_core::{MOST_VERTICES, VSet};
+
+// The least vertex of the first piece that holds the vertex, and the vertex itself if none does.
+fn leader_in(pieces: &[VSet], v: u32) -> u32
+    requires { Within MOST_VERTICES v }
+    ensures { result ≡ leader pieces.now v }
+{
+    let mut rest = pieces;
+    while let Some((piece, others)) = rest.split_first() {
+        if piece.contains(v) {
+            return match piece.split_first() {
+                Some((least, _)) => least,
+                None => v,
+            };
+        }
+        rest = others;
+    }
+    v
+}
+
+// For each vertex the least vertex of its component in `h` without `a` and `b`; these two stand
+// for themselves. The row is by vertex number.
+fn leaders_of(alloc: Global, h: &MultiGraph, a: u32, b: u32) -> Result<Vec<u32>, Memory>
+    requires first { Within h.now.order a }
+    requires second { Within h.now.order b }
+    ensures long { IfOk result (λ row. length row.items ≡ h.now.order + 1) }
+    ensures each { IfOk result
+        (λ row. (v : ℕ) → Within h.now.order v →
+        at_place row.items v ≡ leader (components h.now (pair_set a b)) v) }
+{
+    h.keeps_limits();
+    let pieces = h.components_without(alloc, VSet::empty().with(a).with(b))?;
+    let mut row = Vec::new(alloc);
+    row.push(0)?;
+    for k in 0..h.order() {
+        row.push(leader_in(pieces.as_slice(), k + 1))?;
+    }
+    Ok(row)
+}
+
+/// For each vertex the least vertex of its piece at edge `e`; the ends of `e` stand for
+/// themselves.
+pub(crate) fn leaders_at(
+    alloc: Global,
+    g: &MultiGraph,
+    pairs: &PairTable,
+    e: u32,
+) -> Result<Vec<u32>, Memory>
+    requires edge { Within (size g.now) e }
+    requires size { pairs.now.size ≡ size g.now }
+    requires both { (e f : ℕ) → Within (size g.now) e → Within (size g.now) f →
+        (holds_both (edge_lists pairs.now) e f ≡ true) ↔ Together g.now e f }
+    ensures { IfOk result (λ row. AreLeaders g.now e row.items) }
+{
+    g.keeps_limits();
+    let ends = g.ends(e);
+    let a = ends.a.min(ends.b);
+    let b = ends.a.max(ends.b);
+    let beside = graph_beside(alloc, g, pairs, e)?;
+    leaders_of(alloc, &beside, a, b)
+}
