@@ -1,17 +1,21 @@
 -- Steps of a decomposition. A candidate at a partition is a cut there; where an order takes the
 -- first candidate, its shore is picked; and a cut with two trees is the tree that the order
 -- picks, and a derivation, where both trees are.
-use Rattle.std.proofs.Common.{◌≡◌, ℕ, zero, suc, ◌+◌, ◌≤◌, ◌<◌, List, length, map, All, refl, sym, ap, ◌∙◌, arith, subst, slice_get, Option, Some, true, false, ◌==◌}
+use Rattle.std.proofs.Common.{◌≡◌, ℕ, zero, suc, ◌+◌, ◌≤◌, ◌<◌, List, [], ◌∷◌, length, map, All, unwrap_or, refl, sym, ap, ◌∙◌, arith, subst, slice_get, Option, Some, true, false, ◌==◌}
 use Rattle.std.proofs.lemmas.Bool.{both_ways}
 use Rattle.std.proofs.lemmas.List.{length-map}
-use Rattle.std.proofs.lemmas.Option.{get_or_from_slice_get, slice_get_within}
+use Rattle.std.proofs.lemmas.Option.{get_or_from_slice_get, none-some, slice_get_within}
 use Rattle.counting.proofs.Counts.{count_complement}
 use Rattle.counting.specs.Counts.{count}
 use Rattle.counting.specs.Lists.{mem}
 use Rattle.counting.specs.Sets.{complement}
-use Rattle.graph_core.specs.Graph.{Graph}
+use Rattle.graph_core.specs.Covered.{IsCovered}
+use Rattle.graph_core.specs.Graph.{Graph, IsGraph}
+use Rattle.graph_core.specs.Partitions.{singles}
 use Rattle.graph_core.specs.Shores.{blocks_in}
-use Rattle.tight_cuts.specs.Candidates.{Candidate}
+use Rattle.tight_cuts.proofs.FirstCandidates.{first-one, first-place}
+use Rattle.tight_cuts.proofs.PartitionCandidates.{found-root, root-candidates}
+use Rattle.tight_cuts.specs.Candidates.{Candidate, candidates, first_of, first_shore}
 use Rattle.tight_cuts.specs.CandidatesAt.{IsCandidateAt, candidates_at}
 use Rattle.tight_cuts.specs.View.{candidate_of}
 use Rattle.tight_cuts.specs.declared.candidate.Candidate.{Candidate as StoredCandidate}
@@ -70,6 +74,20 @@ first-picked picks g p k o takes is = record {
       (0, at.1, takes (candidates_at g p) (omega arith), subst (λ i. slice_get (candidates_at g p) i ≡ Some at.1) at.2 at.3, at.4);
   cut = is.cut;
 }
+
+-- the shore of the first candidate of a list that has one
+has_first : (list : List Candidate) (x : List ℕ) → first_shore list ≡ Some x → (c : Candidate) × (first_of list ≡ Some c) × (c.shore ≡ x)
+has_first [] x h = absurd (none-some x h)
+has_first (c ∷ list) x h = (c, refl, ap (λ (o : Option (List ℕ)). unwrap_or o []) h)
+
+-- at single vertices the order of the first candidates picks the shore of the first, a cut there
+pub first-shore-picked : (g : Graph) → IsGraph g → IsCovered g → (x : List ℕ) → first_shore (candidates g) ≡ Some x → PicksShore (NamedPicks First) (candidates_at g (singles g.order)) 0 x × IsCutAt g (singles g.order) x
+first-shore-picked g is covered x h =
+    let c = has_first (candidates g) x h in
+    let first : first_of (candidates_at g (singles g.order)) ≡ Some c.0 = ap first_of (root-candidates g) ∙ c.1 in (
+      (0, c.0, refl, first-place (candidates_at g (singles g.order)) ∙ first, c.2),
+      subst (IsCutAt g (singles g.order)) c.2 (cut-from_candidate g (singles g.order) c.0 (first-one g (IsCandidateAt g (singles g.order)) (candidates_at g (singles g.order)) (found-root g is covered) c.0 first)),
+    )
 
 -- the numbers of blocks below a cut, of which so many are in the shore and so many are not
 module _ (g : Graph) (p : List (List ℕ)) (x : List ℕ) (cuts : IsCutAt g p x) where

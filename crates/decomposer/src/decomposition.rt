@@ -7,6 +7,7 @@ ghost use Rattle.graph_core.specs.Partitions.{singles};
 ghost use Rattle.graph_core.specs.Quotients.{quotient};
 ghost use Rattle.graph_core.specs.Shores.{blocks_in};
 ghost use Rattle.graph_core.specs.Verdicts.{reason_of};
+ghost use Rattle.tight_cuts.specs.Candidates.{candidates, first_shore};
 ghost use Rattle.tight_cuts.specs.CandidatesAt.{candidates_at};
 ghost use Rattle.tree_core.specs.Derivations.{
   IsCutAt,
@@ -17,9 +18,10 @@ ghost use Rattle.tree_core.specs.Derivations.{
 };
 ghost use Rattle.tree_core.specs.Shapes.{cut, cut_count};
 ghost use Rattle.tree_core.specs.View.{shape_of};
+ghost use Rattle.decomposer.specs.Orders.{NamedPicks};
 ghost use Rattle.decomposer.specs.Picked.{IsPicked, IsPickedAt, PicksShore};
 
-use crate::orders::Order;
+use crate::orders::{NamedOrder, Order};
 use crate::shores::{picked_shore, root_shore};
 use contraction::Partition;
 use graph_core::{MultiGraph, Reason};
@@ -73,6 +75,18 @@ pub fn decompose_covered<O: Order>(
         None => Ok(Tree::Leaf),
         Some(shore) => decompose_root(alloc, c.graph(), order, shore),
     }
+}
+
+/// The tree that `decompose` answers in the order `First`, of a covered graph of which the shore of
+/// the first candidate is at hand. What is known of the graph is not sought again.
+pub fn decompose_from_first(alloc: Global, c: &Covered, cut: VSet) -> Result<Tree, AllocError>
+    requires { first_shore (candidates c.now) ≡ Some cut }
+    ensures derivation { IfOk result (λ tree. IsDerivation c.now (shape_of tree)) }
+    ensures picked { IfOk result
+        (λ tree. IsPicked (NamedPicks NamedOrder.First) c.now (shape_of tree)) }
+{
+    c.keeps_covered();
+    decompose_root(alloc, c.graph(), &NamedOrder::First, cut)
 }
 
 // The tree of a covered graph with the cut at its root.

@@ -123,8 +123,7 @@ module _ (g : Graph) (is : IsGraph g) (r m : Set) (mate : ℕ → ℕ) (has : Ha
             let some : mate v ≢ 0 = λ z. q (there v n o ∙ z) in
             let e = has.paired v w some in
             let back = (mate_back g is r m mate has v w some).1 in
-            let away : mate v ≢ u = λ z. o (sym back ∙ ap mate z) in
-            (
+            let away : mate v ≢ u = λ z. o (sym back ∙ ap mate z) in (
               e.0,
               e.1,
               and_from (m e.0) (not (first_end g e.0 == u || second_end g e.0 == u)) e.2 (ap not (apart (first_end g e.0) (second_end g e.0) v (mate v) n away e.3)),

@@ -33,7 +33,7 @@ pub fn all_pairs(alloc: Global, n: u32) -> Result<Vec<Pair>, Memory>
     requires { n ≤ MOST_VERTICES }
     ensures { IfOk result (λ pairs. map pair_of pairs.items ≡ rising_pairs n) }
 {
-    let mut pairs = Vec::new(alloc);
+    let mut pairs = Vec::with_capacity(alloc, (n * n / 2) as usize)?;
     for i in 0..n {
         push_pairs(&mut pairs, n, i + 1)?;
     }
