@@ -1,6 +1,5 @@
 //! Whether a tree is a derivation of a graph, as `check` reports it.
 ghost use Rattle.std.specs.Prelude.{◌≡◌, IfOk};
-ghost use Rattle.graph_core.specs.Covered.{IsCovered};
 ghost use Rattle.tree_core.specs.Derivations.{IsDerivation};
 ghost use Rattle.tree_core.specs.Shapes.{Fits};
 ghost use Rattle.tree_core.specs.View.{shape_of};
@@ -11,6 +10,7 @@ ghost use Rattle.bench_outcomes.specs.Checks.{AcceptedTree, CheckGives, RefusedT
 use crate::uncovered::uncovered_report;
 use bench_outcomes::{Report, Status};
 use graph_core::MultiGraph;
+use graph_facts::Covered;
 use report_text::{Shown, TreeLine, judgement};
 use std::alloc::{AllocError as Memory, Global};
 use tree_check::{Judgement, Why, check, check_covered};
@@ -100,19 +100,18 @@ pub fn refusal_of_tree(
     refusal_of_answer(alloc, g, tree, place, answer)
 }
 
-/// The same for a graph that is known to be covered.
+/// The same for a covered graph.
 pub fn refusal_where_covered(
     alloc: Global,
-    g: &MultiGraph,
+    c: &Covered,
     tree: &Tree,
     place: u32,
 ) -> Result<Option<Report>, Memory>
-    requires covered { IsCovered g.now }
-    requires fits { Fits g.now.order (shape_of tree.now) }
-    ensures { IfOk result (RefusesIfAny g.now (shape_of tree.now) place) }
+    requires { Fits c.now.order (shape_of tree.now) }
+    ensures { IfOk result (RefusesIfAny c.now (shape_of tree.now) place) }
 {
-    let answer = check_covered(alloc, g, tree)?;
-    refusal_of_answer(alloc, g, tree, place, answer)
+    let answer = check_covered(alloc, c, tree)?;
+    refusal_of_answer(alloc, c.graph(), tree, place, answer)
 }
 
 // The line of a derivation.

@@ -7,10 +7,12 @@ ghost use Rattle.tree_core.specs.View.{shape_of};
 ghost use Rattle.uncross.specs.MapView.{map_of, maps_of};
 ghost use Rattle.bench_outcomes.specs.Comparisons.{Compared, CompareGives, RefusesPairIfAny, ScriptGives, Scripted, line_of, lines_of};
 
-use crate::checking::{refusal_of_tree, refusal_where_covered};
+use crate::checking::refusal_where_covered;
+use crate::uncovered::uncovered_report;
 use bench_outcomes::{Report, Status};
 use contraction::Partition;
 use graph_core::MultiGraph;
+use graph_facts::Covered;
 use move_text::write_moves;
 use report_text::{MapLine, MapLines, block_names, pairing};
 use std::alloc::{AllocError as Memory, Global};
@@ -19,7 +21,7 @@ use uncross::{LeafMap, LeafMaps, compare, moves_between};
 
 /// The report that refuses one of two trees: the graph is not covered, or the first tree is not a
 /// derivation of it, or the second is not one. None if both are derivations. Whether the graph is
-/// covered is asked once: a graph with a derivation is.
+/// covered is asked once.
 pub fn refusal_of_pair(
     alloc: Global,
     g: &MultiGraph,
@@ -30,9 +32,26 @@ pub fn refusal_of_pair(
     requires second { Fits g.now.order (shape_of second.now) }
     ensures { IfOk result (RefusesPairIfAny g.now (shape_of first.now) (shape_of second.now)) }
 {
-    match refusal_of_tree(alloc, g, first, 1)? {
+    match Covered::of(alloc, g)? {
+        Ok(covered) => refusal_of_covered(alloc, &covered, first, second),
+        Err(reason) => Ok(Some(uncovered_report(alloc, g, reason)?)),
+    }
+}
+
+// The report that refuses one of two trees of a covered graph. None if both are derivations.
+fn refusal_of_covered(
+    alloc: Global,
+    c: &Covered,
+    first: &Tree,
+    second: &Tree,
+) -> Result<Option<Report>, Memory>
+    requires first { Fits c.now.order (shape_of first.now) }
+    requires second { Fits c.now.order (shape_of second.now) }
+    ensures { IfOk result (RefusesPairIfAny c.now (shape_of first.now) (shape_of second.now)) }
+{
+    match refusal_where_covered(alloc, c, first, 1)? {
         Some(report) => Ok(Some(report)),
-        None => refusal_where_covered(alloc, g, second, 2),
+        None => refusal_where_covered(alloc, c, second, 2),
     }
 }
 

@@ -5,8 +5,8 @@
 //! first of the rules 1 to 5 that it breaks and what shows it (`IsRefused` of `specs/Refusals`):
 //! a perfect matching at the node's partition with at least two edges in a cut that is not tight,
 //! or a nontrivial tight cut where a leaf stands. Of a graph that is not matching covered it
-//! gives the first reason. `check_covered` answers the same of a graph that is known to be
-//! covered, and does not ask that again.
+//! gives the first reason. `check_covered` answers the same of a `Covered`, a graph of which this
+//! and more is known.
 //!
 //! `replay` makes a script of moves on a derivation and judges each tree on the way: it gives the
 //! last tree exactly when all are derivations, and else names the first failing move, with what
@@ -19,10 +19,10 @@
 //! `laws::judgement_law`: the three answers exclude one another, and by `laws::replay_law` so do
 //! those of `replay`.
 //!
-//! Stands on `allowed_edges` for the verdict, on `contraction` for quotients, on `tight_cuts` for
-//! the test of a cut and for the candidates at a partition, on `tree_core` for trees, and on
-//! `move_laws` for what moves keep. Source: Lovász, "Matching structure and the matching lattice"
-//! (1987); Lucchesi and Murty, "Perfect Matchings".
+//! Stands on `graph_facts` for the verdict and for covered graphs, on `contraction` for quotients,
+//! on `tight_cuts` for the test of a cut and for the candidates at a partition, on `tree_core` for
+//! trees, and on `move_laws` for what moves keep. Source: Lovász, "Matching structure and the
+//! matching lattice" (1987); Lucchesi and Murty, "Perfect Matchings".
 #![tactic(auto)]
 
 mod judgement;

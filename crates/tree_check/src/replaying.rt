@@ -6,7 +6,7 @@ ghost use Rattle.tree_core.specs.View.{shape_of};
 ghost use Rattle.tree_check.specs.Replays.{IsReplay, IsMoved};
 
 use crate::judgement::Why;
-use crate::scan::{Scanned, scan_covered};
+use crate::scan::{Scanned, scan_from_root};
 use crate::sound_moves::is_sound;
 use graph_core::MultiGraph;
 use std::alloc::{AllocError as Memory, Global};
@@ -47,7 +47,7 @@ fn step(alloc: Global, g: &MultiGraph, tree: Tree, item: &Move) -> Result<Moved,
     if is_sound(alloc, g, &made, item)? {
         return Ok(Moved::Passed { tree: made });
     }
-    match scan_covered(alloc, g, &made)? {
+    match scan_from_root(alloc, g, &made)? {
         Scanned::Passed { .. } => Ok(Moved::Passed { tree: made }),
         Scanned::Refused { node, why } => Ok(Moved::Refused { node, why }),
     }

@@ -1,4 +1,4 @@
-//! The rules that a node of a derivation keeps.
+//! The rules that a cut of a derivation keeps.
 ghost use Rattle.std.specs.Prelude.{◌≡◌, ◌-◌, ℕ, true, All, length, IfOk, None, Some};
 ghost use Rattle.contraction.specs.Contracted.{contraction};
 ghost use Rattle.counting.specs.Counts.{Within, is_odd};
@@ -6,9 +6,7 @@ ghost use Rattle.counting.specs.Lists.{mem, rising_list};
 ghost use Rattle.graph_core.specs.Covered.{IsCovered};
 ghost use Rattle.graph_core.specs.Quotients.{quotient};
 ghost use Rattle.graph_core.specs.Shores.{IsTightAt, IsUnion, block_count, blocks_in};
-ghost use Rattle.tight_cuts.specs.Candidates.{first_shore};
-ghost use Rattle.tight_cuts.specs.CandidatesAt.{candidates_at};
-ghost use Rattle.tree_core.specs.Derivations.{IsCutAt, IsLeafAt};
+ghost use Rattle.tree_core.specs.Derivations.{IsCutAt};
 ghost use Rattle.tree_check.specs.Judgements.{why_of};
 ghost use Rattle.tree_check.specs.Refusals.{BreaksCut, CrossesAt};
 
@@ -16,7 +14,7 @@ use crate::judgement::Why;
 use contraction::{Contracted, Partition, lift, quotient};
 use graph_core::{MultiGraph, Numbers};
 use std::alloc::{AllocError as Memory, Global};
-use tight_cuts::{Tightness, first_candidate_at, is_tight};
+use tight_cuts::{Tightness, is_tight};
 use vset_core::VSet;
 
 /// The first rule that the cut of `shore` breaks at `p`, whose quotient is matching covered;
@@ -110,22 +108,4 @@ fn places_in(p: &Partition, shore: VSet) -> VSet
     }
     places.rises();
     places
-}
-
-/// The shore of the first candidate at `p`, whose quotient is matching covered; if there is
-/// none, no nontrivial shore is tight at `p`.
-pub(crate) fn first_cut_at(
-    alloc: Global,
-    g: &MultiGraph,
-    p: &Partition,
-) -> Result<Option<VSet>, Memory>
-    requires order { p.now.order ≡ g.now.order }
-    requires covered { IsCovered (quotient g.now p.now.blocks) }
-    ensures first { IfOk result (λ o. o ≡ first_shore (candidates_at g.now p.now.blocks)) }
-    ensures none { IfOk result (λ o. o ≡ None → IsLeafAt g.now p.now.blocks) }
-{
-    match first_candidate_at(alloc, g, p)? {
-        Some(candidate) => Ok(Some(candidate.shore)),
-        None => Ok(None),
-    }
 }

@@ -1,23 +1,29 @@
 //! The scan of a tree in preorder.
-ghost use Rattle.std.specs.Prelude.{◌≡◌, ◌≤◌, ◌+◌, length, IfOk};
+ghost use Rattle.std.specs.Prelude.{◌≡◌, ◌≤◌, ◌+◌, ℕ, List, None, length, IfOk};
+ghost use Rattle.std.specs.Option.{option_map};
 ghost use Rattle.counting.specs.Counts.{count};
 ghost use Rattle.counting.specs.Lists.{mem};
 ghost use Rattle.graph_core.specs.Covered.{IsCovered};
+ghost use Rattle.graph_core.specs.Graph.{Graph};
 ghost use Rattle.graph_core.specs.Partitions.{singles};
 ghost use Rattle.graph_core.specs.Quotients.{quotient};
 ghost use Rattle.graph_core.specs.Shores.{blocks_in};
-ghost use Rattle.tree_core.specs.Derivations.{IsCutAt, kept_at, merged_at};
+ghost use Rattle.tight_cuts.specs.Candidates.{first_of};
+ghost use Rattle.tight_cuts.specs.CandidatesAt.{candidates_at};
+ghost use Rattle.tight_cuts.specs.View.{candidate_of};
+ghost use Rattle.tree_core.specs.Derivations.{IsCutAt, IsLeafAt, kept_at, merged_at};
 ghost use Rattle.tree_core.specs.Shapes.{Fits, leaf};
 ghost use Rattle.tree_core.specs.View.{shape_of};
 ghost use Rattle.tree_check.specs.Judgements.{IsJudgement};
 ghost use Rattle.tree_check.specs.Scans.{IsScanned};
 
 use crate::judgement::{Judgement, Why};
-use crate::rules::{cut_fault, first_cut_at};
-use allowed_edges::covered;
+use crate::rules::cut_fault;
 use contraction::Partition;
-use graph_core::{MultiGraph, Reason, Verdict};
+use graph_core::MultiGraph;
+use graph_facts::Covered;
 use std::alloc::{AllocError as Memory, Global};
+use tight_cuts::{Candidate, first_candidate_at, first_root_candidate};
 use tree_core::{Tree, kept_partition, merged_partition, root_partition};
 use vset_core::VSet;
 
@@ -29,28 +35,37 @@ pub fn check(alloc: Global, g: &MultiGraph, tree: &Tree) -> Result<Judgement, Me
     requires { Fits g.now.order (shape_of tree.now) }
     ensures { IfOk result (IsJudgement g.now (shape_of tree.now)) }
 {
-    match covered(alloc, g)? {
-        Verdict::NotCovered(reason) => Ok(Judgement::NotCovered(reason)),
-        Verdict::Covered => check_covered(alloc, g, tree),
+    match Covered::of(alloc, g)? {
+        Ok(covered) => check_covered(alloc, &covered, tree),
+        Err(reason) => Ok(Judgement::NotCovered(reason)),
     }
 }
 
-/// Whether `tree`, whose shores lie below the order of `g`, is a derivation of `g`, a graph that
-/// is known to be matching covered: the answer of `check`, without its search for an edge that
-/// lies in no perfect matching.
-pub fn check_covered(alloc: Global, g: &MultiGraph, tree: &Tree) -> Result<Judgement, Memory>
-    requires covered { IsCovered g.now }
-    requires fits { Fits g.now.order (shape_of tree.now) }
-    ensures { IfOk result (IsJudgement g.now (shape_of tree.now)) }
+/// The answer of `check` for a covered graph, from what is known of it.
+pub fn check_covered(alloc: Global, c: &Covered, tree: &Tree) -> Result<Judgement, Memory>
+    requires { Fits c.now.order (shape_of tree.now) }
+    ensures { IfOk result (IsJudgement c.now (shape_of tree.now)) }
 {
-    match scan_covered(alloc, g, tree)? {
+    c.keeps_covered();
+    match scan_covered(alloc, c, tree)? {
         Scanned::Passed { .. } => Ok(Judgement::Accepted),
         Scanned::Refused { node, why } => Ok(Judgement::Refused { node, why }),
     }
 }
 
-/// Scans a tree of a covered graph.
-pub(crate) fn scan_covered(alloc: Global, g: &MultiGraph, tree: &Tree) -> Result<Scanned, Memory>
+// Scans a tree of a covered graph. A tree that is a leaf is judged by what is known of the graph.
+fn scan_covered(alloc: Global, c: &Covered, tree: &Tree) -> Result<Scanned, Memory>
+    requires { Fits c.now.order (shape_of tree.now) }
+    ensures { IfOk result (IsScanned c.now (singles c.now.order) (shape_of tree.now) 1) }
+{
+    match tree {
+        Tree::Leaf => Ok(scanned_leaf(first_root_candidate(alloc, c)?, 1)),
+        Tree::Cut { .. } => scan_from_root(alloc, c.graph(), tree),
+    }
+}
+
+/// Scans a tree of a covered graph node by node.
+pub(crate) fn scan_from_root(alloc: Global, g: &MultiGraph, tree: &Tree) -> Result<Scanned, Memory>
     requires covered { IsCovered g.now }
     requires fits { Fits g.now.order (shape_of tree.now) }
     ensures { IfOk result (IsScanned g.now (singles g.now.order) (shape_of tree.now) 1) }
@@ -158,11 +173,24 @@ fn scan_leaf(alloc: Global, g: &MultiGraph, p: &Partition, node: u32) -> Result<
     requires few { node + length p.now.blocks ≤ 129 }
     ensures { IfOk result (IsScanned g.now p.now.blocks leaf node) }
 {
-    match first_cut_at(alloc, g, p)? {
-        Some(cut) => Ok(Scanned::Refused {
+    let found = first_candidate_at(alloc, g, p)?;
+    Ok(scanned_leaf(found, node))
+}
+
+// What the scan finds at a leaf, from the first candidate there.
+fn scanned_leaf(found: Option<Candidate>, node: u32) -> Scanned
+    requires { node ≤ 129 }
+    ensures { (g : Graph) (p : List (List ℕ)) →
+        option_map candidate_of found ≡ first_of (candidates_at g p) →
+        (found ≡ None → IsLeafAt g p) → IsScanned g p leaf node result }
+{
+    match found {
+        Some(candidate) => Scanned::Refused {
             node,
-            why: Why::NotLeaf { cut },
-        }),
-        None => Ok(Scanned::Passed { next: node + 1 }),
+            why: Why::NotLeaf {
+                cut: candidate.shore,
+            },
+        },
+        None => Scanned::Passed { next: node + 1 },
     }
 }

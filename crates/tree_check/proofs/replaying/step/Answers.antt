@@ -21,8 +21,8 @@ is_sound-requires c = (
   subst (λ k. move_result k (shape_of c.args.tree) (move_of c.args.item.now) ≡ Some (shape_of c.in-Ok.made)) c.order.ensures.is c.in-Ok.ensures.ok,
 )
 
-pub scan_covered-requires-clause-fits : goal.scan_covered-requires-clause-fits
-scan_covered-requires-clause-fits c =
+pub scan_from_root-requires-clause-fits : goal.scan_from_root-requires-clause-fits
+scan_from_root-requires-clause-fits c =
     move-fits c.args.g.now.order (shape_of c.args.tree) (shape_of c.in-Ok.made) (move_of c.args.item.now) (fits-derivation c.args.g.now (shape_of c.args.tree) c.requires)
     (subst (λ k. move_result k (shape_of c.args.tree) (move_of c.args.item.now) ≡ Some (shape_of c.in-Ok.made)) c.order.ensures.is c.in-Ok.ensures.ok)
 
@@ -31,5 +31,5 @@ returns-in-Refused c = (
   shape_of c.in-Ok.made,
   subst (λ k. move_result k (shape_of c.args.tree) (move_of c.args.item.now) ≡ Some (shape_of c.in-Ok.made)) c.order.ensures.is c.in-Ok.ensures.ok,
   refused-first c.args.g.now (shape_of c.in-Ok.made) c.in-Refused.node c.in-Refused.why c.requires.covered
-      (subst (IsScanned c.args.g.now (singles c.args.g.now.order) (shape_of c.in-Ok.made) 1) c.in-Refused.is c.in_ok-scan_covered.ensures),
+      (subst (IsScanned c.args.g.now (singles c.args.g.now.order) (shape_of c.in-Ok.made) 1) c.in-Refused.is c.in_ok-scan_from_root.ensures),
 )

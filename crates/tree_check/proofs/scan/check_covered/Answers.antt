@@ -7,5 +7,5 @@ use Rattle.tree_check.proofs.scan.check_covered.Goals as goal
 
 pub returns-in-Refused : goal.returns-in-Refused
 returns-in-Refused c =
-    refused-first c.args.g.now (shape_of c.args.tree.now) c.in-Refused.node c.in-Refused.why c.requires.covered
-    (subst (IsScanned c.args.g.now (singles c.args.g.now.order) (shape_of c.args.tree.now) 1) c.in-Refused.is c.in_ok-scan_covered.ensures)
+    refused-first c.args.c.now (shape_of c.args.tree.now) c.in-Refused.node c.in-Refused.why c.keeps_covered.ensures.covered
+    (subst (IsScanned c.args.c.now (singles c.args.c.now.order) (shape_of c.args.tree.now) 1) c.in-Refused.is c.in_ok-scan_covered.ensures)

@@ -1,5 +1,6 @@
-use Rattle.std.proofs.Common.{refl}
+use Rattle.tree_core.specs.Derivations.{IsLeafAt}
 use Rattle.tree_check.proofs.scan.scan_leaf.Goals as goal
 
-pub returns-in-None : goal.returns-in-None
-returns-in-None c = (c.in_ok-cut.ensures.none c.in-None.is, refl)
+pub returns : goal.returns
+unfolding IsLeafAt
+returns c = c.scanned_leaf.ensures c.args.g.now c.args.p.now.blocks c.in_ok-found.ensures.first c.in_ok-found.ensures.none.0
