@@ -15,7 +15,7 @@ ghost use Rattle.uncross.specs.MapView.{maps_of};
 use crate::block_images::{Images, image_names};
 use crate::exchanges::exchange_at;
 use crate::leaf_maps::{LeafMap, LeafMaps, Switched, maps_after};
-use crate::leaf_orders::{count_leaves, move_order};
+use crate::leaf_orders::move_order;
 use graph_core::MultiGraph;
 use std::alloc::{AllocError as Memory, Global};
 use tree_core::{Move, Moves, Tree, apply, copy, leaves};
@@ -29,11 +29,13 @@ pub fn own_maps(alloc: Global, n: u32, tree: &Tree) -> Result<LeafMaps, Memory>
     requires few { leaf_count (shape_of tree.now) ≤ 255 }
     ensures { IfOk result (λ maps. maps_of maps ≡ own_maps n (shape_of tree.now)) }
 {
-    let leaves = leaves(alloc, tree, n)?;
+    let mut rest = leaves(alloc, tree, n)?.into_items().into_iter();
     let mut maps = LeafMaps::new(alloc);
-    for i in 0..count_leaves(tree) {
-        let images = image_names(alloc, &Images::Own, leaves.get(i as usize))?;
-        maps.push(LeafMap { to: i + 1, images })?;
+    let mut to = 0;
+    'leaves: while let Some(leaf) = rest.next() {
+        let images = image_names(alloc, &Images::Own, &leaf)?;
+        to += 1;
+        maps.push(LeafMap { to, images })?;
     }
     Ok(maps)
 }

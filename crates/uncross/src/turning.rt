@@ -2,15 +2,14 @@
 ghost use Rattle.std.specs.Prelude.{◌≡◌, ◌++◌, ◌∷◌, ◌-◌, ℕ, [], Some, IfOk, OnOk, map, option_map, All};
 ghost use Rattle.counting.specs.Counts.{Within};
 ghost use Rattle.tree_core.specs.MoveView.{moves_of};
-ghost use Rattle.tree_core.specs.Moves.{below, switch_at};
+ghost use Rattle.tree_core.specs.Moves.{below, switch_at, with_child};
 ghost use Rattle.tree_core.specs.Shapes.{Fits, cut};
 ghost use Rattle.tree_core.specs.View.{shape_of};
 ghost use Rattle.move_laws.specs.Turning.{PlainTurned, followed, outer_below, over_inner, over_outer, raised, switched, switched_below};
 ghost use Rattle.uncross.specs.TurnedView.{IsMade, turned_of};
 
 use std::alloc::{AllocError as Memory, Global};
-use std::mem;
-use tree_core::{Move, Moves, Path, Side, Tree, open, rotate, switch};
+use tree_core::{Move, Moves, Opened, Path, Side, Tree, open, rotate, switch};
 use vset_core::VSet;
 
 /// A tree that moves have made, and the moves, with paths from its root.
@@ -82,6 +81,28 @@ fn switch_root(alloc: Global, n: u32, tree: Tree, u: VSet, v: VSet) -> Result<Tu
     }
 }
 
+// A child of the root that was turned is put back, and its new root is brought up. The moves made
+// so far come first.
+fn raise_turned(
+    alloc: Global,
+    opened: Opened,
+    child: Turned,
+    moves: Moves,
+) -> Result<Turned, Memory>
+    ensures { IfOk result
+        (λ r. (s : PlainTurned) →
+        followed (map (below opened.side) (moves_of child.moves))
+        (raised opened.side
+        (with_child opened.side opened.shore (shape_of opened.other.value) (shape_of child.tree))) ≡
+        Some s → IsMade (shape_of r.tree) (moves_of r.moves) (moves_of moves) s) }
+{
+    let mut moves = moves;
+    let side = opened.side;
+    let cut = opened.close(child.tree);
+    let tree = raise(alloc, side, cut, &child.moves, &mut moves)?;
+    Ok(Turned { tree, moves })
+}
+
 // With the outer corner, or its complement, at the root: u and v are exchanged in the child that
 // holds x, and its new root is brought up. The moves made so far come first.
 fn switch_below(
@@ -99,12 +120,8 @@ fn switch_below(
         followed (moves_of moves) (switched_below n x u v (shape_of tree)) ≡ Some s →
         turned_of r ≡ s) }
 {
-    let mut moves = moves;
     match tree {
-        Tree::Leaf => Ok(Turned {
-            tree: Tree::Leaf,
-            moves,
-        }),
+        Tree::Leaf => Ok(Turned { tree, moves }),
         Tree::Cut {
             shore,
             kept,
@@ -116,10 +133,8 @@ fn switch_below(
                 Side::Merged
             };
             let (child, opened) = open(side, shore, kept, merged);
-            let Turned { tree, moves: made } = switch_root(alloc, n, child, u, v)?;
-            let cut = opened.close(tree);
-            let tree = raise(alloc, side, cut, &made, &mut moves)?;
-            Ok(Turned { tree, moves })
+            let turned = switch_root(alloc, n, child, u, v)?;
+            raise_turned(alloc, opened, turned, moves)
         }
     }
 }
@@ -178,39 +193,22 @@ fn turn_below_inner(
         (outer_below n x u v (option_map moves_of outer.now) (shape_of tree)) ≡ Some s →
         turned_of r ≡ s) }
 {
-    let mut moves = moves;
     match tree {
-        Tree::Leaf => Ok(Turned {
-            tree: Tree::Leaf,
-            moves,
-        }),
+        Tree::Leaf => Ok(Turned { tree, moves }),
         Tree::Cut {
             shore,
             kept,
-            mut merged,
-        } => match mem::replace(&mut *merged, Tree::Leaf) {
-            Tree::Leaf => Ok(Turned {
-                tree: Tree::Leaf,
-                moves,
-            }),
-            Tree::Cut {
-                kept: first,
-                merged: second,
-                ..
-            } => {
-                let Turned { tree, moves: made } = turn_over_outer(
-                    alloc, n, x, first, second, u, v, outer,
-                )?;
-                *merged = tree;
-                let cut = Tree::Cut {
-                    shore,
-                    kept,
-                    merged,
-                };
-                let tree = raise(alloc, Side::Merged, cut, &made, &mut moves)?;
-                Ok(Turned { tree, moves })
+            merged,
+        } => {
+            let (child, opened) = open(Side::Merged, shore, kept, merged);
+            match child {
+                Tree::Leaf => Ok(Turned { tree: child, moves }),
+                Tree::Cut { kept, merged, .. } => {
+                    let turned = turn_over_outer(alloc, n, x, kept, merged, u, v, outer)?;
+                    raise_turned(alloc, opened, turned, moves)
+                }
             }
-        },
+        }
     }
 }
 
