@@ -46,24 +46,39 @@ pub(crate) fn number_at(row: &[u32], i: usize) -> u32
 
 /// For each vertex the edge at it after exchanges in a perfect matching that holds `e` and `f`: each
 /// edge that is not marked is put in if two edges in place of two allow it, and both that go are
-/// marked and neither `e` nor `f`. `marked` is the row of the edges that are known to lie together
-/// with `e`.
+/// marked and neither `e` nor `f`. Marked are first the edges that are known to lie together with
+/// `e`, then those with `f`; what goes then is marked for both.
 pub(crate) fn exchanged(
     alloc: Global,
     g: &MultiGraph,
     joins: &Joins,
-    marked: &[bool],
+    with_e: &[bool],
+    with_f: &[bool],
     found: &Matching,
     e: u32,
     f: u32,
 ) -> Result<Vec<u32>, Memory> {
     let mut at = edges_at(alloc, found)?;
+    put_in(&mut at, g, joins, with_e, with_e, e, f);
+    put_in(&mut at, g, joins, with_f, with_e, e, f);
+    Ok(at)
+}
+
+// Puts in the edges that are not marked in the first row; what goes is marked in both.
+fn put_in(
+    at: &mut [u32],
+    g: &MultiGraph,
+    joins: &Joins,
+    marked: &[bool],
+    also: &[bool],
+    e: u32,
+    f: u32,
+) {
     for k in 0..g.size() {
         if !is_marked(marked, k + 1) {
-            exchange(&mut at, g, joins, marked, e, f, k + 1);
+            exchange(at, g, joins, marked, also, e, f, k + 1);
         }
     }
-    Ok(at)
 }
 
 // For each vertex the edge of the matching at it.
@@ -78,13 +93,25 @@ fn edges_at(alloc: Global, m: &Matching) -> Result<Vec<u32>, Memory> {
 }
 
 // Puts edge `k` in, with the edge between the far ends of the two that go.
-fn exchange(at: &mut [u32], g: &MultiGraph, joins: &Joins, marked: &[bool], e: u32, f: u32, k: u32)
+fn exchange(
+    at: &mut [u32],
+    g: &MultiGraph,
+    joins: &Joins,
+    marked: &[bool],
+    also: &[bool],
+    e: u32,
+    f: u32,
+    k: u32,
+)
     requires { Within (size g.now) k }
 {
     let ends = g.ends(k);
     let first = number_at(at, ends.a as usize);
     let second = number_at(at, ends.b as usize);
-    if first == second || !may_go(marked, e, f, first) || !may_go(marked, e, f, second) {
+    if first == second || first == e || first == f || second == e || second == f {
+        return;
+    }
+    if !may_go(marked, also, first) || !may_go(marked, also, second) {
         return;
     }
     let a = far_end(g, first, ends.a);
@@ -99,9 +126,9 @@ fn exchange(at: &mut [u32], g: &MultiGraph, joins: &Joins, marked: &[bool], e: u
     put(at, b as usize, closing);
 }
 
-// Whether edge `d` may go: it is marked, and neither `e` nor `f`.
-fn may_go(marked: &[bool], e: u32, f: u32, d: u32) -> bool {
-    d != e && d != f && is_marked(marked, d)
+// Whether edge `d` may go: it is marked in both rows.
+fn may_go(marked: &[bool], also: &[bool], d: u32) -> bool {
+    is_marked(marked, d) && is_marked(also, d)
 }
 
 /// Whether edge `d` is marked.

@@ -11,12 +11,14 @@
 //! Two edges lie together if some perfect matching contains both (`Together`). `together` answers
 //! a `PairTable`: `both` is true exactly for the edges that lie together, and `list` is a pair
 //! list (`IsPairList`), in which each matching holds an edge or a pair of edges that no earlier
-//! one holds (`IsLean`).
+//! one holds (`IsLean`). `no_pairs` begins a table, `seek_pair` lists a matching for one pair, and
+//! `complete_pairs` does the rest.
 //!
 //! Each question on a pair is answered from a perfect matching at hand by one augmentation at
-//! most. Stands on `match_core`, which makes the table of partners and repairs a matching along
-//! one path. Source: Lovász and Plummer, "Matching Theory", chapter 5; Lucchesi and Murty,
-//! "Perfect Matchings".
+//! most. What is found is varied along short alternating cycles before it is listed, so that it
+//! holds many new pairs; the varied one is taken only if it passes a test. Stands on `match_core`,
+//! which makes the table of partners and repairs a matching along one path. Source: Lovász and
+//! Plummer, "Matching Theory", chapter 5; Lucchesi and Murty, "Perfect Matchings".
 #![tactic(auto)]
 
 mod edges;

@@ -69,7 +69,7 @@ impl PairTable {
         })
     }
 
-    /// A perfect matching that holds `e` and `f`, from one, varied so that it holds pairs of `e` that
+    /// A perfect matching that holds `e` and `f`, from one, varied so that it holds pairs of `e` and `f` that
     /// no listed one holds.
     pub(crate) fn varied(
         &self,
@@ -87,7 +87,9 @@ impl PairTable {
         ensures perfect { IfOk result (IsPerfectWith g.now e) }
         ensures held { IfOk result (λ m. mem (edges_of m) f ≡ true) }
     {
-        varied(alloc, g, &self.joins, self.table.row(e), found, e, f)
+        let with_e = self.table.row(e);
+        let with_f = self.table.row(f);
+        varied(alloc, g, &self.joins, with_e, with_f, found, e, f)
     }
 
     /// Lists one matching more, and marks all pairs of its edges.

@@ -18,12 +18,14 @@ use std::alloc::{AllocError as Memory, Global};
 use vset_core::VSet;
 
 /// A perfect matching that holds `e` and `f`, from one: exchanged so that it holds more of the
-/// edges that are not marked, where this gives a perfect matching, and else the same.
+/// edges that are not marked in the rows of `e` and of `f`, if this gives a perfect matching, and
+/// else the same.
 pub(crate) fn varied(
     alloc: Global,
     g: &MultiGraph,
     joins: &Joins,
-    marked: &[bool],
+    with_e: &[bool],
+    with_f: &[bool],
     found: Matching,
     e: u32,
     f: u32,
@@ -35,7 +37,7 @@ pub(crate) fn varied(
     ensures perfect { IfOk result (IsPerfectWith g.now e) }
     ensures held { IfOk result (λ m. mem (edges_of m) f ≡ true) }
 {
-    let at = exchanged(alloc, g, joins, marked, &found, e, f)?;
+    let at = exchanged(alloc, g, joins, with_e, with_f, &found, e, f)?;
     match perfect_from(alloc, g, &at, e, f)? {
         Some(other) => Ok(other),
         None => Ok(found),

@@ -104,7 +104,7 @@ fn is_quiet(
     match perfect_with_edge(alloc, g, kept, e)? {
         None => Ok(false),
         Some(base) => {
-            let reach = reach_of(alloc, g, base, pairs, e, near)?;
+            let reach = reach_of(alloc, g, base, pairs, e, near, others)?;
             Ok(others.is_subset(reach))
         }
     }
@@ -124,7 +124,7 @@ fn without_ends(g: &MultiGraph, e: u32) -> VSet
 }
 
 // A vertex set widened by edges that lie together with `e`: such are sought where an edge leaves
-// the set.
+// the set, until it holds the others.
 fn reach_of(
     alloc: Global,
     g: &MultiGraph,
@@ -132,6 +132,7 @@ fn reach_of(
     pairs: &mut PairTable,
     e: u32,
     near: VSet,
+    others: VSet,
 ) -> Result<VSet, Memory>
     requires edge { Within (size g.now) e }
     requires base { IsPerfectWith g.now e base }
@@ -145,7 +146,7 @@ fn reach_of(
     for _round in 0..g.order() {
         let before = reach;
         for k in 0..g.size() {
-            if is_in_cut(g, reach, k + 1) && k + 1 != e {
+            if k + 1 != e && !others.is_subset(reach) && is_in_cut(g, reach, k + 1) {
                 kept = seek_pair(alloc, g, kept, pairs, e, k + 1)?;
                 reach = widened(g, pairs, e, reach);
             }
