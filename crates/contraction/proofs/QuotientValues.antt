@@ -61,7 +61,7 @@ module _ (g : Graph) (p : List (List ℕ)) (n : ℕ) (ends : List Ends) (is : n 
     pub pairs-once : EachOnce (map pair_of pairs)
     pairs-once = subst EachOnce (sym joined-here) (joined-once (graph_of n ends))
 
-    pairs-quotient : graph_of n pairs ≡ quotient g p
+    pub pairs-quotient : graph_of n pairs ≡ quotient g p
     pairs-quotient = ap₂ (λ k (ks : List (ℕ × ℕ)). record { order = k; ends = ks }) is joined ∙ joined-quotient g p
 
     pub contraction-same : (q : ContractedValue) → q.order ≡ g.order → q.size ≡ size g → q.blocks ≡ p → q.graph ≡ graph_of n pairs →
@@ -76,3 +76,7 @@ module _ (g : Graph) (p : List (List ℕ)) (n : ℕ) (ends : List Ends) (is : n 
       where
         remembered : map (λ k. rising_list (length ends) (has_ends (graph_of 0 ends) k.0 k.1)) (map pair_of pairs) ≡ map (λ k. edges_between g p k.0 k.1) (quotient g p).ends
         remembered = ap₂ (λ m h. map (λ k. rising_list m (has_ends h k.0 k.1)) (map pair_of pairs)) length-ends here ∙ ap (λ h. map (λ k. edges_between g p k.0 k.1) h.ends) pairs-quotient
+
+-- the ends that the code made are those of the contracted graph
+pub ends-at : (g : Graph) (p : PartitionValue) (edges made read : List Ends) → p.order ≡ g.order → graph_of g.order edges ≡ g → read ≡ made → graph_of (length p.blocks) made ≡ contracted (graph_of p.order edges) p.blocks → graph_of (length p.blocks) read ≡ contracted g p.blocks
+ends-at g p edges made read order all same at = ap (graph_of (length p.blocks)) same ∙ at ∙ ap (λ h. contracted h p.blocks) (ap (λ n. graph_of n edges) order ∙ all)

@@ -170,8 +170,8 @@ fn quotient_by(
     })
 }
 
-// The ends of the edges as places of blocks.
-fn ends_at(alloc: Global, edges: &[Ends], p: &Partition) -> Result<Vec<Ends>, Memory>
+/// The ends of the edges as places of blocks.
+pub(crate) fn ends_at(alloc: Global, edges: &[Ends], p: &Partition) -> Result<Vec<Ends>, Memory>
     requires { IsGraph (graph_of p.now.order edges.now) }
     ensures { IfOk result
         (λ ends. graph_of (length p.now.blocks) ends.items ≡
@@ -261,8 +261,8 @@ fn row_pairs(alloc: Global, rows: &[VSet]) -> Result<Vec<Ends>, Memory>
     Ok(pairs)
 }
 
-// The pairs a < b of places that some edge joins, in lexicographic order.
-fn pairs_joined(alloc: Global, n: u32, ends: &[Ends]) -> Result<Vec<Ends>, Memory>
+/// The pairs a < b of places that some edge joins, in lexicographic order.
+pub(crate) fn pairs_joined(alloc: Global, n: u32, ends: &[Ends]) -> Result<Vec<Ends>, Memory>
     requires few { n ≤ MOST_VERTICES }
     requires graph { IsGraph (graph_of n ends.now) }
     ensures { IfOk result (λ pairs. map pair_of pairs.items ≡ joined_pairs (graph_of n ends.now)) }
@@ -271,8 +271,8 @@ fn pairs_joined(alloc: Global, n: u32, ends: &[Ends]) -> Result<Vec<Ends>, Memor
     row_pairs(alloc, &rows)
 }
 
-// The graph with these edges.
-fn graph_with(alloc: Global, n: u32, pairs: &[Ends]) -> Result<MultiGraph, Memory>
+/// The graph with these edges.
+pub(crate) fn graph_with(alloc: Global, n: u32, pairs: &[Ends]) -> Result<MultiGraph, Memory>
     requires { IsWithinLimits (graph_of n pairs.now) }
     ensures { IfOk result (λ g. g ≡ graph_of n pairs.now) }
 {

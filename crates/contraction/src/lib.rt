@@ -20,11 +20,13 @@
 #![tactic(auto)]
 
 mod contracted;
+mod graph_alone;
 mod laws;
 mod lifting;
 mod partition;
 
 pub use contracted::{Contracted, quotient};
+pub use graph_alone::quotient_graph;
 pub use laws::{
     covered_quotient_law, lift_law, merged_quotients_law, projection_law, tight_quotient_law,
 };

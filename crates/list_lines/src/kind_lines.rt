@@ -1,24 +1,24 @@
 //! The line of `kinds`.
-ghost use Rattle.std.specs.Prelude.{◌≡◌, ◌++◌, IfOk, OnOk, string_bytes};
+ghost use Rattle.std.specs.Prelude.{◌≡◌, ◌++◌, IfOk, Ok, OnOk, string_bytes};
 ghost use Rattle.std.specs.Fmt.{decimal};
-ghost use Rattle.graph_core.specs.Simple.{IsSimple};
+ghost use Rattle.graph6_text.specs.Reading.{outcome_of};
 ghost use Rattle.list_lines.specs.KindLines.{IsKindLine, answer_word, sort_word, why_word, with_standing, with_word, words_behind};
 
 use crate::standing::{Sort, Standing, Why, standing_of};
 use graph_core::MultiGraph;
-use graph6_text::write_graph6;
+use graph6_text::bare_text;
 use std::alloc::{AllocError as Memory, Global};
 
-/// The line of a simple graph: its graph6 text, the numbers of its vertices and edges, and how it
-/// stands.
+/// The line of the graph that stands in a line: its graph6 text, the numbers of its vertices and
+/// edges, and how it stands.
 #[tactic(auto, unfolding(crate::specs::KindLines::kind_line))]
-pub fn kind_line(alloc: Global, g: &MultiGraph) -> Result<Vec<u8>, Memory>
-    requires { IsSimple g.now }
+pub fn kind_line(alloc: Global, g: &MultiGraph, text: &[u8]) -> Result<Vec<u8>, Memory>
+    requires { outcome_of text.now ≡ Ok g.now }
     ensures { IfOk result (λ line. IsKindLine g.now line.items) }
 {
     let standing = standing_of(alloc, g)?;
     let words = words_behind(alloc, g.order(), g.size(), standing)?;
-    let mut line = write_graph6(alloc, g)?;
+    let mut line = Vec::from_slice(alloc, bare_text(text))?;
     line.extend_from_slice(words.as_bytes())?;
     Ok(line)
 }

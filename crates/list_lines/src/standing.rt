@@ -1,16 +1,20 @@
 //! How a graph stands among the matching covered graphs.
-ghost use Rattle.std.specs.Prelude.{◌≡◌, IfOk};
+ghost use Rattle.std.specs.Prelude.{◌≡◌, IfOk, Some};
 ghost use Rattle.graph_core.specs.Verdicts.{reason_of};
-ghost use Rattle.leaf_kinds.specs.LeafKinds.{IsKind};
+ghost use Rattle.leaf_kinds.specs.LeafKinds.{IsKind, cut_of};
+ghost use Rattle.tight_cuts.specs.Candidates.{candidates, first_shore};
+ghost use Rattle.tree_core.specs.Derivations.{IsDerivation};
+ghost use Rattle.tree_core.specs.View.{shape_of};
 ghost use Rattle.list_lines.specs.Standings.{IsCounted, IsStanding, sort_of, why_of};
 
-use decomposer::{NamedOrder, decompose_covered};
+use decomposer::{NamedOrder, decompose_covered, decompose_from_first};
 use graph_core::{Kind, MultiGraph, Reason};
 use graph_facts::Covered;
 use leaf_kinds::kind_of;
 use separation_kit::FirstPairs;
 use std::alloc::{AllocError as Memory, Global};
-use tree_core::{Tally, tally_of_tree};
+use tree_core::{Tally, Tree, tally_of_tree};
+use vset_core::VSet;
 
 /// The kind of the first reason why a graph is not matching covered.
 #[derive(Clone, Copy, Debug, PartialEq, Eq)]
@@ -109,7 +113,8 @@ fn sort_of(kind: &Kind) -> Sort
 // The numbers of bricks and braces of a covered graph of this kind: a brick or a brace is its
 // only leaf.
 fn tally_of_kind(alloc: Global, c: &Covered, kind: Kind) -> Result<Tally, Memory>
-    requires { IsKind c.now kind }
+    requires kind { IsKind c.now kind }
+    requires cut { cut_of kind ≡ first_shore (candidates c.now) }
     ensures { IfOk result (IsCounted c.now) }
 {
     c.keeps_covered();
@@ -124,8 +129,17 @@ fn tally_of_kind(alloc: Global, c: &Covered, kind: Kind) -> Result<Tally, Memory
             bricks: 0,
             braces: 1,
         }),
-        Kind::Composite { .. } => counted(alloc, c),
+        Kind::Composite { cut } => counted_from_cut(alloc, c, cut),
     }
+}
+
+// The numbers of the leaves of a covered graph, from the shore of its first candidate.
+fn counted_from_cut(alloc: Global, c: &Covered, cut: VSet) -> Result<Tally, Memory>
+    requires { first_shore (candidates c.now) ≡ Some cut }
+    ensures { IfOk result (IsCounted c.now) }
+{
+    let tree = decompose_from_first(alloc, c, cut)?;
+    counted_leaves(alloc, c, &tree)
 }
 
 /// The numbers of the leaves of a covered graph, of the derivation for which the first candidates
@@ -134,6 +148,14 @@ pub fn counted(alloc: Global, c: &Covered) -> Result<Tally, Memory>
     ensures { IfOk result (IsCounted c.now) }
 {
     let tree = decompose_covered(alloc, c, &NamedOrder::First)?;
-    let tally = tally_of_tree(alloc, c.graph(), &tree)?;
+    counted_leaves(alloc, c, &tree)
+}
+
+// The numbers of the leaves of a derivation.
+fn counted_leaves(alloc: Global, c: &Covered, tree: &Tree) -> Result<Tally, Memory>
+    requires { IsDerivation c.now (shape_of tree.now) }
+    ensures { IfOk result (IsCounted c.now) }
+{
+    let tally = tally_of_tree(alloc, c.graph(), tree)?;
     Ok(tally)
 }

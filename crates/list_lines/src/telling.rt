@@ -52,7 +52,7 @@ fn answer(
 {
     match query {
         Query::Kinds => {
-            let bytes = kind_line(alloc, g)?;
+            let bytes = kind_line(alloc, g, line)?;
             Ok(Told::Output { bytes })
         }
         Query::Leaves { order } => {

@@ -5,4 +5,4 @@ pub mod PairShores
 pub mod SeparationFacts
 pub mod Flooding
 pub mod FirstSeparations
-pub mod WholePairs
+pub mod Domination

@@ -1,4 +1,4 @@
 pub mod SeparationShores
 pub mod Pairs
 pub mod Floods
-pub mod Wholes
+pub mod Dominators

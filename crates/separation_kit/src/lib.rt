@@ -17,6 +17,7 @@
 #![tactic(auto)]
 
 mod critical;
+mod dominators;
 mod first_pairs;
 mod flood;
 mod laws;

@@ -11,8 +11,8 @@ ghost use Rattle.separation_kit.specs.Pairs.{pair_of};
 ghost use Rattle.separation_kit.specs.SeparationShores.{separation_cuts, shores_at_pair};
 
 use crate::critical::{is_cut_pair, parts_without};
+use crate::dominators::suspects;
 use crate::first_pairs::FirstPairs;
-use crate::flood::whole_without;
 use crate::pair::{Pair, all_pairs};
 use graph_core::{MultiGraph, SetList, add_cut};
 use std::alloc::{AllocError as Memory, Global};
@@ -74,11 +74,11 @@ pub fn separation_cuts(alloc: Global, g: &MultiGraph) -> Result<SetList, Memory>
     ensures { IfOk result (λ cuts. cuts ≡ separation_cuts g.now) }
 {
     g.keeps_limits();
-    let whole = whole_without(g);
+    let sets = suspects(alloc, g)?;
     let pairs = all_pairs(alloc, g.order())?;
     let mut cuts = SetList::new(alloc);
     for pair in &pairs {
-        if is_cut_pair(g, whole, *pair) {
+        if is_cut_pair(g, &sets, *pair) {
             add_pair_cuts(alloc, g, &mut cuts, *pair)?;
         }
     }

@@ -8,7 +8,7 @@ ghost use Rattle.tree_core.specs.Tallies.{AreLeafKinds, IsKindOf, IsLeafKind, Is
 use crate::leaf_partitions::leaves;
 use crate::partitions::Partitions;
 use crate::tree::Tree;
-use contraction::{Partition, quotient};
+use contraction::{Partition, quotient_graph};
 use graph_core::{MultiGraph, Sides};
 use std::alloc::{AllocError as Memory, Global};
 
@@ -48,8 +48,8 @@ fn leaf_kind(alloc: Global, g: &MultiGraph, p: &Partition) -> Result<LeafKind, M
     requires { p.now.order ≡ g.now.order }
     ensures { IfOk result (λ kind. IsLeafKind g.now p.now.blocks kind) }
 {
-    let q = quotient(alloc, g, p)?;
-    kind_of(alloc, q.graph())
+    let q = quotient_graph(alloc, g, p)?;
+    kind_of(alloc, &q)
 }
 
 // The kinds of the leaves, in order.

@@ -1,15 +1,7 @@
-use Rattle.std.proofs.Common.{◌≡◌, ap, ◌∙◌, arith, List, subst, length}
-use Rattle.graph_core.specs.Graph.{Graph}
-use Rattle.graph_core.specs.Partitions.{IsPartition, contracted}
-use Rattle.graph_core.specs.View.{graph_of}
-use Rattle.graph_core.specs.declared.ends.Ends.{Ends}
-use Rattle.contraction.specs.Partition.{PartitionValue}
-use Rattle.contraction.proofs.QuotientValues.{ends-graph, few-blocks}
+use Rattle.std.proofs.Common.{arith, subst}
+use Rattle.graph_core.specs.Partitions.{IsPartition}
+use Rattle.contraction.proofs.QuotientValues.{ends-at, ends-graph, few-blocks}
 use Rattle.contraction.proofs.contracted.quotient.Goals as goal
-
--- the ends that the code made are those of the contracted graph
-ends-at : (g : Graph) (p : PartitionValue) (edges made read : List Ends) → p.order ≡ g.order → graph_of g.order edges ≡ g → read ≡ made → graph_of (length p.blocks) made ≡ contracted (graph_of p.order edges) p.blocks → graph_of (length p.blocks) read ≡ contracted g p.blocks
-ends-at g p edges made read order all same at = ap (graph_of (length p.blocks)) same ∙ at ∙ ap (λ h. contracted h p.blocks) (ap (λ n. graph_of n edges) order ∙ all)
 
 pub overflow_cast-len : goal.overflow_cast-len
 overflow_cast-len c = let f = few-blocks c.args.p.now c.len.result c.keeps_partition.ensures c.len.ensures in omega arith

@@ -1,12 +1,16 @@
-use Rattle.std.proofs.Common.{◌↔◌, refl, subst}
+use Rattle.std.proofs.Common.{◌↔◌, ap, refl, subst, ◌∙◌}
 use Rattle.std.specs.Prelude.{IsTrue}
 use Rattle.graph_core.specs.Graph.{Graph}
 use Rattle.graph_core.specs.Structure.{IsBicritical}
 use Rattle.leaf_kinds.specs.LeafKinds.{IsKind}
+use Rattle.tight_cuts.specs.Candidates.{candidates, first_shore}
 use Rattle.list_lines.proofs.standing.covered_standing.Goals as goal
 
-pub tally_of_kind-requires : goal.tally_of_kind-requires
-tally_of_kind-requires c = subst (λ (g : Graph). IsKind g c.in_ok-kind.kind) c.in_ok-pairs.ensures c.in_ok-kind.ensures.kind
+pub tally_of_kind-requires-clause-kind : goal.tally_of_kind-requires-clause-kind
+tally_of_kind-requires-clause-kind c = subst (λ (g : Graph). IsKind g c.in_ok-kind.kind) c.in_ok-pairs.ensures c.in_ok-kind.ensures.kind
+
+pub tally_of_kind-requires-clause-cut : goal.tally_of_kind-requires-clause-cut
+tally_of_kind-requires-clause-cut c = c.in_ok-kind.ensures.cut ∙ ap (λ (g : Graph). first_shore (candidates g)) c.in_ok-pairs.ensures
 
 pub returns : goal.returns
 returns c = record {
