@@ -10,8 +10,8 @@
 //!
 //! `replay` makes a script of moves on a derivation and judges each tree on the way: it gives the
 //! last tree exactly when all are derivations, and else names the first failing move, with what
-//! `check` answers if its result is not a derivation (`IsReplay` of `specs/Replays`). By the laws of
-//! moves a Rotate needs no test, and a Switch of two blocks only that of its new shore, at the
+//! `check` answers if its result is not a derivation (`IsReplay` of `specs/Replays`). By the laws
+//! of moves a Rotate needs no test, and a Switch of two blocks only that of its new shore, at the
 //! node where it stands; the whole tree is judged after any other Switch, or if that test fails.
 //!
 //! `laws::first_refusal_law`: a derivation has no refusal, and each other tree of a matching
