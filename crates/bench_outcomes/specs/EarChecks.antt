@@ -4,7 +4,7 @@ use Rattle.std.specs.Prelude.{◌≡◌, ◌⊎◌, ℕ, List, length, count_by,
 use Rattle.std.specs.List.{AllByRecursion}
 use Rattle.graph_core.specs.Covered.{IsCovered}
 use Rattle.graph_core.specs.Graph.{Graph, size, IsBipartite}
-use Rattle.ear_core.specs.EarLists.{PlainEars, PlainStep, one, two, IsEarList, IsSingle, IsUnrefinable}
+use Rattle.ear_core.specs.EarLists.{PlainEars, PlainStep, one, two, IsEarList, IsSingle, IsUnrefinable, TakesSingles}
 use Rattle.ear_core.specs.EarTests.{Why, not_path, even_length, bad_ends, inner_on_stage, edge_used, stage_not_covered, ends_early}
 use Rattle.ear_core.specs.Refusals.{IsRefused}
 use Rattle.ear_text.specs.Writing.{ears_text}
@@ -69,13 +69,14 @@ abbrev pub EarCheckGives : Graph → PlainEars → Status → List ℕ → Type 
 EarCheckGives g list status output = AcceptedEars g list status output ⊎ (RefusedEars g list status output ⊎ Uncovered g status output)
 
 -- an ear list of the covered graph, with two ears at once only where neither of them serves
--- alone, and with single ears where the graph is bipartite: the output is its text, and then the
--- numbers of its steps as a comment
+-- alone and no ear list goes on by a single ear, and with single ears where the graph is
+-- bipartite: the output is its text, and then the numbers of its steps as a comment
 pub record BuiltEars (g : Graph) (status : Status) (output : List ℕ) : Type 0 where
   pub covered : IsCovered g
   pub list : PlainEars
   pub is : IsEarList g list
   pub unrefinable : IsUnrefinable g list
+  pub singles : TakesSingles g list
   pub single : IsBipartite g → AllByRecursion IsSingle list.steps
   pub done : status ≡ Done
   pub text : output ≡ ears_report_text (ears_text g.order (size g) list) (length list.steps) (single_count list.steps) (double_count list.steps)

@@ -64,7 +64,7 @@ built-exists g is = elim (covered_or_told g is) [
       let steps = made.0.steps in (
         Done,
         ears_report_text (ears_text g.order (size g) made.0) (length steps) (single_count steps) (double_count steps),
-        inl (record { covered = cov; list = made.0; is = made.1; unrefinable = made.3; single = made.4; done = refl; text = refl }),
+        inl (record { covered = cov; list = made.0; is = made.1; unrefinable = made.3; singles = made.5; single = made.4; done = refl; text = refl }),
       )
 ]
 

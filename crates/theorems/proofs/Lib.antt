@@ -16,6 +16,7 @@ pub mod EarCounts
 pub mod EarPaths
 pub mod EarRefusals
 pub mod EarSteps
+pub mod LoneSteps
 pub mod ExtendableGraphs
 pub mod FirstParted
 pub mod HetyeiEars

@@ -184,6 +184,7 @@ eared named status output read cov (inl made) = (
     list = made.list;
     ears = made.is;
     unrefinable = made.unrefinable;
+    singles = made.singles;
     single = made.single;
     stands = subst (λ (o : List ℕ). Stands (ear_format named.graph.order (size named.graph)) o made.list) (sym made.text) (stands-ears named.graph made.list read made.is);
   },

@@ -22,7 +22,7 @@ use Rattle.tree_text.specs.TreeFormat.{tree_format}
 use Rattle.line_text.specs.Format.{Stands}
 use Rattle.move_laws.specs.SameLeaf.{image}
 use Rattle.move_text.specs.MoveFormat.{move_format}
-use Rattle.ear_core.specs.EarLists.{IsEarList, IsSingle, IsUnrefinable, PlainEars}
+use Rattle.ear_core.specs.EarLists.{IsEarList, IsSingle, IsUnrefinable, PlainEars, TakesSingles}
 use Rattle.ear_text.specs.EarFormat.{ear_format}
 use Rattle.report_text.specs.Analyses.{analysis_text}
 use Rattle.report_text.specs.Comparisons.{pairing_text}
@@ -75,11 +75,13 @@ pub record TellsKind (named : NamedGraph) (output : List ℕ) : Type 0 where
   pub text : output ≡ with_given_names (analysis_text lines) named.names false
 
 -- the output of `ears` tells an ear decomposition, with two ears at once only where neither of
--- them serves alone, and with single ears where the graph is bipartite
+-- them serves alone and no ear decomposition goes on by a single ear, and with single ears where
+-- the graph is bipartite
 pub record TellsEars (g : Graph) (output : List ℕ) : Type 0 where
   pub list : PlainEars
   pub ears : IsEarList g list
   pub unrefinable : IsUnrefinable g list
+  pub singles : TakesSingles g list
   pub single : IsBipartite g → AllByRecursion IsSingle list.steps
   pub stands : Stands (ear_format g.order (size g)) output list
 

@@ -4,7 +4,7 @@ ghost use Rattle.std.specs.Prelude.{◌≡◌, ◌+◌, ℕ, true, not, List};
 ghost use Rattle.std.specs.List.{AllByRecursion};
 ghost use Rattle.counting.specs.Counts.{Within, count};
 ghost use Rattle.counting.specs.Sets.{Set, everything};
-ghost use Rattle.ear_core.specs.EarLists.{IsEarList, IsSingle, IsUnrefinable, PlainEars};
+ghost use Rattle.ear_core.specs.EarLists.{IsEarList, IsSingle, IsUnrefinable, PlainEars, TakesSingles};
 ghost use Rattle.ear_core.specs.Ears.{IsEar, last_vertex};
 ghost use Rattle.ear_core.specs.Stages.{IsStage, is_met, with_edges};
 ghost use Rattle.graph_core.specs.Covered.{IsCovered};
@@ -12,14 +12,14 @@ ghost use Rattle.graph_core.specs.Graph.{Graph, IsBipartite, IsGraph, IsMultigra
 ghost use Rattle.theorems.specs.Ears.{ear_count};
 
 /// Each matching covered graph has an edge, and from each edge an ear decomposition with steps of
-/// one ear or two, where neither of two ears alone keeps the stage matching covered, and with
-/// single ears alone if it is bipartite (Lovász and Plummer, "Matching Theory", sections 4.1 and
-/// 5.4).
+/// one ear or two, where two ears are added only at a stage from which no ear decomposition goes on
+/// by a single ear and neither of the two alone keeps the stage matching covered, and with single
+/// ears alone if it is bipartite (Lovász and Plummer, "Matching Theory", sections 4.1 and 5.4).
 pub fn ear_list_exists_law()
     ensures edge { (g : Graph) → IsMultigraph g → IsCovered g → Within (size g) 1 }
     ensures list { (g : Graph) (e : ℕ) → IsMultigraph g → IsCovered g → Within (size g) e →
         (list : PlainEars) × IsEarList g list × (list.start ≡ e) × IsUnrefinable g list ×
-        (IsBipartite g → AllByRecursion IsSingle list.steps) }
+        (IsBipartite g → AllByRecursion IsSingle list.steps) × TakesSingles g list }
 {}
 
 /// Each ear decomposition of a matching covered graph with n vertices and m edges has m - n + 1
