@@ -18,7 +18,7 @@ use Rattle.ear_core.specs.EarLists.{PlainEar, PlainStep, one, two, FitsEar, IsSt
 use Rattle.ear_core.specs.Ears.{last_vertex, trail, IsEar}
 use Rattle.ear_core.specs.StageGraphs.{listed}
 use Rattle.ear_core.specs.Stages.{is_met, IsStage}
-use Rattle.ear_core.specs.declared.choosing.Asked.{Asked}
+use Rattle.ear_core.specs.declared.asking.Asked.{Asked}
 use Rattle.ear_core.proofs.EngineGraphs.{served_listed}
 use Rattle.ear_core.proofs.TraceEdges.{edges-within}
 use Rattle.ear_core.proofs.NextStages.{met-within}

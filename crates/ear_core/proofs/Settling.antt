@@ -1,46 +1,24 @@
 -- The edges of the ears of a step, asked one by one: what an answer of the engine says of an
 -- edge, and what is known after it.
-use Rattle.std.proofs.Common.{◌≡◌, ◌≢◌, ℕ, ◌<◌, ◌≤◌, arith, eqb-true, inl, inr, Bool, true, false, ◌==◌, refl, sym, ap, ap₂, ◌∙◌, ◌&&◌, ◌||◌, not, Some, None, Option, Result, Ok, Err, IfOk, ◌∷◌, List, subst, ◌↔◌}
+use Rattle.std.proofs.Common.{◌≡◌, ℕ, ◌<◌, ◌≤◌, arith, eqb-true, inl, inr, Bool, true, false, ◌==◌, refl, sym, ap, ap₂, ◌∙◌, ◌||◌, Some, None, Option, Result, Ok, Err, IfOk, [], ◌∷◌, List, subst, ◌↔◌}
 use Rattle.std.proofs.lemmas.Bool.{or_cases, true≢false}
 use Rattle.counting.specs.Counts.{Within}
 use Rattle.counting.specs.Lists.{mem}
-use Rattle.counting.specs.Sets.{Set, union, complement, pair_set, none}
-use Rattle.counting.proofs.Booleans.{or_assoc}
-use Rattle.graph_core.specs.Graph.{Graph, size, IsGraph, first_end, second_end, with_ends}
-use Rattle.graph_core.specs.Matchings.{HasPerfect}
-use Rattle.ear_core.specs.Stages.{is_met, AllowedBy, with_edges}
-use Rattle.ear_core.specs.StageGraphs.{listed, IsBehind, IsUpTo, Settled, asked_too}
-use Rattle.ear_core.proofs.EngineGraphs.{served_listed, edge_serves}
+use Rattle.counting.specs.Sets.{Set, none, pair_set}
+use Rattle.graph_core.specs.Graph.{Graph, IsMultigraph, first_end, second_end, size}
+use Rattle.ear_core.specs.AlternatingEars.{Serves}
+use Rattle.ear_core.specs.Stages.{AllowedBy, with_edges}
+use Rattle.ear_core.specs.StageGraphs.{IsBehind, IsUpTo, Settled, asked_too}
+use Rattle.ear_core.proofs.EngineGraphs.{edge_serves}
+use Rattle.ear_core.proofs.LoneMatchings.{pair-is}
+use Rattle.ear_core.proofs.Searching.{serves-same}
 
--- sets that agree on the vertices leave the same perfect matchings
-removed-same : (h : Graph) (r x : Set) → ((v : ℕ) → Within h.order v → r v ≡ x v) → HasPerfect h r → HasPerfect h x
-removed-same h r x same m = (m.0, record { once = λ v w o. m.1.once v w (same v w ∙ o); away = λ v w o. m.1.away v w (same v w ∙ o) })
-
--- the question to the engine
-pub engine-asked : (g : Graph) → IsGraph g → (f r : Set) (e : ℕ) → Within (size g) e → first_end g e ≢ second_end g e → f e ≡ true →
-    ((v : ℕ) → Within g.order v → r v ≡ (not (is_met g f v) || ((first_end g e == v) || (second_end g e == v)))) → HasPerfect (with_ends g (listed g f (size g))) r ↔ AllowedBy g f e
-engine-asked g is f r e within differ marked same =
-    let ends = edge_serves g f e is within differ marked in
-    let asked = served_listed g f (pair_set (first_end g e) (second_end g e)) in
-    let h = with_ends g (listed g f (size g)) in
-    let x = union (complement (is_met g f)) (pair_set (first_end g e) (second_end g e)) in
-    (λ m. ends.1 (asked.1 (removed-same h r x same m)), λ m. removed-same h x r (λ v w. sym (same v w)) (asked.0 (ends.0 m)))
-
--- the vertices that are left out: those off the stage, and the two ends
-pub removed-is : (g : Graph) (f : Set) (n a b e : ℕ) (full met outside first removed : List ℕ) → n ≡ g.order → ((v : ℕ) → (mem full v ≡ true) ↔ Within n v) → ((v : ℕ) → mem outside v ≡ (mem full v && not (mem met v))) → ((v : ℕ) → mem first v ≡ (mem outside v || a == v)) → ((v : ℕ) → mem removed v ≡ (mem first v || b == v)) →
-    ((v : ℕ) → mem met v ≡ is_met g f v) → a ≡ first_end g e → b ≡ second_end g e → (v : ℕ) → Within g.order v → mem removed v ≡ (not (is_met g f v) || ((first_end g e == v) || (second_end g e == v)))
-removed-is g f n a b e full met outside first removed order is_full is_outside is_first is_removed are_met is_a is_b v within =
-    is_removed v ∙ ap (λ x. x || b == v) (is_first v ∙ ap (λ x. x || a == v) (is_outside v ∙ ap₂ (λ x y. x && not y) ((is_full v).1 (subst (λ k. Within k v) (sym order) within)) (are_met v)))
-    ∙ or_assoc (not (is_met g f v)) (a == v) (b == v) ∙ ap₂ (λ x y. not (is_met g f v) || ((x == v) || (y == v))) is_a is_b
-
-module _ (g : Graph) (is : IsGraph g) (f r : Set) (e : ℕ) (within : Within (size g) e) (differ : first_end g e ≢ second_end g e) (marked : f e ≡ true)
-    (same : (v : ℕ) → Within g.order v → r v ≡ (not (is_met g f v) || ((first_end g e == v) || (second_end g e == v)))) (stage : Graph) (listed_edges : stage ≡ with_ends g (listed g f (size g))) where
-  -- the answers of the engine
-  pub found-allowed : HasPerfect stage r → AllowedBy g f e
-  found-allowed m = (engine-asked g is f r e within differ marked same).0 (subst (λ h. HasPerfect h r) listed_edges m)
-
-  pub none-refused : (HasPerfect stage r → ⊥) → AllowedBy g f e → ⊥
-  none-refused nothing allowed = nothing (subst (λ h. HasPerfect h r) (sym listed_edges) ((engine-asked g is f r e within differ marked same).1 allowed))
+-- an edge of the stage lies in a perfect matching of it if its two ends serve
+pub ends-serve : (g : Graph) → IsMultigraph g → (f : Set) (e a b : ℕ) (first both : List ℕ) → Within (size g) e → f e ≡ true → a ≡ first_end g e → b ≡ second_end g e → first ≡ a ∷ [] → ((w : ℕ) → mem both w ≡ (mem first w || b == w)) → Serves g f (mem both) ↔ AllowedBy g f e
+ends-serve g is f e a b first both w on at_a at_b one joined =
+    let ends = edge_serves g f e is.ends w (is.no_loop e w) on in
+    let same : (v : ℕ) → mem both v ≡ pair_set (first_end g e) (second_end g e) v = λ v. pair-is first both a b one joined v ∙ ap₂ (λ x y. pair_set x y v) at_a at_b in
+    (λ q. ends.1 (serves-same g f (mem both) (pair_set (first_end g e) (second_end g e)) same q), λ q. serves-same g f (pair_set (first_end g e) (second_end g e)) (mem both) (λ v. sym (same v)) (ends.0 q))
 
 -- an edge that is asked too: one that was asked, or e
 one-too : (asked : Set) (e w : ℕ) (P : Type 0) → asked_too asked e w ≡ true → (asked w ≡ true → P) → (e ≡ w → P) → P

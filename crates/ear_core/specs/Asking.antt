@@ -8,7 +8,7 @@ use Rattle.ear_core.specs.AlternatingEars.{Serves, ends_of_ear}
 use Rattle.ear_core.specs.EarLists.{PlainEar, PlainStep, two}
 use Rattle.ear_core.specs.StageGraphs.{listed}
 use Rattle.ear_core.specs.Stages.{is_met}
-use Rattle.ear_core.specs.declared.choosing.Asked.{Asked}
+use Rattle.ear_core.specs.declared.asking.Asked.{Asked}
 
 -- it is asked about the edges of f, beside the vertices off the stage
 pub record IsAsked (g : Graph) (f : Set) (asked : Asked) : Type 0 where

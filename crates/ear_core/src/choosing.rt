@@ -1,57 +1,22 @@
 //! The choice of a step among ears that two perfect matchings make.
-ghost use Rattle.std.specs.Prelude.{◌≡◌, ◌+◌, ℕ, true, false, length, map, IfOk, IfSome, IfNone};
+ghost use Rattle.std.specs.Prelude.{◌≡◌, ◌+◌, ℕ, length, map, IfOk, IfSome, IfNone};
 ghost use Rattle.std.specs.List.{AllByRecursion};
 ghost use Rattle.counting.specs.Lists.{mem};
 ghost use Rattle.counting.specs.Sets.{Set};
-ghost use Rattle.graph_core.specs.Graph.{Graph, size, IsBipartite};
+ghost use Rattle.graph_core.specs.Graph.{size, IsBipartite};
 ghost use Rattle.match_search.specs.Rows.{marks};
-ghost use Rattle.ear_core.specs.AlternatingEars.{Serves, ends_of_ear, AreCandidates, IsChosen};
+ghost use Rattle.ear_core.specs.AlternatingEars.{ends_of_ear, AreCandidates, IsChosen};
 ghost use Rattle.ear_core.specs.Asking.{IsAsked, FindsBeside, FindsTwo, NoneServesBeside, NoTwoServe};
 ghost use Rattle.ear_core.specs.EarLists.{next_stage, IsStep, IsSingle, IsNeeded, FitsEar};
 ghost use Rattle.ear_core.specs.Stages.{is_met, IsStage};
 ghost use Rattle.ear_core.specs.View.{ear_of, step_of};
 
+use crate::asking::{Asked, asked_about, serves};
 use crate::ears::{Ear, Step};
-use crate::stages::marked_graph;
 use crate::tracing::across;
 use graph_core::{MultiGraph, Numbers};
-use match_core::perfect_without;
 use std::alloc::{AllocError as Memory, Global};
 use vset_core::VSet;
-
-/// The graph of a stage as the matching engine is asked about it: on all vertices, beside those
-/// off the stage.
-#[derive(Drop)]
-pub struct Asked {
-    pub stage: MultiGraph,
-    pub outside: VSet,
-}
-
-// The graph of the marked edges, which meet the vertices `met`.
-fn asked_about(alloc: Global, g: &MultiGraph, mark: &[bool], met: VSet) -> Result<Asked, Memory>
-    requires long { length mark.now ≡ size g.now + 1 }
-    requires met { (v : ℕ) → mem met v ≡ is_met g.now (marks mark.now) v }
-    ensures { IfOk result (IsAsked g.now (marks mark.now)) }
-{
-    g.keeps_limits();
-    Ok(Asked {
-        stage: marked_graph(alloc, g, mark)?,
-        outside: VSet::full(g.order()).minus(met),
-    })
-}
-
-// Whether the stage has a perfect matching without the vertices of a set.
-fn serves(alloc: Global, asked: &Asked, ends: VSet) -> Result<bool, Memory>
-    ensures yes { (g : Graph) (f : Set) → IsAsked g f asked.now →
-        IfOk result (λ b. b ≡ true → Serves g f (mem ends)) }
-    ensures no { (g : Graph) (f : Set) → IsAsked g f asked.now →
-        IfOk result (λ b. b ≡ false → Serves g f (mem ends) → ⊥) }
-{
-    let Some(_) = perfect_without(alloc, &asked.stage, asked.outside.union(ends))? else {
-        return Ok(false);
-    };
-    Ok(true)
-}
 
 // A copy of an ear.
 fn copy_of(alloc: Global, ear: &Ear) -> Result<Ear, Memory>

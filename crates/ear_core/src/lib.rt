@@ -30,6 +30,7 @@
 //! Theory", chapter 5.
 #![tactic(auto)]
 
+mod asking;
 mod building;
 mod checking;
 mod choosing;

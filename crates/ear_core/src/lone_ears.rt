@@ -1,17 +1,17 @@
 //! The search for a perfect matching that leads out of a stage at two of its vertices alone.
-ghost use Rattle.std.specs.Prelude.{◌≡◌, ◌+◌, ◌<◌, ◌&&◌, ℕ, length, true, IfOk, IfSome, IfNone};
+ghost use Rattle.std.specs.Prelude.{◌≡◌, ◌+◌, ◌<◌, ℕ, length, true, IfOk, IfSome, IfNone};
 ghost use Rattle.counting.specs.Counts.{Within};
 ghost use Rattle.counting.specs.Lists.{mem, rising_list};
 ghost use Rattle.counting.specs.Sets.{Set, pair_set};
-ghost use Rattle.graph_core.specs.Graph.{size, with_ends};
-ghost use Rattle.match_core.specs.MatchingRows.{edges_of, IsOf};
+ghost use Rattle.graph_core.specs.Graph.{size};
+ghost use Rattle.match_core.specs.MatchingRows.{edges_of};
 ghost use Rattle.match_search.specs.Rows.{marks};
 ghost use Rattle.ear_core.specs.AlternatingEars.{IsPerfectRows};
 ghost use Rattle.ear_core.specs.LoneEars.{is_open, IsPerfectBy, LeadsAtTwo};
 ghost use Rattle.ear_core.specs.StageGraphs.{by_rank};
 ghost use Rattle.ear_core.specs.Stages.{is_met};
 
-use crate::stages::marked_graph;
+use crate::asking::marked_graph;
 use graph_core::{MultiGraph, Numbers};
 use match_core::{Matching, perfect_with, perfect_without};
 use std::alloc::{AllocError as Memory, Global};

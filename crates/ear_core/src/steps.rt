@@ -1,17 +1,18 @@
 //! A step of an ear list, taken on the row of marks of a stage.
-ghost use Rattle.std.specs.Prelude.{◌≡◌, ◌+◌, ◌<◌, ◌||◌, ℕ, true, false, length, All, Some, None, IfOk, IfSome, IfNone};
+ghost use Rattle.std.specs.Prelude.{◌≡◌, ◌+◌, ◌<◌, ◌||◌, ℕ, true, length, All, Some, None, IfOk, IfSome, IfNone};
 ghost use Rattle.counting.specs.Counts.{Within};
 ghost use Rattle.counting.specs.Lists.{mem};
 ghost use Rattle.counting.specs.Sets.{none};
 ghost use Rattle.graph_core.specs.Graph.{size};
 ghost use Rattle.match_search.specs.Rows.{marks};
-ghost use Rattle.ear_core.specs.EarLists.{FitsStep, next_stage, IsStep};
+ghost use Rattle.ear_core.specs.EarLists.{FitsStep, next_stage};
 ghost use Rattle.ear_core.specs.Refusals.{step_fault};
 ghost use Rattle.ear_core.specs.StageGraphs.{Settled};
 ghost use Rattle.ear_core.specs.Stages.{IsStage};
 ghost use Rattle.ear_core.specs.TakenSteps.{IsTaken};
 ghost use Rattle.ear_core.specs.View.{step_of, why_of};
 
+use crate::asking::asked_about;
 use crate::ears::Step;
 use crate::faults::{met_by, tested};
 use crate::judgement::EarWhy;
@@ -89,11 +90,11 @@ fn refused_edge(
         (λ ear. All (λ e. marks mark.now e ≡ true) ear.edges) }
     ensures { IfOk result (Settled g.now (marks mark.now) (next_stage none (step_of step.now))) }
 {
-    let met = met_by(g, mark);
-    let least = least_refused(alloc, g, mark, met, None, step.first.edges.as_slice())?;
+    let asked = asked_about(alloc, g, mark, met_by(g, mark))?;
+    let least = least_refused(alloc, g, &asked, None, step.first.edges.as_slice())?;
     match &step.second {
         None => Ok(least),
-        Some(second) => least_refused(alloc, g, mark, met, least, second.edges.as_slice()),
+        Some(second) => least_refused(alloc, g, &asked, least, second.edges.as_slice()),
     }
 }
 

@@ -2,7 +2,7 @@
 -- exists.
 -- Idea: one perfect matching is kept; another one that holds an edge leading out of the stage
 -- makes ears with it, of which one or two serve (the two-ear theorem).
-use Rattle.std.proofs.Common.{[], ◌≡◌, ℕ, zero, suc, ◌+◌, ◌<◌, ◌⊎◌, true, not, ◌&&◌, ◌||◌, refl, sym, arith, inl, inr, List, ◌∷◌, Bool, false}
+use Rattle.std.proofs.Common.{[], ◌≡◌, ℕ, zero, suc, ◌+◌, ◌<◌, ◌⊎◌, true, not, ◌&&◌, ◌||◌, refl, arith, inl, inr, List, ◌∷◌, false}
 use Rattle.std.proofs.lemmas.Bool.{and_parts, cases_eq, not-true}
 use Rattle.std.specs.List.{AllByRecursion}
 use Rattle.barrier_kit.proofs.ClassLaw.{perfect_or_not}

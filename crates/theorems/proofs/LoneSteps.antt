@@ -1,6 +1,6 @@
 -- Whether a perfect matching leads out of a stage at two vertices alone is decided.
 -- Idea: for each two vertices the graph of the open edges has a perfect matching or none.
-use Rattle.std.proofs.Common.{◌≡◌, ◌≢◌, ℕ, zero, suc, ◌⊎◌, arith, inl, inr, true, sym, subst}
+use Rattle.std.proofs.Common.{◌≡◌, ◌≢◌, ℕ, zero, suc, ◌⊎◌, arith, inl, inr, true, subst}
 use Rattle.std.proofs.lemmas.Bool.{both_ways, cases_Bool, cases_eq}
 use Rattle.barrier_kit.proofs.ClassLaw.{perfect_or_not}
 use Rattle.counting.proofs.Lists.{rising_only}
@@ -9,7 +9,6 @@ use Rattle.counting.specs.Lists.{mem}
 use Rattle.counting.specs.Sets.{Set, none}
 use Rattle.ear_core.proofs.MarkedMatchings.{marked-listed, marked-perfect}
 use Rattle.ear_core.proofs.NextStages.{met-within}
-use Rattle.ear_core.specs.AlternatingEars.{IsPerfectRows}
 use Rattle.ear_core.specs.LoneEars.{IsPerfectBy, LeadsAtTwo, is_open}
 use Rattle.ear_core.specs.StageGraphs.{by_rank, listed}
 use Rattle.ear_core.specs.Stages.{is_met}
@@ -18,16 +17,16 @@ use Rattle.match_core.proofs.MatchingEdges.{marked-edges, marked_matching}
 use Rattle.match_core.specs.MatchingRows.{edges_of}
 use Rattle.theorems.proofs.EarPaths.{perfect-rows}
 
--- a property that is decided at each number holds at one, or at none
-within-or : (n : ℕ) (P : ℕ → Type 0) → ((k : ℕ) → Within n k → P k ⊎ (P k → ⊥)) → ((k : ℕ) × Within n k × P k) ⊎ ((k : ℕ) → Within n k → P k → ⊥)
-within-or zero P each = inr (λ k w p. absurd (omega arith))
+-- where a property is decided at each number, so is whether it holds at one
+within-or : (n : ℕ) (P : ℕ → Type 0) → ((k : ℕ) → Within n k → P k ⊎ (P k → ⊥)) → ((k : ℕ) × Within n k × P k) ⊎ ((k : ℕ) × Within n k × P k → ⊥)
+within-or zero P each = inr (λ x. let w = x.1 in absurd (omega arith))
 within-or (suc n) P each = elim (each (suc n) (omega arith, omega arith)) [
   | inl p ↦ inl (suc n, (omega arith, omega arith), p)
   | inr never ↦ elim (within-or n P (λ k w. each k (omega arith, omega arith))) [
-    | inl found ↦ inl (found.0, (omega arith, omega arith), found.2)
-    | inr none ↦ inr (λ k w p. elim (cases_eq k (suc n)) [
-      | inl e ↦ never (subst P e p)
-      | inr d ↦ none k (omega arith, omega arith) p
+    | inl found ↦ let w = found.1 in inl (found.0, (omega arith, omega arith), found.2)
+    | inr none ↦ inr (λ x. elim (cases_eq x.0 (suc n)) [
+      | inl e ↦ never (subst P e x.2)
+      | inr d ↦ let w = x.1 in none (x.0, (omega arith, omega arith), x.2)
     ])
   ]
 ]
@@ -55,7 +54,7 @@ module _ (g : Graph) (is : IsGraph g) (f : Set) where
   pub lone-or : ((m : Set) × LeadsAtTwo g f m) ⊎ ((m : Set) → LeadsAtTwo g f m → ⊥)
   lone-or = elim (within-or g.order (λ u. (v : ℕ) × Within g.order v × LeadsAt u v) (λ u wu. within-or g.order (λ v. LeadsAt u v) (λ v wv. leads-or u v))) [
     | inl found ↦ let x = found.2.2 in inl (x.3.0, (found.0, found.2.0, x.0, x.1, x.2, x.3.1))
-    | inr never ↦ inr (λ m x. never x.0 (met-within g is f x.0 x.3) (x.1, met-within g is f x.1 x.4, (x.2, x.3, x.4, (m, x.5))))
+    | inr never ↦ inr (λ m x. never (x.0, met-within g is f x.0 x.3, (x.1, met-within g is f x.1 x.4, (x.2, x.3, x.4, (m, x.5)))))
   ]
 
   -- the rows of such a matching

@@ -3,7 +3,7 @@ use Rattle.std.proofs.lemmas.Bool.{true≢false}
 use Rattle.counting.specs.Lists.{mem}
 use Rattle.match_core.specs.MatchingRows.{edges_of}
 use Rattle.ear_core.proofs.Searching.{asked-serves}
-use Rattle.ear_core.proofs.choosing.serves.Goals as goal
+use Rattle.ear_core.proofs.asking.serves.Goals as goal
 
 pub returns-in_default-clause-no : goal.returns-in_default-clause-no
 returns-in_default-clause-no c = λ g f is no q. c.in_ok-perfect_without.ensures.none.0 (search rules) ((asked-serves g f c.args.asked.now is c.args.ends c.union.result c.union.ensures).1 q)

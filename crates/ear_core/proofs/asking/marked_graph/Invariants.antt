@@ -2,7 +2,7 @@ use Rattle.std.proofs.Common.{◌≡◌, ◌≤◌}
 use Rattle.graph_core.specs.Graph.{size, with_ends}
 use Rattle.match_search.specs.Rows.{marks}
 use Rattle.ear_core.specs.StageGraphs.{listed}
-use Rattle.ear_core.proofs.stages.marked_graph.Given as goal
+use Rattle.ear_core.proofs.asking.marked_graph.Given as goal
 
 -- the marked edges so far
 abbrev pub invariant-loop-k : goal.invariant-loop-k
