@@ -5,3 +5,4 @@ pub mod Loading
 pub mod Loads
 pub mod Reads
 pub mod Refusing
+pub mod Answered

@@ -10,6 +10,7 @@ ghost use Rattle.ear_core.specs.View.{ears_of};
 ghost use Rattle.graph_core.specs.Graph.{size};
 ghost use Rattle.bench_tasks.specs.Asked.{asked};
 ghost use Rattle.bench_tasks.specs.Commands.{Analyse, Analyse6, Check, CheckEars, Compare, Convert, Decompose, DecomposeBy, Ears, Replay, Script};
+ghost use Rattle.bench_tasks.specs.Answered.{GathersAnswered, LoadsAnswered, ReadsOnce, place_name};
 ghost use Rattle.bench_tasks.specs.Loading.{ear_file, file_read, loaded, move_file, moves_given, tree_file, tree_given, trees_given};
 ghost use Rattle.bench_tasks.specs.Loads.{Loads, given_tree, given_trees, given_moves, task_of};
 ghost use Rattle.bench_tasks.specs.Reads.{ReadsAs, StopsAt, file_names};
@@ -41,7 +42,9 @@ fn load<S: Shelf, F: FileFormat>(
     ensures loads { Loads S.files S.steady S.faults F.meaning
         (λ files. file_read place (F.reading format.now) (file_named name.now files))
         result shelf.old shelf.new }
-    ensures reads { S.reads shelf.old name.now shelf.new }
+    ensures answered { ReadsOnce S.reads name.now place F.meaning
+        (λ files. file_read place (F.reading format.now) (file_named (place_name place) files))
+        result shelf.old shelf.new }
     ensures stops { IfErr result (StopsAt place) }
     ensures keeps { IfOk result (F.keeps format.now) }
 {
@@ -78,7 +81,9 @@ fn load_first<S: Shelf, F: FileFormat>(
     ensures loads { Loads S.files S.steady S.faults F.meaning
         (λ files. file_read 1 (F.reading format.now) (file_named name.now files))
         result shelf.old shelf.new }
-    ensures reads { ReadsAs S.reads (name.now ∷ []) result shelf.old shelf.new }
+    ensures answered { LoadsAnswered S.reads (name.now ∷ []) F.meaning
+        (λ files. file_read 1 (F.reading format.now) (file_named (place_name 1) files))
+        result shelf.old shelf.new }
     ensures keeps { IfOk result (F.keeps format.now) }
 {
     load(alloc, format, name, 1, shelf)
@@ -94,7 +99,9 @@ fn load_tree_for<S: Shelf>(
 ) -> Result<Tree, Stop>
     ensures loads { Loads S.files S.steady S.faults shape_of
         (λ files. tree_file files place name.now graph.now.order) result shelf.old shelf.new }
-    ensures reads { S.reads shelf.old name.now shelf.new }
+    ensures answered { ReadsOnce S.reads name.now place shape_of
+        (λ files. tree_file files place (place_name place) graph.now.order)
+        result shelf.old shelf.new }
     ensures stops { IfErr result (StopsAt place) }
     ensures fits { IfOk result (λ tree. Fits graph.now.order (shape_of tree)) }
 {
@@ -112,7 +119,9 @@ fn load_tree<S: Shelf>(
     ensures loads { Loads S.files S.steady S.faults given_tree
         (λ files. tree_given files graph.now tree.now)
         result shelf.old shelf.new }
-    ensures reads { ReadsAs S.reads (graph.now ∷ tree.now ∷ []) result shelf.old shelf.new }
+    ensures answered { LoadsAnswered S.reads (graph.now ∷ tree.now ∷ []) given_tree
+        (λ files. tree_given files (place_name 1) (place_name 2))
+        result shelf.old shelf.new }
 {
     let named = load_first(alloc, &GraphFile, graph, shelf)?;
     let tree = load_tree_for(alloc, &named.graph, tree, 2, shelf)?;
@@ -130,8 +139,9 @@ fn load_trees<S: Shelf>(
     ensures loads { Loads S.files S.steady S.faults given_trees
         (λ files. trees_given files graph.now first.now second.now)
         result shelf.old shelf.new }
-    ensures reads { ReadsAs S.reads (graph.now ∷ first.now ∷ second.now ∷ []) result shelf.old
-        shelf.new }
+    ensures answered { LoadsAnswered S.reads (graph.now ∷ first.now ∷ second.now ∷ []) given_trees
+        (λ files. trees_given files (place_name 1) (place_name 2) (place_name 3))
+        result shelf.old shelf.new }
 {
     let given = load_tree(alloc, graph, first, shelf)?;
     let second = load_tree_for(alloc, &given.named.graph, second, 3, shelf)?;
@@ -151,7 +161,9 @@ fn load_moves_for<S: Shelf>(
 ) -> Result<Moves, Stop>
     ensures loads { Loads S.files S.steady S.faults moves_of
         (λ files. move_file files name.now graph.now.order) result shelf.old shelf.new }
-    ensures reads { S.reads shelf.old name.now shelf.new }
+    ensures answered { ReadsOnce S.reads name.now 3 moves_of
+        (λ files. move_file files (place_name 3) graph.now.order)
+        result shelf.old shelf.new }
     ensures stops { IfErr result (StopsAt 3) }
     ensures few { IfOk result (λ moves. length moves ≤ most_moves) }
 {
@@ -170,8 +182,9 @@ fn load_moves<S: Shelf>(
     ensures loads { Loads S.files S.steady S.faults given_moves
         (λ files. moves_given files graph.now tree.now moves.now)
         result shelf.old shelf.new }
-    ensures reads { ReadsAs S.reads (graph.now ∷ tree.now ∷ moves.now ∷ []) result shelf.old
-        shelf.new }
+    ensures answered { LoadsAnswered S.reads (graph.now ∷ tree.now ∷ moves.now ∷ []) given_moves
+        (λ files. moves_given files (place_name 1) (place_name 2) (place_name 3))
+        result shelf.old shelf.new }
 {
     let given = load_tree(alloc, graph, tree, shelf)?;
     let moves = load_moves_for(alloc, &given.named.graph, moves, shelf)?;
@@ -186,7 +199,7 @@ fn load_moves<S: Shelf>(
 fn analyse_task<S: Shelf>(alloc: Global, graph: &str, shelf: &mut S) -> Result<Task, Stop>
     ensures loads { Loads S.files S.steady S.faults task_of
         (λ files. loaded files (Analyse graph.now)) result shelf.old shelf.new }
-    ensures reads { ReadsAs S.reads (graph.now ∷ []) result shelf.old shelf.new }
+    ensures answered { GathersAnswered S.reads (Analyse graph.now) result shelf.old shelf.new }
     ensures refuses { GatheredMayRefuse result → MayRefuse (Some (Analyse graph.now)) }
 {
     let named = load_first(alloc, &GraphFile, graph, shelf)?;
@@ -197,7 +210,7 @@ fn analyse_task<S: Shelf>(alloc: Global, graph: &str, shelf: &mut S) -> Result<T
 fn convert_task<S: Shelf>(alloc: Global, graph: &str, shelf: &mut S) -> Result<Task, Stop>
     ensures loads { Loads S.files S.steady S.faults task_of
         (λ files. loaded files (Convert graph.now)) result shelf.old shelf.new }
-    ensures reads { ReadsAs S.reads (graph.now ∷ []) result shelf.old shelf.new }
+    ensures answered { GathersAnswered S.reads (Convert graph.now) result shelf.old shelf.new }
     ensures refuses { GatheredMayRefuse result → MayRefuse (Some (Convert graph.now)) }
 {
     let named = load_first(alloc, &GraphFile, graph, shelf)?;
@@ -208,7 +221,7 @@ fn convert_task<S: Shelf>(alloc: Global, graph: &str, shelf: &mut S) -> Result<T
 fn analyse6_task<S: Shelf>(alloc: Global, graph: &str, shelf: &mut S) -> Result<Task, Stop>
     ensures loads { Loads S.files S.steady S.faults task_of
         (λ files. loaded files (Analyse6 graph.now)) result shelf.old shelf.new }
-    ensures reads { ReadsAs S.reads (graph.now ∷ []) result shelf.old shelf.new }
+    ensures answered { GathersAnswered S.reads (Analyse6 graph.now) result shelf.old shelf.new }
     ensures refuses { GatheredMayRefuse result → MayRefuse (Some (Analyse6 graph.now)) }
 {
     let simple = load_first(alloc, &Graph6File, graph, shelf)?;
@@ -224,7 +237,7 @@ fn decompose_task<S: Shelf>(
 ) -> Result<Task, Stop>
     ensures loads { Loads S.files S.steady S.faults task_of
         (λ files. loaded files (Decompose graph.now order)) result shelf.old shelf.new }
-    ensures reads { ReadsAs S.reads (graph.now ∷ []) result shelf.old shelf.new }
+    ensures answered { GathersAnswered S.reads (Decompose graph.now order) result shelf.old shelf.new }
 {
     let named = load_first(alloc, &GraphFile, graph, shelf)?;
     Ok(Task::Decompose { named, order })
@@ -234,7 +247,7 @@ fn decompose_task<S: Shelf>(
 fn ears_task<S: Shelf>(alloc: Global, graph: &str, shelf: &mut S) -> Result<Task, Stop>
     ensures loads { Loads S.files S.steady S.faults task_of
         (λ files. loaded files (Ears graph.now)) result shelf.old shelf.new }
-    ensures reads { ReadsAs S.reads (graph.now ∷ []) result shelf.old shelf.new }
+    ensures answered { GathersAnswered S.reads (Ears graph.now) result shelf.old shelf.new }
 {
     let named = load_first(alloc, &GraphFile, graph, shelf)?;
     Ok(Task::Ears { named })
@@ -244,7 +257,7 @@ fn ears_task<S: Shelf>(alloc: Global, graph: &str, shelf: &mut S) -> Result<Task
 fn check_task<S: Shelf>(alloc: Global, graph: &str, tree: &str, shelf: &mut S) -> Result<Task, Stop>
     ensures loads { Loads S.files S.steady S.faults task_of
         (λ files. loaded files (Check graph.now tree.now)) result shelf.old shelf.new }
-    ensures reads { ReadsAs S.reads (graph.now ∷ tree.now ∷ []) result shelf.old shelf.new }
+    ensures answered { GathersAnswered S.reads (Check graph.now tree.now) result shelf.old shelf.new }
 {
     let given = load_tree(alloc, graph, tree, shelf)?;
     Ok(Task::Check { given })
@@ -260,8 +273,7 @@ fn replay_task<S: Shelf>(
 ) -> Result<Task, Stop>
     ensures loads { Loads S.files S.steady S.faults task_of
         (λ files. loaded files (Replay graph.now tree.now moves.now)) result shelf.old shelf.new }
-    ensures reads { ReadsAs S.reads (graph.now ∷ tree.now ∷ moves.now ∷ []) result
-        shelf.old shelf.new }
+    ensures answered { GathersAnswered S.reads (Replay graph.now tree.now moves.now) result shelf.old shelf.new }
 {
     let given = load_moves(alloc, graph, tree, moves, shelf)?;
     Ok(Task::Replay { given })
@@ -278,8 +290,7 @@ fn compare_task<S: Shelf>(
     ensures loads { Loads S.files S.steady S.faults task_of
         (λ files. loaded files (Compare graph.now first.now second.now))
         result shelf.old shelf.new }
-    ensures reads { ReadsAs S.reads (graph.now ∷ first.now ∷ second.now ∷ []) result
-        shelf.old shelf.new }
+    ensures answered { GathersAnswered S.reads (Compare graph.now first.now second.now) result shelf.old shelf.new }
 {
     let given = load_trees(alloc, graph, first, second, shelf)?;
     Ok(Task::Compare { given })
@@ -295,8 +306,7 @@ fn script_task<S: Shelf>(
 ) -> Result<Task, Stop>
     ensures loads { Loads S.files S.steady S.faults task_of
         (λ files. loaded files (Script graph.now first.now second.now)) result shelf.old shelf.new }
-    ensures reads { ReadsAs S.reads (graph.now ∷ first.now ∷ second.now ∷ []) result
-        shelf.old shelf.new }
+    ensures answered { GathersAnswered S.reads (Script graph.now first.now second.now) result shelf.old shelf.new }
 {
     let given = load_trees(alloc, graph, first, second, shelf)?;
     Ok(Task::Script { given })
@@ -311,7 +321,9 @@ fn load_ears_for<S: Shelf>(
 ) -> Result<EarList, Stop>
     ensures loads { Loads S.files S.steady S.faults ears_of
         (λ files. ear_file files name.now graph.now) result shelf.old shelf.new }
-    ensures reads { S.reads shelf.old name.now shelf.new }
+    ensures answered { ReadsOnce S.reads name.now 2 ears_of
+        (λ files. ear_file files (place_name 2) graph.now)
+        result shelf.old shelf.new }
     ensures stops { IfErr result (StopsAt 2) }
     ensures fits { IfOk result
         (λ list. FitsEars graph.now.order (size graph.now) (ears_of list)) }
@@ -329,7 +341,7 @@ fn decompose_by_task<S: Shelf>(
 ) -> Result<Task, Stop>
     ensures loads { Loads S.files S.steady S.faults task_of
         (λ files. loaded files (DecomposeBy graph.now picks.now)) result shelf.old shelf.new }
-    ensures reads { ReadsAs S.reads (graph.now ∷ picks.now ∷ []) result shelf.old shelf.new }
+    ensures answered { GathersAnswered S.reads (DecomposeBy graph.now picks.now) result shelf.old shelf.new }
 {
     let named = load_first(alloc, &GraphFile, graph, shelf)?;
     let picks = load(alloc, &PickFile, picks, 2, shelf)?;
@@ -345,7 +357,7 @@ fn check_ears_task<S: Shelf>(
 ) -> Result<Task, Stop>
     ensures loads { Loads S.files S.steady S.faults task_of
         (λ files. loaded files (CheckEars graph.now ears.now)) result shelf.old shelf.new }
-    ensures reads { ReadsAs S.reads (graph.now ∷ ears.now ∷ []) result shelf.old shelf.new }
+    ensures answered { GathersAnswered S.reads (CheckEars graph.now ears.now) result shelf.old shelf.new }
 {
     let named = load_first(alloc, &GraphFile, graph, shelf)?;
     let list = load_ears_for(alloc, &named.graph, ears, shelf)?;
@@ -361,6 +373,7 @@ pub fn gather<S: Shelf>(alloc: Global, command: Command<'_>, shelf: &mut S) -> R
         (λ files. loaded files (asked command.entry))
         result shelf.old shelf.new }
     ensures reads { ReadsAs S.reads (file_names (asked command.entry)) result shelf.old shelf.new }
+    ensures answered { GathersAnswered S.reads (asked command.entry) result shelf.old shelf.new }
     ensures refuses { GatheredMayRefuse result → MayRefuse (Some (asked command.entry)) }
 {
     match command {
