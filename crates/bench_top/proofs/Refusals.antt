@@ -8,5 +8,5 @@ use Rattle.bench_tasks.specs.declared.tasks.Task.TheVariants as code
 use Rattle.bench_outcomes.specs.Refusing.{GatheredMayRefuse, MayRefuse}
 
 pub may-refuse : (command : Command) (gathered : Result code.the_data Stop) → IfOk gathered (λ t. IsTaskOf command (task_of t)) → GatheredMayRefuse gathered → MayRefuse (Some command)
-may-refuse command (Ok t) is may = (task_of t, (is, may))
+may-refuse command (Ok t) is may = (task_of t, is, may)
 may-refuse command (Err stop) is may = absurd may

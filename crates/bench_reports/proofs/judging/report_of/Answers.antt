@@ -6,22 +6,22 @@ use Rattle.bench_reports.proofs.GivenFacts.{ears-fit_prop, tree-fits_prop}
 use Rattle.bench_reports.proofs.judging.report_of.Goals as goal
 
 pub check_report-requires : goal.check_report-requires
-check_report-requires c = let given = c.in-OnTree.given in ∥∥₁_elim given.fits (tree-fits_prop given.named.graph.order (shape_of given.tree)) (λ fits. fits)
+check_report-requires c = let given = c.in-OnTree-Check-default.given in ∥∥₁_elim given.fits (tree-fits_prop given.named.graph.order (shape_of given.tree)) (λ fits. fits)
 
 pub checkears_report-requires : goal.checkears_report-requires
-checkears_report-requires c = let given = c.in-OnEars.given in ∥∥₁_elim given.fits (ears-fit_prop given.named.graph.order (size given.named.graph) (ears_of given.list)) (λ fits. fits)
+checkears_report-requires c = let given = c.in-OnEars-CheckEars-default.given in ∥∥₁_elim given.fits (ears-fit_prop given.named.graph.order (size given.named.graph) (ears_of given.list)) (λ fits. fits)
 
 pub replay_report-requires-clause-fits : goal.replay_report-requires-clause-fits
-replay_report-requires-clause-fits c = let given = c.in-OnMoves.given in ∥∥₁_elim given.fits (tree-fits_prop given.named.graph.order (shape_of given.tree)) (λ fits. fits)
+replay_report-requires-clause-fits c = let given = c.in-OnMoves-Replay-default.given in ∥∥₁_elim given.fits (tree-fits_prop given.named.graph.order (shape_of given.tree)) (λ fits. fits)
 
 pub compare_report-requires-clause-first : goal.compare_report-requires-clause-first
-compare_report-requires-clause-first c = let given = c.in-OnTrees.given in ∥∥₁_elim given.first_fits (tree-fits_prop given.named.graph.order (shape_of given.first)) (λ fits. fits)
+compare_report-requires-clause-first c = let given = c.in-OnTrees-Compare-default.given in ∥∥₁_elim given.first_fits (tree-fits_prop given.named.graph.order (shape_of given.first)) (λ fits. fits)
 
 pub compare_report-requires-clause-second : goal.compare_report-requires-clause-second
-compare_report-requires-clause-second c = let given = c.in-OnTrees.given in ∥∥₁_elim given.second_fits (tree-fits_prop given.named.graph.order (shape_of given.second)) (λ fits. fits)
+compare_report-requires-clause-second c = let given = c.in-OnTrees-Compare-default.given in ∥∥₁_elim given.second_fits (tree-fits_prop given.named.graph.order (shape_of given.second)) (λ fits. fits)
 
 pub script_report-requires-clause-first : goal.script_report-requires-clause-first
-script_report-requires-clause-first c = let given = c.in-OnTrees.given in ∥∥₁_elim given.first_fits (tree-fits_prop given.named.graph.order (shape_of given.first)) (λ fits. fits)
+script_report-requires-clause-first c = let given = c.in-OnTrees-Script-default.given in ∥∥₁_elim given.first_fits (tree-fits_prop given.named.graph.order (shape_of given.first)) (λ fits. fits)
 
 pub script_report-requires-clause-second : goal.script_report-requires-clause-second
-script_report-requires-clause-second c = let given = c.in-OnTrees.given in ∥∥₁_elim given.second_fits (tree-fits_prop given.named.graph.order (shape_of given.second)) (λ fits. fits)
+script_report-requires-clause-second c = let given = c.in-OnTrees-Script-default.given in ∥∥₁_elim given.second_fits (tree-fits_prop given.named.graph.order (shape_of given.second)) (λ fits. fits)
