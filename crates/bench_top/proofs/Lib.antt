@@ -16,3 +16,4 @@ pub mod OneOutput
 pub mod TextsStand
 pub mod WrittenBack
 pub mod WritesMade
+pub mod GivenFiles
