@@ -1,3 +1,3 @@
 pub mod TextReads
-pub mod ReadNames
 pub mod LoadsMade
+pub mod AnswersMade

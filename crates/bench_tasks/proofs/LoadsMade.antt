@@ -17,12 +17,12 @@ same-fault X Y (Bad file line kind) fault = absurd fault
 same-fault X Y Memory fault = absurd fault
 
 -- a stop stays where more is made of what is loaded
-stops-then : {A B : Type 0} (stopped : Stop) (loaded : Loaded A) (next : A → Loaded B) → StopsAs stopped loaded → StopsAs stopped (and_then loaded next)
+pub stops-then : {A B : Type 0} (stopped : Stop) (loaded : Loaded A) (next : A → Loaded B) → StopsAs stopped loaded → StopsAs stopped (and_then loaded next)
 stops-then (ReadFault file) loaded next stops = tt
 stops-then (Bad file line kind) loaded next stops = ap (λ (l : Loaded _). and_then l next) stops
 stops-then Memory loaded next stops = tt
 
-stops-made : {A B : Type 0} (stopped : Stop) (loaded : Loaded A) (make : A → B) → StopsAs stopped loaded → StopsAs stopped (loaded_as make loaded)
+pub stops-made : {A B : Type 0} (stopped : Stop) (loaded : Loaded A) (make : A → B) → StopsAs stopped loaded → StopsAs stopped (loaded_as make loaded)
 stops-made (ReadFault file) loaded make stops = tt
 stops-made (Bad file line kind) loaded make stops = ap (loaded_as make) stops
 stops-made Memory loaded make stops = tt

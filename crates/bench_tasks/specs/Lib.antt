@@ -6,3 +6,4 @@ pub mod Tasks
 pub mod Loading
 pub mod Loads
 pub mod Reads
+pub mod Answered

@@ -4,7 +4,7 @@ use Rattle.std.specs.declared.option.Option.{Option}
 use Rattle.std.specs.declared.option.Option.TheVariants.{Some, None}
 use Rattle.std.specs.declared.result.Result.{Result}
 use Rattle.std.specs.declared.result.Result.TheVariants.{Ok, Err}
-use Rattle.outside.specs.Shelf.{ReadsInTurn, ReadsFirst}
+use Rattle.outside.specs.Shelf.{Answer, ReadsInTurn, ReadsFirst}
 use Rattle.bench_tasks.specs.Commands.{Command}
 use Rattle.bench_tasks.specs.Files.{file_names}
 use Rattle.bench_tasks.specs.Loading.{Loaded, All, Bad, Absent}
@@ -31,13 +31,13 @@ StopsAt place stop.Memory = Unit {0}
 
 -- reads up to a stop lead from the first shelf to the last: those of the names up to the file
 -- that stops, that one included; where memory ran out, those of the first few names
-abbrev pub ReadsUntil : {S : Type 0} → (S → List ℕ → S → Type 0) → List (List ℕ) → Stop → S → S → Type 0
+abbrev pub ReadsUntil : {S : Type 0} → (S → List ℕ → Answer → S → Type 0) → List (List ℕ) → Stop → S → S → Type 0
 ReadsUntil reads names (stop.ReadFault file) first last = (file ≤ length names) × ReadsInTurn reads (take file names) first last
 ReadsUntil reads names (stop.Bad file line kind) first last = (file ≤ length names) × ReadsInTurn reads (take file names) first last
 ReadsUntil reads names stop.Memory first last = ReadsFirst reads names first last
 
 -- all names are read where there is an answer, and else those up to the stop
-abbrev pub ReadsAs : {S X : Type 0} → (S → List ℕ → S → Type 0) → List (List ℕ) → Result X Stop → S → S → Type 0
+abbrev pub ReadsAs : {S X : Type 0} → (S → List ℕ → Answer → S → Type 0) → List (List ℕ) → Result X Stop → S → S → Type 0
 ReadsAs reads names (Ok x) first last = ReadsInTurn reads names first last
 ReadsAs reads names (Err stopped) first last = ReadsUntil reads names stopped first last
 

@@ -1,5 +1,6 @@
 //! The task that the files of a command make of it.
 ghost use Rattle.std.specs.Prelude.{IfOk};
+ghost use Rattle.bench_tasks.specs.Answered.{GathersAnswered};
 ghost use Rattle.bench_tasks.specs.Asked.{asked};
 ghost use Rattle.bench_tasks.specs.Files.{file_names};
 ghost use Rattle.bench_tasks.specs.Loading.{loaded};
@@ -22,6 +23,7 @@ pub fn gather<S: Shelf>(alloc: Global, command: Command<'_>, shelf: &mut S) -> R
         (λ files. loaded files (asked command.entry))
         result shelf.old shelf.new }
     ensures reads { ReadsAs S.reads (file_names (asked command.entry)) result shelf.old shelf.new }
+    ensures answered { GathersAnswered S.reads (asked command.entry) result shelf.old shelf.new }
     ensures asked { IfOk result (λ task. IsTaskOf (asked command.entry) (task_of task)) }
 {
     match command {

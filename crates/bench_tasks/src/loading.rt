@@ -9,9 +9,10 @@ ghost use Rattle.move_text.specs.MoveFormat.{most_moves};
 ghost use Rattle.ear_core.specs.EarLists.{FitsEars};
 ghost use Rattle.ear_core.specs.View.{ears_of};
 ghost use Rattle.graph_core.specs.Graph.{size};
+ghost use Rattle.bench_tasks.specs.Answered.{LoadsAnswered, ReadsOnce, place_name};
 ghost use Rattle.bench_tasks.specs.Loading.{ear_file, ears_given, file_read, move_file, moves_given, picks_given, tree_file, tree_given, trees_given};
 ghost use Rattle.bench_tasks.specs.Loads.{Loads, given_ears, given_moves, given_picks, given_tree, given_trees};
-ghost use Rattle.bench_tasks.specs.Reads.{ReadsAs, StopsAt};
+ghost use Rattle.bench_tasks.specs.Reads.{StopsAt};
 
 use crate::formats::{EarFile, FileFormat, GraphFile, MoveFile, PickFile, TreeFile};
 use crate::stop::Stop;
@@ -37,7 +38,9 @@ fn load<S: Shelf, F: FileFormat>(
     ensures loads { Loads S.files S.steady S.faults F.meaning
         (λ files. file_read place (F.reading format.now) (file_named name.now files))
         result shelf.old shelf.new }
-    ensures reads { S.reads shelf.old name.now shelf.new }
+    ensures answered { ReadsOnce S.reads name.now place F.meaning
+        (λ files. file_read place (F.reading format.now) (file_named (place_name place) files))
+        result shelf.old shelf.new }
     ensures stops { IfErr result (StopsAt place) }
     ensures keeps { IfOk result (F.keeps format.now) }
 {
@@ -74,7 +77,9 @@ pub fn load_first<S: Shelf, F: FileFormat>(
     ensures loads { Loads S.files S.steady S.faults F.meaning
         (λ files. file_read 1 (F.reading format.now) (file_named name.now files))
         result shelf.old shelf.new }
-    ensures reads { ReadsAs S.reads (name.now ∷ []) result shelf.old shelf.new }
+    ensures answered { LoadsAnswered S.reads (name.now ∷ []) F.meaning
+        (λ files. file_read 1 (F.reading format.now) (file_named (place_name 1) files))
+        result shelf.old shelf.new }
     ensures keeps { IfOk result (F.keeps format.now) }
 {
     load(alloc, format, name, 1, shelf)
@@ -90,7 +95,9 @@ fn load_tree_for<S: Shelf>(
 ) -> Result<Tree, Stop>
     ensures loads { Loads S.files S.steady S.faults shape_of
         (λ files. tree_file files place name.now graph.now.order) result shelf.old shelf.new }
-    ensures reads { S.reads shelf.old name.now shelf.new }
+    ensures answered { ReadsOnce S.reads name.now place shape_of
+        (λ files. tree_file files place (place_name place) graph.now.order)
+        result shelf.old shelf.new }
     ensures stops { IfErr result (StopsAt place) }
     ensures fits { IfOk result (λ tree. Fits graph.now.order (shape_of tree)) }
 {
@@ -107,7 +114,9 @@ fn load_ears_for<S: Shelf>(
 ) -> Result<EarList, Stop>
     ensures loads { Loads S.files S.steady S.faults ears_of
         (λ files. ear_file files name.now graph.now) result shelf.old shelf.new }
-    ensures reads { S.reads shelf.old name.now shelf.new }
+    ensures answered { ReadsOnce S.reads name.now 2 ears_of
+        (λ files. ear_file files (place_name 2) graph.now)
+        result shelf.old shelf.new }
     ensures stops { IfErr result (StopsAt 2) }
     ensures fits { IfOk result
         (λ list. FitsEars graph.now.order (size graph.now) (ears_of list)) }
@@ -125,7 +134,9 @@ fn load_moves_for<S: Shelf>(
 ) -> Result<Moves, Stop>
     ensures loads { Loads S.files S.steady S.faults moves_of
         (λ files. move_file files name.now graph.now.order) result shelf.old shelf.new }
-    ensures reads { S.reads shelf.old name.now shelf.new }
+    ensures answered { ReadsOnce S.reads name.now 3 moves_of
+        (λ files. move_file files (place_name 3) graph.now.order)
+        result shelf.old shelf.new }
     ensures stops { IfErr result (StopsAt 3) }
     ensures few { IfOk result (λ moves. length moves ≤ most_moves) }
 {
@@ -143,8 +154,9 @@ pub fn load_tree<S: Shelf>(
     ensures loads { Loads S.files S.steady S.faults given_tree
         (λ files. tree_given files graph_file.now tree_file.now)
         result shelf.old shelf.new }
-    ensures reads { ReadsAs S.reads (graph_file.now ∷ tree_file.now ∷ []) result shelf.old
-        shelf.new }
+    ensures answered { LoadsAnswered S.reads (graph_file.now ∷ tree_file.now ∷ []) given_tree
+        (λ files. tree_given files (place_name 1) (place_name 2))
+        result shelf.old shelf.new }
 {
     let named = load_first(alloc, &GraphFile, graph_file, shelf)?;
     let tree = load_tree_for(alloc, &named.graph, tree_file, 2, shelf)?;
@@ -161,8 +173,9 @@ pub fn load_picks<S: Shelf>(
     ensures loads { Loads S.files S.steady S.faults given_picks
         (λ files. picks_given files graph_file.now picks_file.now)
         result shelf.old shelf.new }
-    ensures reads { ReadsAs S.reads (graph_file.now ∷ picks_file.now ∷ []) result shelf.old
-        shelf.new }
+    ensures answered { LoadsAnswered S.reads (graph_file.now ∷ picks_file.now ∷ []) given_picks
+        (λ files. picks_given files (place_name 1) (place_name 2))
+        result shelf.old shelf.new }
 {
     let named = load_first(alloc, &GraphFile, graph_file, shelf)?;
     let picks = load(alloc, &PickFile, picks_file, 2, shelf)?;
@@ -179,8 +192,9 @@ pub fn load_ears<S: Shelf>(
     ensures loads { Loads S.files S.steady S.faults given_ears
         (λ files. ears_given files graph_file.now ears_file.now)
         result shelf.old shelf.new }
-    ensures reads { ReadsAs S.reads (graph_file.now ∷ ears_file.now ∷ []) result shelf.old
-        shelf.new }
+    ensures answered { LoadsAnswered S.reads (graph_file.now ∷ ears_file.now ∷ []) given_ears
+        (λ files. ears_given files (place_name 1) (place_name 2))
+        result shelf.old shelf.new }
 {
     let named = load_first(alloc, &GraphFile, graph_file, shelf)?;
     let list = load_ears_for(alloc, &named.graph, ears_file, shelf)?;
@@ -198,8 +212,9 @@ pub fn load_moves<S: Shelf>(
     ensures loads { Loads S.files S.steady S.faults given_moves
         (λ files. moves_given files graph_file.now tree_file.now moves_file.now)
         result shelf.old shelf.new }
-    ensures reads { ReadsAs S.reads (graph_file.now ∷ tree_file.now ∷ moves_file.now ∷ []) result
-        shelf.old shelf.new }
+    ensures answered { LoadsAnswered S.reads (graph_file.now ∷ tree_file.now ∷ moves_file.now ∷ []) given_moves
+        (λ files. moves_given files (place_name 1) (place_name 2) (place_name 3))
+        result shelf.old shelf.new }
 {
     let given = load_tree(alloc, graph_file, tree_file, shelf)?;
     let moves = load_moves_for(alloc, &given.named.graph, moves_file, shelf)?;
@@ -221,8 +236,9 @@ pub fn load_trees<S: Shelf>(
     ensures loads { Loads S.files S.steady S.faults given_trees
         (λ files. trees_given files graph_file.now first_file.now second_file.now)
         result shelf.old shelf.new }
-    ensures reads { ReadsAs S.reads (graph_file.now ∷ first_file.now ∷ second_file.now ∷ []) result
-        shelf.old shelf.new }
+    ensures answered { LoadsAnswered S.reads (graph_file.now ∷ first_file.now ∷ second_file.now ∷ []) given_trees
+        (λ files. trees_given files (place_name 1) (place_name 2) (place_name 3))
+        result shelf.old shelf.new }
 {
     let given = load_tree(alloc, graph_file, first_file, shelf)?;
     let second = load_tree_for(alloc, &given.named.graph, second_file, 3, shelf)?;

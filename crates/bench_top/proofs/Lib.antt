@@ -18,3 +18,4 @@ pub mod OneOutput
 pub mod TextsStand
 pub mod WrittenBack
 pub mod WritesMade
+pub mod GivenFiles

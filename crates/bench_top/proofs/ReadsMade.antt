@@ -2,13 +2,13 @@
 -- over a steady shelf, its file is not held.
 use Rattle.std.proofs.Common.{◌≡◌, ℕ, List, Bool, IsTrue, Ok, Err, Result, length, sym, subst, arith}
 use Rattle.std.proofs.lemmas.List.{take_all}
-use Rattle.outside.specs.Shelf.{ReadsInTurn, ReadsFirst}
+use Rattle.outside.specs.Shelf.{Answer, ReadsInTurn, ReadsFirst}
 use Rattle.bench_tasks.specs.Loading.{Loaded, Absent}
 use Rattle.bench_tasks.specs.Reads.{FailsAs, IsReadFault, ReadsAs}
 use Rattle.bench_tasks.specs.declared.stop.Stop.{Stop}
 use Rattle.bench_tasks.specs.declared.stop.Stop.TheVariants.{ReadFault, Bad, Memory}
 
-module _ {S X : Type 0} (reads : S → List ℕ → S → Type 0) (names : List (List ℕ)) (first last : S) where
+module _ {S X : Type 0} (reads : S → List ℕ → Answer → S → Type 0) (names : List (List ℕ)) (first last : S) where
   -- they are the first few
   pub first-reads : (result : Result X Stop) → ReadsAs reads names result first last → ReadsFirst reads names first last
   first-reads (Ok x) made =

@@ -1,6 +1,7 @@
 -- What is known of the stop of a load is known of it as the reason why a run ended.
 -- Each lemma goes by the cases of the answer.
 use Rattle.std.proofs.Common.{◌≡◌, ◌∙◌, ℕ, List, Bool, Option, Ok, Err, Result, refl, ap}
+use Rattle.outside.specs.Shelf.{Answer}
 use Rattle.outside.specs.Sink.{appended}
 use Rattle.bench_tasks.specs.Loading.{Loaded}
 use Rattle.bench_tasks.specs.Loads.{LoadsAs}
@@ -9,7 +10,7 @@ use Rattle.bench_tasks.specs.declared.stop.Stop.{Stop}
 use Rattle.bench_tasks.specs.declared.stop.Stop.TheVariants.{ReadFault, Bad, Memory}
 use Rattle.bench_top.specs.Endings.{IsStopOf, ReportedBad, ReportsBad, StopsAfter, Unread, stop_in}
 
-pub stops-after : {S X : Type 0} (reads : S → List ℕ → S → Type 0) (names : List (List ℕ)) (result : Result X Stop) (first last : S) →
+pub stops-after : {S X : Type 0} (reads : S → List ℕ → Answer → S → Type 0) (names : List (List ℕ)) (result : Result X Stop) (first last : S) →
     ReadsAs reads names result first last → StopsAfter reads names (stop_in result) first last
 stops-after reads names (Ok x) first last made = tt
 stops-after reads names (Err (ReadFault file)) first last made = made

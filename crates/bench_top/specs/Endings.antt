@@ -5,7 +5,7 @@ use Rattle.std.specs.declared.option.Option.{Option}
 use Rattle.std.specs.declared.option.Option.TheVariants.{Some, None}
 use Rattle.std.specs.declared.result.Result.{Result}
 use Rattle.std.specs.declared.result.Result.TheVariants.{Ok, Err}
-use Rattle.outside.specs.Shelf.{ReadsInTurn}
+use Rattle.outside.specs.Shelf.{Answer, ReadsInTurn}
 use Rattle.outside.specs.Sink.{appended}
 use Rattle.report_text.specs.Reports.{bad_input_text}
 use Rattle.bench_tasks.specs.Loading.{Loaded, Bad, Absent}
@@ -26,7 +26,7 @@ IsStopOf steady (Some (stop.ReadFault file)) loaded = IsTrue steady → loaded �
 IsStopOf steady (Some stop.Memory) loaded = Unit {0}
 
 -- where the run stopped at a file, the reads are those of the names up to it, that one included
-abbrev pub StopsAfter : {S : Type 0} → (S → List ℕ → S → Type 0) → List (List ℕ) → Option Stop → S → S → Type 0
+abbrev pub StopsAfter : {S : Type 0} → (S → List ℕ → Answer → S → Type 0) → List (List ℕ) → Option Stop → S → S → Type 0
 StopsAfter reads names None first last = Unit {0}
 StopsAfter reads names (Some (stop.Bad file line kind)) first last = (file ≤ length names) × ReadsInTurn reads (take file names) first last
 StopsAfter reads names (Some (stop.ReadFault file)) first last = (file ≤ length names) × ReadsInTurn reads (take file names) first last

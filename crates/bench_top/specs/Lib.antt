@@ -3,3 +3,4 @@ pub mod Endings
 pub mod Fixed
 pub mod RoundTrips
 pub mod Writes
+pub mod Given

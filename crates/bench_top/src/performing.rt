@@ -4,6 +4,7 @@ ghost use Rattle.outside.specs.Faults.{Rose};
 ghost use Rattle.outside.specs.Shelf.{Named, ReadsFirst, ReadsInTurn};
 ghost use Rattle.bench_top.specs.Calm.{HasRead};
 ghost use Rattle.bench_top.specs.Endings.{IsStopOf, ReportedBad, ReportsBad, StopsAfter, Unread, stop_in};
+ghost use Rattle.bench_top.specs.Given.{GivenOutcome};
 ghost use Rattle.bench_top.specs.Writes.{GivesTold, WritesAs};
 ghost use Rattle.bench_tasks.specs.Asked.{asked};
 ghost use Rattle.bench_tasks.specs.Loading.{Absent, loaded};
@@ -97,6 +98,8 @@ pub fn perform<S: Shelf, K: Sink>(
     ensures writes { WritesAs K.written K.writes (GivesTold (S.files shelf.old)
         (λ files. LoadedGives (loaded files (asked command.entry))))
         result.status sink.old sink.new }
+    ensures answered { GivenOutcome S.reads K.written K.writes (Some (asked command.entry))
+        result.status shelf.old shelf.new sink.old sink.new }
     // Which file stopped it, and what was written of a bad one.
     ensures stops { (files : List Named) → S.files shelf.old ≡ Some files →
         IsStopOf (S.steady shelf.old) result.stop (loaded files (asked command.entry)) }

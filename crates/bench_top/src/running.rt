@@ -12,6 +12,7 @@ ghost use Rattle.bench_tasks.specs.Reads.{names_in, names_until};
 ghost use Rattle.bench_outcomes.specs.Success.{Succeeds};
 ghost use Rattle.bench_top.specs.Calm.{HasRead, IsCalm};
 ghost use Rattle.bench_top.specs.Endings.{IsStopOf, ReportedBad, StopsAfter, Unread};
+ghost use Rattle.bench_top.specs.Given.{GivenOutcome};
 ghost use Rattle.bench_top.specs.Writes.{GivesTold, WritesAs};
 
 use crate::ending::Ending;
@@ -81,6 +82,11 @@ pub fn run_ending<S: Shelf, K: Sink>(
     ensures writes { WritesAs K.written K.writes
         (GivesTold (S.files shelf.old) (Outcome (map string_bytes words.now)))
         result.status sink.old sink.new }
+    // Whatever the shelf does, its reads gave files, and the writes are those of an outcome of
+    // these files: of the report that the status and they stand for, or if a write failed of a
+    // proper prefix of one.
+    ensures answered { GivenOutcome S.reads K.written K.writes
+        (command_of (map string_bytes words.now)) result.status shelf.old shelf.new sink.old sink.new }
 
     // Over a steady shelf a read fails only where a named file is not held and all before it are
     // held and good.
@@ -194,6 +200,11 @@ pub fn run<S: Shelf, K: Sink>(
     ensures writes { WritesAs K.written K.writes
         (GivesTold (S.files shelf.old) (Outcome (map string_bytes words.now)))
         result sink.old sink.new }
+    // Whatever the shelf does, its reads gave files, and the writes are those of an outcome of
+    // these files: of the report that the status and they stand for, or if a write failed of a
+    // proper prefix of one.
+    ensures answered { GivenOutcome S.reads K.written K.writes
+        (command_of (map string_bytes words.now)) result shelf.old shelf.new sink.old sink.new }
 
     // Over a steady shelf a read fails only where a named file is not held and all before it are
     // held and good.

@@ -1,8 +1,11 @@
 -- A shelf of real files as its users see it.
-use Rattle.std.specs.Prelude.{ℕ}
+use Rattle.std.specs.Prelude.{◌≡◌, ℕ, length}
 use Rattle.std.specs.declared.option.Option.{Option}
+use Rattle.std.specs.declared.result.Result.TheVariants.{Ok, Err}
 use Rattle.outside.specs.declared.explain.Reason.{Reason}
-use Rattle.outside.specs.Faults.{MayCount}
+use Rattle.outside.specs.Faults.{next_fault}
+use Rattle.outside.specs.Shelf.{Answer}
+use Rattle.outside.specs.declared.shelf.ShelfFault.TheVariants.{Failed, TooLong, Memory}
 
 -- the bytes that the last read took, the count of faults, and why the last read failed
 pub record OpenState : Type 0 where
@@ -10,6 +13,10 @@ pub record OpenState : Type 0 where
   pub faults : ℕ
   pub reason : Option Reason
 
--- a read leads from the first state to the second: at most one fault is counted
-abbrev pub IsOpened : OpenState → OpenState → Type 0
-IsOpened before now = MayCount before.faults now.faults
+-- a read that gave this answer leads from the first state to the second: a fault is counted if
+-- it failed, and only then, and of a file that was given so many bytes were taken
+abbrev pub IsOpened : OpenState → Answer → OpenState → Type 0
+IsOpened before (Ok bytes) now = (now.faults ≡ before.faults) × (length bytes ≡ now.taken)
+IsOpened before (Err Failed) now = now.faults ≡ next_fault before.faults
+IsOpened before (Err TooLong) now = now.faults ≡ before.faults
+IsOpened before (Err Memory) now = now.faults ≡ before.faults

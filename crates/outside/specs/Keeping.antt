@@ -1,10 +1,12 @@
 -- What a shelf that keeps what it read last has kept.
-use Rattle.std.specs.Prelude.{ℕ, List}
+use Rattle.std.specs.Prelude.{◌≡◌, ◌⊎◌, ℕ, List}
 use Rattle.std.specs.declared.option.Option.{Option}
 use Rattle.std.specs.declared.option.Option.TheVariants.{None, Some}
+use Rattle.std.specs.declared.result.Result.TheVariants.{Ok, Err}
 use Rattle.std.specs.Option.{option_map}
 use Rattle.std.specs.Global.{Vec}
-use Rattle.outside.specs.Shelf.{Named, TellsFile}
+use Rattle.outside.specs.Shelf.{Answer, Named, TellsFile}
+use Rattle.outside.specs.declared.shelf.ShelfFault.TheVariants.{Memory}
 
 -- the bytes that are kept
 abbrev pub bytes_kept : Option (Vec ℕ) → Option (List ℕ)
@@ -16,7 +18,16 @@ abbrev pub IsFileOf : Option (List Named) → List ℕ → Option (List ℕ) →
 IsFileOf files name None = Unit {0}
 IsFileOf files name (Some bytes) = TellsFile files name (Some bytes)
 
--- a read of that name leads from the first shelf to the second, and leaves this kept
-pub record KeepsRead {S : Type 0} (files : S → Option (List Named)) (reads : S → List ℕ → S → Type 0) (before : S) (name : List ℕ) (now : S) (kept : Option (List ℕ)) : Type 0 where
-  pub read : reads before name now
+-- the bytes that a read answered, if it gave some
+abbrev pub bytes_in : Answer → Option (List ℕ)
+bytes_in (Ok bytes) = Some bytes
+bytes_in (Err fault) = None
+
+-- a read of that name leads from the first shelf to the second, and leaves this kept, which are
+-- the bytes that are given on; memory may run out for their copy
+pub record KeepsRead {S : Type 0} (files : S → Option (List Named)) (reads : S → List ℕ → Answer → S → Type 0) (before : S) (name : List ℕ) (answer : Answer) (now : S) (kept : Option (List ℕ)) : Type 0 where
+  pub given : Answer
+  pub read : reads before name given now
+  pub passed : (answer ≡ given) ⊎ (answer ≡ Err Memory)
+  pub kept_is : kept ≡ bytes_in answer
   pub is_file : IsFileOf (files before) name kept

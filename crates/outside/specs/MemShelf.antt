@@ -1,8 +1,10 @@
 -- A shelf in memory as its users see it.
 use Rattle.std.specs.Prelude.{◌≡◌, ℕ, List, Contains, ◌⊎◌, length}
 use Rattle.std.specs.declared.option.Option.TheVariants.{None, Some}
+use Rattle.std.specs.declared.result.Result.TheVariants.{Ok, Err}
 use Rattle.outside.specs.Faults.{next_call}
-use Rattle.outside.specs.Shelf.{Named, file_named}
+use Rattle.outside.specs.Shelf.{Answer, HoldsLonger, Named, file_named}
+use Rattle.outside.specs.declared.shelf.ShelfFault.TheVariants.{Failed, TooLong, Memory}
 
 -- the files; the read calls that are to fail, by their numbers; the counts of calls, of the bytes
 -- that the last read took, and of faults
@@ -21,9 +23,18 @@ FailsNext shelf name = Contains shelf.failing (next_call shelf.calls) ⊎ (file_
 abbrev pub MayTake : List Named → List ℕ → ℕ → Type 0
 MayTake files name taken = (taken ≡ 0) ⊎ ((bytes : List ℕ) × ((file_named name files ≡ Some bytes) × (length bytes ≡ taken)))
 
--- a read of that name leads from the first state to the second: it is counted, and changes no
--- file and no plan
-pub record IsRead (before : ShelfState) (name : List ℕ) (now : ShelfState) : Type 0 where
+-- a read of that name may give this answer: the bytes of the file, all of them; that it fails,
+-- if it does; that the file has more bytes than some limit; lack of memory at any time
+abbrev pub MayAnswer : ShelfState → List ℕ → Answer → Type 0
+MayAnswer shelf name (Ok bytes) = file_named name shelf.files ≡ Some bytes
+MayAnswer shelf name (Err Failed) = FailsNext shelf name
+MayAnswer shelf name (Err TooLong) = (limit : ℕ) × HoldsLonger shelf.files name limit
+MayAnswer shelf name (Err Memory) = Unit {0}
+
+-- a read of that name that gave this answer leads from the first state to the second: it is
+-- counted, and changes no file and no plan
+pub record IsRead (before : ShelfState) (name : List ℕ) (answer : Answer) (now : ShelfState) : Type 0 where
+  pub answered : MayAnswer before name answer
   pub files : now.files ≡ before.files
   pub failing : now.failing ≡ before.failing
   pub calls : now.calls ≡ next_call before.calls

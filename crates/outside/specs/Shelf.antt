@@ -1,8 +1,12 @@
--- What a shelf tells of its files.
+-- What a shelf tells of its files, and what reads of it answered.
 use Rattle.std.specs.Prelude.{◌≡◌, ℕ, ◌<◌, ◌≤◌, List, [], ◌∷◌, length, take, if◌then◌else◌}
+use Rattle.std.specs.Global.{Vec}
 use Rattle.std.specs.declared.option.Option.{Option}
 use Rattle.std.specs.declared.option.Option.TheVariants.{Some, None}
+use Rattle.std.specs.declared.result.Result.{Result}
+use Rattle.std.specs.declared.result.Result.TheVariants.{Ok, Err}
 use Rattle.std.specs.Str.{bytes_eq}
+use Rattle.outside.specs.declared.shelf.ShelfFault.{ShelfFault}
 
 -- a file: its name and its bytes
 abbrev pub Named : Type 0
@@ -17,13 +21,30 @@ file_named name (file ∷ files) = if bytes_eq file.0 name then Some file.1 else
 abbrev pub HoldsLonger : List Named → List ℕ → ℕ → Type 0
 HoldsLonger files name limit = (bytes : List ℕ) × (file_named name files ≡ Some bytes) × (limit < length bytes)
 
--- reads of these names, one after another, lead from the first shelf to the last
-abbrev pub ReadsInTurn : {S : Type 0} → (S → List ℕ → S → Type 0) → List (List ℕ) → S → S → Type 0
+-- what a read answered: the bytes of the file, or why it gave none
+abbrev pub Answer : Type 0
+Answer = Result (List ℕ) ShelfFault
+
+-- the answer as it is seen
+abbrev pub answer_of : Result (Vec ℕ) ShelfFault → Answer
+answer_of (Ok bytes) = Ok bytes.items
+answer_of (Err fault) = Err fault
+
+-- reads of the first of these names gave these answers, one after another, and lead from the
+-- first shelf to the last
+abbrev pub AnswersInTurn : {S : Type 0} → (S → List ℕ → Answer → S → Type 0) → List (List ℕ) → List Answer → S → S → Type 0
+AnswersInTurn reads names [] first last = last ≡ first
+AnswersInTurn reads [] (answer ∷ answers) first last = ⊥
+AnswersInTurn {S} reads (name ∷ names) (answer ∷ answers) first last = (next : S) × (reads first name answer next × AnswersInTurn reads names answers next last)
+
+-- reads of these names, one after another, whatever they answered, lead from the first shelf to
+-- the last
+abbrev pub ReadsInTurn : {S : Type 0} → (S → List ℕ → Answer → S → Type 0) → List (List ℕ) → S → S → Type 0
 ReadsInTurn reads [] first last = last ≡ first
-ReadsInTurn {S} reads (name ∷ names) first last = (next : S) × (reads first name next × ReadsInTurn reads names next last)
+ReadsInTurn {S} reads (name ∷ names) first last = (answer : Answer) × (next : S) × (reads first name answer next × ReadsInTurn reads names next last)
 
 -- reads of the first few of these names do
-abbrev pub ReadsFirst : {S : Type 0} → (S → List ℕ → S → Type 0) → List (List ℕ) → S → S → Type 0
+abbrev pub ReadsFirst : {S : Type 0} → (S → List ℕ → Answer → S → Type 0) → List (List ℕ) → S → S → Type 0
 ReadsFirst reads names first last = (count : ℕ) × ((count ≤ length names) × ReadsInTurn reads (take count names) first last)
 
 -- where the files are told, this is the file of that name, or none

@@ -121,7 +121,7 @@ impl<R: Files> Shelf for DirShelf<'_, R> {
 
     ghost faults = { λ shelf. shelf.faults };
 
-    ghost reads = { λ before _ now. IsOpened before now };
+    ghost reads = { λ before _ answer now. IsOpened before answer now };
 
     ghost steady = { λ shelf. false };
 

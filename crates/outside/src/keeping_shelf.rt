@@ -4,7 +4,7 @@ ghost use Rattle.std.specs.declared.option.Option.TheVariants.{None, Some};
 ghost use Rattle.std.specs.Option.{option_map};
 ghost use Rattle.outside.specs.Faults.{Rose};
 ghost use Rattle.outside.specs.Keeping.{KeepsRead, bytes_kept};
-ghost use Rattle.outside.specs.Shelf.{IsLonger, TellsFile};
+ghost use Rattle.outside.specs.Shelf.{IsLonger, TellsFile, answer_of};
 
 use crate::{Explain, Reason, Shelf, ShelfFault};
 use std::alloc::Global;
@@ -14,6 +14,7 @@ pub trait Keeping: Explain {
     ghost use Rattle.std.specs.Prelude.{ℕ, List};
     ghost use Rattle.std.specs.declared.option.Option.{Option};
     ghost use Rattle.outside.specs.Keeping.{IsFileOf};
+    ghost use Rattle.outside.specs.Shelf.{Answer};
 
     /// The bytes that the last read gave, where it gave some.
     ghost kept: { Self → Option (List ℕ) };
@@ -23,8 +24,8 @@ pub trait Keeping: Explain {
         ensures { option_map (λ bytes. bytes.now) result ≡ kept self.now };
 
     /// After a read of a name, what is kept is the file of that name, where the files are told.
-    ghost kept_is: { (before : Self) (name : List ℕ) (now : Self) → Self.reads before name now →
-        IsFileOf (Self.files before) name (kept now) };
+    ghost kept_is: { (before : Self) (name : List ℕ) (answer : Answer) (now : Self)
+        → Self.reads before name answer now → IsFileOf (Self.files before) name (kept now) };
 }
 
 /// A shelf that keeps the bytes of the file that it read last, and is in all else the shelf that
@@ -56,8 +57,8 @@ impl<S: Shelf + Drop> Shelf for KeepingShelf<S> {
 
     ghost faults = { λ shelf. S.faults shelf.shelf };
 
-    ghost reads = { λ before name now.
-        KeepsRead S.files S.reads before.shelf name now.shelf (bytes_kept now.kept) };
+    ghost reads = { λ before name answer now.
+        KeepsRead S.files S.reads before.shelf name answer now.shelf (bytes_kept now.kept) };
 
     ghost steady = { λ shelf. S.steady shelf.shelf };
 
@@ -66,8 +67,8 @@ impl<S: Shelf + Drop> Shelf for KeepingShelf<S> {
     fn read(&mut self, alloc: Global, name: &str, limit: usize) -> Result<Vec<u8>, ShelfFault>
         requires { limit < 2 ^ 64 - 1 }
 
-        ensures reads { KeepsRead S.files S.reads self.old.shelf name.now self.new.shelf
-            (bytes_kept self.new.kept) }
+        ensures reads { KeepsRead S.files S.reads self.old.shelf name.now (answer_of result)
+            self.new.shelf (bytes_kept self.new.kept) }
         // What it gives it keeps, and where it gives nothing it keeps nothing.
         ensures keeps { IfOk result (λ bytes. bytes_kept self.new.kept ≡ Some bytes.items) }
         ensures drops { OnErr result (self.new.kept ≡ None) }
@@ -112,5 +113,5 @@ impl<S: Explain + Drop> Keeping for KeepingShelf<S> {
         }
     }
 
-    ghost kept_is = { λ before name now read. read.is_file };
+    ghost kept_is = { λ before name answer now read. read.is_file };
 }

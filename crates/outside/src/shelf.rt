@@ -3,7 +3,7 @@ ghost use Rattle.std.specs.Prelude.{◌≡◌, ◌≤◌, ◌<◌, ◌-◌, ◌^
 ghost use Rattle.std.specs.declared.option.Option.{Option};
 ghost use Rattle.std.specs.declared.option.Option.TheVariants.{None, Some};
 ghost use Rattle.outside.specs.Faults.{Rose};
-ghost use Rattle.outside.specs.Shelf.{Named, TellsFile, IsLonger};
+ghost use Rattle.outside.specs.Shelf.{Answer, Named, TellsFile, IsLonger, answer_of};
 
 use std::alloc::Global;
 use std::error::Error;
@@ -50,10 +50,11 @@ pub trait Shelf {
     /// A read fails only at a name that is not held.
     ghost steady: { Self → Bool };
 
-    /// A read of that name leads from the first shelf to the second. Code that is generic over
-    /// its shelf knows no other way from one shelf to the next, so by this it tells which names
-    /// it asked for, and in which order (`ReadsInTurn`).
-    ghost reads: { Self → List ℕ → Self → Type 0 };
+    /// A read of that name that gave this answer leads from the first shelf to the second. Code
+    /// that is generic over its shelf knows no other way from one shelf to the next, so by this it
+    /// tells which names it asked for, in which order, and what it was answered (`ReadsInTurn`,
+    /// `AnswersInTurn`), also over a shelf that does not tell its files.
+    ghost reads: { Self → List ℕ → Answer → Self → Type 0 };
 
     /// The bytes of the first file of that name, if they are at most `limit`.
     ///
@@ -64,7 +65,7 @@ pub trait Shelf {
     fn read(&mut self, alloc: Global, name: &str, limit: usize) -> Result<Vec<u8>, ShelfFault>
         requires { limit < 2 ^ 64 - 1 }
 
-        ensures reads { reads self.old name.now self.new }
+        ensures reads { reads self.old name.now (answer_of result) self.new }
         ensures files { files self.new ≡ files self.old }
         ensures steady { steady self.new ≡ steady self.old }
         ensures later { faults self.old ≤ faults self.new }

@@ -2,9 +2,10 @@ use Rattle.std.proofs.Common.{[], ◌∷◌, refl}
 use Rattle.std.proofs.lemmas.Result.{err_from_is_err_and}
 use Rattle.graph_text.specs.SoFar.{named_graph}
 use Rattle.bench_tasks.specs.Loading.{graph_file, loaded_as, pick_file}
+use Rattle.bench_tasks.specs.Answered.{place_name}
 use Rattle.bench_tasks.specs.Loads.{given_picks}
+use Rattle.bench_tasks.proofs.AnswersMade.{answered-both, answered-stopped, answered-stopped-second}
 use Rattle.bench_tasks.proofs.LoadsMade.{loads-both, loads-stopped, loads-stopped-second}
-use Rattle.bench_tasks.proofs.ReadNames.{reads-after, stops-after, stops-more}
 use Rattle.bench_tasks.proofs.loading.load_picks.Goals as goal
 
 pub returns-in_err-named-clause-loads : goal.returns-in_err-named-clause-loads
@@ -13,10 +14,11 @@ returns-in_err-named-clause-loads g c =
     rw (p.1, p.2) (loads-stopped g.S.Shelf.files g.S.Shelf.steady g.S.Shelf.faults named_graph given_picks (λ files. graph_file files c.args.graph_file.now)
     (λ files named. loaded_as (λ list. (named, list)) (pick_file files c.args.picks_file.now)) _ _ _ c.in_err-named.ensures.loads)
 
-pub returns-in_err-named-clause-reads : goal.returns-in_err-named-clause-reads
-returns-in_err-named-clause-reads g c =
+pub returns-in_err-named-clause-answered : goal.returns-in_err-named-clause-answered
+returns-in_err-named-clause-answered g c =
     let p = err_from_is_err_and c.from_residual.result c.from_residual.ensures.1 in
-    rw (p.1, p.2) (stops-more g.S.Shelf.reads (c.args.graph_file.now ∷ []) (c.args.picks_file.now ∷ []) c.in_err-named.field-0.0 c.args.shelf.now c.load_first.new.shelf c.in_err-named.ensures.reads)
+    rw (p.1, p.2) (answered-stopped g.S.Shelf.reads (c.args.graph_file.now ∷ []) named_graph given_picks (λ files. graph_file files (place_name 1)) (c.args.picks_file.now ∷ [])
+    (λ files named. loaded_as (λ list. (named, list)) (pick_file files (place_name 2))) _ _ _ c.in_err-named.ensures.answered)
 
 pub returns-in_err-picks-clause-loads : goal.returns-in_err-picks-clause-loads
 returns-in_err-picks-clause-loads g c =
@@ -24,16 +26,18 @@ returns-in_err-picks-clause-loads g c =
     rw (p.1, p.2) (loads-stopped-second g.S.Shelf.files g.S.Shelf.steady g.S.Shelf.faults named_graph given_picks (λ files. graph_file files c.args.graph_file.now) _
     (λ files named. pick_file files c.args.picks_file.now) (λ named list. (named, list)) _ _ _ _ c.in_ok-named.ensures.loads _ c.in_err-picks.ensures.loads)
 
-pub returns-in_err-picks-clause-reads : goal.returns-in_err-picks-clause-reads
-returns-in_err-picks-clause-reads g c =
+pub returns-in_err-picks-clause-answered : goal.returns-in_err-picks-clause-answered
+returns-in_err-picks-clause-answered g c =
     let p = err_from_is_err_and c.from_residual-in_err-picks.result c.from_residual-in_err-picks.ensures.1 in
-    rw (p.1, p.2) (stops-after g.S.Shelf.reads (c.args.graph_file.now ∷ []) c.args.picks_file.now c.in_err-picks.field-0.0 c.args.shelf.now c.load_first.new.shelf c.load.new.shelf c.in_ok-named.ensures.reads c.in_err-picks.ensures.reads c.in_err-picks.ensures.stops)
+    rw (p.1, p.2) (answered-stopped-second g.S.Shelf.reads (c.args.graph_file.now ∷ []) named_graph given_picks (λ files. graph_file files (place_name 1)) _
+    (λ files named. pick_file files (place_name 2)) (λ named list. (named, list)) _ c.args.picks_file.now _ _ _ c.in_ok-named.ensures.answered _ c.in_err-picks.ensures.stops c.in_err-picks.ensures.answered)
 
 pub returns-clause-loads : goal.returns-clause-loads
 returns-clause-loads g c =
     loads-both g.S.Shelf.files g.S.Shelf.steady g.S.Shelf.faults named_graph given_picks (λ files. graph_file files c.args.graph_file.now) _
     (λ files named. pick_file files c.args.picks_file.now) (λ named list. (named, list)) _ _ _ _ c.in_ok-named.ensures.loads _ _ refl c.in_ok-picks.ensures.loads
 
-pub returns-clause-reads : goal.returns-clause-reads
-returns-clause-reads g c =
-    reads-after g.S.Shelf.reads (c.args.graph_file.now ∷ []) c.args.picks_file.now c.args.shelf.now c.load_first.new.shelf c.load.new.shelf c.in_ok-named.ensures.reads c.in_ok-picks.ensures.reads
+pub returns-clause-answered : goal.returns-clause-answered
+returns-clause-answered g c =
+    answered-both g.S.Shelf.reads (c.args.graph_file.now ∷ []) named_graph given_picks (λ files. graph_file files (place_name 1)) _
+    (λ files named. pick_file files (place_name 2)) (λ named list. (named, list)) _ c.args.picks_file.now _ _ _ c.in_ok-named.ensures.answered _ _ refl c.in_ok-picks.ensures.answered

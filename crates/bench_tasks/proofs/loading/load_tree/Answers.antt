@@ -3,9 +3,10 @@ use Rattle.std.proofs.lemmas.Result.{err_from_is_err_and}
 use Rattle.graph_text.specs.SoFar.{named_graph}
 use Rattle.tree_core.specs.View.{shape_of}
 use Rattle.bench_tasks.specs.Loading.{graph_file, loaded_as, tree_file}
+use Rattle.bench_tasks.specs.Answered.{place_name}
 use Rattle.bench_tasks.specs.Loads.{given_tree}
+use Rattle.bench_tasks.proofs.AnswersMade.{answered-both, answered-stopped, answered-stopped-second}
 use Rattle.bench_tasks.proofs.LoadsMade.{loads-both, loads-stopped, loads-stopped-second}
-use Rattle.bench_tasks.proofs.ReadNames.{reads-after, stops-after, stops-more}
 use Rattle.bench_tasks.proofs.loading.load_tree.Goals as goal
 
 pub returns-in_err-named-clause-loads : goal.returns-in_err-named-clause-loads
@@ -14,10 +15,11 @@ returns-in_err-named-clause-loads g c =
     rw (p.1, p.2) (loads-stopped g.S.Shelf.files g.S.Shelf.steady g.S.Shelf.faults named_graph given_tree (λ files. graph_file files c.args.graph_file.now)
     (λ files named. loaded_as (λ t. (named, t)) (tree_file files 2 c.args.tree_file.now named.graph.order)) _ _ _ c.in_err-named.ensures.loads)
 
-pub returns-in_err-named-clause-reads : goal.returns-in_err-named-clause-reads
-returns-in_err-named-clause-reads g c =
+pub returns-in_err-named-clause-answered : goal.returns-in_err-named-clause-answered
+returns-in_err-named-clause-answered g c =
     let p = err_from_is_err_and c.from_residual.result c.from_residual.ensures.1 in
-    rw (p.1, p.2) (stops-more g.S.Shelf.reads (c.args.graph_file.now ∷ []) (c.args.tree_file.now ∷ []) c.in_err-named.field-0.0 c.args.shelf.now c.load_first.new.shelf c.in_err-named.ensures.reads)
+    rw (p.1, p.2) (answered-stopped g.S.Shelf.reads (c.args.graph_file.now ∷ []) named_graph given_tree (λ files. graph_file files (place_name 1)) (c.args.tree_file.now ∷ [])
+    (λ files named. loaded_as (λ t. (named, t)) (tree_file files 2 (place_name 2) named.graph.order)) _ _ _ c.in_err-named.ensures.answered)
 
 pub returns-in_err-tree-clause-loads : goal.returns-in_err-tree-clause-loads
 returns-in_err-tree-clause-loads g c =
@@ -25,16 +27,18 @@ returns-in_err-tree-clause-loads g c =
     rw (p.1, p.2) (loads-stopped-second g.S.Shelf.files g.S.Shelf.steady g.S.Shelf.faults named_graph given_tree (λ files. graph_file files c.args.graph_file.now) shape_of
     (λ files named. tree_file files 2 c.args.tree_file.now named.graph.order) (λ named t. (named, t)) _ _ _ _ c.in_ok-named.ensures.loads _ c.in_err-tree.ensures.loads)
 
-pub returns-in_err-tree-clause-reads : goal.returns-in_err-tree-clause-reads
-returns-in_err-tree-clause-reads g c =
+pub returns-in_err-tree-clause-answered : goal.returns-in_err-tree-clause-answered
+returns-in_err-tree-clause-answered g c =
     let p = err_from_is_err_and c.from_residual-in_err-tree.result c.from_residual-in_err-tree.ensures.1 in
-    rw (p.1, p.2) (stops-after g.S.Shelf.reads (c.args.graph_file.now ∷ []) c.args.tree_file.now c.in_err-tree.field-0.0 c.args.shelf.now c.load_first.new.shelf c.load_tree_for.new.shelf c.in_ok-named.ensures.reads c.in_err-tree.ensures.reads c.in_err-tree.ensures.stops)
+    rw (p.1, p.2) (answered-stopped-second g.S.Shelf.reads (c.args.graph_file.now ∷ []) named_graph given_tree (λ files. graph_file files (place_name 1)) shape_of
+    (λ files named. tree_file files 2 (place_name 2) named.graph.order) (λ named t. (named, t)) _ c.args.tree_file.now _ _ _ c.in_ok-named.ensures.answered _ c.in_err-tree.ensures.stops c.in_err-tree.ensures.answered)
 
 pub returns-clause-loads : goal.returns-clause-loads
 returns-clause-loads g c =
     loads-both g.S.Shelf.files g.S.Shelf.steady g.S.Shelf.faults named_graph given_tree (λ files. graph_file files c.args.graph_file.now) shape_of
     (λ files named. tree_file files 2 c.args.tree_file.now named.graph.order) (λ named t. (named, t)) _ _ _ _ c.in_ok-named.ensures.loads _ _ refl c.in_ok-tree.ensures.loads
 
-pub returns-clause-reads : goal.returns-clause-reads
-returns-clause-reads g c =
-    reads-after g.S.Shelf.reads (c.args.graph_file.now ∷ []) c.args.tree_file.now c.args.shelf.now c.load_first.new.shelf c.load_tree_for.new.shelf c.in_ok-named.ensures.reads c.in_ok-tree.ensures.reads
+pub returns-clause-answered : goal.returns-clause-answered
+returns-clause-answered g c =
+    answered-both g.S.Shelf.reads (c.args.graph_file.now ∷ []) named_graph given_tree (λ files. graph_file files (place_name 1)) shape_of
+    (λ files named. tree_file files 2 (place_name 2) named.graph.order) (λ named t. (named, t)) _ c.args.tree_file.now _ _ _ c.in_ok-named.ensures.answered _ _ refl c.in_ok-tree.ensures.answered

@@ -4,6 +4,7 @@ use Rattle.bench_tasks.specs.Asked.{asked}
 use Rattle.bench_tasks.specs.Loading.{loaded}
 use Rattle.bench_tasks.specs.Files.{file_names}
 use Rattle.bench_tasks.specs.Loads.{task_of}
+use Rattle.bench_top.proofs.GivenFiles.{given-outcome}
 use Rattle.bench_top.proofs.ReadsMade.{absent-fault, first-reads}
 use Rattle.bench_top.proofs.Refusals.{may-refuse}
 use Rattle.bench_top.proofs.Stops.{is-stop, reported-bad, stops-after, unread}
@@ -107,3 +108,34 @@ pub returns-clause-writes : goal.returns-clause-writes
 returns-clause-writes g c =
     wrote-nothing g.K.Sink.written g.K.Sink.writes (GivesTold (g.S.Shelf.files c.args.shelf.now) (λ files. LoadedGives (loaded files (asked c.args.command))))
     c.in-Err.status c.args.sink.now c.in-Err.ensures.stops
+
+-- what was written is an outcome of the files that the reads gave
+pub returns-in-Ok-emit-clause-answered : goal.returns-in-Ok-emit-clause-answered
+returns-in-Ok-emit-clause-answered g c =
+    given-outcome g.S.Shelf.reads g.K.Sink.written g.K.Sink.writes (asked c.args.command) c.gather-gathered.result c.in-Ok.report.status c.args.shelf.now c.gather-gathered.new.shelf
+    c.args.sink.now c.emit.new.sink c.gather-gathered.ensures.answered
+    (λ held loads. wrote-report g.K.Sink.written g.K.Sink.writes (LoadedGives held) c.in-Ok.report.status c.in-Ok.report.bytes.items c.args.sink.now c.emit.new.sink c.in-Ok.ensures.reported
+    (c.in-Ok.ensures.gives held loads)
+    (subst (λ (l : List ℕ). g.K.Sink.written c.emit.new.sink ≡ appended (g.K.Sink.written c.args.sink.now) l) c.deref.ensures.value c.in-Ok-emit.ensures.ok)
+    (subst (λ (l : List ℕ). IsWritten g.K.Sink.writes l c.args.sink.now c.emit.new.sink) c.deref.ensures.value c.in-Ok-emit.ensures.whole))
+
+pub returns-in-Ok-clause-answered : goal.returns-in-Ok-clause-answered
+returns-in-Ok-clause-answered g c =
+    given-outcome g.S.Shelf.reads g.K.Sink.written g.K.Sink.writes (asked c.args.command) c.gather-gathered.result _ c.args.shelf.now c.gather-gathered.new.shelf
+    c.args.sink.now c.emit.new.sink c.gather-gathered.ensures.answered
+    (λ held loads.
+    let cut = c.in-Err-emit.ensures.err in
+    record {
+      status = c.in-Ok.report.status;
+      output = c.in-Ok.report.bytes.items;
+      count = cut.0;
+      right = c.in-Ok.ensures.gives held loads;
+      now = subst (λ (l : List ℕ). g.K.Sink.written c.emit.new.sink ≡ appended (g.K.Sink.written c.args.sink.now) (take cut.0 l)) c.deref.ensures.value cut.2;
+      cut = subst (λ (l : List ℕ). IsCutOff g.K.Sink.writes l cut.0 c.args.sink.now c.emit.new.sink) c.deref.ensures.value cut.3;
+    })
+
+pub returns-clause-answered : goal.returns-clause-answered
+returns-clause-answered g c =
+    given-outcome g.S.Shelf.reads g.K.Sink.written g.K.Sink.writes (asked c.args.command) c.gather-gathered.result c.in-Err.status c.args.shelf.now c.gather-gathered.new.shelf
+    c.args.sink.now c.args.sink.now c.gather-gathered.ensures.answered
+    (λ held loads. wrote-nothing g.K.Sink.written g.K.Sink.writes (LoadedGives held) c.in-Err.status c.args.sink.now c.in-Err.ensures.stops)

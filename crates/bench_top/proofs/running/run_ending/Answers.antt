@@ -1,4 +1,4 @@
-use Rattle.std.proofs.Common.{◌≡◌, ◌∙◌, map, Option, Some, ap, inl, inr, rules, subst, sym}
+use Rattle.std.proofs.Common.{◌≡◌, ◌∙◌, [], map, Option, None, Some, refl, ap, inl, inr, rules, subst, sym}
 use Rattle.std.proofs.lemmas.Option.{same_Some}
 use Rattle.std.specs.Prelude.{string_bytes}
 use Rattle.bench_tasks.specs.Asked.{asked}
@@ -8,6 +8,8 @@ use Rattle.bench_outcomes.specs.Outcome.{CommandGives, CutShort}
 use Rattle.bench_outcomes.specs.Refusing.{MayRefuse}
 use Rattle.bench_tasks.specs.Reads.{names_in}
 use Rattle.bench_top.specs.Endings.{IsStopOf, StopsAfter}
+use Rattle.bench_outcomes.specs.declared.status.Status.TheVariants.{Usage}
+use Rattle.bench_top.specs.Given.{GivenOutcome}
 use Rattle.bench_top.specs.Writes.{GivesTold, WritesAs}
 use Rattle.bench_top.proofs.Completeness.{done-given, done-or_memory}
 use Rattle.bench_top.proofs.running.run_ending.Goals as goal
@@ -52,3 +54,15 @@ returns-in-Some-clause-writes g c =
     let row : Some (asked c.in-Some.command) ≡ command_of (map string_bytes c.args.words.now) = search rules in
     subst (λ (o : Option Command). WritesAs g.K.Sink.written g.K.Sink.writes (GivesTold (g.S.Shelf.files c.args.shelf.now) (λ files. CommandGives files o)) c.perform.result.status c.args.sink.now c.perform.new.sink)
     row c.perform.ensures.writes
+
+pub returns-in-Some-clause-answered : goal.returns-in-Some-clause-answered
+returns-in-Some-clause-answered g c =
+    let row : Some (asked c.in-Some.command) ≡ command_of (map string_bytes c.args.words.now) = search rules in
+    subst (λ (o : Option Command). GivenOutcome g.S.Shelf.reads g.K.Sink.written g.K.Sink.writes o c.perform.result.status c.args.shelf.now c.perform.new.shelf c.args.sink.now c.perform.new.sink)
+    row c.perform.ensures.answered
+
+pub returns-in-None-clause-answered : goal.returns-in-None-clause-answered
+returns-in-None-clause-answered g c =
+    let row : None ≡ command_of (map string_bytes c.args.words.now) = search rules in
+    subst (λ (o : Option Command). GivenOutcome g.S.Shelf.reads g.K.Sink.written g.K.Sink.writes o Usage c.args.shelf.now c.args.shelf.now c.args.sink.now c.args.sink.now)
+    row (record { answers = []; in_turn = refl; files = []; given = refl; wrote = refl })

@@ -1,0 +1,185 @@
+-- Answers of reads, put together: one more after those that were given, and a stop at it. What was
+-- loaded of the first files is what all files hold that give the first answers, and so on with the
+-- next: nothing is known of the files but what the answers say.
+use Rattle.std.proofs.Common.{◌≡◌, ℕ, ◌+◌, ◌≤◌, List, [], ◌∷◌, ◌++◌, length, take, refl, ap, sym, subst, ◌∙◌, arith, length-append, Result, Ok, Err, IfErr, IsOkAnd, MatchResult}
+use Rattle.std.proofs.lemmas.List.{take_all}
+use Rattle.outside.specs.Shelf.{Answer, AnswersInTurn, Named, ReadsInTurn, file_named}
+use Rattle.bench_tasks.specs.Answered.{CountsAs, GathersAnswered, GaveFile, HoldGiven, LoadsAnswered, ReadsOnce, by_place, place_name}
+use Rattle.bench_tasks.specs.Commands.{Command}
+use Rattle.bench_tasks.specs.Files.{file_names}
+use Rattle.bench_tasks.specs.Loading.{Loaded, All, and_then, loaded, loaded_as}
+use Rattle.bench_tasks.specs.Loads.{LoadsAs, StopsAs, task_of}
+use Rattle.bench_tasks.specs.Reads.{ReadsAs, StopsAt}
+use Rattle.bench_tasks.specs.declared.stop.Stop.{Stop}
+use Rattle.bench_tasks.specs.declared.stop.Stop.TheVariants.{ReadFault, Bad, Memory}
+use Rattle.bench_tasks.specs.declared.tasks.Task.TheVariants as code
+use Rattle.bench_tasks.proofs.LoadsMade.{stops-made, stops-then}
+
+module _ {S : Type 0} (reads : S → List ℕ → Answer → S → Type 0) where
+  -- one answer more
+  in_turn-after : (names : List (List ℕ)) (name : List ℕ) (answers : List Answer) (answer : Answer) (first mid last : S) → AnswersInTurn reads names answers first mid → length answers ≡ length names → reads mid name answer last →
+      AnswersInTurn reads (names ++ name ∷ []) (answers ++ answer ∷ []) first last
+  in_turn-after [] name [] answer first mid last in_turn all read = (last, (subst (λ (s : S). reads s name answer last) in_turn read, refl))
+  in_turn-after (other ∷ names) name [] answer first mid last in_turn all read = absurd (omega (arith, all))
+  in_turn-after [] name (given ∷ answers) answer first mid last in_turn all read = absurd in_turn
+  in_turn-after (other ∷ names) name (given ∷ answers) answer first mid last in_turn all read =
+      (in_turn.0, (in_turn.1.0, in_turn-after names name answers answer in_turn.0 mid last in_turn.1.1 (omega (arith, all)) read))
+
+  -- the names that were asked for stay the first where further names stand after
+  in_turn-more : (names more : List (List ℕ)) (answers : List Answer) (first last : S) → AnswersInTurn reads names answers first last → AnswersInTurn reads (names ++ more) answers first last
+  in_turn-more [] [] [] first last in_turn = in_turn
+  in_turn-more [] (name ∷ more) [] first last in_turn = in_turn
+  in_turn-more (other ∷ names) more [] first last in_turn = in_turn
+  in_turn-more [] more (given ∷ answers) first last in_turn = absurd in_turn
+  in_turn-more (other ∷ names) more (given ∷ answers) first last in_turn = (in_turn.0, (in_turn.1.0, in_turn-more names more answers in_turn.0 last in_turn.1.1))
+
+  -- the names that were asked for
+  in_turn-names : (names : List (List ℕ)) (answers : List Answer) (first last : S) → AnswersInTurn reads names answers first last →
+      (length answers ≤ length names) × ReadsInTurn reads (take (length answers) names) first last
+  in_turn-names [] [] first last in_turn = (omega arith, in_turn)
+  in_turn-names (other ∷ names) [] first last in_turn = (omega arith, in_turn)
+  in_turn-names [] (given ∷ answers) first last in_turn = absurd in_turn
+  in_turn-names (other ∷ names) (given ∷ answers) first last in_turn =
+      let rest = in_turn-names names answers in_turn.0 last in_turn.1.1 in
+      (omega (arith, rest.0), (given, in_turn.0, (in_turn.1.0, rest.1)))
+
+  names-up_to : (names : List (List ℕ)) (answers : List Answer) (file : ℕ) (first last : S) → length answers ≡ file → AnswersInTurn reads names answers first last →
+      (file ≤ length names) × ReadsInTurn reads (take file names) first last
+  names-up_to names answers file first last counts in_turn =
+      subst (λ (k : ℕ). (k ≤ length names) × ReadsInTurn reads (take k names) first last) counts (in_turn-names names answers first last in_turn)
+
+  -- the reads of what was answered are those of all names, or of those up to the stop
+  reads-answered : {X A : Type 0} (names : List (List ℕ)) (view : X → A) (held : List Named → Loaded A) (result : Result X Stop) (first last : S) → LoadsAnswered reads names view held result first last → ReadsAs reads names result first last
+  reads-answered names view held (Ok x) first last made =
+      let all = names-up_to names made.answers (length names) first last made.counts made.in_turn in
+      subst (λ (ns : List (List ℕ)). ReadsInTurn reads ns first last) (take_all (length names) names (omega arith)) all.1
+  reads-answered names view held (Err (ReadFault file)) first last made = names-up_to names made.answers file first last made.counts made.in_turn
+  reads-answered names view held (Err (Bad file line kind)) first last made = names-up_to names made.answers file first last made.counts made.in_turn
+  reads-answered names view held (Err Memory) first last made = (length made.answers, in_turn-names names made.answers first last made.in_turn)
+
+-- the same of the files of a command
+pub reads-gathered : {S : Type 0} (reads : S → List ℕ → Answer → S → Type 0) (command : Command) (result : Result code.the_data Stop) (first last : S) → GathersAnswered reads command result first last → ReadsAs reads (file_names command) result first last
+reads-gathered reads command result first last made = reads-answered reads (file_names command) task_of (λ files. loaded files (by_place command)) result first last made
+
+-- files that give some answers and one more
+hold-split : (files : List Named) (place : ℕ) (answers : List Answer) (answer : Answer) → HoldGiven files place (answers ++ answer ∷ []) →
+    HoldGiven files place answers × GaveFile answer (file_named (place_name (place + length answers)) files)
+hold-split files place [] answer given =
+    let same : place ≡ place + length {A = Answer} [] = omega arith in
+    (tt, subst (λ (p : ℕ). GaveFile answer (file_named (place_name p) files)) same given.0)
+hold-split files place (other ∷ answers) answer given =
+    let rest = hold-split files (place + 1) answers answer given.1 in
+    let same : place + 1 + length answers ≡ place + length (other ∷ answers) = omega arith in
+    ((given.0, rest.0), subst (λ (p : ℕ). GaveFile answer (file_named (place_name p) files)) same rest.1)
+
+-- a stop at the place after so many answers is counted by one answer more
+counts-at : (X : Type 0) (n m : ℕ) (stopped : Stop) → StopsAt m stopped → CountsAs {X = X} n m (Err stopped)
+counts-at X n m (ReadFault file) at = sym at
+counts-at X n m (Bad file line kind) at = sym at
+counts-at X n m Memory at = tt
+
+counts-stopped : (X Z : Type 0) (n m k : ℕ) (stopped : Stop) → CountsAs {X = X} n k (Err stopped) → CountsAs {X = Z} m k (Err stopped)
+counts-stopped X Z n m k (ReadFault file) counts = counts
+counts-stopped X Z n m k (Bad file line kind) counts = counts
+counts-stopped X Z n m k Memory counts = tt
+
+-- the first file
+pub answered-first :
+    {S X A : Type 0} (reads : S → List ℕ → Answer → S → Type 0) (name : List ℕ) (view : X → A) (held : List Named → Loaded A) (result : Result X Stop) (first last : S) →
+    IfErr result (StopsAt 1) → ReadsOnce reads name 1 view held result first last → LoadsAnswered reads (name ∷ []) view held result first last
+answered-first {S} {X} reads name view held result first last stops once = record {
+  answers = once.answer ∷ [];
+  in_turn = (last, (once.read, refl));
+  counts = go result stops;
+  loads = λ files given. once.loads files given.0;
+}
+  where
+    go : (result : Result X Stop) → IfErr result (StopsAt 1) → CountsAs 1 1 result
+    go (Ok x) stops = refl
+    go (Err stopped) stops = counts-at X 1 1 stopped stops
+
+module _ {S X Z A C : Type 0} (reads : S → List ℕ → Answer → S → Type 0) (names : List (List ℕ)) (view : X → A) (out : Z → C) (held : List Named → Loaded A) where
+  -- the first load stops
+  pub answered-stopped : (more : List (List ℕ)) (next : List Named → A → Loaded C) (stopped : Stop) (first last : S) → LoadsAnswered reads names view held (Err stopped) first last →
+      LoadsAnswered reads (names ++ more) out (λ files. and_then (held files) (next files)) (Err stopped) first last
+  answered-stopped more next stopped first last made = record {
+    answers = made.answers;
+    in_turn = in_turn-more reads names more made.answers first last made.in_turn;
+    counts = counts-stopped X Z (length names) (length (names ++ more)) (length made.answers) stopped made.counts;
+    loads = λ files given. stops-then stopped (held files) (next files) (made.loads files given);
+  }
+
+  -- one load stops, and nothing is made
+  answered-made-stopped : (make : A → C) (stopped : Stop) (first last : S) → LoadsAnswered reads names view held (Err stopped) first last →
+      LoadsAnswered reads names out (λ files. loaded_as make (held files)) (Err stopped) first last
+  answered-made-stopped make stopped first last made = record {
+    answers = made.answers;
+    in_turn = made.in_turn;
+    counts = counts-stopped X Z (length names) (length names) (length made.answers) stopped made.counts;
+    loads = λ files given. stops-made stopped (held files) make (made.loads files given);
+  }
+
+  -- something is made of the value of one load
+  answered-made : (make : A → C) (x : X) (z : Z) (first last : S) → out z ≡ make (view x) → LoadsAnswered reads names view held (Ok x) first last →
+      LoadsAnswered reads names out (λ files. loaded_as make (held files)) (Ok z) first last
+  answered-made make x z first last is made = record {
+    answers = made.answers;
+    in_turn = made.in_turn;
+    counts = made.counts;
+    loads = λ files given. ap (loaded_as make) (made.loads files given) ∙ ap All (sym is);
+  }
+
+  -- something is made of what is loaded, if it is
+  pub answered-mapped : (make : A → C) (loaded : Result X Stop) (made : Result Z Stop) (first last : S) → MatchResult loaded (λ x. IsOkAnd made (λ z. out z ≡ make (view x))) (λ stopped. made ≡ Err stopped) →
+      LoadsAnswered reads names view held loaded first last → LoadsAnswered reads names out (λ files. loaded_as make (held files)) made first last
+  answered-mapped make (Ok x) (Ok z) first last is one = answered-made make x z first last is one
+  answered-mapped make (Ok x) (Err stopped) first last is one = absurd is
+  answered-mapped make (Err stopped) made first last is one = rw is (answered-made-stopped make stopped first last one)
+
+  module _ {Y B : Type 0} (second_view : Y → B) (further : List Named → A → Loaded B) (make : A → B → C) (x : X) (name : List ℕ) (first mid last : S) (one : LoadsAnswered reads names view held (Ok x) first mid) where
+    -- the answers of both
+    both-in_turn : (answer : Answer) → reads mid name answer last → AnswersInTurn reads (names ++ name ∷ []) (one.answers ++ answer ∷ []) first last
+    both-in_turn answer read = in_turn-after reads names name one.answers answer first mid last one.in_turn one.counts read
+
+    both-count : (answer : Answer) → length (one.answers ++ answer ∷ []) ≡ length names + 1
+    both-count answer = let size = length-append one.answers (answer ∷ []) in let all = one.counts in omega (arith, size, all)
+
+    -- files that give them give the first file and the second
+    both-given : (files : List Named) (answer : Answer) → HoldGiven files 1 (one.answers ++ answer ∷ []) →
+        HoldGiven files 1 one.answers × GaveFile answer (file_named (place_name (length names + 1)) files)
+    both-given files answer given =
+        let parts = hold-split files 1 one.answers answer given in
+        let all = one.counts in
+        let same : 1 + length one.answers ≡ length names + 1 = omega (arith, all) in
+        (parts.0, subst (λ (p : ℕ). GaveFile answer (file_named (place_name p) files)) same parts.1)
+
+    -- what is made where the first is good
+    made-then : (files : List Named) → HoldGiven files 1 one.answers →
+        and_then (held files) (λ a. loaded_as (make a) (further files a)) ≡ loaded_as (make (view x)) (further files (view x))
+    made-then files given = ap (λ (l : Loaded A). and_then l (λ a. loaded_as (make a) (further files a))) (one.loads files given)
+
+    -- the second load stops
+    pub answered-stopped-second : (stopped : Stop) → StopsAt (length names + 1) stopped → ReadsOnce reads name (length names + 1) second_view (λ files. further files (view x)) (Err stopped) mid last →
+        LoadsAnswered reads (names ++ name ∷ []) out (λ files. and_then (held files) (λ a. loaded_as (make a) (further files a))) (Err stopped) first last
+    answered-stopped-second stopped at two = record {
+      answers = one.answers ++ two.answer ∷ [];
+      in_turn = both-in_turn two.answer two.read;
+      counts =
+          subst (λ (k : ℕ). CountsAs {X = Z} (length (names ++ name ∷ [])) k (Err stopped)) (sym (both-count two.answer))
+          (counts-at Z (length (names ++ name ∷ [])) (length names + 1) stopped at);
+      loads = λ files given.
+          let parts = both-given files two.answer given in
+          subst (StopsAs stopped) (sym (made-then files parts.0)) (stops-made stopped (further files (view x)) (make (view x)) (two.loads files parts.1));
+    }
+
+    -- neither stops
+    pub answered-both : (y : Y) (z : Z) → out z ≡ make (view x) (second_view y) → ReadsOnce reads name (length names + 1) second_view (λ files. further files (view x)) (Ok y) mid last →
+        LoadsAnswered reads (names ++ name ∷ []) out (λ files. and_then (held files) (λ a. loaded_as (make a) (further files a))) (Ok z) first last
+    answered-both y z is two = record {
+      answers = one.answers ++ two.answer ∷ [];
+      in_turn = both-in_turn two.answer two.read;
+      counts = both-count two.answer ∙ sym (length-append names (name ∷ []));
+      loads = λ files given.
+          let parts = both-given files two.answer given in
+          made-then files parts.0 ∙ (ap (loaded_as (make (view x))) (two.loads files parts.1) ∙ ap All (sym is));
+    }

@@ -1,0 +1,88 @@
+-- There are files that reads gave, whatever they answered: one for each answer that gave one, named
+-- by its place. They hold what was answered at each place, since places differ.
+use Rattle.std.proofs.Common.{◌≡◌, ◌∙◌, ◌<◌, ℕ, suc, ◌+◌, List, [], ◌∷◌, length, refl, ap, sym, subst, arith, Result, Ok, Err, replicate, true, false, Bool, cond, nat_eq}
+use Rattle.std.proofs.lemmas.List.{length-replicate}
+use Rattle.std.proofs.lemmas.Bool.Decides.{nat_tests}
+use Rattle.std.specs.declared.option.Option.{Option}
+use Rattle.std.specs.declared.option.Option.TheVariants.{Some}
+use Rattle.std.specs.Str.{bytes_eq}
+use Rattle.outside.specs.Shelf.{Answer, Named, file_named}
+use Rattle.outside.specs.declared.shelf.ShelfFault.TheVariants.{Failed, TooLong, Memory}
+use Rattle.bench_tasks.specs.Answered.{GathersAnswered, GaveFile, HoldGiven, by_place, place_name}
+use Rattle.bench_tasks.specs.Commands.{Command}
+use Rattle.bench_tasks.specs.Loading.{loaded, most_bytes}
+use Rattle.bench_tasks.specs.Loads.{Held, LoadsAs, task_of}
+use Rattle.bench_tasks.specs.declared.stop.Stop.{Stop}
+use Rattle.bench_tasks.specs.declared.tasks.Task.TheVariants as code
+use Rattle.bench_outcomes.specs.Outcome.{LoadedGives}
+use Rattle.bench_outcomes.specs.declared.status.Status.{Status}
+use Rattle.bench_top.specs.Given.{AreGiven, BeginsWith, GivenOutcome}
+use Rattle.bench_top.specs.Writes.{WritesAs}
+
+-- the next name is another
+next-name : (place next : ℕ) → place < next → bytes_eq (place_name place) (place_name next) ≡ false
+next-name place next before = grind (arith, nat_tests, before)
+
+-- a file before them changes nothing of what those hold that come after it
+holds-after : (place : ℕ) (bytes : List ℕ) (files : List Named) (next : ℕ) → place < next → (answers : List Answer) → HoldGiven files next answers → HoldGiven ((place_name place, bytes) ∷ files) next answers
+holds-after place bytes files next before [] held = tt
+holds-after place bytes files next before (answer ∷ answers) held =
+    let same : file_named (place_name next) ((place_name place, bytes) ∷ files) ≡ file_named (place_name next) files =
+    ap (λ (b : Bool). cond b (Some bytes) (file_named (place_name next) files)) (next-name place next before) in
+    (subst (GaveFile answer) (sym same) held.0, holds-after place bytes files (next + 1) (omega (arith, before)) answers held.1)
+
+-- the first file is found
+first-named : (place : ℕ) (bytes : List ℕ) (files : List Named) → file_named (place_name place) ((place_name place, bytes) ∷ files) ≡ Some bytes
+first-named place bytes files = ap (λ (b : Bool). cond b (Some bytes) (file_named (place_name place) files)) same
+  where
+    same : bytes_eq (place_name place) (place_name place) ≡ true
+    same = grind (arith, nat_tests)
+
+-- some file is longer than any number
+longer : (n : ℕ) → (bytes : List ℕ) × (n < length bytes)
+longer n = (replicate (n + 1) 0, let size = length-replicate {A = ℕ} (n + 1) 0 in omega (arith, size))
+
+-- files that were given, and what they hold
+pub record FilesGiven (place : ℕ) (answers : List Answer) : Type 0 where
+  pub files : List Named
+  pub given : AreGiven place answers files
+  pub held : HoldGiven files place answers
+
+with-file : (place : ℕ) (bytes : List ℕ) (answers : List Answer) → (rest : FilesGiven (place + 1) answers) →
+    BeginsWith place bytes (AreGiven (place + 1) answers) ((place_name place, bytes) ∷ rest.files) × HoldGiven ((place_name place, bytes) ∷ rest.files) (place + 1) answers
+with-file place bytes answers rest =
+    (record { rest = rest.files; are = refl; others_hold = rest.given }, holds-after place bytes rest.files (place + 1) (omega arith) answers rest.held)
+
+pub files-given : (place : ℕ) (answers : List Answer) → FilesGiven place answers
+files-given place [] = record { files = []; given = refl; held = tt }
+files-given place (Ok bytes ∷ answers) =
+    let rest = files-given (place + 1) answers in
+    let more = with-file place bytes answers rest in
+    record { files = (place_name place, bytes) ∷ rest.files; given = more.0; held = (first-named place bytes rest.files, more.1) }
+files-given place (Err Failed ∷ answers) = let rest = files-given (place + 1) answers in record { files = rest.files; given = rest.given; held = (tt, rest.held) }
+files-given place (Err TooLong ∷ answers) =
+    let rest = files-given (place + 1) answers in
+    let long = longer most_bytes in
+    let more = with-file place long.0 answers rest in
+    record {
+      files = (place_name place, long.0) ∷ rest.files;
+      given = (long.0, long.1, more.0);
+      held = ((long.0, first-named place long.0 rest.files, long.1), more.1);
+    }
+files-given place (Err Memory ∷ answers) = let rest = files-given (place + 1) answers in record { files = rest.files; given = rest.given; held = (tt, rest.held) }
+
+-- a run whose writes are those of an outcome of whatever was loaded
+pub given-outcome :
+    {S K : Type 0} (reads : S → List ℕ → Answer → S → Type 0) (written : K → Option (List ℕ)) (writes : K → List ℕ → ℕ → K → Type 0) (command : Command)
+    (result : Result code.the_data Stop) (status : Status) (first last : S) (before now : K) →
+    GathersAnswered reads command result first last → ((held : Held) → LoadsAs task_of result held → WritesAs written writes (LoadedGives held) status before now) →
+    GivenOutcome reads written writes (Some command) status first last before now
+given-outcome reads written writes command result status first last before now made wrote =
+    let are = files-given 1 made.answers in
+    record {
+      answers = made.answers;
+      in_turn = made.in_turn;
+      files = are.files;
+      given = are.given;
+      wrote = wrote (loaded are.files (by_place command)) (made.loads are.files are.held);
+    }
