@@ -4,7 +4,7 @@ use Rattle.std.specs.Prelude.{◌≡◌, ◌⊎◌, ◌↔◌, ℕ, List, Bool, 
 use Rattle.std.specs.declared.option.Option.{Option}
 use Rattle.std.specs.declared.option.Option.TheVariants.{Some, None}
 use Rattle.outside.specs.Faults.{Rose}
-use Rattle.outside.specs.Shelf.{Named, ReadsFirst, ReadsInTurn}
+use Rattle.outside.specs.Shelf.{Answer, Named, ReadsFirst, ReadsInTurn}
 use Rattle.bench_tasks.specs.Commands.{Command, command_of}
 use Rattle.bench_tasks.specs.Tasks.{Task}
 use Rattle.bench_tasks.specs.Loading.{All, Bad, Absent, loaded}
@@ -16,11 +16,12 @@ use Rattle.bench_outcomes.specs.Success.{Succeeds}
 use Rattle.bench_outcomes.specs.declared.status.Status.{Status}
 use Rattle.bench_outcomes.specs.declared.status.Status.TheVariants as status
 use Rattle.bench_top.specs.Calm.{HasRead, IsCalm}
+use Rattle.bench_top.specs.Given.{GivenOutcome}
 use Rattle.bench_top.specs.Writes.{GivesTold, WritesAs}
 
 -- a run of these words ended so, and led from the first shelf to the last, and from one sink to
 -- the other; the functions are those that tell of the shelf and of the sink
-pub record IsRun {S K : Type 0} (holds : S → Option (List Named)) (is_steady : S → Bool) (faults : S → ℕ) (reads : S → List ℕ → S → Type 0)
+pub record IsRun {S K : Type 0} (holds : S → Option (List Named)) (is_steady : S → Bool) (faults : S → ℕ) (reads : S → List ℕ → Answer → S → Type 0)
     (written : K → Option (List ℕ)) (writes : K → List ℕ → ℕ → K → Type 0) (sink_faults : K → ℕ) (words : List (List ℕ)) (ended : Status) (first last : S) (before now : K) : Type 0 where
   pub usage : (ended ≡ status.Usage) ↔ (command_of words ≡ None)
   pub unread : ended ≡ status.Usage → last ≡ first
@@ -39,6 +40,7 @@ pub record IsRun {S K : Type 0} (holds : S → Option (List Named)) (is_steady :
   pub cut : (files : List Named) → holds first ≡ Some files → ended ≡ status.WriteFault
       → CutShort (Outcome words files) (written before) (written now)
   pub writes_made : WritesAs written writes (GivesTold (holds first) (Outcome words)) ended before now
+  pub answered : GivenOutcome reads written writes (command_of words) ended first last before now
   pub missing : (files : List Named) (command : Command) → holds first ≡ Some files → command_of words ≡ Some command
       → ended ≡ status.ReadFault → IsTrue (is_steady first) → (file : ℕ) × (loaded files command ≡ Absent file)
   pub absent : (files : List Named) (command : Command) (file : ℕ) → holds first ≡ Some files → command_of words ≡ Some command

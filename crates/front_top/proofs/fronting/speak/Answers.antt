@@ -16,6 +16,7 @@ returns-clause-runs g c = record {
   outcome = c.run_ending-ending.ensures.outcome;
   cut = c.run_ending-ending.ensures.cut;
   writes_made = c.run_ending-ending.ensures.writes;
+  answered = c.run_ending-ending.ensures.answered;
   missing = c.run_ending-ending.ensures.missing;
   absent = c.run_ending-ending.ensures.absent;
   bad = c.run_ending-ending.ensures.bad;
