@@ -55,30 +55,6 @@ module _ {S X Z A C : Type 0} (told : S → Option (List Named)) (steady : S →
     absent = λ files holds. fails-then X Z (steady before) stopped (held files) (next files) (first.absent files holds);
   }
 
-  -- one load stops, and nothing is made
-  pub loads-made-stopped : (make : A → C) (stopped : Stop) (before now : S) → Loads told steady faults view held (Err stopped) before now →
-      Loads told steady faults out (λ files. loaded_as make (held files)) (Err stopped) before now
-  loads-made-stopped make stopped before now first = record {
-    files = first.files;
-    as_steady = first.as_steady;
-    later = first.later;
-    failed = λ fault. first.failed (same-fault X Z stopped fault);
-    loads = λ files holds. stops-made stopped (held files) make (first.loads files holds);
-    absent = λ files holds. fails-made X Z (steady before) stopped (held files) make (first.absent files holds);
-  }
-
-  -- something is made of the value of one load
-  pub loads-made : (make : A → C) (x : X) (z : Z) (before now : S) → out z ≡ make (view x) → Loads told steady faults view held (Ok x) before now →
-      Loads told steady faults out (λ files. loaded_as make (held files)) (Ok z) before now
-  loads-made make x z before now is first = record {
-    files = first.files;
-    as_steady = first.as_steady;
-    later = first.later;
-    failed = λ fault. absurd fault;
-    loads = λ files holds. ap (loaded_as make) (first.loads files holds) ∙ ap All (sym is);
-    absent = λ files holds. tt;
-  }
-
   module _ {Y B : Type 0} (second_view : Y → B) (further : List Named → A → Loaded B) (make : A → B → C) (x : X) (before mid now : S) (first : Loads told steady faults view held (Ok x) before mid) where
     -- what is made where the first is good
     made-after : (files : List Named) → held files ≡ All (view x) →

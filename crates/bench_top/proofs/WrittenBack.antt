@@ -56,11 +56,6 @@ given make (All a) output gives = (a, (refl, gives))
 given make (Bad file line kind) output gives = let no = gives.0 in cc no
 given make (Absent file) output gives = absurd gives
 
-then-given : {A : Type 0} (held : Loaded A) (next : A → Loaded Task) (output : List ℕ) → LoadedGives (and_then held next) Done output → (a : A) × ((held ≡ All a) × LoadedGives (next a) Done output)
-then-given (All a) next output gives = (a, (refl, gives))
-then-given (Bad file line kind) next output gives = let no = gives.0 in cc no
-then-given (Absent file) next output gives = absurd gives
-
 -- what all is made of
 abbrev value_or : {A : Type 0} → A → Loaded A → A
 value_or other (All a) = a

@@ -1,6 +1,6 @@
 -- Rising lists as sets: a rising list of numbers 1 to n has as many items as its test counts, and
 -- is fixed by its test. By induction on the list, with the least number that may still come.
-use Rattle.std.proofs.Common.{◌≡◌, ℕ, ◌+◌, ◌≤◌, ◌<◌, Bool, true, false, ◌==◌, ◌||◌, ◌&&◌, List, [], ◌∷◌, length, refl, sym, ap, ap₂, ◌∙◌, arith, ◌⊎◌, inl, inr, eq-eqb, ne_eqb, cond, subst, true≢false, suc, zero, ◌*◌, ◌++◌, eqb-true, sum_by, filter, take, get_or}
+use Rattle.std.proofs.Common.{◌≡◌, ℕ, ◌+◌, ◌≤◌, ◌<◌, Bool, true, false, ◌==◌, ◌||◌, ◌&&◌, List, [], ◌∷◌, length, refl, sym, ap, ap₂, ◌∙◌, arith, ◌⊎◌, inl, inr, eq-eqb, ne_eqb, cond, subst, true≢false, suc, zero, ◌*◌, ◌++◌, eqb-true, sum_by, take, get_or}
 use Rattle.std.specs.Prelude.{slice_index, slice_index_or, All}
 use Rattle.std.specs.List.Sorted.{IsStrictlyIncreasing}
 use Rattle.std.proofs.lemmas.Bool.{cases_eq, cases_order, both_ways, cases_lt, or_cases, or_right, or_left, cases_Bool}
@@ -10,7 +10,7 @@ use Rattle.counting.proofs.Totals.{total_add, total_at, total_congr, total_none,
 use Rattle.counting.specs.Counts.{Within, bit, count, total}
 use Rattle.counting.specs.Lists.{IsRisingIn, mem, rising_list, times}
 use Rattle.counting.specs.Sets.{Set}
-use Rattle.counting.proofs.Booleans.{and_false, or_false}
+use Rattle.counting.proofs.Booleans.{or_false}
 
 -- rising numbers from low to n
 abbrev pub Rises : ℕ → ℕ → List ℕ → Type 0
@@ -46,21 +46,6 @@ count_mem low n (x ∷ xs) l r =
       where
         zero_plus : (k : ℕ) → 0 + k ≡ k
         zero_plus k = omega arith
-
--- the elements that pass
-pub mem-filter : (p : ℕ → Bool) (xs : List ℕ) (v : ℕ) → mem (filter p xs) v ≡ (mem xs v && p v)
-mem-filter p [] v = refl
-mem-filter p (x ∷ xs) v = go (mem-filter p xs v) (p x) refl
-  where
-    go : mem (filter p xs) v ≡ (mem xs v && p v) → (b : Bool) → p x ≡ b → mem (cond b (x ∷ filter p xs) (filter p xs)) v ≡ (((x == v) || mem xs v) && p v)
-    go ih true e = elim (cases_eq x v) [
-      | inl q ↦ rw (eq-eqb x v q) (sym e ∙ ap p q)
-      | inr q ↦ rw (ne_eqb x v q) ih
-    ]
-    go ih false e = elim (cases_eq x v) [
-      | inl q ↦ let f : p v ≡ false = ap p (sym q) ∙ e in ih ∙ rw f (and_false (mem xs v) ∙ sym (and_false ((x == v) || mem xs v)))
-      | inr q ↦ rw (ne_eqb x v q) ih
-    ]
 
 -- a rising list is fixed by its test
 pub same_list : (low n : ℕ) (xs ys : List ℕ) → Rises low n xs → Rises low n ys → ((v : ℕ) → mem xs v ≡ mem ys v) → xs ≡ ys

@@ -12,7 +12,7 @@ use Rattle.graph_core.proofs.Edits.{ends_of, edge_at, ends_le_degree}
 use Rattle.graph_core.specs.Graph.{Graph, size, first_end, second_end}
 use Rattle.ear_core.specs.Ears.{last_vertex}
 use Rattle.ear_core.specs.Stages.{is_met}
-use Rattle.ear_core.specs.EarTests.{not_path, even_length, bad_ends, inner_on_stage, edge_used, is_path, has_odd_length, has_good_ends, has_free_inner, has_new_edges, ear_fault, inner_vertices, no_member}
+use Rattle.ear_core.specs.EarTests.{even_length, bad_ends, inner_on_stage, edge_used, is_path, has_odd_length, has_good_ends, has_free_inner, has_new_edges, ear_fault, inner_vertices, no_member}
 use Rattle.ear_core.proofs.TraceEdges.{met-some, some-met}
 use Rattle.ear_core.proofs.EarTests.{no_member_at, at_no_member}
 
@@ -33,9 +33,6 @@ met-ends g f v = same_tests (some (size g) (λ e. f e && (first_end g e == v || 
 
 module _ (g : Graph) (f : Set) (xs ds : List ℕ) (v : ℕ) (es : List ℕ) where
   -- the first test that fails
-  pub fault-path : is_path g v es ≡ false → ear_fault g f xs ds v es ≡ Some not_path
-  fault-path a = rw a refl
-
   pub fault-length : is_path g v es ≡ true → has_odd_length es ≡ false → ear_fault g f xs ds v es ≡ Some even_length
   fault-length a b = rw (a, b) refl
 

@@ -1,29 +1,19 @@
 -- Steps from a stage. Whether an edge lies in a perfect matching of a stage is decided, and the
 -- second ear of a step is an ear of the stage with the first.
-use Rattle.std.proofs.Common.{◌≡◌, ℕ, Bool, true, ◌==◌, arith, ◌&&◌, ◌||◌, not, inl, inr, subst, List}
+use Rattle.std.proofs.Common.{◌≡◌, ℕ, true, ◌==◌, arith, ◌&&◌, ◌||◌, inl, inr, subst, List}
 use Rattle.std.proofs.lemmas.Bool.{both_ways, false_from_ne_true, or_left, or_from}
 use Rattle.counting.specs.Counts.{Within}
 use Rattle.counting.specs.Lists.{mem}
 use Rattle.counting.specs.Sets.{Set, none}
-use Rattle.counting.specs.Tests.{every}
 use Rattle.ear_core.proofs.TraceEdges.{met-some, some-met, degree_le}
 use Rattle.ear_core.proofs.AddedEars.{new-met}
 use Rattle.ear_core.specs.Ears.{last_vertex, IsEar, IsEarPair}
 use Rattle.ear_core.specs.NearlyStages.{IsNearlyStage}
 use Rattle.ear_core.specs.Stages.{is_met, IsStage, with_edges}
 use Rattle.graph_core.proofs.Edits.{edge_at}
-use Rattle.graph_core.specs.Graph.{Graph, size, IsGraph, degree}
+use Rattle.graph_core.specs.Graph.{Graph, IsGraph}
 
 -- the test for a perfect matching of the edges f
-abbrev pub is_part : Set → Set → ℕ → Bool
-is_part f m e = not (m e) || f e
-
-abbrev pub meets_once : Graph → Set → Set → ℕ → Bool
-meets_once g f m v = not (is_met g f v) || (degree g m v == 1)
-
-abbrev pub is_perfect_of : Graph → Set → Set → Bool
-is_perfect_of g f m = every (size g) (is_part f m) && every g.order (meets_once g f m)
-
 pub nearly : (g : Graph) (f : Set) → IsStage g f → IsNearlyStage g f none
 nearly g f s = record {
   some_edge = s.some_edge;

@@ -74,9 +74,6 @@ module _ (g : Graph) (is : IsGraph g) (f : Set) where
   abbrev k : Graph
   k = stage_graph g f
 
-  pair : ℕ → ℕ × ℕ
-  pair e = cond (f e) (count (first_end g e) t, count (second_end g e) t) (1, 1)
-
   pub size-ranked : size k ≡ size g
   size-ranked = tab-size (size g) (λ e. cond (f e) (count (first_end g e) t, count (second_end g e) t) (1, 1))
 

@@ -2,37 +2,14 @@
 use Rattle.std.proofs.Common.{◌≡◌, ◌∙◌, ◌<◌, ◌≤◌, ℕ, List, [], length, take, refl, sym, subst, ap, inl, inr}
 use Rattle.std.specs.declared.option.Option.{Option}
 use Rattle.std.specs.declared.option.Option.TheVariants.{Some, None}
-use Rattle.outside.specs.Sink.{appended, IsCutOff, IsWritten}
+use Rattle.outside.specs.Sink.{appended}
 use Rattle.outside.proofs.Pieces.{appended-nil}
 use Rattle.list_reader.specs.declared.ending.BadLine.{BadLine}
 use Rattle.list_reader.specs.declared.ending.Ending.{Ending}
 use Rattle.list_reader.specs.declared.ending.Ending.TheVariants.{Done, Bad, ReadFault, WriteFault, Memory}
 use Rattle.list_reader.specs.Endings.{Appended, IsLeft}
-use Rattle.encoder.specs.Files.{Encodes, IsEncoded, NamesTooLong, most_bytes}
-use Rattle.encoder.specs.Reads.{EncodesFile, IsReadWhole, LeavesMore, ReadsFirst, WritesUpTo, WroteCutOff, WroteEncoded}
-
--- the text of the file was written, as the piece
-pub wrote_encoded :
-    {K : Type 0} (written : K → Option (List ℕ)) (writes : K → List ℕ → ℕ → K → Type 0) (file output piece : List ℕ) (first last : K) →
-    IsEncoded file output → piece ≡ output → written last ≡ appended (written first) piece → IsWritten writes piece first last →
-    WroteEncoded written writes file first last
-wrote_encoded written writes file output piece first last encoded same now whole =
-    record { output = piece; encoded = subst (λ (t : List ℕ). IsEncoded file t) (sym same) encoded; now = now; whole = whole }
-
--- the writing of it failed
-pub wrote_cut_off :
-    {K : Type 0} (written : K → Option (List ℕ)) (writes : K → List ℕ → ℕ → K → Type 0) (file output piece : List ℕ) (first last : K) →
-    IsEncoded file output → piece ≡ output →
-    ((count : ℕ) × (count < length piece) × (written last ≡ appended (written first) (take count piece))
-    × IsCutOff writes piece count first last) →
-    WroteCutOff written writes file first last
-wrote_cut_off written writes file output piece first last encoded same cut = record {
-  output = piece;
-  encoded = subst (λ (t : List ℕ). IsEncoded file t) (sym same) encoded;
-  count = cut.0;
-  now = cut.2;
-  cut = cut.3;
-}
+use Rattle.encoder.specs.Files.{Encodes, NamesTooLong, most_bytes}
+use Rattle.encoder.specs.Reads.{EncodesFile, IsReadWhole, LeavesMore, ReadsFirst, WritesUpTo}
 
 -- the file was read whole, and then written up to an ending
 pub after_read :

@@ -39,10 +39,6 @@ module _ {X Y : Type 0} (test : Y → Bool) (view : X → Y) where
   position-map xs =
       ap₂ (λ k n. cond (nat_lt k n) (Some k) None) (position_or_len-map xs) (length-map xs view)
 
-  pub list_any-map : (xs : List X) → list_any test (map view xs) ≡ list_any (λ x. test (view x)) xs
-  list_any-map [] = refl
-  list_any-map (x ∷ xs) = ap (λ b. test (view x) || b) (list_any-map xs)
-
 -- where the item at each place is another word, the word is not among them
 pub among-none : (names : List (List ℕ)) (word : List ℕ) → ((i : ℕ) → i < length names → get_or names i [] ≢ word) → is_among names word ≡ false
 among-none [] word others = refl

@@ -113,10 +113,6 @@ module _ (g : Graph) (m : IsMultigraph g) (cubic : IsCubic g) (w : ℕ) (ww : Wi
       let r = three-items (flags_at w bs g.ends) (length-marks_where (is_at w) bs g.ends l ∙ edges-at) in
       (r.0, r.1, r.2, r.3, ap true_count (sym r.3) ∙ true_count-flags g.order w bs g.ends (each-edge_of g m) l ∙ sym (degree-marked g bs w l))
 
-  -- of a perfect matching one is true
-  pub flags-perfect : (bs : List Bool) → length bs ≡ size g → IsPerfect g none (marked bs) → (i : ℕ) × (i < 3) × (flags_at w bs g.ends ≡ unit i)
-  flags-perfect bs l p = let r = flags-three bs l in let u = unit-of_one r.0 r.1 r.2 (r.4 ∙ p.once w ww refl) in (u.0, u.1, r.3 ∙ u.2)
-
   -- the marks of a perfect matching are perfect
   pub perfect-marks : (k : Set) → IsPerfect g none k → IsPerfect g none (marked (marks_from 0 (size g) k))
   perfect-marks k p = record {

@@ -127,9 +127,6 @@ module _ (g : Graph) (r f : Set) (mate : List ℕ) (w : Ways) (are : AreClosingW
   qq = are.second_path
 
   -- the vertices of the ways have mates in the row of mates
-  pub first_in : (j : ℕ) → j ≤ k + k → P j < length mate
-  first_in j lj = let v = pp.path.within j lj in let e = are.long in omega arith
-
   pub second_in : (j : ℕ) → j ≤ l + l → Q j < length mate
   second_in j lj = let v = qq.path.within j lj in let e = are.long in omega arith
 

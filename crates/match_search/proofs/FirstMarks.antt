@@ -2,12 +2,11 @@
 -- free vertices is added: it meets these two alone, so all other free vertices stay free.
 use Rattle.std.proofs.Common.{◌≡◌, ℕ, ◌+◌, ◌≤◌, ◌≢◌, Bool, true, false, ◌==◌, ◌||◌, ◌&&◌, not, sym, ap, ap₂, ◌∙◌, arith}
 use Rattle.std.proofs.lemmas.Bool.{both_ways, or_left, or_right, false_from_ne_true}
-use Rattle.counting.proofs.Counts.{count_le}
 use Rattle.counting.proofs.Totals.{total_none}
-use Rattle.counting.specs.Counts.{Within, bit, count}
-use Rattle.counting.specs.Sets.{Set, put, complement}
-use Rattle.graph_core.proofs.Edits.{add_edge, degree_put, ends_of_is, missed_edges}
-use Rattle.graph_core.specs.Graph.{Graph, HasEnds, IsGraph, degree, first_end, second_end, size}
+use Rattle.counting.specs.Counts.{Within, bit}
+use Rattle.counting.specs.Sets.{Set, put}
+use Rattle.graph_core.proofs.Edits.{add_edge, degree_put, ends_of_is}
+use Rattle.graph_core.specs.Graph.{Graph, HasEnds, degree, first_end, second_end, size}
 use Rattle.graph_core.specs.Matchings.{IsMatching}
 
 -- no edge at all
@@ -38,7 +37,3 @@ added_edge g r m met met' e x y mm free we wx wy ends xy mx my met'_is = (
         let f = free v w a in
         let s = ends_of_is g e x y ends v in
         let p = degree_put g m e true v we in (f.0, omega arith)
-
--- a matching has at most as many edges as there are vertices
-pub few_edges : (g : Graph) (r m : Set) → IsGraph g → IsMatching g r m → count (size g) m ≤ g.order
-few_edges g r m is mm = let a = missed_edges g r m is mm in let b = count_le g.order (complement r) in omega arith

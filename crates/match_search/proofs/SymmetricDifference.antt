@@ -10,16 +10,15 @@ use Rattle.counting.proofs.Totals.{total_congr}
 use Rattle.counting.specs.Counts.{Within, bit, count, is_odd, total}
 use Rattle.counting.specs.Sets.{Set, put}
 use Rattle.counting.proofs.Booleans.{not_not}
-use Rattle.graph_core.proofs.Edits.{degree_put, edge_at, ends_le_degree, ends_of, ends_of_is, bit_same}
+use Rattle.graph_core.proofs.Edits.{degree_put, ends_le_degree, ends_of, ends_of_is, bit_same}
 use Rattle.graph_core.specs.Graph.{Graph, IsGraph, degree, size, HasEnds}
 use Rattle.graph_core.specs.Matchings.{IsMatching, IsPerfect}
 use Rattle.match_search.proofs.OddCycles.{same_ends, total_picked}
-use Rattle.match_search.proofs.LongerPaths.{edge_spots, end_within, ends_by, longer_below, extended, longer}
+use Rattle.match_search.proofs.LongerPaths.{edge_spots, end_within, ends_by, extended, longer}
 use Rattle.match_search.proofs.Forests.{met, one_edge, turned}
 use Rattle.match_search.proofs.AlternatingPaths.{flipped_degree, flipped_off}
 use Rattle.match_search.specs.OddCycles.{picked}
 use Rattle.match_search.specs.Forests.{IsAlternating, IsPath, flipped}
-use Rattle.match_search.specs.RepairPaths.{RepairPath}
 
 -- a path has at most as many vertices as the graph
 pub path_short : (g : Graph) (r : Set) (k : ℕ) (v e : ℕ → ℕ) → IsPath g r k v e → suc (k + k) ≤ g.order
@@ -168,50 +167,3 @@ module _ (g : Graph) (is : IsGraph g) (r m n : Set) (mm : IsMatching g r m) (per
         step : (u : ℕ) → degree g (put (flipped m e k) a true) u ≡ degree g m u + (bit (v 0 == u) + bit (w == u))
         step u = let x = degree_put g (flipped m e k) a true u wa in let y = flipped_degree g r m mm k v e p k u kk in
             let z = ends_of_is g a (v (k + k)) w ends u in let o = ap (λ b. bit b * ends_of g a u) off in omega arith
-
-  module _ (x y : ℕ) (xy : x ≢ y) (singleton : (u : ℕ) → Within g.order u → r u ≡ false → degree g m u ≡ 0 → (u ≡ x) ⊎ (u ≡ y)) where
-    walk_on : (t k : ℕ) (v e : ℕ → ℕ) → IsAlternating g r m k v e → ((i : ℕ) → i < k + k → n (e i) ≡ not (is_odd i)) → v 0 ≡ x → g.order < k + k + t → RepairPath g r m x y
-    walk_on zero k v e p other start l = let a = path_short g r k v e p.path in absurd (omega arith)
-    walk_on (suc t) k v e p other start l =
-        let d = edge_at g n (v (k + k)) (let a = perfect.once (v (k + k)) (p.path.within (k + k) (omega arith)) (p.path.outside (k + k) (omega arith)) in omega arith) in
-        let ww = end_within g is d.0 d.3.0 (v (k + k)) d.1 (turned g d.0 (v (k + k)) d.3.0 d.3.1) in
-        let rw' = outside n nn d.0 d.3.0 (v (k + k)) d.1 d.2 (turned g d.0 (v (k + k)) d.3.0 d.3.1) in
-        elim (cases_eq (degree g m d.3.0) 0) [
-          | inl z ↦ elim (singleton d.3.0 ww rw' z) [
-            | inl h ↦ absurd (w_off k v e p other d.0 d.3.0 d.1 d.2 d.3.1 0 (omega arith) (start ∙ sym h))
-            | inr h ↦ record {
-              k = k;
-              v = v;
-              e = e;
-              path = p;
-              start = start;
-              edge = d.0;
-              real = d.1;
-              ends = subst (λ s. HasEnds g d.0 (v (k + k)) s) h d.3.1;
-              apart = λ i li q. w_off k v e p other d.0 d.3.0 d.1 d.2 d.3.1 i li (q ∙ sym h);
-              off = m_a k v e p other d.0 d.3.0 d.1 d.2 d.3.1;
-              perfect = mended k v e p other d.0 d.3.0 d.1 d.2 d.3.1 z (λ u wu ru du. elim (singleton u wu ru du) [ inl s ↦ inl (s ∙ sym start) | inr s ↦ inr (s ∙ sym h) ]);
-            }
-          ]
-          | inr z ↦
-              let c = edge_at g m d.3.0 (omega arith) in
-              walk_on t (suc k) (longer (suc (k + k)) v d.3.0 c.3.0) (longer (k + k) e d.0 c.0)
-              (further k v e p other d.0 d.3.0 d.1 d.2 d.3.1 c.0 c.3.0 c.1 c.2 c.3.1)
-              (further_other k v e p other d.0 d.3.0 d.1 d.2 d.3.1 c.0 c.3.0 c.1 c.2 c.3.1)
-              (longer_below (suc (k + k)) v d.3.0 c.3.0 0 (omega arith) ∙ start) (omega arith)
-        ]
-
-    -- a matching that misses x and y alone is one alternating path away from a perfect one, where
-    -- there is one
-    pub repair : Within g.order x → r x ≡ false → degree g m x ≡ 0 → RepairPath g r m x y
-    repair wx rx dx = walk_on (suc g.order) 0 (λ i. x) (λ i. 0) (record {
-      path = record {
-        apart = λ i j li lj q. omega arith;
-        within = λ i l. wx;
-        outside = λ i l. rx;
-        real = λ i l. absurd (omega arith);
-        ends = λ i l. absurd (omega arith);
-      };
-      free = dx;
-      turns = λ i l. absurd (omega arith);
-    }) (λ i l. absurd (omega arith)) refl (omega arith)

@@ -40,20 +40,6 @@ pub record DiffersByPath (g : Graph) (r m n : Set) : Type 0 where
   pub second : Misses g r m y
   pub path : FormPath g (difference m n) x y
 
--- an alternating path and one more edge, which make a perfect matching of m
-pub record RepairPath (g : Graph) (r m : Set) (x y : ℕ) : Type 0 where
-  pub k : ℕ
-  pub v : ℕ → ℕ
-  pub e : ℕ → ℕ
-  pub path : IsAlternating g r m k v e
-  pub start : v 0 ≡ x
-  pub edge : ℕ
-  pub real : Within (size g) edge
-  pub ends : HasEnds g edge (v (k + k)) y
-  pub apart : (i : ℕ) → i ≤ k + k → v i ≢ y
-  pub off : m edge ≡ false
-  pub perfect : IsPerfect g r (put (flipped m e k) edge true)
-
 -- a walk from x by edges of n and of m in turn, which has come to v; the edges of n among them
 -- are an even number of places from the start
 pub record IsWalk (g : Graph) (r m n : Set) (x : ℕ) (es : List ℕ) (v : ℕ) : Type 0 where

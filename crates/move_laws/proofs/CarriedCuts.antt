@@ -11,14 +11,13 @@ use Rattle.counting.specs.Sets.{Set, complement}
 use Rattle.counting.proofs.Booleans.{not_not, not_not_back}
 use Rattle.graph_core.proofs.BlockSets.{at_rep, block_count_congr, block_count_rest, rep, rep_in, tight_congr, tight_rest, union_congr, union_rest}
 use Rattle.graph_core.proofs.Complements.{complement_of-rises, mem-complement_of}
-use Rattle.graph_core.proofs.MergedShores.{Some, alike_down, alike_in, alike_up, covered_merged, merge_of, same_side}
+use Rattle.graph_core.proofs.MergedShores.{Some, alike_down, alike_in, alike_up, merge_of, same_side}
 use Rattle.graph_core.proofs.Merging.{merged_merges}
-use Rattle.graph_core.specs.Covered.{IsCovered}
 use Rattle.graph_core.specs.Graph.{Graph, IsGraph, first_end, second_end}
-use Rattle.graph_core.specs.Partitions.{AreBlocks, IsMerge, complement_of, contracted, merged, place}
+use Rattle.graph_core.specs.Partitions.{AreBlocks, IsMerge, complement_of, merged, place}
 use Rattle.graph_core.specs.Shores.{IsTightAt, IsUnion, block_count, blocks_in}
 use Rattle.graph_core.specs.Tight.{IsNontrivial}
-use Rattle.tree_core.specs.Derivations.{IsCutAt, kept_at, merged_at}
+use Rattle.tree_core.specs.Derivations.{IsCutAt}
 use Rattle.move_laws.proofs.Images.{image_at, image_nontrivial, image_tight}
 use Rattle.move_laws.proofs.Rising.{bounds}
 use Rattle.move_laws.specs.Isomorphisms.{Isomorphism, OneWay, pre}
@@ -78,18 +77,6 @@ module _ (g : Graph) (is : IsGraph g) (p : List (List ℕ)) (pp : AreBlocks g.or
   pub outer : Some g.order (mem (complement_of g.order x))
   outer = let s = some_of g.order p pp (complement (mem x)) (union_rest g.order p pp (mem x) tx.union) (let a = nt.outside in let b = block_count_rest g.order p pp (mem x) tx.union in omega arith) in
       (s.0, s.1, mem-complement_of g.order x s.0 s.1 ∙ s.2)
-
-  pub merged_merge : IsMerge g.order p (mem x) (merged_at g.order p x)
-  merged_merge = merge_of g is p x pp tx inner (bounds sx)
-
-  pub kept_merge : IsMerge g.order p (mem (complement_of g.order x)) (kept_at g.order p x)
-  kept_merge = merge_of g is p (complement_of g.order x) pp rest_tight outer (bounds (complement_of-rises g.order x))
-
-  pub merged_covered : IsCovered (contracted g p) → IsCovered (contracted g (merged_at g.order p x))
-  merged_covered = covered_merged g is p x pp tx inner (bounds sx)
-
-  pub kept_covered : IsCovered (contracted g p) → IsCovered (contracted g (kept_at g.order p x))
-  kept_covered = covered_merged g is p (complement_of g.order x) pp rest_tight outer (bounds (complement_of-rises g.order x))
 
 pub nontrivial_rest : (n : ℕ) (p : List (List ℕ)) → AreBlocks n p → (x : Set) → IsUnion n p x → IsNontrivial (length p) (blocks_in p x) → IsNontrivial (length p) (blocks_in p (complement x))
 nontrivial_rest n p pp x u nt =

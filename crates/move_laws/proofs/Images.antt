@@ -6,12 +6,11 @@ use Rattle.counting.proofs.Tests.{some_true, true_some}
 use Rattle.counting.specs.Counts.{Within, count, is_odd}
 use Rattle.counting.specs.Sets.{Set, complement}
 use Rattle.counting.specs.Tests.{some}
-use Rattle.graph_core.proofs.Adjacency.{Alike, covered_over, has_ends-from, tight_back}
+use Rattle.graph_core.proofs.Adjacency.{Alike, has_ends-from, tight_back}
 use Rattle.graph_core.proofs.BlockSets.{at_place, at_rep, block_count_rest, count_over, place_rep, rep, rep_in, rep_place, tight_congr, union_rest}
 use Rattle.graph_core.proofs.Blocks.{contracted-ends, contracted-graph, contracted-size, place_in}
 use Rattle.graph_core.proofs.SameSets.{cut_congr}
 use Rattle.graph_core.proofs.Walks.{has_ends-back, has_ends-cases}
-use Rattle.graph_core.specs.Covered.{IsCovered}
 use Rattle.graph_core.specs.Graph.{Graph, IsGraph, first_end, has_ends, second_end, size}
 use Rattle.graph_core.specs.Partitions.{AreBlocks, contracted, place}
 use Rattle.graph_core.specs.Shores.{IsTightAt, IsUnion, block_count, blocks_in}
@@ -182,9 +181,6 @@ tight_image g is p q h k pp qp iso x u t = record {
     block_of i w = image_block g is p q h k pp qp iso x u i w
 
 module _ (g : Graph) (is : IsGraph g) (p q : List (List ℕ)) (h k : ℕ → ℕ) (pp : AreBlocks g.order p) (qp : AreBlocks g.order q) (iso : Isomorphism g p q h k) where
-  pub image_covered : IsCovered (contracted g p) → IsCovered (contracted g q)
-  image_covered cov = covered_over (contracted g p) (contracted g q) (moved g is p q h k pp qp iso) (contracted-graph g p is pp) (alike g is p q h k pp qp iso) (contracted-graph g q is qp) cov
-
   -- tight shores correspond
   pub image_tight : (x : Set) → IsTightAt g p x → IsTightAt g q (pre k x)
   image_tight x t =

@@ -1,4 +1,3 @@
 pub mod FaultCounts
 pub mod Pieces
-pub mod HeldFiles
 pub mod Writes

@@ -113,16 +113,6 @@ module _ (g : Graph) (lim : IsWithinLimits g) (cov : IsCovered g) (e : ℕ) (we 
     ]
   ])
 
-  -- all second vertices are done
-  pub next_first : (x y : ℕ) → g.order < y → NoneBefore g e x y → NoneBefore g e (x + 1) 1
-  next_first x y l h c d wc wd b = elim b [
-    | inl s ↦ elim (cases_lt c x) [
-      | inl t ↦ h c d wc wd (inl t)
-      | inr t ↦ h c d wc wd (inr (let q : c ≡ x = omega arith in q, omega arith))
-    ]
-    | inr s ↦ let s1 = s.1 in absurd (omega arith)
-  ]
-
   -- a vertex more as the first that does not lead a piece
   pub skip_first : (x : ℕ) → NoneBefore g e x 1 → (Leads g e leaders x → ⊥) → NoneBefore g e (x + 1) 1
   skip_first x h n = none_before (x + 1) 1 (λ c d lc l b. elim b [

@@ -19,10 +19,9 @@ use Rattle.graph_core.specs.Covered.{IsCovered}
 use Rattle.graph_core.specs.Graph.{Graph, IsGraph}
 use Rattle.graph_core.specs.Partitions.{IsPartition, block, complement_of, merged, singles}
 use Rattle.graph_core.specs.Quotients.{quotient}
-use Rattle.graph_core.specs.Shores.{IsTightAt, IsUnion, block_count, blocks_in}
+use Rattle.graph_core.specs.Shores.{IsTightAt, block_count, blocks_in}
 use Rattle.contraction.proofs.MergedQuotients.{merged-covered}
 use Rattle.contraction.proofs.QuotientLaws.{covered_up}
-use Rattle.contraction.specs.Partition.{IsUnionAt}
 use Rattle.tree_core.specs.Shapes.{Shape, leaf, cut, cut_count, leaf_count}
 use Rattle.tree_core.specs.Derivations.{IsCutAt, IsDerivation, IsDerivationAt, kept_at, merged_at}
 use Rattle.tree_core.specs.Leaves.{leaves, leaves_at}
@@ -122,9 +121,6 @@ module _ (g : Graph) (n : ℕ) (p : List (List ℕ)) (x : List ℕ) (is : IsGrap
 
   pub cut-some : 0 < length x
   cut-some = cut-nonempty g p x own cuts
-
-  pub cut-union : IsUnionAt (record { order = n; blocks = p }) x
-  cut-union = record { set = subst (λ k. IsRisingIn k x) (sym same) cuts.set; union = subst (λ k. IsUnion k p (mem x)) (sym same) cuts.tight.union }
 
   module _ (q : List (List ℕ)) where
     pub covers-kept : q ≡ kept_at g.order p x → IsCovered (quotient g p) → IsCovered (quotient g q)

@@ -7,6 +7,5 @@ pub mod TreePaths
 pub mod CutsBelow
 pub mod RotateSteps
 pub mod SwitchSets
-pub mod SwitchWalks
 pub mod FewLeaves
 pub mod KindsOfLeaves

@@ -5,7 +5,7 @@ use Rattle.graph_core.specs.Covered.{IsCovered}
 use Rattle.graph_core.specs.Graph.{Graph, IsGraph}
 use Rattle.graph_core.specs.Partitions.{IsPartition}
 use Rattle.graph_core.specs.Quotients.{quotient}
-use Rattle.tree_core.specs.Derivations.{IsCutAt, IsDerivationAt, kept_at, merged_at}
+use Rattle.tree_core.specs.Derivations.{IsDerivationAt, kept_at, merged_at}
 use Rattle.tree_core.specs.Moves.{PlainMove, below}
 use Rattle.tree_core.specs.Shapes.{Shape, cut, cut_count, leaf}
 use Rattle.tree_core.specs.declared.path.Side.TheVariants.{Kept, Merged}
@@ -39,9 +39,6 @@ module _ (g : Graph) (n : ℕ) (p : List (List ℕ)) (s t : Shape) (y : List ℕ
   second = subst (IsDerivationAt g p) w dt
 
   -- what may be asked of bringing
-  pub asks_bringing : IsCutAt g p y
-  asks_bringing = second.0
-
   module _ (k1 r1 : Shape) (ms : List PlainMove) (brought : IsBrought g p s y k1 r1 ms) where
     script : IsProperScript g p s ms (cut y k1 r1)
     script = brought.script
